@@ -1,0 +1,20 @@
+-- Where a floor cell lies.
+use Rattle.std.proofs.Common.{◌≡◌, ℕ, zero, suc, ◌+◌, ◌*◌, ◌<◌, ◌≤◌, ◌⊎◌, inl, inr, Bool, true, false, List, length, get_or, slice_index, refl, sym, ap, subst, ◌∙◌, arith}
+use Rattle.std.proofs.lemmas.List.{get_or_past}
+use Rattle.std.proofs.lemmas.Bool.{cases_lt, false≢true}
+use Rattle.fleet_grid.specs.Floor.{Floor, HasForm, IsFloor, is_floor_letter}
+
+-- a floor cell is a cell
+pub floor_inside : (m : Floor) (c : ℕ) → IsFloor m c → c < length m.letters
+floor_inside m c f = elim (cases_lt c (length m.letters)) [
+  | inl less ↦ less
+  | inr past ↦ absurd (false≢true (subst (λ (x : ℕ). is_floor_letter x ≡ true) (get_or_past m.letters c 0 past) f))
+]
+
+-- a map with a cell is not without columns
+pub wide : (m : Floor) (c : ℕ) → HasForm m → IsFloor m c → 0 < m.width
+wide m c form f = some m.width (floor_inside m c f) form.covered
+  where
+    some : (w : ℕ) → c < length m.letters → length m.letters ≡ m.height * w → 0 < w
+    some zero less e = absurd (omega (arith, less, e))
+    some (suc w) less e = omega arith

@@ -1,0 +1,12 @@
+//! The floor of a map as a graph: cells, neighbours, parts, and the words for walks, distances, bridges, placements and
+//! conflict-free steps in which the crates above speak.
+#![tactic(auto)]
+
+mod dir;
+mod grid;
+mod letters;
+mod padded;
+
+pub use dir::Dir;
+pub use grid::Grid;
+pub use padded::{FAR, WALL, place_of};

@@ -1,0 +1,62 @@
+//! The padded form of a map, in which a search needs no test for the edges of the map.
+
+ghost use Rattle.std.specs.Prelude.{◌≡◌, ℕ, ◌+◌, ◌*◌, ◌<◌, ◌≤◌, length, IfOk};
+ghost use Rattle.fleet_grid.specs.Floor.{floor_of};
+ghost use Rattle.fleet_grid.specs.Padded.{IsPadded, place};
+
+use crate::letters::is_floor_byte;
+use std::alloc::{AllocError, Allocator, Global};
+
+/// A place that is not reached.
+pub const FAR: u32 = 4294967295;
+
+/// A place that is never reached.
+pub const WALL: u32 = 4294967294;
+
+/// The place of a cell in the padded list.
+pub fn place_of(width: u32, stride: u32, cell: u32) -> usize
+    requires wide { 0 < width }
+    requires small { place width stride cell < 1073741824 }
+    ensures { result ≡ place width stride cell }
+{
+    let row = (cell / width) as usize + 1;
+    row * stride as usize + (cell % width) as usize
+}
+
+/// The length of a padded row. Lengths near a multiple of 1,024 would make the rows of a map share cache lines.
+pub(crate) fn stride_of(width: u32) -> u32
+    requires { width ≤ 1024 }
+    ensures { (width < result) × (result ≤ width + 17) }
+{
+    let plain = width + 1;
+    if plain % 1024 < 17 || plain % 1024 > 1007 {
+        width + 17
+    } else {
+        plain
+    }
+}
+
+/// The padded form: walls, but for the floor cells.
+pub(crate) fn blank_of<A: Allocator + Copy>(
+    alloc: A,
+    height: u32,
+    width: u32,
+    stride: u32,
+    letters: &[u8],
+) -> Result<Vec<u32, A>, AllocError>
+    requires low { height ≤ 1024 }
+    requires slim { width ≤ 1024 }
+    requires stride { (width < stride) × (stride ≤ 1041) }
+    requires covered { length letters.now ≡ height * width }
+    ensures { IfOk result (λ blank. IsPadded (floor_of height width letters.now) stride blank.items) }
+{
+    let size = (height as usize + 2) * stride as usize;
+    let mut blank = vec![in alloc; WALL; size]?;
+    for cell in 0..letters.len() {
+        if is_floor_byte(letters[cell]) {
+            let at = place_of(width, stride, cell as u32);
+            blank[at] = FAR;
+        }
+    }
+    Ok(blank)
+}
