@@ -1,6 +1,7 @@
 -- Where a floor cell lies.
 use Rattle.std.proofs.Common.{◌≡◌, ℕ, zero, suc, ◌+◌, ◌*◌, ◌<◌, ◌≤◌, ◌⊎◌, inl, inr, Bool, true, false, List, length, get_or, slice_index, refl, sym, ap, subst, ◌∙◌, arith}
 use Rattle.std.proofs.lemmas.List.{get_or_past}
+use Rattle.std.proofs.lemmas.Nat.{mul-le}
 use Rattle.std.proofs.lemmas.Bool.{cases_lt, false≢true}
 use Rattle.fleet_grid.specs.Floor.{Floor, HasForm, IsFloor, is_floor_letter}
 
@@ -18,3 +19,6 @@ wide m c form f = some m.width (floor_inside m c f) form.covered
     some : (w : ℕ) → c < length m.letters → length m.letters ≡ m.height * w → 0 < w
     some zero less e = absurd (omega (arith, less, e))
     some (suc w) less e = omega arith
+
+pub few_cells : (m : Floor) → HasForm m → length m.letters ≤ 1048576
+few_cells m form = let most : m.height * m.width ≤ 1024 * 1024 = mul-le m.height m.width 1024 1024 form.low form.slim in omega (arith, most, form.covered)

@@ -6,3 +6,4 @@ pub mod Counts
 pub mod Step
 pub mod Parts
 pub mod Padded
+pub mod Kept

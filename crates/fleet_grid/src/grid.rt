@@ -3,10 +3,14 @@
 ghost use Rattle.std.specs.Prelude.{◌≡◌, ℕ, ◌*◌, ◌<◌, ◌≤◌, ◌↔◌, length, IfOk, IsTrue, MatchOption};
 ghost use Rattle.fleet_grid.specs.Floor.{floor_of, HasForm, IsFloor, IsBeside, IsNeighbour, IsNeighbourIn};
 ghost use Rattle.fleet_grid.specs.Padded.{IsPadded};
+ghost use Rattle.fleet_grid.specs.Walk.{AreJoined};
+ghost use Rattle.fleet_grid.specs.Counts.{floor_count, edge_count};
 
 use crate::dir::Dir;
 use crate::letters::is_floor_byte;
 use crate::padded::{blank_of, stride_of};
+use crate::counts::{edge_count_of, floor_count_of};
+use crate::parts::{is_same_part, parts_of};
 use fleet_map::MapText;
 use std::alloc::{AllocError, Allocator, Global};
 use std::marker::Model;
@@ -19,19 +23,19 @@ pub struct Grid<A: Allocator + Copy = Global> {
     stride: u32,
     letters: Vec<u8, A>,
     blank: Vec<u32, A>,
+    parts: Vec<u32, A>,
+    floor_count: u32,
 }
 
 impl<A: Allocator + Copy> Model for Grid<A> {
-    ghost use Rattle.fleet_grid.specs.Floor.{Floor, floor_of, HasForm};
-    ghost use Rattle.fleet_grid.specs.Padded.{IsPadded};
+    ghost use Rattle.fleet_grid.specs.Floor.{Floor, floor_of};
+    ghost use Rattle.fleet_grid.specs.Kept.{IsKept};
 
     ghost Value = { Floor };
 
     ghost view = { λ g. floor_of g.height g.width g.letters.items };
 
-    ghost invariant = { λ g.
-        HasForm (floor_of g.height g.width g.letters.items)
-        × IsPadded (floor_of g.height g.width g.letters.items) g.stride g.blank.items };
+    ghost invariant = { λ g. IsKept (floor_of g.height g.width g.letters.items) g.stride g.blank.items g.parts.items g.floor_count };
 }
 
 impl<A: Allocator + Copy> Grid<A> {
@@ -50,12 +54,16 @@ impl<A: Allocator + Copy> Grid<A> {
         let alloc = *cells.allocator();
         let stride = stride_of(width);
         let blank = blank_of(alloc, height, width, stride, &cells)?;
+        let parts = parts_of(alloc, height, width, &cells)?;
+        let floor_count = floor_count_of(&cells);
         Ok(Grid {
             height,
             width,
             stride,
             letters: cells,
             blank,
+            parts,
+            floor_count,
         })
     }
 
@@ -135,5 +143,28 @@ impl<A: Allocator + Copy> Grid<A> {
         ensures form { HasForm self.now }
     {
         (self.stride, self.blank.as_slice())
+    }
+
+    /// Whether a walk joins two floor cells.
+    pub fn same_part(&self, a: u32, b: u32) -> bool
+        requires a { IsFloor self.now a }
+        requires b { IsFloor self.now b }
+        ensures { IsTrue result ↔ AreJoined (IsNeighbour self.now) a b }
+    {
+        is_same_part(self.height, self.width, self.letters.as_slice(), self.parts.as_slice(), a, b)
+    }
+
+    /// How many floor cells there are.
+    pub fn floor_count(&self) -> u32
+        ensures { result ≡ floor_count self.now }
+    {
+        self.floor_count
+    }
+
+    /// How many edges there are: pairs of floor cells that share a side.
+    pub fn edge_count(&self) -> u32
+        ensures { result ≡ edge_count self.now }
+    {
+        edge_count_of(self.height, self.width, self.letters.as_slice())
     }
 }

@@ -2,10 +2,12 @@
 //! conflict-free steps in which the crates above speak.
 #![tactic(auto)]
 
+mod counts;
 mod dir;
 mod grid;
 mod letters;
 mod padded;
+mod parts;
 
 pub use dir::Dir;
 pub use grid::Grid;

@@ -1,11 +1,6 @@
-//! The errands that wait for one robot: a bounded list, whose room is made once.
+//! The errands that wait for one robot.
 #![tactic(auto)]
 
 mod errand;
-mod queue;
 
 pub use errand::Errand;
-pub use queue::ErrandQueue;
-
-#[cfg(test)]
-mod tests;

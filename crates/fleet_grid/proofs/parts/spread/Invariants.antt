@@ -1,0 +1,12 @@
+use Rattle.std.proofs.Common.{◌≡◌, ℕ, ◌+◌, ◌-◌, length}
+use Rattle.std.specs.Prelude.{slice_index}
+use Rattle.fleet_grid.specs.Floor.{floor_of}
+use Rattle.fleet_grid.specs.Parts.{IsSpread, HasLabel, bare_count}
+use Rattle.fleet_grid.proofs.Rounds.{HasKept}
+use Rattle.fleet_grid.proofs.parts.spread.Given as goal
+
+abbrev pub invariant-loop-head : goal.invariant-loop-head
+invariant-loop-head g l = HasKept (floor_of l.height l.width l.letters) l.start l.head l.fn.labels l.labels l.queue.items
+
+abbrev pub decreases-loop-head : goal.decreases-loop-head
+decreases-loop-head g l = bare_count l.labels + (length l.queue.items - l.head)

@@ -1,0 +1,12 @@
+-- What a grid keeps beside its map.
+use Rattle.std.specs.Prelude.{◌≡◌, ℕ, List}
+use Rattle.fleet_grid.specs.Floor.{Floor, HasForm}
+use Rattle.fleet_grid.specs.Padded.{IsPadded}
+use Rattle.fleet_grid.specs.Parts.{AreParts}
+use Rattle.fleet_grid.specs.Counts.{floor_count}
+
+pub record IsKept (m : Floor) (stride : ℕ) (blank labels : List ℕ) (count : ℕ) : Type 0 where
+  pub form : HasForm m
+  pub padded : IsPadded m stride blank
+  pub parts : AreParts m labels
+  pub counted : count ≡ floor_count m
