@@ -1,6 +1,11 @@
-//! The errands that wait for one robot.
+//! The errands that wait for one robot: a bounded list, whose room is made once.
 #![tactic(auto)]
 
 mod errand;
+mod queue;
 
 pub use errand::Errand;
+pub use queue::ErrandQueue;
+
+#[cfg(test)]
+mod tests;
