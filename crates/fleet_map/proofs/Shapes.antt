@@ -1,13 +1,13 @@
 -- What is read has the shape of a map, and what has it is read.
-use Rattle.std.proofs.Common.{◌≡◌, ◌≢◌, ℕ, zero, suc, ◌+◌, ◌<◌, ◌≤◌, Bool, true, false, cond, ◌&&◌, eqb, ltb, not, List, [], ◌∷◌, ◌++◌, length, get_or, Option, Some, None, Result, Ok, Err, refl, sym, ap, subst, ◌∙◌, inl, inr, arith, min, codes, eq-eqb, add-one}
-use Rattle.std.specs.Prelude.{◌⊎◌, IfOk}
-use Rattle.std.specs.List.{flat_map, AllByRecursion, AllPass, position, position_or_len, prefix_len}
+use Rattle.std.proofs.Common.{◌≡◌, ℕ, zero, suc, ◌+◌, ◌≤◌, Bool, true, false, cond, ◌&&◌, eqb, not, List, [], ◌∷◌, ◌++◌, length, Option, Some, None, Result, Ok, Err, refl, sym, ap, subst, ◌∙◌, inl, inr, arith, min, codes, eq-eqb}
+use Rattle.std.specs.Prelude.{IfOk}
+use Rattle.std.specs.List.{flat_map, AllByRecursion, position_or_len}
 use Rattle.std.specs.Str.{bytes_eq}
 use Rattle.std.specs.Option.{option_map, option_and_then}
-use Rattle.std.proofs.lemmas.Bool.{cases_Bool, eqb-true, ltb-true, ltb-false, le-ltb}
+use Rattle.std.proofs.lemmas.Bool.{cases_Bool, eqb-true, ltb-false, le-ltb}
 use Rattle.std.proofs.lemmas.Slice.Eq.{bytes_eq-Decides}
 use Rattle.fleet_map.specs.declared.fault.MapFault.{MapFault}
-use Rattle.fleet_map.specs.declared.fault.MapFault.TheVariants.{Header, Size, Row, Cell, Trailing, NoMemory}
+use Rattle.fleet_map.specs.declared.fault.MapFault.TheVariants.{Header, Size, Row, Trailing}
 use Rattle.fleet_map.specs.Text.{lines_of, trimmed, is_empty, number_of}
 use Rattle.fleet_map.specs.declared.map_text.MapText.{MapText}
 use Rattle.fleet_map.specs.Grammar.{Gives, view, ◌>>=◌, Map, need, only_if, line_at, side_on, side_at, sides_behind, sides_at, head_at, is_type_line, is_map_line, is_side, is_letter, odd_cell, letters_in, row_of, row_at, rows_at, end_at, map_of_lines, map_of, key_and_word}
@@ -85,7 +85,7 @@ need_ok : {A : Type 0} (fault : MapFault) (o : Option A) (x : A) → need fault 
 need_ok fault None x e = absurd cc
 need_ok fault (Some y) x e = cc
 
-passed : (b : Bool) (fault : MapFault) (x : Unit {0}) → only_if b fault ≡ Ok x → b ≡ true
+pub passed : (b : Bool) (fault : MapFault) (x : Unit {0}) → only_if b fault ≡ Ok x → b ≡ true
 passed true fault x e = refl
 passed false fault x e = absurd cc
 
@@ -104,7 +104,7 @@ done x = Ok x
 ok_is : {A : Type 0} (x y : A) → done x ≡ done y → x ≡ y
 ok_is x y e = cc
 
-line_first : (number : ℕ) (lines : List (List ℕ)) (x : List ℕ × List (List ℕ)) → line_at number lines ≡ Ok x → lines ≡ x.0 ∷ x.1
+pub line_first : (number : ℕ) (lines : List (List ℕ)) (x : List ℕ × List (List ℕ)) → line_at number lines ≡ Ok x → lines ≡ x.0 ∷ x.1
 line_first number [] x e = absurd cc
 line_first number (line ∷ lines) x e = ap (λ (p : List ℕ × List (List ℕ)). p.0 ∷ p.1) (ok_is (line, lines) x e)
 
@@ -112,7 +112,7 @@ letters_ok : (row : ℕ) (cells : List ℕ) (o : Option ℕ) (x : List ℕ) → 
 letters_ok row cells None x e = (refl, cc)
 letters_ok row cells (Some col) x e = absurd cc
 
-row_is : (width row : ℕ) (lines : List (List ℕ)) (x : List ℕ × List (List ℕ)) → row_at width row lines ≡ Ok x → (line : List ℕ) × (lines ≡ line ∷ x.1) × IsRow width line × (x.0 ≡ trimmed line)
+pub row_is : (width row : ℕ) (lines : List (List ℕ)) (x : List ℕ × List (List ℕ)) → row_at width row lines ≡ Ok x → (line : List ℕ) × (lines ≡ line ∷ x.1) × IsRow width line × (x.0 ≡ trimmed line)
 row_is width row [] x e = absurd cc
 row_is width row (line ∷ lines) x e =
     let a = bind_ok (row_of width row (trimmed line)) (λ cells. Ok (cells, lines)) x e in
@@ -121,14 +121,14 @@ row_is width row (line ∷ lines) x e =
     let p = ok_is (a.0, lines) x a.2 in
     (line, ap (λ (q : List ℕ × List (List ℕ)). line ∷ q.1) p, record { len = eqb-true _ _ t.0; letters = letters_of (trimmed line) l.0 }, sym (ap (λ (q : List ℕ × List (List ℕ)). q.0) p) ∙ sym l.1)
 
-record RowsAre (count width : ℕ) (lines : List (List ℕ)) (x : List ℕ × List (List ℕ)) : Type 0 where
-  rows : List (List ℕ)
-  parts : lines ≡ rows ++ x.1
-  number : length rows ≡ count
-  each : AllByRecursion (IsRow width) rows
-  cells : x.0 ≡ flat_map trimmed rows
+pub record RowsAre (count width : ℕ) (lines : List (List ℕ)) (x : List ℕ × List (List ℕ)) : Type 0 where
+  pub rows : List (List ℕ)
+  pub parts : lines ≡ rows ++ x.1
+  pub number : length rows ≡ count
+  pub each : AllByRecursion (IsRow width) rows
+  pub cells : x.0 ≡ flat_map trimmed rows
 
-rows_are : (count width row : ℕ) (lines : List (List ℕ)) (x : List ℕ × List (List ℕ)) → rows_at count width row lines ≡ Ok x → RowsAre count width lines x
+pub rows_are : (count width row : ℕ) (lines : List (List ℕ)) (x : List ℕ × List (List ℕ)) → rows_at count width row lines ≡ Ok x → RowsAre count width lines x
 unfolding rows_at
 rows_are zero width row lines x e =
     let p = ok_is ([], lines) x e in
@@ -147,7 +147,7 @@ rows_are (suc count) width row lines x e =
       cells = sym (ap (λ (q : List ℕ × List (List ℕ)). q.0) p) ∙ ap (λ (l : List ℕ). l ++ b.0.0) first.3 ∙ ap (λ (l : List ℕ). trimmed first.0 ++ l) rest.cells;
     }
 
-nothing : (line : List ℕ) → is_empty line ≡ true → line ≡ []
+pub nothing : (line : List ℕ) → is_empty line ≡ true → line ≡ []
 nothing [] e = refl
 nothing (b ∷ line) e = absurd cc
 
@@ -166,7 +166,7 @@ side_is name number lines x e =
     let p = ok_is (b.0, a.0.1) x b.2 in
     (a.0.0, line_first number lines a.0 a.1 ∙ ap (λ (q : ℕ × List (List ℕ)). a.0.0 ∷ q.1) p, need_ok (Header number) (side_on name a.0.0) b.0 b.1 ∙ ap (λ (q : ℕ × List (List ℕ)). Some q.0) p)
 
-sides_are : (lines : List (List ℕ)) (x : ℕ × ℕ × List (List ℕ)) → sides_at lines ≡ Ok x → (a : List ℕ) × (b : List ℕ) × (lines ≡ a ∷ b ∷ x.2) × AreSides x.0 x.1 a b
+pub sides_are : (lines : List (List ℕ)) (x : ℕ × ℕ × List (List ℕ)) → sides_at lines ≡ Ok x → (a : List ℕ) × (b : List ℕ) × (lines ≡ a ∷ b ∷ x.2) × AreSides x.0 x.1 a b
 unfolding sides_at
 sides_are lines x e =
     let a = bind_ok (line_at 2 lines) (λ line. sides_behind (side_on (codes "height") line.0) (side_on (codes "width") line.0) line.1) x e in
@@ -187,18 +187,18 @@ sides_are lines x e =
         (s.0, s.1 ∙ ap (λ (q : ℕ × ℕ × List (List ℕ)). s.0 ∷ q.2) p, λ l high wide. inr (wide ∙ ap (λ (q : ℕ × ℕ × List (List ℕ)). Some q.1) p, s.2 ∙ ap (λ (q : ℕ × ℕ × List (List ℕ)). Some q.0) p))
     go lines None None e = absurd cc
 
-record HeadIs (all : List (List ℕ)) (x : ℕ × ℕ × List (List ℕ)) : Type 0 where
-  first : List ℕ
-  second : List ℕ
-  third : List ℕ
-  fourth : List ℕ
-  lines : all ≡ first ∷ second ∷ third ∷ fourth ∷ x.2
-  typed : is_type_line first ≡ true
-  sides : AreSides x.0 x.1 second third
-  named : is_map_line fourth ≡ true
-  fits : (is_side x.0 ≡ true) × (is_side x.1 ≡ true)
+pub record HeadIs (all : List (List ℕ)) (x : ℕ × ℕ × List (List ℕ)) : Type 0 where
+  pub first : List ℕ
+  pub second : List ℕ
+  pub third : List ℕ
+  pub fourth : List ℕ
+  pub lines : all ≡ first ∷ second ∷ third ∷ fourth ∷ x.2
+  pub typed : is_type_line first ≡ true
+  pub sides : AreSides x.0 x.1 second third
+  pub named : is_map_line fourth ≡ true
+  pub fits : (is_side x.0 ≡ true) × (is_side x.1 ≡ true)
 
-head_is : (lines : List (List ℕ)) (x : ℕ × ℕ × List (List ℕ)) → head_at lines ≡ Ok x → HeadIs lines x
+pub head_is : (lines : List (List ℕ)) (x : ℕ × ℕ × List (List ℕ)) → head_at lines ≡ Ok x → HeadIs lines x
 unfolding head_at
 head_is lines x e =
     let a = bind_ok (line_at 1 lines) _ x e in

@@ -1,5 +1,5 @@
 -- The text of a map, and what is wrong with a text that is none: the first fault from its first line on.
-use Rattle.std.specs.Prelude.{◌≡◌, ℕ, ◌+◌, ◌*◌, ◌≤◌, Bool, true, false, List, [], ◌∷◌, ◌++◌, length, zero, suc, min, Option, Some, None, Result, Ok, Err, nat_le, ◌==◌, ◌||◌, ◌&&◌, not, if◌then◌else◌, codes}
+use Rattle.std.specs.Prelude.{◌≡◌, ℕ, ◌+◌, Bool, false, List, [], ◌∷◌, ◌++◌, length, zero, suc, min, Option, Some, None, Result, Ok, Err, nat_le, ◌==◌, ◌||◌, ◌&&◌, not, if◌then◌else◌, codes}
 use Rattle.std.specs.List.{position, list_any}
 use Rattle.std.specs.Option.{option_map, option_and_then}
 use Rattle.std.specs.Str.{bytes_eq}
@@ -29,7 +29,12 @@ abbrev pub Fails : {Y : Type 0} → MapFault → Result Y MapFault → Type 0
 Fails NoMemory read = Unit {0}
 Fails fault read = read ≡ Err fault
 
--- what a function returned, seen by see, is what reading gives, unless memory ran out
+-- what a function returned, seen by see, is what reading gives
+abbrev pub Shows : {X Y : Type 0} → (X → Y) → Result X MapFault → Result Y MapFault → Type 0
+Shows see (Ok x) read = read ≡ Ok (see x)
+Shows see (Err e) read = read ≡ Err e
+
+-- the same, unless memory ran out
 abbrev pub Gives : {X Y : Type 0} → (X → Y) → Result X MapFault → Result Y MapFault → Type 0
 Gives see (Ok x) read = read ≡ Ok (see x)
 Gives see (Err e) read = Fails e read

@@ -2,9 +2,10 @@
 
 ghost use Rattle.std.specs.Prelude.{◌≡◌, ◌≤◌, ◌<◌, ◌+◌, ◌^◌, length, Ok, OnOk};
 ghost use Rattle.fleet_map.specs.Text.{lines_of};
-ghost use Rattle.fleet_map.specs.Grammar.{Gives, is_letter, odd_cell, row_of, row_at, rows_at, end_at};
+ghost use Rattle.fleet_map.specs.Grammar.{Shows, Gives, is_letter, odd_cell, row_of, row_at, rows_at, end_at};
 
 use crate::fault::MapFault;
+use crate::map_text::MOST_SIDE;
 use crate::text::{first_line, trimmed_line};
 use std::alloc::Allocator;
 
@@ -21,7 +22,7 @@ fn odd_place(cells: &[u8]) -> Option<usize>
 }
 
 fn checked_row(width: u32, row: u32, cells: &[u8]) -> Result<&[u8], MapFault>
-    ensures { Gives (λ x. x.now) result (row_of width row cells.now) }
+    ensures { Shows (λ x. x.now) result (row_of width row cells.now) }
 {
     if cells.len() != width as usize {
         return Err(MapFault::Row(row));
@@ -33,7 +34,7 @@ fn checked_row(width: u32, row: u32, cells: &[u8]) -> Result<&[u8], MapFault>
 }
 
 fn read_row(width: u32, row: u32, text: &[u8]) -> Result<(&[u8], &[u8]), MapFault>
-    ensures { Gives (λ x. (x.0.now, lines_of x.1.now)) result (row_at width row (lines_of text.now)) }
+    ensures { Shows (λ x. (x.0.now, lines_of x.1.now)) result (row_at width row (lines_of text.now)) }
 {
     match first_line(text) {
         None => Err(MapFault::Row(row)),
@@ -51,9 +52,10 @@ pub fn read_rows<A: Allocator + Copy>(
     width: u32,
     text: &[u8],
 ) -> Result<(Vec<u8, A>, &[u8]), MapFault>
+    requires { (height ≤ MOST_SIDE) × (width ≤ MOST_SIDE) }
     ensures { Gives (λ x. (x.0.items, lines_of x.1.now)) result (rows_at height width 0 (lines_of text.now)) }
 {
-    let mut cells = Vec::new(alloc);
+    let mut cells = Vec::with_capacity(alloc, height as usize * width as usize)?;
     let mut rest = text;
     for row in 0..height {
         let (line, after) = read_row(width, row, rest)?;
@@ -67,7 +69,7 @@ pub fn read_rows<A: Allocator + Copy>(
 #[tactic(auto, unfolding(crate::specs::Grammar::end_at))]
 pub fn read_end(number: u64, text: &[u8]) -> Result<(), MapFault>
     requires { number < 2 ^ 32 }
-    ensures { Gives (λ x. x) result (end_at number (lines_of text.now)) }
+    ensures { Shows (λ x. x) result (end_at number (lines_of text.now)) }
 {
     let mut number = number;
     let mut rest = text;
