@@ -1,14 +1,21 @@
 //! Orders, verdicts and notices, and the book that judges orders on its counts.
 #![tactic(auto)]
 
+mod account;
+mod book;
 mod facts;
 mod limits;
 mod notice;
 mod order;
 mod verdict;
 
+pub use account::Account;
+pub use book::Book;
 pub use facts::{Facts, Place};
 pub use limits::Limits;
 pub use notice::Notice;
 pub use order::Order;
 pub use verdict::Verdict;
+
+#[cfg(test)]
+mod tests;
