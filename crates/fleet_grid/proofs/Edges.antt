@@ -1,9 +1,8 @@
 -- Neighbours, in both directions.
-use Rattle.std.proofs.Common.{◌≡◌, ◌≢◌, ℕ, ◌+◌, ◌-◌, ◌*◌, ◌%◌, ◌<◌, ◌≤◌, refl, sym, ap, subst, ◌∙◌, arith}
+use Rattle.std.proofs.Common.{◌≡◌, ℕ, arith}
 use Rattle.fleet_grid.specs.declared.dir.Dir.{Dir}
 use Rattle.fleet_grid.specs.declared.dir.Dir.TheVariants.{North, East, South, West}
-use Rattle.fleet_grid.specs.Floor.{Floor, HasForm, IsFloor, IsBeside, IsNeighbourIn, IsNeighbour}
-use Rattle.fleet_grid.proofs.Forms.{floor_inside}
+use Rattle.fleet_grid.specs.Floor.{Floor, IsBeside, IsNeighbour}
 
 -- the other way
 abbrev pub opposite : Dir → Dir

@@ -1,11 +1,11 @@
 -- How the padded form is made.
-use Rattle.std.proofs.Common.{◌≡◌, ◌≢◌, ℕ, ◌+◌, ◌*◌, ◌<◌, ◌≤◌, ◌⊎◌, inl, inr, Bool, true, false, eqb, List, length, set, get_or, slice_index, refl, sym, ap, subst, ◌∙◌, arith}
+use Rattle.std.proofs.Common.{◌≡◌, ◌≢◌, ℕ, ◌+◌, ◌*◌, ◌<◌, ◌≤◌, ◌⊎◌, inl, inr, false, List, length, set, slice_index, sym, ap, subst, ◌∙◌, arith}
 use Rattle.std.specs.Prelude.{replicate}
 use Rattle.std.proofs.lemmas.Nat.{mul-le}
 use Rattle.std.proofs.lemmas.Bool.{cases_eq, false≢true}
 use Rattle.std.proofs.lemmas.List.{get_or-replicate, length-replicate, length-set, get_or-set_same, get_or-set_other}
-use Rattle.fleet_grid.specs.Floor.{Floor, floor_of, IsFloor, is_floor_letter}
-use Rattle.fleet_grid.specs.Padded.{IsPadded, IsOpen, place}
+use Rattle.fleet_grid.specs.Floor.{Floor, IsFloor, is_floor_letter}
+use Rattle.fleet_grid.specs.Padded.{IsPadded, place}
 use Rattle.fleet_grid.proofs.Places.{place_inside}
 use Rattle.fleet_grid.proofs.Forms.{floor_inside}
 

@@ -1,13 +1,13 @@
 -- A cell of the queue is done once its four sides were visited; a queue that is done leaves all labels alike along edges.
-use Rattle.std.proofs.Common.{◌≡◌, ◌≢◌, ℕ, zero, suc, ◌+◌, ◌-◌, ◌*◌, ◌<◌, ◌≤◌, ◌⊎◌, inl, inr, List, [], ◌∷◌, ◌++◌, length, set, get_or, refl, sym, ap, subst, ◌∙◌, arith}
+use Rattle.std.proofs.Common.{◌≡◌, ℕ, zero, suc, ◌+◌, ◌<◌, ◌≤◌, ◌⊎◌, inl, inr, List, [], ◌∷◌, length, set, refl, sym, ap, subst, ◌∙◌, arith}
 use Rattle.std.specs.Prelude.{slice_index, replicate}
-use Rattle.std.proofs.lemmas.Bool.{cases_eq, cases_lt}
+use Rattle.std.proofs.lemmas.Bool.{cases_eq}
 use Rattle.std.proofs.lemmas.List.{length-set, get_or-replicate, length-replicate}
 use Rattle.fleet_grid.specs.declared.dir.Dir.{Dir}
 use Rattle.fleet_grid.specs.declared.dir.Dir.TheVariants.{North, East, South, West}
 use Rattle.fleet_grid.specs.Floor.{Floor, IsFloor, IsNeighbour, IsNeighbourIn}
 use Rattle.fleet_grid.specs.Walk.{AreJoined}
-use Rattle.fleet_grid.specs.Parts.{AreParts, AreDone, HasLabel, Awaits, IsSpread, Spreads, bare_count}
+use Rattle.fleet_grid.specs.Parts.{AreParts, AreDone, HasLabel, Awaits, IsSpread, Spreads}
 use Rattle.fleet_grid.proofs.Forms.{floor_inside}
 use Rattle.fleet_grid.proofs.Edges.{neighbour_back}
 use Rattle.fleet_grid.proofs.Walks.{joined_same, joined_on, joined_back, same_along}
@@ -102,7 +102,7 @@ started m start labels less floor bare d = record {
     had v same h = (omega (arith, h.0, length-set labels start start), λ e. h.1 (same ∙ e))
 
     first : (i : ℕ) → i < 1 → (slice_index (start ∷ []) i < length (set labels start start)) × (slice_index (set labels start start) (slice_index (start ∷ []) i) ≡ start)
-    first zero l = (omega (arith, inside, length-set labels start start), elim (seen start) [ | inl p ↦ p.1 | inr p ↦ absurd (p.0 refl) ])
+    first zero l = (omega (arith, inside, length-set labels start start), elim (seen start) [ inl p ↦ p.1 | inr p ↦ absurd (p.0 refl) ])
     first (suc i) l = absurd (omega (arith, l))
 
 -- labels of other cells stay where a part begins
@@ -193,7 +193,7 @@ begun m start labels less floor bare d = record {
     size = length-set labels start start
 
     own : slice_index (set labels start start) start ≡ start
-    own = elim (read labels start start start inside) [ | inl p ↦ p.1 | inr p ↦ absurd (p.0 refl) ]
+    own = elim (read labels start start start inside) [ inl p ↦ p.1 | inr p ↦ absurd (p.0 refl) ]
 
 pub kept_on : (m : Floor) (start head : ℕ) (old l0 q0 l1 q1 : List ℕ) → HasKept m start head old l0 q0 → IsSpread m start head l0 q0 → Spreads m start (head + 1) l0 q0 l1 q1 → HasKept m start (head + 1) old l1 q1
 kept_on m start head old l0 q0 l1 q1 k o s = record {
@@ -214,4 +214,5 @@ pub same_label_is : (m : Floor) (labels : List ℕ) (a b : ℕ) → AreParts m l
 same_label_is m labels a b parts fa fb = (
   (λ e. joined_on (IsNeighbour m) a (slice_index labels a) b (parts.joined a fa)
       (subst (λ (x : ℕ). AreJoined (IsNeighbour m) x b) (sym (eqb-true _ _ e)) (joined_back (IsNeighbour m) (neighbour_back m) b (slice_index labels b) (parts.joined b fb)))),
-  (λ j. eq-eqb _ _ (same_along (IsNeighbour m) (slice_index labels) parts.same a b j.steps j.walk)))
+  (λ j. eq-eqb _ _ (same_along (IsNeighbour m) (slice_index labels) parts.same a b j.steps j.walk)),
+)

@@ -1,15 +1,15 @@
 -- One label spreads over a part.
-use Rattle.std.proofs.Common.{◌≡◌, ◌≢◌, ℕ, zero, suc, ◌+◌, ◌-◌, ◌*◌, ◌<◌, ◌≤◌, ◌⊎◌, inl, inr, List, [], ◌∷◌, ◌++◌, length, set, get_or, refl, sym, ap, subst, ◌∙◌, arith}
-use Rattle.std.specs.Prelude.{slice_index, replicate}
-use Rattle.std.proofs.lemmas.Bool.{cases_eq, cases_lt}
-use Rattle.std.proofs.lemmas.List.{length-set, length-append, get_or_append_left, get_or_push, get_or-replicate, length-replicate}
+use Rattle.std.proofs.Common.{◌≡◌, ◌≢◌, ℕ, ◌+◌, ◌<◌, ◌⊎◌, inl, inr, List, [], ◌∷◌, ◌++◌, length, set, refl, sym, ap, subst, ◌∙◌, arith}
+use Rattle.std.specs.Prelude.{slice_index}
+use Rattle.std.proofs.lemmas.Bool.{cases_lt}
+use Rattle.std.proofs.lemmas.List.{length-set, length-append, get_or_append_left, get_or_push}
 use Rattle.std.proofs.lemmas.List.Sums.{sum_by-set}
 use Rattle.fleet_grid.specs.Floor.{Floor, IsFloor, IsNeighbour}
 use Rattle.fleet_grid.specs.Walk.{AreJoined}
-use Rattle.fleet_grid.specs.Parts.{AreParts, AreDone, HasLabel, Awaits, IsSpread, Spreads, is_bare, bare_count}
+use Rattle.fleet_grid.specs.Parts.{HasLabel, Awaits, IsSpread, Spreads, is_bare, bare_count}
 use Rattle.fleet_grid.proofs.Forms.{floor_inside}
 use Rattle.fleet_grid.proofs.Edges.{neighbour_back}
-use Rattle.fleet_grid.proofs.Walks.{joined_by_edge, joined_same}
+use Rattle.fleet_grid.proofs.Walks.{joined_by_edge}
 use Rattle.fleet_grid.proofs.Made.{read}
 
 length_push : (xs : List ℕ) (y : ℕ) → length (xs ++ y ∷ []) ≡ length xs + 1
@@ -109,7 +109,7 @@ module _ (m : Floor) (label head c d : ℕ) (labels queue : List ℕ) (s : IsSpr
         | inr past ↦ (
             let at : i ≡ length queue = omega (arith, past, l, long) in
             let e : slice_index (queue ++ d ∷ []) i ≡ d = ap (slice_index (queue ++ d ∷ [])) at ∙ new_item in
-            (rw (e, len) inside, rw e (elim (seen d) [ | inl p ↦ p.1 | inr p ↦ absurd (p.0 refl) ])))
+            (rw (e, len) inside, rw e (elim (seen d) [ inl p ↦ p.1 | inr p ↦ absurd (p.0 refl) ])))
       ]
 
       awaits_on : (a : ℕ) → Awaits queue head a → Awaits (queue ++ d ∷ []) head a

@@ -1,7 +1,7 @@
 -- Walks go on, and back.
-use Rattle.std.proofs.Common.{◌≡◌, ℕ, ◌+◌, ◌<◌, ◌≤◌, List, [], ◌∷◌, ◌++◌, length, refl, sym, ap, subst, ◌∙◌, arith}
+use Rattle.std.proofs.Common.{◌≡◌, ℕ, ◌+◌, ◌≤◌, List, [], ◌∷◌, ◌++◌, length, refl, sym, ap, subst, ◌∙◌, arith}
 use Rattle.std.proofs.lemmas.List.{length-append}
-use Rattle.fleet_grid.specs.Walk.{Walks, AreJoined, AreApart, IsDistance, Besides, IsBridge}
+use Rattle.fleet_grid.specs.Walk.{Walks, AreJoined, IsDistance}
 
 pub walk_on : (Near : ℕ → ℕ → Type 0) (a b c : ℕ) (xs ys : List ℕ) → Walks Near a xs b → Walks Near b ys c → Walks Near a (xs ++ ys) c
 walk_on Near a b c [] ys p q = subst (λ (x : ℕ). Walks Near x ys c) (sym p) q

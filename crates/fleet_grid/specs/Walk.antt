@@ -1,5 +1,5 @@
 -- Walks along a relation of cells, their least length, and bridges.
-use Rattle.std.specs.Prelude.{◌≡◌, ℕ, ◌<◌, ◌≤◌, ◌⊎◌, List, [], ◌∷◌, length}
+use Rattle.std.specs.Prelude.{◌≡◌, ℕ, ◌≤◌, List, [], ◌∷◌, length}
 
 -- a walk from `a` to `b`, by the cells after `a`
 abbrev pub Walks : (ℕ → ℕ → Type 0) → ℕ → List ℕ → ℕ → Type 0

@@ -11,7 +11,10 @@ pub(crate) fn floor_count_of(letters: &[u8]) -> u32
     requires { length letters.now < 2 ^ 32 }
     ensures { result ≡ floor_count (floor_of 0 0 letters.now) }
 {
-    letters.iter().filter(|letter| is_floor_byte(**letter)).count() as u32
+    letters
+        .iter()
+        .filter(|letter| is_floor_byte(**letter))
+        .count() as u32
 }
 
 /// Whether the cell of that number is floor; no number past the last cell is.

@@ -6,10 +6,10 @@ ghost use Rattle.fleet_grid.specs.Padded.{IsPadded};
 ghost use Rattle.fleet_grid.specs.Walk.{AreJoined};
 ghost use Rattle.fleet_grid.specs.Counts.{floor_count, edge_count};
 
+use crate::counts::{edge_count_of, floor_count_of};
 use crate::dir::Dir;
 use crate::letters::is_floor_byte;
 use crate::padded::{blank_of, stride_of};
-use crate::counts::{edge_count_of, floor_count_of};
 use crate::parts::{is_same_part, parts_of};
 use fleet_map::MapText;
 use std::alloc::{AllocError, Allocator, Global};
@@ -134,7 +134,11 @@ impl<A: Allocator + Copy> Grid<A> {
             return None;
         }
         let other = self.beside(cell, dir)?;
-        if self.is_floor(other) { Some(other) } else { None }
+        if self.is_floor(other) {
+            Some(other)
+        } else {
+            None
+        }
     }
 
     /// The padded form, in which a search needs no test for the edges of the map: the length of its rows, and its places.
@@ -151,7 +155,14 @@ impl<A: Allocator + Copy> Grid<A> {
         requires b { IsFloor self.now b }
         ensures { IsTrue result ↔ AreJoined (IsNeighbour self.now) a b }
     {
-        is_same_part(self.height, self.width, self.letters.as_slice(), self.parts.as_slice(), a, b)
+        is_same_part(
+            self.height,
+            self.width,
+            self.letters.as_slice(),
+            self.parts.as_slice(),
+            a,
+            b,
+        )
     }
 
     /// How many floor cells there are.

@@ -12,3 +12,6 @@ mod parts;
 pub use dir::Dir;
 pub use grid::Grid;
 pub use padded::{FAR, WALL, place_of};
+
+#[cfg(test)]
+mod tests;

@@ -79,10 +79,50 @@ fn around<A: Allocator + Copy>(
     ensures ok { OnOk result (Spreads (floor_of height width letters.now) label (head + 1) labels.old queue.old.items labels.new queue.new.items) }
 {
     let cell = queue[head];
-    visit(height, width, letters, labels, queue, head, cell, label, Dir::North)?;
-    visit(height, width, letters, labels, queue, head, cell, label, Dir::East)?;
-    visit(height, width, letters, labels, queue, head, cell, label, Dir::South)?;
-    visit(height, width, letters, labels, queue, head, cell, label, Dir::West)?;
+    visit(
+        height,
+        width,
+        letters,
+        labels,
+        queue,
+        head,
+        cell,
+        label,
+        Dir::North,
+    )?;
+    visit(
+        height,
+        width,
+        letters,
+        labels,
+        queue,
+        head,
+        cell,
+        label,
+        Dir::East,
+    )?;
+    visit(
+        height,
+        width,
+        letters,
+        labels,
+        queue,
+        head,
+        cell,
+        label,
+        Dir::South,
+    )?;
+    visit(
+        height,
+        width,
+        letters,
+        labels,
+        queue,
+        head,
+        cell,
+        label,
+        Dir::West,
+    )?;
     Ok(())
 }
 
@@ -162,7 +202,14 @@ pub(crate) fn parts_of<A: Allocator + Copy>(
 }
 
 /// Whether two floor cells have one label, and so a walk joins them.
-pub(crate) fn is_same_part(height: u32, width: u32, letters: &[u8], labels: &[u32], a: u32, b: u32) -> bool
+pub(crate) fn is_same_part(
+    height: u32,
+    width: u32,
+    letters: &[u8],
+    labels: &[u32],
+    a: u32,
+    b: u32,
+) -> bool
     requires parts { AreParts (floor_of height width letters.now) labels.now }
     requires a { IsFloor (floor_of height width letters.now) a }
     requires b { IsFloor (floor_of height width letters.now) b }

@@ -1,6 +1,6 @@
 use Rattle.std.proofs.Common.{◌≡◌, ℕ, ◌+◌, ◌*◌, ◌<◌, length, set, sym, ap, subst, ◌∙◌, arith}
 use Rattle.std.proofs.lemmas.Grind.{common_steps}
-use Rattle.fleet_grid.specs.Floor.{Floor, floor_of, HasForm}
+use Rattle.fleet_grid.specs.Floor.{floor_of}
 use Rattle.fleet_grid.specs.Padded.{place}
 use Rattle.fleet_grid.proofs.Forms.{wide}
 use Rattle.fleet_grid.proofs.Places.{place_inside}

@@ -1,8 +1,5 @@
-use Rattle.std.proofs.Common.{◌≡◌, ℕ, ◌<◌, List, length, refl, sym, ◌∙◌}
+use Rattle.std.proofs.Common.{sym, ◌∙◌}
 use Rattle.std.proofs.lemmas.Grind.{get_or_default_zero}
-use Rattle.std.specs.Prelude.{slice_index}
-use Rattle.fleet_grid.specs.declared.dir.Dir.{Dir}
-use Rattle.fleet_grid.specs.declared.dir.Dir.TheVariants.{North, East, South, West}
 use Rattle.fleet_grid.specs.Floor.{floor_of}
 use Rattle.fleet_grid.proofs.Rounds.{four_sides}
 use Rattle.fleet_grid.proofs.parts.around.Goals as goal
@@ -14,5 +11,5 @@ returns g c = record {
       c.visit-3.new.labels c.visit-3.new.queue.items c.visit-4.new.labels c.visit-4.new.queue.items
       c.requires.bare c.requires.spread c.requires.head (sym (get_or_default_zero c.args.queue.now.items c.args.head c.index-cell.result.now c.requires.head) ∙ sym c.index-cell.ensures)
       c.in_ok-visit.ensures.ok c.in_ok-visit-2.ensures.ok c.in_ok-visit-3.ensures.ok c.in_ok-visit-4.ensures.ok
-      c.in_ok-visit.ensures.same c.in_ok-visit-2.ensures.same c.in_ok-visit-3.ensures.same c.in_ok-visit-4.ensures.same
+      c.in_ok-visit.ensures.same c.in_ok-visit-2.ensures.same c.in_ok-visit-3.ensures.same c.in_ok-visit-4.ensures.same;
 }

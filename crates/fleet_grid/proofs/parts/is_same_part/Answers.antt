@@ -1,6 +1,4 @@
-use Rattle.std.proofs.Common.{ℕ, ◌<◌, length, arith}
 use Rattle.fleet_grid.specs.Floor.{floor_of}
-use Rattle.fleet_grid.proofs.Forms.{floor_inside}
 use Rattle.fleet_grid.proofs.Rounds.{same_label_is}
 use Rattle.fleet_grid.proofs.parts.is_same_part.Goals as goal
 

@@ -1,4 +1,4 @@
-use Rattle.std.proofs.Common.{ℕ, ◌<◌, length, arith}
+use Rattle.std.proofs.Common.{arith}
 use Rattle.fleet_grid.specs.Floor.{floor_of}
 use Rattle.fleet_grid.proofs.Rounds.{all_labelled}
 use Rattle.fleet_grid.proofs.parts.parts_of.Goals as goal

@@ -1,4 +1,4 @@
-use Rattle.std.proofs.Common.{◌≡◌, ℕ, ◌*◌, ◌<◌, ◌≤◌, ◌∷◌, ◌++◌, [], List, length, ap, ◌∙◌, arith}
+use Rattle.std.proofs.Common.{◌≡◌, ℕ, ◌<◌, ◌∷◌, ◌++◌, [], List, ap, ◌∙◌, arith}
 use Rattle.fleet_grid.specs.Floor.{floor_of}
 use Rattle.fleet_grid.proofs.Forms.{floor_inside, few_cells}
 use Rattle.fleet_grid.proofs.Rounds.{begun}

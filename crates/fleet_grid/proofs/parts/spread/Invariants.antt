@@ -1,7 +1,6 @@
-use Rattle.std.proofs.Common.{◌≡◌, ℕ, ◌+◌, ◌-◌, length}
-use Rattle.std.specs.Prelude.{slice_index}
+use Rattle.std.proofs.Common.{◌+◌, ◌-◌, length}
 use Rattle.fleet_grid.specs.Floor.{floor_of}
-use Rattle.fleet_grid.specs.Parts.{IsSpread, HasLabel, bare_count}
+use Rattle.fleet_grid.specs.Parts.{bare_count}
 use Rattle.fleet_grid.proofs.Rounds.{HasKept}
 use Rattle.fleet_grid.proofs.parts.spread.Given as goal
 

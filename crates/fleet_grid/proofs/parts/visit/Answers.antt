@@ -1,7 +1,6 @@
-use Rattle.std.proofs.Common.{◌≡◌, ℕ, ◌++◌, ◌∷◌, [], List, slice_index, sym, ap, subst, ◌∙◌, arith}
+use Rattle.std.proofs.Common.{◌≡◌, ◌++◌, ◌∷◌, [], sym, subst, ◌∙◌}
 use Rattle.std.proofs.lemmas.Bool.{false≢true}
-use Rattle.fleet_grid.specs.Floor.{floor_of, IsFloor, IsNeighbour, IsNeighbourIn}
-use Rattle.fleet_grid.specs.Parts.{Spreads}
+use Rattle.fleet_grid.specs.Floor.{floor_of, IsFloor, IsNeighbour}
 use Rattle.fleet_grid.proofs.Edges.{beside_once}
 use Rattle.fleet_grid.proofs.Spread.{reach_new, same_label}
 use Rattle.fleet_grid.proofs.parts.visit.Goals as goal
@@ -22,7 +21,7 @@ returns-else-is_floor_byte-clause-same g c =
       | else-is_floor_byte-via-then-is_floor_byte+else-labels-at w ↦ (λ b n.
           let e = beside_once c.args.width c.args.dir c.args.cell b c.in-Some.next n.beside c.in-Some.ensures.0 in
           same_label m c.args.label c.args.head c.args.labels.now c.args.queue.now.items c.args.cell b c.requires.spread c.requires.labelled (c.args.dir, n)
-            (rw e w.if-labels-at.false))
+          (rw e w.if-labels-at.false))
       | else-is_floor_byte-via-else-is_floor_byte w ↦ (λ b n.
           let e = beside_once c.args.width c.args.dir c.args.cell b c.in-Some.next n.beside c.in-Some.ensures.0 in
           absurd (false≢true (sym w.if-is_floor_byte.false ∙ (c.is_floor_byte.ensures ∙ subst (IsFloor m) e n.to))))

@@ -1,5 +1,5 @@
-use Rattle.std.proofs.Common.{◌≡◌, ℕ, List, ap, ◌∙◌}
-use Rattle.fleet_grid.specs.Floor.{Floor, floor_of}
+use Rattle.std.proofs.Common.{ℕ, List, ap, ◌∙◌}
+use Rattle.fleet_grid.specs.Floor.{floor_of}
 use Rattle.fleet_grid.specs.Counts.{edge_count}
 use Rattle.fleet_grid.proofs.grid.Grid.edge_count.Goals as goal
 
