@@ -6,3 +6,6 @@ pub mod Made
 pub mod Spread
 pub mod Rounds
 pub mod CountLemmas
+pub mod Neighbours
+pub mod Least
+pub mod Shortest

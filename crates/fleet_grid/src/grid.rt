@@ -155,14 +155,9 @@ impl<A: Allocator + Copy> Grid<A> {
         requires b { IsFloor self.now b }
         ensures { IsTrue result ↔ AreJoined (IsNeighbour self.now) a b }
     {
-        is_same_part(
-            self.height,
-            self.width,
-            self.letters.as_slice(),
-            self.parts.as_slice(),
-            a,
-            b,
-        )
+        let (height, width) = (self.height, self.width);
+        let (letters, labels) = (self.letters.as_slice(), self.parts.as_slice());
+        is_same_part(height, width, letters, labels, a, b)
     }
 
     /// How many floor cells there are.

@@ -5,12 +5,16 @@
 mod counts;
 mod dir;
 mod grid;
+mod law;
 mod letters;
 mod padded;
 mod parts;
 
 pub use dir::Dir;
 pub use grid::Grid;
+pub use law::{
+    distance_is_least_walk, distances_across_an_edge, edges_lead_both_ways, walks_join_and_turn,
+};
 pub use padded::{FAR, WALL, place_of};
 
 #[cfg(test)]

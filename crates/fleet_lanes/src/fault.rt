@@ -1,0 +1,14 @@
+//! Why a client's order was not sent.
+
+use fleet_book::Order;
+
+/// Why an order was not sent. What was refused is handed back.
+#[derive(Clone, Copy, Debug, PartialEq, Eq)]
+pub enum PostFault {
+    /// Close was sent before.
+    Closed,
+    /// No free slot was found in the lane.
+    LaneFull(Order),
+    /// All numbers but the last were sent, and the last is kept for Close.
+    NumbersSpent(Order),
+}
