@@ -1,0 +1,6 @@
+use Rattle.std.proofs.Common.{ℕ, ◌<◌, slice_index}
+use Rattle.fleet_grid.specs.Floor.{IsFloor}
+use Rattle.fleet_check.proofs.check.first_off_floor.Given as goal
+
+abbrev pub invariant-loop-robot : goal.invariant-loop-robot
+invariant-loop-robot g l = (k : ℕ) → k < l.robot → IsFloor l.grid (slice_index l.to k)

@@ -1,0 +1,11 @@
+//! The check of a step: whether robots that move at once keep to the edges of a map and out of one another's way.
+#![tactic(auto)]
+
+mod check;
+mod fault;
+
+pub use check::check_step;
+pub use fault::StepFault;
+
+#[cfg(test)]
+mod tests;

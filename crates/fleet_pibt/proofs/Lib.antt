@@ -1,0 +1,17 @@
+pub mod Reserve
+pub mod Back
+pub mod Grow
+pub mod Closed
+pub mod Count
+pub mod Planning
+pub mod Attempt
+pub mod Entries
+pub mod Distances
+pub mod Theorem
+pub mod Ordered
+pub mod Choices
+pub mod Whole
+pub mod TwoCells
+pub mod Stepped
+pub mod Beside
+pub mod Seen

@@ -1,0 +1,173 @@
+use Rattle.std.proofs.Common.{ap, ◌≡◌, ℕ, ◌+◌, length, Option, Some, None, true, false, List, slice_set, arith, refl, sym}
+use Rattle.std.specs.Option.{is_some}
+use Rattle.std.proofs.Math.ListN.{length-set}
+use Rattle.fleet_pibt.specs.Entry.{table}
+use Rattle.fleet_pibt.specs.Setting.{robots, Stands, cell_of}
+use Rattle.fleet_pibt.proofs.Count.{open_count, open_count-set, open_count-keep}
+use Rattle.fleet_pibt.proofs.Planning.{cells-few, scene-distinct, trying-ready, trying-choice, trying-failed, trying-more, trying-tried, choice-inside}
+use Rattle.fleet_pibt.proofs.Attempt.{attempt-done, attempt-ready, attempt-passed, attempt-failed}
+use Rattle.fleet_pibt.proofs.plan.+plan.Goals as goal
+use Rattle.fleet_pibt.proofs.plan.+plan.Goals.{attempt-then-is_some-2-via-then-is_some-2, attempt-then-is_some-2-via-else-is_some-2+then-plan}
+
+none_from : (o : Option ℕ) → false ≡ is_some o → o ≡ None
+none_from None e = refl
+none_from (Some x) e = absurd (cc e)
+
+not_none : (o : Option ℕ) → true ≡ is_some o → o ≡ None → ⊥
+not_none None e _ = cc e
+not_none (Some x) e h = cc h
+
+pub attempt-returns-in_default-clause-done : goal.attempt-returns-in_default-clause-done
+attempt-returns-in_default-clause-done g t c =
+    let s = g.S.Sight.setting c.args.scene.now in
+    let scene = g.met.S.Sight.is_scene c.args.scene.now c.requires.whole in
+    let b = c.args.board.now in
+    let r = c.requires in
+    let free = none_from c.get.result c.if-is_some.ensures in
+    let none : table b.holder c.args.cell ≡ None = cc (c.get.ensures, free) in
+    rw (c.reserve.ensures.target, c.reserve.ensures.holder)
+    (attempt-done s scene b.target b.holder c.args.robot c.args.cell r.ready r.choice (choice-inside s scene _ _ _ _ r.ready.known r.choice) none
+    (λ k stands e. cc (c.if-meets.ensures.1 (k, stands, e)))
+    (λ k stands e. c.in_default.ensures k stands.0 stands.1))
+
+pub attempt-plan-requires : goal.attempt-plan-requires
+attempt-plan-requires g t c κs within =
+    let s = g.S.Sight.setting c.args.scene.now in
+    let scene = g.met.S.Sight.is_scene c.args.scene.now c.requires.whole in
+    let b = c.args.board.now in
+    let r = c.requires in
+    let free = none_from c.get.result c.if-is_some.ensures in
+    let none : table b.holder c.args.cell ≡ None = cc (c.get.ensures, free) in
+    let idle = none_from c.get-2.result c.if-is_some-2.ensures in
+    let idle2 : table (slice_set b.target c.args.robot (Some c.args.cell)) c.in-Some.other ≡ None = cc (c.get-2.ensures, idle, ap (λ (x : List (Option ℕ)). table x c.in-Some.other) c.reserve.ensures.target) in
+    let count = open_count-set b.target c.args.robot c.args.cell (omega (arith, r.ready.known, r.ready.targets)) r.ready.idle in
+    let count2 : open_count c.reserve.new.self.target + 1 ≡ open_count b.target = rw c.reserve.ensures.target (omega arith) in (
+      omega arith,
+      (
+        within.0,
+        (
+          within.1,
+          (
+            c.requires.whole,
+            rw (c.reserve.ensures.target, c.reserve.ensures.holder)
+                (attempt-ready s scene b.target b.holder c.args.robot c.args.cell r.ready r.choice (choice-inside s scene _ _ _ _ r.ready.known r.choice) none
+                (λ k stands e. cc (c.if-meets.ensures.1 (k, stands, e))) c.in-Some.other c.in-Some.ensures idle2),
+          ),
+        ),
+      ),
+    )
+
+pub attempt-returns-then-is_some-2-clause-done : goal.attempt-returns-then-is_some-2-clause-done
+attempt-returns-then-is_some-2-clause-done g t c =
+    let s = g.S.Sight.setting c.args.scene.now in
+    let scene = g.met.S.Sight.is_scene c.args.scene.now c.requires.whole in
+    let b = c.args.board.now in
+    let r = c.requires in
+    let free = none_from c.get.result c.if-is_some.ensures in
+    let none : table b.holder c.args.cell ≡ None = cc (c.get.ensures, free) in
+    let clear : (k : ℕ) → Stands s k c.args.cell → table b.target k ≡ Some (cell_of s c.args.robot) → ⊥ = λ k stands e. cc (c.if-meets.ensures.1 (k, stands, e)) in
+    let t1 : List (Option ℕ) = slice_set b.target c.args.robot (Some c.args.cell) in
+    let other : ℕ = c.in-Some.other in
+    let found : table t1 other ≡ c.get-2.result = cc (c.get-2.ensures, ap (λ (x : List (Option ℕ)). table x other) c.reserve.ensures.target) in
+    elim c.then-is_some-2.branch [
+      | attempt-then-is_some-2-via-then-is_some-2 w ↦ rw (w.board-is, c.reserve.ensures.target, c.reserve.ensures.holder)
+          (attempt-done s scene b.target b.holder c.args.robot c.args.cell r.ready r.choice (choice-inside s scene _ _ _ _ r.ready.known r.choice) none clear
+          (λ k stands e.
+          let same : k ≡ other = scene-distinct s scene k other stands.0 c.in-Some.ensures.0 (cc (stands.1, c.in-Some.ensures.1)) in
+          not_none c.get-2.result w.if-is_some-2.ensures (cc (found, e, ap (table t1) same))))
+      | attempt-then-is_some-2-via-else-is_some-2+then-plan w ↦
+          let free2 = none_from c.get-2.result w.if-is_some-2.ensures in
+          rw w.board-is
+          (attempt-passed s scene b.target b.holder c.args.robot c.args.cell r.ready r.choice (choice-inside s scene _ _ _ _ r.ready.known r.choice) none clear
+          other c.in-Some.ensures (cc (found, free2)) w.plan.new.board.target w.plan.new.board.holder
+          (rw (c.reserve.ensures.target, c.reserve.ensures.holder) at w.if-plan.ensures.done))
+    ]
+
+pub attempt-returns-clause-done : goal.attempt-returns-clause-done
+attempt-returns-clause-done g t c =
+    let s = g.S.Sight.setting c.args.scene.now in
+    let scene = g.met.S.Sight.is_scene c.args.scene.now c.requires.whole in
+    let b = c.args.board.now in
+    let r = c.requires in
+    let free = none_from c.get.result c.if-is_some.ensures in
+    let none : table b.holder c.args.cell ≡ None = cc (c.get.ensures, free) in
+    let clear : (k : ℕ) → Stands s k c.args.cell → table b.target k ≡ Some (cell_of s c.args.robot) → ⊥ = λ k stands e. cc (c.if-meets.ensures.1 (k, stands, e)) in
+    let t1 : List (Option ℕ) = slice_set b.target c.args.robot (Some c.args.cell) in
+    let h1 : List (Option ℕ) = slice_set b.holder c.args.cell (Some c.args.robot) in
+    let other : ℕ = c.in-Some.other in
+    let p = c.plan.new.board in
+    let idle : table t1 other ≡ None = cc (c.get-2.ensures, ap (λ (x : List (Option ℕ)). table x other) c.reserve.ensures.target, none_from c.get-2.result c.if-is_some-2.ensures) in
+    let lt : length p.target ≡ robots s = omega (arith, c.plan.ensures.targets, ap length c.reserve.ensures.target, length-set b.target c.args.robot (Some c.args.cell), r.ready.targets) in
+    let lh : length p.holder ≡ length s.floor.letters = omega (arith, c.plan.ensures.holders, ap length c.reserve.ensures.holder, length-set b.holder c.args.cell (Some c.args.robot), r.ready.holders) in
+    rw (c.hand_back.ensures.target, c.hand_back.ensures.holder)
+    (attempt-failed s scene b.target b.holder c.args.robot c.args.cell r.ready r.choice (choice-inside s scene _ _ _ _ r.ready.known r.choice) none clear
+    other c.in-Some.ensures idle p.target p.holder lt lh
+    (rw (c.reserve.ensures.target, c.reserve.ensures.holder) at c.if-plan.ensures.done))
+
+pub plan-attempt-requires : goal.plan-attempt-requires
+plan-attempt-requires g t c κs within =
+    let s = g.S.Sight.setting c.args.scene.now in
+    let scene = g.met.S.Sight.is_scene c.args.scene.now c.requires.whole in
+    let trying = c.loop-cell.invariant in
+    let choices = c.choices-cells.ensures in
+    let b = c.args.board.now in
+    let d = c.loop-cell.board in
+    let count = open_count-keep b.target d.target (sym trying.targets) trying.grown.keep in (
+      omega (arith, count),
+      (
+        within.0,
+        (
+          within.1,
+          (
+            c.requires.whole,
+            (
+              trying-ready s scene b.target b.holder d.target d.holder c.args.robot _ _ c.requires.ready choices trying,
+              trying-choice s scene b.target b.holder d.target d.holder c.args.robot _ _ c.requires.ready choices trying (omega (arith, choices.five, c.loop-cell-test.true)),
+            ),
+          ),
+        ),
+      ),
+    )
+
+pub plan-returns-then-attempt-clause-tried : goal.plan-returns-then-attempt-clause-tried
+plan-returns-then-attempt-clause-tried g t c =
+    let s = g.S.Sight.setting c.args.scene.now in
+    let b = c.args.board.now in
+    let d = c.loop-cell.board in
+    let e = c.attempt.new.board in
+    λ _. trying-tried s b.target b.holder d.target d.holder c.args.robot _ _ c.loop-cell.invariant e.target e.holder c.choices-cells.ensures c.if-attempt.ensures.done.1
+
+pub plan-loop-cell-preserved : goal.plan-loop-cell-preserved
+plan-loop-cell-preserved g t c =
+    let s = g.S.Sight.setting c.args.scene.now in
+    let b = c.args.board.now in
+    let d = c.loop-cell.board in
+    let e = c.attempt.new.board in
+    let a = c.if-attempt.ensures in
+    let lt : length e.target ≡ length d.target = omega (arith, a.targets) in
+    let lh : length e.holder ≡ length d.holder = omega (arith, a.holders) in
+    trying-more s b.target b.holder d.target d.holder c.args.robot _ _ c.loop-cell.invariant e.target e.holder lt lh a.done
+
+pub plan-returns-clause-done : goal.plan-returns-clause-done
+plan-returns-clause-done g t c =
+    let s = g.S.Sight.setting c.args.scene.now in
+    let scene = g.met.S.Sight.is_scene c.args.scene.now c.requires.whole in
+    let trying = c.loop-cell.invariant in
+    let choices = c.choices-cells.ensures in
+    let b = c.args.board.now in
+    let d = c.loop-cell.board in
+    trying-failed s scene b.target b.holder d.target d.holder c.args.robot _ _ c.requires.ready choices trying (omega (arith, choices.five, c.loop-cell-test.false))
+
+pub attempt-reserve-requires-clause-few_cells : goal.attempt-reserve-requires-clause-few_cells
+attempt-reserve-requires-clause-few_cells g t c =
+    let s = g.S.Sight.setting c.args.scene.now in
+    let scene = g.met.S.Sight.is_scene c.args.scene.now c.requires.whole in
+    let inside = choice-inside s scene _ _ _ _ c.requires.ready.known c.requires.choice in
+    omega (arith, inside, cells-few s.floor scene.form)
+
+pub attempt-hand_back-requires-clause-few_cells : goal.attempt-hand_back-requires-clause-few_cells
+attempt-hand_back-requires-clause-few_cells g t c =
+    let s = g.S.Sight.setting c.args.scene.now in
+    let scene = g.met.S.Sight.is_scene c.args.scene.now c.requires.whole in
+    let inside = choice-inside s scene _ _ _ _ c.requires.ready.known c.requires.choice in
+    omega (arith, inside, cells-few s.floor scene.form)

@@ -1,0 +1,33 @@
+use Rattle.std.proofs.Common.{◌≡◌, ◌≢◌, ℕ, Option, Some, None, length, slice_index, refl, true, false, arith}
+use Rattle.std.specs.Option.{is_some}
+use Rattle.fleet_pibt.specs.Entry.{table}
+use Rattle.fleet_pibt.proofs.Whole.{planned-skip, planned-call}
+use Rattle.fleet_pibt.proofs.plan.plan_all.Goals as goal
+use Rattle.fleet_pibt.proofs.plan.plan_all.Goals.{then-is_none, else-is_none}
+
+is_open : (o : Option ℕ) → is_some o ≡ false → o ≡ None
+is_open None e = refl
+is_open (Some x) e = absurd (cc e)
+
+is_taken : (o : Option ℕ) → is_some o ≡ true → o ≢ None
+is_taken None e h = cc e
+is_taken (Some x) e h = cc h
+
+pub loop-robot-preserved : goal.loop-robot-preserved
+loop-robot-preserved g c =
+    let s = g.S.Sight.setting c.args.scene.now in
+    let scene = g.met.S.Sight.is_scene c.args.scene.now c.requires.whole in
+    let b = c.args.board.now in
+    let d = c.loop-robot.board in
+    let r = c.requires in
+    elim c.if-is_none.branch [
+      | then-is_none w ↦
+          let p = w.plan.new.board in
+          let none : table d.target (slice_index c.args.queue.now c.loop-robot.robot-index) ≡ None = cc (c.get.ensures, is_open c.get.result w.if-is_none.ensures) in
+          let lt : length p.target ≡ length d.target = omega (arith, w.plan.ensures.targets) in
+          let lh : length p.holder ≡ length d.holder = omega (arith, w.plan.ensures.holders) in
+          rw w.board-is (planned-call s b.target b.holder c.args.queue.now d.target d.holder c.loop-robot.robot-index r.queue c.loop-robot-test.true c.loop-robot.invariant scene p.target p.holder none w.plan.result w.plan.ensures.done w.plan.ensures.tried lt lh)
+      | else-is_none w ↦
+          let some : table d.target (slice_index c.args.queue.now c.loop-robot.robot-index) ≢ None = λ e. is_taken c.get.result w.if-is_none.ensures (cc (c.get.ensures)) in
+          rw w.board-is (planned-skip s b.target b.holder c.args.queue.now d.target d.holder c.loop-robot.robot-index r.queue c.loop-robot-test.true c.loop-robot.invariant some r.no_target)
+    ]

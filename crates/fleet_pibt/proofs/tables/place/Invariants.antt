@@ -1,0 +1,6 @@
+use Rattle.std.proofs.Common.{◌≡◌, length}
+use Rattle.fleet_pibt.specs.Tables.{IsPlaced}
+use Rattle.fleet_pibt.proofs.tables.place.Given as goal
+
+abbrev pub invariant-loop-robot : goal.invariant-loop-robot
+invariant-loop-robot g l = record { same_length : length l.standing ≡ length l.initial.standing; placed : IsPlaced l.from l.standing l.robot }

@@ -1,0 +1,17 @@
+pub use Rattle.fleet_grid.specs.Floor
+pub use Rattle.fleet_grid.specs.Walk
+pub use Rattle.fleet_grid.specs.Step
+pub mod Order
+pub mod Eldest
+pub mod Goals
+pub mod Purposeful
+pub mod Advancing
+pub mod Ties
+pub mod Size
+pub mod Turn
+pub mod Entry
+pub mod Plan
+pub mod Setting
+pub mod Around
+pub mod Candidate
+pub mod Tables

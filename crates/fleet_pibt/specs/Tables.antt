@@ -1,0 +1,21 @@
+-- The tables of a step, as they are filled and emptied.
+use Rattle.std.specs.Prelude.{◌≡◌, ℕ, ◌<◌, Option, Some, List, length, slice_index}
+use Rattle.fleet_pibt.specs.Entry.{table}
+
+-- each cell of the list is below the number of cells
+abbrev pub HasCells : List ℕ → ℕ → Type 0
+HasCells from cells = (r : ℕ) → r < length from → slice_index from r < cells
+
+-- the first `k` robots stand in the table, and nobody else
+pub record IsPlaced (from : List ℕ) (standing : List (Option ℕ)) (k : ℕ) : Type 0 where
+  pub stands : (c r : ℕ) → table standing c ≡ Some r → (r < k) × (slice_index from r ≡ c)
+  pub placed : (r : ℕ) → r < k → table standing (slice_index from r) ≡ Some r
+
+-- the first `k` robots of the table have their cells in the list
+abbrev pub IsTaken : List (Option ℕ) → List ℕ → ℕ → Type 0
+IsTaken target to k = (r c : ℕ) → r < k → table target r ≡ Some c → slice_index to r ≡ c
+
+-- two tables are inverse to each other
+pub record IsMatched (target holder : List (Option ℕ)) : Type 0 where
+  pub held : (r c : ℕ) → table target r ≡ Some c → table holder c ≡ Some r
+  pub kept : (c r : ℕ) → table holder c ≡ Some r → table target r ≡ Some c

@@ -1,0 +1,60 @@
+//! The plan of one step so far.
+
+ghost use Rattle.std.specs.Prelude.{◌≡◌, ◌≢◌, ℕ, ◌+◌, ◌<◌, ◌≤◌, length, slice_set, Option, Some, None};
+ghost use Rattle.fleet_pibt.specs.Entry.{table};
+
+use crate::table::Table;
+use std::alloc::{Allocator, Global};
+
+/// The cell that each robot has decided on, and the robot that has reserved each cell.
+#[derive(Drop)]
+pub struct Board<A: Allocator + Copy = Global> {
+    pub target: Table<A>,
+    pub holder: Table<A>,
+}
+
+impl<A: Allocator + Copy> Board<A> {
+    /// The robot decides on the cell, which nobody has reserved.
+    pub fn reserve(&mut self, robot: u32, cell: u32)
+        requires known { robot < length self.old.target }
+        requires inside { cell < length self.old.holder }
+        requires few_robots { robot < 4294967295 }
+        requires few_cells { cell < 4294967295 }
+        ensures target { self.new.target ≡ slice_set self.old.target robot (Some cell) }
+        ensures holder { self.new.holder ≡ slice_set self.old.holder cell (Some robot) }
+    {
+        self.target.set(robot, cell);
+        self.holder.set(cell, robot);
+    }
+
+    /// The other robot stays on its cell, and the robot that had reserved it has not decided.
+    pub fn hand_back(&mut self, robot: u32, other: u32, cell: u32)
+        requires known { robot < length self.old.target }
+        requires other_known { other < length self.old.target }
+        requires inside { cell < length self.old.holder }
+        requires few_robots { other < 4294967295 }
+        requires few_cells { cell < 4294967295 }
+        ensures target { self.new.target ≡ slice_set (slice_set self.old.target robot None) other (Some cell) }
+        ensures holder { self.new.holder ≡ slice_set self.old.holder cell (Some other) }
+    {
+        self.target.clear(robot);
+        self.reserve(other, cell);
+    }
+
+    /// Takes a robot that has decided, and its cell, off the board, and tells the cell.
+    pub fn release(&mut self, robot: u32) -> u32
+        requires known { robot < length self.old.target }
+        requires decided { table self.old.target robot ≢ None }
+        requires inside { (c : ℕ) → table self.old.target robot ≡ Some c → c < length self.old.holder }
+        ensures decided { table self.old.target robot ≡ Some result }
+        ensures target { self.new.target ≡ slice_set self.old.target robot None }
+        ensures holder { self.new.holder ≡ slice_set self.old.holder result None }
+    {
+        let Some(cell) = self.target.get(robot) else {
+            unreachable!()
+        };
+        self.target.clear(robot);
+        self.holder.clear(cell);
+        cell
+    }
+}

@@ -1,0 +1,18 @@
+//! What a step asks about the robots' goals.
+
+ghost use Rattle.std.specs.Prelude.{◌≡◌, ℕ, Option};
+
+/// Where each robot goes, and how far that is.
+pub trait Goals {
+    ghost goal_of: { Self → ℕ → Option ℕ };
+
+    ghost distance: { Self → ℕ → ℕ → Option ℕ };
+
+    /// The robot's goal; an idle robot has none.
+    fn goal(&self, robot: u32) -> Option<u32>
+        ensures { result ≡ goal_of self.now robot };
+
+    /// The number of edges from the cell to the robot's goal; none where no walk leads there.
+    fn at(&self, robot: u32, cell: u32) -> Option<u32>
+        ensures { result ≡ distance self.now robot cell };
+}

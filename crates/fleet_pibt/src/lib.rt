@@ -1,0 +1,22 @@
+//! The order of priority among robots, and one step of all of them by priority inheritance with backtracking (PIBT,
+//! Okumura et al., AIJ 2022).
+#![tactic(auto)]
+
+mod around;
+mod board;
+mod choice;
+mod goals;
+mod plan;
+mod priority;
+mod scene;
+mod sight;
+mod stepper;
+mod table;
+mod tables;
+
+pub use goals::Goals;
+pub use priority::order;
+pub use stepper::Stepper;
+
+#[cfg(test)]
+mod tests;

@@ -1,0 +1,134 @@
+//! The sight of a step over a map, a placement, goals and tie closures.
+
+ghost use Rattle.std.specs.Prelude.{◌≡◌, ℕ, ◌<◌, length, map, slice_index};
+ghost use Rattle.fleet_grid.specs.Floor.{IsNeighbourIn};
+ghost use Rattle.fleet_pibt.specs.Setting.{setting};
+ghost use Rattle.fleet_pibt.specs.Around.{IsWhole};
+ghost use Rattle.fleet_pibt.specs.Candidate.{IsCandidate};
+
+use crate::around::Around;
+use crate::choice::{Candidate, cells};
+use crate::goals::Goals;
+use crate::sight::Sight;
+use crate::table::Table;
+use fleet_grid::{Dir, Grid};
+use fleet_hooks::{TieHook, TieView};
+use std::alloc::Allocator;
+
+/// What the plan of one step is made from.
+#[derive(Drop)]
+pub struct Scene<'a, G, A: Allocator + Copy> {
+    /// The map and the goals from which `arounds` was gathered.
+    pub grid: &'a Grid<A>,
+    pub goals: &'a G,
+    pub from: &'a [u32],
+    pub ties: &'a [TieHook],
+    /// The robot on each cell.
+    pub standing: &'a Table<A>,
+    /// What each robot sees.
+    pub arounds: &'a [Around],
+    pub tick: u64,
+}
+
+impl<'a, G: Goals, A: Allocator + Copy> Sight for Scene<'a, G, A> {
+    ghost setting = { λ s. setting s.grid.now s.from.now (G.goal_of s.goals.now) (G.distance s.goals.now) (map (λ h. h.law) s.ties.now) };
+
+    ghost is_whole = { λ s.
+        IsWhole
+        (setting s.grid.now s.from.now (G.goal_of s.goals.now) (G.distance s.goals.now) (map (λ h. h.law) s.ties.now))
+        s.standing.now
+        s.arounds.now };
+
+    ghost is_scene = { λ s whole. whole.scene };
+
+    fn stander(&self, cell: u32) -> Option<u32> {
+        self.standing.get(cell)
+    }
+
+    fn cell_of(&self, robot: u32) -> u32 {
+        self.from[robot as usize]
+    }
+
+    fn choices(&self, robot: u32) -> [u32; 5] {
+        let mut list = [
+            self.staying(robot),
+            self.moving(robot, Dir::North),
+            self.moving(robot, Dir::East),
+            self.moving(robot, Dir::South),
+            self.moving(robot, Dir::West),
+        ];
+        list.sort_unstable();
+        cells(&list)
+    }
+}
+
+impl<'a, G: Goals, A: Allocator + Copy> Scene<'a, G, A> {
+    /// The candidate of the robot's own cell.
+    fn staying(&self, robot: u32) -> Candidate
+        requires whole { let s = setting
+            self.now.grid.now
+            self.now.from.now
+            (G.goal_of self.now.goals.now)
+            (G.distance self.now.goals.now)
+            (map (λ h. h.law) self.now.ties.now)
+            in IsWhole s self.now.standing.now self.now.arounds.now }
+        requires known { robot < length self.now.from.now }
+        ensures candidate { let s = setting
+            self.now.grid.now
+            self.now.from.now
+            (G.goal_of self.now.goals.now)
+            (G.distance self.now.goals.now)
+            (map (λ h. h.law) self.now.ties.now)
+            in IsCandidate s robot result }
+        ensures own { result.cell ≡ slice_index self.now.from.now robot }
+        ensures rank { result.rank ≡ 0 }
+    {
+        let own = self.arounds[robot as usize].own;
+        Candidate {
+            cost: own.cost,
+            rank: 0,
+            side: 0,
+            cell: own.cell,
+        }
+    }
+
+    /// The candidate in a direction, or that of the own cell where there is no floor.
+    fn moving(&self, robot: u32, dir: Dir) -> Candidate
+        requires whole { let s = setting
+            self.now.grid.now
+            self.now.from.now
+            (G.goal_of self.now.goals.now)
+            (G.distance self.now.goals.now)
+            (map (λ h. h.law) self.now.ties.now)
+            in IsWhole s self.now.standing.now self.now.arounds.now }
+        requires known { robot < length self.now.from.now }
+        ensures candidate { let s = setting
+            self.now.grid.now
+            self.now.from.now
+            (G.goal_of self.now.goals.now)
+            (G.distance self.now.goals.now)
+            (map (λ h. h.law) self.now.ties.now)
+            in IsCandidate s robot result }
+        ensures covers { (w : ℕ) → IsNeighbourIn self.now.grid.now dir (slice_index self.now.from.now robot) w → result.cell ≡ w }
+    {
+        let around = self.arounds[robot as usize];
+        let spot = around.beside(dir);
+        if spot.cell == around.own.cell {
+            return self.staying(robot);
+        }
+        let view = TieView {
+            robot,
+            cell: around.own.cell,
+            neighbour: spot.cell,
+            dir,
+            tick: self.tick,
+        };
+        let rank = u16::from(self.ties[robot as usize].rank(view)) + 1;
+        Candidate {
+            cost: spot.cost,
+            rank,
+            side: dir.number(),
+            cell: spot.cell,
+        }
+    }
+}

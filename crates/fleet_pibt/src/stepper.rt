@@ -1,0 +1,129 @@
+//! One step of all robots.
+
+ghost use Rattle.std.specs.Prelude.{IfOk, ◌≡◌, ℕ, ◌≤◌, length, map, slice_get, slice_index, Some};
+ghost use Rattle.fleet_grid.specs.Floor.{IsNeighbour};
+ghost use Rattle.fleet_grid.specs.Step.{IsPlacement, IsConflictFree};
+ghost use Rattle.fleet_grid.specs.Walk.{IsBridgeless};
+ghost use Rattle.fleet_pibt.specs.Advancing.{Advances, IsAdvancing, IsOpenAhead};
+ghost use Rattle.fleet_pibt.specs.Eldest.{IsEldest};
+ghost use Rattle.fleet_pibt.specs.Goals.{AreGoals};
+ghost use Rattle.fleet_pibt.specs.Purposeful.{IsPurposeful};
+ghost use Rattle.fleet_pibt.specs.Ties.{IsByLaw};
+
+use crate::around::{Around, Spot, gather};
+use crate::board::Board;
+use crate::goals::Goals;
+use crate::plan::plan_all;
+use crate::priority::order;
+use crate::scene::Scene;
+use crate::table::Table;
+use crate::tables::{lift, place, settle};
+use fleet_grid::Grid;
+use fleet_hooks::TieHook;
+use std::alloc::{AllocError, Allocator, Global};
+use std::marker::Model;
+
+/// The tables of a step, made once for a number of cells and robots, and empty between two steps.
+#[derive(Drop)]
+pub struct Stepper<A: Allocator + Copy = Global> {
+    standing: Table<A>,
+    board: Board<A>,
+    queue: Vec<u32, A>,
+    arounds: Vec<Around, A>,
+}
+
+impl<A: Allocator + Copy> Model for Stepper<A> {
+    ghost use Rattle.std.specs.Prelude.{◌≡◌, length, vec_len};
+    ghost use Rattle.fleet_pibt.specs.Entry.{IsEmpty};
+    ghost use Rattle.fleet_pibt.specs.Size.{Size};
+
+    ghost Value = { Size };
+
+    ghost view = { λ s. record { cells = length s.standing; robots = vec_len s.queue } };
+
+    ghost invariant = { λ s.
+        (length s.board.target ≡ vec_len s.queue)
+        × (vec_len s.arounds ≡ vec_len s.queue)
+        × (length s.board.holder ≡ length s.standing)
+        × IsEmpty s.standing
+        × IsEmpty s.board.target
+        × IsEmpty s.board.holder };
+}
+
+/// What no robot has seen yet.
+const NOWHERE: Spot = Spot { cell: 0, cost: 0 };
+
+impl<A: Allocator + Copy> Stepper<A> {
+    /// The tables for so many cells and robots.
+    pub fn new(alloc: A, cells: u32, robots: u32) -> Result<Stepper<A>, AllocError>
+        ensures { IfOk result (λ stepper. stepper ≡ record { cells = cells; robots = robots }) }
+    {
+        let nothing = Around {
+            own: NOWHERE,
+            north: NOWHERE,
+            east: NOWHERE,
+            south: NOWHERE,
+            west: NOWHERE,
+        };
+        Ok(Stepper {
+            standing: Table::new(alloc, cells)?,
+            board: Board {
+                target: Table::new(alloc, robots)?,
+                holder: Table::new(alloc, cells)?,
+            },
+            queue: vec![in alloc; 0; robots as usize]?,
+            arounds: vec![in alloc; nothing; robots as usize]?,
+        })
+    }
+
+    /// Writes to `to` where each robot goes from its cell in `from`: the robots are planned in their order of priority, and
+    /// one that wants another's cell hands its priority on (PIBT). `tick` is the tick that is being made, for the closures.
+    /// Takes no memory.
+    pub fn step<G: Goals>(
+        &mut self,
+        grid: &Grid<A>,
+        from: &[u32],
+        waits: &[Option<u64>],
+        goals: &G,
+        ties: &[TieHook],
+        tick: u64,
+        to: &mut [u32],
+    )
+        requires placed { IsPlacement grid.now from.now }
+        requires few { length from.now ≤ 512 }
+        requires waited { length waits.now ≡ length from.now }
+        requires tied { length ties.now ≡ length from.now }
+        requires same_length { length to.old ≡ length from.now }
+        requires made { self.old ≡ record { cells = length grid.now.letters; robots = length from.now } }
+        requires goals { AreGoals grid.now from.now waits.now (G.goal_of goals.now) (G.distance goals.now) }
+        ensures made { self.new ≡ self.old }
+        ensures conflict_free { IsConflictFree grid.now from.now to.new }
+        ensures purposeful { IsPurposeful grid.now (G.goal_of goals.now) from.now to.new }
+        ensures advances { (e g : ℕ) → IsEldest waits.now e → G.goal_of goals.now e ≡ Some g →
+            IsOpenAhead grid.now from.now g (slice_index from.now e) →
+            Advances grid.now g (slice_index from.now e) (slice_index to.new e) }
+        ensures bridgeless { IsBridgeless (IsNeighbour grid.now) → IsAdvancing grid.now waits.now (G.goal_of goals.now) from.now to.new }
+        ensures by_law { (e g : ℕ) (law : _) → IsEldest waits.now e → G.goal_of goals.now e ≡ Some g →
+            IsOpenAhead grid.now from.now g (slice_index from.now e) →
+            slice_get (map (λ h. h.law) ties.now) e ≡ Some law →
+            IsByLaw grid.now law g (slice_index from.now e) (slice_index to.new e) }
+    {
+        // The count comes with the form of the map, which the proof reads.
+        let _cells = grid.cell_count();
+        order(waits, &mut self.queue);
+        place(from, &mut self.standing);
+        gather(grid, from, goals, &mut self.arounds);
+        let scene = Scene {
+            grid,
+            goals,
+            from,
+            ties,
+            standing: &self.standing,
+            arounds: &self.arounds,
+            tick,
+        };
+        plan_all(&scene, &mut self.board, &self.queue);
+        lift(from, &mut self.standing);
+        settle(&mut self.board, to);
+    }
+}
