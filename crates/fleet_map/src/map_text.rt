@@ -3,6 +3,7 @@
 ghost use Rattle.std.specs.Prelude.{◌≡◌, IfOk, IfErr, Ok, Err};
 ghost use Rattle.fleet_map.specs.declared.fault.MapFault.{MapFault};
 ghost use Rattle.fleet_map.specs.Text.{lines_of};
+ghost use Rattle.fleet_map.specs.Form.{HasSides};
 ghost use Rattle.fleet_map.specs.Shape.{IsMapText};
 ghost use Rattle.fleet_map.specs.FirstFault.{IsFirstFault};
 ghost use Rattle.fleet_map.specs.Grammar.{Map, Gives, view, head_at, map_of};
@@ -32,6 +33,7 @@ pub struct MapText<A: Allocator + Copy = Global> {
 pub fn read_map<A: Allocator + Copy>(alloc: A, bytes: &[u8]) -> Result<MapText<A>, MapFault>
     // What is read has the shape of a map, with these cells.
     ensures found { IfOk result (λ map. IsMapText bytes.now (view map)) }
+    ensures sides { IfOk result (λ map. HasSides (view map)) }
     // What has it is read, unless memory runs out.
     ensures only { (m : Map) → IsMapText bytes.now m → Gives view result (Ok m) }
     // Where none is read, the fault is the first, unless memory ran out.
