@@ -1,0 +1,71 @@
+-- What one more entry does to a wait.
+use Rattle.std.proofs.Common.{◌≡◌, ℕ, ◌+◌, ◌<◌, List, [], ◌∷◌, ◌++◌, drop, map, cond, eqb, Bool, true, false, Option, Some, None, sym, refl, ap, ◌∙◌, add_assoc, add-zero}
+use Rattle.std.specs.Prelude.{count_by, slice_get, slice_index}
+use Rattle.std.proofs.lemmas.List.Sums.{sum_by_push}
+use Rattle.fleet_queue.specs.declared.errand.Errand.{Errand}
+use Rattle.fleet_history.specs.declared.history.Entry.{Entry}
+use Rattle.fleet_history.specs.declared.history.Entry.TheVariants as entry
+use Rattle.fleet_history.specs.declared.history.Arrival.{Arrival}
+use Rattle.fleet_history.specs.declared.history.Bye.{Bye}
+use Rattle.fleet_history.specs.History.{History, after, robots, is_tick, front, unfinished, arrivals_by}
+use Rattle.fleet_history.specs.Legal.{due_of, due}
+use Rattle.fleet_history.specs.Waits.{later, behind_last, ticks_in, ticks_since, marks, wait, wait_for, wait_at}
+use Rattle.fleet_history.proofs.Arrivals.{arrivals_by-fits, unfinished-after_tick, unfinished-after_shut}
+
+pushed : {A : Type 0} → Option (List (Entry A)) → Entry A → Option (List (Entry A))
+pushed None e = None
+pushed (Some t) e = Some (t ++ e ∷ [])
+
+last_one : {A : Type 0} (b : Bool) (e : Entry A) → later b [] None ≡ cond b (Some []) (pushed None e)
+unfolding pushed
+last_one true e = refl
+last_one false e = refl
+
+later_push : {A : Type 0} (bx be : Bool) (es : List (Entry A)) (e : Entry A) (o : Option (List (Entry A))) →
+    later bx (es ++ e ∷ []) (cond be (Some []) (pushed o e)) ≡ cond be (Some []) (pushed (later bx es o) e)
+unfolding pushed
+later_push bx true es e o = refl
+later_push bx false es e (Some t) = refl
+later_push true false es e None = refl
+later_push false false es e None = refl
+
+behind_last-push : {A : Type 0} (p : Entry A → Bool) (es : List (Entry A)) (e : Entry A) → behind_last p (es ++ e ∷ []) ≡ cond (p e) (Some []) (pushed (behind_last p es) e)
+behind_last-push p [] e = last_one (p e) e
+behind_last-push p (x ∷ es) e = ap (later (p x) (es ++ e ∷ [])) (behind_last-push p es e) ∙ later_push (p x) (p e) es e (behind_last p es)
+
+ticks_in-push : {A : Type 0} (b : Bool) (w : ℕ) (es : List (Entry A)) (e : Entry A) (o : Option (List (Entry A))) →
+    ticks_in w (es ++ e ∷ []) (cond b (Some []) (pushed o e)) ≡ cond b 0 (ticks_in w es o + cond (is_tick e) 1 0)
+unfolding pushed
+ticks_in-push true w es e o = refl
+ticks_in-push false w es e None = ap (λ n. w + n) (sum_by_push (λ x. cond (is_tick x) 1 0) es e) ∙ sym (add_assoc w (count_by is_tick es) (cond (is_tick e) 1 0))
+ticks_in-push false w es e (Some t) = sum_by_push (λ x. cond (is_tick x) 1 0) t e
+
+-- one more entry begins anew, or adds a tick
+pub ticks_since-push : {A : Type 0} (p : Entry A → Bool) (w : ℕ) (es : List (Entry A)) (e : Entry A) →
+    ticks_since p w (es ++ e ∷ []) ≡ cond (p e) 0 (ticks_since p w es + cond (is_tick e) 1 0)
+ticks_since-push p w es e = ap (ticks_in w (es ++ e ∷ [])) (behind_last-push p es e) ∙ ticks_in-push (p e) w es e (behind_last p es)
+
+module _ {A : Type 0} (h : History A) (to : List ℕ) (arrived : List Arrival) (farewells : List Bye) (r : ℕ) (inside : r < robots h) (shows : map due_of arrived ≡ due h to) where
+  -- a tick that leaves a robot short of its goal adds one to its wait
+  pub wait-tick_more : (f : Errand) → front h r ≡ Some f → eqb f.cell (slice_index to r) ≡ false →
+      wait (after h (entry.Tick to arrived farewells)) r ≡ Some (ticks_since (marks r f) (wait_at h r) h.entries + 1)
+  wait-tick_more f is no_goal =
+      let shown : arrivals_by {A = A} r (entry.Tick to arrived farewells) ≡ [] = arrivals_by-fits h to arrived farewells r inside shows ∙ rw (is, no_goal) refl in
+      let left : unfinished (after h (entry.Tick to arrived farewells)) r ≡ unfinished h r = unfinished-after_tick h to arrived farewells r inside shows ∙ rw (is, no_goal) refl in
+      rw (left, is, ticks_since-push (marks r f) (wait_at h r) h.entries (entry.Tick to arrived farewells), shown) refl
+
+  -- an arrival begins the wait of the next front
+  pub wait-tick_anew : (f g : Errand) → front h r ≡ Some f → eqb f.cell (slice_index to r) ≡ true → slice_get (drop 1 (unfinished h r)) 0 ≡ Some g →
+      wait (after h (entry.Tick to arrived farewells)) r ≡ Some 0
+  wait-tick_anew f g is goal next =
+      let shown : arrivals_by {A = A} r (entry.Tick to arrived farewells) ≡ f ∷ [] = arrivals_by-fits h to arrived farewells r inside shows ∙ rw (is, goal) refl in
+      let left : unfinished (after h (entry.Tick to arrived farewells)) r ≡ drop 1 (unfinished h r) = unfinished-after_tick h to arrived farewells r inside shows ∙ rw (is, goal) refl in
+      rw (left, next, ticks_since-push (marks r g) (wait_at h r) h.entries (entry.Tick to arrived farewells), shown) refl
+
+-- a shut changes no wait
+pub wait-shut : {A : Type 0} (h : History A) (robot : ℕ) (farewell : Option ℕ) (r : ℕ) → wait (after h (entry.Shut robot farewell)) r ≡ wait h r
+wait-shut h robot farewell r = rw (unfinished-after_shut h robot farewell r) (same (front h r))
+  where
+    same : (o : Option Errand) → wait_for (after h (entry.Shut robot farewell)) r o ≡ wait_for h r o
+    same None = refl
+    same (Some f) = rw (ticks_since-push (marks r f) (wait_at h r) h.entries (entry.Shut robot farewell)) (ap Some (add-zero (ticks_since (marks r f) (wait_at h r) h.entries)))

@@ -1,0 +1,33 @@
+-- A list of which a front was taken.
+use Rattle.std.proofs.Common.{◌≡◌, ℕ, zero, suc, ◌+◌, ◌≤◌, List, [], ◌∷◌, ◌++◌, length, take, drop, Option, Some, None, sym, refl, ap, ◌∙◌, arith, add-one}
+use Rattle.std.proofs.Common.{subst}
+use Rattle.std.specs.Prelude.{slice_get}
+use Rattle.fleet_world.specs.declared.events.Event.{Event}
+use Rattle.fleet_world.specs.declared.events.Reply.{Reply}
+use Rattle.fleet_world.specs.Core.{State, Step, Run}
+use Rattle.std.proofs.lemmas.List.{length-take-le}
+
+take_next_at : {X : Type 0} (xs : List X) (n : ℕ) (x : X) → slice_get (drop n xs) 0 ≡ Some x → take (suc n) xs ≡ take n xs ++ x ∷ []
+take_next_at [] zero x e = cc
+take_next_at [] (suc n) x e = cc
+take_next_at (y ∷ ys) zero x e = cc
+take_next_at (y ∷ ys) (suc n) x e = ap (λ t. y ∷ t) (take_next_at ys n x e)
+
+-- the front with the next item
+pub take_next : {X : Type 0} (xs : List X) (n : ℕ) (x : X) → n ≤ length xs → slice_get (drop (length (take n xs)) xs) 0 ≡ Some x → take (n + 1) xs ≡ take n xs ++ x ∷ []
+take_next xs n x l e =
+    let s = length-take-le n xs l in
+    rw add-one (take_next_at xs n x (rw s at e))
+
+-- a list with no first item is empty
+pub nil_from_none : {X : Type 0} (xs : List X) → slice_get xs 0 ≡ None → xs ≡ []
+nil_from_none [] e = refl
+nil_from_none (x ∷ xs) e = cc
+
+-- a run goes on by one step
+pub Run-push : {A : Type 0} (s m t : State A) (events : List Event) (replies : List Reply) (event : Event) (reply : Reply) →
+    Run s events replies m → Step m event reply t → Run s (events ++ event ∷ []) (replies ++ reply ∷ []) t
+Run-push s m t [] [] event reply r step = (t, subst (λ x. Step x event reply t) r step, refl)
+Run-push s m t (e ∷ events) (p ∷ replies) event reply (mid, first, rest) step = (mid, first, Run-push mid m t events replies event reply rest step)
+Run-push s m t [] (p ∷ replies) event reply r step = absurd r
+Run-push s m t (e ∷ events) [] event reply r step = absurd r

@@ -1,0 +1,10 @@
+pub mod Rings
+pub mod Leaves
+pub mod Fronts
+pub mod Ranges
+pub mod Facts
+pub mod MoveLaws
+pub mod Delivers
+pub mod Keeps
+pub mod Ticked
+pub mod Opens

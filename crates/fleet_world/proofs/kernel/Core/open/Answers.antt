@@ -1,0 +1,14 @@
+use Rattle.fleet_world.proofs.Opens.{refused-err, refused-ok, refused-memory}
+use Rattle.fleet_world.proofs.kernel.Core.open.Goals as goal
+
+pub returns-in-Some-clause-refused : goal.returns-in-Some-clause-refused
+returns-in-Some-clause-refused g c f named =
+    refused-err c.args.grid c.args.starts.items c.args.clients c.args.limits c.in-Some.fault f (rw c.as_slice.ensures.value at c.in-Some.ensures)
+
+pub returns-in-Err-clause-refused : goal.returns-in-Err-clause-refused
+returns-in-Err-clause-refused g c f named =
+    refused-memory c.args.grid c.args.starts.items c.args.clients c.args.limits f named (rw c.as_slice.ensures.value at c.in_default.ensures)
+
+pub returns-in-Ok-clause-refused : goal.returns-in-Ok-clause-refused
+returns-in-Ok-clause-refused g c f named =
+    refused-ok c.args.grid c.args.starts.items c.args.clients c.args.limits c.in-Ok.core f (rw c.as_slice.ensures.value at c.in_default.ensures)

@@ -1,0 +1,7 @@
+pub mod Pending
+pub mod Opening
+pub mod Core
+pub mod Laws
+pub mod Kept
+pub mod Moves
+pub mod Played

@@ -1,0 +1,56 @@
+-- Which worlds are opened, and why others are not.
+use Rattle.std.specs.Prelude.{ℕ, ◌≡◌, ◌<◌, ◌≤◌, ◌⊎◌, List, length, slice_index}
+use Rattle.fleet_grid.specs.Floor.{Floor, IsFloor}
+use Rattle.fleet_grid.specs.Step.{IsPlacement}
+use Rattle.fleet_book.specs.declared.limits.Limits.{Limits}
+use Rattle.fleet_book.specs.Limits.{AreValid, IsBetween}
+use Rattle.fleet_world.specs.declared.faults.OpenFault.{OpenFault}
+use Rattle.fleet_world.specs.declared.faults.OpenFault.TheVariants as fault
+
+-- the limits and the number of clients are in their ranges
+abbrev pub AreInRange : ℕ → Limits → Type 0
+AreInRange clients limits = AreValid limits × IsBetween 1 64 clients
+
+-- there are 1 to 512 robots
+abbrev pub AreRobots : List ℕ → Type 0
+AreRobots starts = IsBetween 1 512 (length starts)
+
+abbrev pub AreOnFloor : Floor → List ℕ → Type 0
+AreOnFloor m starts = (r : ℕ) → r < length starts → IsFloor m (slice_index starts r)
+
+-- the robot is the first that does not start on floor
+pub record IsFirstOffFloor (m : Floor) (starts : List ℕ) (r : ℕ) : Type 0 where
+  pub known : r < length starts
+  pub off : IsFloor m (slice_index starts r) → ⊥
+  pub before : (q : ℕ) → q < r → IsFloor m (slice_index starts q)
+
+-- two robots start on one cell
+pub record AreShared (starts : List ℕ) (i j : ℕ) : Type 0 where
+  pub before : i < j
+  pub known : j < length starts
+  pub same : slice_index starts i ≡ slice_index starts j
+
+-- they are the least pair of such
+pub record IsFirstShared (starts : List ℕ) (i j : ℕ) : Type 0 where
+  pub shared : AreShared starts i j
+  pub least : (k l : ℕ) → AreShared starts k l → (i < k) ⊎ ((i ≡ k) × (j ≤ l))
+
+-- what an opening asks for
+pub record CanOpen (m : Floor) (starts : List ℕ) (clients : ℕ) (limits : Limits) : Type 0 where
+  pub range : AreInRange clients limits
+  pub robots : AreRobots starts
+  pub placed : IsPlacement m starts
+
+-- when an opening is refused for this reason, want of memory apart
+abbrev pub IsRefused : Floor → List ℕ → ℕ → Limits → OpenFault → Type 0
+IsRefused m starts clients limits fault.Limits = AreInRange clients limits → ⊥
+IsRefused m starts clients limits fault.NoRobots = AreInRange clients limits × (AreRobots starts → ⊥)
+IsRefused m starts clients limits (fault.Start r) = AreInRange clients limits × AreRobots starts × IsFirstOffFloor m starts r
+IsRefused m starts clients limits (fault.Shared i j) =
+    AreInRange clients limits × AreRobots starts × AreOnFloor m starts × IsFirstShared starts i j
+IsRefused m starts clients limits fault.NoMemory = ⊥
+
+-- a reason other than want of memory
+abbrev pub IsNamed : OpenFault → Type 0
+IsNamed fault.NoMemory = ⊥
+IsNamed _ = Unit {0}

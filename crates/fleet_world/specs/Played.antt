@@ -1,0 +1,25 @@
+-- The lists of the clients, as a run leaves them.
+use Rattle.std.specs.Prelude.{ℕ, List, [], ◌++◌, map, slice_index_or}
+use Rattle.std.specs.List.{range_with_len}
+use Rattle.fleet_book.specs.declared.order.Order.{Order}
+use Rattle.fleet_book.specs.declared.notice.Notice.{Notice}
+use Rattle.fleet_history.specs.History.{History, clients}
+use Rattle.fleet_history.specs.Laws.{orders}
+use Rattle.fleet_world.specs.declared.play.Played.{Played}
+use Rattle.fleet_world.specs.Core.{Lists}
+
+-- a client's lists, by the history, and by what is left in its lane and outlet and what it collected: it sent what was
+-- taken and what is left in its lane, and was given what it collected and what is left in its outlet
+abbrev pub lists_from : {A : Type 0} → History A → List (List Order) → List (List Notice) → List (List Notice) → ℕ → Lists
+lists_from h lanes outlets collected c = record {
+  sent = orders h c ++ slice_index_or lanes c [];
+  taken = orders h c;
+  given = slice_index_or collected c [] ++ slice_index_or outlets c [];
+  collected = slice_index_or collected c [];
+}
+
+-- the clients' lists after a run
+abbrev pub client_lists : {A : Type 0} → Played A → List Lists
+client_lists p =
+    map (lists_from p.world.core.history (map (λ v. v.items) p.lanes.items) (map (λ v. v.items) p.outlets.items) (map (λ v. v.items) p.collected.items))
+    (range_with_len 0 (clients p.world.core.history))

@@ -1,0 +1,307 @@
+//! The core of a world: its map, limits, history and what follows from them. No closure lies inside.
+ghost use Rattle.std.specs.Prelude.{◌≡◌, ◌+◌, ◌*◌, ◌≤◌, ◌<◌, ◌^◌, ◌++◌, ◌∷◌, ◌↔◌, [], List, ℕ, true, false, length, OnOk, OnErr, IfOk, map, slice_index, slice_get, drop, replicate};
+ghost use Rattle.fleet_history.specs.History.{history_of, clients, robots, clock, place, is_shut};
+ghost use Rattle.fleet_history.specs.Verdicts.{AreFacts};
+ghost use Rattle.fleet_world.specs.Opening.{CanOpen, IsRefused, IsNamed};
+ghost use Rattle.fleet_world.specs.Core.{Takes, Ticks, Shuts, pending, without_first, opened_world, HasRoom, HasNoRoom, HasEntries, HasNoEntries};
+
+use crate::enter::{Tally, add, enter_take};
+use crate::faults::{OpenFault, ShutFault, TakeFault, TickFault, TickReport};
+use crate::mailbox::Mailbox;
+use crate::mover::plan;
+use crate::opening::{
+    blank_tallies, empty_mailboxes, empty_queues, nobodies, opening_fault, robots_at,
+};
+use crate::tick::{arrivals_at, enter_tick, farewells_at};
+use fleet_book::{Book, Facts, Limits, Notice, Order, Place, Verdict};
+use fleet_grid::Grid;
+use fleet_history::{Chapter, Entry, Opening, Row};
+use fleet_queue::ErrandQueue;
+use std::alloc::{Alloc, AllocError, Allocator, Global};
+use std::marker::Model;
+
+/// The map, the limits, the history and what follows from it. Contracts see the map, the limits, the chapter's number,
+/// the history, and each client's mailbox.
+#[derive(Drop)]
+pub struct Core<A: Allocator + Copy = Global> {
+    grid: Grid<A>,
+    limits: Limits,
+    chapter: Chapter<A>,
+    cells: Vec<u32, A>,
+    queues: Vec<ErrandQueue<A>, A>,
+    book: Book<A>,
+    tallies: Vec<Tally, A>,
+    mailboxes: Vec<Mailbox<A>, A>,
+    tick: u64,
+}
+
+impl<A: Allocator + Copy> Model for Core<A> {
+    ghost use Rattle.fleet_history.specs.History.{history_of};
+    ghost use Rattle.fleet_world.specs.Core.{World};
+    ghost use Rattle.fleet_world.specs.Kept.{IsKept};
+
+    ghost Value = { World A };
+
+    ghost view = { λ w. record {
+      floor = w.grid;
+      limits = w.limits;
+      number = w.chapter.number;
+      history = history_of w.chapter;
+      mailboxes = w.mailboxes.items;
+    } };
+
+    ghost invariant = { λ w. IsKept w.grid w.limits (history_of w.chapter) w.cells.items w.queues.items w.book w.tallies.items w.mailboxes.items w.tick };
+}
+
+impl<A: Allocator + Copy> Core<A> {
+    pub(crate) fn open(
+        alloc: A,
+        grid: Grid<A>,
+        starts: Vec<u32, A>,
+        clients: u32,
+        limits: Limits,
+    ) -> Result<Core<A>, OpenFault>
+        ensures refused { (fault : _) → IsNamed fault → ((result ≡ Err fault) ↔ IsRefused grid starts.items clients limits fault) }
+        ensures can { OnOk result (CanOpen grid starts.items clients limits) }
+        ensures ok { IfOk result (λ w. w ≡ opened_world grid starts.items clients limits) }
+    {
+        if let Some(fault) = opening_fault(&grid, starts.as_slice(), clients, limits) {
+            return Err(fault);
+        }
+        match Core::make(alloc, grid, starts, clients, limits) {
+            Ok(core) => Ok(core),
+            Err(AllocError) => Err(OpenFault::NoMemory),
+        }
+    }
+
+    /// The core at the opening of its world.
+    fn make(
+        alloc: A,
+        grid: Grid<A>,
+        starts: Vec<u32, A>,
+        clients: u32,
+        limits: Limits,
+    ) -> Result<Core<A>, AllocError>
+        requires { CanOpen grid starts.items clients limits }
+        ensures { IfOk result (λ w. w ≡ opened_world grid starts.items clients limits) }
+    {
+        let robots = robots_at(alloc, starts.as_slice())?;
+        let queues = empty_queues(alloc, starts.len(), limits.queue)?;
+        let book = Book::new(alloc, clients, starts.len() as u32, limits)?;
+        let known = nobodies(alloc, clients as usize)?;
+        let tallies = blank_tallies(alloc, clients as usize)?;
+        let mailboxes = empty_mailboxes(alloc, clients as usize, limits.mailbox)?;
+        Ok(Core {
+            grid,
+            limits,
+            chapter: Chapter {
+                number: 0,
+                opening: Opening {
+                    tick: 0,
+                    queue: limits.queue,
+                    life: limits.life,
+                    clients: Row::from_vec(known),
+                    robots: Row::from_vec(robots),
+                },
+                entries: Vec::new(alloc),
+            },
+            cells: starts,
+            queues,
+            book,
+            tallies,
+            mailboxes,
+            tick: 0,
+        })
+    }
+
+    pub(crate) fn placement(&self) -> &[u32]
+        ensures { result.now ≡ place self.now.history }
+    {
+        self.cells.as_slice()
+    }
+
+    pub(crate) fn clock(&self) -> u64
+        ensures { result ≡ clock self.now.history }
+    {
+        self.tick
+    }
+
+    pub(crate) fn chapter(&self) -> &Chapter<A>
+        ensures history { history_of result.now ≡ self.now.history }
+        ensures number { result.now.number ≡ self.now.number }
+    {
+        &self.chapter
+    }
+
+    pub(crate) fn limits(&self) -> &Limits
+        ensures { result.now ≡ self.now.limits }
+    {
+        &self.limits
+    }
+
+    /// How many clients there are.
+    pub(crate) fn clients(&self) -> usize
+        ensures { result ≡ clients self.now.history }
+    {
+        self.tallies.len()
+    }
+
+    /// What is so of an order.
+    fn facts(&self, order: Order) -> Facts
+        ensures { AreFacts self.now.floor self.now.history order result }
+    {
+        let mut facts = Facts {
+            robot_known: false,
+            in_range: false,
+            floor: false,
+            same_part: false,
+            queue_full: false,
+            place: Place::Absent,
+        };
+        if let Order::Go { robot, cell } = order {
+            facts.in_range = cell < self.grid.cell_count();
+            facts.floor = self.grid.is_floor(cell);
+            if (robot as usize) < self.queues.len() {
+                facts.robot_known = true;
+                facts.queue_full = self.queues[robot as usize].is_full();
+                facts.same_part = facts.floor
+                    && self.grid.same_part(self.cells[robot as usize], cell);
+            }
+        }
+        facts
+    }
+
+    /// Whether the client's notices and unfinished errands leave room for two more.
+    fn has_room(&self, client: u32) -> bool
+        requires { client < clients self.now.history }
+        ensures yes { result ≡ true → HasRoom self.now client }
+        ensures no { result ≡ false → HasNoRoom self.now client }
+    {
+        let mailbox = &self.mailboxes[client as usize];
+        mailbox.len() as u64 + self.book.account(client).owed + 2 <= mailbox.limit()
+    }
+
+    pub(crate) fn take(&mut self, client: u32, order: Order) -> Result<Verdict, TakeFault>
+        requires { client < clients self.old.history }
+        ensures mailbox_full { (result ≡ Err TakeFault.MailboxFull) ↔ HasNoRoom self.old client }
+        ensures chapter_full { (result ≡ Err TakeFault.ChapterFull) ↔ (HasRoom self.old client × HasNoEntries self.old) }
+        ensures room { OnOk result (HasRoom self.old client) }
+        ensures entries { OnOk result (HasEntries self.old) }
+        ensures ok { IfOk result (λ v. Takes self.old client order v self.new) }
+        ensures err { OnErr result (self.new ≡ self.old) }
+    {
+        if !self.has_room(client) {
+            return Err(TakeFault::MailboxFull);
+        }
+        if self.chapter.entries.len() >= self.limits.chapter as usize {
+            return Err(TakeFault::ChapterFull);
+        }
+        let facts = self.facts(order);
+        let verdict = self.book.judge(client, order, facts);
+        enter_take(
+            &mut self.chapter.entries,
+            &mut self.queues,
+            &mut self.book,
+            &mut self.tallies,
+            &mut self.mailboxes,
+            client,
+            order,
+            verdict,
+        )?;
+        Ok(verdict)
+    }
+
+    pub(crate) fn tick<R: Alloc<A = A>>(&mut self, rt: &R) -> Result<TickReport, TickFault>
+        ensures clock_spent { (result ≡ Err TickFault.ClockSpent) ↔ (clock self.old.history ≡ self.old.limits.clock) }
+        ensures chapter_full { (result ≡ Err TickFault.ChapterFull) ↔
+            ((clock self.old.history < self.old.limits.clock) × HasNoEntries self.old) }
+        ensures early { OnOk result (clock self.old.history < self.old.limits.clock) }
+        ensures entries { OnOk result (HasEntries self.old) }
+        ensures ok { IfOk result (λ report. Ticks self.old report self.new) }
+        ensures err { OnErr result (self.new ≡ self.old) }
+    {
+        if self.tick >= self.limits.clock {
+            return Err(TickFault::ClockSpent);
+        }
+        if self.chapter.entries.len() >= self.limits.chapter as usize {
+            return Err(TickFault::ChapterFull);
+        }
+        let to = plan(
+            rt.alloc(),
+            &self.grid,
+            self.cells.as_slice(),
+            self.queues.as_slice(),
+        )?;
+        let arrived = arrivals_at(rt.alloc(), self.queues.as_slice(), to.as_slice())?;
+        let farewells = farewells_at(
+            rt.alloc(),
+            &self.book,
+            self.queues.as_slice(),
+            to.as_slice(),
+        )?;
+        let report = TickReport {
+            tick: self.tick + 1,
+            arrived: arrived.len() as u32,
+            farewells: farewells.len() as u32,
+        };
+        enter_tick(
+            &mut self.chapter.entries,
+            &mut self.cells,
+            &mut self.queues,
+            &mut self.book,
+            &mut self.tallies,
+            &mut self.mailboxes,
+            to,
+            arrived,
+            farewells,
+            self.tick + 1,
+        )?;
+        self.tick += 1;
+        Ok(report)
+    }
+
+    pub(crate) fn shut(&mut self, robot: u32) -> Result<Option<u32>, ShutFault>
+        ensures no_robot { (result ≡ Err ShutFault.NoRobot) ↔ (robots self.old.history ≤ robot) }
+        ensures already { (result ≡ Err ShutFault.Already) ↔ ((robot < robots self.old.history) × (is_shut self.old.history robot ≡ true)) }
+        ensures chapter_full { (result ≡ Err ShutFault.ChapterFull) ↔
+            ((robot < robots self.old.history) × (is_shut self.old.history robot ≡ false) × HasNoEntries self.old) }
+        ensures entries { OnOk result (HasEntries self.old) }
+        ensures ok { IfOk result (λ farewell. Shuts self.old robot farewell self.new) }
+        ensures err { OnErr result (self.new ≡ self.old) }
+    {
+        if robot as usize >= self.queues.len() {
+            return Err(ShutFault::NoRobot);
+        }
+        if self.book.is_shut(robot) {
+            return Err(ShutFault::Already);
+        }
+        if self.chapter.entries.len() >= self.limits.chapter as usize {
+            return Err(ShutFault::ChapterFull);
+        }
+        self.chapter.entries.reserve(1)?;
+        let farewell = if self.queues[robot as usize].is_empty() {
+            Some(0)
+        } else {
+            None
+        };
+        self.book.shut_robot(robot);
+        add(&mut self.chapter.entries, Entry::Shut { robot, farewell });
+        Ok(farewell)
+    }
+
+    pub(crate) fn next_notice(&self, client: u32) -> Option<Notice>
+        requires { client < clients self.now.history }
+        ensures { result ≡ slice_get (pending self.now client).notices 0 }
+    {
+        self.mailboxes[client as usize].first()
+    }
+
+    pub(crate) fn give(&mut self, client: u32) -> Option<Notice>
+        requires { client < clients self.old.history }
+        ensures notice { result ≡ slice_get (pending self.old client).notices 0 }
+        ensures rest { self.new ≡ without_first self.old client }
+    {
+        let mailbox = &mut self.mailboxes[client as usize];
+        mailbox.pop()
+    }
+}

@@ -1,0 +1,174 @@
+//! The opening of a world: why it may be refused, and what it is made of.
+ghost use Rattle.std.specs.Prelude.{◌≡◌, ◌≤◌, ◌<◌, ◌≢◌, [], List, ℕ, length, IfOk, IfSome, MatchOption, map, replicate, slice_index, IsTrue, ◌↔◌};
+ghost use Rattle.fleet_grid.specs.Floor.{IsFloor};
+ghost use Rattle.fleet_history.specs.History.{unknown_client};
+ghost use Rattle.fleet_world.specs.Opening.{AreInRange, AreRobots, AreOnFloor, IsFirstOffFloor, AreShared, IsFirstShared, CanOpen, IsRefused};
+ghost use Rattle.fleet_world.specs.Core.{robot_at};
+ghost use Rattle.fleet_world.specs.Kept.{no_tally};
+
+use crate::enter::Tally;
+use crate::faults::OpenFault;
+use crate::mailbox::Mailbox;
+use fleet_book::Limits;
+use fleet_grid::Grid;
+use fleet_history::{ClientState, RobotState, Row};
+use fleet_hooks::StampLaw;
+use fleet_queue::ErrandQueue;
+use std::alloc::{AllocError, Allocator};
+
+/// A client at the opening of a world.
+pub(crate) const NOBODY: ClientState = ClientState {
+    taken: 0,
+    accepted: 0,
+    noticed: 0,
+    closed: false,
+};
+
+/// The law of closures that always answer 0.
+const PLAIN: StampLaw = StampLaw { low: 0, high: 0 };
+
+/// The first robot that does not start on floor.
+fn first_off_floor<A: Allocator + Copy>(grid: &Grid<A>, starts: &[u32]) -> Option<u32>
+    requires { length starts.now ≤ 512 }
+    ensures { MatchOption result (AreOnFloor grid.now starts.now) (λ r. IsFirstOffFloor grid.now starts.now r) }
+{
+    for (r, cell) in starts.iter().enumerate() {
+        if !grid.is_floor(*cell) {
+            return Some(r as u32);
+        }
+    }
+    None
+}
+
+/// The first robot behind robot `i` that starts on its cell.
+fn first_beside(starts: &[u32], i: usize) -> Option<u32>
+    requires few { length starts.now ≤ 512 }
+    requires known { i < length starts.now }
+    ensures { MatchOption result ((j : ℕ) → AreShared starts.now i j → ⊥) (λ j. AreShared starts.now i j × ((l : ℕ) → AreShared starts.now i l → j ≤ l)) }
+{
+    for j in i + 1..starts.len() {
+        if starts[j] == starts[i] {
+            return Some(j as u32);
+        }
+    }
+    None
+}
+
+/// The least pair of robots that start on one cell.
+fn first_shared(starts: &[u32]) -> Option<(u32, u32)>
+    requires { length starts.now ≤ 512 }
+    ensures { MatchOption result ((i j : ℕ) → AreShared starts.now i j → ⊥) (λ p. IsFirstShared starts.now p.0 p.1) }
+{
+    for i in 0..starts.len() {
+        if let Some(j) = first_beside(starts, i) {
+            return Some((i as u32, j));
+        }
+    }
+    None
+}
+
+/// Why a world is not opened, want of memory apart.
+pub(crate) fn opening_fault<A: Allocator + Copy>(
+    grid: &Grid<A>,
+    starts: &[u32],
+    clients: u32,
+    limits: Limits,
+) -> Option<OpenFault>
+    ensures { MatchOption result (CanOpen grid.now starts.now clients limits) (λ fault. IsRefused grid.now starts.now clients limits fault) }
+{
+    if !limits.is_valid() || clients < 1 || clients > 64 {
+        return Some(OpenFault::Limits);
+    }
+    if starts.is_empty() || starts.len() > 512 {
+        return Some(OpenFault::NoRobots);
+    }
+    if let Some(r) = first_off_floor(grid, starts) {
+        return Some(OpenFault::Start(r));
+    }
+    match first_shared(starts) {
+        Some((i, j)) => Some(OpenFault::Shared(i, j)),
+        None => None,
+    }
+}
+
+/// The robots at the opening.
+pub(crate) fn robots_at<A: Allocator + Copy>(
+    alloc: A,
+    starts: &[u32],
+) -> Result<Vec<RobotState<A>, A>, AllocError>
+    ensures { IfOk result (λ robots. robots.items ≡ map robot_at starts.now) }
+{
+    let mut robots = Vec::new(alloc);
+    for cell in starts {
+        robots.push(RobotState {
+            cell: *cell,
+            shut: false,
+            wait: None,
+            errands: Row::new(alloc),
+            arrival_law: PLAIN,
+            farewell_law: PLAIN,
+        })?;
+    }
+    Ok(robots)
+}
+
+/// Queues without errands, each with its room.
+pub(crate) fn empty_queues<A: Allocator + Copy>(
+    alloc: A,
+    count: usize,
+    room: u32,
+) -> Result<Vec<ErrandQueue<A>, A>, AllocError>
+    ensures { IfOk result (λ queues. queues.items ≡ replicate count record { items = []; capacity = room }) }
+{
+    let mut queues = Vec::new(alloc);
+    for _i in 0..count {
+        queues.push(ErrandQueue::new(alloc, room)?)?;
+    }
+    Ok(queues)
+}
+
+/// Mailboxes without notices, each with its room.
+pub(crate) fn empty_mailboxes<A: Allocator + Copy>(
+    alloc: A,
+    count: usize,
+    limit: u32,
+) -> Result<Vec<Mailbox<A>, A>, AllocError>
+    ensures { IfOk result (λ boxes. boxes.items ≡ replicate count record { notices = []; limit = limit }) }
+{
+    let mut boxes = Vec::new(alloc);
+    for _i in 0..count {
+        boxes.push(Mailbox::new(alloc, limit)?)?;
+    }
+    Ok(boxes)
+}
+
+/// So many clients that did nothing.
+pub(crate) fn nobodies<A: Allocator + Copy>(
+    alloc: A,
+    count: usize,
+) -> Result<Vec<ClientState, A>, AllocError>
+    ensures { IfOk result (λ clients. clients.items ≡ replicate count unknown_client) }
+{
+    let mut clients = Vec::new(alloc);
+    for _i in 0..count {
+        clients.push(NOBODY)?;
+    }
+    Ok(clients)
+}
+
+/// So many clients of whom nothing was taken.
+pub(crate) fn blank_tallies<A: Allocator + Copy>(
+    alloc: A,
+    count: usize,
+) -> Result<Vec<Tally, A>, AllocError>
+    ensures { IfOk result (λ tallies. tallies.items ≡ replicate count no_tally) }
+{
+    let mut tallies = Vec::new(alloc);
+    for _i in 0..count {
+        tallies.push(Tally {
+            taken: 0,
+            noticed: 0,
+        })?;
+    }
+    Ok(tallies)
+}
