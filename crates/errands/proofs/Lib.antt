@@ -1,0 +1,4 @@
+pub mod Starts
+pub mod Transfers
+pub mod Bundles
+pub mod Outcomes

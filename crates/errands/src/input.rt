@@ -1,0 +1,41 @@
+//! A file as a whole.
+
+ghost use Rattle.std.specs.Prelude.{◌≡◌, ◌≤◌, ◌<◌, ◌++◌, length, vec_len, IfOk, OnErr, IfSome};
+
+use std::alloc::Allocator;
+use std::io::Read;
+
+/// The greatest length of a file.
+pub const MOST_BYTES: usize = 16_777_216;
+
+/// Why a file could not be read.
+#[derive(Clone, Copy, Debug, PartialEq, Eq)]
+pub enum InputFault {
+    /// A read failed, or the file is too long.
+    File,
+    NoMemory,
+}
+
+/// All that the reader has, which is at most 16,777,216 bytes.
+pub fn read_whole<A: Allocator + Copy, R: Read>(
+    alloc: A,
+    reader: &mut R,
+) -> Result<Vec<u8, A>, InputFault>
+    ensures whole { IfOk result (λ bytes. IfSome (R.remaining reader.old) (λ all. bytes.items ≡ all)) }
+    ensures short { IfOk result (λ bytes. vec_len bytes ≤ MOST_BYTES) }
+{
+    let mut bytes = Vec::new(alloc);
+    let mut piece = [0u8; 4096];
+    while bytes.len() <= MOST_BYTES {
+        match reader.read(&mut piece) {
+            Err(_) => return Err(InputFault::File),
+            Ok(0) => return Ok(bytes),
+            Ok(count) => {
+                if bytes.extend_from_slice(&piece[..count]).is_err() {
+                    return Err(InputFault::NoMemory);
+                }
+            }
+        }
+    }
+    Err(InputFault::File)
+}
