@@ -76,9 +76,9 @@ impl<A: Allocator + Copy> Stepper<A> {
         })
     }
 
-    /// Writes to `to` where each robot goes from its cell in `from`: the robots are planned in their order of priority, and
-    /// one that wants another's cell hands its priority on (PIBT). `tick` is the tick that is being made, for the closures.
-    /// Takes no memory.
+    /// Writes to `to` where each robot goes from its cell in `from`. The robots are planned in their order of priority, and
+    /// one that wants another's cell hands its priority on (PIBT). `tick` is the tick that is being made, which the tie
+    /// closures are told. Takes no memory.
     pub fn step<G: Goals>(
         &mut self,
         grid: &Grid<A>,
@@ -102,7 +102,8 @@ impl<A: Allocator + Copy> Stepper<A> {
         ensures advances { (e g : ℕ) → IsEldest waits.now e → G.goal_of goals.now e ≡ Some g →
             IsOpenAhead grid.now from.now g (slice_index from.now e) →
             Advances grid.now g (slice_index from.now e) (slice_index to.new e) }
-        ensures bridgeless { IsBridgeless (IsNeighbour grid.now) → IsAdvancing grid.now waits.now (G.goal_of goals.now) from.now to.new }
+        ensures bridgeless { IsBridgeless (IsNeighbour grid.now) →
+            IsAdvancing grid.now waits.now (G.goal_of goals.now) from.now to.new }
         ensures by_law { (e g : ℕ) (law : _) → IsEldest waits.now e → G.goal_of goals.now e ≡ Some g →
             IsOpenAhead grid.now from.now g (slice_index from.now e) →
             slice_get (map (λ h. h.law) ties.now) e ≡ Some law →

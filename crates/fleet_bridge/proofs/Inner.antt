@@ -1,0 +1,69 @@
+-- Cells of subtrees, and steps of the check.
+use Rattle.std.proofs.Common.{◌≡◌, ℕ, ◌<◌, inl, inr, List, length, get_or, set, sym, ap, subst, ◌∙◌, arith}
+use Rattle.std.specs.Prelude.{slice_index, Some, None, Option, MatchOption}
+use Rattle.std.proofs.Common.{rules, refl, ◌==◌, true}
+use Rattle.fleet_grid.proofs.Edges.{beside_once}
+use Rattle.std.proofs.lemmas.List.{length-set, get_or-set_same, get_or-set_other}
+use Rattle.std.proofs.lemmas.Bool.{cases_eq, eqb-true}
+use Rattle.fleet_grid.specs.Floor.{Floor}
+use Rattle.fleet_grid.specs.declared.dir.Dir.{Dir}
+use Rattle.fleet_grid.specs.declared.dir.Dir.TheVariants.{North, East, South, West}
+use Rattle.fleet_grid.specs.Floor.{IsNeighbourIn}
+use Rattle.fleet_grid.specs.Floor.{IsNeighbour}
+use Rattle.fleet_bridge.specs.Tree.{IsUnder, AreUnder}
+use Rattle.fleet_bridge.proofs.Certificate.{under_same, under_parent}
+
+pub under_own : (up : List ℕ) (n : ℕ) (inner : List ℕ) → length inner ≡ n → ((k : ℕ) → k < n → slice_index inner k ≡ k) → AreUnder up n inner
+under_own up n inner size own = record { size = size; each = λ v h. under_same (slice_index up) v (slice_index inner v) (own v h) }
+
+-- a cell that is under the child is under the parent
+pub under_set : (up : List ℕ) (n : ℕ) (inner : List ℕ) (c : ℕ) → c < n → AreUnder up n inner → AreUnder up n (set inner (slice_index up c) (slice_index inner c))
+under_set up n inner c small under = record {
+  size = length-set inner (slice_index up c) (slice_index inner c) ∙ under.size;
+  each = λ v h. elim (cases_eq v (slice_index up c)) [
+    | inl e ↦ (
+        let inside : v < length inner = omega (arith, under.size) in
+        let at : get_or (set inner (slice_index up c) (slice_index inner c)) v 0 ≡ slice_index inner c =
+        ap (λ (i : ℕ). get_or (set inner i (slice_index inner c)) v 0) (sym e) ∙ get_or-set_same inner v (slice_index inner c) 0 inside in
+        let below = under_parent (slice_index up) c (slice_index inner c) (under.each c small) in
+        subst (λ (p : ℕ). IsUnder (slice_index up) p (get_or (set inner (slice_index up c) (slice_index inner c)) v 0)) (sym e)
+        (subst (IsUnder (slice_index up) (slice_index up c)) (sym at) below))
+    | inr ne ↦ subst (IsUnder (slice_index up) v) (sym (get_or-set_other inner (slice_index up c) v (slice_index inner c) 0 ne)) (under.each v h)
+  ];
+}
+
+pub near_by : (m : Floor) (a b : ℕ) (dir : Dir) → IsNeighbourIn m dir a b → IsNeighbour m a b
+near_by m a b dir e = (dir, e)
+
+pub same_around : (m : Floor) (top : ℕ → ℕ) (cell : ℕ)
+    → ((d : ℕ) → IsNeighbourIn m North cell d → top cell ≡ top d) → ((d : ℕ) → IsNeighbourIn m East cell d → top cell ≡ top d)
+    → ((d : ℕ) → IsNeighbourIn m South cell d → top cell ≡ top d) → ((d : ℕ) → IsNeighbourIn m West cell d → top cell ≡ top d)
+    → (d : ℕ) → IsNeighbour m cell d → top cell ≡ top d
+same_around m top cell north east south west d edge =
+    at edge.0 edge.1
+  where
+    at : (dir : Dir) → IsNeighbourIn m dir cell d → top cell ≡ top d
+    at North e = north d e
+    at East e = east d e
+    at South e = south d e
+    at West e = west d e
+
+-- what lies there is the one cell that was found
+pub next_found : (m : Floor) (dir : Dir) (a : ℕ) (r : Option ℕ) → MatchOption r ((b : ℕ) → IsNeighbourIn m dir a b → ⊥) (λ b. IsNeighbourIn m dir a b) → (b : ℕ) → IsNeighbourIn m dir a b → r ≡ Some b
+next_found m dir a None none b n = absurd (none b n)
+next_found m dir a (Some c) at b n = ap Some (beside_once m.width dir a c b at.beside n.beside)
+
+pub next_only : (m : Floor) (dir : Dir) (a : ℕ) (r : Option ℕ) → MatchOption r ((b : ℕ) → IsNeighbourIn m dir a b → ⊥) (λ b. IsNeighbourIn m dir a b) → (b : ℕ) → r ≡ Some b → IsNeighbourIn m dir a b
+next_only m dir a None none b e = absurd (apart b None refl e)
+  where
+    apart : (b : ℕ) (o : Option ℕ) → o ≡ None → o ≡ Some b → ⊥
+    apart b None e f = search (rules, f)
+    apart b (Some c) e f = search (rules, e)
+next_only m dir a (Some c) at b e = subst (IsNeighbourIn m dir a) (one c b e) at
+  where
+    one : (c b : ℕ) → Some c ≡ Some b → c ≡ b
+    one c b e = search (rules, e)
+
+-- the cell that was found is the one that was asked for
+pub found_beside : (m : Floor) (a b next : ℕ) (dir : Dir) → IsNeighbourIn m dir a next → next == b ≡ true → IsNeighbour m a b
+found_beside m a b next dir n t = (dir, subst (IsNeighbourIn m dir a) (eqb-true next b t) n)

@@ -1,0 +1,6 @@
+use Rattle.std.proofs.Common.{ℕ, ◌<◌}
+use Rattle.fleet_bridge.specs.Spanning.{IsFitIn}
+use Rattle.fleet_bridge.proofs.tree.are_fit.Given as goal
+
+abbrev pub invariant-loop-cell : goal.invariant-loop-cell
+invariant-loop-cell g l = (c : ℕ) → c < l.cell → IsFitIn l.grid l.tree c

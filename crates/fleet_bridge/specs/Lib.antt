@@ -1,0 +1,5 @@
+pub mod Bridge
+pub mod Tree
+pub mod Search
+pub mod Spanning
+pub mod First

@@ -1,0 +1,13 @@
+//! Bridges of a map: edges whose ends no walk joins without crossing them.
+#![tactic(auto)]
+
+mod first;
+mod next;
+mod search;
+mod tree;
+
+pub use first::first_bridge;
+pub use search::is_bridge;
+
+#[cfg(test)]
+mod tests;

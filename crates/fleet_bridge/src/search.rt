@@ -1,0 +1,130 @@
+//! A search that leaves one edge out.
+
+ghost use Rattle.std.specs.Prelude.{◌≡◌, ◌⊎◌, ℕ, ◌<◌, ◌≤◌, ◌↔◌, ◌*◌, length, vec_len, IfOk, IsTrue, Some, true, false};
+ghost use Rattle.fleet_grid.specs.Floor.{IsNeighbour, IsNeighbourIn};
+ghost use Rattle.fleet_grid.specs.Walk.{AreJoined, IsBridge};
+ghost use Rattle.fleet_bridge.specs.Search.{NearWithout, IsMarked, IsFront, IsLater, IsReach};
+
+use crate::next::next_to;
+use fleet_grid::{Dir, Grid};
+use std::alloc::{AllocError, Allocator, Global};
+
+/// Marks a cell, if it is not marked, and queues it.
+#[tactic(auto, using(crate::proofs::Fronts::front_more, crate::proofs::Fronts::later_same, crate::proofs::Fronts::later_more))]
+fn visit<A: Allocator + Copy, B: Allocator + Copy>(
+    grid: &Grid<B>,
+    from: u32,
+    to: u32,
+    seen: &mut Vec<bool, A>,
+    queue: &mut Vec<u32, A>,
+    cell: u32,
+) -> Result<(), AllocError>
+    requires inside { cell < length grid.now.letters }
+    requires joined { AreJoined (NearWithout grid.now from to) from cell }
+    requires front { IsFront (NearWithout grid.now from to) from (length grid.now.letters) seen.old.items queue.old.items }
+    ensures front { IfOk result (λ u. IsFront (NearWithout grid.now from to) from (length grid.now.letters) seen.new.items queue.new.items) }
+    ensures later { IfOk result (λ u. IsLater seen.old.items queue.old.items seen.new.items queue.new.items) }
+    ensures marked { IfOk result (λ u. IsMarked seen.new.items cell) }
+{
+    if seen[cell as usize] {
+        return Ok(());
+    }
+    queue.push(cell)?;
+    seen[cell as usize] = true;
+    Ok(())
+}
+
+/// Whether the step crosses the edge of `a` and `b`.
+fn is_across(a: u32, b: u32, cell: u32, next: u32) -> bool
+    ensures yes { result ≡ true → ((cell ≡ a) × (next ≡ b)) ⊎ ((cell ≡ b) × (next ≡ a)) }
+    ensures no { result ≡ false → (cell ≡ a → next ≡ b → ⊥) × (cell ≡ b → next ≡ a → ⊥) }
+{
+    (cell == a && next == b) || (cell == b && next == a)
+}
+
+/// Visits the neighbour in a direction, but not over the edge that is left out.
+fn visit_beside<A: Allocator + Copy, B: Allocator + Copy>(
+    grid: &Grid<B>,
+    from: u32,
+    to: u32,
+    seen: &mut Vec<bool, A>,
+    queue: &mut Vec<u32, A>,
+    cell: u32,
+    dir: Dir,
+) -> Result<(), AllocError>
+    requires reached { IsMarked seen.old.items cell }
+    requires front { IsFront (NearWithout grid.now from to) from (length grid.now.letters) seen.old.items queue.old.items }
+    ensures front { IfOk result (λ u. IsFront (NearWithout grid.now from to) from (length grid.now.letters) seen.new.items queue.new.items) }
+    ensures later { IfOk result (λ u. IsLater seen.old.items queue.old.items seen.new.items queue.new.items) }
+    ensures marked { IfOk result (λ u. (d : ℕ) → IsNeighbourIn grid.now dir cell d → NearWithout grid.now from to cell d → IsMarked seen.new.items d) }
+{
+    let Some(next) = next_to(grid, cell, dir) else {
+        return Ok(());
+    };
+    if is_across(from, to, cell, next) {
+        return Ok(());
+    }
+    visit(grid, from, to, seen, queue, next)
+}
+
+/// Visits all neighbours.
+#[tactic(auto, using(crate::proofs::Fronts::later_on))]
+fn visit_around<A: Allocator + Copy, B: Allocator + Copy>(
+    grid: &Grid<B>,
+    from: u32,
+    to: u32,
+    seen: &mut Vec<bool, A>,
+    queue: &mut Vec<u32, A>,
+    cell: u32,
+) -> Result<(), AllocError>
+    requires reached { IsMarked seen.old.items cell }
+    requires front { IsFront (NearWithout grid.now from to) from (length grid.now.letters) seen.old.items queue.old.items }
+    ensures front { IfOk result (λ u. IsFront (NearWithout grid.now from to) from (length grid.now.letters) seen.new.items queue.new.items) }
+    ensures later { IfOk result (λ u. IsLater seen.old.items queue.old.items seen.new.items queue.new.items) }
+    ensures marked { IfOk result (λ u. (d : ℕ) → NearWithout grid.now from to cell d → IsMarked seen.new.items d) }
+{
+    visit_beside(grid, from, to, seen, queue, cell, Dir::North)?;
+    visit_beside(grid, from, to, seen, queue, cell, Dir::East)?;
+    visit_beside(grid, from, to, seen, queue, cell, Dir::South)?;
+    visit_beside(grid, from, to, seen, queue, cell, Dir::West)?;
+    Ok(())
+}
+
+/// The cells that a walk from `from` comes to without crossing the edge.
+#[tactic(auto, using(crate::proofs::Fronts::queue_le, crate::proofs::Fronts::reach, crate::proofs::Fronts::done_more))]
+fn search<A: Allocator + Copy, B: Allocator + Copy>(
+    alloc: A,
+    grid: &Grid<B>,
+    from: u32,
+    to: u32,
+) -> Result<Vec<bool, A>, AllocError>
+    requires { from < length grid.now.letters }
+    ensures size { IfOk result (λ seen. vec_len seen ≡ length grid.now.letters) }
+    ensures reach { IfOk result (λ seen. IsReach (NearWithout grid.now from to) from seen.items) }
+{
+    let count = grid.cell_count() as usize;
+    let mut seen = vec![in alloc; false; count]?;
+    let mut queue = Vec::new(alloc);
+    visit(grid, from, to, &mut seen, &mut queue, from)?;
+    let mut head = 0;
+    while head < queue.len() {
+        let cell = queue[head];
+        visit_around(grid, from, to, &mut seen, &mut queue, cell)?;
+        head += 1;
+    }
+    Ok(seen)
+}
+
+/// Whether no walk joins the ends of the edge without crossing it.
+pub fn is_bridge<A: Allocator + Copy, B: Allocator + Copy>(
+    alloc: A,
+    grid: &Grid<B>,
+    a: u32,
+    b: u32,
+) -> Result<bool, AllocError>
+    requires { IsNeighbour grid.now a b }
+    ensures { IfOk result (λ yes. IsTrue yes ↔ IsBridge (IsNeighbour grid.now) a b) }
+{
+    let seen = search(alloc, grid, a, b)?;
+    Ok(!seen[b as usize])
+}

@@ -1,0 +1,155 @@
+//! The worked maps, small maps beside a plain search, large maps, and each growth refused in turn.
+mod refusing;
+
+use crate::{first_bridge, is_bridge};
+use fleet_grid::{Dir, Grid};
+use fleet_map::MapText;
+use refusing::Refusing;
+use std::alloc::Global;
+use std::process::Abort;
+use std::test::Fail;
+
+fn grid_of(
+    rt: &impl Abort,
+    alloc: Global,
+    height: u32,
+    width: u32,
+    cells: &[u8],
+) -> Result<Grid, Fail> {
+    assert!(rt; height <= 1024 && width <= 1024);
+    assert!(rt; cells.len() == height as usize * width as usize);
+    let map = MapText {
+        height,
+        width,
+        cells: Vec::from_slice(alloc, cells)?,
+    };
+    Ok(Grid::new(map)?)
+}
+
+#[test]
+fn full_cycle(rt: HostRuntime) -> Result<(), Fail> {
+    let grid = grid_of(&rt, rt.alloc(), 2, 2, b"....")?;
+    assert!(rt; first_bridge(rt.alloc(), &grid)? == None);
+    Ok(())
+}
+
+#[test]
+fn corridor_standoff(rt: HostRuntime) -> Result<(), Fail> {
+    let grid = grid_of(&rt, rt.alloc(), 1, 3, b"...")?;
+    assert!(rt; first_bridge(rt.alloc(), &grid)? == Some((0, 1)));
+    Ok(())
+}
+
+#[test]
+fn failed_push(rt: HostRuntime) -> Result<(), Fail> {
+    let grid = grid_of(&rt, rt.alloc(), 2, 3, b"..@...")?;
+    assert!(rt; first_bridge(rt.alloc(), &grid)? == Some((4, 5)));
+    assert!(rt; edge_is_bridge(rt.alloc(), &grid, 0, Dir::East)? == Some(false));
+    assert!(rt; edge_is_bridge(rt.alloc(), &grid, 5, Dir::West)? == Some(true));
+    Ok(())
+}
+
+#[test]
+fn ring_of_eight(rt: HostRuntime) -> Result<(), Fail> {
+    let grid = grid_of(&rt, rt.alloc(), 3, 3, b"....@....")?;
+    assert!(rt; first_bridge(rt.alloc(), &grid)? == None);
+    Ok(())
+}
+
+/// Whether the edge in that direction is a bridge; none where no edge leads there.
+fn edge_is_bridge(alloc: Global, grid: &Grid, cell: u32, dir: Dir) -> Result<Option<bool>, Fail> {
+    match grid.neighbour(cell, dir) {
+        Some(next) => Ok(Some(is_bridge(alloc, grid, cell, next)?)),
+        None => Ok(None),
+    }
+}
+
+/// The first bridge, by a search for each edge.
+fn first_by_search(alloc: Global, grid: &Grid) -> Result<Option<(u32, u32)>, Fail> {
+    for cell in 0..grid.cell_count() {
+        for dir in [Dir::East, Dir::South] {
+            if edge_is_bridge(alloc, grid, cell, dir)? == Some(true) {
+                return Ok(grid.neighbour(cell, dir).map(|next| (cell, next)));
+            }
+        }
+    }
+    Ok(None)
+}
+
+/// The letters of a map: a bit of the number for each cell.
+fn drawn(alloc: Global, count: u32, mut bits: u32) -> Result<Vec<u8>, Fail> {
+    let mut cells = Vec::new(alloc);
+    for _ in 0..count {
+        cells.push(if bits % 2 == 0 { b'.' } else { b'@' })?;
+        bits /= 2;
+    }
+    Ok(cells)
+}
+
+#[test]
+fn small_maps_beside_the_plain_search(rt: HostRuntime) -> Result<(), Fail> {
+    for (height, width) in [(3u32, 3u32), (2, 5), (1, 4), (4, 3)] {
+        for bits in 0..4096u32 {
+            if bits < 1 << (height * width) {
+                let cells = drawn(rt.alloc(), height * width, bits)?;
+                let grid = grid_of(&rt, rt.alloc(), height, width, &cells)?;
+                let plain = first_by_search(rt.alloc(), &grid)?;
+                assert!(rt;
+                    first_bridge(rt.alloc(), &grid)? == plain,
+                    "{height} {width} {bits}"
+                );
+            }
+        }
+    }
+    Ok(())
+}
+
+#[test]
+fn large_open_map(rt: HostRuntime) -> Result<(), Fail> {
+    let cells = vec![in rt.alloc(); b'.'; 1048576]?;
+    let grid = grid_of(&rt, rt.alloc(), 1024, 1024, &cells)?;
+    assert!(rt; first_bridge(rt.alloc(), &grid)? == None);
+    Ok(())
+}
+
+/// The letters of a map with 1,024 cells a side, of which the border is floor.
+fn border(alloc: Global) -> Result<Vec<u8>, Fail> {
+    let mut cells = Vec::new(alloc);
+    for row in 0..1024 {
+        for col in 0..1024 {
+            let is_border = row == 0 || row == 1023 || col == 0 || col == 1023;
+            cells.push(if is_border { b'.' } else { b'@' })?;
+        }
+    }
+    Ok(cells)
+}
+
+#[test]
+fn large_border(rt: HostRuntime) -> Result<(), Fail> {
+    let mut cells = border(rt.alloc())?;
+    let grid = grid_of(&rt, rt.alloc(), 1024, 1024, &cells)?;
+    assert!(rt; first_bridge(rt.alloc(), &grid)? == None);
+    assert!(rt; cells.len() > 5);
+    cells[5] = b'@';
+    let grid = grid_of(&rt, rt.alloc(), 1024, 1024, &cells)?;
+    assert!(rt; first_bridge(rt.alloc(), &grid)? == Some((0, 1)));
+    Ok(())
+}
+
+#[test]
+fn refused_growths(rt: HostRuntime) -> Result<(), Fail> {
+    let grid = grid_of(&rt, rt.alloc(), 2, 3, b"..@...")?;
+    let mut unrefused = None;
+    for before in 0..64 {
+        let heap = Refusing::after(rt.alloc(), before);
+        let met = first_bridge(&heap, &grid).is_err();
+        let found = first_bridge(&heap, &grid);
+        if !met {
+            unrefused = Some(before);
+            break;
+        }
+        assert!(rt; found? == Some((4, 5)));
+    }
+    assert!(rt; unrefused.is_some());
+    Ok(())
+}

@@ -1,0 +1,15 @@
+use Rattle.fleet_field.proofs.Transfer.{is_walled, made}
+use Rattle.fleet_field.proofs.field.Field.from.Goals as goal
+
+pub flood-requires-clause-walled : goal.flood-requires-clause-walled
+flood-requires-clause-walled g c = is_walled c.args.grid.now c.padded-stride.result.0 c.padded-stride.result.1.now c.height-height.ensures.form c.padded-stride.ensures.padded
+
+pub invariant_of-result : goal.invariant_of-result
+invariant_of-result g c =
+    (made c.args.grid.now c.height-height.result c.width-width.result c.padded-stride.result.0 c.args.goal c.place_of-start.result c.padded-stride.result.1.now c.in_ok-dist.dist.items
+    c.height-height.ensures.value c.width-width.ensures.value c.height-height.ensures.form c.padded-stride.ensures.padded c.requires c.in_ok-dist.ensures.walls c.place_of-start.ensures c.in_ok-dist.ensures.levels).0
+
+pub returns : goal.returns
+returns g c =
+    (made c.args.grid.now c.height-height.result c.width-width.result c.padded-stride.result.0 c.args.goal c.place_of-start.result c.padded-stride.result.1.now c.in_ok-dist.dist.items
+    c.height-height.ensures.value c.width-width.ensures.value c.height-height.ensures.form c.padded-stride.ensures.padded c.requires c.in_ok-dist.ensures.walls c.place_of-start.ensures c.in_ok-dist.ensures.levels).1

@@ -1,0 +1,14 @@
+//! Distances to a goal on the floor of a map: one field, several at once, and a store of fields that are shared.
+#![tactic(auto)]
+
+mod field;
+mod flood;
+mod several;
+mod store;
+
+pub use field::Field;
+pub use several::fields;
+pub use store::FieldStore;
+
+#[cfg(test)]
+mod tests;

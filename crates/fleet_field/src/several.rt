@@ -1,0 +1,86 @@
+//! Several fields at once.
+
+ghost use Rattle.std.specs.Prelude.{◌≡◌, ℕ, ◌<◌, length, slice_index, IfOk};
+ghost use Rattle.fleet_grid.specs.Floor.{IsFloor};
+ghost use Rattle.fleet_field.specs.Field.{IsField};
+ghost use Rattle.fleet_field.specs.Several.{AreFields};
+
+use crate::field::Field;
+use fleet_grid::Grid;
+use rayon::prelude::*;
+use std::alloc::{AllocError, Allocator};
+use std::thread::Threads;
+
+/// From so many cells to search on, threads gain more than they cost.
+const LARGE: u64 = 1_048_576;
+
+/// The fields of several goals, one after another.
+fn fields_in_turn<A: Allocator + Copy, B: Allocator + Copy>(
+    alloc: A,
+    grid: &Grid<B>,
+    goals: &[u32],
+) -> Result<Vec<Field<A>, A>, AllocError>
+    requires { (i : ℕ) → i < length goals.now → IsFloor grid.now (slice_index goals.now i) }
+    ensures { IfOk result (λ fields. AreFields grid.now goals.now fields.items) }
+{
+    let mut fields = Vec::with_capacity(alloc, goals.len())?;
+    for goal in goals {
+        let field = Field::from(alloc, grid, *goal)?;
+        fields.push(field)?;
+    }
+    Ok(fields)
+}
+
+/// The field of a goal, where that is a floor cell, as each goal is that is asked for.
+fn field_of<A: Allocator + Copy, B: Allocator + Copy>(
+    alloc: A,
+    grid: &Grid<B>,
+    goal: u32,
+) -> Result<Field<A>, AllocError>
+    ensures { IsFloor grid.now goal → IfOk result (λ field. IsField grid.now goal field) }
+{
+    if !grid.is_floor(goal) {
+        return Err(AllocError);
+    }
+    Field::from(alloc, grid, goal)
+}
+
+/// The fields of several goals, from as many threads as there are processors.
+fn fields_side_by_side<A: Allocator + Copy + Send + Sync, B: Allocator + Copy + Send + Sync>(
+    rt: &(impl Threads + Sync),
+    alloc: A,
+    grid: &Grid<B>,
+    goals: &[u32],
+) -> Result<Vec<Field<A>, A>, AllocError>
+    requires { (i : ℕ) → i < length goals.now → IsFloor grid.now (slice_index goals.now i) }
+    ensures { IfOk result (λ fields. AreFields grid.now goals.now fields.items) }
+{
+    let made = goals
+        .par_iter()
+        .with_min_len(1)
+        .map(
+            |goal: &u32| -> Result<Field<A>, AllocError>
+                ensures { IsFloor grid.entry.now goal.now → IfOk result (λ field. IsField grid.entry.now goal.now field) }
+            { field_of(alloc, grid, *goal) },
+        )
+        .collect::<Result<Vec<Field<A>, A>, AllocError>>(rt, alloc)?;
+    made
+}
+
+/// The fields of several goals, floor cells: for each goal in turn the one that `Field::from` makes. Large work is
+/// done by several threads.
+pub fn fields<A: Allocator + Copy + Send + Sync, B: Allocator + Copy + Send + Sync>(
+    rt: &(impl Threads + Sync),
+    alloc: A,
+    grid: &Grid<B>,
+    goals: &[u32],
+) -> Result<Vec<Field<A>, A>, AllocError>
+    requires { (i : ℕ) → i < length goals.now → IsFloor grid.now (slice_index goals.now i) }
+    ensures { IfOk result (λ fields. AreFields grid.now goals.now fields.items) }
+{
+    let cells = u64::from(grid.cell_count());
+    if goals.len() < 2 || cells.saturating_mul(goals.len() as u64) < LARGE {
+        return fields_in_turn(alloc, grid, goals);
+    }
+    fields_side_by_side(rt, alloc, grid, goals)
+}
