@@ -1,6 +1,6 @@
 //! A store of fields that several holders share.
 
-ghost use Rattle.std.specs.Prelude.{◌≡◌, ◌≢◌, ◌≤◌, ◌⊎◌, ℕ, ◌+◌, ◌<◌, ◌^◌, [], ◌∷◌, None, Some, true, false, length, vec_len, vec_capacity, slice_index, ◌↔◌, IfOk, OnErr, IsSome, IsTrue, MatchOption, slice_index_or};
+ghost use Rattle.std.specs.Prelude.{◌≡◌, ◌≢◌, ◌≤◌, ◌⊎◌, ℕ, ◌+◌, ◌<◌, ◌^◌, [], ◌∷◌, None, Some, true, false, length, vec_len, vec_capacity, slice_index, ◌↔◌, IfOk, OnOk, OnErr, IsSome, IsTrue, MatchOption, slice_index_or};
 ghost use Rattle.fleet_grid.specs.Floor.{IsFloor};
 ghost use Rattle.fleet_field.specs.Field.{IsField, Aim};
 ghost use Rattle.fleet_field.specs.Store.{shown, Serves, IsOnce, IsHold, IsRelease, HasUsesLeft};
@@ -278,6 +278,7 @@ impl<A: Allocator + Copy + Send + Sync> FieldStore<A> {
         requires fewer { (key : ℕ) → (held : HeldView Aim) → shown self.old key ≡ Some held → held.uses + length goals.now < 2 ^ 32 }
         ensures held { IfOk result (λ keys. AreHeld goals.now self.old keys.items self.new) }
         ensures serves { Serves grid.now self.new }
+        ensures once { OnOk result (IsOnce self.new) }
         ensures refused { OnErr result (self.new ≡ self.old) }
     {
         let missing = missing_of(self.alloc, &self.held, goals)?;
