@@ -1,0 +1,390 @@
+// The kernels of `bench` in plain C++, over the same maps, goals and starts: a search level by level, Tarjan's bridges without
+// recursion, the check of a step, and PIBT's step. It prints the same lines.
+#include <algorithm>
+#include <array>
+#include <chrono>
+#include <climits>
+#include <cstdint>
+#include <cstdio>
+#include <cstring>
+#include <string>
+#include <thread>
+#include <vector>
+
+using u8 = uint8_t;
+using u32 = uint32_t;
+using u64 = uint64_t;
+using std::vector;
+
+static const u32 FAR_AWAY = 4294967295u, WALL = 4294967294u;
+
+struct Random {
+    u64 seed;
+    size_t below(size_t bound) {
+        seed = seed * 6364136223846793005ull + 1442695040888963407ull;
+        return (seed >> 33) % bound;
+    }
+};
+
+static double now() {
+    return std::chrono::duration<double, std::nano>(std::chrono::steady_clock::now().time_since_epoch()).count();
+}
+
+struct Measure {
+    u64 repeats = 0;
+    double least = 1e300, all = 0;
+    void with(double nanos) {
+        repeats++;
+        least = std::min(least, nanos);
+        all += nanos;
+    }
+};
+
+static void line(const char* kernel, const char* map, u64 things, const Measure& m) {
+    printf("%s map=%s things=%llu repeats=%llu least_ns=%.2f mean_ns=%.2f\n", kernel, map, (unsigned long long)things,
+           (unsigned long long)m.repeats, m.least / things, m.all / things / m.repeats);
+    fflush(stdout);
+}
+
+// ---- maps
+
+static bool joins_north(u32 row, u32 col) {
+    if (row == 0 || row > 510) return false;
+    u32 mixed = row * 2654435761u + col * 2246822519u;
+    return col == 0 || (((mixed ^ (mixed >> 15)) * 3266489917u) >> 31) == 1;
+}
+
+struct Map {
+    const char* name;
+    u32 height, width;
+    vector<u8> floor;
+    bool has_floor(u32 row, u32 col) const {
+        if (!strcmp(name, "open")) return true;
+        if (!strcmp(name, "warehouse")) {
+            if (row == 0 || row == 163 || col == 0 || col == 339) return false;
+            bool shelf = row >= 2 && row < 162 && col >= 50 && col < 290 && (row - 2) % 4 < 2 && (col - 50) % 12 < 10;
+            return !shelf;
+        }
+        if (!strcmp(name, "maze")) {
+            if (row % 2 == 0 && col % 2 == 0) return true;
+            if (row % 2 == 1 && col % 2 == 0) return joins_north(row + 1, col);
+            if (row % 2 == 0 && col % 2 == 1) return col < 511 && !joins_north(row, col + 1);
+            return false;
+        }
+        u32 ring = std::min(std::min(row, col), std::min(510 - row, 510 - col));
+        bool turn = row == ring + 1 && col == ring;
+        return (ring % 2 == 0) != turn;
+    }
+    Map(const char* name, u32 height, u32 width) : name(name), height(height), width(width), floor(height * width) {
+        for (u32 c = 0; c < height * width; c++) floor[c] = has_floor(c / width, c % width);
+    }
+};
+
+// ---- a field: distances level by level, over a list with walls round the map
+
+struct Grid {
+    const Map& map;
+    u32 stride;
+    vector<u32> blank;
+    u32 place(u32 c) const { return (c / map.width + 1) * stride + c % map.width; }
+    explicit Grid(const Map& map, u32 pad) : map(map), stride(map.width + pad), blank((map.height + 2) * stride, WALL) {
+        for (u32 c = 0; c < map.floor.size(); c++)
+            if (map.floor[c]) blank[place(c)] = FAR_AWAY;
+    }
+};
+
+static vector<u32> field(const Grid& g, u32 goal) {
+    vector<u32> dist = g.blank, front{goal}, next;
+    u32 s = g.stride, level = 0;
+    dist[goal] = 0;
+    while (!front.empty()) {
+        level++;
+        next.clear();
+        for (u32 c : front)
+            for (u32 n : {c - s, c + 1, c + s, c - 1})
+                if (dist[n] == FAR_AWAY) {
+                    dist[n] = level;
+                    next.push_back(n);
+                }
+        front.swap(next);
+    }
+    return dist;
+}
+
+// the first floor cell's part
+static vector<u32> part_of(const Map& map, const Grid& g) {
+    u32 home = 0;
+    while (!map.floor[home]) home++;
+    vector<u32> dist = field(g, g.place(home)), cells;
+    for (u32 c = 0; c < map.floor.size(); c++)
+        if (map.floor[c] && dist[g.place(c)] < WALL) cells.push_back(c);
+    return cells;
+}
+
+static void measure_field(const Map& map, u32 pad, const char* name) {
+    Grid g(map, pad);
+    vector<u32> cells = part_of(map, g);
+    Random random{7};
+    Measure m;
+    for (int k = 0; k < 48; k++) {
+        u32 goal = cells[random.below(cells.size())];
+        double start = now();
+        vector<u32> dist = field(g, g.place(goal));
+        m.with(now() - start);
+        if (dist[g.place(goal)] != 0) printf("wrong\n");
+    }
+    line(name, map.name, cells.size(), m);
+}
+
+static void measure_fields(const Map& map) {
+    Grid g(map, 1);
+    vector<u32> cells = part_of(map, g), goals;
+    Random random{7};
+    for (int k = 0; k < 3000; k++) goals.push_back(cells[random.below(cells.size())]);
+    {
+        Measure m;
+        double start = now();
+        vector<vector<u32>> made;
+        for (u32 goal : goals) made.push_back(field(g, g.place(goal)));
+        m.with(now() - start);
+        line("fields_in_turn", map.name, cells.size() * 3000, m);
+    }
+    Measure m;
+    double start = now();
+    vector<vector<u32>> made(goals.size());
+    unsigned threads = std::thread::hardware_concurrency();
+    vector<std::thread> team;
+    for (unsigned t = 0; t < threads; t++)
+        team.emplace_back([&, t] {
+            for (size_t k = t; k < goals.size(); k += threads) made[k] = field(g, g.place(goals[k]));
+        });
+    for (auto& t : team) t.join();
+    m.with(now() - start);
+    line("fields", map.name, cells.size() * 3000, m);
+}
+
+// ---- the first bridge: Tarjan's low numbers, without recursion, over the whole map
+
+static bool first_bridge(const Map& map, u32& a, u32& b) {
+    u32 n = map.floor.size(), w = map.width, count = 0;
+    vector<u32> number(n, 0), low(n, 0), up(n, FAR_AWAY);
+    vector<u8> side(n, 0);
+    vector<u32> stack;
+    u32 best_a = FAR_AWAY, best_b = FAR_AWAY;
+    for (u32 root = 0; root < n; root++) {
+        if (!map.floor[root] || number[root]) continue;
+        number[root] = low[root] = ++count;
+        stack.push_back(root);
+        while (!stack.empty()) {
+            u32 c = stack.back();
+            if (side[c] < 4) {
+                u32 d = FAR_AWAY;
+                switch (side[c]++) {
+                    case 0: if (c >= w) d = c - w; break;
+                    case 1: if (c % w + 1 < w) d = c + 1; break;
+                    case 2: if (c + w < n) d = c + w; break;
+                    default: if (c % w) d = c - 1; break;
+                }
+                if (d == FAR_AWAY || !map.floor[d] || d == up[c]) continue;
+                if (number[d]) {
+                    low[c] = std::min(low[c], number[d]);
+                } else {
+                    number[d] = low[d] = ++count;
+                    up[d] = c;
+                    stack.push_back(d);
+                }
+            } else {
+                stack.pop_back();
+                u32 p = up[c];
+                if (p == FAR_AWAY) continue;
+                low[p] = std::min(low[p], low[c]);
+                if (low[c] > number[p]) {
+                    u32 x = std::min(c, p), y = std::max(c, p);
+                    if (x < best_a || (x == best_a && y < best_b)) best_a = x, best_b = y;
+                }
+            }
+        }
+    }
+    a = best_a, b = best_b;
+    return best_a != FAR_AWAY;
+}
+
+static void measure_bridge(const Map& map) {
+    Measure m;
+    u64 sum = 0;
+    for (int k = 0; k < 8; k++) {
+        u32 a, b;
+        double start = now();
+        sum += first_bridge(map, a, b) ? a : 0;
+        m.with(now() - start);
+    }
+    if (sum == 1) printf("odd\n");
+    line("bridge", map.name, map.floor.size(), m);
+}
+
+// ---- a fleet and PIBT's step
+
+struct Fleet {
+    vector<u32> from, to, aims;
+    vector<u64> waits;
+};
+
+static Fleet fleet_of(const Map& map, const vector<u32>& cells, size_t robots, size_t fields, Random& random) {
+    Fleet f;
+    vector<u8> taken(map.floor.size());
+    for (size_t k = 0; k < robots * 16; k++) {
+        u32 c = cells[random.below(cells.size())];
+        if (f.from.size() < robots && !taken[c]) {
+            taken[c] = 1;
+            f.from.push_back(c);
+        }
+    }
+    f.to.assign(f.from.size(), 0);
+    f.waits.assign(f.from.size(), 0);
+    for (size_t r = 0; r < f.from.size(); r++) f.aims.push_back(r % fields);
+    return f;
+}
+
+struct TieView {
+    u32 robot, cell, neighbour;
+    u8 dir;
+    u64 tick;
+};
+using Tie = u8 (*)(const TieView&);
+static u8 plain(const TieView&) { return 0; }
+
+struct Candidate {
+    u32 cost;
+    uint16_t rank;
+    u8 side;
+    u32 cell;
+    bool operator<(const Candidate& o) const {
+        if (cost != o.cost) return cost < o.cost;
+        if (rank != o.rank) return rank < o.rank;
+        return side < o.side;
+    }
+};
+
+struct Spot {
+    u32 cell, cost;
+};
+
+struct Stepper {
+    const Map& map;
+    const Grid& grid;
+    vector<u32> standing, holder, target, queue;
+    vector<std::array<Spot, 5>> arounds;
+    const vector<vector<u32>>* fields = nullptr;
+    const Fleet* fleet = nullptr;
+    const vector<Tie>* ties = nullptr;
+    u64 tick = 0;
+    static const u32 NONE = 4294967295u;
+    Stepper(const Map& map, const Grid& grid, size_t robots)
+        : map(map), grid(grid), standing(map.floor.size(), NONE), holder(map.floor.size(), NONE), target(robots, NONE),
+          queue(robots), arounds(robots) {}
+
+    bool attempt(u32 r, u32 cell) {
+        if (holder[cell] != NONE) return false;
+        u32 other = standing[cell];
+        if (other != NONE && target[other] == fleet->from[r]) return false;
+        target[r] = cell;
+        holder[cell] = r;
+        if (other == NONE || target[other] != NONE || plan(other)) return true;
+        target[r] = NONE;
+        target[other] = cell;
+        holder[cell] = other;
+        return false;
+    }
+
+    bool plan(u32 r) {
+        const auto& a = arounds[r];
+        Candidate list[5];
+        list[0] = {a[0].cost, 0, 4, a[0].cell};
+        for (u8 d = 0; d < 4; d++) {
+            const Spot& s = a[d + 1];
+            if (s.cell == a[0].cell)
+                list[d + 1] = {a[0].cost, 0, d, s.cell};
+            else
+                list[d + 1] = {s.cost, uint16_t((*ties)[r]({r, a[0].cell, s.cell, d, tick}) + 1), d, s.cell};
+        }
+        std::sort(list, list + 5);
+        for (const Candidate& c : list)
+            if (attempt(r, c.cell)) return true;
+        return false;
+    }
+
+    void step(Fleet& f, const vector<vector<u32>>& fs, const vector<Tie>& t, u64 now_tick) {
+        fleet = &f, fields = &fs, ties = &t, tick = now_tick;
+        size_t n = f.from.size();
+        u32 w = map.width, cells = map.floor.size();
+        for (u32 r = 0; r < n; r++) queue[r] = r;
+        std::sort(queue.begin(), queue.end(), [&](u32 a, u32 b) { return f.waits[a] != f.waits[b] ? f.waits[a] > f.waits[b] : a < b; });
+        for (u32 r = 0; r < n; r++) standing[f.from[r]] = r;
+        for (u32 r = 0; r < n; r++) {
+            u32 c = f.from[r], p = grid.place(c), s = grid.stride;
+            const u32* dist = fs[f.aims[r]].data();
+            auto spot = [&](bool there, u32 cell, u32 at) { return there && map.floor[cell] ? Spot{cell, dist[at]} : Spot{c, dist[p]}; };
+            arounds[r] = {Spot{c, dist[p]}, spot(c >= w, c - w, p - s), spot(c % w + 1 < w, c + 1, p + 1),
+                          spot(c + w < cells, c + w, p + s), spot(c % w != 0, c - 1, p - 1)};
+        }
+        for (u32 k = 0; k < n; k++)
+            if (target[queue[k]] == NONE) plan(queue[k]);
+        for (u32 r = 0; r < n; r++) standing[f.from[r]] = NONE;
+        for (u32 r = 0; r < n; r++) {
+            f.to[r] = target[r];
+            holder[target[r]] = NONE;
+            target[r] = NONE;
+        }
+        f.from.swap(f.to);
+    }
+};
+
+static void measure_step(const Map& map) {
+    Grid g(map, 1);
+    vector<u32> cells = part_of(map, g);
+    Random random{11};
+    vector<vector<u32>> fields;
+    vector<u32> goals;
+    for (int k = 0; k < 64; k++) {
+        goals.push_back(cells[random.below(cells.size())]);
+        fields.push_back(field(g, g.place(goals.back())));
+    }
+    vector<Tie> ties(512, plain);
+    for (size_t robots : {16, 128, 512}) {
+        Fleet f = fleet_of(map, cells, robots, fields.size(), random);
+        Stepper stepper(map, g, f.from.size());
+        Measure m;
+        for (int k = 0; k < 100; k++) {
+            double start = now();
+            for (u64 tick = 0; tick < 20; tick++) {
+                stepper.step(f, fields, ties, tick);
+                for (size_t r = 0; r < f.from.size(); r++) {
+                    if (goals[f.aims[r]] == f.from[r]) {
+                        f.aims[r] = random.below(fields.size());
+                        f.waits[r] = 0;
+                    } else {
+                        f.waits[r]++;
+                    }
+                }
+            }
+            m.with(now() - start);
+        }
+        line("step", map.name, 20 * f.from.size(), m);
+    }
+}
+
+int main(int words, char** word) {
+    if (words < 2) return 0;
+    std::string kernel = word[1];
+    Map open("open", 1024, 1024), warehouse("warehouse", 164, 340), maze("maze", 512, 512), spiral("spiral", 511, 511);
+    if (kernel == "field")
+        for (const Map* map : {&open, &warehouse, &maze, &spiral}) {
+            measure_field(*map, 1, "field");
+            measure_field(*map, 17, "field_wide");
+        }
+    if (kernel == "fields") measure_fields(warehouse);
+    if (kernel == "bridge")
+        for (const Map* map : {&open, &warehouse, &maze, &spiral}) measure_bridge(*map);
+    if (kernel == "step")
+        for (const Map* map : {&warehouse, &open}) measure_step(*map);
+}

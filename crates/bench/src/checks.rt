@@ -1,0 +1,62 @@
+//! Measures of the check of a step.
+
+ghost use Rattle.fleet_grid.specs.Step.{IsPlacement};
+
+use crate::kind::{Kind, grid_of};
+use crate::measure::{Measure, print_measure};
+use crate::random::Random;
+use crate::site::Site;
+use crate::steps::FLEETS;
+use fleet_check::check_step;
+use fleet_grid::Grid;
+use std::alloc::{Alloc, Global};
+use std::io;
+use std::time::{Clock, Instant};
+
+/// How often a step is checked.
+const REPEATS: u32 = 200;
+
+/// The check of a step of each number of robots on each map, by robot.
+pub fn measure_check<R: Alloc<A = Global> + Clock + Print>(
+    rt: &R,
+    kinds: &[Kind],
+) -> io::Result<()> {
+    for kind in kinds {
+        if let Some(site) = Site::new(rt.alloc(), grid_of(rt.alloc(), *kind)?)? {
+            measure_fleets(rt, kind.name(), &site)?;
+        }
+    }
+    Ok(())
+}
+
+/// The check of a step of each number of robots, by robot.
+fn measure_fleets<R: Alloc<A = Global> + Clock + Print>(
+    rt: &R,
+    map: &str,
+    site: &Site,
+) -> io::Result<()> {
+    let mut random = Random::from_seed(11);
+    for robots in FLEETS {
+        let starts = site.starts(rt.alloc(), robots, &mut random)?;
+        let found = time_checks(rt, &site.grid, &starts)?;
+        print_measure(rt, "check", map, starts.len() as u64, found)?;
+    }
+    Ok(())
+}
+
+/// The check of a step in which all robots stay, several times.
+fn time_checks<R: Alloc<A = Global> + Clock>(
+    rt: &R,
+    grid: &Grid,
+    cells: &[u32],
+) -> io::Result<Measure>
+    requires { IsPlacement grid.now cells.now }
+{
+    let mut found = Measure::NONE;
+    for _ in 0..REPEATS {
+        let start = Instant::now(rt)?;
+        let _fault = check_step(rt.alloc(), grid, cells, cells);
+        found = found.with(start.elapsed(rt)?.as_nanos());
+    }
+    Ok(found)
+}

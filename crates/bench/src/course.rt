@@ -1,0 +1,33 @@
+//! The goals of robots that each have one of several fields.
+
+ghost use Rattle.bench.specs.Fleet.{goal_of, distance_of};
+
+use fleet_field::Field;
+use fleet_pibt::Goals;
+
+/// Robots and their fields.
+#[derive(Drop)]
+pub struct Course<'a> {
+    /// The fields that there are.
+    pub fields: &'a [Field],
+    /// For each robot the number of its field.
+    pub aims: &'a [usize],
+}
+
+impl<'a> Goals for Course<'a> {
+    ghost goal_of = { λ s robot. goal_of s.fields.now s.aims.now robot };
+
+    ghost distance = { λ s robot cell. distance_of s.fields.now s.aims.now robot cell };
+
+    fn goal(&self, robot: u32) -> Option<u32> {
+        let aim = self.aims.get(robot as usize)?;
+        let field = self.fields.get(*aim)?;
+        Some(field.goal())
+    }
+
+    fn at(&self, robot: u32, cell: u32) -> Option<u32> {
+        let aim = self.aims.get(robot as usize)?;
+        let field = self.fields.get(*aim)?;
+        field.at(cell)
+    }
+}

@@ -1,0 +1,102 @@
+//! Measures of distance fields.
+
+ghost use Rattle.std.specs.Prelude.{ℕ, ◌<◌, length, slice_index};
+ghost use Rattle.fleet_grid.specs.Floor.{IsFloor};
+
+use crate::kind::{Kind, grid_of};
+use crate::measure::{Measure, print_measure};
+use crate::random::Random;
+use crate::site::Site;
+use fleet_field::{Field, fields};
+use fleet_grid::Grid;
+use std::alloc::{Alloc, Global};
+use std::io;
+use std::thread::Threads;
+use std::time::{Clock, Instant};
+
+/// How often one field is searched on each map.
+const REPEATS: u32 = 48;
+
+/// How many fields are searched together.
+const MANY: usize = 3000;
+
+/// One field, by cell that it reaches.
+pub fn measure_field<R: Alloc<A = Global> + Clock + Print>(
+    rt: &R,
+    kinds: &[Kind],
+) -> io::Result<()> {
+    for kind in kinds {
+        if let Some(site) = Site::new(rt.alloc(), grid_of(rt.alloc(), *kind)?)? {
+            let found = time_goals(rt, &site)?;
+            let things = site.cells.len() as u64;
+            print_measure(rt, "field", kind.name(), things, found)?;
+        }
+    }
+    Ok(())
+}
+
+/// The fields of several goals, one after another.
+fn time_goals<R: Alloc<A = Global> + Clock>(rt: &R, site: &Site) -> io::Result<Measure> {
+    let mut random = Random::from_seed(7);
+    let mut found = Measure::NONE;
+    for _ in 0..REPEATS {
+        let goal = site.cell(&mut random);
+        found = found.with(time_field(rt, &site.grid, goal)?);
+    }
+    Ok(found)
+}
+
+/// The nanoseconds that the field of a goal takes.
+fn time_field<R: Alloc<A = Global> + Clock>(rt: &R, grid: &Grid, goal: u32) -> io::Result<u128>
+    requires { IsFloor grid.now goal }
+{
+    let start = Instant::now(rt)?;
+    let _field = Field::from(rt.alloc(), grid, goal)?;
+    Ok(start.elapsed(rt)?.as_nanos())
+}
+
+/// Many fields, one after another and over all processors, by cell that they reach.
+pub fn measure_fields<R: Alloc<A = Global> + Clock + Print + Threads + Sync>(
+    rt: &R,
+    kind: Kind,
+) -> io::Result<()> {
+    let alloc = rt.alloc();
+    let Some(site) = Site::new(alloc, grid_of(alloc, kind)?)? else {
+        return Ok(());
+    };
+    let goals = site.goals(alloc, MANY, &mut Random::from_seed(7))?;
+    let things = (site.cells.len() as u64).saturating_mul(MANY as u64);
+    let in_turn = Measure::NONE.with(time_in_turn(rt, &site.grid, &goals)?);
+    print_measure(rt, "fields_in_turn", kind.name(), things, in_turn)?;
+    let together = Measure::NONE.with(time_together(rt, &site.grid, &goals)?);
+    print_measure(rt, "fields", kind.name(), things, together)
+}
+
+/// The nanoseconds that the fields of all goals take, one after another.
+fn time_in_turn<R: Alloc<A = Global> + Clock>(
+    rt: &R,
+    grid: &Grid,
+    goals: &[u32],
+) -> io::Result<u128>
+    requires { (k : ℕ) → k < length goals.now → IsFloor grid.now (slice_index goals.now k) }
+{
+    let start = Instant::now(rt)?;
+    let mut made = Vec::with_capacity(rt.alloc(), goals.len())?;
+    for goal in goals {
+        made.push(Field::from(rt.alloc(), grid, *goal)?)?;
+    }
+    Ok(start.elapsed(rt)?.as_nanos())
+}
+
+/// The nanoseconds that the fields of all goals take together.
+fn time_together<R: Alloc<A = Global> + Clock + Threads + Sync>(
+    rt: &R,
+    grid: &Grid,
+    goals: &[u32],
+) -> io::Result<u128>
+    requires { (k : ℕ) → k < length goals.now → IsFloor grid.now (slice_index goals.now k) }
+{
+    let start = Instant::now(rt)?;
+    let _made = fields(rt, rt.alloc(), grid, goals)?;
+    Ok(start.elapsed(rt)?.as_nanos())
+}

@@ -1,0 +1,59 @@
+//! The kernels, each measured on the maps.
+
+ghost use Rattle.std.specs.Prelude.{◌≡◌};
+ghost use Rattle.bench.specs.Kernels.{kernel_named};
+
+use crate::bridges::measure_bridge;
+use crate::checks::measure_check;
+use crate::fields::{measure_field, measure_fields};
+use crate::kind::Kind;
+use crate::steps::measure_step;
+use std::alloc::{Alloc, Global};
+use std::io;
+use std::thread::Threads;
+use std::time::Clock;
+
+/// What is measured.
+#[derive(Clone, Copy, Debug, PartialEq, Eq)]
+pub enum Kernel {
+    /// One distance field, by floor cell of its part.
+    Field,
+    /// Many fields, over all processors, by cell.
+    Fields,
+    /// The first bridge of a map, by cell.
+    Bridge,
+    /// The check of a step, by robot.
+    Check,
+    /// A step of all robots, by robot.
+    Step,
+}
+
+impl Kernel {
+    /// The kernel of that name.
+    pub fn named(word: &str) -> Option<Kernel>
+        ensures { result ≡ kernel_named word.now }
+    {
+        match word {
+            "field" => Some(Kernel::Field),
+            "fields" => Some(Kernel::Fields),
+            "bridge" => Some(Kernel::Bridge),
+            "check" => Some(Kernel::Check),
+            "step" => Some(Kernel::Step),
+            _ => None,
+        }
+    }
+}
+
+/// Measures the kernel, and prints a line for each measure.
+pub fn run<R: Alloc<A = Global> + Clock + Print + Threads + Sync>(
+    rt: &R,
+    kernel: Kernel,
+) -> io::Result<()> {
+    match kernel {
+        Kernel::Field => measure_field(rt, &Kind::ALL),
+        Kernel::Fields => measure_fields(rt, Kind::Warehouse),
+        Kernel::Bridge => measure_bridge(rt, &Kind::ALL),
+        Kernel::Check => measure_check(rt, &[Kind::Warehouse, Kind::Open]),
+        Kernel::Step => measure_step(rt, &[Kind::Warehouse, Kind::Open]),
+    }
+}

@@ -1,0 +1,149 @@
+//! Measures of the step of all robots.
+
+ghost use Rattle.std.specs.Prelude.{◌≡◌, ℕ, ◌<◌, ◌≤◌, length, vec_len};
+ghost use Rattle.fleet_grid.specs.Step.{IsPlacement};
+ghost use Rattle.bench.specs.Fleet.{AreWithin, Serves, IsUnderWay};
+
+use crate::fleet::Fleet;
+use crate::kind::{Kind, grid_of};
+use crate::measure::{Measure, print_measure};
+use crate::random::Random;
+use crate::site::Site;
+use fleet_field::Field;
+use fleet_hooks::{TieHook, TieLaw, TieView};
+use fleet_pibt::Stepper;
+use std::alloc::{Alloc, Global};
+use std::io;
+use std::time::{Clock, Instant};
+
+/// How many robots there are.
+pub const FLEETS: [usize; 3] = [16, 128, 512];
+
+/// No fleet has more.
+const MOST: usize = 512;
+
+/// A law that any rank meets.
+const ANY: TieLaw = TieLaw {
+    low: [0; 4],
+    high: [255; 4],
+};
+
+/// From how many fields robots take theirs.
+const FIELDS: usize = 64;
+
+/// How many ticks are timed together, and how often.
+const TICKS: u32 = 20;
+
+const REPEATS: u32 = 100;
+
+/// A step of each number of robots on each map, by robot.
+pub fn measure_step<R: Alloc<A = Global> + Clock + Print>(
+    rt: &R,
+    kinds: &[Kind],
+) -> io::Result<()> {
+    for kind in kinds {
+        if let Some(site) = Site::new(rt.alloc(), grid_of(rt.alloc(), *kind)?)? {
+            measure_fleets(rt, kind.name(), &site)?;
+        }
+    }
+    Ok(())
+}
+
+/// A step of each number of robots, by robot.
+fn measure_fleets<R: Alloc<A = Global> + Clock + Print>(
+    rt: &R,
+    map: &str,
+    site: &Site,
+) -> io::Result<()> {
+    let alloc = rt.alloc();
+    let mut random = Random::from_seed(11);
+    let fields = site.fields(alloc, FIELDS, &mut random)?;
+    let mut ties = Vec::with_capacity(alloc, MOST)?;
+    for _ in 0..MOST {
+        ties.push(TieHook::new(ANY, Box::new(alloc, |_view: TieView| 0)?))?;
+    }
+    measure_each(rt, map, site, &fields, &ties, &mut random)
+}
+
+/// A step of each number of robots, by robot.
+fn measure_each<R: Alloc<A = Global> + Clock + Print>(
+    rt: &R,
+    map: &str,
+    site: &Site,
+    fields: &[Field],
+    ties: &[TieHook],
+    random: &mut Random,
+) -> io::Result<()>
+    requires some { 0 < length fields.now }
+    requires serves { Serves site.now.grid site.now.home fields.now }
+    requires tied { length ties.now ≡ MOST }
+{
+    for robots in FLEETS {
+        let starts = site.starts(rt.alloc(), robots.min(MOST), random)?;
+        let count = starts.len() as u64;
+        let found = time_fleet(rt, site, fields, starts, ties, random)?;
+        print_measure(
+            rt,
+            "step",
+            map,
+            u64::from(TICKS).saturating_mul(count),
+            found,
+        )?;
+    }
+    Ok(())
+}
+
+/// Steps of a fleet, some ticks at a time.
+fn time_fleet<R: Alloc<A = Global> + Clock>(
+    rt: &R,
+    site: &Site,
+    fields: &[Field],
+    starts: Vec<u32>,
+    ties: &[TieHook],
+    random: &mut Random,
+) -> io::Result<Measure>
+    requires some { 0 < length fields.now }
+    requires serves { Serves site.now.grid site.now.home fields.now }
+    requires tied { length ties.now ≡ MOST }
+    requires few { vec_len starts ≤ MOST }
+    requires placed { IsPlacement site.now.grid starts.items }
+    requires within { AreWithin site.now.grid site.now.home starts.items }
+{
+    let robots = starts.len();
+    let ties = &ties[..robots];
+    let mut fleet = Fleet::new(rt.alloc(), site, starts, fields.len())?;
+    let mut stepper = Stepper::new(rt.alloc(), site.grid.cell_count(), robots as u32)?;
+    let mut found = Measure::NONE;
+    for _ in 0..REPEATS {
+        let nanos = time_ticks(rt, site, fields, &mut fleet, &mut stepper, ties, random)?;
+        found = found.with(nanos);
+    }
+    Ok(found)
+}
+
+/// The nanoseconds that some ticks take.
+fn time_ticks<R: Alloc<A = Global> + Clock>(
+    rt: &R,
+    site: &Site,
+    fields: &[Field],
+    fleet: &mut Fleet,
+    stepper: &mut Stepper,
+    ties: &[TieHook],
+    random: &mut Random,
+) -> io::Result<u128>
+    requires some { 0 < length fields.now }
+    requires serves { Serves site.now.grid site.now.home fields.now }
+    requires way { IsUnderWay site.now.grid site.now.home (length fields.now) fleet.old.from.items fleet.old.to.items fleet.old.waits.items fleet.old.aims.items }
+    requires tied { length ties.now ≡ vec_len fleet.old.from }
+    requires made { stepper.old ≡ record { cells = length site.now.grid.letters; robots = vec_len fleet.old.from } }
+    ensures way { IsUnderWay site.now.grid site.now.home (length fields.now) fleet.new.from.items fleet.new.to.items fleet.new.waits.items fleet.new.aims.items }
+    ensures robots { vec_len fleet.new.from ≡ vec_len fleet.old.from }
+    ensures made { stepper.new ≡ stepper.old }
+{
+    let start = Instant::now(rt)?;
+    for tick in 0..u64::from(TICKS) {
+        fleet.step(site, fields, stepper, ties, tick);
+        fleet.arrive(site, fields, random);
+    }
+    Ok(start.elapsed(rt)?.as_nanos())
+}
