@@ -6,10 +6,17 @@ use Rattle.fleet_grid.specs.Floor.{Floor}
 use Rattle.fleet_world.specs.declared.events.Event.{Event}
 use Rattle.fleet_world.specs.declared.events.Reply.{Reply}
 use Rattle.fleet_world.specs.Core.{State, Run, opened_state}
-use Rattle.errands.specs.declared.program.Said.{Said}
-use Rattle.errands.specs.Outcome.{Outcome, IsScriptOutcome, IsPartsOutcome, IsMapNamed, refused, ran, map_faulty, run_outcome, fault}
+use Rattle.fleet_world.specs.Laws.{KeepsRings}
+use Rattle.fleet_history.specs.Legal.{IsLegal}
+use Rattle.fleet_history.specs.Laws.{ArrivesInOrder, ArrivalsRise, HasNoConflict, AcceptsNoneClosed}
+use Rattle.errands.specs.declared.said.Said.{Said}
+use Rattle.errands.specs.declared.said.Complaint.{Complaint}
+use Rattle.errands.specs.declared.said.Complaint.TheVariants as complaint
+use Rattle.errands.specs.Outcome.{Outcome, IsScriptOutcome, IsLawfulEnd, IsMapNamed, IsJobOutcome, refused, ran, run_outcome, fault}
+use Rattle.errands.specs.declared.words.Job.{Job}
+use Rattle.fleet_world.specs.Hooks.{HookLaws}
 use Rattle.errands.specs.Script.{Plan}
-use Rattle.errands.specs.Output.{map_fault_text, open_fault_text}
+use Rattle.errands.specs.Kit.{KitLaws, chosen_laws}
 use Rattle.fleet_map.specs.declared.fault.MapFault.{MapFault}
 use Rattle.fleet_map.specs.declared.fault.MapFault.TheVariants as map_fault
 use Rattle.fleet_map.specs.Grammar.{Fails, map_of}
@@ -36,38 +43,54 @@ pub said_more : {A : Type 0} (P Q : Outcome → Type 0) (r : Result (Said A) All
 said_more P Q (Ok s) more p = more (said s) p
 said_more P Q (Err x) more p = tt
 
-pub ran_is : {A : Type 0} (m g : Floor) (p : Plan) (called shown : List Event) (replies : List Reply) (last : State A) → g ≡ m → called ≡ p.events → shown ≡ p.events
-    → Run (opened_state g p.starts p.clients p.limits) called replies last → IsScriptOutcome A m p (run_outcome shown replies last.world.history.entries)
-ran_is {A} m g p called shown replies last e f d r = ran (record {
+-- what a run ends in is lawful on its own map
+pub lawful_is : {A : Type 0} (m g : Floor) (last : State A) → g ≡ m → last.world.floor ≡ g → IsLegal last.world.floor last.world.history → KeepsRings last → ArrivesInOrder last.world.history
+    → ArrivalsRise last.world.history → HasNoConflict last.world.floor last.world.history → AcceptsNoneClosed last.world.history → IsLawfulEnd A m last
+lawful_is m g last e f legal rings arrivals numbers conflicts closes = record {
+  legal = subst (λ (x : Floor). IsLegal x last.world.history) (f ∙ e) legal;
+  rings = rings;
+  arrivals = arrivals;
+  numbers = numbers;
+  conflicts = subst (λ (x : Floor). HasNoConflict x last.world.history) (f ∙ e) conflicts;
+  closes = closes;
+}
+
+pub ran_is : {A : Type 0} (kit : KitLaws) (laws : HookLaws) (m g : Floor) (p : Plan) (called shown : List Event) (replies : List Reply) (last : State A) → g ≡ m → called ≡ p.events → shown ≡ p.events → laws ≡ chosen_laws kit p
+    → Run (opened_state g p.starts p.clients p.limits laws) called replies last → IsLawfulEnd A m last → IsScriptOutcome A kit m p (run_outcome shown replies last.world.history.entries)
+ran_is {A} kit laws m g p called shown replies last e f d l r lawful = ran (record {
   replies = replies;
   last = last;
-  run = subst (λ (x : Floor). Run (opened_state x p.starts p.clients p.limits) p.events replies last) e (subst (λ (x : List Event). Run (opened_state g p.starts p.clients p.limits) x replies last) f r);
+  run = subst (λ (x : HookLaws). Run (opened_state m p.starts p.clients p.limits x) p.events replies last) l
+      (subst (λ (x : Floor). Run (opened_state x p.starts p.clients p.limits laws) p.events replies last) e (subst (λ (x : List Event). Run (opened_state g p.starts p.clients p.limits laws) x replies last) f r));
+  lawful = lawful;
   said = ap (λ (x : List Event). run_outcome x replies last.world.history.entries) d;
 })
 
-pub refused_is : {A : Type 0} (r : Result (Said A) AllocError) (m g : Floor) (p : Plan) (f : OpenFault) → g ≡ m → IfOk r (λ s. IsNamed f) → IfOk r (λ s. said s ≡ fault 5 (codes "opening " ++ open_fault_text f))
-    → (IsNamed f → IsRefused g p.starts p.clients p.limits f) → IfOk r (λ s. IsScriptOutcome A m p (said s))
-refused_is (Ok s) m g p f e named is why = refused f (subst (λ (x : Floor). IsRefused x p.starts p.clients p.limits f) e (why named)) is
-refused_is (Err x) m g p f e named is why = tt
+pub refused_is : {A : Type 0} (kit : KitLaws) (laws : HookLaws) (r : Result (Said A) AllocError) (c : Complaint) (m g : Floor) (p : Plan) (f : OpenFault) → g ≡ m → laws ≡ chosen_laws kit p → c ≡ complaint.Opening f → IfOk r (λ s. said s ≡ fault c)
+    → IsRefused g p.starts p.clients p.limits laws f → IfOk r (λ s. IsScriptOutcome A kit m p (said s))
+refused_is kit laws (Ok s) c m g p f e l named is why = refused f (subst (λ (x : HookLaws). IsRefused m p.starts p.clients p.limits x f) l (subst (λ (x : Floor). IsRefused x p.starts p.clients p.limits laws f) e why)) (is ∙ ap fault named)
+refused_is kit laws (Err x) c m g p f e l named is why = tt
 
-pub map_faulty_is : {A : Type 0} (r : Result (Said A) AllocError) (map script : List ℕ) (f : MapFault) → Fails f (map_of map) → IfOk r (λ s. IsMapNamed f)
-    → IfOk r (λ s. said s ≡ fault 4 (codes "map " ++ map_fault_text f)) → IfOk r (λ s. IsPartsOutcome A map script (said s))
-map_faulty_is (Err x) map script f e named is = tt
-map_faulty_is (Ok s) map script (map_fault.Header line) e named is = map_faulty (map_fault.Header line) e is
-map_faulty_is (Ok s) map script map_fault.Size e named is = map_faulty map_fault.Size e is
-map_faulty_is (Ok s) map script (map_fault.Row row) e named is = map_faulty (map_fault.Row row) e is
-map_faulty_is (Ok s) map script (map_fault.Cell row col) e named is = map_faulty (map_fault.Cell row col) e is
-map_faulty_is (Ok s) map script (map_fault.Trailing line) e named is = map_faulty (map_fault.Trailing line) e is
-map_faulty_is (Ok s) map script map_fault.NoMemory e named is = absurd named
+-- the map's text is at fault
+pub map_fails : (f : MapFault) (map : List ℕ) → Fails f (map_of map) → IsMapNamed f → map_of map ≡ Err f
+map_fails (map_fault.Header line) map e named = e
+map_fails map_fault.Size map e named = e
+map_fails (map_fault.Row row) map e named = e
+map_fails (map_fault.Cell row col) map e named = e
+map_fails (map_fault.Trailing line) map e named = e
+map_fails map_fault.NoMemory map e named = absurd named
 
 pub fails_line : {Y : Type 0} (f : ScriptFault) (line : ℕ) (read : Result Y ℕ) → f ≡ script_fault.Line line → FailsAt f read → read ≡ Err line
 fails_line {Y} f line read e fails = subst (λ (x : ScriptFault). FailsAt x read) e fails
 
--- what was read is all there was
-pub of_all : (all : Option (List ℕ)) (P : List ℕ → Type 0) (items : List ℕ) → IfSome all (λ x. items ≡ x) → P items → IfSome all P
-of_all None P items e p = tt
-of_all (Some x) P items e p = subst P e p
+-- what is said to the job at hand
+pub job_is : {A : Type 0} (kit : KitLaws) (r : Result (Said A) AllocError) (job named : Job) (first second : List ℕ) → job ≡ named → IfOk r (λ s. IsJobOutcome A kit named first second (said s))
+    → IfOk r (λ s. IsJobOutcome A kit job first second (said s))
+job_is {A} kit (Ok s) job named first second e p = subst (λ (j : Job). IsJobOutcome A kit j first second (said s)) (sym e) p
+job_is kit (Err x) job named first second e p = tt
 
-pub for_any : (all : Option (List ℕ)) (P : List ℕ → Type 0) → ((x : List ℕ) → P x) → IfSome all P
-for_any None P p = tt
-for_any (Some x) P p = p x
+-- what follows of what both readers had
+pub for_both : (all other : Option (List ℕ)) (P Q : List ℕ → List ℕ → Type 0) → ((x y : List ℕ) → P x y → Q x y) → IfSome all (λ x. IfSome other (λ y. P x y)) → IfSome all (λ x. IfSome other (λ y. Q x y))
+for_both None other P Q f p = tt
+for_both (Some x) None P Q f p = tt
+for_both (Some x) (Some y) P Q f p = f x y p

@@ -136,6 +136,7 @@ open_fault_text open_fault.Limits = codes "1 limits"
 open_fault_text open_fault.NoRobots = codes "2 no-robots"
 open_fault_text (open_fault.Start robot) = codes "3 start"
 open_fault_text (open_fault.Shared i j) = codes "4 shared"
+open_fault_text open_fault.Hooks = codes "5 hooks"
 open_fault_text open_fault.NoMemory = codes "6 no-memory"
 
 -- whether a limit was met

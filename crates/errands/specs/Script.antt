@@ -3,10 +3,11 @@ use Rattle.std.specs.Prelude.{◌≡◌, ℕ, ◌+◌, Bool, true, false, List, 
 use Rattle.std.specs.Option.{option_map, option_and_then}
 use Rattle.std.specs.Str.{bytes_eq}
 use Rattle.fleet_map.specs.Text.{words_of, lines_of}
-use Rattle.fleet_book.specs.declared.order.Order.TheVariants.{Go}
+use Rattle.fleet_book.specs.declared.order.Order.{Order}
+use Rattle.fleet_book.specs.declared.order.Order.TheVariants.{Go, Close}
 use Rattle.fleet_book.specs.declared.limits.Limits.{Limits}
 use Rattle.fleet_world.specs.declared.events.Event.{Event}
-use Rattle.fleet_world.specs.declared.events.Event.TheVariants.{Post, Take, Tick, Give, Collect}
+use Rattle.fleet_world.specs.declared.events.Event.TheVariants.{Post, Take, Tick, Give, Collect, Shut}
 use Rattle.errands.specs.declared.head.LimitName.{LimitName}
 use Rattle.errands.specs.declared.head.LimitName.TheVariants.{Lane, Outlet, Queue, Mailbox, Life, Orders, Clock, Chapter, Chapters}
 use Rattle.errands.specs.declared.head.GivenLimits.{GivenLimits}
@@ -22,12 +23,18 @@ pub record Repeated : Type 0 where
 abbrev pub once_only : Event → Repeated
 once_only event = record { event = event; times = 1 }
 
--- CLIENT go ROBOT CELL
-abbrev pub post_in : List (List ℕ) → Option Event
-post_in (client ∷ word ∷ robot ∷ cell ∷ []) =
+-- close, or go ROBOT CELL
+abbrev pub order_in : List ℕ → List (List ℕ) → Option Order
+order_in word [] = if bytes_eq word (codes "close") then Some Close else None
+order_in word (robot ∷ cell ∷ []) =
     if bytes_eq word (codes "go")
-    then option_and_then (λ c. option_and_then (λ r. option_map (λ x. Post c (Go r x)) (number_in most32 cell)) (number_in most32 robot)) (number_in most32 client)
+    then option_and_then (λ r. option_map (λ x. Go r x) (number_in most32 cell)) (number_in most32 robot)
     else None
+order_in word words = None
+
+-- CLIENT and an order
+abbrev pub post_in : List (List ℕ) → Option Event
+post_in (client ∷ word ∷ words) = option_and_then (λ c. option_map (λ order. Post c order) (order_in word words)) (number_in most32 client)
 post_in words = None
 
 -- the number of ticks, from 1 to 1,000,000; one where the line does not say
@@ -43,6 +50,7 @@ events_of key words =
     else if bytes_eq key (codes "tick") then option_map (λ n. record { event = Tick; times = n }) (ticks_in words)
     else if bytes_eq key (codes "give") then option_map (λ c. once_only (Give c)) (one_in most32 words)
     else if bytes_eq key (codes "collect") then option_map (λ c. once_only (Collect c)) (one_in most32 words)
+    else if bytes_eq key (codes "shut") then option_map (λ r. once_only (Shut r)) (one_in most32 words)
     else None
 
 -- ---- header lines
@@ -81,11 +89,17 @@ with_limit g Chapters words = option_map (λ n. record g { chapters = Some n }) 
 abbrev pub starts_in : List (List ℕ) → Option (List ℕ)
 starts_in words = if nat_le 1 (length words) && nat_le (length words) 16 then numbers_in words else None
 
+-- which closures rank the cells: whether the southern ones
+abbrev pub ties_in : List (List ℕ) → Option Bool
+ties_in (word ∷ []) = if bytes_eq word (codes "plain") then Some false else if bytes_eq word (codes "south") then Some true else None
+ties_in words = None
+
 -- ---- the script so far
 
 pub record Draft : Type 0 where
   pub starts : Option (List ℕ)
   pub clients : Option ℕ
+  pub south : Option Bool
   pub limits : GivenLimits
   pub events : List Event
   -- the line of each event
@@ -100,6 +114,7 @@ abbrev pub with_header : Draft → List ℕ → List (List ℕ) → Option Draft
 with_header d key words =
     if bytes_eq key (codes "robots") then option_map (λ cells. record d { starts = Some cells }) (if_new d.starts (starts_in words))
     else if bytes_eq key (codes "clients") then option_map (λ n. record d { clients = Some n }) (if_new d.clients (one_in most32 words))
+    else if bytes_eq key (codes "ties") then option_map (λ s. record d { south = Some s }) (if_new d.south (ties_in words))
     else with_limit_line d (limit_named key) words
 
 abbrev pub no_events : List Event → Bool
@@ -137,7 +152,7 @@ abbrev pub no_limits : GivenLimits
 no_limits = record { lane = None; outlet = None; queue = None; mailbox = None; life = None; orders = None; clock = None; chapter = None; chapters = None }
 
 abbrev pub blank_draft : Draft
-blank_draft = record { starts = None; clients = None; limits = no_limits; events = []; lines = [] }
+blank_draft = record { starts = None; clients = None; south = None; limits = no_limits; events = []; lines = [] }
 
 -- the limits that the script gives, and the program's own for the others
 abbrev pub limits_of : GivenLimits → Limits
@@ -158,11 +173,13 @@ pub record Plan : Type 0 where
   pub starts : List ℕ
   pub clients : ℕ
   pub limits : Limits
+  -- whether the southern closures rank the cells
+  pub south : Bool
   pub events : List Event
   pub lines : List ℕ
 
 abbrev pub plan_from : Draft → List ℕ → Plan
-plan_from d starts = record { starts = starts; clients = unwrap_or d.clients 1; limits = limits_of d.limits; events = d.events; lines = d.lines }
+plan_from d starts = record { starts = starts; clients = unwrap_or d.clients 1; limits = limits_of d.limits; south = unwrap_or d.south false; events = d.events; lines = d.lines }
 
 abbrev pub or_line : {A : Type 0} → ℕ → Option A → Result A ℕ
 or_line number None = Err number

@@ -2,10 +2,11 @@
 
 ghost use Rattle.std.specs.Prelude.{◌≡◌};
 ghost use Rattle.fleet_map.specs.Text.{words_of};
-ghost use Rattle.errands.specs.Script.{limit_named, if_new, with_limit, limits_of, no_limits};
+ghost use Rattle.errands.specs.Script.{limit_named, ties_in, if_new, with_limit, limits_of, no_limits};
 
 use crate::numbers::{one_number, one_small_number};
 use fleet_book::Limits;
+use fleet_map::text::first_word;
 
 /// The name of a limit, as a header line begins with it.
 #[derive(Clone, Copy, Debug, PartialEq, Eq)]
@@ -57,6 +58,23 @@ pub fn limit_name(key: &[u8]) -> Option<LimitName>
         Some(LimitName::Chapter)
     } else if key == b"chapters".as_slice() {
         Some(LimitName::Chapters)
+    } else {
+        None
+    }
+}
+
+/// Which closures rank the cells, as the words say: whether the southern ones.
+pub fn is_south(words: &[u8]) -> Option<bool>
+    ensures { result ≡ ties_in (words_of words.now) }
+{
+    let (word, rest) = first_word(words)?;
+    if first_word(rest).is_some() {
+        return None;
+    }
+    if word == b"plain".as_slice() {
+        Some(false)
+    } else if word == b"south".as_slice() {
+        Some(true)
     } else {
         None
     }

@@ -1,8 +1,9 @@
 //! A file as a whole.
 
-ghost use Rattle.std.specs.Prelude.{◌≡◌, ◌≤◌, ◌<◌, ◌++◌, length, vec_len, IfOk, OnErr, IfSome};
+ghost use Rattle.std.specs.Prelude.{◌≡◌, ◌≤◌, vec_len, IfOk, IfSome};
+ghost use Rattle.errands.specs.Told.{bytes_of};
 
-use std::alloc::Allocator;
+use std::alloc::{AllocError, Allocator};
 use std::io::Read;
 
 /// The greatest length of a file.
@@ -14,6 +15,12 @@ pub enum InputFault {
     /// A read failed, or the file is too long.
     File,
     NoMemory,
+}
+
+impl From<AllocError> for InputFault {
+    fn from(_error: AllocError) -> InputFault {
+        InputFault::NoMemory
+    }
 }
 
 /// All that the reader has, which is at most 16,777,216 bytes.
@@ -38,4 +45,18 @@ pub fn read_whole<A: Allocator + Copy, R: Read>(
         }
     }
     Err(InputFault::File)
+}
+
+/// All that a second reader has, which is at most 16,777,216 bytes, and nothing where there is none.
+pub fn read_other<A: Allocator + Copy, R: Read>(
+    alloc: A,
+    reader: Option<&mut R>,
+) -> Result<Vec<u8, A>, InputFault>
+    ensures whole { IfOk result (λ bytes. IfSome (bytes_of R.remaining reader.entry) (λ all. bytes.items ≡ all)) }
+    ensures short { IfOk result (λ bytes. vec_len bytes ≤ MOST_BYTES) }
+{
+    match reader {
+        Some(reader) => read_whole(alloc, reader),
+        None => Ok(Vec::new(alloc)),
+    }
 }

@@ -3,7 +3,7 @@
 ghost use Rattle.std.specs.Prelude.{◌≡◌, ◌≤◌, length, IfOk, IfSome, Some, Ok};
 ghost use Rattle.std.specs.Option.{option_map};
 ghost use Rattle.fleet_map.specs.Text.{words_of};
-ghost use Rattle.errands.specs.Script.{post_in, ticks_in, events_of};
+ghost use Rattle.errands.specs.Script.{order_in, post_in, ticks_in, events_of};
 ghost use Rattle.errands.specs.Shown.{repeated};
 
 use crate::numbers::{one_number, one_small_number, small_number};
@@ -18,21 +18,35 @@ pub struct Repeat {
     pub times: u32,
 }
 
-/// A post: client, `go`, robot and cell.
+/// An order: `close`, or `go`, robot and cell.
+fn order(word: &[u8], words: &[u8]) -> Option<Order>
+    ensures { result ≡ order_in word.now (words_of words.now) }
+{
+    let Some((robot, rest)) = first_word(words) else {
+        return if word == b"close".as_slice() {
+            Some(Order::Close)
+        } else {
+            None
+        };
+    };
+    let (cell, rest) = first_word(rest)?;
+    if first_word(rest).is_some() || word != b"go".as_slice() {
+        return None;
+    }
+    let robot = small_number(robot)?;
+    let cell = small_number(cell)?;
+    Some(Order::Go { robot, cell })
+}
+
+/// A post: client and order.
 fn post(words: &[u8]) -> Option<Event>
     ensures { result ≡ post_in (words_of words.now) }
 {
     let (client, rest) = first_word(words)?;
     let (word, rest) = first_word(rest)?;
-    let (robot, rest) = first_word(rest)?;
-    let (cell, rest) = first_word(rest)?;
-    if first_word(rest).is_some() || word != b"go".as_slice() {
-        return None;
-    }
     let client = small_number(client)?;
-    let robot = small_number(robot)?;
-    let cell = small_number(cell)?;
-    Some(Event::Post(client, Order::Go { robot, cell }))
+    let order = order(word, rest)?;
+    Some(Event::Post(client, order))
 }
 
 /// How many ticks.
@@ -64,6 +78,8 @@ pub fn events_of_line(key: &[u8], words: &[u8]) -> Option<Repeat>
         Event::Give(one_small_number(words)?)
     } else if key == b"collect".as_slice() {
         Event::Collect(one_small_number(words)?)
+    } else if key == b"shut".as_slice() {
+        Event::Shut(one_small_number(words)?)
     } else {
         return None;
     };

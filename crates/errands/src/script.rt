@@ -8,7 +8,7 @@ ghost use Rattle.errands.specs.Numbers.{numbers_in};
 ghost use Rattle.errands.specs.Shown.{repeated, shown, plan, Gives};
 ghost use Rattle.errands.specs.declared.lines.Repeat.{Repeat};
 
-use crate::head::{GivenLimits, limit_name, only_once};
+use crate::head::{GivenLimits, is_south, limit_name, only_once};
 use crate::lines::{Repeat, events_of_line};
 use crate::numbers::{one_small_number, small_number};
 use fleet_book::Limits;
@@ -24,6 +24,8 @@ pub struct Script<A: Allocator + Copy = Global> {
     /// The number of clients.
     pub clients: u32,
     pub limits: Limits,
+    /// Whether the southern closures rank the cells, and not the plain ones.
+    pub south: bool,
     pub events: Vec<Event, A>,
     /// The line of each event, from 1.
     pub lines: Vec<u32, A>,
@@ -53,6 +55,7 @@ impl From<AllocError> for ScriptFault {
 pub struct Draft<A: Allocator + Copy = Global> {
     pub starts: Option<Vec<u32, A>>,
     pub clients: Option<u32>,
+    pub south: Option<bool>,
     pub limits: GivenLimits,
     pub events: Vec<Event, A>,
     pub lines: Vec<u32, A>,
@@ -101,6 +104,7 @@ impl<A: Allocator + Copy> Draft<A> {
         Draft {
             starts: None,
             clients: None,
+            south: None,
             limits: GivenLimits::NONE,
             events: Vec::new(alloc),
             lines: Vec::new(alloc),
@@ -138,6 +142,9 @@ impl<A: Allocator + Copy> Draft<A> {
         } else if key == b"clients".as_slice() {
             let clients = only_once(draft.clients, one_small_number(words)).ok_or(fault)?;
             draft.clients = Some(clients);
+        } else if key == b"ties".as_slice() {
+            let south = only_once(draft.south, is_south(words)).ok_or(fault)?;
+            draft.south = Some(south);
         } else {
             let name = limit_name(key).ok_or(fault)?;
             draft.limits = draft.limits.with(name, words).ok_or(fault)?;
@@ -189,6 +196,7 @@ fn finished<A: Allocator + Copy>(draft: Draft<A>, number: u32) -> Result<Script<
     let Draft {
         starts,
         clients,
+        south,
         limits,
         events,
         lines,
@@ -199,6 +207,7 @@ fn finished<A: Allocator + Copy>(draft: Draft<A>, number: u32) -> Result<Script<
             starts,
             clients: clients.unwrap_or(1),
             limits: limits.limits(),
+            south: south.unwrap_or(false),
             events,
             lines,
         }),

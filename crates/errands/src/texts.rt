@@ -188,6 +188,7 @@ impl fmt::Display for OpenFaultText {
             OpenFault::NoRobots => write!(f, "2 no-robots"),
             OpenFault::Start(_) => write!(f, "3 start"),
             OpenFault::Shared(_, _) => write!(f, "4 shared"),
+            OpenFault::Hooks => write!(f, "5 hooks"),
             OpenFault::NoMemory => write!(f, "6 no-memory"),
         }
     }

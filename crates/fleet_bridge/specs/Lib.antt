@@ -3,3 +3,4 @@ pub mod Tree
 pub mod Search
 pub mod Spanning
 pub mod First
+pub mod Sides

@@ -7,10 +7,11 @@ ghost use Rattle.fleet_bridge.specs.Search.{NearWithout};
 ghost use Rattle.fleet_grid.specs.Floor.{HasForm, IsNeighbour};
 ghost use Rattle.fleet_bridge.specs.Tree.{IsUnder};
 ghost use Rattle.fleet_bridge.specs.First.{HasNoneBeside, IsBeside, HasNone, IsFirstFrom};
+ghost use Rattle.fleet_bridge.specs.Sides.{AreSides};
 ghost use Rattle.fleet_bridge.specs.Spanning.{IsCrossedIn, IsSpanning};
 
-use crate::next::next_to;
 use crate::search::is_bridge;
+use crate::sides::{Sides, beside, sides_of};
 use crate::tree::{Tree, read, spanning_tree};
 use fleet_grid::{Dir, Grid};
 use std::alloc::{AllocError, Allocator, Global};
@@ -36,17 +37,17 @@ fn is_outside<A: Allocator + Copy>(tree: &Tree<A>, cell: u32, outer: u32) -> boo
 /// Whether the edge from `inner`, of the subtree of `cell`, in a direction leaves that subtree, and is not the one to the parent.
 #[tactic(auto, using(crate::proofs::Rounds::crossed_at))]
 fn leaves<A: Allocator + Copy, B: Allocator + Copy>(
-    grid: &Grid<B>,
+    sides: &Sides<'_, A, B>,
     tree: &Tree<A>,
     cell: u32,
     inner: u32,
     dir: Dir,
 ) -> bool
-    requires grid { HasForm grid.now }
+    requires sides { AreSides sides.now.grid.now sides.now.width sides.now.opens.items }
     requires under { IsUnder (slice_index tree.now.up.items) cell inner }
-    ensures { result ≡ true → IsCrossedIn grid.now tree.now cell }
+    ensures { result ≡ true → IsCrossedIn sides.now.grid.now tree.now cell }
 {
-    let Some(outer) = next_to(grid, inner, dir) else {
+    let Some(outer) = beside(sides, inner, dir) else {
         return false;
     };
     if is_step_up(tree, cell, inner, outer) {
@@ -56,59 +57,59 @@ fn leaves<A: Allocator + Copy, B: Allocator + Copy>(
 }
 
 fn leaves_from<A: Allocator + Copy, B: Allocator + Copy>(
-    grid: &Grid<B>,
+    sides: &Sides<'_, A, B>,
     tree: &Tree<A>,
     cell: u32,
     inner: u32,
 ) -> bool
-    requires grid { HasForm grid.now }
+    requires sides { AreSides sides.now.grid.now sides.now.width sides.now.opens.items }
     requires under { IsUnder (slice_index tree.now.up.items) cell inner }
-    ensures { result ≡ true → IsCrossedIn grid.now tree.now cell }
+    ensures { result ≡ true → IsCrossedIn sides.now.grid.now tree.now cell }
 {
-    if leaves(grid, tree, cell, inner, Dir::North) {
+    if leaves(sides, tree, cell, inner, Dir::North) {
         return true;
     }
-    if leaves(grid, tree, cell, inner, Dir::East) {
+    if leaves(sides, tree, cell, inner, Dir::East) {
         return true;
     }
-    if leaves(grid, tree, cell, inner, Dir::South) {
+    if leaves(sides, tree, cell, inner, Dir::South) {
         return true;
     }
-    leaves(grid, tree, cell, inner, Dir::West)
+    leaves(sides, tree, cell, inner, Dir::West)
 }
 
 /// Whether the tree shows a walk around the edge of the cell and its parent.
 fn is_crossed<A: Allocator + Copy, B: Allocator + Copy>(
-    grid: &Grid<B>,
+    sides: &Sides<'_, A, B>,
     tree: &Tree<A>,
     cell: u32,
 ) -> bool
-    requires grid { HasForm grid.now }
-    requires inside { cell < length grid.now.letters }
-    requires tree { IsSpanning grid.now tree.now }
-    ensures { result ≡ true → IsCrossedIn grid.now tree.now cell }
+    requires sides { AreSides sides.now.grid.now sides.now.width sides.now.opens.items }
+    requires inside { cell < length sides.now.grid.now.letters }
+    requires tree { IsSpanning sides.now.grid.now tree.now }
+    ensures { result ≡ true → IsCrossedIn sides.now.grid.now tree.now cell }
 {
-    leaves_from(grid, tree, cell, read(&tree.low, cell))
+    leaves_from(sides, tree, cell, read(&tree.low, cell))
 }
 
 /// Whether the tree shows a walk around the edge.
 #[tactic(auto, using(crate::proofs::Rounds::round_up, crate::proofs::Rounds::round_down, crate::proofs::Rounds::round_off))]
 fn is_round<A: Allocator + Copy, B: Allocator + Copy>(
-    grid: &Grid<B>,
+    sides: &Sides<'_, A, B>,
     tree: &Tree<A>,
     a: u32,
     b: u32,
 ) -> bool
-    requires grid { HasForm grid.now }
-    requires tree { IsSpanning grid.now tree.now }
-    requires edge { IsNeighbour grid.now a b }
-    ensures { result ≡ true → AreJoined (NearWithout grid.now a b) a b }
+    requires sides { AreSides sides.now.grid.now sides.now.width sides.now.opens.items }
+    requires tree { IsSpanning sides.now.grid.now tree.now }
+    requires edge { IsNeighbour sides.now.grid.now a b }
+    ensures { result ≡ true → AreJoined (NearWithout sides.now.grid.now a b) a b }
 {
     if read(&tree.up, a) == b {
-        return is_crossed(grid, tree, a);
+        return is_crossed(sides, tree, a);
     }
     if read(&tree.up, b) == a {
-        return is_crossed(grid, tree, b);
+        return is_crossed(sides, tree, b);
     }
     true
 }
@@ -116,40 +117,40 @@ fn is_round<A: Allocator + Copy, B: Allocator + Copy>(
 /// Whether the edge is a bridge: asks the tree, and searches only where the tree shows no walk around.
 fn is_bridge_by<A: Allocator + Copy, B: Allocator + Copy>(
     alloc: A,
-    grid: &Grid<B>,
+    sides: &Sides<'_, A, B>,
     tree: &Tree<A>,
     is_sound: bool,
     a: u32,
     b: u32,
 ) -> Result<bool, AllocError>
-    requires grid { HasForm grid.now }
-    requires tree { is_sound ≡ true → IsSpanning grid.now tree.now }
-    requires edge { IsNeighbour grid.now a b }
-    ensures { IfOk result (λ yes. IsTrue yes ↔ IsBridge (IsNeighbour grid.now) a b) }
+    requires sides { AreSides sides.now.grid.now sides.now.width sides.now.opens.items }
+    requires tree { is_sound ≡ true → IsSpanning sides.now.grid.now tree.now }
+    requires edge { IsNeighbour sides.now.grid.now a b }
+    ensures { IfOk result (λ yes. IsTrue yes ↔ IsBridge (IsNeighbour sides.now.grid.now) a b) }
 {
-    if is_sound && is_round(grid, tree, a, b) {
+    if is_sound && is_round(sides, tree, a, b) {
         return Ok(false);
     }
-    is_bridge(alloc, grid, a, b)
+    is_bridge(alloc, sides.grid, a, b)
 }
 
 /// The far end of the edge in a direction, if that is a bridge.
 fn bridge_beside<A: Allocator + Copy, B: Allocator + Copy>(
     alloc: A,
-    grid: &Grid<B>,
+    sides: &Sides<'_, A, B>,
     tree: &Tree<A>,
     is_sound: bool,
     cell: u32,
     dir: Dir,
 ) -> Result<Option<u32>, AllocError>
-    requires grid { HasForm grid.now }
-    requires tree { is_sound ≡ true → IsSpanning grid.now tree.now }
-    ensures { IfOk result (λ found. MatchOption found (HasNoneBeside grid.now cell dir) (IsBeside grid.now cell dir)) }
+    requires sides { AreSides sides.now.grid.now sides.now.width sides.now.opens.items }
+    requires tree { is_sound ≡ true → IsSpanning sides.now.grid.now tree.now }
+    ensures { IfOk result (λ found. MatchOption found (HasNoneBeside sides.now.grid.now cell dir) (IsBeside sides.now.grid.now cell dir)) }
 {
-    let Some(next) = next_to(grid, cell, dir) else {
+    let Some(next) = beside(sides, cell, dir) else {
         return Ok(None);
     };
-    if is_bridge_by(alloc, grid, tree, is_sound, cell, next)? {
+    if is_bridge_by(alloc, sides, tree, is_sound, cell, next)? {
         return Ok(Some(next));
     }
     Ok(None)
@@ -159,19 +160,19 @@ fn bridge_beside<A: Allocator + Copy, B: Allocator + Copy>(
 #[tactic(auto, using(crate::proofs::Rounds::from_east, crate::proofs::Rounds::from_south, crate::proofs::Rounds::from_none))]
 fn bridge_from<A: Allocator + Copy, B: Allocator + Copy>(
     alloc: A,
-    grid: &Grid<B>,
+    sides: &Sides<'_, A, B>,
     tree: &Tree<A>,
     is_sound: bool,
     cell: u32,
 ) -> Result<Option<u32>, AllocError>
-    requires grid { HasForm grid.now }
-    requires tree { is_sound ≡ true → IsSpanning grid.now tree.now }
-    ensures { IfOk result (λ found. MatchOption found (HasNone grid.now cell) (IsFirstFrom grid.now cell)) }
+    requires sides { AreSides sides.now.grid.now sides.now.width sides.now.opens.items }
+    requires tree { is_sound ≡ true → IsSpanning sides.now.grid.now tree.now }
+    ensures { IfOk result (λ found. MatchOption found (HasNone sides.now.grid.now cell) (IsFirstFrom sides.now.grid.now cell)) }
 {
-    if let Some(east) = bridge_beside(alloc, grid, tree, is_sound, cell, Dir::East)? {
+    if let Some(east) = bridge_beside(alloc, sides, tree, is_sound, cell, Dir::East)? {
         return Ok(Some(east));
     }
-    if let Some(south) = bridge_beside(alloc, grid, tree, is_sound, cell, Dir::South)? {
+    if let Some(south) = bridge_beside(alloc, sides, tree, is_sound, cell, Dir::South)? {
         return Ok(Some(south));
     }
     Ok(None)
@@ -186,9 +187,10 @@ pub fn first_bridge<A: Allocator + Copy, B: Allocator + Copy>(
     ensures { IfOk result (λ found. MatchOption found (IsBridgeless (IsNeighbour grid.now)) (λ it. IsFirstBridge (IsNeighbour grid.now) it.0 it.1)) }
 {
     let count = grid.cell_count();
-    let (tree, is_sound) = spanning_tree(alloc, grid, count)?;
+    let sides = sides_of(alloc, grid)?;
+    let (tree, is_sound) = spanning_tree(alloc, &sides, count)?;
     for cell in 0..count {
-        if let Some(upper) = bridge_from(alloc, grid, &tree, is_sound, cell)? {
+        if let Some(upper) = bridge_from(alloc, &sides, &tree, is_sound, cell)? {
             return Ok(Some((cell, upper)));
         }
     }

@@ -4,6 +4,7 @@
 mod first;
 mod next;
 mod search;
+mod sides;
 mod tree;
 
 pub use first::first_bridge;

@@ -6,10 +6,11 @@
 ghost use Rattle.std.specs.Prelude.{◌≡◌, ℕ, ◌+◌, ◌<◌, ◌≤◌, ◌≢◌, length, vec_len, slice_index, slice_set, IfOk, Some, true};
 ghost use Rattle.fleet_grid.specs.Floor.{IsNeighbour, IsNeighbourIn};
 ghost use Rattle.fleet_bridge.specs.Tree.{IsFit, AreUnder};
+ghost use Rattle.fleet_bridge.specs.Sides.{AreSides};
 ghost use Rattle.fleet_bridge.specs.Spanning.{IsFitIn, IsSpanning};
 
-use crate::next::next_to;
-use fleet_grid::{Dir, Grid};
+use crate::sides::{Sides, beside};
+use fleet_grid::Dir;
 use std::alloc::{AllocError, Allocator, Global};
 
 /// For each cell: its parent (itself, where it has none), the first cell of its part, its number in preorder, the number
@@ -55,59 +56,6 @@ fn own_numbers<A: Allocator + Copy>(alloc: A, count: u32) -> Result<Vec<u32, A>,
     Ok(own)
 }
 
-/// In which directions each cell has a neighbour.
-#[derive(Drop)]
-struct Sides<A: Allocator + Copy = Global> {
-    width: u32,
-    open: Vec<Open, A>,
-}
-
-/// In which directions a cell has a neighbour.
-#[derive(Clone, Copy)]
-struct Open {
-    north: bool,
-    east: bool,
-    south: bool,
-    west: bool,
-}
-
-fn sides_of<A: Allocator + Copy, B: Allocator + Copy>(
-    alloc: A,
-    grid: &Grid<B>,
-    count: u32,
-) -> Result<Sides<A>, AllocError> {
-    let mut open = Vec::with_capacity(alloc, count as usize)?;
-    for cell in 0..count {
-        open.push(Open {
-            north: grid.neighbour(cell, Dir::North).is_some(),
-            east: grid.neighbour(cell, Dir::East).is_some(),
-            south: grid.neighbour(cell, Dir::South).is_some(),
-            west: grid.neighbour(cell, Dir::West).is_some(),
-        })?;
-    }
-    Ok(Sides {
-        width: grid.width(),
-        open,
-    })
-}
-
-/// The neighbour in a direction.
-#[inline(always)]
-fn beside<A: Allocator + Copy>(sides: &Sides<A>, cell: u32, dir: Dir) -> Option<u32> {
-    let at = cell as usize;
-    if at >= sides.open.len() {
-        return None;
-    }
-    let open = sides.open[at];
-    match dir {
-        Dir::North if open.north => Some(cell.saturating_sub(sides.width)),
-        Dir::East if open.east => Some(cell.saturating_add(1)),
-        Dir::South if open.south => Some(cell.saturating_add(sides.width)),
-        Dir::West if open.west => Some(cell.saturating_sub(1)),
-        _ => None,
-    }
-}
-
 /// The cells that were placed, their parents and tops, and the order in which they were placed.
 #[derive(Drop)]
 struct Growth<A: Allocator + Copy = Global> {
@@ -138,8 +86,8 @@ fn place<A: Allocator + Copy>(
 
 /// The neighbour in a direction, unless it is placed.
 #[inline(always)]
-fn unplaced_beside<A: Allocator + Copy>(
-    sides: &Sides<A>,
+fn unplaced_beside<A: Allocator + Copy, B: Allocator + Copy>(
+    sides: &Sides<'_, A, B>,
     growth: &Growth<A>,
     cell: u32,
     dir: Dir,
@@ -154,8 +102,8 @@ fn unplaced_beside<A: Allocator + Copy>(
 
 /// The first neighbour that is not placed.
 #[inline(always)]
-fn first_unplaced<A: Allocator + Copy>(
-    sides: &Sides<A>,
+fn first_unplaced<A: Allocator + Copy, B: Allocator + Copy>(
+    sides: &Sides<'_, A, B>,
     growth: &Growth<A>,
     cell: u32,
 ) -> Option<u32> {
@@ -173,8 +121,8 @@ fn first_unplaced<A: Allocator + Copy>(
 
 /// Places the part of the root, each cell below the last one that had a way to it. So an edge off the tree leads from
 /// a cell to one of those above it.
-fn place_part<A: Allocator + Copy>(
-    sides: &Sides<A>,
+fn place_part<A: Allocator + Copy, B: Allocator + Copy>(
+    sides: &Sides<'_, A, B>,
     growth: &mut Growth<A>,
     count: u32,
     root: u32,
@@ -196,8 +144,7 @@ fn place_part<A: Allocator + Copy>(
 
 fn place_all<A: Allocator + Copy, B: Allocator + Copy>(
     alloc: A,
-    grid: &Grid<B>,
-    sides: &Sides<A>,
+    sides: &Sides<'_, A, B>,
     count: u32,
 ) -> Result<Growth<A>, AllocError> {
     let placed = vec![in alloc; false; count as usize]?;
@@ -212,7 +159,7 @@ fn place_all<A: Allocator + Copy, B: Allocator + Copy>(
     };
     for root in 0..count {
         let is_placed = (root as usize) < growth.placed.len() && growth.placed[root as usize];
-        if grid.is_floor(root) && !is_placed {
+        if sides.grid.is_floor(root) && !is_placed {
             place_part(sides, &mut growth, count, root)?;
         }
     }
@@ -253,8 +200,8 @@ fn widen_ends<A: Allocator + Copy>(growth: &Growth<A>, end: &mut Vec<u32, A>) {
 
 /// The number of the neighbour in a direction, if the edge to it is off the tree.
 #[inline(always)]
-fn reach_beside<A: Allocator + Copy>(
-    sides: &Sides<A>,
+fn reach_beside<A: Allocator + Copy, B: Allocator + Copy>(
+    sides: &Sides<'_, A, B>,
     up: &Vec<u32, A>,
     number: &Vec<u32, A>,
     cell: u32,
@@ -268,8 +215,8 @@ fn reach_beside<A: Allocator + Copy>(
 }
 
 /// The least number that an edge off the tree reaches from the cell, its own counted too.
-fn reach<A: Allocator + Copy>(
-    sides: &Sides<A>,
+fn reach<A: Allocator + Copy, B: Allocator + Copy>(
+    sides: &Sides<'_, A, B>,
     up: &Vec<u32, A>,
     number: &Vec<u32, A>,
     cell: u32,
@@ -297,9 +244,9 @@ fn hand_up<A: Allocator + Copy>(up: &Vec<u32, A>, inner: &mut Vec<u32, A>, cell:
 }
 
 /// Each cell's own reach.
-fn reaches<A: Allocator + Copy>(
+fn reaches<A: Allocator + Copy, B: Allocator + Copy>(
     alloc: A,
-    sides: &Sides<A>,
+    sides: &Sides<'_, A, B>,
     up: &Vec<u32, A>,
     number: &Vec<u32, A>,
     count: u32,
@@ -313,9 +260,9 @@ fn reaches<A: Allocator + Copy>(
 
 /// For each cell one of its subtree that reaches the least number.
 #[tactic(auto, using(crate::proofs::Inner::under_own))]
-fn furthest<A: Allocator + Copy>(
+fn furthest<A: Allocator + Copy, B: Allocator + Copy>(
     alloc: A,
-    sides: &Sides<A>,
+    sides: &Sides<'_, A, B>,
     growth: &Growth<A>,
     number: &Vec<u32, A>,
     count: u32,
@@ -338,30 +285,32 @@ fn furthest<A: Allocator + Copy>(
 
 /// Whether the edge to the neighbour in a direction has one top.
 fn has_one_top<A: Allocator + Copy, B: Allocator + Copy>(
-    grid: &Grid<B>,
+    sides: &Sides<'_, A, B>,
     tree: &Tree<A>,
     cell: u32,
     dir: Dir,
 ) -> bool
-    ensures { result ≡ true → (d : ℕ) → IsNeighbourIn grid.now dir cell d → slice_index tree.now.top.items cell ≡ slice_index tree.now.top.items d }
+    requires sides { AreSides sides.now.grid.now sides.now.width sides.now.opens.items }
+    ensures { result ≡ true → (d : ℕ) → IsNeighbourIn sides.now.grid.now dir cell d → slice_index tree.now.top.items cell ≡ slice_index tree.now.top.items d }
 {
-    match next_to(grid, cell, dir) {
+    match beside(sides, cell, dir) {
         Some(next) => read(&tree.top, cell) == read(&tree.top, next),
         None => true,
     }
 }
 
 fn has_one_top_around<A: Allocator + Copy, B: Allocator + Copy>(
-    grid: &Grid<B>,
+    sides: &Sides<'_, A, B>,
     tree: &Tree<A>,
     cell: u32,
 ) -> bool
-    ensures { result ≡ true → (d : ℕ) → IsNeighbour grid.now cell d → slice_index tree.now.top.items cell ≡ slice_index tree.now.top.items d }
+    requires sides { AreSides sides.now.grid.now sides.now.width sides.now.opens.items }
+    ensures { result ≡ true → (d : ℕ) → IsNeighbour sides.now.grid.now cell d → slice_index tree.now.top.items cell ≡ slice_index tree.now.top.items d }
 {
-    let north = has_one_top(grid, tree, cell, Dir::North);
-    let east = has_one_top(grid, tree, cell, Dir::East);
-    let south = has_one_top(grid, tree, cell, Dir::South);
-    let west = has_one_top(grid, tree, cell, Dir::West);
+    let north = has_one_top(sides, tree, cell, Dir::North);
+    let east = has_one_top(sides, tree, cell, Dir::East);
+    let south = has_one_top(sides, tree, cell, Dir::South);
+    let west = has_one_top(sides, tree, cell, Dir::West);
     if north {
         if east {
             if south {
@@ -374,59 +323,72 @@ fn has_one_top_around<A: Allocator + Copy, B: Allocator + Copy>(
 
 /// Whether the second cell lies in that direction.
 #[tactic(auto, using(crate::proofs::Inner::near_by))]
-fn is_beside<B: Allocator + Copy>(grid: &Grid<B>, a: u32, b: u32, dir: Dir) -> bool
-    ensures { result ≡ true → IsNeighbour grid.now a b }
+fn is_beside<A: Allocator + Copy, B: Allocator + Copy>(
+    sides: &Sides<'_, A, B>,
+    a: u32,
+    b: u32,
+    dir: Dir,
+) -> bool
+    requires sides { AreSides sides.now.grid.now sides.now.width sides.now.opens.items }
+    ensures { result ≡ true → IsNeighbour sides.now.grid.now a b }
 {
-    match next_to(grid, a, dir) {
+    match beside(sides, a, dir) {
         Some(next) => next == b,
         None => false,
     }
 }
 
-fn is_near<B: Allocator + Copy>(grid: &Grid<B>, a: u32, b: u32) -> bool
-    ensures { result ≡ true → IsNeighbour grid.now a b }
+fn is_near<A: Allocator + Copy, B: Allocator + Copy>(
+    sides: &Sides<'_, A, B>,
+    a: u32,
+    b: u32,
+) -> bool
+    requires sides { AreSides sides.now.grid.now sides.now.width sides.now.opens.items }
+    ensures { result ≡ true → IsNeighbour sides.now.grid.now a b }
 {
-    if is_beside(grid, a, b, Dir::North) {
+    if is_beside(sides, a, b, Dir::North) {
         return true;
     }
-    if is_beside(grid, a, b, Dir::East) {
+    if is_beside(sides, a, b, Dir::East) {
         return true;
     }
-    if is_beside(grid, a, b, Dir::South) {
+    if is_beside(sides, a, b, Dir::South) {
         return true;
     }
-    is_beside(grid, a, b, Dir::West)
+    is_beside(sides, a, b, Dir::West)
 }
 
 /// Whether the cell keeps what the proof needs.
 fn is_fit<A: Allocator + Copy, B: Allocator + Copy>(
-    grid: &Grid<B>,
+    sides: &Sides<'_, A, B>,
     tree: &Tree<A>,
     cell: u32,
 ) -> bool
-    ensures { result ≡ true → IsFitIn grid.now tree.now cell }
+    requires sides { AreSides sides.now.grid.now sides.now.width sides.now.opens.items }
+    ensures { result ≡ true → IsFitIn sides.now.grid.now tree.now cell }
 {
     let up = read(&tree.up, cell);
-    if read(&tree.number, cell) >= read(&tree.end, cell) || !has_one_top_around(grid, tree, cell) {
+    if read(&tree.number, cell) >= read(&tree.end, cell) || !has_one_top_around(sides, tree, cell) {
         return false;
     }
     if up == cell {
         return read(&tree.top, cell) == cell;
     }
-    is_near(grid, cell, up)
+    is_near(sides, cell, up)
         && read(&tree.number, up) < read(&tree.number, cell)
         && read(&tree.end, cell) <= read(&tree.end, up)
 }
 
 fn are_fit<A: Allocator + Copy, B: Allocator + Copy>(
-    grid: &Grid<B>,
+    sides: &Sides<'_, A, B>,
     tree: &Tree<A>,
     count: u32,
 ) -> bool
-    ensures { result ≡ true → (c : ℕ) → c < count → IsFitIn grid.now tree.now c }
+    requires sides { AreSides sides.now.grid.now sides.now.width sides.now.opens.items }
+    ensures { result ≡ true → (c : ℕ) → c < count → IsFitIn sides.now.grid.now tree.now c }
 {
     for cell in 0..count {
-        if !is_fit(grid, tree, cell) {
+        if !is_fit(sides, tree, cell) {
             return false;
         }
     }
@@ -436,17 +398,17 @@ fn are_fit<A: Allocator + Copy, B: Allocator + Copy>(
 /// The tree, and whether it passed its check.
 pub(crate) fn spanning_tree<A: Allocator + Copy, B: Allocator + Copy>(
     alloc: A,
-    grid: &Grid<B>,
+    sides: &Sides<'_, A, B>,
     count: u32,
 ) -> Result<(Tree<A>, bool), AllocError>
-    requires { count ≡ length grid.now.letters }
-    ensures { IfOk result (λ it. it.1 ≡ true → IsSpanning grid.now it.0) }
+    requires sides { AreSides sides.now.grid.now sides.now.width sides.now.opens.items }
+    requires count { count ≡ length sides.now.grid.now.letters }
+    ensures { IfOk result (λ it. it.1 ≡ true → IsSpanning sides.now.grid.now it.0) }
 {
-    let sides = sides_of(alloc, grid, count)?;
-    let growth = place_all(alloc, grid, &sides, count)?;
+    let growth = place_all(alloc, sides, count)?;
     let Numbers { number, mut end } = numbers_of(alloc, &growth, count)?;
     widen_ends(&growth, &mut end);
-    let low = furthest(alloc, &sides, &growth, &number, count)?;
+    let low = furthest(alloc, sides, &growth, &number, count)?;
     let Growth {
         placed: _,
         up,
@@ -460,6 +422,6 @@ pub(crate) fn spanning_tree<A: Allocator + Copy, B: Allocator + Copy>(
         end,
         low,
     };
-    let is_sound = are_fit(grid, &tree, count);
+    let is_sound = are_fit(sides, &tree, count);
     Ok((tree, is_sound))
 }

@@ -145,15 +145,15 @@ legal-known_unfinished m h r legal = All-drop (λ e. e.client < clients h) (leng
 
 -- ---- each entry of a legal history
 
-nil_no_push : {X : Type 0} (xs ys : List X) (y : X) → [] ≡ xs ++ y ∷ ys → ⊥
+pub nil_no_push : {X : Type 0} (xs ys : List X) (y : X) → [] ≡ xs ++ y ∷ ys → ⊥
 nil_no_push [] ys y e = cc
 nil_no_push (x ∷ xs) ys y e = cc
 
-record_split : {X : Type 0} (xs before behind : List X) (y e : X) → Type 0
+unfoldable pub record_split : {X : Type 0} (xs before behind : List X) (y e : X) → Type 0
 record_split {X = X} xs before behind y e = ((xs ≡ before) × (y ≡ e)) ⊎ ((rest : List X) × (xs ≡ before ++ e ∷ rest))
 
 -- a list with one more item, split at some item
-last_split : {X : Type 0} (xs before behind : List X) (y e : X) → xs ++ y ∷ [] ≡ before ++ e ∷ behind → record_split xs before behind y e
+pub last_split : {X : Type 0} (xs before behind : List X) (y e : X) → xs ++ y ∷ [] ≡ before ++ e ∷ behind → record_split xs before behind y e
 unfolding record_split
 last_split [] [] behind y e q = inl (refl, cc)
 last_split (x ∷ xs) [] behind y e q = let s : x ≡ e = cc in inr (xs, ap (λ t. t ∷ xs) s)

@@ -1,7 +1,11 @@
 pub mod After
 pub mod Arrivals
 pub mod Legal
+pub mod Numbered
 pub mod Numbers
+pub mod Once
 pub mod Owed
+pub mod Ticks
+pub mod Reach
 pub mod Told
 pub mod WaitLaws

@@ -75,7 +75,7 @@ slice_get_front [] ys z k e = cc
 slice_get_front (x ∷ xs) ys z zero e = e
 slice_get_front (x ∷ xs) ys z (suc k) e = slice_get_front xs ys z k e
 
-All-slice_get : {X : Type 0} (P : X → Type 0) (xs : List X) (x : X) (k : ℕ) → All P xs → slice_get xs k ≡ Some x → P x
+pub All-slice_get : {X : Type 0} (P : X → Type 0) (xs : List X) (x : X) (k : ℕ) → All P xs → slice_get xs k ≡ Some x → P x
 All-slice_get P xs x k a e = subst P (get_or_from_slice_get xs k x x e) (a k x (slice_get_within xs k x e))
 
 rise-push : (xs : List Errand) (y : Errand) → NumbersRise xs → All (λ x. x.client ≡ y.client → x.number < y.number) xs → NumbersRise (xs ++ y ∷ [])

@@ -22,13 +22,13 @@ use Rattle.fleet_history.proofs.Legal.{accepted-rule}
 
 -- ---- sums over robots
 
-sum_range_same : (f g : ℕ → ℕ) (a n : ℕ) → ((r : ℕ) → a ≤ r → r < a + n → f r ≡ g r) → sum_by f (range_with_len a n) ≡ sum_by g (range_with_len a n)
+pub sum_range_same : (f g : ℕ → ℕ) (a n : ℕ) → ((r : ℕ) → a ≤ r → r < a + n → f r ≡ g r) → sum_by f (range_with_len a n) ≡ sum_by g (range_with_len a n)
 sum_range_same f g a zero same = refl
 sum_range_same f g a (suc n) same =
     sum_by-cons f a (range_with_len (a + 1) n)
     ∙ rw (same a (omega arith) (omega arith), sum_range_same f g (a + 1) n (λ r l u. same r (omega arith) (omega arith))) (sym (sum_by-cons g a (range_with_len (a + 1) n)))
 
-sum_range_add : (f g k : ℕ → ℕ) (a n : ℕ) → ((r : ℕ) → a ≤ r → r < a + n → f r ≡ g r + k r) →
+pub sum_range_add : (f g k : ℕ → ℕ) (a n : ℕ) → ((r : ℕ) → a ≤ r → r < a + n → f r ≡ g r + k r) →
     sum_by f (range_with_len a n) ≡ sum_by g (range_with_len a n) + sum_by k (range_with_len a n)
 sum_range_add f g k a zero same = refl
 sum_range_add f g k a (suc n) same =
@@ -36,11 +36,11 @@ sum_range_add f g k a (suc n) same =
     let t = sum_range_add f g k (a + 1) n (λ r l u. same r (omega arith) (omega arith)) in
     omega (arith, sum_by-cons f a (range_with_len (a + 1) n), sum_by-cons g a (range_with_len (a + 1) n), sum_by-cons k a (range_with_len (a + 1) n))
 
-sum_range_zero : (a n : ℕ) → sum_by (λ r. 0) (range_with_len a n) ≡ 0
+pub sum_range_zero : (a n : ℕ) → sum_by (λ r. 0) (range_with_len a n) ≡ 0
 sum_range_zero a zero = refl
 sum_range_zero a (suc n) = sum_by-cons (λ r. 0) a (range_with_len (a + 1) n) ∙ zero-add (sum_by (λ r. 0) (range_with_len (a + 1) n)) ∙ sum_range_zero (a + 1) n
 
-sum_range_one : (robot v a n : ℕ) → a ≤ robot → robot < a + n → sum_by (λ r. cond (eqb robot r) v 0) (range_with_len a n) ≡ v
+pub sum_range_one : (robot v a n : ℕ) → a ≤ robot → robot < a + n → sum_by (λ r. cond (eqb robot r) v 0) (range_with_len a n) ≡ v
 sum_range_one robot v a zero l u = absurd (omega arith)
 sum_range_one robot v a (suc n) l u =
     let f : ℕ → ℕ = λ r. cond (eqb robot r) v 0 in

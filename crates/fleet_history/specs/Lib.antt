@@ -1,7 +1,10 @@
+pub use Rattle.fleet_hooks.specs.Law
 pub mod History
 pub mod Verdicts
 pub mod Legal
 pub mod Notices
 pub mod Waits
+pub mod Waited
 pub mod Laws
+pub mod Numbering
 pub mod Landing

@@ -1,14 +1,13 @@
 -- What the world finds of an order.
-use Rattle.std.proofs.Common.{◌≡◌, ℕ, ◌+◌, ◌*◌, ◌<◌, ◌≤◌, length, Bool, true, false, sym, refl, ap, ◌∙◌, subst, arith}
+use Rattle.std.proofs.Common.{◌≡◌, ℕ, ◌*◌, ◌<◌, length, Bool, true, refl, ap, subst, arith}
 use Rattle.std.specs.Prelude.{slice_index, nat_lt, ◌↔◌, IsTrue}
 use Rattle.std.proofs.lemmas.Bool.{ltb-true, lt-ltb}
 use Rattle.fleet_grid.specs.Floor.{Floor, IsFloor, IsNeighbour}
 use Rattle.fleet_grid.specs.Walk.{AreJoined}
 use Rattle.fleet_queue.specs.Queue.{Queue}
-use Rattle.fleet_book.specs.declared.order.Order.TheVariants.{Go}
 use Rattle.fleet_book.specs.declared.facts.Place.TheVariants.{Absent}
 use Rattle.fleet_history.specs.History.{History, robots, place, unfinished}
-use Rattle.fleet_history.specs.Verdicts.{AreFacts, AreGoFacts}
+use Rattle.fleet_history.specs.Verdicts.{AreGoFacts}
 
 pub facts-are : {A : Type 0} (m : Floor) (h : History A) (robot cell n at : ℕ) (floor part full : Bool) (q : Queue) → robot < robots h → n ≡ m.height * m.width →
     (IsTrue floor ↔ IsFloor m cell) → (IsTrue part ↔ AreJoined (IsNeighbour m) at cell) → at ≡ slice_index (place h) robot →

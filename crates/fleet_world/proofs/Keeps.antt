@@ -1,41 +1,39 @@
 -- What a world keeps stays true when an order is taken, or a robot shut.
-use Rattle.std.proofs.Common.{◌≡◌, ℕ, zero, suc, ◌+◌, ◌-◌, ◌*◌, ◌^◌, ◌<◌, ◌≤◌, List, [], ◌∷◌, ◌++◌, length, map, get_or, cond, eqb, Bool, true, false, ◌||◌, sym, refl, ap, ◌∙◌, subst, arith, inl, inr, add-zero, Option, Some, None, length-append}
-use Rattle.std.specs.Prelude.{slice_set, slice_index, slice_index_or, ◌==◌, ◌↔◌, IsTrue, is_some}
-use Rattle.std.proofs.lemmas.List.{append-nil, append_assoc, length-set, get_or-set_same, get_or-set_other, length_push}
-use Rattle.std.proofs.lemmas.Bool.{eq-eqb, ne_eqb, eqb-false, cases_eq, cases_Bool, or_parts}
+use Rattle.std.proofs.Common.{◌≡◌, ℕ, zero, suc, ◌+◌, ◌*◌, ◌<◌, ◌≤◌, List, [], ◌∷◌, ◌++◌, length, cond, eqb, Bool, true, false, ◌||◌, sym, refl, ap, ◌∙◌, subst, arith, inl, inr, add-zero, Option}
+use Rattle.std.specs.Prelude.{slice_set, slice_index_or, ◌↔◌, IsTrue, is_some}
+use Rattle.std.proofs.lemmas.List.{append-nil, length-set, get_or-set_same, get_or-set_other, length_push}
+use Rattle.std.proofs.lemmas.Bool.{eq-eqb, ne_eqb, eqb-false, cases_eq, cases_Bool}
 use Rattle.std.proofs.Math.Bool.{or-false}
 use Rattle.fleet_grid.specs.Floor.{Floor}
 use Rattle.fleet_queue.specs.declared.errand.Errand.{Errand}
 use Rattle.fleet_queue.specs.Queue.{Queue}
 use Rattle.fleet_book.specs.declared.account.Account.{Account}
 use Rattle.fleet_book.specs.declared.facts.Facts.{Facts}
-use Rattle.fleet_book.specs.declared.facts.Place.{Place}
-use Rattle.fleet_book.specs.declared.facts.Place.TheVariants.{Absent, Front, Behind}
+use Rattle.fleet_book.specs.declared.facts.Place.TheVariants.{Absent}
 use Rattle.fleet_book.specs.declared.limits.Limits.{Limits}
-use Rattle.fleet_book.specs.declared.notice.Notice.{Notice}
 use Rattle.fleet_book.specs.declared.notice.Notice.TheVariants as notice
 use Rattle.fleet_book.specs.declared.order.Order.{Order}
 use Rattle.fleet_book.specs.declared.order.Order.TheVariants.{Go, Close, Withdraw}
 use Rattle.fleet_book.specs.declared.verdict.Verdict.{Verdict}
-use Rattle.fleet_book.specs.declared.verdict.Verdict.TheVariants.{Accepted, Closed, Withdrawn, ClientClosed, NoRobot, RobotShut, NoCell, Blocked, Unreachable, QueueFull, LifeSpent, NoErrand, TooLate}
+use Rattle.fleet_book.specs.declared.verdict.Verdict.TheVariants.{Accepted, Closed, Withdrawn, ClientClosed, NoRobot, RobotShut, NoCell, Blocked, Unreachable, QueueFull, LifeSpent, NoErrand}
 use Rattle.fleet_book.specs.Counts as book
 use Rattle.fleet_book.specs.Counts.{Counts, account_of, with_account, entered, MayEnter, blank}
 use Rattle.fleet_book.specs.Rule.{Standing, verdict_of}
 use Rattle.fleet_history.specs.declared.history.Entry.{Entry}
 use Rattle.fleet_history.specs.declared.history.Entry.TheVariants as entry
-use Rattle.fleet_history.specs.History.{History, after, robots, clients, place, clock, unfinished, owed, accepts, is_take_of, closes, shuts, accepted_count, taken_count, is_closed, is_shut, errand_for, unknown_client}
+use Rattle.fleet_history.specs.History.{History, after, robots, clients, place, clock, unfinished, owed, accepts, closes, accepted_count, taken_count, is_closed, is_shut, errand_for}
 use Rattle.fleet_history.specs.Verdicts.{IsVerdict, AreFacts, AreGoFacts, is_robot_shut}
 use Rattle.fleet_history.specs.Verdicts as verdicts
-use Rattle.fleet_history.specs.Legal.{IsLegal, Fits, IsShutAfter, grown, IsWithinLaw, is_none_left, farewell_law, IsFarewell}
-use Rattle.fleet_history.specs.Notices.{told, told_count, noticed_count}
+use Rattle.fleet_history.specs.Legal.{IsLegal, Fits, grown, is_none_left, IsFarewell}
+use Rattle.fleet_history.specs.Notices.{told, noticed_count}
 use Rattle.fleet_history.proofs.After.{place-after, clock-after, accepted_count-after, taken_count-after, noticed_count-after, closed-after, shut-after}
 use Rattle.fleet_history.proofs.Arrivals.{unfinished-after_take, unfinished-after_shut}
-use Rattle.fleet_history.proofs.Legal.{accepted-rule}
+use Rattle.fleet_history.proofs.Legal.{accepted-rule, length-place, legal-opening}
 use Rattle.fleet_history.proofs.Owed.{owed_more, owed-after_take, owed-after_shut}
 use Rattle.fleet_world.specs.declared.enter.Tally.{Tally}
 use Rattle.fleet_world.specs.Pending.{Pending, no_pending}
 use Rattle.fleet_world.specs.Core.{delivered}
-use Rattle.fleet_world.specs.Kept.{IsKept, IsSmall, HasPlace, account_after, tally_after, queue_at, tally_at, box_at, no_queue, no_tally}
+use Rattle.fleet_world.specs.Kept.{IsKept, IsSmall, HasPlace, account_after, tally_after, queue_at, tally_at, box_at, no_tally}
 
 -- ---- the mailboxes after an entry
 
@@ -316,8 +314,6 @@ IsKept-take {A = A} m limits h cells queues queues' counts tallies boxes tick c 
       few_entries = omega (arith, length_push h.entries e);
       tick_within = k.tick_within;
       valid = k.valid;
-      arrival_laws = k.arrival_laws;
-      farewell_laws = k.farewell_laws;
     }
 
 -- ---- what is kept by a shut
@@ -364,8 +360,6 @@ IsKept-shut {A = A} m limits h cells queues counts tallies boxes tick robot fare
       few_entries = omega (arith, length_push h.entries e);
       tick_within = k.tick_within;
       valid = k.valid;
-      arrival_laws = k.arrival_laws;
-      farewell_laws = k.farewell_laws;
     }
 
 -- the verdict that the book gives is that of the history
@@ -387,24 +381,22 @@ none_left_is [] b e = e.1 refl
 none_left_is (x ∷ xs) true e = cc (e.0 refl)
 none_left_is (x ∷ xs) false e = refl
 
-abbrev stamp_if : Bool → Option ℕ
-stamp_if b = cond b (Some 0) None
-
-farewell_shown : (b : Bool) → is_some (stamp_if b) ≡ b
-farewell_shown true = refl
-farewell_shown false = refl
-
-farewell_stamp : {A : Type 0} (h : History A) (r : ℕ) (b : Bool) → IsWithinLaw (farewell_law h r) 0 → IsFarewell h r (cond b (Some 0) None)
-farewell_stamp h r true law = law
-farewell_stamp h r false law = refl
-
 -- a robot that is not shut may be shut, with a farewell where it has no errands
 pub shut-fits : {A : Type 0} (m : Floor) (limits : Limits) (h : History A) (cells : List ℕ) (queues : List Queue) (counts : Counts) (tallies : List Tally) (boxes : List Pending) (tick robot : ℕ) (b : Bool) (farewell : Option ℕ) →
     IsKept m limits h cells queues counts tallies boxes tick → robot < robots h → book.is_shut counts robot ≡ false → (IsTrue b ↔ ((queue_at queues robot).items ≡ [])) →
-    farewell ≡ cond b (Some 0) None → Fits {A = A} m h (entry.Shut robot farewell)
-shut-fits m limits h cells queues counts tallies boxes tick robot b farewell k known not_shut empty is = rw is record {
+    is_some farewell ≡ b → IsFarewell h robot farewell → Fits {A = A} m h (entry.Shut robot farewell)
+shut-fits m limits h cells queues counts tallies boxes tick robot b farewell k known not_shut empty shown stamp = record {
   known = known;
   first = sym (k.shut robot) ∙ not_shut;
-  leaves = farewell_shown b ∙ none_left_is (queue_at queues robot).items b empty ∙ ap is_none_left (k.queued robot known);
-  stamp = farewell_stamp h robot b (k.farewell_laws robot);
+  leaves = shown ∙ none_left_is (queue_at queues robot).items b empty ∙ ap is_none_left (k.queued robot known);
+  stamp = stamp;
 }
+
+-- there is a cell and a queue for each robot, and 512 robots at most
+pub cells-kept : {A : Type 0} {m : Floor} {limits : Limits} {h : History A} {cells : List ℕ} {queues : List Queue} {counts : Counts} {tallies : List Tally} {boxes : List Pending} {tick : ℕ} →
+    IsKept m limits h cells queues counts tallies boxes tick → length cells ≡ length queues
+cells-kept {m} {h} k = ap length k.placed ∙ length-place m h k.legal ∙ sym k.queue_count
+
+pub robots-kept : {A : Type 0} {m : Floor} {limits : Limits} {h : History A} {cells : List ℕ} {queues : List Queue} {counts : Counts} {tallies : List Tally} {boxes : List Pending} {tick : ℕ} →
+    IsKept m limits h cells queues counts tallies boxes tick → length queues ≤ 512
+robots-kept {m} {h} k = omega (arith, k.queue_count, (legal-opening m h k.legal).few_robots)

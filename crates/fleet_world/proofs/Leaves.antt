@@ -1,5 +1,5 @@
 -- The lists of the clients after a run are those that it leaves.
-use Rattle.std.proofs.Common.{◌≡◌, ℕ, zero, suc, ◌+◌, ◌<◌, List, [], ◌∷◌, ◌++◌, length, map, replicate, get_or, sym, refl, ap, ◌∙◌, subst, arith}
+use Rattle.std.proofs.Common.{◌≡◌, ℕ, zero, suc, ◌+◌, ◌<◌, List, [], length, map, replicate, get_or, sym, refl, ap, ◌∙◌, subst, arith}
 use Rattle.std.specs.Prelude.{slice_index_or}
 use Rattle.std.specs.List.{range_with_len}
 use Rattle.std.proofs.lemmas.List.{length-map, length-replicate, get_or-replicate, get_or-map, ext_get_or}
@@ -9,9 +9,9 @@ use Rattle.fleet_book.specs.declared.limits.Limits.{Limits}
 use Rattle.fleet_book.specs.declared.order.Order.{Order}
 use Rattle.fleet_book.specs.declared.notice.Notice.{Notice}
 use Rattle.fleet_history.specs.History.{History, start, clients, unknown_client}
-use Rattle.fleet_history.specs.Laws.{orders}
+use Rattle.fleet_world.specs.Hooks.{HookLaws}
 use Rattle.fleet_world.specs.Pending.{Pending, no_pending}
-use Rattle.fleet_world.specs.Core.{State, World, Lists, lists, lane, outlet, no_lists, state_of, opened_state, opening_of}
+use Rattle.fleet_world.specs.Core.{World, Lists, lane, outlet, no_lists, state_of, opened_state, opening_of}
 use Rattle.fleet_world.specs.Laws.{RingLaw, KeepsRings}
 use Rattle.fleet_world.specs.Played.{lists_from}
 
@@ -49,10 +49,10 @@ lists-left w ends lanes outlets collected k a b d =
     mapped : (f : ℕ → Lists) (n c : ℕ) → c < n → get_or (map f (range_with_len 0 n)) c no_lists ≡ f c
     mapped f n c l = get_or-map-range_with_len f 0 n c c no_lists l (omega arith)
 
-pub KeepsRings-opened : {A : Type 0} (m : Floor) (starts : List ℕ) (n : ℕ) (limits : Limits) → KeepsRings (opened_state {A = A} m starts n limits)
-KeepsRings-opened {A = A} m starts n limits =
+pub KeepsRings-opened : {A : Type 0} (m : Floor) (starts : List ℕ) (n : ℕ) (limits : Limits) (laws : HookLaws) → KeepsRings (opened_state {A = A} m starts n limits laws)
+KeepsRings-opened {A = A} m starts n limits laws =
     let box : Pending = record { notices = []; limit = limits.mailbox } in
-    let h : History A = start (opening_of starts n limits) in
+    let h : History A = start (opening_of starts n limits laws) in
     record {
       list_count = length-replicate n no_lists ∙ sym (length-replicate n unknown_client);
       box_count = length-replicate n box ∙ sym (length-replicate n unknown_client);

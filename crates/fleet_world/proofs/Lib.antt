@@ -1,5 +1,6 @@
 pub mod Rings
 pub mod Leaves
+pub mod Farewells
 pub mod Fronts
 pub mod Ranges
 pub mod Facts
@@ -8,3 +9,4 @@ pub mod Delivers
 pub mod Keeps
 pub mod Ticked
 pub mod Opens
+pub mod Hooked

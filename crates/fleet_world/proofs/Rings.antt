@@ -1,5 +1,5 @@
 -- Each step of the core keeps the law of the rings, and a legal history.
-use Rattle.std.proofs.Common.{◌≡◌, ◌≢◌, ℕ, zero, suc, ◌+◌, ◌<◌, ◌≤◌, List, [], ◌∷◌, ◌++◌, length, map, take, drop, get_or, cond, eqb, sym, refl, ap, ◌∙◌, subst, arith, inl, inr, Option, Some, None, length-append}
+use Rattle.std.proofs.Common.{◌≡◌, ℕ, ◌<◌, ◌≤◌, List, [], ◌∷◌, ◌++◌, length, drop, sym, refl, ap, ◌∙◌, subst, arith, inl, inr, Some, length-append}
 use Rattle.std.specs.Prelude.{slice_get, slice_set, slice_index_or}
 use Rattle.std.proofs.lemmas.List.{append-nil, append_assoc, length-set, get_or-set_same, get_or-set_other, drop-append-le, drop-drop}
 use Rattle.std.proofs.lemmas.Bool.{cases_eq, eq-eqb, ne_eqb}
@@ -8,11 +8,9 @@ use Rattle.fleet_book.specs.declared.verdict.Verdict.{Verdict}
 use Rattle.fleet_book.specs.declared.notice.Notice.{Notice}
 use Rattle.fleet_history.specs.declared.history.Entry.{Entry}
 use Rattle.fleet_history.specs.declared.history.Entry.TheVariants as entry
-use Rattle.fleet_history.specs.declared.history.Arrival.{Arrival}
-use Rattle.fleet_history.specs.declared.history.Bye.{Bye}
 use Rattle.fleet_history.specs.History.{History, after, clients}
 use Rattle.fleet_history.specs.Legal.{IsLegal, grown}
-use Rattle.fleet_history.specs.Notices.{told, notices}
+use Rattle.fleet_history.specs.Notices.{told}
 use Rattle.fleet_history.specs.Laws.{orders, order_by}
 use Rattle.fleet_history.proofs.Told.{notices-after, orders-after}
 use Rattle.fleet_world.specs.declared.faults.TakeFault.TheVariants as take_fault

@@ -1,8 +1,8 @@
 -- What a world keeps stays true when a tick is made.
-use Rattle.std.proofs.Common.{◌≡◌, ℕ, zero, suc, ◌+◌, ◌-◌, ◌*◌, ◌^◌, ◌<◌, ◌≤◌, List, [], ◌∷◌, ◌++◌, length, map, drop, get_or, cond, eqb, Bool, true, false, ◌&&◌, ◌||◌, not, sym, refl, ap, ◌∙◌, subst, arith, inl, inr, add-zero, Option, Some, None, length-append}
-use Rattle.std.specs.Prelude.{slice_get, slice_set, slice_index, slice_index_or, ◌==◌, count_by, filter, All}
+use Rattle.std.proofs.Common.{◌≡◌, ℕ, zero, suc, ◌+◌, ◌-◌, ◌*◌, ◌<◌, ◌≤◌, List, [], ◌∷◌, ◌++◌, length, map, drop, eqb, Bool, true, false, ◌&&◌, not, sym, refl, ap, ◌∙◌, arith, inl, inr, add-zero, Option, Some, None, length-append}
+use Rattle.std.specs.Prelude.{slice_get, slice_index, slice_index_or, ◌==◌, count_by, filter, All}
 use Rattle.std.specs.List.{flat_map, range_with_len}
-use Rattle.std.proofs.lemmas.List.{append-nil, length-map, length_push, ext_get_or, length-drop}
+use Rattle.std.proofs.lemmas.List.{length-map, length_push, ext_get_or, length-drop}
 use Rattle.std.proofs.lemmas.List.Sums.{count_by-le-length, length-filter}
 use Rattle.std.proofs.lemmas.List.Elements.{All-nil, All-append}
 use Rattle.std.proofs.lemmas.Bool.{cases_Bool, cond_both}
@@ -11,19 +11,17 @@ use Rattle.fleet_grid.specs.Floor.{Floor}
 use Rattle.fleet_grid.specs.Step.{IsConflictFree}
 use Rattle.fleet_queue.specs.declared.errand.Errand.{Errand}
 use Rattle.fleet_queue.specs.Queue.{Queue}
-use Rattle.fleet_book.specs.declared.account.Account.{Account}
 use Rattle.fleet_book.specs.declared.limits.Limits.{Limits}
-use Rattle.fleet_book.specs.Counts as book
 use Rattle.fleet_book.specs.Counts.{Counts, account_of}
-use Rattle.fleet_hooks.specs.declared.law.StampLaw.{StampLaw}
+use Rattle.fleet_hooks.specs.Law.{IsStamp}
 use Rattle.fleet_history.specs.declared.history.Arrival.{Arrival}
 use Rattle.fleet_history.specs.declared.history.Bye.{Bye}
 use Rattle.fleet_history.specs.declared.history.Entry.{Entry}
 use Rattle.fleet_history.specs.declared.history.Entry.TheVariants as entry
-use Rattle.fleet_history.specs.History.{History, after, robots, clients, place, clock, unfinished, front, owed, accepted_count, taken_count, is_closed, is_shut, arrivals, accepted}
+use Rattle.fleet_history.specs.History.{History, after, robots, clients, unfinished, front, owed, is_closed, is_shut}
 use Rattle.fleet_history.specs.Landing.{landed}
-use Rattle.fleet_history.specs.Legal.{Due, due_of, due_at, due, IsTickAfter, IsLegal, grown, leaving, is_leaving, is_done, is_none_left, robot_if, IsWithinLaw, arrival_law, farewell_law}
-use Rattle.fleet_history.specs.Notices.{told, arrival_notices, noticed_count}
+use Rattle.fleet_history.specs.Legal.{Due, due_of, due_at, due, IsTickAfter, grown, leaving, is_leaving, is_done, is_none_left, robot_if, arrival_law, farewell_law}
+use Rattle.fleet_history.specs.Notices.{arrival_notices}
 use Rattle.fleet_history.proofs.After.{place-after, clock-after, accepted_count-after, taken_count-after, noticed_count-after, closed-after, shut-after}
 use Rattle.fleet_history.proofs.Arrivals.{unfinished-after_tick}
 use Rattle.fleet_history.proofs.Legal.{All-single, All-from_map, head_all, legal-known_unfinished, legal-opening}
@@ -31,8 +29,9 @@ use Rattle.fleet_history.proofs.Owed.{owed-after_tick}
 use Rattle.fleet_world.specs.declared.enter.Tally.{Tally}
 use Rattle.fleet_world.specs.Pending.{Pending, no_pending}
 use Rattle.fleet_world.specs.Core.{delivered}
-use Rattle.fleet_world.specs.Kept.{IsKept, IsSmall, account_after, tally_after, queue_at, tally_at, box_at, is_last_landing}
+use Rattle.fleet_world.specs.Kept.{IsKept, IsSmall, account_after, tally_after, queue_at, tally_at, box_at, is_last_landing, is_leaver, leavers, dues}
 use Rattle.fleet_world.proofs.Delivers.{told_more, box_more, settled, length-arrival_notices}
+use Rattle.fleet_world.proofs.Farewells.{range-le, robot_if-le, due_at-le}
 use Rattle.fleet_world.proofs.Keeps.{told_to}
 
 -- ---- the mailboxes after an entry, one by one
@@ -62,14 +61,6 @@ due_same_range to f g a zero same = refl
 due_same_range to f g a (suc n) same =
     rw (same a (omega arith) (omega arith), due_same_range to f g (a + 1) n (λ r l u. same r (omega arith) (omega arith))) refl
 
-due_at-le : (to : List ℕ) (r : ℕ) (o : Option Errand) → length (due_at to r o) ≤ 1
-due_at-le to r None = omega arith
-due_at-le to r (Some f) =
-    elim (cases_Bool (eqb f.cell (slice_index to r))) [
-      | inl e ↦ rw e (omega arith)
-      | inr e ↦ rw e (omega arith)
-    ]
-
 due_range-le : (to : List ℕ) (g : ℕ → Option Errand) (a n : ℕ) → length (flat_map (λ r. due_at to r (g r)) (range_with_len a n)) ≤ n
 due_range-le to g a zero = omega arith
 due_range-le to g a (suc n) = omega (arith, length-append (due_at to a (g a)) (flat_map (λ r. due_at to r (g r)) (range_with_len (a + 1) n)), due_at-le to a (g a), due_range-le to g (a + 1) n)
@@ -97,12 +88,6 @@ leaving_same_range f g a zero same = refl
 leaving_same_range f g a (suc n) same =
     rw (same a (omega arith) (omega arith), leaving_same_range f g (a + 1) n (λ r l u. same r (omega arith) (omega arith))) refl
 
-leaving_range-le : (g : ℕ → Bool) (a n : ℕ) → length (flat_map (λ r. robot_if (g r) r) (range_with_len a n)) ≤ n
-leaving_range-le g a zero = omega arith
-leaving_range-le g a (suc n) =
-    let one : length (robot_if (g a) a) ≤ 1 = elim (cases_Bool (g a)) [ inl e ↦ rw e (omega arith) | inr e ↦ rw e (omega arith) ] in
-    omega (arith, length-append (robot_if (g a) a) (flat_map (λ r. robot_if (g r) r) (range_with_len (a + 1) n)), leaving_range-le g (a + 1) n)
-
 -- a shut robot is done for the first time where its last errand is
 last_leaves : (shut : Bool) (to : List ℕ) (r : ℕ) (u : List Errand) →
     is_last_landing shut to r u ≡ (not (shut && is_none_left u) && (shut && is_none_left (drop (length (landed to r (slice_get u 0))) u)))
@@ -115,9 +100,15 @@ last_leaves true to r (f ∷ u) =
     ]
 last_leaves false to r (f ∷ u) = refl
 
+done_drop : (b : Bool) (u : List Errand) (n : ℕ) → (b && is_none_left u) ≡ true → (b && is_none_left (drop n u)) ≡ true
+done_drop b [] zero e = e
+done_drop b [] (suc n) e = e
+done_drop true (x ∷ xs) n e = cc
+done_drop false (x ∷ xs) n e = cc
+
 module _ {A : Type 0} (m : Floor) (limits : Limits) (h : History A) (cells : List ℕ) (queues : List Queue) (counts : Counts) (tallies : List Tally) (boxes : List Pending) (tick : ℕ)
     (to : List ℕ) (arrived : List Arrival) (k : IsKept m limits h cells queues counts tallies boxes tick)
-    (shows : map due_of arrived ≡ flat_map (λ r. due_at to r (slice_get (queue_at queues r).items 0)) (range_with_len 0 (length queues))) where
+    (shows : map due_of arrived ≡ dues queues to (length queues)) where
   due-from : map due_of arrived ≡ due h to
   due-from = shows ∙ rw k.queue_count (due_same_range to (λ r. slice_get (queue_at queues r).items 0) (front h) 0 (robots h) (λ r l u. ap (λ q. slice_get q 0) (k.queued r (omega arith))))
 
@@ -140,39 +131,46 @@ module _ {A : Type 0} (m : Floor) (limits : Limits) (h : History A) (cells : Lis
   pub owed-kept : (farewells : List Bye) (c : ℕ) → owed (after h (entry.Tick to arrived farewells)) c + count_by (λ a. a.client == c) arrived ≡ owed h c
   owed-kept farewells c = owed-after_tick h c to arrived farewells due-from
 
-  pub leaves-kept : (farewells : List Bye) → map (λ b. b.robot) farewells ≡ flat_map (λ r. robot_if (is_last_landing (book.is_shut counts r) to r (queue_at queues r).items) r) (range_with_len 0 (length queues)) →
+  -- who leaves by the queues leaves by the history
+  pub leaver-kept : (farewells : List Bye) (r : ℕ) → r < robots h → is_leaver counts queues to r ≡ is_leaving h (after h (entry.Tick to arrived farewells)) r
+  leaver-kept farewells r l =
+      let e : Entry A = entry.Tick to arrived farewells in
+      let items = k.queued r l in
+      let left = unfinished-after_tick h to arrived farewells r l due-from in
+      let shut : is_shut (after h e) r ≡ is_shut h r = shut-after h r e ∙ or-false (is_shut h r) in
+      rw (k.shut r, items, left, shut) (last_leaves (is_shut h r) to r (unfinished h r))
+
+  pub leaves-kept : (farewells : List Bye) → map (λ b. b.robot) farewells ≡ leavers counts queues to (length queues) →
       map (λ b. b.robot) farewells ≡ leaving h (after h (entry.Tick to arrived farewells))
   leaves-kept farewells leaves =
       let e : Entry A = entry.Tick to arrived farewells in
       leaves ∙ rw k.queue_count
-      (leaving_same_range (λ r. is_last_landing (book.is_shut counts r) to r (queue_at queues r).items) (is_leaving h (after h e)) 0 (robots h)
-      (λ r l u.
-      let items = k.queued r (omega arith) in
-      let left = unfinished-after_tick h to arrived farewells r (omega arith) due-from in
-      let shut : is_shut (after h e) r ≡ is_shut h r = shut-after h r e ∙ or-false (is_shut h r) in
-      rw (k.shut r, items, left, shut) (last_leaves (is_shut h r) to r (unfinished h r))))
+      (leaving_same_range (is_leaver counts queues to) (is_leaving h (after h e)) 0 (robots h)
+      (λ r l u. leaver-kept farewells r (omega arith)))
 
-  pub few_leave-kept : (farewells : List Bye) → map (λ b. b.robot) farewells ≡ flat_map (λ r. robot_if (is_last_landing (book.is_shut counts r) to r (queue_at queues r).items) r) (range_with_len 0 (length queues)) →
+  -- who is done stays so
+  pub done-kept : (farewells : List Bye) (r : ℕ) → r < robots h → is_done h r ≡ true → is_done (after h (entry.Tick to arrived farewells)) r ≡ true
+  done-kept farewells r l was =
+      let e : Entry A = entry.Tick to arrived farewells in
+      let left = unfinished-after_tick h to arrived farewells r l due-from in
+      let shut : is_shut (after h e) r ≡ is_shut h r = shut-after h r e ∙ or-false (is_shut h r) in
+      rw (left, shut) (done_drop (is_shut h r) (unfinished h r) (length (landed to r (front h r))) was)
+
+  pub few_leave-kept : (farewells : List Bye) → map (λ b. b.robot) farewells ≡ leavers counts queues to (length queues) →
       length farewells ≤ 512
   few_leave-kept farewells leaves =
-      omega (arith, length-map farewells (λ (b : Bye). b.robot), ap length leaves, leaving_range-le (λ r. is_last_landing (book.is_shut counts r) to r (queue_at queues r).items) 0 (length queues), k.queue_count, (legal-opening m h k.legal).few_robots)
-
-  zero_stamps : (xs : List Arrival) → All (λ a. a.stamp ≡ 0) xs → All (λ a. IsWithinLaw (arrival_law h a.robot) a.stamp) xs
-  zero_stamps xs z j d l = rw (z j d l) (k.arrival_laws (get_or xs j d).robot)
-
-  zero_last_stamps : (xs : List Bye) → All (λ b. b.stamp ≡ 0) xs → All (λ b. IsWithinLaw (farewell_law h b.robot) b.stamp) xs
-  zero_last_stamps xs z j d l = rw (z j d l) (k.farewell_laws (get_or xs j d).robot)
+      omega (arith, length-map farewells (λ (b : Bye). b.robot), ap length leaves, range-le (λ r. robot_if (is_leaver counts queues to r) r) (length queues) (λ r. robot_if-le (is_leaver counts queues to r) r), k.queue_count, (legal-opening m h k.legal).few_robots)
 
   -- a conflict-free step with the arrivals and farewells that are due is a tick that fits
-  pub fits-kept : (farewells : List Bye) → IsConflictFree m cells to → All (λ a. a.stamp ≡ 0) arrived →
-      map (λ b. b.robot) farewells ≡ flat_map (λ r. robot_if (is_last_landing (book.is_shut counts r) to r (queue_at queues r).items) r) (range_with_len 0 (length queues)) →
-      All (λ b. b.stamp ≡ 0) farewells → IsTickAfter m h to arrived farewells
+  pub fits-kept : (farewells : List Bye) → IsConflictFree m cells to → All (λ a. IsStamp (arrival_law h a.robot) a.stamp) arrived →
+      map (λ b. b.robot) farewells ≡ leavers counts queues to (length queues) →
+      All (λ b. IsStamp (farewell_law h b.robot) b.stamp) farewells → IsTickAfter m h to arrived farewells
   fits-kept farewells step stamps leaves last_stamps = record {
     step = rw (← k.placed) step;
     shows = due-from;
-    stamps = zero_stamps arrived stamps;
+    stamps = stamps;
     leaves = leaves-kept farewells leaves;
-    last_stamps = zero_last_stamps farewells last_stamps;
+    last_stamps = last_stamps;
   }
 
 -- ---- what is kept by a tick
@@ -241,6 +239,4 @@ IsKept-tick {A = A} m limits h cells queues queues' counts counts' tallies talli
       few_entries = omega (arith, length_push h.entries e);
       tick_within = omega arith;
       valid = k.valid;
-      arrival_laws = k.arrival_laws;
-      farewell_laws = k.farewell_laws;
     }

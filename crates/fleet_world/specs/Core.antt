@@ -1,6 +1,9 @@
 -- The core: what each event does to the history and to the lists of the clients.
-use Rattle.std.specs.Prelude.{ℕ, ◌+◌, false, true, ◌≡◌, ◌<◌, ◌≤◌, List, [], ◌∷◌, ◌++◌, Option, Some, None, take, drop, length, slice_get, slice_index_or, slice_set, map, replicate}
+use Rattle.std.specs.Prelude.{ℕ, ◌+◌, false, true, ◌≡◌, ◌<◌, ◌≤◌, List, [], ◌∷◌, ◌++◌, Option, Some, None, drop, length, slice_get, slice_index_or, slice_set, map, replicate, slice_index}
+use Rattle.std.specs.List.{range_with_len}
 use Rattle.fleet_grid.specs.Floor.{Floor}
+use Rattle.fleet_hooks.specs.declared.law.StampLaw.{StampLaw}
+use Rattle.fleet_hooks.specs.declared.law.TieLaw.{TieLaw}
 use Rattle.fleet_book.specs.declared.order.Order.{Order}
 use Rattle.fleet_book.specs.declared.limits.Limits.{Limits}
 use Rattle.fleet_book.specs.declared.notice.Notice.{Notice}
@@ -13,7 +16,7 @@ use Rattle.fleet_history.specs.declared.history.Entry.{Entry}
 use Rattle.fleet_history.specs.declared.history.Entry.TheVariants as entry
 use Rattle.fleet_history.specs.History.{History, after, start, robots, clients, clock, owed, is_shut, unknown_client}
 use Rattle.fleet_history.specs.Verdicts.{IsVerdict}
-use Rattle.fleet_history.specs.Legal.{Fits, no_law}
+use Rattle.fleet_history.specs.Legal.{Fits}
 use Rattle.fleet_history.specs.Notices.{told, seq_of}
 use Rattle.fleet_world.specs.declared.faults.TickReport.{TickReport}
 use Rattle.fleet_world.specs.declared.faults.TakeFault.TheVariants as take_fault
@@ -23,6 +26,7 @@ use Rattle.fleet_world.specs.declared.events.Event.{Event}
 use Rattle.fleet_world.specs.declared.events.Event.TheVariants.{Post, Take, Tick, Give, Collect, Shut}
 use Rattle.fleet_world.specs.declared.events.Reply.{Reply}
 use Rattle.fleet_world.specs.declared.events.Reply.TheVariants.{Posted, LaneFull, Took, LaneEmpty, TakeRefused, Ticked, TickRefused, Gave, NothingPending, OutletFull, Collected, NothingThere, ShutDone, ShutRefused, NoClient}
+use Rattle.fleet_world.specs.Hooks.{HookLaws, law_at}
 use Rattle.fleet_world.specs.Pending.{Pending, no_pending}
 
 -- ---- what a world holds
@@ -30,6 +34,8 @@ use Rattle.fleet_world.specs.Pending.{Pending, no_pending}
 pub record World (A : Type 0) : Type 0 where
   pub floor : Floor
   pub limits : Limits
+  -- the laws of the robots' tie closures
+  pub ties : List TieLaw
   -- the chapter's number, and its history
   pub number : ℕ
   pub history : History A
@@ -50,6 +56,7 @@ abbrev pub grown : {A : Type 0} → World A → Entry A → World A
 grown w e = record {
   floor = w.floor;
   limits = w.limits;
+  ties = w.ties;
   number = w.number;
   history = after w.history e;
   mailboxes = delivered w.history e 0 w.mailboxes;
@@ -60,6 +67,7 @@ abbrev pub without_first : {A : Type 0} → World A → ℕ → World A
 without_first w c = record {
   floor = w.floor;
   limits = w.limits;
+  ties = w.ties;
   number = w.number;
   history = w.history;
   mailboxes = slice_set w.mailboxes c (record { notices = drop 1 (pending w c).notices; limit = (pending w c).limit });
@@ -214,21 +222,36 @@ Run s (event ∷ events) [] t = ⊥
 
 -- ---- the opening
 
-abbrev pub robot_at : {A : Type 0} → ℕ → RobotState A
-robot_at cell = record { cell = cell; shut = false; wait = None; errands = []; arrival_law = no_law; farewell_law = no_law }
+-- a robot at the opening
+abbrev pub robot_at : {A : Type 0} → List ℕ → List StampLaw → List StampLaw → ℕ → RobotState A
+robot_at starts arrivals farewells r = record {
+  cell = slice_index starts r;
+  shut = false;
+  wait = None;
+  errands = [];
+  arrival_law = law_at arrivals r;
+  farewell_law = law_at farewells r;
+}
 
-abbrev pub opening_of : {A : Type 0} → List ℕ → ℕ → Limits → Opening A
-opening_of starts n limits = record { tick = 0; queue = limits.queue; life = limits.life; clients = replicate n unknown_client; robots = map robot_at starts }
+abbrev pub opening_of : {A : Type 0} → List ℕ → ℕ → Limits → HookLaws → Opening A
+opening_of starts n limits laws = record {
+  tick = 0;
+  queue = limits.queue;
+  life = limits.life;
+  clients = replicate n unknown_client;
+  robots = map (robot_at starts laws.arrivals laws.farewells) (range_with_len 0 (length starts));
+}
 
 -- a world that was just opened
-abbrev pub opened_world : {A : Type 0} → Floor → List ℕ → ℕ → Limits → World A
-opened_world m starts n limits = record {
+abbrev pub opened_world : {A : Type 0} → Floor → List ℕ → ℕ → Limits → HookLaws → World A
+opened_world m starts n limits laws = record {
   floor = m;
   limits = limits;
+  ties = laws.ties;
   number = 0;
-  history = start (opening_of starts n limits);
+  history = start (opening_of starts n limits laws);
   mailboxes = replicate n (record { notices = []; limit = limits.mailbox });
 }
 
-abbrev pub opened_state : {A : Type 0} → Floor → List ℕ → ℕ → Limits → State A
-opened_state m starts n limits = record { world = opened_world m starts n limits; clients = replicate n no_lists }
+abbrev pub opened_state : {A : Type 0} → Floor → List ℕ → ℕ → Limits → HookLaws → State A
+opened_state m starts n limits laws = record { world = opened_world m starts n limits laws; clients = replicate n no_lists }

@@ -1,12 +1,13 @@
 -- What a world keeps beside its history, and how it follows from the history.
-use Rattle.std.specs.Prelude.{ℕ, zero, ◌+◌, ◌*◌, ◌≡◌, ◌==◌, ◌&&◌, ◌<◌, ◌≤◌, Bool, false, List, [], ◌∷◌, Option, Some, None, length, slice_index, slice_index_or}
+use Rattle.std.specs.Prelude.{ℕ, ◌+◌, ◌*◌, ◌≡◌, ◌==◌, ◌&&◌, ◌<◌, ◌≤◌, Bool, false, List, [], ◌∷◌, length, slice_get, slice_index, slice_index_or}
+use Rattle.std.specs.List.{flat_map, range_with_len}
 use Rattle.fleet_grid.specs.Floor.{Floor}
 use Rattle.fleet_queue.specs.declared.errand.Errand.{Errand}
 use Rattle.fleet_queue.specs.Queue.{Queue}
 use Rattle.fleet_book.specs.declared.account.Account.{Account}
 use Rattle.fleet_book.specs.declared.limits.Limits.{Limits}
 use Rattle.fleet_book.specs.declared.order.Order.{Order}
-use Rattle.fleet_book.specs.declared.order.Order.TheVariants.{Go, Close, Withdraw}
+use Rattle.fleet_book.specs.declared.order.Order.TheVariants.{Go}
 use Rattle.fleet_book.specs.declared.verdict.Verdict.{Verdict}
 use Rattle.fleet_book.specs.declared.verdict.Verdict.TheVariants.{Accepted}
 use Rattle.fleet_book.specs.Counts as book
@@ -14,7 +15,7 @@ use Rattle.fleet_book.specs.Counts.{Counts, account_of}
 use Rattle.fleet_book.specs.Limits.{AreValid}
 use Rattle.fleet_history.specs.History.{History, place, clock, robots, clients, unfinished, owed, accepted_count, taken_count, is_closed, is_shut}
 use Rattle.fleet_history.specs.Notices.{noticed_count}
-use Rattle.fleet_history.specs.Legal.{IsLegal, IsWithinLaw, arrival_law, farewell_law, is_none_left}
+use Rattle.fleet_history.specs.Legal.{IsLegal, Due, due_at, is_none_left, robot_if}
 use Rattle.fleet_world.specs.declared.enter.Tally.{Tally}
 use Rattle.fleet_world.specs.Pending.{Pending, no_pending}
 
@@ -67,9 +68,6 @@ pub record IsKept {A : Type 0} (m : Floor) (limits : Limits) (h : History A) (ce
   pub few_entries : length h.entries ≤ limits.chapter
   pub tick_within : tick ≤ limits.clock
   pub valid : AreValid limits
-  -- the stamp 0 is in each law
-  pub arrival_laws : (r : ℕ) → IsWithinLaw (arrival_law h r) 0
-  pub farewell_laws : (r : ℕ) → IsWithinLaw (farewell_law h r) 0
 
 -- an accepted errand finds its robot's queue, with room
 abbrev pub HasPlace : List Queue → Order → Verdict → Type 0
@@ -80,3 +78,15 @@ HasPlace queues _ _ = Unit {0}
 abbrev pub is_last_landing : Bool → List ℕ → ℕ → List Errand → Bool
 is_last_landing shut to r [] = false
 is_last_landing shut to r (f ∷ u) = shut && (f.cell == slice_index to r && is_none_left u)
+
+-- the arrivals of the first n robots that stand on their fronts' cells, by number
+abbrev pub dues : List Queue → List ℕ → ℕ → List Due
+dues queues to n = flat_map (λ r. due_at to r (slice_get (queue_at queues r).items 0)) (range_with_len 0 n)
+
+-- whether the robot is shut, and its last errand is done now
+abbrev pub is_leaver : Counts → List Queue → List ℕ → ℕ → Bool
+is_leaver counts queues to r = is_last_landing (book.is_shut counts r) to r (queue_at queues r).items
+
+-- the first n robots of which that is so, by number
+abbrev pub leavers : Counts → List Queue → List ℕ → ℕ → List ℕ
+leavers counts queues to n = flat_map (λ r. robot_if (is_leaver counts queues to r) r) (range_with_len 0 n)

@@ -1,8 +1,8 @@
 -- What holds after every run.
-use Rattle.std.specs.Prelude.{ℕ, ◌+◌, ◌≡◌, ◌<◌, List, ◌++◌, Some, length, slice_get}
+use Rattle.std.specs.Prelude.{ℕ, ◌≡◌, ◌<◌, List, ◌++◌, length}
 use Rattle.fleet_book.specs.declared.notice.Notice.{Notice}
 use Rattle.fleet_history.specs.History.{History, clients}
-use Rattle.fleet_history.specs.Notices.{notices, seq_of}
+use Rattle.fleet_history.specs.Notices.{notices}
 use Rattle.fleet_history.specs.Laws.{orders}
 use Rattle.fleet_world.specs.Core.{State, Lists, lists, lane, outlet, mailbox}
 

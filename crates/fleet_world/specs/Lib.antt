@@ -1,3 +1,4 @@
+pub mod Hooks
 pub mod Pending
 pub mod Opening
 pub mod Core

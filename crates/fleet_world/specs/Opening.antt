@@ -4,6 +4,7 @@ use Rattle.fleet_grid.specs.Floor.{Floor, IsFloor}
 use Rattle.fleet_grid.specs.Step.{IsPlacement}
 use Rattle.fleet_book.specs.declared.limits.Limits.{Limits}
 use Rattle.fleet_book.specs.Limits.{AreValid, IsBetween}
+use Rattle.fleet_world.specs.Hooks.{HookLaws, HaveCount}
 use Rattle.fleet_world.specs.declared.faults.OpenFault.{OpenFault}
 use Rattle.fleet_world.specs.declared.faults.OpenFault.TheVariants as fault
 
@@ -36,19 +37,22 @@ pub record IsFirstShared (starts : List ℕ) (i j : ℕ) : Type 0 where
   pub least : (k l : ℕ) → AreShared starts k l → (i < k) ⊎ ((i ≡ k) × (j ≤ l))
 
 -- what an opening asks for
-pub record CanOpen (m : Floor) (starts : List ℕ) (clients : ℕ) (limits : Limits) : Type 0 where
+pub record CanOpen (m : Floor) (starts : List ℕ) (clients : ℕ) (limits : Limits) (laws : HookLaws) : Type 0 where
   pub range : AreInRange clients limits
   pub robots : AreRobots starts
   pub placed : IsPlacement m starts
+  pub hooks : HaveCount (length starts) laws
 
 -- when an opening is refused for this reason, want of memory apart
-abbrev pub IsRefused : Floor → List ℕ → ℕ → Limits → OpenFault → Type 0
-IsRefused m starts clients limits fault.Limits = AreInRange clients limits → ⊥
-IsRefused m starts clients limits fault.NoRobots = AreInRange clients limits × (AreRobots starts → ⊥)
-IsRefused m starts clients limits (fault.Start r) = AreInRange clients limits × AreRobots starts × IsFirstOffFloor m starts r
-IsRefused m starts clients limits (fault.Shared i j) =
+abbrev pub IsRefused : Floor → List ℕ → ℕ → Limits → HookLaws → OpenFault → Type 0
+IsRefused m starts clients limits laws fault.Limits = AreInRange clients limits → ⊥
+IsRefused m starts clients limits laws fault.NoRobots = AreInRange clients limits × (AreRobots starts → ⊥)
+IsRefused m starts clients limits laws (fault.Start r) = AreInRange clients limits × AreRobots starts × IsFirstOffFloor m starts r
+IsRefused m starts clients limits laws (fault.Shared i j) =
     AreInRange clients limits × AreRobots starts × AreOnFloor m starts × IsFirstShared starts i j
-IsRefused m starts clients limits fault.NoMemory = ⊥
+IsRefused m starts clients limits laws fault.Hooks =
+    AreInRange clients limits × AreRobots starts × IsPlacement m starts × (HaveCount (length starts) laws → ⊥)
+IsRefused m starts clients limits laws fault.NoMemory = ⊥
 
 -- a reason other than want of memory
 abbrev pub IsNamed : OpenFault → Type 0

@@ -13,6 +13,8 @@ pub enum OpenFault {
     Start(u32),
     /// The two robots, the least such pair, start on one cell.
     Shared(u32, u32),
+    /// A list of closures has not one for each robot.
+    Hooks,
     /// Memory was refused.
     NoMemory,
 }

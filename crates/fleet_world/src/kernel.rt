@@ -1,21 +1,24 @@
 //! The core of a world: its map, limits, history and what follows from them. No closure lies inside.
-ghost use Rattle.std.specs.Prelude.{◌≡◌, ◌+◌, ◌*◌, ◌≤◌, ◌<◌, ◌^◌, ◌++◌, ◌∷◌, ◌↔◌, [], List, ℕ, true, false, length, OnOk, OnErr, IfOk, map, slice_index, slice_get, drop, replicate};
+ghost use Rattle.std.specs.Prelude.{All, ◌≡◌, ◌+◌, ◌*◌, ◌≤◌, ◌<◌, ◌^◌, ◌++◌, ◌∷◌, ◌↔◌, [], List, ℕ, true, false, length, OnOk, OnErr, IfOk, map, slice_index, slice_get, drop, replicate};
 ghost use Rattle.fleet_history.specs.History.{history_of, clients, robots, clock, place, is_shut};
 ghost use Rattle.fleet_history.specs.Verdicts.{AreFacts};
-ghost use Rattle.fleet_world.specs.Opening.{CanOpen, IsRefused, IsNamed};
+ghost use Rattle.fleet_hooks.specs.Law.{IsStampLaw};
+ghost use Rattle.fleet_world.specs.Hooks.{AreArrivals, AreFarewells, spare_laws};
+ghost use Rattle.fleet_world.specs.Opening.{CanOpen};
 ghost use Rattle.fleet_world.specs.Core.{Takes, Ticks, Shuts, pending, without_first, opened_world, HasRoom, HasNoRoom, HasEntries, HasNoEntries};
 
 use crate::enter::{Tally, add, enter_take};
-use crate::faults::{OpenFault, ShutFault, TakeFault, TickFault, TickReport};
+use crate::faults::{ShutFault, TakeFault, TickFault, TickReport};
 use crate::mailbox::Mailbox;
 use crate::mover::plan;
-use crate::opening::{
-    blank_tallies, empty_mailboxes, empty_queues, nobodies, opening_fault, robots_at,
+use crate::opening::{blank_tallies, empty_mailboxes, empty_queues, nobodies, robots_at};
+use crate::tick::{
+    arrive, enter_tick, last_word, room_for_arrivals, room_for_farewells, take_leave,
 };
-use crate::tick::{arrivals_at, enter_tick, farewells_at};
 use fleet_book::{Book, Facts, Limits, Notice, Order, Place, Verdict};
 use fleet_grid::Grid;
 use fleet_history::{Chapter, Entry, Opening, Row};
+use fleet_hooks::{ArrivalHook, Farewell, FarewellView, StampLaw, TieLaw};
 use fleet_queue::ErrandQueue;
 use std::alloc::{Alloc, AllocError, Allocator, Global};
 use std::marker::Model;
@@ -26,6 +29,7 @@ use std::marker::Model;
 pub struct Core<A: Allocator + Copy = Global> {
     grid: Grid<A>,
     limits: Limits,
+    ties: Vec<TieLaw, A>,
     chapter: Chapter<A>,
     cells: Vec<u32, A>,
     queues: Vec<ErrandQueue<A>, A>,
@@ -45,6 +49,7 @@ impl<A: Allocator + Copy> Model for Core<A> {
     ghost view = { λ w. record {
       floor = w.grid;
       limits = w.limits;
+      ties = w.ties.items;
       number = w.chapter.number;
       history = history_of w.chapter;
       mailboxes = w.mailboxes.items;
@@ -54,38 +59,23 @@ impl<A: Allocator + Copy> Model for Core<A> {
 }
 
 impl<A: Allocator + Copy> Core<A> {
+    /// The core at the opening of its world, with the laws of its closures.
     pub(crate) fn open(
         alloc: A,
         grid: Grid<A>,
         starts: Vec<u32, A>,
         clients: u32,
         limits: Limits,
-    ) -> Result<Core<A>, OpenFault>
-        ensures refused { (fault : _) → IsNamed fault → ((result ≡ Err fault) ↔ IsRefused grid starts.items clients limits fault) }
-        ensures can { OnOk result (CanOpen grid starts.items clients limits) }
-        ensures ok { IfOk result (λ w. w ≡ opened_world grid starts.items clients limits) }
-    {
-        if let Some(fault) = opening_fault(&grid, starts.as_slice(), clients, limits) {
-            return Err(fault);
-        }
-        match Core::make(alloc, grid, starts, clients, limits) {
-            Ok(core) => Ok(core),
-            Err(AllocError) => Err(OpenFault::NoMemory),
-        }
-    }
-
-    /// The core at the opening of its world.
-    fn make(
-        alloc: A,
-        grid: Grid<A>,
-        starts: Vec<u32, A>,
-        clients: u32,
-        limits: Limits,
+        ties: Vec<TieLaw, A>,
+        arrivals: &[StampLaw],
+        farewells: &[StampLaw],
     ) -> Result<Core<A>, AllocError>
-        requires { CanOpen grid starts.items clients limits }
-        ensures { IfOk result (λ w. w ≡ opened_world grid starts.items clients limits) }
+        requires can { CanOpen grid starts.items clients limits (record { ties = ties.items; arrivals = arrivals.now; farewells = farewells.now }) }
+        requires arrivals { All IsStampLaw arrivals.now }
+        requires farewells { All IsStampLaw farewells.now }
+        ensures { IfOk result (λ w. w ≡ opened_world grid starts.items clients limits (record { ties = ties.items; arrivals = arrivals.now; farewells = farewells.now })) }
     {
-        let robots = robots_at(alloc, starts.as_slice())?;
+        let robots = robots_at(alloc, starts.as_slice(), arrivals, farewells)?;
         let queues = empty_queues(alloc, starts.len(), limits.queue)?;
         let book = Book::new(alloc, clients, starts.len() as u32, limits)?;
         let known = nobodies(alloc, clients as usize)?;
@@ -94,6 +84,7 @@ impl<A: Allocator + Copy> Core<A> {
         Ok(Core {
             grid,
             limits,
+            ties,
             chapter: Chapter {
                 number: 0,
                 opening: Opening {
@@ -189,6 +180,7 @@ impl<A: Allocator + Copy> Core<A> {
         ensures entries { OnOk result (HasEntries self.old) }
         ensures ok { IfOk result (λ v. Takes self.old client order v self.new) }
         ensures err { OnErr result (self.new ≡ self.old) }
+        ensures farewells { (spare : _) → AreFarewells self.old.history spare → AreFarewells self.new.history spare }
     {
         if !self.has_room(client) {
             return Err(TakeFault::MailboxFull);
@@ -211,7 +203,15 @@ impl<A: Allocator + Copy> Core<A> {
         Ok(verdict)
     }
 
-    pub(crate) fn tick<R: Alloc<A = A>>(&mut self, rt: &R) -> Result<TickReport, TickFault>
+    /// A tick, with the robots' closures for arrivals and farewells: each is called when nothing can fail any more.
+    pub(crate) fn tick<R: Alloc<A = A>>(
+        &mut self,
+        rt: &R,
+        arrivals: &[ArrivalHook],
+        farewells: &mut Vec<Option<Farewell>, A>,
+    ) -> Result<TickReport, TickFault>
+        requires arrivals { AreArrivals self.old.history (map (λ h. h.law) arrivals.now) }
+        requires farewells { AreFarewells self.old.history (spare_laws farewells.old.items) }
         ensures clock_spent { (result ≡ Err TickFault.ClockSpent) ↔ (clock self.old.history ≡ self.old.limits.clock) }
         ensures chapter_full { (result ≡ Err TickFault.ChapterFull) ↔
             ((clock self.old.history < self.old.limits.clock) × HasNoEntries self.old) }
@@ -219,6 +219,7 @@ impl<A: Allocator + Copy> Core<A> {
         ensures entries { OnOk result (HasEntries self.old) }
         ensures ok { IfOk result (λ report. Ticks self.old report self.new) }
         ensures err { OnErr result (self.new ≡ self.old) }
+        ensures farewells { AreFarewells self.new.history (spare_laws farewells.new.items) }
     {
         if self.tick >= self.limits.clock {
             return Err(TickFault::ClockSpent);
@@ -226,23 +227,26 @@ impl<A: Allocator + Copy> Core<A> {
         if self.chapter.entries.len() >= self.limits.chapter as usize {
             return Err(TickFault::ChapterFull);
         }
-        let to = plan(
-            rt.alloc(),
-            &self.grid,
-            self.cells.as_slice(),
-            self.queues.as_slice(),
-        )?;
-        let arrived = arrivals_at(rt.alloc(), self.queues.as_slice(), to.as_slice())?;
-        let farewells = farewells_at(
-            rt.alloc(),
+        let queues = self.queues.as_slice();
+        let to = plan(rt.alloc(), &self.grid, self.cells.as_slice(), queues)?;
+        let mut arrived = room_for_arrivals(rt.alloc(), queues, to.as_slice())?;
+        let mut leaving = room_for_farewells(rt.alloc(), &self.book, queues, to.as_slice())?;
+        self.chapter.entries.reserve(1)?;
+        let tick = self.tick + 1;
+        let queues = self.queues.as_slice();
+        arrive(&mut arrived, arrivals, queues, to.as_slice(), tick);
+        take_leave(
+            &mut leaving,
+            farewells,
             &self.book,
-            self.queues.as_slice(),
+            queues,
             to.as_slice(),
-        )?;
+            tick,
+        );
         let report = TickReport {
-            tick: self.tick + 1,
+            tick,
             arrived: arrived.len() as u32,
-            farewells: farewells.len() as u32,
+            farewells: leaving.len() as u32,
         };
         enter_tick(
             &mut self.chapter.entries,
@@ -253,14 +257,20 @@ impl<A: Allocator + Copy> Core<A> {
             &mut self.mailboxes,
             to,
             arrived,
-            farewells,
-            self.tick + 1,
-        )?;
-        self.tick += 1;
+            leaving,
+            tick,
+        );
+        self.tick = tick;
         Ok(report)
     }
 
-    pub(crate) fn shut(&mut self, robot: u32) -> Result<Option<u32>, ShutFault>
+    /// A shut, with the robot's farewell closure, which is called where the robot has no errands.
+    pub(crate) fn shut(
+        &mut self,
+        robot: u32,
+        farewells: &mut Vec<Option<Farewell>, A>,
+    ) -> Result<Option<u32>, ShutFault>
+        requires farewells { AreFarewells self.old.history (spare_laws farewells.old.items) }
         ensures no_robot { (result ≡ Err ShutFault.NoRobot) ↔ (robots self.old.history ≤ robot) }
         ensures already { (result ≡ Err ShutFault.Already) ↔ ((robot < robots self.old.history) × (is_shut self.old.history robot ≡ true)) }
         ensures chapter_full { (result ≡ Err ShutFault.ChapterFull) ↔
@@ -268,6 +278,7 @@ impl<A: Allocator + Copy> Core<A> {
         ensures entries { OnOk result (HasEntries self.old) }
         ensures ok { IfOk result (λ farewell. Shuts self.old robot farewell self.new) }
         ensures err { OnErr result (self.new ≡ self.old) }
+        ensures farewells { AreFarewells self.new.history (spare_laws farewells.new.items) }
     {
         if robot as usize >= self.queues.len() {
             return Err(ShutFault::NoRobot);
@@ -280,7 +291,14 @@ impl<A: Allocator + Copy> Core<A> {
         }
         self.chapter.entries.reserve(1)?;
         let farewell = if self.queues[robot as usize].is_empty() {
-            Some(0)
+            last_word(
+                farewells,
+                FarewellView {
+                    robot,
+                    cell: self.cells[robot as usize],
+                    tick: self.tick,
+                },
+            )
         } else {
             None
         };

@@ -20,5 +20,5 @@ pub use crate::play::{Played, run};
 pub use crate::world::World;
 pub use fleet_book::{Limits, Notice, Order, Verdict};
 pub use fleet_history::{Arrival, Bye, Chapter, ClientState, Entry, Opening, RobotState, Row};
-pub use fleet_hooks::StampLaw;
+pub use fleet_hooks::{Hooks, StampLaw};
 pub use fleet_queue::Errand;

@@ -1,8 +1,11 @@
 //! The opening of a world: why it may be refused, and what it is made of.
-ghost use Rattle.std.specs.Prelude.{◌≡◌, ◌≤◌, ◌<◌, ◌≢◌, [], List, ℕ, length, IfOk, IfSome, MatchOption, map, replicate, slice_index, IsTrue, ◌↔◌};
+ghost use Rattle.std.specs.List.{range_with_len};
+ghost use Rattle.fleet_hooks.specs.Law.{IsStampLaw};
+ghost use Rattle.std.specs.Prelude.{Some, All, ◌≡◌, ◌≤◌, ◌<◌, ◌≢◌, [], List, ℕ, length, IfOk, IfSome, MatchOption, map, replicate, slice_index, IsTrue, ◌↔◌};
 ghost use Rattle.fleet_grid.specs.Floor.{IsFloor};
 ghost use Rattle.fleet_history.specs.History.{unknown_client};
 ghost use Rattle.fleet_world.specs.Opening.{AreInRange, AreRobots, AreOnFloor, IsFirstOffFloor, AreShared, IsFirstShared, CanOpen, IsRefused};
+ghost use Rattle.fleet_world.specs.Hooks.{laws_of, spare_laws, HaveCount};
 ghost use Rattle.fleet_world.specs.Core.{robot_at};
 ghost use Rattle.fleet_world.specs.Kept.{no_tally};
 
@@ -12,7 +15,7 @@ use crate::mailbox::Mailbox;
 use fleet_book::Limits;
 use fleet_grid::Grid;
 use fleet_history::{ClientState, RobotState, Row};
-use fleet_hooks::StampLaw;
+use fleet_hooks::{ArrivalHook, Farewell, Hooks, StampLaw, TieHook, TieLaw};
 use fleet_queue::ErrandQueue;
 use std::alloc::{AllocError, Allocator};
 
@@ -23,9 +26,6 @@ pub(crate) const NOBODY: ClientState = ClientState {
     noticed: 0,
     closed: false,
 };
-
-/// The law of closures that always answer 0.
-const PLAIN: StampLaw = StampLaw { low: 0, high: 0 };
 
 /// The first robot that does not start on floor.
 fn first_off_floor<A: Allocator + Copy>(grid: &Grid<A>, starts: &[u32]) -> Option<u32>
@@ -67,14 +67,22 @@ fn first_shared(starts: &[u32]) -> Option<(u32, u32)>
     None
 }
 
+/// Whether each list has one closure for each robot.
+fn are_enough<A: Allocator + Copy>(hooks: &Hooks<A>, robots: usize) -> bool
+    ensures { IsTrue result ↔ HaveCount robots (laws_of hooks.now) }
+{
+    hooks.ties.len() == robots && hooks.arrivals.len() == robots && hooks.farewells.len() == robots
+}
+
 /// Why a world is not opened, want of memory apart.
 pub(crate) fn opening_fault<A: Allocator + Copy>(
     grid: &Grid<A>,
     starts: &[u32],
     clients: u32,
     limits: Limits,
+    hooks: &Hooks<A>,
 ) -> Option<OpenFault>
-    ensures { MatchOption result (CanOpen grid.now starts.now clients limits) (λ fault. IsRefused grid.now starts.now clients limits fault) }
+    ensures { MatchOption result (CanOpen grid.now starts.now clients limits (laws_of hooks.now)) (λ fault. IsRefused grid.now starts.now clients limits (laws_of hooks.now) fault) }
 {
     if !limits.is_valid() || clients < 1 || clients > 64 {
         return Some(OpenFault::Limits);
@@ -85,28 +93,93 @@ pub(crate) fn opening_fault<A: Allocator + Copy>(
     if let Some(r) = first_off_floor(grid, starts) {
         return Some(OpenFault::Start(r));
     }
-    match first_shared(starts) {
-        Some((i, j)) => Some(OpenFault::Shared(i, j)),
-        None => None,
+    if let Some((i, j)) = first_shared(starts) {
+        return Some(OpenFault::Shared(i, j));
     }
+    if !are_enough(hooks, starts.len()) {
+        return Some(OpenFault::Hooks);
+    }
+    None
+}
+
+/// The laws of tie closures.
+pub(crate) fn tie_laws<A: Allocator + Copy>(
+    alloc: A,
+    hooks: &[TieHook],
+) -> Result<Vec<TieLaw, A>, AllocError>
+    ensures { IfOk result (λ laws. laws.items ≡ map (λ h. h.law) hooks.now) }
+{
+    let mut laws = Vec::new(alloc);
+    for hook in hooks {
+        laws.push(hook.law())?;
+    }
+    Ok(laws)
+}
+
+/// The laws of arrival closures.
+pub(crate) fn arrival_laws<A: Allocator + Copy>(
+    alloc: A,
+    hooks: &[ArrivalHook],
+) -> Result<Vec<StampLaw, A>, AllocError>
+    ensures laws { IfOk result (λ laws. laws.items ≡ map (λ h. h.law) hooks.now) }
+    ensures orderly { IfOk result (λ laws. All IsStampLaw laws.items) }
+{
+    let mut laws = Vec::new(alloc);
+    for hook in hooks {
+        laws.push(hook.law())?;
+    }
+    Ok(laws)
+}
+
+/// The laws of farewell closures.
+pub(crate) fn farewell_laws<A: Allocator + Copy>(
+    alloc: A,
+    hooks: &[Farewell],
+) -> Result<Vec<StampLaw, A>, AllocError>
+    ensures laws { IfOk result (λ laws. laws.items ≡ map (λ h. h.law) hooks.now) }
+    ensures orderly { IfOk result (λ laws. All IsStampLaw laws.items) }
+{
+    let mut laws = Vec::new(alloc);
+    for hook in hooks {
+        laws.push(hook.law())?;
+    }
+    Ok(laws)
+}
+
+/// The farewells, of which none was called yet.
+pub(crate) fn spare<A: Allocator + Copy>(
+    alloc: A,
+    hooks: Vec<Farewell, A>,
+) -> Result<Vec<Option<Farewell>, A>, AllocError>
+    ensures { IfOk result (λ farewells. spare_laws farewells.items ≡ map (λ h. Some h.law) hooks.items) }
+{
+    let mut farewells = Vec::new(alloc);
+    for hook in hooks {
+        farewells.push(Some(hook))?;
+    }
+    Ok(farewells)
 }
 
 /// The robots at the opening.
 pub(crate) fn robots_at<A: Allocator + Copy>(
     alloc: A,
     starts: &[u32],
+    arrivals: &[StampLaw],
+    farewells: &[StampLaw],
 ) -> Result<Vec<RobotState<A>, A>, AllocError>
-    ensures { IfOk result (λ robots. robots.items ≡ map robot_at starts.now) }
+    requires arrivals { length arrivals.now ≡ length starts.now }
+    requires farewells { length farewells.now ≡ length starts.now }
+    ensures { IfOk result (λ robots. robots.items ≡ map (robot_at starts.now arrivals.now farewells.now) (range_with_len 0 (length starts.now))) }
 {
     let mut robots = Vec::new(alloc);
-    for cell in starts {
+    for r in 0..starts.len() {
         robots.push(RobotState {
-            cell: *cell,
+            cell: starts[r],
             shut: false,
             wait: None,
             errands: Row::new(alloc),
-            arrival_law: PLAIN,
-            farewell_law: PLAIN,
+            arrival_law: arrivals[r],
+            farewell_law: farewells[r],
         })?;
     }
     Ok(robots)

@@ -3,11 +3,13 @@ ghost use Rattle.std.specs.Prelude.{◌≡◌, ◌↔◌, List, ℕ, IfOk, map, 
 ghost use Rattle.fleet_history.specs.History.{clients};
 ghost use Rattle.fleet_history.specs.Legal.{IsLegal};
 ghost use Rattle.fleet_history.specs.Notices.{seq_of as seq_of_notice};
+ghost use Rattle.fleet_history.specs.Numbering.{AreNumbered};
 ghost use Rattle.fleet_history.specs.Laws.{ArrivesInOrder, ArrivalsRise, HasNoConflict, AcceptsNoneClosed};
+ghost use Rattle.fleet_world.specs.Hooks.{laws_of};
 ghost use Rattle.fleet_world.specs.Opening.{IsRefused, IsNamed};
 ghost use Rattle.fleet_world.specs.Core.{Lists, lane, outlet, no_lists, Step, Run, state_of, opened_state};
 ghost use Rattle.fleet_world.specs.Laws.{KeepsRings};
-ghost use Rattle.fleet_world.specs.Played.{client_lists};
+ghost use Rattle.fleet_world.specs.Played.{lists_of};
 
 use crate::ends::{Ends, Left};
 use crate::events::{Event, Reply};
@@ -15,6 +17,7 @@ use crate::faults::{OpenFault, RunFault, ShutFault, TakeFault, TickFault};
 use crate::world::World;
 use fleet_book::{Limits, Notice, Order};
 use fleet_grid::Grid;
+use fleet_hooks::Hooks;
 use std::alloc::{Alloc, AllocError, Allocator, Global};
 
 /// What a run leaves, by client where a list is one of lists.
@@ -274,19 +277,21 @@ pub fn run<A: Allocator + Copy, R: Alloc<A = A>>(
     starts: Vec<u32, A>,
     clients: u32,
     limits: Limits,
+    hooks: Hooks<A>,
     events: &[Event],
 ) -> Result<Played<A>, RunFault>
-    ensures refused { (fault : _) → IsNamed fault → ((result ≡ Err (RunFault.Opening fault)) ↔ IsRefused grid starts.items clients limits fault) }
+    ensures refused { (fault : _) → IsNamed fault → ((result ≡ Err (RunFault.Opening fault)) ↔ IsRefused grid starts.items clients limits (laws_of hooks) fault) }
     // The replies, the lists and the history are a run of the core.
-    ensures run { IfOk result (λ p. Run (opened_state grid starts.items clients limits) events.now p.replies.items (state_of p.world.core (client_lists p))) }
+    ensures run { IfOk result (λ p. Run (opened_state grid starts.items clients limits (laws_of hooks)) events.now p.replies.items (state_of p.world.core (lists_of p))) }
     ensures legal { IfOk result (λ p. IsLegal p.world.core.floor p.world.core.history) }
-    ensures rings { IfOk result (λ p. KeepsRings (state_of p.world.core (client_lists p))) }
+    ensures rings { IfOk result (λ p. KeepsRings (state_of p.world.core (lists_of p))) }
     ensures arrivals { IfOk result (λ p. ArrivesInOrder p.world.core.history) }
     ensures numbers { IfOk result (λ p. ArrivalsRise p.world.core.history) }
+    ensures numbered { IfOk result (λ p. (client : ℕ) → AreNumbered p.world.core.history client) }
     ensures conflicts { IfOk result (λ p. HasNoConflict p.world.core.floor p.world.core.history) }
     ensures closes { IfOk result (λ p. AcceptsNoneClosed p.world.core.history) }
 {
-    let mut world = match World::open(rt.alloc(), grid, starts, clients, limits) {
+    let mut world = match World::open(rt.alloc(), grid, starts, clients, limits, hooks) {
         Ok(world) => world,
         Err(fault) => return Err(RunFault::Opening(fault)),
     };

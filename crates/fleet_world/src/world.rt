@@ -1,41 +1,99 @@
 //! The world, as its callers see it.
-ghost use Rattle.std.specs.Prelude.{◌≡◌, ◌≤◌, ◌<◌, ◌↔◌, ℕ, true, false, OnOk, OnErr, IfOk, slice_get};
+ghost use Rattle.std.specs.Prelude.{◌≡◌, ◌≤◌, ◌<◌, ◌↔◌, ℕ, true, false, OnOk, OnErr, IfOk, map, slice_get};
 ghost use Rattle.fleet_history.specs.History.{history_of, clients, robots, clock, place, is_shut};
+ghost use Rattle.fleet_world.specs.Hooks.{laws_of, spare_laws, AreOrderly, AreArrivals, AreFarewells};
 ghost use Rattle.fleet_world.specs.Opening.{CanOpen, IsRefused, IsNamed};
 ghost use Rattle.fleet_world.specs.Core.{Takes, Ticks, Shuts, pending, without_first, opened_world, HasRoom, HasNoRoom, HasEntries, HasNoEntries};
 
 use crate::faults::{OpenFault, ShutFault, TakeFault, TickFault, TickReport};
 use crate::kernel::Core;
+use crate::opening::{arrival_laws, farewell_laws, opening_fault, spare, tie_laws};
 use fleet_book::{Limits, Notice, Order, Verdict};
 use fleet_grid::Grid;
 use fleet_history::Chapter;
-use std::alloc::{Alloc, Allocator, Global};
+use fleet_hooks::{ArrivalHook, Farewell, Hooks, TieHook};
+use std::alloc::{Alloc, AllocError, Allocator, Global};
 
-/// A world: robots on a map, the clients whose orders they carry out, and the history of it all.
+/// A world: robots on a map, the clients whose orders they carry out, the history of it all, and the robots' closures.
 #[derive(Drop)]
 pub struct World<A: Allocator + Copy = Global> {
     /// Its map, limits, history and mailboxes.
     pub core: Core<A>,
+    ties: Vec<TieHook, A>,
+    arrivals: Vec<ArrivalHook, A>,
+    farewells: Vec<Option<Farewell>, A>,
+    ghost tie_laws: { map (λ h. h.law) ties.items ≡ core.ties },
+    ghost arrival_laws: { AreArrivals core.history (map (λ h. h.law) arrivals.items) },
+    ghost spare: { AreFarewells core.history (spare_laws farewells.items) },
 }
 
 impl<A: Allocator + Copy> World<A> {
-    /// Opens a world of `starts.len()` robots, robot r on the cell `starts[r]`, and of so many clients.
+    /// Opens a world of `starts.len()` robots, robot r on the cell `starts[r]`, and of so many clients. The closures are
+    /// the robots', by number.
     ///
     /// Refused in this order: the limits or the number of clients (1 to 64) out of range, the number of robots (1 to 512)
-    /// out of range, a robot that is not on floor, two robots on one cell, want of memory.
+    /// out of range, a robot that is not on floor, two robots on one cell, a list of closures that has not one for each
+    /// robot, want of memory.
     pub fn open(
         alloc: A,
         grid: Grid<A>,
         starts: Vec<u32, A>,
         clients: u32,
         limits: Limits,
+        hooks: Hooks<A>,
     ) -> Result<World<A>, OpenFault>
-        ensures refused { (fault : _) → IsNamed fault → ((result ≡ Err fault) ↔ IsRefused grid starts.items clients limits fault) }
-        ensures can { OnOk result (CanOpen grid starts.items clients limits) }
-        ensures ok { IfOk result (λ w. w.core ≡ opened_world grid starts.items clients limits) }
+        ensures refused { (fault : _) → IsNamed fault → ((result ≡ Err fault) ↔ IsRefused grid starts.items clients limits (laws_of hooks) fault) }
+        ensures can { OnOk result (CanOpen grid starts.items clients limits (laws_of hooks)) }
+        ensures orderly { OnOk result (AreOrderly (laws_of hooks)) }
+        ensures ok { IfOk result (λ w. w.core ≡ opened_world grid starts.items clients limits (laws_of hooks)) }
     {
-        let core = Core::open(alloc, grid, starts, clients, limits)?;
-        Ok(World { core })
+        if let Some(fault) = opening_fault(&grid, starts.as_slice(), clients, limits, &hooks) {
+            return Err(fault);
+        }
+        match World::make(alloc, grid, starts, clients, limits, hooks) {
+            Ok(world) => Ok(world),
+            Err(AllocError) => Err(OpenFault::NoMemory),
+        }
+    }
+
+    /// The world at its opening.
+    fn make(
+        alloc: A,
+        grid: Grid<A>,
+        starts: Vec<u32, A>,
+        clients: u32,
+        limits: Limits,
+        hooks: Hooks<A>,
+    ) -> Result<World<A>, AllocError>
+        requires { CanOpen grid starts.items clients limits (laws_of hooks) }
+        ensures orderly { OnOk result (AreOrderly (laws_of hooks)) }
+        ensures ok { IfOk result (λ w. w.core ≡ opened_world grid starts.items clients limits (laws_of hooks)) }
+    {
+        let Hooks {
+            ties,
+            arrivals,
+            farewells,
+        } = hooks;
+        let tied = tie_laws(alloc, ties.as_slice())?;
+        let arriving = arrival_laws(alloc, arrivals.as_slice())?;
+        let leaving = farewell_laws(alloc, farewells.as_slice())?;
+        let core = Core::open(
+            alloc,
+            grid,
+            starts,
+            clients,
+            limits,
+            tied,
+            arriving.as_slice(),
+            leaving.as_slice(),
+        )?;
+        let farewells = spare(alloc, farewells)?;
+        Ok(World {
+            core,
+            ties,
+            arrivals,
+            farewells,
+        })
     }
 
     /// Where the robots stand, by number.
@@ -87,7 +145,8 @@ impl<A: Allocator + Copy> World<A> {
         ensures ok { IfOk result (λ report. Ticks self.old.core report self.new.core) }
         ensures err { OnErr result (self.new.core ≡ self.old.core) }
     {
-        self.core.tick(rt)
+        self.core
+            .tick(rt, self.arrivals.as_slice(), &mut self.farewells)
     }
 
     /// Shuts a robot: it finishes its errands and gets no more. Answers the farewell's stamp if it has no errands.
@@ -102,7 +161,7 @@ impl<A: Allocator + Copy> World<A> {
         ensures ok { IfOk result (λ farewell. Shuts self.old.core robot farewell self.new.core) }
         ensures err { OnErr result (self.new.core ≡ self.old.core) }
     {
-        self.core.shut(robot)
+        self.core.shut(robot, &mut self.farewells)
     }
 
     /// The first notice that a client was not given yet.

@@ -1,8 +1,8 @@
-use Rattle.std.proofs.Common.{rules, arith, ◌≡◌, ◌∙◌, ◌+◌, ◌<◌, ◌^◌, ℕ, length, get_or, ap, sym, refl, subst, vec_len, take}
+use Rattle.std.proofs.Common.{arith, ◌≡◌, ◌∙◌, ◌+◌, ◌<◌, ℕ, length, get_or, ap, refl, vec_len, take}
 use Rattle.std.proofs.lemmas.List.{get_or_read}
 use Rattle.fleet_world.specs.Kept.{tally_at, box_at, no_tally}
 use Rattle.fleet_world.specs.Pending.{no_pending}
-use Rattle.fleet_world.proofs.Delivers.{told_more, box_more, tallies_more, boxes_more, room-here, told-small, nobody}
+use Rattle.fleet_world.proofs.Delivers.{told_more, tallies_more, boxes_more, room-here, told-small, nobody}
 use Rattle.fleet_world.proofs.enter.deliver.Goals as goal
 use Rattle.fleet_world.proofs.enter.deliver.Goals.{After-index_mut-tally}
 

@@ -1,6 +1,6 @@
-use Rattle.std.proofs.Common.{rules, arith, ◌≡◌, ◌∙◌, ◌<◌, length, get_or, ap, sym, refl, subst}
+use Rattle.std.proofs.Common.{arith, ◌<◌, length, get_or}
 use Rattle.fleet_book.specs.Counts.{account_of}
-use Rattle.fleet_world.proofs.Delivers.{owed-here, accounts_more, nobody, settled}
+use Rattle.fleet_world.proofs.Delivers.{owed-here, nobody}
 use Rattle.fleet_world.proofs.enter.settle_all.Goals as goal
 
 pub settle-requires-clause-owed : goal.settle-requires-clause-owed

@@ -1,5 +1,4 @@
-use Rattle.std.proofs.Common.{rules, arith, ◌≡◌, ◌∙◌, List, length, get_or, ap, sym, refl}
-use Rattle.std.proofs.lemmas.List.{get_or_read}
+use Rattle.std.proofs.Common.{arith}
 use Rattle.fleet_world.proofs.MoveLaws.{free-stay, free-move, free-step}
 use Rattle.fleet_world.proofs.mover.plan.Goals as goal
 use Rattle.fleet_world.proofs.mover.plan.Goals.{in-Some+in-Some-choose, in-Some+in_default-choose, in_default}

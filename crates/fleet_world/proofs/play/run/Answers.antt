@@ -1,11 +1,13 @@
-use Rattle.std.proofs.Common.{rules, arith, ◌≡◌, ◌∙◌, List, length, map, ap, sym, refl, subst}
+use Rattle.std.proofs.Common.{◌≡◌, map, sym, subst}
 use Rattle.fleet_history.specs.Legal.{IsLegal}
 use Rattle.fleet_history.proofs.Arrivals.{arrives-legal}
 use Rattle.fleet_history.proofs.Legal.{no_conflict-legal, none_closed-legal}
 use Rattle.fleet_history.proofs.Numbers.{arrivals_rise-legal}
-use Rattle.fleet_world.specs.Core.{Run, Lists, lane, outlet, state_of, opened_state}
+use Rattle.fleet_history.proofs.Once.{numbered-legal}
+use Rattle.fleet_world.specs.Core.{Run, state_of, opened_state}
+use Rattle.fleet_world.specs.Hooks.{laws_of}
 use Rattle.fleet_world.specs.Laws.{KeepsRings}
-use Rattle.fleet_world.specs.Played.{lists_from, client_lists}
+use Rattle.fleet_world.specs.Played.{client_lists}
 use Rattle.fleet_world.proofs.Opens.{not_refused, legal-opened}
 use Rattle.fleet_world.proofs.Rings.{KeepsRings-run, legal-run}
 use Rattle.fleet_world.proofs.Leaves.{lists-left, KeepsRings-opened}
@@ -13,20 +15,20 @@ use Rattle.fleet_world.proofs.play.run.Goals as goal
 
 pub returns-clause-refused : goal.returns-clause-refused
 returns-clause-refused g c f named =
-    (λ s. cc, λ q. absurd (not_refused c.args.grid c.args.starts.items c.args.clients c.args.limits f c.in-Ok.ensures.can q))
+    (λ s. cc, λ q. absurd (not_refused c.args.grid c.args.starts.items c.args.clients c.args.limits (laws_of c.args.hooks) f c.in-Ok.ensures.can q))
 
 -- the run, from the opening
 played : (g : _) (c : goal.In-Ok-leave_all g) →
-    Run (opened_state c.args.grid c.args.starts.items c.args.clients c.args.limits) c.args.events.now c.in-Ok-run_events.replies.items (state_of c.run_events.new.world.core c.run_events.new.ends.items)
+    Run (opened_state c.args.grid c.args.starts.items c.args.clients c.args.limits (laws_of c.args.hooks)) c.args.events.now c.in-Ok-run_events.replies.items (state_of c.run_events.new.world.core c.run_events.new.ends.items)
 played g c = rw (c.in-Ok.ensures.ok, c.in-Ok-empty_ends.ensures) at c.in-Ok-run_events.ensures.run
 
 rings_kept : (g : _) (c : goal.In-Ok-leave_all g) → KeepsRings (state_of c.run_events.new.world.core c.run_events.new.ends.items)
 rings_kept g c =
-    KeepsRings-run (opened_state c.args.grid c.args.starts.items c.args.clients c.args.limits) (state_of c.run_events.new.world.core c.run_events.new.ends.items)
-    c.args.events.now c.in-Ok-run_events.replies.items (played g c) (KeepsRings-opened c.args.grid c.args.starts.items c.args.clients c.args.limits)
+    KeepsRings-run (opened_state c.args.grid c.args.starts.items c.args.clients c.args.limits (laws_of c.args.hooks)) (state_of c.run_events.new.world.core c.run_events.new.ends.items)
+    c.args.events.now c.in-Ok-run_events.replies.items (played g c) (KeepsRings-opened c.args.grid c.args.starts.items c.args.clients c.args.limits (laws_of c.args.hooks))
 
 lists_are : (g : _) (c : goal.In-Ok-leave_all g) →
-    client_lists (record { world = c.run_events.new.world; lanes = c.in-Ok-leave_all.left.lanes; outlets = c.in-Ok-leave_all.left.outlets; collected = c.in-Ok-leave_all.left.collected; replies = c.in-Ok-run_events.replies })
+    client_lists c.run_events.new.world.core.history (map (λ v. v.items) c.in-Ok-leave_all.left.lanes.items) (map (λ v. v.items) c.in-Ok-leave_all.left.outlets.items) (map (λ v. v.items) c.in-Ok-leave_all.left.collected.items)
     ≡ c.run_events.new.ends.items
 lists_are g c =
     lists-left c.run_events.new.world.core c.run_events.new.ends.items (map (λ v. v.items) c.in-Ok-leave_all.left.lanes.items) (map (λ v. v.items) c.in-Ok-leave_all.left.outlets.items) (map (λ v. v.items) c.in-Ok-leave_all.left.collected.items)
@@ -34,12 +36,12 @@ lists_are g c =
 
 legal_is : (g : _) (c : goal.In-Ok-leave_all g) → IsLegal c.run_events.new.world.core.floor c.run_events.new.world.core.history
 legal_is g c =
-    legal-run (opened_state c.args.grid c.args.starts.items c.args.clients c.args.limits) (state_of c.run_events.new.world.core c.run_events.new.ends.items)
-    c.args.events.now c.in-Ok-run_events.replies.items (played g c) (legal-opened c.args.grid c.args.starts.items c.args.clients c.args.limits c.in-Ok.ensures.can)
+    legal-run (opened_state c.args.grid c.args.starts.items c.args.clients c.args.limits (laws_of c.args.hooks)) (state_of c.run_events.new.world.core c.run_events.new.ends.items)
+    c.args.events.now c.in-Ok-run_events.replies.items (played g c) (legal-opened c.args.grid c.args.starts.items c.args.clients c.args.limits (laws_of c.args.hooks) c.in-Ok.ensures.can c.in-Ok.ensures.orderly)
 
 pub returns-clause-run : goal.returns-clause-run
 returns-clause-run g c =
-    subst (λ l. Run (opened_state c.args.grid c.args.starts.items c.args.clients c.args.limits) c.args.events.now c.in-Ok-run_events.replies.items (state_of c.run_events.new.world.core l)) (sym (lists_are g c)) (played g c)
+    subst (λ l. Run (opened_state c.args.grid c.args.starts.items c.args.clients c.args.limits (laws_of c.args.hooks)) c.args.events.now c.in-Ok-run_events.replies.items (state_of c.run_events.new.world.core l)) (sym (lists_are g c)) (played g c)
 
 pub returns-clause-legal : goal.returns-clause-legal
 returns-clause-legal g c = legal_is g c
@@ -52,6 +54,9 @@ returns-clause-arrivals g c = arrives-legal c.run_events.new.world.core.floor c.
 
 pub returns-clause-numbers : goal.returns-clause-numbers
 returns-clause-numbers g c = arrivals_rise-legal c.run_events.new.world.core.floor c.run_events.new.world.core.history (legal_is g c)
+
+pub returns-clause-numbered : goal.returns-clause-numbered
+returns-clause-numbered g c client = numbered-legal c.run_events.new.world.core.floor c.run_events.new.world.core.history client (legal_is g c)
 
 pub returns-clause-conflicts : goal.returns-clause-conflicts
 returns-clause-conflicts g c = no_conflict-legal c.run_events.new.world.core.floor c.run_events.new.world.core.history (legal_is g c)

@@ -1,8 +1,7 @@
-use Rattle.std.proofs.Common.{rules, arith, ◌≡◌, ◌∙◌, ◌+◌, ◌<◌, List, length, get_or, take, ap, sym, refl}
+use Rattle.std.proofs.Common.{arith}
 use Rattle.std.proofs.lemmas.List.{take_more}
 use Rattle.fleet_book.specs.declared.order.Order.TheVariants.{Go}
 use Rattle.fleet_world.specs.declared.events.Event.TheVariants.{Post}
-use Rattle.fleet_world.specs.Core.{Run, state_of}
 use Rattle.fleet_world.proofs.Fronts.{Run-push}
 use Rattle.fleet_world.proofs.play.run_events.Goals as goal
 

@@ -1,4 +1,4 @@
-use Rattle.std.proofs.Common.{rules, arith, ◌≡◌, ◌∙◌, ◌<◌, ◌≤◌, List, length, get_or, slice_get, slice_set, None, ap, sym, refl}
+use Rattle.std.proofs.Common.{arith, ◌∙◌, slice_set, ap, sym}
 use Rattle.std.proofs.lemmas.List.{get_or_read, set-get_or}
 use Rattle.fleet_world.specs.Core.{no_lists, state_of, lane}
 use Rattle.fleet_world.proofs.Fronts.{nil_from_none}

@@ -1,9 +1,9 @@
-use Rattle.std.proofs.Common.{rules, arith, ◌≡◌, ◌∙◌, ◌<◌, ℕ, length, ap, sym, refl, subst, slice_index}
+use Rattle.std.proofs.Common.{arith, ◌∙◌, ◌<◌, length, ap, slice_index}
 use Rattle.std.proofs.lemmas.List.{get_or_read}
 use Rattle.fleet_queue.specs.Queue.{Queue}
 use Rattle.fleet_history.specs.History.{history_of, robots, place}
 use Rattle.fleet_history.proofs.Legal.{legal-placement, length-place}
-use Rattle.fleet_world.specs.Kept.{queue_at, no_queue}
+use Rattle.fleet_world.specs.Kept.{no_queue}
 use Rattle.fleet_world.proofs.Facts.{facts-are}
 use Rattle.fleet_world.proofs.kernel.Core.facts.Goals as goal
 

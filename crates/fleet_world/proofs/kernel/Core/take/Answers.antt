@@ -1,10 +1,10 @@
-use Rattle.std.proofs.Common.{rules, arith, ◌≡◌, ◌∙◌, ◌+◌, ◌<◌, ◌≤◌, ◌++◌, ◌∷◌, [], List, length, ap, sym, refl, subst}
-use Rattle.fleet_history.specs.History.{history_of, clients, after, owed}
+use Rattle.std.proofs.Common.{arith, ◌<◌, sym, refl, subst}
+use Rattle.fleet_history.specs.History.{history_of, clients}
 use Rattle.fleet_history.specs.Verdicts.{AreFacts, IsVerdict}
-use Rattle.fleet_world.specs.Pending.{Pending}
 use Rattle.fleet_world.specs.Core.{HasRoom}
-use Rattle.fleet_world.specs.Kept.{tally_after, tally_at, box_at}
-use Rattle.fleet_world.proofs.Keeps.{IsKept-take, delivered-take, may-enter, verdict-kept, place-kept, box_judged}
+use Rattle.fleet_world.specs.Hooks.{AreFarewells}
+use Rattle.fleet_world.proofs.Hooked.{farewells-take}
+use Rattle.fleet_world.proofs.Keeps.{IsKept-take, delivered-take, may-enter, verdict-kept, place-kept}
 use Rattle.fleet_world.proofs.kernel.Core.take.Goals as goal
 use Rattle.fleet_world.proofs.kernel.Core.take.Goals.{In_ok-enter_take}
 
@@ -59,3 +59,9 @@ returns-clause-ok g c =
       world = rw (c.in_ok-enter_take.ensures.entries, c.in_ok-enter_take.ensures.mailboxes, k.tallied c.args.client (in_range g c))
           (rw (delivered-take h c.args.client c.args.order c.judge-verdict.result c.self.inside.mailboxes.items (omega (arith, in_range g c, k.box_count))) refl);
     }
+
+pub returns-clause-farewells : goal.returns-clause-farewells
+returns-clause-farewells g c spare k =
+    let h = history_of c.self.inside.chapter in
+    rw c.in_ok-enter_take.ensures.entries
+    (farewells-take h spare (subst (λ w. AreFarewells w.history spare) (sym c.self.view_is) k) c.self.inside.grid c.args.client c.args.order c.judge-verdict.result c.self.invariant.legal (verdict_is g c))

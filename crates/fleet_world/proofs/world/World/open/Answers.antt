@@ -1,5 +1,15 @@
-use Rattle.fleet_world.proofs.Opens.{refused-ok}
+use Rattle.fleet_world.proofs.Opens.{refused-err, refused-ok, refused-memory}
+use Rattle.fleet_world.specs.Hooks.{laws_of}
 use Rattle.fleet_world.proofs.world.World.open.Goals as goal
 
-pub returns-clause-refused : goal.returns-clause-refused
-returns-clause-refused g c f named = refused-ok c.args.grid c.args.starts.items c.args.clients c.args.limits _ f c.in_ok-core.ensures.can
+pub returns-in-Some-clause-refused : goal.returns-in-Some-clause-refused
+returns-in-Some-clause-refused g c f named =
+    refused-err c.args.grid c.args.starts.items c.args.clients c.args.limits (laws_of c.args.hooks) c.in-Some.fault f (rw c.as_slice.ensures.value at c.in-Some.ensures)
+
+pub returns-in-Err-clause-refused : goal.returns-in-Err-clause-refused
+returns-in-Err-clause-refused g c f named =
+    refused-memory c.args.grid c.args.starts.items c.args.clients c.args.limits (laws_of c.args.hooks) f named (rw c.as_slice.ensures.value at c.in_default.ensures)
+
+pub returns-in-Ok-clause-refused : goal.returns-in-Ok-clause-refused
+returns-in-Ok-clause-refused g c f named =
+    refused-ok c.args.grid c.args.starts.items c.args.clients c.args.limits (laws_of c.args.hooks) c.in-Ok.world f (rw c.as_slice.ensures.value at c.in_default.ensures)

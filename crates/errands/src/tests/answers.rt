@@ -1,0 +1,131 @@
+//! Bundles, and what the program answers to them.
+
+use crate::closures::run_with_kit;
+use crate::words::Job;
+
+/// What the program says to a bundle: its status, its output and its complaint.
+fn answers(rt: &HostRuntime, bundle: &[u8], status: u8, output: &[u8], complaint: &[u8]) -> bool {
+    let mut input = bundle;
+    let mut said = Vec::new(rt.alloc());
+    let mut fault = Vec::new(rt.alloc());
+    let met = run_with_kit(rt, &Job::Bundle, &mut input, None, &mut said, &mut fault);
+    met == status && said.as_slice() == output && fault.as_slice() == complaint
+}
+
+#[test]
+fn one_cell(rt: HostRuntime) {
+    let bundle =
+        b"type octile\nheight 1\nwidth 1\nmap\n.\nscript\nrobots 0\npost 0 go 0 0\npost 0 go 0 0\ntake 0\ntake 0\ntick 2\n";
+    let output =
+        b"posted 0 1\nposted 0 2\ntook 0 1 accepted 1\ntook 0 2 accepted 2\ntick 1: 0\narrived robot 0 client 0 number 1 cell 0 stamp 0\ntick 2: 0\narrived robot 0 client 0 number 2 cell 0 stamp 0\n";
+    assert!(rt; answers(&rt, bundle, 0, output, b""));
+}
+
+#[test]
+fn verdicts_by_cell(rt: HostRuntime) {
+    let bundle =
+        b"type octile\nheight 1\nwidth 5\nmap\n.W.@.\nscript\nrobots 0\npost 0 go 0 1\npost 0 go 0 2\npost 0 go 0 5\npost 0 go 1 0\ntake 0\ntake 0\ntake 0\ntake 0\ntake 0\n";
+    let output =
+        b"posted 0 1\nposted 0 2\nposted 0 3\nposted 0 4\ntook 0 1 refused 5 blocked\ntook 0 2 refused 6 unreachable\ntook 0 3 refused 4 no-cell\ntook 0 4 refused 2 no-robot\nlane-empty 0\n";
+    assert!(rt; answers(&rt, bundle, 0, output, b""));
+}
+
+#[test]
+fn queue_and_life(rt: HostRuntime) {
+    let bundle =
+        b"type octile\nheight 1\nwidth 2\nmap\n..\nscript\nrobots 0\nqueue 1\npost 0 go 0 1\npost 0 go 0 0\ntake 0\ntake 0\ntick\npost 0 go 0 0\ntake 0\n";
+    let output =
+        b"posted 0 1\nposted 0 2\ntook 0 1 accepted 1\ntook 0 2 refused 7 queue-full\ntick 1: 1\narrived robot 0 client 0 number 1 cell 1 stamp 0\nposted 0 3\ntook 0 3 accepted 2\n";
+    assert!(rt; answers(&rt, bundle, 0, output, b""));
+}
+
+#[test]
+fn back_pressure(rt: HostRuntime) {
+    let bundle =
+        b"type octile\nheight 1\nwidth 2\nmap\n..\nscript\nrobots 0\nmailbox 2\noutlet 1\npost 0 go 0 1\npost 0 go 0 0\ntake 0\ntake 0\ntick\ngive 0\ngive 0\ntake 0\ncollect 0\ngive 0\ntake 0\n";
+    let output =
+        b"posted 0 1\nposted 0 2\ntook 0 1 accepted 1\ntake-refused 0 1 mailbox-full\ntick 1: 1\narrived robot 0 client 0 number 1 cell 1 stamp 0\ngave 0 1\noutlet-full 0\ntake-refused 0 1 mailbox-full\ncollected 0 1 verdict 1 accepted 1\ngave 0 2\ntook 0 2 accepted 2\n";
+    assert!(rt; answers(&rt, bundle, 0, output, b""));
+}
+
+#[test]
+fn close_and_shut(rt: HostRuntime) {
+    let closed =
+        b"type octile\nheight 1\nwidth 2\nmap\n..\nscript\nrobots 0\npost 0 go 0 1\npost 0 close\npost 0 go 0 0\ntake 0\ntake 0\ntake 0\n";
+    let output =
+        b"posted 0 1\nposted 0 2\nposted 0 3\ntook 0 1 accepted 1\ntook 0 2 closed\ntook 0 3 refused 1 client-closed\n";
+    assert!(rt; answers(&rt, closed, 0, output, b""));
+    let shut =
+        b"type octile\nheight 1\nwidth 2\nmap\n..\nscript\nrobots 0\npost 0 go 0 1\ntake 0\npost 0 go 0 0\nshut 0\ntake 0\ntick\nshut 0\nshut 1\n";
+    let output =
+        b"posted 0 1\ntook 0 1 accepted 1\nposted 0 2\nshut 0\ntook 0 2 refused 3 robot-shut\ntick 1: 1\narrived robot 0 client 0 number 1 cell 1 stamp 0\nfarewell robot 0 stamp 0\nshut-refused 0 2 already\nshut-refused 1 1 no-robot\n";
+    assert!(rt; answers(&rt, shut, 0, output, b""));
+}
+
+#[test]
+fn clock_spent(rt: HostRuntime) {
+    let bundle = b"type octile\nheight 1\nwidth 1\nmap\n.\nscript\nrobots 0\nclock 1\ntick 2\n";
+    assert!(rt;
+        answers(
+            &rt,
+            bundle,
+            8,
+            b"tick 1: 0\ntick-refused 1 clock-spent\n",
+            b"errands: limit\n"
+        )
+    );
+}
+
+#[test]
+fn opening_faults(rt: HostRuntime) {
+    assert!(rt;
+        answers(
+            &rt,
+            b"type octile\nheight 1\nwidth 2\nmap\n.@\nscript\nrobots 1\n",
+            5,
+            b"",
+            b"errands: opening 3 start\n"
+        )
+    );
+    assert!(rt;
+        answers(
+            &rt,
+            b"type octile\nheight 1\nwidth 2\nmap\n.@\nscript\nrobots 0 0\n",
+            5,
+            b"",
+            b"errands: opening 4 shared\n"
+        )
+    );
+    assert!(rt;
+        answers(
+            &rt,
+            b"type octile\nheight 1\nwidth 2\nmap\n.@\nscript\nrobots 0\nmailbox 1\n",
+            5,
+            b"",
+            b"errands: opening 1 limits\n"
+        )
+    );
+}
+
+#[test]
+fn faults_in_their_order(rt: HostRuntime) {
+    assert!(rt; answers(&rt, b"", 5, b"", b"errands: script 1\n"));
+    assert!(rt;
+        answers(
+            &rt,
+            b"no map\nscript\nno script\n",
+            4,
+            b"",
+            b"errands: map header 1\n"
+        )
+    );
+    assert!(rt;
+        answers(
+            &rt,
+            b"type octile\nheight 1\nwidth 1\nmap\n.\nscript\nno script\n",
+            5,
+            b"",
+            b"errands: script 1\n"
+        )
+    );
+}

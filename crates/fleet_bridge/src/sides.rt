@@ -1,0 +1,114 @@
+//! In which directions the cells of a map have neighbours, written down once, so that no later look-up divides.
+
+ghost use Rattle.std.specs.Prelude.{◌≡◌, ℕ, length, vec_len, IfOk, Some, true, false};
+ghost use Rattle.fleet_grid.specs.Floor.{Floor, HasForm, IsNeighbourIn};
+ghost use Rattle.fleet_bridge.specs.Sides.{IsOpen, AreSides, is_open};
+
+use crate::next::next_to;
+use fleet_grid::{Dir, Grid};
+use std::alloc::{AllocError, Allocator};
+
+/// In which directions a cell has a neighbour.
+#[derive(Clone, Copy)]
+pub(crate) struct Open {
+    north: bool,
+    east: bool,
+    south: bool,
+    west: bool,
+}
+
+impl Open {
+    /// Whether there is a neighbour in that direction.
+    #[inline(always)]
+    fn is_open(&self, dir: Dir) -> bool
+        ensures { result ≡ is_open self.now dir }
+    {
+        match dir {
+            Dir::North => self.north,
+            Dir::East => self.east,
+            Dir::South => self.south,
+            Dir::West => self.west,
+        }
+    }
+}
+
+/// A map with the sides of its cells.
+#[derive(Drop)]
+pub(crate) struct Sides<'a, A: Allocator + Copy, B: Allocator + Copy> {
+    pub(crate) grid: &'a Grid<B>,
+    width: u32,
+    opens: Vec<Open, A>,
+}
+
+/// Whether the cell has a neighbour in the direction.
+fn has_neighbour<B: Allocator + Copy>(grid: &Grid<B>, cell: u32, dir: Dir) -> bool
+    ensures yes { result ≡ true → (b : ℕ) × IsNeighbourIn grid.now dir cell b }
+    ensures no { result ≡ false → (b : ℕ) → IsNeighbourIn grid.now dir cell b → ⊥ }
+{
+    match grid.neighbour(cell, dir) {
+        Some(_) => true,
+        None => false,
+    }
+}
+
+/// The sides of a cell.
+fn open_of<B: Allocator + Copy>(grid: &Grid<B>, cell: u32) -> Open
+    ensures { IsOpen grid.now cell result }
+{
+    Open {
+        north: has_neighbour(grid, cell, Dir::North),
+        east: has_neighbour(grid, cell, Dir::East),
+        south: has_neighbour(grid, cell, Dir::South),
+        west: has_neighbour(grid, cell, Dir::West),
+    }
+}
+
+/// The sides of all cells.
+#[tactic(auto, using(crate::proofs::Opens::open_more))]
+pub(crate) fn sides_of<A: Allocator + Copy, B: Allocator + Copy>(
+    alloc: A,
+    grid: &Grid<B>,
+) -> Result<Sides<'_, A, B>, AllocError>
+    ensures grid { IfOk result (λ sides. sides.grid.now ≡ grid.now) }
+    ensures sides { IfOk result (λ sides. AreSides grid.now sides.width sides.opens.items) }
+{
+    let count = grid.cell_count();
+    let mut opens = Vec::with_capacity(alloc, count as usize)?;
+    for cell in 0..count {
+        opens.push(open_of(grid, cell))?;
+    }
+    let width = grid.width();
+    Ok(Sides { grid, width, opens })
+}
+
+/// The cell on that side.
+#[tactic(auto, using(crate::proofs::Opens::north_of, crate::proofs::Opens::east_of, crate::proofs::Opens::south_of, crate::proofs::Opens::west_of, crate::proofs::Opens::small_cell))]
+#[inline(always)]
+fn across(width: u32, cell: u32, dir: Dir) -> u32
+    ensures { (m : Floor) (b : ℕ) → HasForm m → m.width ≡ width → IsNeighbourIn m dir cell b → result ≡ b }
+{
+    match dir {
+        Dir::North => cell.saturating_sub(width),
+        Dir::East => cell.saturating_add(1),
+        Dir::South => cell.saturating_add(width),
+        Dir::West => cell.saturating_sub(1),
+    }
+}
+
+/// The floor cell beside a floor cell in a direction.
+#[inline(always)]
+pub(crate) fn beside<A: Allocator + Copy, B: Allocator + Copy>(
+    sides: &Sides<'_, A, B>,
+    cell: u32,
+    dir: Dir,
+) -> Option<u32>
+    ensures found { AreSides sides.now.grid.now sides.now.width sides.now.opens.items → (b : ℕ) → IsNeighbourIn sides.now.grid.now dir cell b → result ≡ Some b }
+    ensures only { AreSides sides.now.grid.now sides.now.width sides.now.opens.items → (b : ℕ) → result ≡ Some b → IsNeighbourIn sides.now.grid.now dir cell b }
+{
+    let at = cell as usize;
+    if at < sides.opens.len() && sides.opens[at].is_open(dir) {
+        Some(across(sides.width, cell, dir))
+    } else {
+        None
+    }
+}

@@ -1,0 +1,351 @@
+-- Each key is held as often as robots have it.
+use Rattle.std.proofs.Common.{◌≡◌, ◌≢◌, ℕ, suc, ◌+◌, ◌-◌, ◌<◌, ◌≤◌, ◌⊎◌, inl, inr, nat_le, Bool, true, false, cond, List, [], ◌∷◌, length, set, slice_index, Option, Some, None, IsSome, refl, sym, ap, subst, ◌∙◌, arith, rules}
+use Rattle.std.proofs.lemmas.Bool.{cases_eq, cases_Bool, eq-eqb, ne_eqb, eqb-true, leb-true, leb-false, false≢true}
+use Rattle.std.proofs.lemmas.List.{get_or_past}
+use Rattle.std.proofs.lemmas.List.Sums.{sum_by-set, sum_by-cons, count_by-le-length, get_or-le-sum_by}
+use Rattle.std.specs.Option.{is_some}
+use Rattle.fleet_grid.specs.Floor.{Floor}
+use Rattle.fleet_field.specs.Field.{Aim}
+use Rattle.fleet_field.specs.declared.store.Held.{Held}
+use Rattle.fleet_field.specs.Store.{shown, IsOnce, IsHold, IsHeldMore, IsRelease, HasUsesLeft, after_release}
+use Rattle.fleet_field.specs.Several.{AreHeld, times}
+use Rattle.fleet_field.proofs.Shares.{some_once, none_some, once_by}
+use Rattle.fleet_goals.specs.Keys.{key_at, is_key, one_at, holders, uses_in, AreCounted, AreOwn, AreShowing, IsGivenBack, AreKept}
+
+pub something : (o : Option (Held Aim)) → (o ≡ None) ⊎ (held : Held Aim) × (o ≡ Some held)
+something None = inl refl
+something (Some held) = inr (held, refl)
+
+pub some_is : (o : Option (Held Aim)) (held : Held Aim) → o ≡ Some held → IsSome o
+some_is o held e = subst IsSome (sym e) refl
+
+pub some_of : (o : Option (Held Aim)) → IsSome o → (held : Held Aim) × (o ≡ Some held)
+some_of None s = absurd (false≢true s)
+some_of (Some held) s = (held, refl)
+
+-- one key
+
+pub one_same : (k own : ℕ) → own ≡ k → one_at k (Some own) ≡ 1
+one_same k own e = ap (λ (b : Bool). cond b 1 0) (eq-eqb own k e)
+
+pub one_other : (k own : ℕ) → own ≢ k → one_at k (Some own) ≡ 0
+one_other k own ne = ap (λ (b : Bool). cond b 1 0) (ne_eqb own k ne)
+
+-- holders
+
+pub holders_set : (keys : List (Option ℕ)) (robot : ℕ) (key : Option ℕ) (k : ℕ) → robot < length keys → holders (set keys robot key) k + one_at k (key_at keys robot) ≡ holders keys k + one_at k key
+holders_set keys robot key k below = sum_by-set (one_at k) keys robot key None below
+
+pub holders_few : (keys : List (Option ℕ)) (k : ℕ) → holders keys k ≤ length keys
+holders_few keys k = count_by-le-length (is_key k) keys
+
+-- an option that a test has told
+pub none_told : (o : Option ℕ) → is_some o ≡ false → o ≡ None
+none_told None e = refl
+none_told (Some a) e = absurd (false≢true (sym e))
+
+pub some_told : (o : Option ℕ) → is_some o ≡ true → (a : ℕ) × (o ≡ Some a)
+some_told None e = absurd (false≢true e)
+some_told (Some a) e = (a, refl)
+
+some_number : (a b : ℕ) → Some a ≡ Some b → a ≡ b
+some_number a b e = search (rules, e)
+
+pub none_number : (o : Option ℕ) (a : ℕ) → o ≡ None → o ≡ Some a → ⊥
+none_number None a e f = search (rules, f)
+none_number (Some b) a e f = search (rules, e)
+
+-- a robot that has a key is one of them
+pub has_key : (keys : List (Option ℕ)) (robot k : ℕ) → key_at keys robot ≡ Some k → robot < length keys
+has_key keys robot k e = elim (cases_below robot (length keys)) [
+  | inl less ↦ less
+  | inr past ↦ absurd (none_number (key_at keys robot) k (get_or_past keys robot None past) e)
+]
+  where
+    cases_below : (a b : ℕ) → (a < b) ⊎ (b ≤ a)
+    cases_below a b = Rattle.std.proofs.lemmas.Bool.cases_lt a b
+
+pub has_holder : (keys : List (Option ℕ)) (robot k : ℕ) → key_at keys robot ≡ Some k → 0 < holders keys k
+has_holder keys robot k e =
+    let one : one_at k (key_at keys robot) ≡ 1 = ap (one_at k) e ∙ one_same k k refl in
+    let le : one_at k (key_at keys robot) ≤ holders keys k = get_or-le-sum_by (one_at k) keys robot None (has_key keys robot k e) in
+    omega (arith, one, le)
+
+-- and a key that is held belongs to a robot
+pub holder_of : (keys : List (Option ℕ)) (k : ℕ) → 0 < holders keys k → (robot : ℕ) × (key_at keys robot ≡ Some k)
+holder_of [] k some = absurd (omega (arith, some))
+holder_of (None ∷ keys) k some =
+    let c : holders (None ∷ keys) k ≡ 0 + holders keys k = sum_by-cons (one_at k) None keys in
+    let r = holder_of keys k (omega (arith, some, c)) in
+    (suc r.0, r.1)
+holder_of (Some own ∷ keys) k some = elim (cases_eq own k) [
+  | inl same ↦ (0, ap Some same)
+  | inr ne ↦ (
+      let c : holders (Some own ∷ keys) k ≡ one_at k (Some own) + holders keys k = sum_by-cons (one_at k) (Some own) keys in
+      let none = one_other k own ne in
+      let r = holder_of keys k (omega (arith, some, c, none)) in
+      (suc r.0, r.1))
+]
+
+-- what the counts say
+
+pub showing : (store : List (Option (Held Aim))) (keys : List (Option ℕ)) (spare : List ℕ) → AreCounted store keys spare → AreShowing store keys
+showing store keys spare c robot key e = elim (something (shown store key)) [
+  | inl none ↦ (
+      let zero : uses_in (shown store key) ≡ 0 = ap uses_in none in
+      let some = has_holder keys robot key e in
+      let count = c.counted key in
+      absurd (omega (arith, zero, some, count)))
+  | inr some ↦ some_is (shown store key) some.0 some.1
+]
+
+pub showing_spare : (store : List (Option (Held Aim))) (keys : List (Option ℕ)) (spare : List ℕ) (key : ℕ) → AreCounted store keys spare → 0 < times spare key → IsSome (shown store key)
+showing_spare store keys spare key c more = elim (something (shown store key)) [
+  | inl none ↦ (
+      let zero : uses_in (shown store key) ≡ 0 = ap uses_in none in
+      let count = c.counted key in
+      absurd (omega (arith, zero, more, count)))
+  | inr some ↦ some_is (shown store key) some.0 some.1
+]
+
+uses_some : (store : List (Option (Held Aim))) (key : ℕ) (held : Held Aim) → shown store key ≡ Some held → uses_in (shown store key) ≡ held.uses
+uses_some store key held e = ap uses_in e
+
+-- an own key is held 512 times at most
+pub uses_own : (store : List (Option (Held Aim))) (keys : List (Option ℕ)) → AreOwn store keys → (key : ℕ) (held : Held Aim) → shown store key ≡ Some held → held.uses ≤ 512
+uses_own store keys own key held e =
+    let count : uses_in (shown store key) ≡ holders keys key + times [] key = own.counted.counted key in
+    let uses = uses_some store key held e in
+    let few = holders_few keys key in
+    let all = own.few in
+    omega (arith, count, uses, few, all)
+
+pub left_own : (store : List (Option (Held Aim))) (keys : List (Option ℕ)) (aimed : ℕ) → AreOwn store keys → HasUsesLeft store aimed 1
+left_own store keys aimed own key held e same =
+    let few = uses_own store keys own key held e in
+    omega (arith, few)
+
+pub none_own : (keys : List (Option ℕ)) → length keys ≤ 512 → ((k : ℕ) → holders keys k ≡ 0) → AreOwn [] keys
+none_own keys few none = record {
+  few = few;
+  counted = record {
+    once = λ j k a b ea eb e. absurd (none_some a None refl ea);
+    used = λ key held e. absurd (none_some held None refl e);
+    counted = λ key. (let z = none key in omega (arith, z));
+  };
+}
+
+-- a release
+
+uses_after : (h : Held Aim) (b : Bool) → nat_le h.uses 1 ≡ b → 0 < h.uses → uses_in (cond b None (Some (record h { uses = h.uses - 1 }))) + 1 ≡ h.uses
+uses_after h true e some = (let le = leb-true h.uses 1 e in omega (arith, le, some))
+uses_after h false e some = (let lt = leb-false h.uses 1 e in omega (arith, lt))
+
+after_used : (h held : Held Aim) (b : Bool) → nat_le h.uses 1 ≡ b → cond b None (Some (record h { uses = h.uses - 1 })) ≡ Some held → (0 < held.uses) × (h.field ≡ held.field)
+after_used h held true e f = absurd (none_some held None refl f)
+after_used h held false e f =
+    let one : record h { uses = h.uses - 1 } ≡ held = some_once (record h { uses = h.uses - 1 }) held f in
+    let lt = leb-false h.uses 1 e in
+    subst (λ (x : Held Aim). (0 < x.uses) × (h.field ≡ x.field)) one (omega (arith, lt), refl)
+
+module _ (old new : List (Option (Held Aim))) (key : ℕ) (r : IsRelease old new key) (used : (k : ℕ) (held : Held Aim) → shown old k ≡ Some held → 0 < held.uses) (there : IsSome (shown old key)) where
+  uses_released : (k : ℕ) → uses_in (shown new k) + one_at k (Some key) ≡ uses_in (shown old k)
+  uses_released k = elim (cases_eq key k) [
+    | inl same ↦ (
+        let h = some_of (shown old key) there in
+        let now : shown new k ≡ after_release h.0 = ap (shown new) (sym same) ∙ r.released h.0 h.1 in
+        let was : uses_in (shown old k) ≡ h.0.uses = ap (λ (x : ℕ). uses_in (shown old x)) (sym same) ∙ ap uses_in h.1 in
+        let is : uses_in (shown new k) ≡ uses_in (after_release h.0) = ap uses_in now in
+        let less : uses_in (after_release h.0) + 1 ≡ h.0.uses = uses_after h.0 (nat_le h.0.uses 1) refl (used key h.0 h.1) in
+        let one = one_same k key same in
+        omega (arith, was, is, less, one))
+    | inr ne ↦ (
+        let kept : uses_in (shown new k) ≡ uses_in (shown old k) = ap uses_in (r.others k (λ e. ne (sym e))) in
+        let none = one_other k key ne in
+        omega (arith, kept, none))
+  ]
+
+  from_before : (k : ℕ) (held : Held Aim) → shown new k ≡ Some held → (was : Held Aim) × (shown old k ≡ Some was) × (was.field ≡ held.field) × (0 < held.uses)
+  from_before k held e = elim (cases_eq key k) [
+    | inl same ↦ (
+        let h = some_of (shown old key) there in
+        let a = after_used h.0 held (nat_le h.0.uses 1) refl (sym (r.released h.0 h.1) ∙ (ap (shown new) same ∙ e)) in
+        (h.0, ap (shown old) (sym same) ∙ h.1, a.1, a.0))
+    | inr ne ↦ (let was = sym (r.others k (λ e. ne (sym e))) ∙ e in (held, was, refl, used k held was))
+  ]
+
+  once_released : IsOnce old → IsOnce new
+  once_released once j k a b ea eb e =
+      let p = from_before j a ea in
+      let q = from_before k b eb in
+      once j k p.0 q.0 p.1 q.1 (ap (λ (x : Aim). x.goal) p.2 ∙ (e ∙ sym (ap (λ (x : Aim). x.goal) q.2)))
+
+pub kept_same : (store : List (Option (Held Aim))) → AreKept store store
+kept_same store key held e = (held, e, refl)
+
+pub kept_on : (a b c : List (Option (Held Aim))) → AreKept a b → AreKept b c → AreKept a c
+kept_on a b c p q key held e =
+    let m = q key held e in
+    let f = p key m.0 m.1 in
+    (f.0, f.1, f.2 ∙ m.2)
+
+-- a robot gets another key, and its old one goes back
+
+pub given : (old new : List (Option (Held Aim))) (keys : List (Option ℕ)) (robot : ℕ) (key : Option ℕ) (spare rest : List ℕ) → robot < length keys
+    → ((k : ℕ) → times spare k ≡ one_at k key + times rest k) → AreCounted old keys spare → (own : Option ℕ) → key_at keys robot ≡ own → IsGivenBack old new own → AreCounted new (set keys robot key) rest × AreKept old new
+given old new keys robot key spare rest below more c None e back =
+    let same : (k : ℕ) → uses_in (shown old k) ≡ holders (set keys robot key) k + times rest k = (λ k.
+    let s = holders_set keys robot key k below in
+    let none : one_at k (key_at keys robot) ≡ 0 = ap (one_at k) e in
+    let m = more k in
+    let count = c.counted k in
+    omega (arith, s, none, m, count)) in
+    subst (λ (x : List (Option (Held Aim))). AreCounted x (set keys robot key) rest × AreKept old x) (sym back) (record { once = c.once; used = c.used; counted = same }, kept_same old)
+given old new keys robot key spare rest below more c (Some own) e back =
+    let there : IsSome (shown old own) = showing old keys spare c robot own e in (
+      record {
+        once = once_released old new own back c.used there c.once;
+        used = λ k held eh. (from_before old new own back c.used there k held eh).3;
+        counted = λ k. (
+            let s = holders_set keys robot key k below in
+            let own_one : one_at k (key_at keys robot) ≡ one_at k (Some own) = ap (one_at k) e in
+            let m = more k in
+            let count = c.counted k in
+            let less = uses_released old new own back c.used there k in
+            omega (arith, s, own_one, m, count, less));
+      },
+      λ k held eh. (let b = from_before old new own back c.used there k held eh in (b.0, b.1, b.2)),
+    )
+
+-- a hold
+
+module _ (m : Floor) (aimed : ℕ) (old new : List (Option (Held Aim))) (key : ℕ) (hold : IsHold m aimed old new key) where
+  held_at : (o : Option (Held Aim)) → shown old key ≡ o → IsHeldMore m aimed o (shown new key)
+      → (held : Held Aim) × (shown new key ≡ Some held) × (held.field.goal ≡ aimed) × (held.uses ≡ uses_in (shown old key) + 1)
+  held_at None e p = (p.0, p.1, p.2.goal, (let z : uses_in (shown old key) ≡ 0 = ap uses_in e in let one = p.3 in omega (arith, z, one)))
+  held_at (Some was) e p = (record was { uses = was.uses + 1 }, p.1, p.0, (let z : uses_in (shown old key) ≡ was.uses = ap uses_in e in omega (arith, z)))
+
+  -- the key shows the goal, once more
+  pub held_now : (held : Held Aim) × (shown new key ≡ Some held) × (held.field.goal ≡ aimed) × (held.uses ≡ uses_in (shown old key) + 1)
+  held_now = held_at (shown old key) refl hold.held
+
+  once_held : IsOnce old → IsOnce new
+  once_held once = once_by old new key hold.others once (λ h eh k at ne ek eg. (
+      let now = held_now in
+      let one : now.0 ≡ h = some_once now.0 h (sym now.1 ∙ eh) in
+      let goal : at.field.goal ≡ aimed = eg ∙ (sym (ap (λ (x : Held Aim). x.field.goal) one) ∙ now.2) in
+      ne (once k key at at ek (hold.shared k at ek goal) refl)))
+
+  pub counted_held : (keys : List (Option ℕ)) → AreCounted old keys [] → AreCounted new keys (key ∷ [])
+  counted_held keys c = record {
+    once = once_held c.once;
+    used = λ k held e. elim (cases_eq k key) [
+      | inl same ↦ (
+          let now = held_now in
+          let one : now.0 ≡ held = some_once now.0 held (sym now.1 ∙ (ap (shown new) (sym same) ∙ e)) in
+          let uses : now.0.uses ≡ held.uses = ap (λ (x : Held Aim). x.uses) one in
+          let more = now.3 in
+          omega (arith, uses, more))
+      | inr ne ↦ c.used k held (sym (hold.others k ne) ∙ e)
+    ];
+    counted = λ k. (
+        let cons : times (key ∷ []) k ≡ one_at k (Some key) + times [] k = sum_by-cons (λ (x : ℕ). one_at k (Some x)) key [] in
+        let count = c.counted k in
+        elim (cases_eq k key) [
+          | inl same ↦ (
+              let now = held_now in
+              let is : uses_in (shown new k) ≡ now.0.uses = ap (λ (x : ℕ). uses_in (shown new x)) same ∙ ap uses_in now.1 in
+              let was : uses_in (shown old k) ≡ uses_in (shown old key) = ap (λ (x : ℕ). uses_in (shown old x)) same in
+              let more = now.3 in
+              let one = one_same k key (sym same) in
+              omega (arith, cons, count, is, was, more, one))
+          | inr ne ↦ (
+              let kept : uses_in (shown new k) ≡ uses_in (shown old k) = ap uses_in (hold.others k ne) in
+              let none = one_other k key (λ e. ne (sym e)) in
+              omega (arith, cons, count, kept, none))
+        ]);
+  }
+
+-- several holds
+
+times_of : (xs : List ℕ) (k : ℕ) → 0 < times xs k → (i : ℕ) × (i < length xs) × (slice_index xs i ≡ k)
+times_of [] k some = absurd (omega (arith, some))
+times_of (x ∷ xs) k some = elim (cases_eq x k) [
+  | inl same ↦ (0, omega arith, same)
+  | inr ne ↦ (
+      let cons : times (x ∷ xs) k ≡ one_at k (Some x) + times xs k = sum_by-cons (λ (y : ℕ). one_at k (Some y)) x xs in
+      let none = one_other k x ne in
+      let r = times_of xs k (omega (arith, some, cons, none)) in
+      (suc r.0, omega (arith, r.1), r.2))
+]
+
+-- keys and their goals are the same ones
+same_times : (new : List (Option (Held Aim))) (k : ℕ) (held : Held Aim) → IsOnce new → shown new k ≡ Some held → (xs gs : List ℕ) → length xs ≡ length gs
+    → ((i : ℕ) → i < length gs → (h : Held Aim) × (shown new (slice_index xs i) ≡ Some h) × (h.field.goal ≡ slice_index gs i)) → times xs k ≡ times gs held.field.goal
+same_times new k held once e [] [] count each = refl
+same_times new k held once e [] (g ∷ gs) count each = absurd (omega (arith, count))
+same_times new k held once e (x ∷ xs) [] count each = absurd (omega (arith, count))
+same_times new k held once e (x ∷ xs) (g ∷ gs) count each =
+    let left : times (x ∷ xs) k ≡ one_at k (Some x) + times xs k = sum_by-cons (λ (y : ℕ). one_at k (Some y)) x xs in
+    let right : times (g ∷ gs) held.field.goal ≡ one_at held.field.goal (Some g) + times gs held.field.goal = sum_by-cons (λ (y : ℕ). one_at held.field.goal (Some y)) g gs in
+    let rest = same_times new k held once e xs gs (omega (arith, count)) (λ i less. each (suc i) (omega (arith, less))) in
+    let h = each 0 (omega arith) in
+    elim (cases_eq x k) [
+      | inl same ↦ (
+          let one : h.0 ≡ held = some_once h.0 held (sym h.1 ∙ (ap (shown new) same ∙ e)) in
+          let goal : g ≡ held.field.goal = sym h.2 ∙ ap (λ (y : Held Aim). y.field.goal) one in
+          let a = one_same k x same in
+          let b = one_same held.field.goal g goal in
+          omega (arith, left, right, rest, a, b))
+      | inr ne ↦ (
+          let a = one_other k x ne in
+          let b = one_other held.field.goal g (λ (eg : g ≡ held.field.goal). ne (once x k h.0 held h.1 e (h.2 ∙ eg))) in
+          omega (arith, left, right, rest, a, b))
+    ]
+
+module _ (goals : List ℕ) (old : List (Option (Held Aim))) (fresh : List ℕ) (new : List (Option (Held Aim))) (all : AreHeld goals old fresh new) (once : IsOnce new) where
+  pub counted_all : (keys : List (Option ℕ)) → AreCounted old keys [] → AreCounted new keys fresh
+  counted_all keys c = record {
+    once = once;
+    used = λ k held e. elim (something (shown old k)) [
+      | inl none ↦ (all.fresh k held none e).0
+      | inr was ↦ (
+          let one : record was.0 { uses = was.0.uses + times goals was.0.field.goal } ≡ held = some_once (record was.0 { uses = was.0.uses + times goals was.0.field.goal }) held (sym (all.kept k was.0 was.1) ∙ e) in
+          let uses : was.0.uses + times goals was.0.field.goal ≡ held.uses = ap (λ (x : Held Aim). x.uses) one in
+          let some = c.used k was.0 was.1 in
+          omega (arith, uses, some))
+    ];
+    counted = λ k. (
+        let count = c.counted k in
+        elim (something (shown new k)) [
+          | inl none ↦ elim (something (shown old k)) [
+            | inl none_old ↦ (
+                let zero : uses_in (shown new k) ≡ 0 = ap uses_in none in
+                let zero_old : uses_in (shown old k) ≡ 0 = ap uses_in none_old in
+                elim (cases_eq (times fresh k) 0) [
+                  | inl never ↦ omega (arith, zero, zero_old, never, count)
+                  | inr some ↦ (
+                      let i = times_of fresh k (omega (arith, some)) in
+                      let number = all.count in
+                      let s = all.shows i.0 (omega (arith, i.1, number)) in
+                      absurd (none_some s.0 (shown new k) none (ap (shown new) (sym i.2) ∙ s.1)))
+                ])
+            | inr was ↦ absurd (none_some (record was.0 { uses = was.0.uses + times goals was.0.field.goal }) (shown new k) none (all.kept k was.0 was.1))
+          ]
+          | inr now ↦ (
+              let t = same_times new k now.0 once now.1 fresh goals all.count all.shows in
+              let is : uses_in (shown new k) ≡ now.0.uses = ap uses_in now.1 in
+              elim (something (shown old k)) [
+                | inl none_old ↦ (
+                    let zero_old : uses_in (shown old k) ≡ 0 = ap uses_in none_old in
+                    let f = (all.fresh k now.0 none_old now.1).1 in
+                    omega (arith, t, is, zero_old, f, count))
+                | inr was ↦ (
+                    let one : record was.0 { uses = was.0.uses + times goals was.0.field.goal } ≡ now.0 = some_once (record was.0 { uses = was.0.uses + times goals was.0.field.goal }) now.0 (sym (all.kept k was.0 was.1) ∙ now.1) in
+                    let uses : was.0.uses + times goals was.0.field.goal ≡ now.0.uses = ap (λ (x : Held Aim). x.uses) one in
+                    let goal : times goals was.0.field.goal ≡ times goals now.0.field.goal = ap (λ (x : Held Aim). times goals x.field.goal) one in
+                    let was_uses : uses_in (shown old k) ≡ was.0.uses = ap uses_in was.1 in
+                    omega (arith, t, is, uses, goal, was_uses, count))
+              ])
+        ]);
+  }

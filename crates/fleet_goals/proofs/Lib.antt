@@ -1,0 +1,4 @@
+pub mod Counts
+pub mod Fields
+pub mod Turned
+pub mod Measured

@@ -1,0 +1,11 @@
+use Rattle.fleet_goals.proofs.Turned.{own_none, fields_none, on_none}
+use Rattle.fleet_goals.proofs.aims.Aims.new.Goals as goal
+
+pub invariant_of-result : goal.invariant_of-result
+invariant_of-result g c = own_none c.args.robots c.in_ok-store.store c.in_ok-keys.keys.items c.requires c.in_ok-store.ensures c.in_ok-keys.ensures
+
+pub returns-clause-none : goal.returns-clause-none
+returns-clause-none g c = fields_none c.args.robots c.in_ok-store.store c.in_ok-keys.keys.items c.in_ok-keys.ensures
+
+pub returns-clause-on : goal.returns-clause-on
+returns-clause-on g c = λ m. on_none m c.args.robots c.in_ok-store.store c.in_ok-keys.keys.items c.in_ok-keys.ensures

@@ -1,0 +1,11 @@
+use Rattle.std.proofs.Common.{[]}
+use Rattle.fleet_goals.specs.Keys.{AreCounted, AreKept}
+use Rattle.fleet_goals.specs.Turns.{AreIdled}
+use Rattle.fleet_goals.proofs.turns.idle.Given as goal
+
+abbrev pub invariant-loop-robot : goal.invariant-loop-robot
+invariant-loop-robot g l = record {
+  counted : AreCounted l.store l.keys [];
+  kept : AreKept l.fn.store l.store;
+  idled : AreIdled l.next l.robot l.fn.keys l.keys;
+}

@@ -1,0 +1,118 @@
+//! What the robots aim at.
+
+ghost use Rattle.std.specs.Prelude.{◌≡◌, ℕ, ◌<◌, ◌≤◌, Some, None, length, replicate, slice_set, IfOk, OnOk, OnErr};
+ghost use Rattle.fleet_grid.specs.Floor.{Floor, IsFloor};
+ghost use Rattle.fleet_goals.specs.Aims.{goals_of, goal, distance, AreOn, AreFloor};
+
+use crate::keys::{distance_of, exchange, goal_of};
+use crate::turns::turn_to;
+use fleet_field::FieldStore;
+use fleet_grid::Grid;
+use fleet_pibt::Goals;
+use std::alloc::{AllocError, Allocator, Global};
+use std::marker::Model;
+use std::thread::Threads;
+
+/// What each robot of a fleet aims at: its goal with the distances to it, or nothing. Contracts see the list of these, one
+/// for each robot. Robots with one goal share its distances.
+#[derive(Drop)]
+pub struct Aims<A: Allocator + Copy = Global> {
+    alloc: A,
+    store: FieldStore<A>,
+    keys: Vec<Option<usize>, A>,
+}
+
+impl<A: Allocator + Copy> Model for Aims<A> {
+    ghost use Rattle.std.specs.Prelude.{List, Option};
+    ghost use Rattle.fleet_field.specs.Field.{Aim};
+    ghost use Rattle.fleet_goals.specs.Keys.{fields_of, AreOwn};
+
+    ghost Value = { List (Option Aim) };
+
+    ghost view = { λ a. fields_of a.store a.keys.items };
+
+    ghost invariant = { λ a. AreOwn a.store a.keys.items };
+}
+
+/// So many robots without a key.
+fn no_keys<A: Allocator + Copy>(
+    alloc: A,
+    robots: usize,
+) -> Result<Vec<Option<usize>, A>, AllocError>
+    ensures { IfOk result (λ keys. keys.items ≡ replicate robots None) }
+{
+    let mut keys = Vec::new(alloc);
+    for _robot in 0..robots {
+        keys.push(None)?;
+    }
+    Ok(keys)
+}
+
+impl<A: Allocator + Copy> Aims<A> {
+    /// So many robots, 512 at most, without a goal.
+    pub fn new(alloc: A, robots: usize) -> Result<Aims<A>, AllocError>
+        requires { robots ≤ 512 }
+        ensures none { IfOk result (λ aims. aims ≡ replicate robots None) }
+        // Nothing is aimed at, so it is on each map.
+        ensures on { IfOk result (λ aims. (m : Floor) → AreOn m aims) }
+    {
+        let store = FieldStore::new(alloc)?;
+        let keys = no_keys(alloc, robots)?;
+        Ok(Aims { alloc, store, keys })
+    }
+
+    /// From now on the robot aims at the goal, a floor cell, in place of what it aimed at. All aims are on one map.
+    pub fn aim<B: Allocator + Copy>(
+        &mut self,
+        grid: &Grid<B>,
+        robot: u32,
+        goal: u32,
+    ) -> Result<(), AllocError>
+        requires known { robot < length self.old }
+        requires floor { IsFloor grid.now goal }
+        requires on { AreOn grid.now self.old }
+        ensures count { length self.new ≡ length self.old }
+        ensures on { AreOn grid.now self.new }
+        ensures goals { OnOk result (goals_of self.new ≡ slice_set (goals_of self.old) robot (Some goal)) }
+        ensures refused { OnErr result (self.new ≡ self.old) }
+    {
+        let key = self.store.hold(grid, goal)?;
+        exchange(&mut self.store, &mut self.keys, robot, Some(key));
+        Ok(())
+    }
+}
+
+impl<A: Allocator + Copy + Send + Sync> Aims<A> {
+    /// From now on each robot aims at its next goal, a floor cell, or at nothing. Distances to new goals are searched
+    /// together; where no robot turns to a new goal, nothing is allocated.
+    pub fn turn<B: Allocator + Copy + Send + Sync>(
+        &mut self,
+        rt: &(impl Threads + Sync),
+        grid: &Grid<B>,
+        next: &[Option<u32>],
+    ) -> Result<(), AllocError>
+        requires same_length { length next.now ≡ length self.old }
+        requires floor { AreFloor grid.now next.now }
+        requires on { AreOn grid.now self.old }
+        ensures count { length self.new ≡ length self.old }
+        ensures on { AreOn grid.now self.new }
+        ensures goals { OnOk result (goals_of self.new ≡ next.now) }
+        ensures refused { OnErr result (self.new ≡ self.old) }
+    {
+        turn_to(rt, self.alloc, grid, &mut self.store, &mut self.keys, next)
+    }
+}
+
+impl<A: Allocator + Copy> Goals for Aims<A> {
+    ghost goal_of = { λ s r. goal s r };
+
+    ghost distance = { λ s r c. distance s r c };
+
+    fn goal(&self, robot: u32) -> Option<u32> {
+        goal_of(&self.store, &self.keys, robot)
+    }
+
+    fn at(&self, robot: u32, cell: u32) -> Option<u32> {
+        distance_of(&self.store, &self.keys, robot, cell)
+    }
+}

@@ -1,0 +1,64 @@
+//! The robots' keys in the store of fields.
+
+ghost use Rattle.std.specs.Prelude.{◌≡◌, ℕ, ◌<◌, length, slice_set};
+ghost use Rattle.fleet_goals.specs.Aims.{goal_in, distance_in};
+ghost use Rattle.fleet_goals.specs.Keys.{key_at, field_at, AreShowing, IsGivenBack};
+
+use fleet_field::FieldStore;
+use std::alloc::Allocator;
+
+/// The robot's key; none past the last robot.
+pub(crate) fn key_of(keys: &[Option<usize>], robot: u32) -> Option<usize>
+    ensures { result ≡ key_at keys.now robot }
+{
+    match keys.get(robot as usize) {
+        Some(key) => *key,
+        None => None,
+    }
+}
+
+/// The robot's goal.
+pub(crate) fn goal_of<A: Allocator + Copy>(
+    store: &FieldStore<A>,
+    keys: &[Option<usize>],
+    robot: u32,
+) -> Option<u32>
+    requires { AreShowing store.now keys.now }
+    ensures { result ≡ goal_in (field_at store.now (key_at keys.now robot)) }
+{
+    let key = key_of(keys, robot)?;
+    Some(store.goal(key))
+}
+
+/// How far the cell is from the robot's goal.
+pub(crate) fn distance_of<A: Allocator + Copy>(
+    store: &FieldStore<A>,
+    keys: &[Option<usize>],
+    robot: u32,
+    cell: u32,
+) -> Option<u32>
+    requires { AreShowing store.now keys.now }
+    ensures { result ≡ distance_in (field_at store.now (key_at keys.now robot)) cell }
+{
+    let key = key_of(keys, robot)?;
+    store.at(key, cell)
+}
+
+/// Gives a robot another key, or none, and gives its old one back.
+pub(crate) fn exchange<A: Allocator + Copy>(
+    store: &mut FieldStore<A>,
+    keys: &mut [Option<usize>],
+    robot: u32,
+    key: Option<usize>,
+)
+    requires known { robot < length keys.old }
+    requires showing { AreShowing store.old keys.old }
+    ensures keys { keys.new ≡ slice_set keys.old robot key }
+    ensures back { IsGivenBack store.old store.new (key_at keys.old robot) }
+{
+    let old = keys[robot as usize];
+    keys[robot as usize] = key;
+    if let Some(old) = old {
+        store.release(old);
+    }
+}

@@ -1,0 +1,102 @@
+//! Goals given and turned, robots that share a goal, and each growth refused in turn.
+mod fleet;
+mod placement;
+mod refusing;
+mod rows;
+mod step_goals;
+
+use crate::Aims;
+use fleet::grid_of;
+use fleet_grid::Grid;
+use fleet_pibt::Goals;
+use refusing::Refusing;
+use std::alloc::Global;
+use std::process::Abort;
+use std::test::Fail;
+use std::thread::Threads;
+use step_goals::are_floor;
+
+/// The map `.../.@./...`.
+fn ring(rt: &impl Abort, alloc: Global) -> Result<Grid, Fail> {
+    grid_of(rt, alloc, 3, 3, b"....@....")
+}
+
+#[test]
+fn aimed_and_turned(rt: HostRuntime) -> Result<(), Fail> {
+    let grid = ring(&rt, rt.alloc())?;
+    let mut aims = Aims::new(rt.alloc(), 2)?;
+    assert_eq!(rt; aims.goal(0), None);
+    assert_eq!(rt; aims.at(0, 8), None);
+    assert!(rt; grid.is_floor(8));
+    aims.aim(&grid, 0, 8)?;
+    assert_eq!(rt; (aims.goal(0), aims.goal(1)), (Some(8), None));
+    assert_eq!(rt;
+        (aims.at(0, 0), aims.at(0, 5), aims.at(0, 4)),
+        (Some(4), Some(1), None)
+    );
+    aims.aim(&grid, 1, 8)?;
+    let next = [Some(1), Some(8)];
+    assert!(rt; are_floor(&grid, &next));
+    aims.turn(&rt, &grid, &next)?;
+    assert_eq!(rt; (aims.goal(0), aims.goal(1)), (Some(1), Some(8)));
+    assert_eq!(rt; (aims.at(0, 8), aims.at(1, 1)), (Some(3), Some(3)));
+    Ok(())
+}
+
+/// Whether a growth is refused while robots are given goals and turned to others. What is refused changes nothing.
+fn is_refused(
+    rt: &(impl Abort + Threads + Sync),
+    grid: &Grid,
+    heap: &Refusing<Global>,
+) -> Result<bool, Fail> {
+    let Ok(mut aims) = Aims::new(heap, 2) else {
+        return Ok(true);
+    };
+    assert!(rt; grid.is_floor(8));
+    let first = aims.aim(grid, 0, 8).is_err();
+    assert!(rt; aims.goal(0).is_none() == first);
+    aims.aim(grid, 0, 8)?;
+    let next = [Some(1), Some(5)];
+    assert!(rt; are_floor(grid, &next));
+    let second = aims.turn(rt, grid, &next).is_err();
+    assert!(rt; aims.goal(0) == Some(if second { 8 } else { 1 }));
+    aims.turn(rt, grid, &next)?;
+    assert!(rt; aims.at(0, 0) == Some(1) && aims.at(1, 8) == Some(1));
+    Ok(first || second)
+}
+
+#[test]
+fn refused_growths(rt: HostRuntime) -> Result<(), Fail> {
+    let grid = ring(&rt, rt.alloc())?;
+    let mut unrefused = None;
+    for before in 0..32 {
+        let heap = Refusing::after(rt.alloc(), before);
+        if !is_refused(&rt, &grid, &heap)? {
+            unrefused = Some(before);
+            break;
+        }
+    }
+    assert!(rt; unrefused.is_some());
+    Ok(())
+}
+
+/// Robots that keep their goals, share one, or lose them, take no memory.
+#[test]
+fn turned_without_memory(rt: HostRuntime) -> Result<(), Fail> {
+    let grid = ring(&rt, rt.alloc())?;
+    for before in 0..8 {
+        let heap = Refusing::after(rt.alloc(), before);
+        let Ok(mut aims) = Aims::new(&heap, 2) else {
+            continue;
+        };
+        assert!(rt; grid.is_floor(8));
+        if aims.aim(&grid, 0, 8).is_err() {
+            continue;
+        }
+        // Where no growth was left behind the goal's own, one here would be refused.
+        assert!(rt; are_floor(&grid, &[Some(8), None]) && are_floor(&grid, &[None, None]));
+        assert!(rt; aims.turn(&rt, &grid, &[Some(8), None]).is_ok());
+        assert!(rt; aims.turn(&rt, &grid, &[None, None]).is_ok());
+    }
+    Ok(())
+}

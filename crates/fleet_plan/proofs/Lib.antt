@@ -1,0 +1,4 @@
+pub mod Goals
+pub mod Lists
+pub mod Longest
+pub mod Ticked

@@ -1,0 +1,10 @@
+use Rattle.std.proofs.Common.{◌≡◌, map, take}
+use Rattle.std.specs.Prelude.{All}
+use Rattle.fleet_hooks.specs.Law.{IsStampLaw}
+use Rattle.fleet_world.proofs.opening.farewell_laws.Given as goal
+
+abbrev pub invariant-loop-hook : goal.invariant-loop-hook
+invariant-loop-hook g l = record {
+  laws : l.laws.items ≡ map (λ h. h.law) (take l.hook-index l.hooks);
+  orderly : All IsStampLaw l.laws.items;
+}
