@@ -2,13 +2,16 @@
 use Rattle.std.proofs.Common.{◌≡◌, ℕ, suc, ◌+◌, Option, Some, None, Bool, true, false, List, [], ◌∷◌, ◌++◌, length, Result, Ok, Err, refl, sym, ap, subst, ◌∙◌, arith}
 use Rattle.std.specs.Prelude.{IfOk, IfSome, codes, decimal}
 use Rattle.std.specs.declared.alloc.AllocError.{AllocError}
-use Rattle.fleet_grid.specs.Floor.{Floor}
+use Rattle.fleet_grid.specs.Floor.{Floor, IsNeighbour}
+use Rattle.fleet_grid.specs.Walk.{IsBridgeless}
 use Rattle.fleet_world.specs.declared.events.Event.{Event}
 use Rattle.fleet_world.specs.declared.events.Reply.{Reply}
 use Rattle.fleet_world.specs.Core.{State, Run, opened_state}
 use Rattle.fleet_world.specs.Laws.{KeepsRings}
 use Rattle.fleet_history.specs.Legal.{IsLegal}
-use Rattle.fleet_history.specs.Laws.{ArrivesInOrder, ArrivalsRise, HasNoConflict, AcceptsNoneClosed}
+use Rattle.fleet_history.specs.Laws.{ArrivesInOrder, ArrivalsRise, EachTick, HasNoConflict, AcceptsNoneClosed}
+use Rattle.fleet_history.specs.Numbering.{AreNumbered}
+use Rattle.fleet_plan.specs.Planned.{IsPlanned, IsAdvancingTick}
 use Rattle.errands.specs.declared.said.Said.{Said}
 use Rattle.errands.specs.declared.said.Complaint.{Complaint}
 use Rattle.errands.specs.declared.said.Complaint.TheVariants as complaint
@@ -45,14 +48,19 @@ said_more P Q (Err x) more p = tt
 
 -- what a run ends in is lawful on its own map
 pub lawful_is : {A : Type 0} (m g : Floor) (last : State A) → g ≡ m → last.world.floor ≡ g → IsLegal last.world.floor last.world.history → KeepsRings last → ArrivesInOrder last.world.history
-    → ArrivalsRise last.world.history → HasNoConflict last.world.floor last.world.history → AcceptsNoneClosed last.world.history → IsLawfulEnd A m last
-lawful_is m g last e f legal rings arrivals numbers conflicts closes = record {
+    → ArrivalsRise last.world.history → ((client : ℕ) → AreNumbered last.world.history client) → HasNoConflict last.world.floor last.world.history → AcceptsNoneClosed last.world.history
+    → EachTick (IsPlanned last.world.floor last.world.ties) last.world.history
+    → (IsBridgeless (IsNeighbour last.world.floor) → EachTick (IsAdvancingTick last.world.floor) last.world.history) → IsLawfulEnd A m last
+lawful_is m g last e f legal rings arrivals numbers numbered conflicts closes planned advancing = record {
   legal = subst (λ (x : Floor). IsLegal x last.world.history) (f ∙ e) legal;
   rings = rings;
   arrivals = arrivals;
   numbers = numbers;
+  numbered = numbered;
   conflicts = subst (λ (x : Floor). HasNoConflict x last.world.history) (f ∙ e) conflicts;
   closes = closes;
+  planned = subst (λ (x : Floor). EachTick (IsPlanned x last.world.ties) last.world.history) (f ∙ e) planned;
+  advancing = subst (λ (x : Floor). IsBridgeless (IsNeighbour x) → EachTick (IsAdvancingTick x) last.world.history) (f ∙ e) advancing;
 }
 
 pub ran_is : {A : Type 0} (kit : KitLaws) (laws : HookLaws) (m g : Floor) (p : Plan) (called shown : List Event) (replies : List Reply) (last : State A) → g ≡ m → called ≡ p.events → shown ≡ p.events → laws ≡ chosen_laws kit p

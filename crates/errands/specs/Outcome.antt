@@ -5,7 +5,8 @@ use Rattle.fleet_map.specs.declared.fault.MapFault.{MapFault}
 use Rattle.fleet_map.specs.declared.fault.MapFault.TheVariants as map_fault
 use Rattle.fleet_map.specs.Grammar.{Map, map_of}
 use Rattle.fleet_map.specs.Text.{lines_of}
-use Rattle.fleet_grid.specs.Floor.{Floor, floor_of}
+use Rattle.fleet_grid.specs.Floor.{Floor, IsNeighbour, floor_of}
+use Rattle.fleet_grid.specs.Walk.{IsBridgeless}
 use Rattle.fleet_history.specs.declared.history.Entry.{Entry}
 use Rattle.fleet_world.specs.declared.events.Event.{Event}
 use Rattle.fleet_world.specs.declared.events.Reply.{Reply}
@@ -14,7 +15,9 @@ use Rattle.fleet_world.specs.Core.{State, Run, opened_state}
 use Rattle.fleet_world.specs.Opening.{IsRefused}
 use Rattle.fleet_world.specs.Laws.{KeepsRings}
 use Rattle.fleet_history.specs.Legal.{IsLegal}
-use Rattle.fleet_history.specs.Laws.{ArrivesInOrder, ArrivalsRise, HasNoConflict, AcceptsNoneClosed}
+use Rattle.fleet_history.specs.Laws.{ArrivesInOrder, ArrivalsRise, EachTick, HasNoConflict, AcceptsNoneClosed}
+use Rattle.fleet_history.specs.Numbering.{AreNumbered}
+use Rattle.fleet_plan.specs.Planned.{IsPlanned, IsAdvancingTick}
 use Rattle.errands.specs.declared.words.Job.{Job}
 use Rattle.errands.specs.declared.words.Job.TheVariants as job
 use Rattle.errands.specs.declared.said.Complaint.{Complaint}
@@ -75,8 +78,13 @@ pub record IsLawfulEnd (A : Type 0) (m : Floor) (last : State A) : Type 0 where
   pub rings : KeepsRings last
   pub arrivals : ArrivesInOrder last.world.history
   pub numbers : ArrivalsRise last.world.history
+  pub numbered : (client : ℕ) → AreNumbered last.world.history client
   pub conflicts : HasNoConflict m last.world.history
   pub closes : AcceptsNoneClosed last.world.history
+  -- each tick is purposeful, its eldest advances unless a bridge is in the way, and the tie laws decide
+  pub planned : EachTick (IsPlanned m last.world.ties) last.world.history
+  -- on a bridgeless map each tick brings the robot that has waited longest nearer, or it stood on its goal
+  pub advancing : IsBridgeless (IsNeighbour m) → EachTick (IsAdvancingTick m) last.world.history
 
 -- the lines of a core run of the script's events
 pub record IsRunText (A : Type 0) (kit : KitLaws) (m : Floor) (plan : Plan) (o : Outcome) : Type 0 where

@@ -26,6 +26,7 @@ use fleet_world::{
     Event, OpenFault, Played, Reply, RunFault, ShutFault, TakeFault, TickFault, run,
 };
 use std::alloc::{Alloc, AllocError, Allocator};
+use std::thread::Threads;
 
 /// Whether a limit was met.
 fn is_limit(reply: Reply) -> bool
@@ -108,7 +109,7 @@ fn played_lines<A: Allocator + Copy>(
 }
 
 /// Runs a script on a map.
-fn run_script<A: Allocator + Copy, R: Alloc<A = A>>(
+fn run_script<A: Allocator + Copy + Send + Sync, R: Alloc<A = A> + Threads + Sync>(
     rt: &R,
     map: MapText<A>,
     script: Script<A>,
@@ -135,7 +136,7 @@ fn run_script<A: Allocator + Copy, R: Alloc<A = A>>(
 }
 
 /// What the program has to say to a map and a script.
-fn answer_parts<A: Allocator + Copy, R: Alloc<A = A>>(
+fn answer_parts<A: Allocator + Copy + Send + Sync, R: Alloc<A = A> + Threads + Sync>(
     rt: &R,
     map: &[u8],
     script: &[u8],
@@ -156,7 +157,7 @@ fn answer_parts<A: Allocator + Copy, R: Alloc<A = A>>(
 }
 
 /// What the program has to say to a bundle.
-fn answer_bundle<A: Allocator + Copy, R: Alloc<A = A>>(
+fn answer_bundle<A: Allocator + Copy + Send + Sync, R: Alloc<A = A> + Threads + Sync>(
     rt: &R,
     bytes: &[u8],
     kit: HookKit<A>,
@@ -194,7 +195,7 @@ fn answer_map<A: Allocator + Copy>(alloc: A, bytes: &[u8]) -> Result<Said<A>, Al
 }
 
 /// What the program has to say to the texts of a job, the second of which counts only where the job names two files.
-pub fn answer<A: Allocator + Copy, R: Alloc<A = A>>(
+pub fn answer<A: Allocator + Copy + Send + Sync, R: Alloc<A = A> + Threads + Sync>(
     rt: &R,
     job: &Job,
     first: &[u8],

@@ -13,6 +13,7 @@ use crate::said::{Complaint, Said};
 use crate::words::Job;
 use std::alloc::{Alloc, Allocator};
 use std::io::{Read, Write};
+use std::thread::Threads;
 
 /// Says on the error writer that a file or memory failed. The result is the status.
 pub fn fail<E: Write>(fault: InputFault, error: &mut E) -> u8
@@ -47,7 +48,7 @@ fn tell<A: Allocator + Copy, W: Write, E: Write>(
 }
 
 /// What there is to say to the files of a job, which are read in their order.
-fn answer_files<A: Allocator + Copy, R: Alloc<A = A>, I: Read>(
+fn answer_files<A: Allocator + Copy + Send + Sync, R: Alloc<A = A> + Threads + Sync, I: Read>(
     rt: &R,
     job: &Job,
     map: &mut I,
@@ -64,7 +65,13 @@ fn answer_files<A: Allocator + Copy, R: Alloc<A = A>, I: Read>(
 
 /// Does the job and writes what there is to say. The result is the status: 0 good, 3 a file failed, 4 the map or 5 the
 /// script or the opening is refused, 7 memory ran out, 8 a limit was met.
-pub fn run_program<A: Allocator + Copy, R: Alloc<A = A>, I: Read, W: Write, E: Write>(
+pub fn run_program<
+    A: Allocator + Copy + Send + Sync,
+    R: Alloc<A = A> + Threads + Sync,
+    I: Read,
+    W: Write,
+    E: Write,
+>(
     rt: &R,
     job: &Job,
     map: &mut I,

@@ -4,9 +4,10 @@ pub mod Farewells
 pub mod Fronts
 pub mod Ranges
 pub mod Facts
-pub mod MoveLaws
+pub mod Goaled
 pub mod Delivers
 pub mod Keeps
 pub mod Ticked
 pub mod Opens
 pub mod Hooked
+pub mod Gives

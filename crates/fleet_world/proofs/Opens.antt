@@ -208,6 +208,12 @@ legal-opened {A = A} m starts n limits laws can orderly =
 none_owed : {A : Type 0} (h : History A) (c a n : ℕ) → ((r : ℕ) → unfinished h r ≡ []) → sum_by (λ r. count_by (λ e. e.client == c) (unfinished h r)) (range_with_len a n) ≡ 0
 none_owed h c a n none = none_owed_in (unfinished h) (range_with_len a n) c none
 
+-- nobody has an errand at the opening
+pub unfinished-opened : (A : Type 0) (starts : List ℕ) (n : ℕ) (limits : Limits) (laws : HookLaws) (r : ℕ) → unfinished {A = A} (start (opening_of starts n limits laws)) r ≡ []
+unfinished-opened A starts n limits laws r =
+    let h : History A = start (opening_of starts n limits laws) in
+    append-nil (errands_at h.opening r) ∙ no_errands A starts laws.arrivals laws.farewells r
+
 replicate_false : (n r : ℕ) → slice_index_or (replicate n false) r false ≡ false
 replicate_false zero r = refl
 replicate_false (suc n) zero = refl

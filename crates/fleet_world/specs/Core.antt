@@ -1,7 +1,8 @@
 -- The core: what each event does to the history and to the lists of the clients.
 use Rattle.std.specs.Prelude.{ℕ, ◌+◌, false, true, ◌≡◌, ◌<◌, ◌≤◌, List, [], ◌∷◌, ◌++◌, Option, Some, None, drop, length, slice_get, slice_index_or, slice_set, map, replicate, slice_index}
 use Rattle.std.specs.List.{range_with_len}
-use Rattle.fleet_grid.specs.Floor.{Floor}
+use Rattle.fleet_grid.specs.Floor.{Floor, IsNeighbour}
+use Rattle.fleet_grid.specs.Walk.{IsBridgeless}
 use Rattle.fleet_hooks.specs.declared.law.StampLaw.{StampLaw}
 use Rattle.fleet_hooks.specs.declared.law.TieLaw.{TieLaw}
 use Rattle.fleet_book.specs.declared.order.Order.{Order}
@@ -18,6 +19,7 @@ use Rattle.fleet_history.specs.History.{History, after, start, robots, clients, 
 use Rattle.fleet_history.specs.Verdicts.{IsVerdict}
 use Rattle.fleet_history.specs.Legal.{Fits}
 use Rattle.fleet_history.specs.Notices.{told, seq_of}
+use Rattle.fleet_plan.specs.Planned.{IsPlanned, IsAdvancingTick}
 use Rattle.fleet_world.specs.declared.faults.TickReport.{TickReport}
 use Rattle.fleet_world.specs.declared.faults.TakeFault.TheVariants as take_fault
 use Rattle.fleet_world.specs.declared.faults.TickFault.TheVariants as tick_fault
@@ -92,12 +94,14 @@ pub record Takes {A : Type 0} (before : World A) (c : ℕ) (order : Order) (v : 
   pub verdict : IsVerdict before.floor before.history c order v
   pub world : after ≡ grown before (entry.Take c order v)
 
--- the world ticked, as the report says. Any tick that fits may have been made
+-- the world ticked, as the report says. Any tick that fits and is planned may have been made
 pub record Ticks {A : Type 0} (before : World A) (report : TickReport) (after : World A) : Type 0 where
   pub to : List ℕ
   pub arrived : List Arrival
   pub farewells : List Bye
   pub fits : Fits {A = A} before.floor before.history (entry.Tick to arrived farewells)
+  pub planned : IsPlanned before.floor before.ties before.history to
+  pub advancing : IsBridgeless (IsNeighbour before.floor) → IsAdvancingTick before.floor before.history to
   pub world : after ≡ grown before (entry.Tick to arrived farewells)
   pub tick : report.tick ≡ clock before.history + 1
   pub arrived_count : report.arrived ≡ length arrived

@@ -1,8 +1,10 @@
+pub use Rattle.fleet_plan.specs.Planned
+pub use Rattle.fleet_pibt.specs.Eldest
 pub mod Hooks
 pub mod Pending
 pub mod Opening
 pub mod Core
 pub mod Laws
 pub mod Kept
-pub mod Moves
+pub mod Aimed
 pub mod Played

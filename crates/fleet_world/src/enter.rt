@@ -10,7 +10,7 @@ use crate::mailbox::Mailbox;
 use fleet_book::{Book, Notice, Order, Verdict};
 use fleet_history::{Arrival, Bye, Entry, Row};
 use fleet_queue::{Errand, ErrandQueue};
-use std::alloc::{AllocError, Allocator};
+use std::alloc::Allocator;
 
 /// How many of a client's orders were taken, and how many notices were made for it.
 #[derive(Clone, Copy, Debug, PartialEq, Eq)]
@@ -56,7 +56,7 @@ pub(crate) fn enqueue<A: Allocator + Copy>(
     }
 }
 
-/// Enters a take: its entry, its notice, its errand and the client's counts, or nothing.
+/// Enters a take: its entry, its notice, its errand and the client's counts.
 pub(crate) fn enter_take<A: Allocator + Copy>(
     entries: &mut Vec<Entry<A>, A>,
     queues: &mut Vec<ErrandQueue<A>, A>,
@@ -66,7 +66,8 @@ pub(crate) fn enter_take<A: Allocator + Copy>(
     client: u32,
     order: Order,
     verdict: Verdict,
-) -> Result<(), AllocError>
+)
+    requires entry { vec_len entries.old < vec_capacity entries.old }
     requires account { client < length book.old.accounts }
     requires may { MayEnter book.old.life verdict (account_of book.old client) }
     requires place { HasPlace queues.old.items order verdict }
@@ -74,28 +75,22 @@ pub(crate) fn enter_take<A: Allocator + Copy>(
     requires small { ((tally_at tallies.old.items client).taken < 2 ^ 60) × ((tally_at tallies.old.items client).noticed < 2 ^ 60) }
     requires mailbox { client < vec_len mailboxes.old }
     requires room { length (box_at mailboxes.old.items client).notices < (box_at mailboxes.old.items client).limit }
-    ensures entries { OnOk result (entries.new.items ≡ entries.old.items ++ Entry.Take client order verdict ∷ []) }
+    ensures entries { entries.new.items ≡ entries.old.items ++ Entry.Take client order verdict ∷ [] }
     ensures queue_count { vec_len queues.new ≡ vec_len queues.old }
-    ensures queues { OnOk result ((r : ℕ) → r < vec_len queues.old →
+    ensures queues { (r : ℕ) → r < vec_len queues.old →
         queue_at queues.new.items r ≡ record {
           items = (queue_at queues.old.items r).items ++ errand_for r client order verdict;
           capacity = (queue_at queues.old.items r).capacity;
-        }) }
-    ensures book { OnOk result (book.new ≡ with_account book.old client (entered verdict (account_of book.old client))) }
-    ensures tallies { OnOk result (let t = tally_at tallies.old.items client in
-        tallies.new.items ≡ slice_set tallies.old.items client record { taken = t.taken + 1; noticed = t.noticed + 1 }) }
-    ensures mailboxes { OnOk result (let t = tally_at tallies.old.items client in let b = box_at mailboxes.old.items client in
+        } }
+    ensures book { book.new ≡ with_account book.old client (entered verdict (account_of book.old client)) }
+    ensures tallies { let t = tally_at tallies.old.items client in
+        tallies.new.items ≡ slice_set tallies.old.items client record { taken = t.taken + 1; noticed = t.noticed + 1 } }
+    ensures mailboxes { let t = tally_at tallies.old.items client in let b = box_at mailboxes.old.items client in
         mailboxes.new.items ≡ slice_set mailboxes.old.items client record {
           notices = b.notices ++ Notice.Verdict (t.noticed + 1) (t.taken + 1) verdict ∷ [];
           limit = b.limit;
-        }) }
-    ensures err_entries { OnErr result (entries.new.items ≡ entries.old.items) }
-    ensures err_queues { OnErr result (queues.new.items ≡ queues.old.items) }
-    ensures err_book { OnErr result (book.new ≡ book.old) }
-    ensures err_tallies { OnErr result (tallies.new.items ≡ tallies.old.items) }
-    ensures err_mailboxes { OnErr result (mailboxes.new.items ≡ mailboxes.old.items) }
+        } }
 {
-    entries.reserve(1)?;
     enqueue(queues, client, order, verdict);
     book.enter(client, verdict);
     let tally = &mut tallies[client as usize];
@@ -116,7 +111,6 @@ pub(crate) fn enter_take<A: Allocator + Copy>(
             verdict,
         },
     );
-    Ok(())
 }
 
 /// Puts the notices of arrivals into the mailboxes, which have room.

@@ -1,27 +1,40 @@
 //! The core of a world: its map, limits, history and what follows from them. No closure lies inside.
-ghost use Rattle.std.specs.Prelude.{All, ◌≡◌, ◌+◌, ◌*◌, ◌≤◌, ◌<◌, ◌^◌, ◌++◌, ◌∷◌, ◌↔◌, [], List, ℕ, true, false, length, OnOk, OnErr, IfOk, map, slice_index, slice_get, drop, replicate};
+ghost use Rattle.std.specs.Prelude.{IsTrue, MatchOption, All, ◌≡◌, ◌+◌, ◌*◌, ◌≤◌, ◌<◌, ◌^◌, ◌++◌, ◌∷◌, ◌↔◌, [], List, ℕ, true, false, length, OnOk, OnErr, IfOk, map, slice_index, slice_get, drop, replicate};
 ghost use Rattle.fleet_history.specs.History.{history_of, clients, robots, clock, place, is_shut};
 ghost use Rattle.fleet_history.specs.Verdicts.{AreFacts};
+ghost use Rattle.fleet_grid.specs.Floor.{IsNeighbour};
+ghost use Rattle.fleet_grid.specs.Walk.{IsBridgeless};
 ghost use Rattle.fleet_hooks.specs.Law.{IsStampLaw};
+ghost use Rattle.fleet_history.specs.Laws.{EachTick};
+ghost use Rattle.fleet_history.specs.Waits.{wait};
+ghost use Rattle.fleet_plan.specs.Planned.{waits, IsPlanned, IsAdvancingTick};
+ghost use Rattle.fleet_pibt.specs.Eldest.{IsEldest};
+ghost use Rattle.fleet_world.specs.Aimed.{IsIdle};
 ghost use Rattle.fleet_world.specs.Hooks.{AreArrivals, AreFarewells, spare_laws};
 ghost use Rattle.fleet_world.specs.Opening.{CanOpen};
 ghost use Rattle.fleet_world.specs.Core.{Takes, Ticks, Shuts, pending, without_first, opened_world, HasRoom, HasNoRoom, HasEntries, HasNoEntries};
 
+use crate::aiming::{
+    aim_first, begin_wait, begun_by, count_waits, has_no_bridge, is_nobody, next_goals, no_waits,
+};
 use crate::enter::{Tally, add, enter_take};
 use crate::faults::{ShutFault, TakeFault, TickFault, TickReport};
 use crate::mailbox::Mailbox;
-use crate::mover::plan;
 use crate::opening::{blank_tallies, empty_mailboxes, empty_queues, nobodies, robots_at};
 use crate::tick::{
     arrive, enter_tick, last_word, room_for_arrivals, room_for_farewells, take_leave,
 };
 use fleet_book::{Book, Facts, Limits, Notice, Order, Place, Verdict};
+use fleet_goals::Aims;
 use fleet_grid::Grid;
 use fleet_history::{Chapter, Entry, Opening, Row};
-use fleet_hooks::{ArrivalHook, Farewell, FarewellView, StampLaw, TieLaw};
+use fleet_hooks::{ArrivalHook, Farewell, FarewellView, StampLaw, TieHook, TieLaw};
+use fleet_pibt::Stepper;
+use fleet_plan::{eldest, plan};
 use fleet_queue::ErrandQueue;
 use std::alloc::{Alloc, AllocError, Allocator, Global};
 use std::marker::Model;
+use std::thread::Threads;
 
 /// The map, the limits, the history and what follows from it. Contracts see the map, the limits, the chapter's number,
 /// the history, and each client's mailbox.
@@ -36,11 +49,17 @@ pub struct Core<A: Allocator + Copy = Global> {
     book: Book<A>,
     tallies: Vec<Tally, A>,
     mailboxes: Vec<Mailbox<A>, A>,
+    waits: Vec<Option<u64>, A>,
+    aims: Aims<A>,
+    stepper: Stepper<A>,
+    bridgeless: bool,
     tick: u64,
 }
 
 impl<A: Allocator + Copy> Model for Core<A> {
+    ghost use Rattle.std.specs.Prelude.{◌≡◌};
     ghost use Rattle.fleet_history.specs.History.{history_of};
+    ghost use Rattle.fleet_world.specs.Aimed.{IsAimed};
     ghost use Rattle.fleet_world.specs.Core.{World};
     ghost use Rattle.fleet_world.specs.Kept.{IsKept};
 
@@ -55,7 +74,8 @@ impl<A: Allocator + Copy> Model for Core<A> {
       mailboxes = w.mailboxes.items;
     } };
 
-    ghost invariant = { λ w. IsKept w.grid w.limits (history_of w.chapter) w.cells.items w.queues.items w.book w.tallies.items w.mailboxes.items w.tick };
+    ghost invariant = { λ w. IsKept w.grid w.limits (history_of w.chapter) w.cells.items w.queues.items w.book w.tallies.items w.mailboxes.items w.tick
+        × IsAimed w.grid w.ties.items (history_of w.chapter) w.waits.items w.aims w.stepper w.bridgeless w.tick };
 }
 
 impl<A: Allocator + Copy> Core<A> {
@@ -81,6 +101,10 @@ impl<A: Allocator + Copy> Core<A> {
         let known = nobodies(alloc, clients as usize)?;
         let tallies = blank_tallies(alloc, clients as usize)?;
         let mailboxes = empty_mailboxes(alloc, clients as usize, limits.mailbox)?;
+        let waits = no_waits(alloc, starts.len())?;
+        let aims = Aims::new(alloc, starts.len())?;
+        let stepper = Stepper::new(alloc, grid.cell_count(), starts.len() as u32)?;
+        let bridgeless = has_no_bridge(alloc, &grid)?;
         Ok(Core {
             grid,
             limits,
@@ -101,6 +125,10 @@ impl<A: Allocator + Copy> Core<A> {
             book,
             tallies,
             mailboxes,
+            waits,
+            aims,
+            stepper,
+            bridgeless,
             tick: 0,
         })
     }
@@ -120,8 +148,35 @@ impl<A: Allocator + Copy> Core<A> {
     pub(crate) fn chapter(&self) -> &Chapter<A>
         ensures history { history_of result.now ≡ self.now.history }
         ensures number { result.now.number ≡ self.now.number }
+        ensures planned { EachTick (IsPlanned self.now.floor self.now.ties) self.now.history }
+        ensures advancing { IsBridgeless (IsNeighbour self.now.floor) → EachTick (IsAdvancingTick self.now.floor) self.now.history }
     {
         &self.chapter
+    }
+
+    pub(crate) fn wait_of(&self, robot: u32) -> Option<u64>
+        requires { robot < robots self.now.history }
+        ensures { result ≡ wait self.now.history robot }
+    {
+        self.waits[robot as usize]
+    }
+
+    pub(crate) fn eldest(&self) -> Option<u32>
+        ensures { MatchOption result (IsIdle self.now.history) (λ e. IsEldest (waits self.now.history) e) }
+    {
+        eldest(self.waits.as_slice())
+    }
+
+    pub(crate) fn is_idle(&self) -> bool
+        ensures { IsTrue result ↔ IsIdle self.now.history }
+    {
+        is_nobody(self.waits.as_slice())
+    }
+
+    pub(crate) fn is_bridgeless(&self) -> bool
+        ensures { IsTrue result ↔ IsBridgeless (IsNeighbour self.now.floor) }
+    {
+        self.bridgeless
     }
 
     pub(crate) fn limits(&self) -> &Limits
@@ -190,6 +245,10 @@ impl<A: Allocator + Copy> Core<A> {
         }
         let facts = self.facts(order);
         let verdict = self.book.judge(client, order, facts);
+        let first = begun_by(self.queues.as_slice(), order, verdict);
+        self.chapter.entries.reserve(1)?;
+        aim_first(&mut self.aims, &self.grid, first)?;
+        begin_wait(&mut self.waits, first);
         enter_take(
             &mut self.chapter.entries,
             &mut self.queues,
@@ -199,69 +258,8 @@ impl<A: Allocator + Copy> Core<A> {
             client,
             order,
             verdict,
-        )?;
+        );
         Ok(verdict)
-    }
-
-    /// A tick, with the robots' closures for arrivals and farewells: each is called when nothing can fail any more.
-    pub(crate) fn tick<R: Alloc<A = A>>(
-        &mut self,
-        rt: &R,
-        arrivals: &[ArrivalHook],
-        farewells: &mut Vec<Option<Farewell>, A>,
-    ) -> Result<TickReport, TickFault>
-        requires arrivals { AreArrivals self.old.history (map (λ h. h.law) arrivals.now) }
-        requires farewells { AreFarewells self.old.history (spare_laws farewells.old.items) }
-        ensures clock_spent { (result ≡ Err TickFault.ClockSpent) ↔ (clock self.old.history ≡ self.old.limits.clock) }
-        ensures chapter_full { (result ≡ Err TickFault.ChapterFull) ↔
-            ((clock self.old.history < self.old.limits.clock) × HasNoEntries self.old) }
-        ensures early { OnOk result (clock self.old.history < self.old.limits.clock) }
-        ensures entries { OnOk result (HasEntries self.old) }
-        ensures ok { IfOk result (λ report. Ticks self.old report self.new) }
-        ensures err { OnErr result (self.new ≡ self.old) }
-        ensures farewells { AreFarewells self.new.history (spare_laws farewells.new.items) }
-    {
-        if self.tick >= self.limits.clock {
-            return Err(TickFault::ClockSpent);
-        }
-        if self.chapter.entries.len() >= self.limits.chapter as usize {
-            return Err(TickFault::ChapterFull);
-        }
-        let queues = self.queues.as_slice();
-        let to = plan(rt.alloc(), &self.grid, self.cells.as_slice(), queues)?;
-        let mut arrived = room_for_arrivals(rt.alloc(), queues, to.as_slice())?;
-        let mut leaving = room_for_farewells(rt.alloc(), &self.book, queues, to.as_slice())?;
-        self.chapter.entries.reserve(1)?;
-        let tick = self.tick + 1;
-        let queues = self.queues.as_slice();
-        arrive(&mut arrived, arrivals, queues, to.as_slice(), tick);
-        take_leave(
-            &mut leaving,
-            farewells,
-            &self.book,
-            queues,
-            to.as_slice(),
-            tick,
-        );
-        let report = TickReport {
-            tick,
-            arrived: arrived.len() as u32,
-            farewells: leaving.len() as u32,
-        };
-        enter_tick(
-            &mut self.chapter.entries,
-            &mut self.cells,
-            &mut self.queues,
-            &mut self.book,
-            &mut self.tallies,
-            &mut self.mailboxes,
-            to,
-            arrived,
-            leaving,
-            tick,
-        );
-        self.tick = tick;
-        Ok(report)
     }
 
     /// A shut, with the robot's farewell closure, which is called where the robot has no errands.
@@ -321,5 +319,81 @@ impl<A: Allocator + Copy> Core<A> {
     {
         let mailbox = &mut self.mailboxes[client as usize];
         mailbox.pop()
+    }
+}
+
+impl<A: Allocator + Copy + Send + Sync> Core<A> {
+    /// A tick, with the robots' closures. Those for arrivals and farewells are called when nothing can fail any more.
+    pub(crate) fn tick<R: Alloc<A = A> + Threads + Sync>(
+        &mut self,
+        rt: &R,
+        ties: &[TieHook],
+        arrivals: &[ArrivalHook],
+        farewells: &mut Vec<Option<Farewell>, A>,
+    ) -> Result<TickReport, TickFault>
+        requires ties { map (λ h. h.law) ties.now ≡ self.old.ties }
+        requires arrivals { AreArrivals self.old.history (map (λ h. h.law) arrivals.now) }
+        requires farewells { AreFarewells self.old.history (spare_laws farewells.old.items) }
+        ensures clock_spent { (result ≡ Err TickFault.ClockSpent) ↔ (clock self.old.history ≡ self.old.limits.clock) }
+        ensures chapter_full { (result ≡ Err TickFault.ChapterFull) ↔
+            ((clock self.old.history < self.old.limits.clock) × HasNoEntries self.old) }
+        ensures early { OnOk result (clock self.old.history < self.old.limits.clock) }
+        ensures entries { OnOk result (HasEntries self.old) }
+        ensures ok { IfOk result (λ report. Ticks self.old report self.new) }
+        ensures err { OnErr result (self.new ≡ self.old) }
+        ensures farewells { AreFarewells self.new.history (spare_laws farewells.new.items) }
+    {
+        if self.tick >= self.limits.clock {
+            return Err(TickFault::ClockSpent);
+        }
+        if self.chapter.entries.len() >= self.limits.chapter as usize {
+            return Err(TickFault::ChapterFull);
+        }
+        let tick = self.tick + 1;
+        let to = plan(
+            rt.alloc(),
+            &self.grid,
+            self.cells.as_slice(),
+            self.waits.as_slice(),
+            &self.aims,
+            &mut self.stepper,
+            ties,
+            tick,
+        )?;
+        let queues = self.queues.as_slice();
+        let mut arrived = room_for_arrivals(rt.alloc(), queues, to.as_slice())?;
+        let mut leaving = room_for_farewells(rt.alloc(), &self.book, queues, to.as_slice())?;
+        self.chapter.entries.reserve(1)?;
+        let next = next_goals(rt.alloc(), queues, to.as_slice())?;
+        self.aims.turn(rt, &self.grid, next.as_slice())?;
+        arrive(&mut arrived, arrivals, queues, to.as_slice(), tick);
+        take_leave(
+            &mut leaving,
+            farewells,
+            &self.book,
+            queues,
+            to.as_slice(),
+            tick,
+        );
+        count_waits(&mut self.waits, queues, to.as_slice());
+        let report = TickReport {
+            tick,
+            arrived: arrived.len() as u32,
+            farewells: leaving.len() as u32,
+        };
+        enter_tick(
+            &mut self.chapter.entries,
+            &mut self.cells,
+            &mut self.queues,
+            &mut self.book,
+            &mut self.tallies,
+            &mut self.mailboxes,
+            to,
+            arrived,
+            leaving,
+            tick,
+        );
+        self.tick = tick;
+        Ok(report)
     }
 }

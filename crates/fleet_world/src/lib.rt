@@ -1,13 +1,13 @@
 //! The world of a fleet: one history of takes, ticks and shuts, and the pure core that runs a list of events.
 #![tactic(auto)]
 
+mod aiming;
 mod ends;
 mod enter;
 mod events;
 mod faults;
 mod kernel;
 mod mailbox;
-mod mover;
 mod opening;
 mod play;
 mod tick;

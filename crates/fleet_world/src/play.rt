@@ -4,8 +4,11 @@ ghost use Rattle.fleet_history.specs.History.{clients};
 ghost use Rattle.fleet_history.specs.Legal.{IsLegal};
 ghost use Rattle.fleet_history.specs.Notices.{seq_of as seq_of_notice};
 ghost use Rattle.fleet_history.specs.Numbering.{AreNumbered};
-ghost use Rattle.fleet_history.specs.Laws.{ArrivesInOrder, ArrivalsRise, HasNoConflict, AcceptsNoneClosed};
+ghost use Rattle.fleet_history.specs.Laws.{ArrivesInOrder, ArrivalsRise, HasNoConflict, AcceptsNoneClosed, EachTick};
 ghost use Rattle.fleet_world.specs.Hooks.{laws_of};
+ghost use Rattle.fleet_plan.specs.Planned.{IsPlanned, IsAdvancingTick};
+ghost use Rattle.fleet_grid.specs.Floor.{IsNeighbour};
+ghost use Rattle.fleet_grid.specs.Walk.{IsBridgeless};
 ghost use Rattle.fleet_world.specs.Opening.{IsRefused, IsNamed};
 ghost use Rattle.fleet_world.specs.Core.{Lists, lane, outlet, no_lists, Step, Run, state_of, opened_state};
 ghost use Rattle.fleet_world.specs.Laws.{KeepsRings};
@@ -19,6 +22,7 @@ use fleet_book::{Limits, Notice, Order};
 use fleet_grid::Grid;
 use fleet_hooks::Hooks;
 use std::alloc::{Alloc, AllocError, Allocator, Global};
+use std::thread::Threads;
 
 /// What a run leaves, by client where a list is one of lists.
 #[derive(Drop)]
@@ -140,7 +144,7 @@ fn collect<A: Allocator + Copy>(
 }
 
 /// A tick.
-fn tick_one<A: Allocator + Copy, R: Alloc<A = A>>(
+fn tick_one<A: Allocator + Copy + Send + Sync, R: Alloc<A = A> + Threads + Sync>(
     rt: &R,
     world: &mut World<A>,
     ends: &Vec<Ends<A>, A>,
@@ -174,7 +178,7 @@ fn shut_one<A: Allocator + Copy>(
 }
 
 /// One event.
-fn step<A: Allocator + Copy, R: Alloc<A = A>>(
+fn step<A: Allocator + Copy + Send + Sync, R: Alloc<A = A> + Threads + Sync>(
     rt: &R,
     world: &mut World<A>,
     ends: &mut Vec<Ends<A>, A>,
@@ -196,7 +200,7 @@ fn step<A: Allocator + Copy, R: Alloc<A = A>>(
 }
 
 /// Applies a list of events, one after another.
-fn run_events<A: Allocator + Copy, R: Alloc<A = A>>(
+fn run_events<A: Allocator + Copy + Send + Sync, R: Alloc<A = A> + Threads + Sync>(
     rt: &R,
     world: &mut World<A>,
     ends: &mut Vec<Ends<A>, A>,
@@ -271,7 +275,7 @@ fn seq_of(notice: Notice) -> u64
 /// The pure core over any list of events, from the opening of a world; lanes and outlets are lists, bounded by `lane` and
 /// `outlet`. A refused event changes nothing and is answered in the replies; only want of memory ends the run, at the index
 /// of its event, or at the number of events where the lists could not be handed out.
-pub fn run<A: Allocator + Copy, R: Alloc<A = A>>(
+pub fn run<A: Allocator + Copy + Send + Sync, R: Alloc<A = A> + Threads + Sync>(
     rt: &R,
     grid: Grid<A>,
     starts: Vec<u32, A>,
@@ -290,6 +294,8 @@ pub fn run<A: Allocator + Copy, R: Alloc<A = A>>(
     ensures numbered { IfOk result (λ p. (client : ℕ) → AreNumbered p.world.core.history client) }
     ensures conflicts { IfOk result (λ p. HasNoConflict p.world.core.floor p.world.core.history) }
     ensures closes { IfOk result (λ p. AcceptsNoneClosed p.world.core.history) }
+    ensures planned { IfOk result (λ p. EachTick (IsPlanned p.world.core.floor p.world.core.ties) p.world.core.history) }
+    ensures advancing { IfOk result (λ p. IsBridgeless (IsNeighbour p.world.core.floor) → EachTick (IsAdvancingTick p.world.core.floor) p.world.core.history) }
 {
     let mut world = match World::open(rt.alloc(), grid, starts, clients, limits, hooks) {
         Ok(world) => world,
@@ -302,6 +308,8 @@ pub fn run<A: Allocator + Copy, R: Alloc<A = A>>(
         Ok(replies) => replies,
         Err(i) => return Err(RunFault::NoMemory(i)),
     };
+    // The chapter tells that each tick was planned and advances, which the proof reads.
+    let _chapter = world.chapter();
     let Ok(left) = leave_all(rt.alloc(), ends) else {
         return Err(RunFault::NoMemory(events.len()));
     };

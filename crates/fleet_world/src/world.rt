@@ -1,6 +1,13 @@
 //! The world, as its callers see it.
-ghost use Rattle.std.specs.Prelude.{◌≡◌, ◌≤◌, ◌<◌, ◌↔◌, ℕ, true, false, OnOk, OnErr, IfOk, map, slice_get};
+ghost use Rattle.std.specs.Prelude.{◌≡◌, ◌≤◌, ◌<◌, ◌↔◌, ℕ, true, false, OnOk, OnErr, IfOk, IsTrue, MatchOption, map, slice_get};
 ghost use Rattle.fleet_history.specs.History.{history_of, clients, robots, clock, place, is_shut};
+ghost use Rattle.fleet_grid.specs.Floor.{IsNeighbour};
+ghost use Rattle.fleet_grid.specs.Walk.{IsBridgeless};
+ghost use Rattle.fleet_history.specs.Laws.{EachTick};
+ghost use Rattle.fleet_history.specs.Waits.{wait};
+ghost use Rattle.fleet_plan.specs.Planned.{waits, IsPlanned, IsAdvancingTick};
+ghost use Rattle.fleet_pibt.specs.Eldest.{IsEldest};
+ghost use Rattle.fleet_world.specs.Aimed.{IsIdle};
 ghost use Rattle.fleet_world.specs.Hooks.{laws_of, spare_laws, AreOrderly, AreArrivals, AreFarewells};
 ghost use Rattle.fleet_world.specs.Opening.{CanOpen, IsRefused, IsNamed};
 ghost use Rattle.fleet_world.specs.Core.{Takes, Ticks, Shuts, pending, without_first, opened_world, HasRoom, HasNoRoom, HasEntries, HasNoEntries};
@@ -13,6 +20,7 @@ use fleet_grid::Grid;
 use fleet_history::Chapter;
 use fleet_hooks::{ArrivalHook, Farewell, Hooks, TieHook};
 use std::alloc::{Alloc, AllocError, Allocator, Global};
+use std::thread::Threads;
 
 /// A world: robots on a map, the clients whose orders they carry out, the history of it all, and the robots' closures.
 #[derive(Drop)]
@@ -114,8 +122,39 @@ impl<A: Allocator + Copy> World<A> {
     pub fn chapter(&self) -> &Chapter<A>
         ensures history { history_of result.now ≡ self.now.core.history }
         ensures number { result.now.number ≡ self.now.core.number }
+        ensures planned { EachTick (IsPlanned self.now.core.floor self.now.core.ties) self.now.core.history }
+        ensures advancing { IsBridgeless (IsNeighbour self.now.core.floor) → EachTick (IsAdvancingTick self.now.core.floor) self.now.core.history }
     {
         self.core.chapter()
+    }
+
+    /// How many ticks the robot has waited for the arrival at its front errand's cell; none where it has no errand.
+    pub fn wait_of(&self, robot: u32) -> Option<u64>
+        requires { robot < robots self.now.core.history }
+        ensures { result ≡ wait self.now.core.history robot }
+    {
+        self.core.wait_of(robot)
+    }
+
+    /// The robot of greatest wait, the least number on a tie; none where nobody has an errand.
+    pub fn eldest(&self) -> Option<u32>
+        ensures { MatchOption result (IsIdle self.now.core.history) (λ e. IsEldest (waits self.now.core.history) e) }
+    {
+        self.core.eldest()
+    }
+
+    /// Whether nobody has an errand.
+    pub fn is_idle(&self) -> bool
+        ensures { IsTrue result ↔ IsIdle self.now.core.history }
+    {
+        self.core.is_idle()
+    }
+
+    /// Whether the map has no bridge.
+    pub fn is_bridgeless(&self) -> bool
+        ensures { IsTrue result ↔ IsBridgeless (IsNeighbour self.now.core.floor) }
+    {
+        self.core.is_bridgeless()
     }
 
     /// Takes one order of a client, and judges it.
@@ -131,22 +170,6 @@ impl<A: Allocator + Copy> World<A> {
         ensures err { OnErr result (self.new.core ≡ self.old.core) }
     {
         self.core.take(client, order)
-    }
-
-    /// Moves all robots by one step.
-    ///
-    /// Refused in this order: the ticks are spent, the chapter is full, want of memory.
-    pub fn tick<R: Alloc<A = A>>(&mut self, rt: &R) -> Result<TickReport, TickFault>
-        ensures clock_spent { (result ≡ Err TickFault.ClockSpent) ↔ (clock self.old.core.history ≡ self.old.core.limits.clock) }
-        ensures chapter_full { (result ≡ Err TickFault.ChapterFull) ↔
-            ((clock self.old.core.history < self.old.core.limits.clock) × HasNoEntries self.old.core) }
-        ensures early { OnOk result (clock self.old.core.history < self.old.core.limits.clock) }
-        ensures entries { OnOk result (HasEntries self.old.core) }
-        ensures ok { IfOk result (λ report. Ticks self.old.core report self.new.core) }
-        ensures err { OnErr result (self.new.core ≡ self.old.core) }
-    {
-        self.core
-            .tick(rt, self.arrivals.as_slice(), &mut self.farewells)
     }
 
     /// Shuts a robot: it finishes its errands and gets no more. Answers the farewell's stamp if it has no errands.
@@ -179,5 +202,30 @@ impl<A: Allocator + Copy> World<A> {
         ensures rest { self.new.core ≡ without_first self.old.core client }
     {
         self.core.give(client)
+    }
+}
+
+impl<A: Allocator + Copy + Send + Sync> World<A> {
+    /// Moves all robots by one step.
+    ///
+    /// Refused in this order: the ticks are spent, the chapter is full, want of memory.
+    pub fn tick<R: Alloc<A = A> + Threads + Sync>(
+        &mut self,
+        rt: &R,
+    ) -> Result<TickReport, TickFault>
+        ensures clock_spent { (result ≡ Err TickFault.ClockSpent) ↔ (clock self.old.core.history ≡ self.old.core.limits.clock) }
+        ensures chapter_full { (result ≡ Err TickFault.ChapterFull) ↔
+            ((clock self.old.core.history < self.old.core.limits.clock) × HasNoEntries self.old.core) }
+        ensures early { OnOk result (clock self.old.core.history < self.old.core.limits.clock) }
+        ensures entries { OnOk result (HasEntries self.old.core) }
+        ensures ok { IfOk result (λ report. Ticks self.old.core report self.new.core) }
+        ensures err { OnErr result (self.new.core ≡ self.old.core) }
+    {
+        self.core.tick(
+            rt,
+            self.ties.as_slice(),
+            self.arrivals.as_slice(),
+            &mut self.farewells,
+        )
     }
 }

@@ -2,9 +2,17 @@
 
 use crate::closures::run_with_kit;
 use crate::words::Job;
+use std::alloc::{Alloc, Global};
+use std::thread::Threads;
 
 /// What the program says to a bundle: its status, its output and its complaint.
-fn answers(rt: &HostRuntime, bundle: &[u8], status: u8, output: &[u8], complaint: &[u8]) -> bool {
+fn answers(
+    rt: &(impl Alloc<A = Global> + Threads + Sync),
+    bundle: &[u8],
+    status: u8,
+    output: &[u8],
+    complaint: &[u8],
+) -> bool {
     let mut input = bundle;
     let mut said = Vec::new(rt.alloc());
     let mut fault = Vec::new(rt.alloc());
@@ -128,4 +136,71 @@ fn faults_in_their_order(rt: HostRuntime) {
             b"errands: script 1\n"
         )
     );
+}
+
+/// A lone robot that goes south first, by its tie law.
+#[test]
+fn south_first(rt: HostRuntime) {
+    let bundle =
+        b"type octile\nheight 3\nwidth 3\nmap\n...\n...\n...\nscript\nties south\nrobots 0\npost 0 go 0 8\ntake 0\ntick 4\nshut 0\n";
+    let output =
+        b"posted 0 1\ntook 0 1 accepted 1\ntick 1: 3\ntick 2: 6\ntick 3: 7\ntick 4: 8\narrived robot 0 client 0 number 1 cell 8 stamp 4\nshut 0\nfarewell robot 0 stamp 8\n";
+    assert!(rt; answers(&rt, bundle, 0, output, b""));
+}
+
+/// Robots on each cell of a bridgeless map, of which one goes through all the others.
+#[test]
+fn six_on_six_cells(rt: HostRuntime) {
+    let bundle =
+        b"type octile\nheight 2\nwidth 3\nmap\n...\n...\nscript\nrobots 0 1 2 3 4 5\npost 0 go 0 5\ntake 0\ntick 3\n";
+    let output =
+        b"posted 0 1\ntook 0 1 accepted 1\ntick 1: 1 2 5 0 3 4\ntick 2: 2 5 4 0 3 1\ntick 3: 5 4 1 0 3 2\narrived robot 0 client 0 number 1 cell 5 stamp 0\n";
+    assert!(rt; answers(&rt, bundle, 0, output, b""));
+}
+
+#[test]
+fn full_cycle(rt: HostRuntime) {
+    let bundle =
+        b"type octile\nheight 2\nwidth 2\nmap\n..\n..\nscript\nrobots 0 1 2 3\npost 0 go 0 1\ntake 0\ntick\n";
+    let output =
+        b"posted 0 1\ntook 0 1 accepted 1\ntick 1: 1 3 0 2\narrived robot 0 client 0 number 1 cell 1 stamp 0\n";
+    assert!(rt; answers(&rt, bundle, 0, output, b""));
+}
+
+#[test]
+fn corridor_standoff(rt: HostRuntime) {
+    let bundle =
+        b"type octile\nheight 1\nwidth 3\nmap\n...\nscript\nrobots 0 2\npost 0 go 0 2\npost 0 go 1 0\ntake 0\ntake 0\ntick 2\n";
+    let output =
+        b"posted 0 1\nposted 0 2\ntook 0 1 accepted 1\ntook 0 2 accepted 2\ntick 1: 1 2\ntick 2: 1 2\n";
+    assert!(rt; answers(&rt, bundle, 0, output, b""));
+}
+
+#[test]
+fn failed_push(rt: HostRuntime) {
+    let bundle =
+        b"type octile\nheight 2\nwidth 3\nmap\n..@\n...\nscript\nrobots 5 0 1\npost 0 go 0 4\npost 0 go 1 4\ntake 0\ntake 0\ntick\n";
+    let output =
+        b"posted 0 1\nposted 0 2\ntook 0 1 accepted 1\ntook 0 2 accepted 2\ntick 1: 4 3 1\narrived robot 0 client 0 number 1 cell 4 stamp 0\n";
+    assert!(rt; answers(&rt, bundle, 0, output, b""));
+}
+
+/// Two robots on a ring, of which one has a further errand: each in turn has to give way.
+#[test]
+fn ring_of_eight(rt: HostRuntime) {
+    let bundle =
+        b"type octile\nheight 3\nwidth 3\nmap\n...\n.@.\n...\nscript\nrobots 0 8\npost 0 go 0 1\npost 0 go 0 2\npost 0 go 1 0\ntake 0\ntake 0\ntake 0\ntick 7\n";
+    let output =
+        b"posted 0 1\nposted 0 2\nposted 0 3\ntook 0 1 accepted 1\ntook 0 2 accepted 2\ntook 0 3 accepted 3\ntick 1: 1 5\narrived robot 0 client 0 number 1 cell 1 stamp 0\ntick 2: 1 2\ntick 3: 0 1\ntick 4: 3 0\narrived robot 1 client 0 number 3 cell 0 stamp 0\ntick 5: 0 1\ntick 6: 1 2\ntick 7: 2 5\narrived robot 0 client 0 number 2 cell 2 stamp 0\n";
+    assert!(rt; answers(&rt, bundle, 0, output, b""));
+}
+
+/// Around a wall, by the distances of the floor.
+#[test]
+fn way_round(rt: HostRuntime) {
+    let bundle =
+        b"type octile\nheight 2\nwidth 3\nmap\n.@.\n...\nscript\nrobots 0\npost 0 go 0 2\ntake 0\ntick 4\n";
+    let output =
+        b"posted 0 1\ntook 0 1 accepted 1\ntick 1: 3\ntick 2: 4\ntick 3: 5\ntick 4: 2\narrived robot 0 client 0 number 1 cell 2 stamp 0\n";
+    assert!(rt; answers(&rt, bundle, 0, output, b""));
 }

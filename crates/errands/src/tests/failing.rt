@@ -2,8 +2,9 @@
 
 use crate::closures::run_with_kit;
 use crate::words::Job;
-use std::alloc::Global;
+use std::alloc::{Alloc, Global};
 use std::io::{self, ErrorKind, Read, Write};
+use std::thread::Threads;
 
 const BUNDLE: &[u8] =
     b"type octile\nheight 1\nwidth 1\nmap\n.\nscript\nrobots 0\npost 0 go 0 0\ntake 0\ntick\n";
@@ -77,7 +78,12 @@ fn narrow_writer(alloc: Global, good_writes: u32) -> Narrow {
 }
 
 /// The status where so many reads and writes are good, with what stands on the two writers.
-fn runs(rt: &HostRuntime, good_reads: u32, output: &mut Narrow, error: &mut Narrow) -> u8 {
+fn runs(
+    rt: &(impl Alloc<A = Global> + Threads + Sync),
+    good_reads: u32,
+    output: &mut Narrow,
+    error: &mut Narrow,
+) -> u8 {
     let mut input = Drip {
         bytes: BUNDLE,
         good_reads,

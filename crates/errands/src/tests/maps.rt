@@ -2,11 +2,13 @@
 
 use crate::closures::run_with_kit;
 use crate::words::Job;
+use std::alloc::{Alloc, Global};
 use std::test::Fail;
+use std::thread::Threads;
 
 /// What the program says to a map: its status, its output and its complaint.
 fn tells(
-    rt: &HostRuntime,
+    rt: &(impl Alloc<A = Global> + Threads + Sync),
     map: &[u8],
     status: u8,
     output: &[u8],

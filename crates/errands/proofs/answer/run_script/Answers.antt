@@ -19,7 +19,7 @@ pub returns-in-Ok : goal.returns-in-Ok
 returns-in-Ok g c =
     let last : State g.row.A.Denot = state_of c.in-Ok.played.world.core (lists_of c.in-Ok.played) in
     let floor = floor-run (opened_state c.in_ok-grid.grid c.args.script.starts.items c.args.script.clients c.args.script.limits (laws_of c.cut-hooks.result)) last _ _ c.in-Ok.ensures.run in
-    let lawful = lawful_is (floor_of_map (view c.args.map)) c.in_ok-grid.grid last c.in_ok-grid.ensures floor c.in-Ok.ensures.legal c.in-Ok.ensures.rings c.in-Ok.ensures.arrivals c.in-Ok.ensures.numbers c.in-Ok.ensures.conflicts c.in-Ok.ensures.closes in
+    let lawful = lawful_is (floor_of_map (view c.args.map)) c.in_ok-grid.grid last c.in_ok-grid.ensures floor c.in-Ok.ensures.legal c.in-Ok.ensures.rings c.in-Ok.ensures.arrivals c.in-Ok.ensures.numbers c.in-Ok.ensures.numbered c.in-Ok.ensures.conflicts c.in-Ok.ensures.closes c.in-Ok.ensures.planned c.in-Ok.ensures.advancing in
     said_is (IsScriptOutcome g.row.A.Denot (kit_laws c.args.kit) (floor_of_map (view c.args.map)) (plan c.args.script)) c.played_lines.result _ c.played_lines.ensures
     (ran_is (kit_laws c.args.kit) (laws_of c.cut-hooks.result) (floor_of_map (view c.args.map)) c.in_ok-grid.grid (plan c.args.script) c.deref.result.now c.deref-in-Ok.result.now c.in-Ok.played.replies.items _ c.in_ok-grid.ensures c.deref.ensures.value c.deref-in-Ok.ensures.value (chosen_is (kit_laws c.args.kit) (plan c.args.script) (laws_of c.choose.result) c.len.result _ _ _ c.choose.ensures (search rules)
     (first_laws (λ x. x.law) c.len.result c.choose.result.ties.items c.cut-hooks.result.ties.items c.cut-hooks.ensures.ties)

@@ -1,9 +1,12 @@
-use Rattle.std.proofs.Common.{◌≡◌, map, sym, subst}
+use Rattle.std.proofs.Common.{◌≡◌, ℕ, Result, Err, map, sym, subst}
+use Rattle.fleet_world.specs.declared.faults.OpenFault.{OpenFault}
+use Rattle.fleet_world.specs.declared.faults.RunFault.{RunFault}
+use Rattle.fleet_world.specs.declared.faults.RunFault.TheVariants as run_fault
 use Rattle.fleet_history.specs.Legal.{IsLegal}
 use Rattle.fleet_history.proofs.Arrivals.{arrives-legal}
 use Rattle.fleet_history.proofs.Legal.{no_conflict-legal, none_closed-legal}
-use Rattle.fleet_history.proofs.Numbers.{arrivals_rise-legal}
 use Rattle.fleet_history.proofs.Once.{numbered-legal}
+use Rattle.fleet_history.proofs.Numbers.{arrivals_rise-legal}
 use Rattle.fleet_world.specs.Core.{Run, state_of, opened_state}
 use Rattle.fleet_world.specs.Hooks.{laws_of}
 use Rattle.fleet_world.specs.Laws.{KeepsRings}
@@ -16,6 +19,17 @@ use Rattle.fleet_world.proofs.play.run.Goals as goal
 pub returns-clause-refused : goal.returns-clause-refused
 returns-clause-refused g c f named =
     (λ s. cc, λ q. absurd (not_refused c.args.grid c.args.starts.items c.args.clients c.args.limits (laws_of c.args.hooks) f c.in-Ok.ensures.can q))
+
+abbrev Fails : (X : Type 0) → RunFault → Result X RunFault
+Fails X f = Err f
+
+-- want of memory is no refused opening
+other_fault : (X : Type 0) (n : ℕ) (f : OpenFault) → Fails X (run_fault.NoMemory n) ≡ Fails X (run_fault.Opening f) → ⊥
+other_fault X n f e = cc
+
+pub returns-in_default-leave_all-clause-refused : goal.returns-in_default-leave_all-clause-refused
+returns-in_default-leave_all-clause-refused g c f named =
+    (λ s. absurd (other_fault _ _ f s), λ q. absurd (not_refused c.args.grid c.args.starts.items c.args.clients c.args.limits (laws_of c.args.hooks) f c.in-Ok.ensures.can q))
 
 -- the run, from the opening
 played : (g : _) (c : goal.In-Ok-leave_all g) →

@@ -7,6 +7,7 @@ use Rattle.fleet_history.specs.History.{history_of, robots, unfinished, is_shut}
 use Rattle.fleet_history.specs.Legal.{Fits, IsFarewell}
 use Rattle.fleet_world.specs.Hooks.{AreFarewells, spare_laws}
 use Rattle.fleet_world.specs.Kept.{no_queue}
+use Rattle.fleet_world.proofs.Goaled.{IsAimed-shut}
 use Rattle.fleet_world.proofs.Hooked.{farewell-there, farewell-is, farewells-done, farewells-shut}
 use Rattle.fleet_world.proofs.Keeps.{IsKept-shut, shut-fits, delivered-shut, cells-kept}
 use Rattle.fleet_world.proofs.kernel.Core.shut.Goals as goal
@@ -17,7 +18,7 @@ spare_is g c = subst (λ w. AreFarewells w.history (spare_laws c.args.farewells.
 
 fits_is : (g : _) (c : After-add g) → Fits {A = g.row.A.Denot} c.self.inside.grid (history_of c.self.inside.chapter) (entry.Shut c.args.robot c.if-is_empty.farewell)
 fits_is g c =
-    let k = c.self.invariant in
+    let k = c.self.invariant.0 in
     let h = history_of c.self.inside.chapter in
     let known : c.args.robot < robots h = omega (arith, c.self.inside.queues.ok.0, k.queue_count) in
     let queue = get_or_read c.self.inside.queues.items c.args.robot c.index.result.now (omega (arith, k.queue_count)) c.index.ensures no_queue in
@@ -35,11 +36,11 @@ fits_is g c =
     c.args.robot c.is_empty.result c.if-is_empty.farewell k known (sym c.is_shut.ensures ∙ c.if-is_shut.false) (rw queue at c.is_empty.ensures) shown stamp
 
 pub index-requires-then-is_empty : goal.index-requires-then-is_empty
-index-requires-then-is_empty g c = omega (arith, c.self.inside.cells.ok.0, c.self.inside.queues.ok.0, cells-kept c.self.invariant)
+index-requires-then-is_empty g c = omega (arith, c.self.inside.cells.ok.0, c.self.inside.queues.ok.0, cells-kept c.self.invariant.0)
 
 pub returns-clause-farewells : goal.returns-clause-farewells
 returns-clause-farewells g c =
-    let k = c.self.invariant in
+    let k = c.self.invariant.0 in
     let h = history_of c.self.inside.chapter in
     let p = (goal.at.returns-clause-farewells g c).After-add in
     let known : c.args.robot < robots h = omega (arith, c.self.inside.queues.ok.0, k.queue_count) in
@@ -53,10 +54,13 @@ returns-clause-farewells g c =
     ])
 
 pub invariant_of-self-2 : goal.invariant_of-self-2
-invariant_of-self-2 g c =
-    rw (c.add.ensures.items, c.reserve.ensures.items, c.shut_robot.ensures)
-    (IsKept-shut c.self.inside.grid c.self.inside.limits (history_of c.self.inside.chapter) c.self.inside.cells.items c.self.inside.queues.items c.self.inside.book c.self.inside.tallies.items c.self.inside.mailboxes.items c.self.inside.tick
-    c.args.robot c.if-is_empty.farewell c.self.invariant (omega (arith, c.self.inside.chapter.entries.ok.0)) (fits_is g c))
+invariant_of-self-2 g c = (
+  rw (c.add.ensures.items, c.reserve.ensures.items, c.shut_robot.ensures)
+      (IsKept-shut c.self.inside.grid c.self.inside.limits (history_of c.self.inside.chapter) c.self.inside.cells.items c.self.inside.queues.items c.self.inside.book c.self.inside.tallies.items c.self.inside.mailboxes.items c.self.inside.tick
+      c.args.robot c.if-is_empty.farewell c.self.invariant.0 (omega (arith, c.self.inside.chapter.entries.ok.0)) (fits_is g c)),
+  rw (c.add.ensures.items, c.reserve.ensures.items)
+      (IsAimed-shut c.self.inside.grid c.self.inside.ties.items (history_of c.self.inside.chapter) c.self.inside.waits.items c.self.inside.aims c.self.inside.stepper c.self.inside.bridgeless c.self.inside.tick c.args.robot c.if-is_empty.farewell c.self.invariant.1),
+)
 
 pub returns-clause-ok : goal.returns-clause-ok
 returns-clause-ok g c =
