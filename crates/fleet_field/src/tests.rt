@@ -198,3 +198,29 @@ fn refused_growths(rt: HostRuntime) -> Result<(), Fail> {
     assert!(rt; unrefused.is_some());
     Ok(())
 }
+
+/// Holds all goals of a list, while one growth is refused, and once more where it was.
+#[test]
+fn refused_growths_of_several(rt: HostRuntime) -> Result<(), Fail> {
+    let grid = ring(&rt, rt.alloc())?;
+    let goals = [0, 8, 0];
+    assert!(rt; are_floor(&grid, &goals));
+    let mut unrefused = None;
+    for before in 0..32 {
+        let heap = Refusing::after(rt.alloc(), before);
+        let mut store = FieldStore::new(&heap)?;
+        match store.hold_all(&rt, &grid, &goals) {
+            Ok(_) => {
+                unrefused = Some(before);
+                break;
+            }
+            Err(_) => {
+                let keys = store.hold_all(&rt, &grid, &goals)?;
+                assert!(rt; keys.len() == 3 && keys[0] == keys[2]);
+                assert!(rt; store.is_held(keys[1]) && store.at(keys[1], 0) == Some(4));
+            }
+        }
+    }
+    assert!(rt; unrefused.is_some());
+    Ok(())
+}

@@ -1,0 +1,149 @@
+//! A world by its own calls, and growths refused.
+
+use super::refusing::Refusing;
+use super::seen::{ANY, STAMPS, go, grid_of};
+use fleet_grid::Grid;
+use fleet_hooks::{ArrivalHook, ArrivalView, Farewell, FarewellView, Hooks, TieHook, TieView};
+use fleet_map::MapText;
+use fleet_world::{Limits, Notice, OpenFault, ShutFault, TakeFault, TickReport, Verdict, World};
+use std::alloc::{AllocError, Allocator, Global};
+use std::process::Abort;
+use std::test::Fail;
+
+/// Closures for one robot: equal ranks, and its cell for a stamp.
+fn hooks_over<A: Allocator + Copy>(alloc: Global, lists: A) -> Result<Hooks<A>, AllocError> {
+    let mut hooks = Hooks {
+        ties: Vec::new(lists),
+        arrivals: Vec::new(lists),
+        farewells: Vec::new(lists),
+    };
+    hooks
+        .ties
+        .push(TieHook::new(ANY, Box::new(alloc, |_view: TieView| 0)?))?;
+    hooks.arrivals.push(ArrivalHook::new(STAMPS, Box::new(alloc, |view: ArrivalView| view.cell)?))?;
+    hooks.farewells.push(Farewell::new(STAMPS, Box::new(alloc, |view: FarewellView| view.cell)?))?;
+    Ok(hooks)
+}
+
+/// The grid `..`.
+fn pair_over<A: Allocator + Copy>(alloc: A) -> Result<Grid<A>, AllocError> {
+    let map = MapText {
+        height: 1,
+        width: 2,
+        cells: Vec::from_slice(alloc, b"..")?,
+    };
+    Grid::new(map)
+}
+
+#[test]
+fn calls_in_turn(rt: HostRuntime) -> Result<(), Fail> {
+    let alloc = rt.alloc();
+    let grid = grid_of(&rt, alloc, (1, 2), b"..")?;
+    let starts = Vec::from_slice(alloc, &[0])?;
+    let opened = World::open(
+        alloc,
+        grid,
+        starts,
+        1,
+        Limits::DEFAULT,
+        hooks_over(alloc, alloc)?,
+    );
+    let mut world = opened.ok().ok_or("a world")?;
+    assert!(rt; world.placement() == [0].as_slice() && world.clock() == 0);
+    assert!(rt; world.is_idle() && world.eldest() == None && !world.is_bridgeless());
+    assert!(rt; world.chapter().opening.clients.len() == 1);
+    assert!(rt; world.take(0, go(0, 1)) == Ok(Verdict::Accepted(1)));
+    assert!(rt; world.chapter().opening.robots.len() == 1);
+    assert!(rt; world.wait_of(0) == Some(0) && world.eldest() == Some(0));
+    let report = TickReport {
+        tick: 1,
+        arrived: 1,
+        farewells: 0,
+    };
+    assert!(rt; world.tick(&rt) == Ok(report));
+    assert!(rt; world.placement() == [1].as_slice() && world.clock() == 1);
+    assert!(rt; world.chapter().opening.robots.len() == 1);
+    assert!(rt; world.wait_of(0) == None && world.is_idle());
+    let verdict = Notice::Verdict {
+        seq: 1,
+        order_no: 1,
+        verdict: Verdict::Accepted(1),
+    };
+    assert!(rt; world.chapter().opening.clients.len() == 1);
+    assert!(rt; world.next_notice(0) == Some(verdict));
+    assert!(rt; world.give(0) == Some(verdict));
+    let arrived = Notice::Arrived {
+        seq: 2,
+        number: 1,
+        robot: 0,
+        cell: 1,
+        tick: 1,
+        stamp: 1,
+    };
+    assert!(rt; world.chapter().opening.clients.len() == 1);
+    assert!(rt; world.give(0) == Some(arrived));
+    assert!(rt; world.shut(0) == Ok(Some(1)));
+    assert!(rt; world.chapter().entries.len() == 3);
+    Ok(())
+}
+
+/// A take into a queue that is not empty grows the history at most.
+#[test]
+fn one_growth(rt: HostRuntime) -> Result<(), Fail> {
+    let heap = Refusing::after(rt.alloc(), 1_000);
+    let (grid, hooks) = (pair_over(&heap)?, hooks_over(rt.alloc(), &heap)?);
+    let starts = Vec::from_slice(&heap, &[0])?;
+    let opened = World::open(&heap, grid, starts, 1, Limits::DEFAULT, hooks);
+    let mut world = opened.ok().ok_or("a world")?;
+    for number in 1..12 {
+        heap.allow(if number == 1 { 1_000 } else { 1 });
+        assert!(rt; world.chapter().opening.clients.len() == 1);
+        assert!(rt; world.take(0, go(0, 1)) == Ok(Verdict::Accepted(number)));
+    }
+    Ok(())
+}
+
+/// A refused growth of a take or a shut leaves all as it was.
+#[test]
+fn refused_calls(rt: HostRuntime) -> Result<(), Fail> {
+    let heap = Refusing::after(rt.alloc(), 1_000);
+    let (grid, hooks) = (pair_over(&heap)?, hooks_over(rt.alloc(), &heap)?);
+    let starts = Vec::from_slice(&heap, &[0])?;
+    let opened = World::open(&heap, grid, starts, 1, Limits::DEFAULT, hooks);
+    let mut world = opened.ok().ok_or("a world")?;
+    heap.allow(0);
+    assert!(rt; world.shut(0) == Err(ShutFault::NoMemory));
+    assert!(rt; world.chapter().opening.clients.len() == 1);
+    assert!(rt; world.take(0, go(0, 1)) == Err(TakeFault::NoMemory));
+    assert!(rt; world.chapter().entries.is_empty() && world.is_idle());
+    heap.allow(1_000);
+    assert!(rt; world.chapter().opening.clients.len() == 1);
+    assert!(rt; world.take(0, go(0, 1)) == Ok(Verdict::Accepted(1)));
+    assert!(rt; world.shut(0) == Ok(None));
+    Ok(())
+}
+
+/// An opening that is refused one growth and all behind it, until it needs no more.
+#[test]
+fn refused_openings(rt: HostRuntime) -> Result<(), Fail> {
+    let heap = Refusing::after(rt.alloc(), 1_000);
+    let mut growths = None;
+    for before in 0..64 {
+        heap.allow(1_000);
+        let (grid, hooks) = (pair_over(&heap)?, hooks_over(rt.alloc(), &heap)?);
+        let starts = Vec::from_slice(&heap, &[0])?;
+        heap.allow(before);
+        match World::open(&heap, grid, starts, 1, Limits::DEFAULT, hooks) {
+            Ok(world) => {
+                assert!(rt; world.placement() == [0].as_slice());
+                growths = Some(before);
+                break;
+            }
+            Err(fault) => {
+                assert!(rt; fault == OpenFault::NoMemory);
+            }
+        }
+    }
+    assert!(rt; growths != Some(0) && growths != None);
+    Ok(())
+}

@@ -1,0 +1,156 @@
+//! What is seen of a run on a map.
+
+use fleet_grid::Grid;
+use fleet_hooks::{
+    ArrivalHook, ArrivalView, Farewell, FarewellView, Hooks, StampLaw, TieHook, TieLaw, TieView,
+};
+use fleet_map::MapText;
+use fleet_world::{Entry, Event, Limits, Order, Played, Reply, RunFault, run};
+use std::alloc::{Alloc, AllocError, Global};
+use std::process::Abort;
+use std::sync::Arc;
+use std::sync::atomic::{AtomicU64, Ordering};
+use std::test::Fail;
+use std::thread::Threads;
+
+/// Ranks of any kind.
+pub const ANY: TieLaw = TieLaw {
+    low: [0; 4],
+    high: [255; 4],
+};
+
+/// Stamps of any kind.
+pub const STAMPS: StampLaw = StampLaw {
+    low: 0,
+    high: 4_294_967_295,
+};
+
+/// What a run's replies and history show, and how often closures were called.
+#[derive(Drop)]
+pub struct Seen {
+    /// Why there was no run.
+    pub fault: Option<RunFault>,
+    pub replies: Vec<Reply>,
+    /// The robots' cells after each tick, tick by tick.
+    pub places: Vec<u32>,
+    /// The robots that arrived, tick by tick.
+    pub arrived: Vec<u32>,
+    /// How often an arrival closure was called.
+    pub arrival_calls: u64,
+    /// How often a farewell closure was called.
+    pub farewell_calls: u64,
+}
+
+impl Seen {
+    /// The reply to the event of this number, from 0.
+    pub fn reply(&self, event: usize) -> Option<Reply> {
+        self.replies.get(event).copied()
+    }
+}
+
+/// An order to go.
+pub fn go(robot: u32, cell: u32) -> Order {
+    Order::Go { robot, cell }
+}
+
+/// The grid of a map whose letters fill its sides.
+pub fn grid_of(
+    rt: &impl Abort,
+    alloc: Global,
+    sides: (u32, u32),
+    letters: &[u8],
+) -> Result<Grid, Fail> {
+    let (height, width) = sides;
+    assert!(rt; height <= 1024 && width <= 1024);
+    assert!(rt; letters.len() == height as usize * width as usize);
+    let map = MapText {
+        height,
+        width,
+        cells: Vec::from_slice(alloc, letters)?,
+    };
+    Ok(Grid::new(map)?)
+}
+
+/// The robots' cells after each tick of a run.
+fn places_of(alloc: Global, played: &Played) -> Result<Vec<u32>, AllocError> {
+    let mut places = Vec::new(alloc);
+    for entry in &played.world.chapter().entries {
+        if let Entry::Tick { to, .. } = entry {
+            places.extend_from_slice(to.as_slice())?;
+        }
+    }
+    Ok(places)
+}
+
+/// The robots that a run's ticks show as arrived.
+fn arrived_of(alloc: Global, played: &Played) -> Result<Vec<u32>, AllocError> {
+    let mut robots = Vec::new(alloc);
+    for entry in &played.world.chapter().entries {
+        if let Entry::Tick { arrived, .. } = entry {
+            for arrival in arrived.as_slice() {
+                robots.push(arrival.robot)?;
+            }
+        }
+    }
+    Ok(robots)
+}
+
+/// A run on a map with as many closures as are asked for: ties of equal rank, and stamps 0.
+pub fn seen_of(
+    rt: &(impl Alloc<A = Global> + Threads + Sync),
+    grid: Grid,
+    starts: &[u32],
+    hooked: usize,
+    limits: Limits,
+    events: &[Event],
+) -> Result<Seen, Fail> {
+    let alloc = rt.alloc();
+    let arrival_calls = Arc::new(alloc, AtomicU64::new(0))?;
+    let farewell_calls = Arc::new(alloc, AtomicU64::new(0))?;
+    let mut hooks = Hooks {
+        ties: Vec::new(alloc),
+        arrivals: Vec::new(alloc),
+        farewells: Vec::new(alloc),
+    };
+    for _robot in 0..hooked {
+        let arrival = Arc::try_clone(&arrival_calls)?;
+        let farewell = Arc::try_clone(&farewell_calls)?;
+        hooks
+            .ties
+            .push(TieHook::new(ANY, Box::new(alloc, |_view: TieView| 0)?))?;
+        let stamped = move |_view: ArrivalView| {
+            arrival.fetch_add(1, Ordering::SeqCst);
+            0
+        };
+        hooks
+            .arrivals
+            .push(ArrivalHook::new(STAMPS, Box::new(alloc, stamped)?))?;
+        let left = move |_view: FarewellView| {
+            farewell.fetch_add(1, Ordering::SeqCst);
+            0
+        };
+        hooks
+            .farewells
+            .push(Farewell::new(STAMPS, Box::new(alloc, left)?))?;
+    }
+    let starts = Vec::from_slice(alloc, starts)?;
+    let mut seen = Seen {
+        fault: None,
+        replies: Vec::new(alloc),
+        places: Vec::new(alloc),
+        arrived: Vec::new(alloc),
+        arrival_calls: 0,
+        farewell_calls: 0,
+    };
+    match run(rt, grid, starts, 1, limits, hooks, events) {
+        Ok(played) => {
+            seen.places = places_of(alloc, &played)?;
+            seen.arrived = arrived_of(alloc, &played)?;
+            seen.replies = played.replies;
+        }
+        Err(fault) => seen.fault = Some(fault),
+    }
+    seen.arrival_calls = arrival_calls.load(Ordering::SeqCst);
+    seen.farewell_calls = farewell_calls.load(Ordering::SeqCst);
+    Ok(seen)
+}
