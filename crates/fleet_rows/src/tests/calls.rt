@@ -64,6 +64,11 @@ fn calls_in_turn(rt: HostRuntime) -> Result<(), Fail> {
     assert!(rt; world.placement() == [1].as_slice() && world.clock() == 1);
     assert!(rt; world.chapter().opening.robots.len() == 1);
     assert!(rt; world.wait_of(0) == None && world.is_idle());
+    notices_in_turn(&rt, &mut world)
+}
+
+/// The notices of an errand to cell 1, which its robot has reached in one tick, and the robot's end.
+fn notices_in_turn(rt: &impl Abort, world: &mut World) -> Result<(), Fail> {
     let verdict = Notice::Verdict {
         seq: 1,
         order_no: 1,

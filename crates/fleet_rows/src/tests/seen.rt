@@ -95,26 +95,21 @@ fn arrived_of(alloc: Global, played: &Played) -> Result<Vec<u32>, AllocError> {
     Ok(robots)
 }
 
-/// A run on a map with as many closures as are asked for: ties of equal rank, and stamps 0.
-pub fn seen_of(
-    rt: &(impl Alloc<A = Global> + Threads + Sync),
-    grid: Grid,
-    starts: &[u32],
-    hooked: usize,
-    limits: Limits,
-    events: &[Event],
-) -> Result<Seen, Fail> {
-    let alloc = rt.alloc();
-    let arrival_calls = Arc::new(alloc, AtomicU64::new(0))?;
-    let farewell_calls = Arc::new(alloc, AtomicU64::new(0))?;
+/// So many closures of each kind: ties of equal rank, and stamps 0. Each call for an arrival or a farewell is counted.
+fn counted_hooks(
+    alloc: Global,
+    count: usize,
+    arrival_calls: &Arc<AtomicU64>,
+    farewell_calls: &Arc<AtomicU64>,
+) -> Result<Hooks, AllocError> {
     let mut hooks = Hooks {
         ties: Vec::new(alloc),
         arrivals: Vec::new(alloc),
         farewells: Vec::new(alloc),
     };
-    for _robot in 0..hooked {
-        let arrival = Arc::try_clone(&arrival_calls)?;
-        let farewell = Arc::try_clone(&farewell_calls)?;
+    for _robot in 0..count {
+        let arrival = Arc::try_clone(arrival_calls)?;
+        let farewell = Arc::try_clone(farewell_calls)?;
         hooks
             .ties
             .push(TieHook::new(ANY, Box::new(alloc, |_view: TieView| 0)?))?;
@@ -133,6 +128,22 @@ pub fn seen_of(
             .farewells
             .push(Farewell::new(STAMPS, Box::new(alloc, left)?))?;
     }
+    Ok(hooks)
+}
+
+/// A run on a map with as many closures as are asked for.
+pub fn seen_of(
+    rt: &(impl Alloc<A = Global> + Threads + Sync),
+    grid: Grid,
+    starts: &[u32],
+    hooked: usize,
+    limits: Limits,
+    events: &[Event],
+) -> Result<Seen, Fail> {
+    let alloc = rt.alloc();
+    let arrival_calls = Arc::new(alloc, AtomicU64::new(0))?;
+    let farewell_calls = Arc::new(alloc, AtomicU64::new(0))?;
+    let hooks = counted_hooks(alloc, hooked, &arrival_calls, &farewell_calls)?;
     let starts = Vec::from_slice(alloc, starts)?;
     let mut seen = Seen {
         fault: None,
