@@ -2,7 +2,7 @@
 use Rattle.std.specs.Prelude.{ℕ, List, Option, Some, None, codes, if◌then◌else◌}
 use Rattle.std.specs.Str.{bytes_eq}
 use Rattle.bench.specs.declared.kernel.Kernel.{Kernel}
-use Rattle.bench.specs.declared.kernel.Kernel.TheVariants.{Field, Fields, Bridge, Check, Step}
+use Rattle.bench.specs.declared.kernel.Kernel.TheVariants.{Field, Fields, Bridge, Check, Step, Tick}
 
 abbrev pub kernel_named : List ℕ → Option Kernel
 kernel_named word =
@@ -11,4 +11,5 @@ kernel_named word =
     else if bytes_eq word (codes "bridge") then Some Bridge
     else if bytes_eq word (codes "check") then Some Check
     else if bytes_eq word (codes "step") then Some Step
+    else if bytes_eq word (codes "tick") then Some Tick
     else None

@@ -8,6 +8,7 @@ use crate::checks::measure_check;
 use crate::fields::{measure_field, measure_fields};
 use crate::kind::Kind;
 use crate::steps::measure_step;
+use crate::ticks::measure_tick;
 use std::alloc::{Alloc, Global};
 use std::io;
 use std::thread::Threads;
@@ -26,6 +27,8 @@ pub enum Kernel {
     Check,
     /// A step of all robots, by robot.
     Step,
+    /// A tick of a world, by robot.
+    Tick,
 }
 
 impl Kernel {
@@ -39,6 +42,7 @@ impl Kernel {
             "bridge" => Some(Kernel::Bridge),
             "check" => Some(Kernel::Check),
             "step" => Some(Kernel::Step),
+            "tick" => Some(Kernel::Tick),
             _ => None,
         }
     }
@@ -55,5 +59,6 @@ pub fn run<R: Alloc<A = Global> + Clock + Print + Threads + Sync>(
         Kernel::Bridge => measure_bridge(rt, &Kind::ALL),
         Kernel::Check => measure_check(rt, &[Kind::Warehouse, Kind::Open]),
         Kernel::Step => measure_step(rt, &[Kind::Warehouse, Kind::Open]),
+        Kernel::Tick => measure_tick(rt, &[Kind::Warehouse, Kind::Open]),
     }
 }

@@ -15,6 +15,7 @@ mod site;
 mod steps;
 #[cfg(test)]
 mod tests;
+mod ticks;
 
 use kernel::{Kernel, run};
 use std::alloc::Alloc;
@@ -22,7 +23,7 @@ use std::env::Env;
 use std::{env, io};
 
 /// What is printed where no kernel is named.
-const KERNELS: &str = "bench: name a kernel: field, fields, bridge, check or step\n";
+const KERNELS: &str = "bench: name a kernel: field, fields, bridge, check, step or tick\n";
 
 /// The kernel that the first word behind the program's name is.
 fn kernel_asked(rt: &(impl Env + Alloc)) -> io::Result<Option<Kernel>> {

@@ -23,7 +23,7 @@ pub const FLEETS: [usize; 3] = [16, 128, 512];
 const MOST: usize = 512;
 
 /// A law that any rank meets.
-const ANY: TieLaw = TieLaw {
+pub const ANY: TieLaw = TieLaw {
     low: [0; 4],
     high: [255; 4],
 };

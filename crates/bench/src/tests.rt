@@ -42,6 +42,7 @@ fn maps_as_they_are_known(rt: HostRuntime) -> Result<(), Fail> {
 #[test]
 fn words_of_kernels(rt: HostRuntime) {
     assert!(rt; Kernel::named("step") == Some(Kernel::Step));
+    assert!(rt; Kernel::named("tick") == Some(Kernel::Tick));
     assert!(rt; Kernel::named("steps").is_none());
 }
 
