@@ -5,23 +5,37 @@ use super::seen::{ANY, STAMPS, go, grid_of};
 use fleet_grid::Grid;
 use fleet_hooks::{ArrivalHook, ArrivalView, Farewell, FarewellView, Hooks, TieHook, TieView};
 use fleet_map::MapText;
-use fleet_world::{Limits, Notice, OpenFault, ShutFault, TakeFault, TickReport, Verdict, World};
+use fleet_world::{
+    Limits, Notice, OpenFault, Order, ShutFault, TakeFault, TickReport, Verdict, World,
+};
 use std::alloc::{AllocError, Allocator, Global};
 use std::process::Abort;
 use std::test::Fail;
 
-/// Closures for one robot: equal ranks, and its cell for a stamp.
-fn hooks_over<A: Allocator + Copy>(alloc: Global, lists: A) -> Result<Hooks<A>, AllocError> {
+/// Closures for so many robots: equal ranks, and its cell for a stamp.
+fn hooks_over<A: Allocator + Copy>(
+    alloc: Global,
+    lists: A,
+    robots: usize,
+) -> Result<Hooks<A>, AllocError> {
     let mut hooks = Hooks {
         ties: Vec::new(lists),
         arrivals: Vec::new(lists),
         farewells: Vec::new(lists),
     };
-    hooks
-        .ties
-        .push(TieHook::new(ANY, Box::new(alloc, |_view: TieView| 0)?))?;
-    hooks.arrivals.push(ArrivalHook::new(STAMPS, Box::new(alloc, |view: ArrivalView| view.cell)?))?;
-    hooks.farewells.push(Farewell::new(STAMPS, Box::new(alloc, |view: FarewellView| view.cell)?))?;
+    for _robot in 0..robots {
+        hooks
+            .ties
+            .push(TieHook::new(ANY, Box::new(alloc, |_view: TieView| 0)?))?;
+        hooks.arrivals.push(ArrivalHook::new(
+            STAMPS,
+            Box::new(alloc, |view: ArrivalView| view.cell)?,
+        ))?;
+        hooks.farewells.push(Farewell::new(
+            STAMPS,
+            Box::new(alloc, |view: FarewellView| view.cell)?,
+        ))?;
+    }
     Ok(hooks)
 }
 
@@ -46,7 +60,7 @@ fn calls_in_turn(rt: HostRuntime) -> Result<(), Fail> {
         starts,
         1,
         Limits::DEFAULT,
-        hooks_over(alloc, alloc)?,
+        hooks_over(alloc, alloc, 1)?,
     );
     let mut world = opened.ok().ok_or("a world")?;
     assert!(rt; world.placement() == [0].as_slice() && world.clock() == 0);
@@ -92,11 +106,52 @@ fn notices_in_turn(rt: &impl Abort, world: &mut World) -> Result<(), Fail> {
     Ok(())
 }
 
+/// The verdict on an order of the only client.
+fn verdict_on(world: &mut World, order: Order) -> Option<Verdict> {
+    if world.chapter().opening.clients.is_empty() {
+        return None;
+    }
+    world.take(0, order).ok()
+}
+
+/// The waits of the first two robots.
+fn two_waits(world: &World) -> (Option<u64>, Option<u64>) {
+    if world.chapter().opening.robots.len() < 2 {
+        return (None, None);
+    }
+    (world.wait_of(0), world.wait_of(1))
+}
+
+/// Two robots on a ring: a wait counts from the arrival before, and the longer one makes the eldest.
+#[test]
+fn waits_on_the_ring(rt: HostRuntime) -> Result<(), Fail> {
+    let alloc = rt.alloc();
+    let grid = grid_of(&rt, alloc, (3, 3), b"....@....")?;
+    let starts = Vec::from_slice(alloc, &[0, 8])?;
+    let hooks = hooks_over(alloc, alloc, 2)?;
+    let opened = World::open(alloc, grid, starts, 1, Limits::DEFAULT, hooks);
+    let mut world = opened.ok().ok_or("a world")?;
+    assert!(rt; world.is_bridgeless());
+    assert!(rt; verdict_on(&mut world, go(0, 1)) == Some(Verdict::Accepted(1)));
+    assert!(rt; verdict_on(&mut world, go(0, 2)) == Some(Verdict::Accepted(2)));
+    assert!(rt; verdict_on(&mut world, go(1, 0)) == Some(Verdict::Accepted(3)));
+    assert!(rt; world.tick(&rt).is_ok() && world.placement() == [1, 5].as_slice());
+    assert!(rt; two_waits(&world) == (Some(0), Some(1)) && world.eldest() == Some(1));
+    for _tick in 2..7 {
+        assert!(rt; world.tick(&rt).is_ok());
+    }
+    assert!(rt; world.placement() == [1, 2].as_slice());
+    assert!(rt; two_waits(&world) == (Some(5), None) && world.eldest() == Some(0));
+    assert!(rt; world.tick(&rt).is_ok() && world.placement() == [2, 5].as_slice());
+    assert!(rt; world.is_idle());
+    Ok(())
+}
+
 /// A take into a queue that is not empty grows the history at most.
 #[test]
 fn one_growth(rt: HostRuntime) -> Result<(), Fail> {
     let heap = Refusing::after(rt.alloc(), 1_000);
-    let (grid, hooks) = (pair_over(&heap)?, hooks_over(rt.alloc(), &heap)?);
+    let (grid, hooks) = (pair_over(&heap)?, hooks_over(rt.alloc(), &heap, 1)?);
     let starts = Vec::from_slice(&heap, &[0])?;
     let opened = World::open(&heap, grid, starts, 1, Limits::DEFAULT, hooks);
     let mut world = opened.ok().ok_or("a world")?;
@@ -112,7 +167,7 @@ fn one_growth(rt: HostRuntime) -> Result<(), Fail> {
 #[test]
 fn refused_calls(rt: HostRuntime) -> Result<(), Fail> {
     let heap = Refusing::after(rt.alloc(), 1_000);
-    let (grid, hooks) = (pair_over(&heap)?, hooks_over(rt.alloc(), &heap)?);
+    let (grid, hooks) = (pair_over(&heap)?, hooks_over(rt.alloc(), &heap, 1)?);
     let starts = Vec::from_slice(&heap, &[0])?;
     let opened = World::open(&heap, grid, starts, 1, Limits::DEFAULT, hooks);
     let mut world = opened.ok().ok_or("a world")?;
@@ -135,7 +190,7 @@ fn refused_openings(rt: HostRuntime) -> Result<(), Fail> {
     let mut growths = None;
     for before in 0..64 {
         heap.allow(1_000);
-        let (grid, hooks) = (pair_over(&heap)?, hooks_over(rt.alloc(), &heap)?);
+        let (grid, hooks) = (pair_over(&heap)?, hooks_over(rt.alloc(), &heap, 1)?);
         let starts = Vec::from_slice(&heap, &[0])?;
         heap.allow(before);
         match World::open(&heap, grid, starts, 1, Limits::DEFAULT, hooks) {
