@@ -4,7 +4,7 @@ use Rattle.fleet_hooks.specs.declared.law.StampLaw.{StampLaw}
 use Rattle.fleet_hooks.specs.declared.law.TieLaw.{TieLaw}
 use Rattle.fleet_world.specs.Hooks.{HookLaws}
 use Rattle.errands.specs.Kit.{KitLaws, cut_laws, chosen_laws}
-use Rattle.errands.specs.Script.{Plan}
+use Rattle.fleet_script.specs.Script.{Plan}
 use Rattle.std.specs.Prelude.{if◌then◌else◌}
 
 map_take : {X Y : Type 0} (f : X → Y) (n : ℕ) (xs : List X) → map f (take n xs) ≡ take n (map f xs)

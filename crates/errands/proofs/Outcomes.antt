@@ -18,7 +18,7 @@ use Rattle.errands.specs.declared.said.Complaint.TheVariants as complaint
 use Rattle.errands.specs.Outcome.{Outcome, IsScriptOutcome, IsLawfulEnd, IsMapNamed, IsJobOutcome, refused, ran, run_outcome, fault}
 use Rattle.errands.specs.declared.words.Job.{Job}
 use Rattle.fleet_world.specs.Hooks.{HookLaws}
-use Rattle.errands.specs.Script.{Plan}
+use Rattle.fleet_script.specs.Script.{Plan}
 use Rattle.errands.specs.Kit.{KitLaws, chosen_laws}
 use Rattle.fleet_map.specs.declared.fault.MapFault.{MapFault}
 use Rattle.fleet_map.specs.declared.fault.MapFault.TheVariants as map_fault
@@ -26,9 +26,9 @@ use Rattle.fleet_map.specs.Grammar.{Fails, map_of}
 use Rattle.fleet_world.specs.declared.faults.OpenFault.{OpenFault}
 use Rattle.fleet_world.specs.Opening.{IsNamed, IsRefused}
 use Rattle.errands.specs.Said.{said}
-use Rattle.errands.specs.Shown.{FailsAt}
-use Rattle.errands.specs.declared.script.ScriptFault.{ScriptFault}
-use Rattle.errands.specs.declared.script.ScriptFault.TheVariants as script_fault
+use Rattle.fleet_script.specs.Shown.{FailsAt}
+use Rattle.fleet_script.specs.declared.script.ScriptFault.{ScriptFault}
+use Rattle.fleet_script.specs.declared.script.ScriptFault.TheVariants as script_fault
 
 -- a run has a reply for each event
 pub run_length : {A : Type 0} (s t : State A) (events : List Event) (replies : List Reply) → Run s events replies t → length replies ≡ length events

@@ -2,7 +2,7 @@
 use Rattle.std.specs.Prelude.{ℕ, length, take, if◌then◌else◌}
 use Rattle.fleet_world.specs.Hooks.{HookLaws, laws_of}
 use Rattle.errands.specs.declared.kit.HookKit.{HookKit}
-use Rattle.errands.specs.Script.{Plan}
+use Rattle.fleet_script.specs.Script.{Plan}
 
 pub record KitLaws : Type 0 where
   pub plain : HookLaws

@@ -1,13 +1,9 @@
-pub mod Numbers
-pub mod Script
-pub mod Shown
 pub mod Output
 pub mod MapReport
 pub mod Command
 pub mod Asked
 pub mod Complaint
 pub mod Transfer
-pub mod Bundle
 pub mod Kit
 pub mod Outcome
 pub mod Said

@@ -22,8 +22,8 @@ use Rattle.errands.specs.declared.words.Job.{Job}
 use Rattle.errands.specs.declared.words.Job.TheVariants as job
 use Rattle.errands.specs.declared.said.Complaint.{Complaint}
 use Rattle.errands.specs.declared.said.Complaint.TheVariants as complaint
-use Rattle.errands.specs.Bundle.{HasNoScript, IsBundle}
-use Rattle.errands.specs.Script.{Plan, script_of}
+use Rattle.fleet_script.specs.Bundle.{HasNoScript, IsBundle}
+use Rattle.fleet_script.specs.Script.{Plan, script_of}
 use Rattle.errands.specs.Kit.{KitLaws, chosen_laws}
 use Rattle.errands.specs.Output.{run_text, is_limit_met}
 use Rattle.errands.specs.MapReport.{IsMapReport}

@@ -9,19 +9,18 @@ ghost use Rattle.errands.specs.Output.{is_limit_met};
 ghost use Rattle.errands.specs.Outcome.{IsBundleOutcome, IsMapOutcome, IsDescribed, IsPartsOutcome, IsScriptOutcome, IsJobOutcome, IsMapNamed, floor_of_map, run_outcome};
 ghost use Rattle.errands.specs.Kit.{kit_laws};
 ghost use Rattle.errands.specs.Said.{said};
-ghost use Rattle.errands.specs.Shown.{plan};
+ghost use Rattle.fleet_script.specs.Shown.{plan};
 ghost use Rattle.errands.specs.declared.said.Complaint.{Complaint};
 
-use crate::bundle::split_bundle;
 use crate::kit::HookKit;
 use crate::map_report::map_report;
 use crate::report::report;
 use crate::said::{Complaint, Said, faulty, line_of};
-use crate::script::{Script, ScriptFault, read_script};
 use crate::words::Job;
 use fleet_grid::Grid;
 use fleet_history::Entry;
 use fleet_map::{MapFault, MapText, read_map};
+use fleet_script::{Script, ScriptFault, read_script, split_bundle};
 use fleet_world::{
     Event, OpenFault, Played, Reply, RunFault, ShutFault, TakeFault, TickFault, run,
 };

@@ -18,6 +18,11 @@ pub enum InputFault {
 }
 
 impl From<AllocError> for InputFault {
+    ghost use Rattle.std.specs.Prelude.{◌≡◌};
+    ghost use Rattle.errands.specs.declared.input.InputFault.TheVariants.{NoMemory};
+
+    ghost from_gives = { λ _ e. e ≡ NoMemory };
+
     fn from(_error: AllocError) -> InputFault {
         InputFault::NoMemory
     }

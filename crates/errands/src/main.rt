@@ -4,19 +4,14 @@
 #![tactic(auto)]
 
 mod answer;
-mod bundle;
 mod closures;
-mod head;
 mod input;
 mod kit;
-mod lines;
 mod map_report;
-mod numbers;
 mod output;
 mod program;
 mod report;
 mod said;
-mod script;
 #[cfg(test)]
 mod tests;
 mod texts;

@@ -2,7 +2,7 @@ use Rattle.std.proofs.Common.{ap, refl}
 use Rattle.fleet_map.specs.Grammar.{view}
 use Rattle.errands.specs.Outcome.{IsScriptOutcome, IsPartsOutcome, floor_of_map, fault, done, map_faulty, script_faulty}
 use Rattle.errands.specs.Kit.{kit_laws}
-use Rattle.errands.specs.Shown.{plan}
+use Rattle.fleet_script.specs.Shown.{plan}
 use Rattle.errands.proofs.Outcomes.{said_is, said_more, map_fails, fails_line}
 use Rattle.errands.proofs.answer.answer_parts.Goals as goal
 
@@ -12,8 +12,8 @@ returns-in-Err g c = said_is (IsPartsOutcome g.row.A.Denot (kit_laws c.args.kit)
 
 pub returns-in-Ok-read_script : goal.returns-in-Ok-read_script
 returns-in-Ok-read_script g c = said_more (IsScriptOutcome g.row.A.Denot (kit_laws c.args.kit) (floor_of_map (view c.in-Ok.map)) (plan c.in-Ok-read_script.script)) (IsPartsOutcome g.row.A.Denot (kit_laws c.args.kit) c.args.map.now c.args.script.now) c.run_script.result
-    (λ o p. done (view c.in-Ok.map) (plan c.in-Ok-read_script.script) c.in-Ok.ensures.exact c.in-Ok-read_script.ensures p) c.run_script.ensures
+    (λ o p. done (view c.in-Ok.map) (plan c.in-Ok-read_script.script) c.in-Ok.ensures.exact c.in-Ok-read_script.ensures.read p) c.run_script.ensures
 
 pub returns : goal.returns
 returns g c = said_is (IsPartsOutcome g.row.A.Denot (kit_laws c.args.kit) c.args.map.now c.args.script.now) c.faulty-in-Err-Line.result _ c.faulty-in-Err-Line.ensures
-    (script_faulty (view c.in-Ok.map) c.in-Err-Line.line c.in-Ok.ensures.exact (fails_line c.in-Err-Line.field-0 c.in-Err-Line.line _ c.in-Err-Line.field-0-is c.in-Err-Line.ensures) refl)
+    (script_faulty (view c.in-Ok.map) c.in-Err-Line.line c.in-Ok.ensures.exact (fails_line c.in-Err-Line.field-0 c.in-Err-Line.line _ c.in-Err-Line.field-0-is c.in-Err-Line.ensures.read) refl)

@@ -6,7 +6,7 @@ use Rattle.fleet_world.specs.Played.{lists_of}
 use Rattle.fleet_world.specs.Hooks.{laws_of}
 use Rattle.errands.specs.Kit.{kit_laws}
 use Rattle.errands.specs.Outcome.{IsScriptOutcome, floor_of_map}
-use Rattle.errands.specs.Shown.{plan}
+use Rattle.fleet_script.specs.Shown.{plan}
 use Rattle.errands.proofs.Outcomes.{run_length, said_is, ran_is, lawful_is, refused_is}
 use Rattle.errands.proofs.Runs.{floor-run}
 use Rattle.errands.proofs.Kits.{first_laws, chosen_is}

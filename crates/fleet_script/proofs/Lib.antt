@@ -1,0 +1,6 @@
+pub mod Starts
+pub mod Bundles
+pub mod Heads
+pub mod Forms
+pub mod Values
+pub mod Readings

@@ -1,0 +1,5 @@
+pub mod Numbers
+pub mod Script
+pub mod Shown
+pub mod Grammar
+pub mod Bundle

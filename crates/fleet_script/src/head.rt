@@ -1,0 +1,163 @@
+//! The limits that a script's head gives.
+
+ghost use Rattle.std.specs.Prelude.{◌≡◌};
+ghost use Rattle.fleet_map.specs.Text.{words_of};
+ghost use Rattle.fleet_script.specs.Script.{limit_named, ties_in, if_new, with_limit, limits_of, no_limits};
+
+use crate::numbers::{one_number, one_small_number};
+use fleet_book::Limits;
+use fleet_map::text::first_word;
+
+/// The name of a limit, as a header line begins with it.
+#[derive(Clone, Copy, Debug, PartialEq, Eq)]
+pub enum LimitName {
+    Lane,
+    Outlet,
+    Queue,
+    Mailbox,
+    Life,
+    Orders,
+    Clock,
+    Chapter,
+    Chapters,
+}
+
+/// The limits that header lines gave so far.
+#[derive(Clone, Copy, Debug, PartialEq, Eq)]
+pub struct GivenLimits {
+    pub lane: Option<u32>,
+    pub outlet: Option<u32>,
+    pub queue: Option<u32>,
+    pub mailbox: Option<u32>,
+    pub life: Option<u64>,
+    pub orders: Option<u64>,
+    pub clock: Option<u64>,
+    pub chapter: Option<u32>,
+    pub chapters: Option<u32>,
+}
+
+/// The limit that a header line begins with.
+pub fn limit_name(key: &[u8]) -> Option<LimitName>
+    ensures { result ≡ limit_named key.now }
+{
+    if key == b"lane".as_slice() {
+        Some(LimitName::Lane)
+    } else if key == b"outlet".as_slice() {
+        Some(LimitName::Outlet)
+    } else if key == b"queue".as_slice() {
+        Some(LimitName::Queue)
+    } else if key == b"mailbox".as_slice() {
+        Some(LimitName::Mailbox)
+    } else if key == b"life".as_slice() {
+        Some(LimitName::Life)
+    } else if key == b"orders".as_slice() {
+        Some(LimitName::Orders)
+    } else if key == b"clock".as_slice() {
+        Some(LimitName::Clock)
+    } else if key == b"chapter".as_slice() {
+        Some(LimitName::Chapter)
+    } else if key == b"chapters".as_slice() {
+        Some(LimitName::Chapters)
+    } else {
+        None
+    }
+}
+
+/// Which closures rank the cells, as the words say: whether the southern ones.
+pub fn is_south(words: &[u8]) -> Option<bool>
+    ensures { result ≡ ties_in (words_of words.now) }
+{
+    let (word, rest) = first_word(words)?;
+    if first_word(rest).is_some() {
+        return None;
+    }
+    if word == b"plain".as_slice() {
+        Some(false)
+    } else if word == b"south".as_slice() {
+        Some(true)
+    } else {
+        None
+    }
+}
+
+/// What a header line says, where none said it before.
+pub fn only_once<T: Copy>(old: Option<T>, said: Option<T>) -> Option<T>
+    ensures { result ≡ if_new old said }
+{
+    match old {
+        Some(_) => None,
+        None => said,
+    }
+}
+
+impl GivenLimits {
+    /// No limit is given.
+    pub const NONE: GivenLimits = GivenLimits {
+        lane: None,
+        outlet: None,
+        queue: None,
+        mailbox: None,
+        life: None,
+        orders: None,
+        clock: None,
+        chapter: None,
+        chapters: None,
+    };
+
+    /// The limits with one more, which these words give.
+    pub fn with(self, name: LimitName, words: &[u8]) -> Option<GivenLimits>
+        ensures { result ≡ with_limit self name (words_of words.now) }
+    {
+        let mut given = self;
+        match name {
+            LimitName::Lane => given.lane = Some(only_once(self.lane, one_small_number(words))?),
+            LimitName::Outlet => given.outlet = Some(only_once(
+                self.outlet,
+                one_small_number(words),
+            )?),
+            LimitName::Queue => given.queue = Some(only_once(self.queue, one_small_number(words))?),
+            LimitName::Mailbox => given.mailbox = Some(only_once(
+                self.mailbox,
+                one_small_number(words),
+            )?),
+            LimitName::Life => given.life = Some(only_once(
+                self.life,
+                one_number(words, u64::MAX),
+            )?),
+            LimitName::Orders => given.orders = Some(only_once(
+                self.orders,
+                one_number(words, u64::MAX),
+            )?),
+            LimitName::Clock => given.clock = Some(only_once(
+                self.clock,
+                one_number(words, u64::MAX),
+            )?),
+            LimitName::Chapter => given.chapter = Some(only_once(
+                self.chapter,
+                one_small_number(words),
+            )?),
+            LimitName::Chapters => given.chapters = Some(only_once(
+                self.chapters,
+                one_small_number(words),
+            )?),
+        }
+        Some(given)
+    }
+
+    /// The given limits, and the program's own for the others.
+    pub fn limits(self) -> Limits
+        ensures { result ≡ limits_of self }
+    {
+        Limits {
+            lane: self.lane.unwrap_or(Limits::DEFAULT.lane),
+            outlet: self.outlet.unwrap_or(Limits::DEFAULT.outlet),
+            queue: self.queue.unwrap_or(Limits::DEFAULT.queue),
+            mailbox: self.mailbox.unwrap_or(Limits::DEFAULT.mailbox),
+            life: self.life.unwrap_or(Limits::DEFAULT.life),
+            orders: self.orders.unwrap_or(Limits::DEFAULT.orders),
+            clock: self.clock.unwrap_or(Limits::DEFAULT.clock),
+            chapter: self.chapter.unwrap_or(Limits::DEFAULT.chapter),
+            chapters: self.chapters.unwrap_or(Limits::DEFAULT.chapters),
+        }
+    }
+}

@@ -1,0 +1,14 @@
+//! Script text: what a fleet begins with and the events that follow, read from its lines; and bundles of a map and a script.
+#![tactic(auto)]
+
+mod bundle;
+mod head;
+mod lines;
+mod numbers;
+mod script;
+
+pub use bundle::split_bundle;
+pub use script::{Script, ScriptFault, read_script};
+
+#[cfg(test)]
+mod tests;

@@ -1,0 +1,87 @@
+//! The lines of a script.
+
+ghost use Rattle.std.specs.Prelude.{◌≡◌, ◌≤◌, length, IfOk, IfSome, Some, Ok};
+ghost use Rattle.std.specs.Option.{option_map};
+ghost use Rattle.fleet_map.specs.Text.{words_of};
+ghost use Rattle.fleet_script.specs.Script.{order_in, post_in, ticks_in, events_of};
+ghost use Rattle.fleet_script.specs.Shown.{repeated};
+
+use crate::numbers::{one_number, one_small_number, small_number};
+use fleet_book::Order;
+use fleet_map::text::first_word;
+use fleet_world::Event;
+
+/// The events of a line: one event, and how often.
+#[derive(Clone, Copy, Debug, PartialEq, Eq)]
+pub struct Repeat {
+    pub event: Event,
+    pub times: u32,
+}
+
+/// An order: `close`, or `go`, robot and cell.
+fn order(word: &[u8], words: &[u8]) -> Option<Order>
+    ensures { result ≡ order_in word.now (words_of words.now) }
+{
+    let Some((robot, rest)) = first_word(words) else {
+        return if word == b"close".as_slice() {
+            Some(Order::Close)
+        } else {
+            None
+        };
+    };
+    let (cell, rest) = first_word(rest)?;
+    if first_word(rest).is_some() || word != b"go".as_slice() {
+        return None;
+    }
+    let robot = small_number(robot)?;
+    let cell = small_number(cell)?;
+    Some(Order::Go { robot, cell })
+}
+
+/// A post: client and order.
+fn post(words: &[u8]) -> Option<Event>
+    ensures { result ≡ post_in (words_of words.now) }
+{
+    let (client, rest) = first_word(words)?;
+    let (word, rest) = first_word(rest)?;
+    let client = small_number(client)?;
+    let order = order(word, rest)?;
+    Some(Event::Post(client, order))
+}
+
+/// How many ticks.
+fn tick_count(words: &[u8]) -> Option<u32>
+    ensures { result ≡ ticks_in (words_of words.now) }
+{
+    if first_word(words).is_none() {
+        return Some(1);
+    }
+    match one_number(words, 1_000_000) {
+        Some(count) if count >= 1 => Some(count as u32),
+        _ => None,
+    }
+}
+
+/// The events of an event line, by its first word and the others.
+pub fn events_of_line(key: &[u8], words: &[u8]) -> Option<Repeat>
+    ensures { option_map repeated result ≡ events_of key.now (words_of words.now) }
+{
+    let mut times = 1;
+    let event = if key == b"post".as_slice() {
+        post(words)?
+    } else if key == b"take".as_slice() {
+        Event::Take(one_small_number(words)?)
+    } else if key == b"tick".as_slice() {
+        times = tick_count(words)?;
+        Event::Tick
+    } else if key == b"give".as_slice() {
+        Event::Give(one_small_number(words)?)
+    } else if key == b"collect".as_slice() {
+        Event::Collect(one_small_number(words)?)
+    } else if key == b"shut".as_slice() {
+        Event::Shut(one_small_number(words)?)
+    } else {
+        return None;
+    };
+    Some(Repeat { event, times })
+}

@@ -1,0 +1,254 @@
+//! Scripts: what a fleet begins with, and the events that follow.
+
+ghost use Rattle.std.specs.Prelude.{◌≡◌, ◌≤◌, ◌+◌, ◌<◌, ◌++◌, ◌^◌, length, replicate, map, IfOk, IfErr, OnOk, Some, Ok, Err, ℕ};
+ghost use Rattle.std.specs.Option.{option_map};
+ghost use Rattle.fleet_map.specs.Text.{words_of, lines_of};
+ghost use Rattle.fleet_script.specs.Script.{starts_in, with_header, with_events, with_words, with_line, draft_of, or_line, script_of, blank_draft, plan_from, Plan};
+ghost use Rattle.fleet_script.specs.Grammar.{IsScript, IsFirstFault, lines_in};
+ghost use Rattle.fleet_script.specs.Numbers.{numbers_in};
+ghost use Rattle.fleet_script.specs.Shown.{repeated, shown, plan, Gives};
+ghost use Rattle.fleet_script.specs.declared.lines.Repeat.{Repeat};
+ghost use Rattle.fleet_script.specs.declared.script.ScriptFault.{ScriptFault};
+
+use crate::head::{GivenLimits, is_south, limit_name, only_once};
+use crate::lines::{Repeat, events_of_line};
+use crate::numbers::{one_small_number, small_number};
+use fleet_book::Limits;
+use fleet_map::text::{first_line, first_word};
+use fleet_world::Event;
+use std::alloc::{AllocError, Allocator, Global};
+
+/// What a script says.
+#[derive(Drop)]
+pub struct Script<A: Allocator + Copy = Global> {
+    /// The start cells of robots 0, 1, ..
+    pub starts: Vec<u32, A>,
+    /// The number of clients.
+    pub clients: u32,
+    /// The limits, with the defaults of those that it does not name.
+    pub limits: Limits,
+    /// Whether the southern closures rank the cells, and not the plain ones.
+    pub south: bool,
+    /// The events in order, `tick N` as N ticks.
+    pub events: Vec<Event, A>,
+    /// The line of each event, from 1.
+    pub lines: Vec<u32, A>,
+}
+
+/// Why a text is no script.
+#[derive(Clone, Copy, Debug, PartialEq, Eq)]
+pub enum ScriptFault {
+    /// The first line that may not stand where it does, from 1; the one behind the last where `robots` is missing.
+    Line(u32),
+    /// Memory ran out, which says nothing of the text.
+    NoMemory,
+}
+
+impl From<AllocError> for ScriptFault {
+    ghost use Rattle.std.specs.Prelude.{◌≡◌};
+    ghost use Rattle.fleet_script.specs.declared.script.ScriptFault.TheVariants.{NoMemory};
+
+    ghost from_gives = { λ _ e. e ≡ NoMemory };
+
+    fn from(_error: AllocError) -> ScriptFault {
+        ScriptFault::NoMemory
+    }
+}
+
+/// A script as far as it is read.
+#[derive(Drop)]
+pub struct Draft<A: Allocator + Copy = Global> {
+    pub starts: Option<Vec<u32, A>>,
+    pub clients: Option<u32>,
+    pub south: Option<bool>,
+    pub limits: GivenLimits,
+    pub events: Vec<Event, A>,
+    pub lines: Vec<u32, A>,
+}
+
+/// Puts an item behind the others, so many times.
+fn add_times<T: Copy + Drop, A: Allocator + Copy>(
+    items: &mut Vec<T, A>,
+    item: T,
+    times: u32,
+) -> Result<(), AllocError>
+    ensures { OnOk result (items.new.items ≡ items.old.items ++ replicate times item) }
+{
+    let count = items.len() + times as usize;
+    items.resize(count, item)
+}
+
+/// The numbers that the words are, where they are 16 at most.
+fn cells<A: Allocator + Copy>(alloc: A, words: &[u8]) -> Result<Option<Vec<u32, A>>, AllocError>
+    ensures { IfOk result (λ cells. option_map (λ v. v.items) cells ≡ starts_in (words_of words.now)) }
+{
+    let mut cells = Vec::new(alloc);
+    let mut rest = words;
+    while let Some((word, after)) = first_word(rest) {
+        let Some(cell) = small_number(word) else {
+            return Ok(None);
+        };
+        if cells.len() == 16 {
+            return Ok(None);
+        }
+        cells.push(cell)?;
+        rest = after;
+    }
+    if cells.is_empty() {
+        Ok(None)
+    } else {
+        Ok(Some(cells))
+    }
+}
+
+impl<A: Allocator + Copy> Draft<A> {
+    /// A script without lines.
+    fn new(alloc: A) -> Draft<A>
+        ensures { shown result ≡ blank_draft }
+    {
+        Draft {
+            starts: None,
+            clients: None,
+            south: None,
+            limits: GivenLimits::NONE,
+            events: Vec::new(alloc),
+            lines: Vec::new(alloc),
+        }
+    }
+
+    /// The script with the events of one more line.
+    fn with_events(self, number: u32, more: Repeat) -> Result<Draft<A>, AllocError>
+        ensures { IfOk result (λ d. shown d ≡ with_events (shown self) number (repeated more)) }
+    {
+        let mut draft = self;
+        add_times(&mut draft.events, more.event, more.times)?;
+        add_times(&mut draft.lines, number, more.times)?;
+        Ok(draft)
+    }
+
+    /// The script with one more header line, by its first word and the others.
+    fn with_header(
+        self,
+        alloc: A,
+        number: u32,
+        key: &[u8],
+        words: &[u8],
+    ) -> Result<Draft<A>, ScriptFault>
+        ensures { Gives shown result (or_line number (with_header (shown self) key.now (words_of words.now))) }
+    {
+        let mut draft = self;
+        let fault = ScriptFault::Line(number);
+        if key == b"robots".as_slice() {
+            let starts = cells(alloc, words)?;
+            if draft.starts.is_some() || starts.is_none() {
+                return Err(fault);
+            }
+            draft.starts = starts;
+        } else if key == b"clients".as_slice() {
+            let clients = only_once(draft.clients, one_small_number(words)).ok_or(fault)?;
+            draft.clients = Some(clients);
+        } else if key == b"ties".as_slice() {
+            let south = only_once(draft.south, is_south(words)).ok_or(fault)?;
+            draft.south = Some(south);
+        } else {
+            let name = limit_name(key).ok_or(fault)?;
+            draft.limits = draft.limits.with(name, words).ok_or(fault)?;
+        }
+        Ok(draft)
+    }
+}
+
+/// The script with one more line that has words.
+fn with_words<A: Allocator + Copy>(
+    alloc: A,
+    draft: Draft<A>,
+    number: u32,
+    line: &[u8],
+) -> Result<Draft<A>, ScriptFault>
+    ensures { Gives shown result (or_line number (with_words (shown draft) number (words_of line.now))) }
+{
+    let Some((key, words)) = first_word(line) else {
+        return Ok(draft);
+    };
+    if let Some(more) = events_of_line(key, words) {
+        return Ok(draft.with_events(number, more)?);
+    }
+    if !draft.events.is_empty() {
+        return Err(ScriptFault::Line(number));
+    }
+    draft.with_header(alloc, number, key, words)
+}
+
+/// The script with one more line.
+fn with_line<A: Allocator + Copy>(
+    alloc: A,
+    draft: Draft<A>,
+    number: u32,
+    line: &[u8],
+) -> Result<Draft<A>, ScriptFault>
+    ensures { Gives shown result (or_line number (with_line (shown draft) number line.now)) }
+{
+    if !line.is_empty() && line[0] == b'#' {
+        return Ok(draft);
+    }
+    with_words(alloc, draft, number, line)
+}
+
+/// The script of a draft whose lines are all read, the next of which would have this number.
+fn finished<A: Allocator + Copy>(draft: Draft<A>, number: u32) -> Result<Script<A>, ScriptFault>
+    ensures { Gives plan result (or_line number (option_map (plan_from (shown draft)) (shown draft).starts)) }
+{
+    let Draft {
+        starts,
+        clients,
+        south,
+        limits,
+        events,
+        lines,
+    } = draft;
+    match starts {
+        None => Err(ScriptFault::Line(number)),
+        Some(starts) => Ok(Script {
+            starts,
+            clients: clients.unwrap_or(1),
+            limits: limits.limits(),
+            south: south.unwrap_or(false),
+            events,
+            lines,
+        }),
+    }
+}
+
+/// The script that the bytes are, or what is first at fault in them.
+pub fn read_script<A: Allocator + Copy>(alloc: A, bytes: &[u8]) -> Result<Script<A>, ScriptFault>
+    requires { length bytes.now ≤ 16777216 }
+    // What is read is a script: these lines say this.
+    ensures found { IfOk result (λ script. IsScript (lines_in bytes.now) (plan script)) }
+    // Each script is read, unless memory runs out.
+    ensures only { (p : Plan) → IsScript (lines_in bytes.now) p → Gives plan result (Ok p) }
+    // Where none is read, the fault is the first, unless memory ran out.
+    ensures first { IfErr result (λ fault. IsFirstFault (lines_in bytes.now) fault) }
+    // The first fault is the one that is named, unless memory runs out.
+    ensures named { (line : ℕ) → IsFirstFault (lines_in bytes.now) (ScriptFault.Line line) → Gives plan result (Err line) }
+    // What the reading of the lines gives, from the first one on.
+    ensures read { Gives plan result (script_of bytes.now) }
+{
+    read_lines(alloc, bytes)
+}
+
+/// The script of all lines, from the first one on.
+#[tactic(auto, unfolding(crate::specs::Script::draft_of))]
+fn read_lines<A: Allocator + Copy>(alloc: A, bytes: &[u8]) -> Result<Script<A>, ScriptFault>
+    requires { length bytes.now ≤ 16777216 }
+    ensures { Gives plan result (script_of bytes.now) }
+{
+    let mut draft = Draft::new(alloc);
+    let mut number = 1;
+    let mut rest = bytes;
+    while let Some((line, after)) = first_line(rest) {
+        draft = with_line(alloc, draft, number, line)?;
+        number += 1;
+        rest = after;
+    }
+    finished(draft, number)
+}

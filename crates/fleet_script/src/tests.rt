@@ -1,0 +1,3 @@
+//! Scripts and bundles, and their faults.
+
+mod scripts;
