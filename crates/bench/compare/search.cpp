@@ -232,9 +232,9 @@ struct Fleet {
 static Fleet fleet_of(const Map& map, const vector<u32>& cells, size_t robots, size_t fields, Random& random) {
     Fleet f;
     vector<u8> taken(map.floor.size());
-    for (size_t k = 0; k < robots * 16; k++) {
+    for (size_t k = 0; k < robots * 16 && f.from.size() < robots; k++) {
         u32 c = cells[random.below(cells.size())];
-        if (f.from.size() < robots && !taken[c]) {
+        if (!taken[c]) {
             taken[c] = 1;
             f.from.push_back(c);
         }
@@ -340,7 +340,9 @@ struct Stepper {
 };
 
 static void measure_step(const Map& map) {
-    Grid g(map, 1);
+    // rows as long as bench's, which are padded more where they would share cache lines
+    u32 row = (map.width + 1) % 1024;
+    Grid g(map, row < 17 || row > 1007 ? 17 : 1);
     vector<u32> cells = part_of(map, g);
     Random random{11};
     vector<vector<u32>> fields;

@@ -6,3 +6,4 @@ pub mod Transfer
 pub mod Shares
 pub mod Uses
 pub mod Made
+pub mod Inverse

@@ -1,5 +1,5 @@
 -- How a field lies in its padded list.
-use Rattle.std.specs.Prelude.{◌≡◌, ℕ, ◌+◌, ◌*◌, ◌<◌, List, Option, Some, None, length, map, slice_index, cond, nat_lt}
+use Rattle.std.specs.Prelude.{◌≡◌, ℕ, ◌+◌, ◌*◌, ◌<◌, ◌≤◌, List, Option, Some, None, length, map, slice_index, cond, nat_lt}
 use Rattle.std.specs.List.{range_with_len}
 use Rattle.fleet_grid.specs.Padded.{place}
 
@@ -15,6 +15,14 @@ aways height width stride dist = map (λ cell. away_at (slice_index dist (place 
 pub record IsLaidOut (height width stride : ℕ) (dist : List ℕ) : Type 0 where
   pub wide : 0 < width
   pub apart : width < stride
-  pub few : height * width < 1073741824
+  pub few : height * width ≤ 1048576
   pub small : length dist < 1073741824
   pub size : length dist ≡ (height + 2) * stride
+
+-- the inverse of a width in 1073741824th parts, rounded up: so exact that it stands for a division of each cell
+pub record IsInverse (width inverse : ℕ) : Type 0 where
+  pub wide : 0 < width
+  pub slim : width ≤ 1024
+  pub small : inverse ≤ 1073741825
+  pub low : 1073741824 ≤ inverse * width
+  pub high : inverse * width ≤ 1073741824 + width

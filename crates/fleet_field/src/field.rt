@@ -4,8 +4,9 @@ ghost use Rattle.std.specs.Prelude.{◌≡◌, ℕ, IfOk, slice_index_or};
 ghost use Rattle.fleet_grid.specs.Floor.{IsFloor};
 ghost use Rattle.fleet_field.specs.Field.{IsField};
 
+use crate::columns::Columns;
 use crate::flood::flood;
-use fleet_grid::{Grid, WALL, place_of};
+use fleet_grid::{Grid, WALL};
 use std::alloc::{AllocError, Allocator, Global};
 use std::marker::Model;
 
@@ -13,7 +14,7 @@ use std::marker::Model;
 #[derive(Drop)]
 pub struct Field<A: Allocator + Copy = Global> {
     height: u32,
-    width: u32,
+    columns: Columns,
     stride: u32,
     goal: u32,
     dist: Vec<u32, A>,
@@ -25,9 +26,9 @@ impl<A: Allocator + Copy> Model for Field<A> {
 
     ghost Value = { Aim };
 
-    ghost view = { λ f. aim_of f.goal (aways f.height f.width f.stride f.dist.items) };
+    ghost view = { λ f. aim_of f.goal (aways f.height f.columns.width f.stride f.dist.items) };
 
-    ghost invariant = { λ f. IsLaidOut f.height f.width f.stride f.dist.items };
+    ghost invariant = { λ f. IsLaidOut f.height f.columns.width f.stride f.dist.items };
 }
 
 impl<A: Allocator + Copy> Field<A> {
@@ -41,13 +42,13 @@ impl<A: Allocator + Copy> Field<A> {
         ensures { IfOk result (λ field. IsField grid.now goal field) }
     {
         let height = grid.height();
-        let width = grid.width();
+        let columns = Columns::new(grid.width());
         let (stride, blank) = grid.padded();
-        let start = place_of(width, stride, goal) as u32;
+        let start = columns.place(stride, goal) as u32;
         let dist = flood(alloc, blank, stride as usize, start)?;
         Ok(Field {
             height,
-            width,
+            columns,
             stride,
             goal,
             dist,
@@ -58,10 +59,10 @@ impl<A: Allocator + Copy> Field<A> {
     pub fn at(&self, cell: u32) -> Option<u32>
         ensures { result ≡ slice_index_or self.now.away cell None }
     {
-        if cell >= self.height * self.width {
+        if cell >= self.height * self.columns.width {
             return None;
         }
-        let dist = self.dist[place_of(self.width, self.stride, cell)];
+        let dist = self.dist[self.columns.place(self.stride, cell)];
         if dist < WALL { Some(dist) } else { None }
     }
 

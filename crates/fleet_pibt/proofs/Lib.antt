@@ -15,3 +15,4 @@ pub mod TwoCells
 pub mod Stepped
 pub mod Beside
 pub mod Seen
+pub mod Priced

@@ -1,5 +1,5 @@
 -- Lists of which each entry has a property at its place.
-use Rattle.std.proofs.Common.{◌≡◌, ◌≢◌, ℕ, zero, suc, ◌+◌, ◌<◌, inl, inr, Some, List, [], ◌∷◌, length, slice_get, arith, refl, sym, subst, ap, ◌∙◌}
+use Rattle.std.proofs.Common.{◌≡◌, ◌≢◌, ℕ, zero, suc, ◌+◌, ◌<◌, ◌≤◌, inl, inr, Some, List, [], ◌∷◌, length, get_or, slice_get, arith, refl, sym, subst, ap, ◌∙◌}
 use Rattle.std.proofs.Math.ListN.{set}
 use Rattle.std.proofs.lemmas.Bool.{cases_eq}
 
@@ -30,3 +30,13 @@ seen-more P xs k y before here r x l e = elim (cases_eq r k) [
       subst (λ (i : ℕ). P i x) (sym same) (subst (λ z. P k z) it here))
   | inr ne ↦ before r x (omega arith) (sym (seen-set_other xs k r y ne) ∙ e)
 ]
+
+-- the entries behind it stay
+pub seen-rest : {X : Type 0} (P : ℕ → X → Type 0) (xs : List X) (k : ℕ) (y : X) → ((r : ℕ) (x : X) → k ≤ r → slice_get xs r ≡ Some x → P r x) →
+    (r : ℕ) (x : X) → k + 1 ≤ r → slice_get (set xs k y) r ≡ Some x → P r x
+seen-rest P xs k y rest r x l e = rest r x (omega arith) (sym (seen-set_other xs k r y (λ (same : r ≡ k). omega arith)) ∙ e)
+
+pub seen-at : {X : Type 0} (xs : List X) (i : ℕ) (d : X) → i < length xs → slice_get xs i ≡ Some (get_or xs i d)
+seen-at [] i d l = absurd (omega arith)
+seen-at (x ∷ xs) zero d l = refl
+seen-at (x ∷ xs) (suc i) d l = seen-at xs i d (omega arith)

@@ -24,6 +24,10 @@ pub record IsAround (m : Floor) (costs : ℕ → ℕ) (own : ℕ) (around : Arou
   pub own_cost : around.own.cost ≡ costs own
   pub beside : (dir : Dir) → IsSpot m costs own dir (spot_in around dir)
 
+-- the list has for each robot the cells that it sees, and no costs
+abbrev pub AreUnpriced : Floor → List ℕ → List Around → Type 0
+AreUnpriced m from arounds = (r : ℕ) (around : Around) → slice_get arounds r ≡ Some around → IsAround m (λ c. 0) (slice_index from r) around
+
 -- the list has for each robot what it sees
 pub record AreArounds (m : Floor) (goals : ℕ → Option ℕ) (distance : ℕ → ℕ → Option ℕ) (from : List ℕ) (arounds : List Around) : Type 0 where
   pub same_length : length arounds ≡ length from

@@ -14,7 +14,7 @@ use crate::around::{Around, Spot, gather};
 use crate::board::Board;
 use crate::goals::Goals;
 use crate::plan::plan_all;
-use crate::priority::order;
+use crate::priority::{number, put_in_order};
 use crate::scene::Scene;
 use crate::table::Table;
 use crate::tables::{lift, place, settle};
@@ -23,11 +23,13 @@ use fleet_hooks::TieHook;
 use std::alloc::{AllocError, Allocator, Global};
 use std::marker::Model;
 
-/// The tables of a step, made once for a number of cells and robots, and empty between two steps.
+/// The tables of a step, made once for a number of cells and robots. All but the queue and what the robots saw are empty
+/// between two steps.
 #[derive(Drop)]
 pub struct Stepper<A: Allocator + Copy = Global> {
     standing: Table<A>,
     board: Board<A>,
+    /// The robots, in the order of the last step.
     queue: Vec<u32, A>,
     arounds: Vec<Around, A>,
 }
@@ -35,6 +37,7 @@ pub struct Stepper<A: Allocator + Copy = Global> {
 impl<A: Allocator + Copy> Model for Stepper<A> {
     ghost use Rattle.std.specs.Prelude.{◌≡◌, length, vec_len};
     ghost use Rattle.fleet_pibt.specs.Entry.{IsEmpty};
+    ghost use Rattle.fleet_pibt.specs.Order.{IsRoll};
     ghost use Rattle.fleet_pibt.specs.Size.{Size};
 
     ghost Value = { Size };
@@ -47,7 +50,8 @@ impl<A: Allocator + Copy> Model for Stepper<A> {
         × (length s.board.holder ≡ length s.standing)
         × IsEmpty s.standing
         × IsEmpty s.board.target
-        × IsEmpty s.board.holder };
+        × IsEmpty s.board.holder
+        × IsRoll s.queue.items };
 }
 
 /// What no robot has seen yet.
@@ -65,13 +69,15 @@ impl<A: Allocator + Copy> Stepper<A> {
             south: NOWHERE,
             west: NOWHERE,
         };
+        let mut queue = vec![in alloc; 0; robots as usize]?;
+        number(&mut queue);
         Ok(Stepper {
             standing: Table::new(alloc, cells)?,
             board: Board {
                 target: Table::new(alloc, robots)?,
                 holder: Table::new(alloc, cells)?,
             },
-            queue: vec![in alloc; 0; robots as usize]?,
+            queue,
             arounds: vec![in alloc; nothing; robots as usize]?,
         })
     }
@@ -111,7 +117,7 @@ impl<A: Allocator + Copy> Stepper<A> {
     {
         // The count comes with the form of the map, which the proof reads.
         let _cells = grid.cell_count();
-        order(waits, &mut self.queue);
+        put_in_order(waits, &mut self.queue);
         place(from, &mut self.standing);
         gather(grid, from, goals, &mut self.arounds);
         let scene = Scene {

@@ -1,3 +1,4 @@
+use Rattle.std.proofs.Common.{◌∙◌}
 use Rattle.fleet_field.proofs.Transfer.{is_walled, made}
 use Rattle.fleet_field.proofs.field.Field.from.Goals as goal
 
@@ -6,10 +7,10 @@ flood-requires-clause-walled g c = is_walled c.args.grid.now c.padded-stride.res
 
 pub invariant_of-result : goal.invariant_of-result
 invariant_of-result g c =
-    (made c.args.grid.now c.height-height.result c.width-width.result c.padded-stride.result.0 c.args.goal c.place_of-start.result c.padded-stride.result.1.now c.in_ok-dist.dist.items
-    c.height-height.ensures.value c.width-width.ensures.value c.height-height.ensures.form c.padded-stride.ensures.padded c.requires c.in_ok-dist.ensures.walls c.place_of-start.ensures c.in_ok-dist.ensures.levels).0
+    (made c.args.grid.now c.height-height.result c.new-columns.result.width c.padded-stride.result.0 c.args.goal c.place-start.result c.padded-stride.result.1.now c.in_ok-dist.dist.items
+    c.height-height.ensures.value (c.new-columns.ensures ∙ c.width.ensures.value) c.height-height.ensures.form c.padded-stride.ensures.padded c.requires c.in_ok-dist.ensures.walls c.place-start.ensures c.in_ok-dist.ensures.levels).0
 
 pub returns : goal.returns
 returns g c =
-    (made c.args.grid.now c.height-height.result c.width-width.result c.padded-stride.result.0 c.args.goal c.place_of-start.result c.padded-stride.result.1.now c.in_ok-dist.dist.items
-    c.height-height.ensures.value c.width-width.ensures.value c.height-height.ensures.form c.padded-stride.ensures.padded c.requires c.in_ok-dist.ensures.walls c.place_of-start.ensures c.in_ok-dist.ensures.levels).1
+    (made c.args.grid.now c.height-height.result c.new-columns.result.width c.padded-stride.result.0 c.args.goal c.place-start.result c.padded-stride.result.1.now c.in_ok-dist.dist.items
+    c.height-height.ensures.value (c.new-columns.ensures ∙ c.width.ensures.value) c.height-height.ensures.form c.padded-stride.ensures.padded c.requires c.in_ok-dist.ensures.walls c.place-start.ensures c.in_ok-dist.ensures.levels).1

@@ -25,27 +25,27 @@ plan_all-requires-clause-whole g c =
 
 pub plan_all-requires-clause-queue : goal.plan_all-requires-clause-queue
 plan_all-requires-clause-queue g c =
-    let long : length c.order.new.out ≡ c.self.inside.queue.len = omega (arith, c.order.auto.out, c.deref_mut.ensures.len) in
-    let same : c.deref-2.result.now ≡ c.order.new.out = c.deref-2.ensures.value ∙ whole _ c.order.new.out _ long in
-    let ordered : IsOrder c.args.waits.now c.deref-2.result.now = rw same c.order.ensures in
+    let long : length c.put_in_order.new.queue ≡ c.self.inside.queue.len = omega (arith, c.put_in_order.auto.queue, c.deref_mut.ensures.len) in
+    let same : c.deref-2.result.now ≡ c.put_in_order.new.queue = c.deref-2.ensures.value ∙ whole _ c.put_in_order.new.queue _ long in
+    let ordered : IsOrder c.args.waits.now c.deref-2.result.now = rw same c.put_in_order.ensures.order in
     order-names _ c.args.waits.now c.deref-2.result.now c.requires.waited ordered
 
 pub settle-requires-clause-decided : goal.settle-requires-clause-decided
 settle-requires-clause-decided g c =
     let s : Setting = setting c.args.grid.now c.args.from.now (g.G.Goals.goal_of c.args.goals.now) (g.G.Goals.distance c.args.goals.now) (map (λ h. h.law) c.args.ties.now) in
     let scene : IsScene s = record { form = c.cell_count-cells.ensures.form; few = c.requires.few; placed = c.requires.placed } in
-    let long : length c.order.new.out ≡ c.self.inside.queue.len = omega (arith, c.order.auto.out, c.deref_mut.ensures.len) in
-    let queue : c.deref-2.result.now ≡ c.order.new.out = c.deref-2.ensures.value ∙ whole _ c.order.new.out _ long in
-    let ordered : IsOrder c.args.waits.now c.deref-2.result.now = rw queue c.order.ensures in
+    let long : length c.put_in_order.new.queue ≡ c.self.inside.queue.len = omega (arith, c.put_in_order.auto.queue, c.deref_mut.ensures.len) in
+    let queue : c.deref-2.result.now ≡ c.put_in_order.new.queue = c.deref-2.ensures.value ∙ whole _ c.put_in_order.new.queue _ long in
+    let ordered : IsOrder c.args.waits.now c.deref-2.result.now = rw queue c.put_in_order.ensures.order in
     λ r l. stepped-decided s scene c.args.waits.now c.requires.waited c.requires.goals c.deref-2.result.now ordered c.self.inside.board.target c.self.inside.board.holder c.plan_all.new.board.target c.plan_all.new.board.holder c.self.invariant.4 c.self.invariant.5 c.plan_all.ensures r (omega (arith, c.requires.same_length))
 
 pub returns-clause-conflict_free : goal.returns-clause-conflict_free
 returns-clause-conflict_free g c =
     let s : Setting = setting c.args.grid.now c.args.from.now (g.G.Goals.goal_of c.args.goals.now) (g.G.Goals.distance c.args.goals.now) (map (λ h. h.law) c.args.ties.now) in
     let scene : IsScene s = record { form = c.cell_count-cells.ensures.form; few = c.requires.few; placed = c.requires.placed } in
-    let long : length c.order.new.out ≡ c.self.inside.queue.len = omega (arith, c.order.auto.out, c.deref_mut.ensures.len) in
-    let queue : c.deref-2.result.now ≡ c.order.new.out = c.deref-2.ensures.value ∙ whole _ c.order.new.out _ long in
-    let ordered : IsOrder c.args.waits.now c.deref-2.result.now = rw queue c.order.ensures in
+    let long : length c.put_in_order.new.queue ≡ c.self.inside.queue.len = omega (arith, c.put_in_order.auto.queue, c.deref_mut.ensures.len) in
+    let queue : c.deref-2.result.now ≡ c.put_in_order.new.queue = c.deref-2.ensures.value ∙ whole _ c.put_in_order.new.queue _ long in
+    let ordered : IsOrder c.args.waits.now c.deref-2.result.now = rw queue c.put_in_order.ensures.order in
     let same : length c.settle.new.to ≡ length c.args.from.now = omega (arith, c.settle.auto.to, c.requires.same_length) in
     stepped-conflict_free s scene c.args.waits.now c.requires.waited c.requires.goals c.deref-2.result.now ordered c.self.inside.board.target c.self.inside.board.holder c.plan_all.new.board.target c.plan_all.new.board.holder c.self.invariant.4 c.self.invariant.5 c.plan_all.ensures c.settle.new.to same c.settle.ensures.taken
 
@@ -53,9 +53,9 @@ pub returns-clause-purposeful : goal.returns-clause-purposeful
 returns-clause-purposeful g c =
     let s : Setting = setting c.args.grid.now c.args.from.now (g.G.Goals.goal_of c.args.goals.now) (g.G.Goals.distance c.args.goals.now) (map (λ h. h.law) c.args.ties.now) in
     let scene : IsScene s = record { form = c.cell_count-cells.ensures.form; few = c.requires.few; placed = c.requires.placed } in
-    let long : length c.order.new.out ≡ c.self.inside.queue.len = omega (arith, c.order.auto.out, c.deref_mut.ensures.len) in
-    let queue : c.deref-2.result.now ≡ c.order.new.out = c.deref-2.ensures.value ∙ whole _ c.order.new.out _ long in
-    let ordered : IsOrder c.args.waits.now c.deref-2.result.now = rw queue c.order.ensures in
+    let long : length c.put_in_order.new.queue ≡ c.self.inside.queue.len = omega (arith, c.put_in_order.auto.queue, c.deref_mut.ensures.len) in
+    let queue : c.deref-2.result.now ≡ c.put_in_order.new.queue = c.deref-2.ensures.value ∙ whole _ c.put_in_order.new.queue _ long in
+    let ordered : IsOrder c.args.waits.now c.deref-2.result.now = rw queue c.put_in_order.ensures.order in
     let same : length c.settle.new.to ≡ length c.args.from.now = omega (arith, c.settle.auto.to, c.requires.same_length) in
     stepped-purposeful s scene c.args.waits.now c.requires.waited c.requires.goals c.deref-2.result.now ordered c.self.inside.board.target c.self.inside.board.holder c.plan_all.new.board.target c.plan_all.new.board.holder c.self.invariant.4 c.self.invariant.5 c.plan_all.ensures c.settle.new.to same c.settle.ensures.taken
 
@@ -63,9 +63,9 @@ pub returns-clause-advances : goal.returns-clause-advances
 returns-clause-advances g c =
     let s : Setting = setting c.args.grid.now c.args.from.now (g.G.Goals.goal_of c.args.goals.now) (g.G.Goals.distance c.args.goals.now) (map (λ h. h.law) c.args.ties.now) in
     let scene : IsScene s = record { form = c.cell_count-cells.ensures.form; few = c.requires.few; placed = c.requires.placed } in
-    let long : length c.order.new.out ≡ c.self.inside.queue.len = omega (arith, c.order.auto.out, c.deref_mut.ensures.len) in
-    let queue : c.deref-2.result.now ≡ c.order.new.out = c.deref-2.ensures.value ∙ whole _ c.order.new.out _ long in
-    let ordered : IsOrder c.args.waits.now c.deref-2.result.now = rw queue c.order.ensures in
+    let long : length c.put_in_order.new.queue ≡ c.self.inside.queue.len = omega (arith, c.put_in_order.auto.queue, c.deref_mut.ensures.len) in
+    let queue : c.deref-2.result.now ≡ c.put_in_order.new.queue = c.deref-2.ensures.value ∙ whole _ c.put_in_order.new.queue _ long in
+    let ordered : IsOrder c.args.waits.now c.deref-2.result.now = rw queue c.put_in_order.ensures.order in
     let same : length c.settle.new.to ≡ length c.args.from.now = omega (arith, c.settle.auto.to, c.requires.same_length) in
     stepped-advances s scene c.args.waits.now c.requires.waited c.requires.goals c.deref-2.result.now ordered c.self.inside.board.target c.self.inside.board.holder c.plan_all.new.board.target c.plan_all.new.board.holder c.self.invariant.4 c.self.invariant.5 c.plan_all.ensures c.settle.new.to same c.settle.ensures.taken
 
@@ -73,9 +73,9 @@ pub returns-clause-bridgeless : goal.returns-clause-bridgeless
 returns-clause-bridgeless g c =
     let s : Setting = setting c.args.grid.now c.args.from.now (g.G.Goals.goal_of c.args.goals.now) (g.G.Goals.distance c.args.goals.now) (map (λ h. h.law) c.args.ties.now) in
     let scene : IsScene s = record { form = c.cell_count-cells.ensures.form; few = c.requires.few; placed = c.requires.placed } in
-    let long : length c.order.new.out ≡ c.self.inside.queue.len = omega (arith, c.order.auto.out, c.deref_mut.ensures.len) in
-    let queue : c.deref-2.result.now ≡ c.order.new.out = c.deref-2.ensures.value ∙ whole _ c.order.new.out _ long in
-    let ordered : IsOrder c.args.waits.now c.deref-2.result.now = rw queue c.order.ensures in
+    let long : length c.put_in_order.new.queue ≡ c.self.inside.queue.len = omega (arith, c.put_in_order.auto.queue, c.deref_mut.ensures.len) in
+    let queue : c.deref-2.result.now ≡ c.put_in_order.new.queue = c.deref-2.ensures.value ∙ whole _ c.put_in_order.new.queue _ long in
+    let ordered : IsOrder c.args.waits.now c.deref-2.result.now = rw queue c.put_in_order.ensures.order in
     let same : length c.settle.new.to ≡ length c.args.from.now = omega (arith, c.settle.auto.to, c.requires.same_length) in
     stepped-bridgeless s scene c.args.waits.now c.requires.waited c.requires.goals c.deref-2.result.now ordered c.self.inside.board.target c.self.inside.board.holder c.plan_all.new.board.target c.plan_all.new.board.holder c.self.invariant.4 c.self.invariant.5 c.plan_all.ensures c.settle.new.to same c.settle.ensures.taken
 
@@ -83,8 +83,8 @@ pub returns-clause-by_law : goal.returns-clause-by_law
 returns-clause-by_law g c =
     let s : Setting = setting c.args.grid.now c.args.from.now (g.G.Goals.goal_of c.args.goals.now) (g.G.Goals.distance c.args.goals.now) (map (λ h. h.law) c.args.ties.now) in
     let scene : IsScene s = record { form = c.cell_count-cells.ensures.form; few = c.requires.few; placed = c.requires.placed } in
-    let long : length c.order.new.out ≡ c.self.inside.queue.len = omega (arith, c.order.auto.out, c.deref_mut.ensures.len) in
-    let queue : c.deref-2.result.now ≡ c.order.new.out = c.deref-2.ensures.value ∙ whole _ c.order.new.out _ long in
-    let ordered : IsOrder c.args.waits.now c.deref-2.result.now = rw queue c.order.ensures in
+    let long : length c.put_in_order.new.queue ≡ c.self.inside.queue.len = omega (arith, c.put_in_order.auto.queue, c.deref_mut.ensures.len) in
+    let queue : c.deref-2.result.now ≡ c.put_in_order.new.queue = c.deref-2.ensures.value ∙ whole _ c.put_in_order.new.queue _ long in
+    let ordered : IsOrder c.args.waits.now c.deref-2.result.now = rw queue c.put_in_order.ensures.order in
     let same : length c.settle.new.to ≡ length c.args.from.now = omega (arith, c.settle.auto.to, c.requires.same_length) in
     stepped-by_law s scene c.args.waits.now c.requires.waited c.requires.goals c.deref-2.result.now ordered c.self.inside.board.target c.self.inside.board.holder c.plan_all.new.board.target c.plan_all.new.board.holder c.self.invariant.4 c.self.invariant.5 c.plan_all.ensures c.settle.new.to same c.settle.ensures.taken
