@@ -11,7 +11,7 @@ use fleet_hooks::{
     ArrivalHook, ArrivalView, Farewell, FarewellView, Hooks, StampLaw, TieHook, TieView,
 };
 use fleet_world::{Limits, Notice, Order, World};
-use std::alloc::{Alloc, AllocError, Global};
+use std::alloc::{Alloc, Global};
 use std::io::{self, ErrorKind};
 use std::thread::Threads;
 use std::time::{Clock, Instant};
@@ -60,26 +60,23 @@ fn measure_fleets<R: Alloc<A = Global> + Clock + Print + Threads + Sync>(
     let goals = site.goals(rt.alloc(), GOALS, &mut random)?;
     for robots in FLEETS {
         let starts = site.starts(rt.alloc(), robots, &mut random)?;
-        let count = starts.len() as u64;
-        let mut world = world_of(rt.alloc(), kind, starts)?;
-        let found = time_ticks(rt, &mut world, &goals, &mut random)?;
-        print_measure(rt, "tick", kind.name(), count, found)?;
+        measure_world(rt, kind, starts, &goals, &mut random)?;
     }
     Ok(())
 }
 
-/// A world on a map, with one client.
-fn world_of(alloc: Global, kind: Kind, starts: Vec<u32>) -> io::Result<World> {
-    let hooks = plain_hooks(alloc, starts.len())?;
-    let grid = grid_of(alloc, kind)?;
-    match World::open(alloc, grid, starts, 1, LIMITS, hooks) {
-        Ok(world) => Ok(world),
-        Err(_fault) => Err(io::Error::from(ErrorKind::OutOfMemory)),
-    }
-}
-
-/// So many closures of each kind, which answer 0.
-fn plain_hooks(alloc: Global, count: usize) -> Result<Hooks, AllocError> {
+/// A tick of a world with one client, by robot. The closures answer 0.
+fn measure_world<R: Alloc<A = Global> + Clock + Print + Threads + Sync>(
+    rt: &R,
+    kind: Kind,
+    starts: Vec<u32>,
+    goals: &[u32],
+    random: &mut Random,
+) -> io::Result<()>
+    requires { 0 < length goals.now }
+{
+    let alloc = rt.alloc();
+    let count = starts.len();
     let mut hooks = Hooks {
         ties: Vec::with_capacity(alloc, count)?,
         arrivals: Vec::with_capacity(alloc, count)?,
@@ -93,7 +90,12 @@ fn plain_hooks(alloc: Global, count: usize) -> Result<Hooks, AllocError> {
         let farewell = Farewell::new(STAMPS, Box::new(alloc, |_view: FarewellView| 0)?);
         hooks.farewells.push(farewell)?;
     }
-    Ok(hooks)
+    let grid = grid_of(alloc, kind)?;
+    let Ok(mut world) = World::open(alloc, grid, starts, 1, LIMITS, hooks) else {
+        return Err(io::Error::from(ErrorKind::OutOfMemory));
+    };
+    let found = time_ticks(rt, &mut world, goals, random)?;
+    print_measure(rt, "tick", kind.name(), count as u64, found)
 }
 
 /// Ticks of a world, each timed by itself. What clients do between them is not timed.
