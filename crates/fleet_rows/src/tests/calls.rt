@@ -1,43 +1,16 @@
 //! A world by its own calls, and growths refused.
 
 use super::refusing::Refusing;
-use super::seen::{ANY, STAMPS, go, grid_of};
+use super::seen::{ANY, STAMPS, add, go, grid_of, no_hooks};
 use fleet_grid::Grid;
-use fleet_hooks::{ArrivalHook, ArrivalView, Farewell, FarewellView, Hooks, TieHook, TieView};
+use fleet_hooks::{ArrivalHook, ArrivalView, Farewell, FarewellView, TieHook, TieView};
 use fleet_map::MapText;
 use fleet_world::{
     Limits, Notice, OpenFault, Order, ShutFault, TakeFault, TickReport, Verdict, World,
 };
-use std::alloc::{AllocError, Allocator, Global};
+use std::alloc::{AllocError, Allocator};
 use std::process::Abort;
 use std::test::Fail;
-
-/// Closures for so many robots: equal ranks, and its cell for a stamp.
-fn hooks_over<A: Allocator + Copy>(
-    alloc: Global,
-    lists: A,
-    robots: usize,
-) -> Result<Hooks<A>, AllocError> {
-    let mut hooks = Hooks {
-        ties: Vec::new(lists),
-        arrivals: Vec::new(lists),
-        farewells: Vec::new(lists),
-    };
-    for _robot in 0..robots {
-        hooks
-            .ties
-            .push(TieHook::new(ANY, Box::new(alloc, |_view: TieView| 0)?))?;
-        hooks.arrivals.push(ArrivalHook::new(
-            STAMPS,
-            Box::new(alloc, |view: ArrivalView| view.cell)?,
-        ))?;
-        hooks.farewells.push(Farewell::new(
-            STAMPS,
-            Box::new(alloc, |view: FarewellView| view.cell)?,
-        ))?;
-    }
-    Ok(hooks)
-}
 
 /// The grid `..`.
 fn pair_over<A: Allocator + Copy>(alloc: A) -> Result<Grid<A>, AllocError> {
@@ -54,14 +27,12 @@ fn calls_in_turn(rt: HostRuntime) -> Result<(), Fail> {
     let alloc = rt.alloc();
     let grid = grid_of(&rt, alloc, (1, 2), b"..")?;
     let starts = Vec::from_slice(alloc, &[0])?;
-    let opened = World::open(
-        alloc,
-        grid,
-        starts,
-        1,
-        Limits::DEFAULT,
-        hooks_over(alloc, alloc, 1)?,
-    );
+    let mut hooks = no_hooks(alloc);
+    let tie = TieHook::new(ANY, Box::new(alloc, |_view: TieView| 0)?);
+    let arrival = ArrivalHook::new(STAMPS, Box::new(alloc, |view: ArrivalView| view.cell)?);
+    let farewell = Farewell::new(STAMPS, Box::new(alloc, |view: FarewellView| view.cell)?);
+    add(&mut hooks, tie, arrival, farewell)?;
+    let opened = World::open(alloc, grid, starts, 1, Limits::DEFAULT, hooks);
     let mut world = opened.ok().ok_or("a world")?;
     assert!(rt; world.placement() == [0].as_slice() && world.clock() == 0);
     assert!(rt; world.is_idle() && world.eldest() == None && !world.is_bridgeless());
@@ -78,11 +49,11 @@ fn calls_in_turn(rt: HostRuntime) -> Result<(), Fail> {
     assert!(rt; world.placement() == [1].as_slice() && world.clock() == 1);
     assert!(rt; world.chapter().opening.robots.len() == 1);
     assert!(rt; world.wait_of(0) == None && world.is_idle());
-    notices_in_turn(&rt, &mut world)
+    notices_in_turn(&rt, world)
 }
 
 /// The notices of an errand to cell 1, which its robot has reached in one tick, and the robot's end.
-fn notices_in_turn(rt: &impl Abort, world: &mut World) -> Result<(), Fail> {
+fn notices_in_turn(rt: &impl Abort, mut world: World) -> Result<(), Fail> {
     let verdict = Notice::Verdict {
         seq: 1,
         order_no: 1,
@@ -128,7 +99,13 @@ fn waits_on_the_ring(rt: HostRuntime) -> Result<(), Fail> {
     let alloc = rt.alloc();
     let grid = grid_of(&rt, alloc, (3, 3), b"....@....")?;
     let starts = Vec::from_slice(alloc, &[0, 8])?;
-    let hooks = hooks_over(alloc, alloc, 2)?;
+    let mut hooks = no_hooks(alloc);
+    for _robot in 0..2 {
+        let tie = TieHook::new(ANY, Box::new(alloc, |_view: TieView| 0)?);
+        let arrival = ArrivalHook::new(STAMPS, Box::new(alloc, |view: ArrivalView| view.cell)?);
+        let farewell = Farewell::new(STAMPS, Box::new(alloc, |view: FarewellView| view.cell)?);
+        add(&mut hooks, tie, arrival, farewell)?;
+    }
     let opened = World::open(alloc, grid, starts, 1, Limits::DEFAULT, hooks);
     let mut world = opened.ok().ok_or("a world")?;
     assert!(rt; world.is_bridgeless());
@@ -150,8 +127,14 @@ fn waits_on_the_ring(rt: HostRuntime) -> Result<(), Fail> {
 /// A take into a queue that is not empty grows the history at most.
 #[test]
 fn one_growth(rt: HostRuntime) -> Result<(), Fail> {
-    let heap = Refusing::after(rt.alloc(), 1_000);
-    let (grid, hooks) = (pair_over(&heap)?, hooks_over(rt.alloc(), &heap, 1)?);
+    let alloc = rt.alloc();
+    let heap = Refusing::after(alloc, 1_000);
+    let grid = pair_over(&heap)?;
+    let mut hooks = no_hooks(&heap);
+    let tie = TieHook::new(ANY, Box::new(alloc, |_view: TieView| 0)?);
+    let arrival = ArrivalHook::new(STAMPS, Box::new(alloc, |view: ArrivalView| view.cell)?);
+    let farewell = Farewell::new(STAMPS, Box::new(alloc, |view: FarewellView| view.cell)?);
+    add(&mut hooks, tie, arrival, farewell)?;
     let starts = Vec::from_slice(&heap, &[0])?;
     let opened = World::open(&heap, grid, starts, 1, Limits::DEFAULT, hooks);
     let mut world = opened.ok().ok_or("a world")?;
@@ -166,8 +149,14 @@ fn one_growth(rt: HostRuntime) -> Result<(), Fail> {
 /// A refused growth of a take or a shut leaves all as it was.
 #[test]
 fn refused_calls(rt: HostRuntime) -> Result<(), Fail> {
-    let heap = Refusing::after(rt.alloc(), 1_000);
-    let (grid, hooks) = (pair_over(&heap)?, hooks_over(rt.alloc(), &heap, 1)?);
+    let alloc = rt.alloc();
+    let heap = Refusing::after(alloc, 1_000);
+    let grid = pair_over(&heap)?;
+    let mut hooks = no_hooks(&heap);
+    let tie = TieHook::new(ANY, Box::new(alloc, |_view: TieView| 0)?);
+    let arrival = ArrivalHook::new(STAMPS, Box::new(alloc, |view: ArrivalView| view.cell)?);
+    let farewell = Farewell::new(STAMPS, Box::new(alloc, |view: FarewellView| view.cell)?);
+    add(&mut hooks, tie, arrival, farewell)?;
     let starts = Vec::from_slice(&heap, &[0])?;
     let opened = World::open(&heap, grid, starts, 1, Limits::DEFAULT, hooks);
     let mut world = opened.ok().ok_or("a world")?;
@@ -186,11 +175,17 @@ fn refused_calls(rt: HostRuntime) -> Result<(), Fail> {
 /// An opening that is refused one growth and all behind it, until it needs no more.
 #[test]
 fn refused_openings(rt: HostRuntime) -> Result<(), Fail> {
-    let heap = Refusing::after(rt.alloc(), 1_000);
+    let alloc = rt.alloc();
+    let heap = Refusing::after(alloc, 1_000);
     let mut growths = None;
     for before in 0..64 {
         heap.allow(1_000);
-        let (grid, hooks) = (pair_over(&heap)?, hooks_over(rt.alloc(), &heap, 1)?);
+        let grid = pair_over(&heap)?;
+        let mut hooks = no_hooks(&heap);
+        let tie = TieHook::new(ANY, Box::new(alloc, |_view: TieView| 0)?);
+        let arrival = ArrivalHook::new(STAMPS, Box::new(alloc, |view: ArrivalView| view.cell)?);
+        let farewell = Farewell::new(STAMPS, Box::new(alloc, |view: FarewellView| view.cell)?);
+        add(&mut hooks, tie, arrival, farewell)?;
         let starts = Vec::from_slice(&heap, &[0])?;
         heap.allow(before);
         match World::open(&heap, grid, starts, 1, Limits::DEFAULT, hooks) {

@@ -6,7 +6,7 @@ use fleet_hooks::{
 };
 use fleet_map::MapText;
 use fleet_world::{Entry, Event, Limits, Order, Played, Reply, RunFault, run};
-use std::alloc::{Alloc, AllocError, Global};
+use std::alloc::{Alloc, AllocError, Allocator, Global};
 use std::process::Abort;
 use std::sync::Arc;
 use std::sync::atomic::{AtomicU64, Ordering};
@@ -95,43 +95,50 @@ fn arrived_of(alloc: Global, played: &Played) -> Result<Vec<u32>, AllocError> {
     Ok(robots)
 }
 
-/// So many closures of each kind: ties of equal rank, and stamps 0. Each call for an arrival or a farewell is counted.
-fn counted_hooks(
-    alloc: Global,
-    count: usize,
-    arrival_calls: &Arc<AtomicU64>,
-    farewell_calls: &Arc<AtomicU64>,
-) -> Result<Hooks, AllocError> {
-    let mut hooks = Hooks {
-        ties: Vec::new(alloc),
-        arrivals: Vec::new(alloc),
-        farewells: Vec::new(alloc),
-    };
-    for _robot in 0..count {
-        let arrival = Arc::try_clone(arrival_calls)?;
-        let farewell = Arc::try_clone(farewell_calls)?;
-        hooks
-            .ties
-            .push(TieHook::new(ANY, Box::new(alloc, |_view: TieView| 0)?))?;
-        let stamped = move |_view: ArrivalView| {
-            arrival.fetch_add(1, Ordering::SeqCst);
-            0
-        };
-        hooks
-            .arrivals
-            .push(ArrivalHook::new(STAMPS, Box::new(alloc, stamped)?))?;
-        let left = move |_view: FarewellView| {
-            farewell.fetch_add(1, Ordering::SeqCst);
-            0
-        };
-        hooks
-            .farewells
-            .push(Farewell::new(STAMPS, Box::new(alloc, left)?))?;
+/// No closures yet.
+pub fn no_hooks<A: Allocator + Copy>(lists: A) -> Hooks<A> {
+    Hooks {
+        ties: Vec::new(lists),
+        arrivals: Vec::new(lists),
+        farewells: Vec::new(lists),
     }
-    Ok(hooks)
 }
 
-/// A run on a map with as many closures as are asked for.
+/// Adds the closures of one more robot.
+pub fn add<A: Allocator + Copy>(
+    hooks: &mut Hooks<A>,
+    tie: TieHook,
+    arrival: ArrivalHook,
+    farewell: Farewell,
+) -> Result<(), AllocError> {
+    hooks.ties.push(tie)?;
+    hooks.arrivals.push(arrival)?;
+    hooks.farewells.push(farewell)?;
+    Ok(())
+}
+
+/// What is seen of a run before closures' calls are counted.
+fn seen_in(alloc: Global, ended: Result<Played, RunFault>) -> Result<Seen, AllocError> {
+    let mut seen = Seen {
+        fault: None,
+        replies: Vec::new(alloc),
+        places: Vec::new(alloc),
+        arrived: Vec::new(alloc),
+        arrival_calls: 0,
+        farewell_calls: 0,
+    };
+    match ended {
+        Ok(played) => {
+            seen.places = places_of(alloc, &played)?;
+            seen.arrived = arrived_of(alloc, &played)?;
+            seen.replies = played.replies;
+        }
+        Err(fault) => seen.fault = Some(fault),
+    }
+    Ok(seen)
+}
+
+/// A run on a map with as many closures as are asked for: ties of equal rank, and stamps 0.
 pub fn seen_of(
     rt: &(impl Alloc<A = Global> + Threads + Sync),
     grid: Grid,
@@ -143,24 +150,25 @@ pub fn seen_of(
     let alloc = rt.alloc();
     let arrival_calls = Arc::new(alloc, AtomicU64::new(0))?;
     let farewell_calls = Arc::new(alloc, AtomicU64::new(0))?;
-    let hooks = counted_hooks(alloc, hooked, &arrival_calls, &farewell_calls)?;
-    let starts = Vec::from_slice(alloc, starts)?;
-    let mut seen = Seen {
-        fault: None,
-        replies: Vec::new(alloc),
-        places: Vec::new(alloc),
-        arrived: Vec::new(alloc),
-        arrival_calls: 0,
-        farewell_calls: 0,
-    };
-    match run(rt, grid, starts, 1, limits, hooks, events) {
-        Ok(played) => {
-            seen.places = places_of(alloc, &played)?;
-            seen.arrived = arrived_of(alloc, &played)?;
-            seen.replies = played.replies;
-        }
-        Err(fault) => seen.fault = Some(fault),
+    let mut hooks = no_hooks(alloc);
+    for _robot in 0..hooked {
+        let arrivals = Arc::try_clone(&arrival_calls)?;
+        let farewells = Arc::try_clone(&farewell_calls)?;
+        let stamped = move |_view: ArrivalView| {
+            arrivals.fetch_add(1, Ordering::SeqCst);
+            0
+        };
+        let left = move |_view: FarewellView| {
+            farewells.fetch_add(1, Ordering::SeqCst);
+            0
+        };
+        let tie = TieHook::new(ANY, Box::new(alloc, |_view: TieView| 0)?);
+        let arrival = ArrivalHook::new(STAMPS, Box::new(alloc, stamped)?);
+        let farewell = Farewell::new(STAMPS, Box::new(alloc, left)?);
+        add(&mut hooks, tie, arrival, farewell)?;
     }
+    let starts = Vec::from_slice(alloc, starts)?;
+    let mut seen = seen_in(alloc, run(rt, grid, starts, 1, limits, hooks, events))?;
     seen.arrival_calls = arrival_calls.load(Ordering::SeqCst);
     seen.farewell_calls = farewell_calls.load(Ordering::SeqCst);
     Ok(seen)
