@@ -1,8 +1,15 @@
--- The sides and the letters of the maps that are measured.
-use Rattle.std.specs.Prelude.{◌≡◌, ℕ, ◌<◌, List, length, slice_index, true}
+-- The names, the sides and the letters of the maps that are measured.
+use Rattle.std.specs.Prelude.{◌≡◌, ℕ, ◌<◌, List, length, slice_index, true, codes}
 use Rattle.fleet_map.specs.Grammar.{is_letter}
 use Rattle.bench.specs.declared.kind.Kind.{Kind}
 use Rattle.bench.specs.declared.kind.Kind.TheVariants.{Open, Warehouse, Maze, Spiral}
+
+-- what a kind is called in a line
+abbrev pub name_of : Kind → List ℕ
+name_of Open = codes "open"
+name_of Warehouse = codes "warehouse"
+name_of Maze = codes "maze"
+name_of Spiral = codes "spiral"
 
 abbrev pub height_of : Kind → ℕ
 height_of Open = 1024

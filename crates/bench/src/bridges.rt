@@ -12,7 +12,7 @@ use std::time::{Clock, Instant};
 const REPEATS: u32 = 8;
 
 /// The first bridge of each map, by cell.
-pub fn measure_bridge<R: Alloc<A = Global> + Clock + Print>(
+pub(crate) fn measure_bridge<R: Alloc<A = Global> + Clock + Print>(
     rt: &R,
     kinds: &[Kind],
 ) -> io::Result<()> {

@@ -17,7 +17,7 @@ use std::time::{Clock, Instant};
 const REPEATS: u32 = 200;
 
 /// The check of a step of each number of robots on each map, by robot.
-pub fn measure_check<R: Alloc<A = Global> + Clock + Print>(
+pub(crate) fn measure_check<R: Alloc<A = Global> + Clock + Print>(
     rt: &R,
     kinds: &[Kind],
 ) -> io::Result<()> {

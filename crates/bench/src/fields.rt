@@ -21,7 +21,7 @@ const REPEATS: u32 = 48;
 const MANY: usize = 3000;
 
 /// One field, by cell that it reaches.
-pub fn measure_field<R: Alloc<A = Global> + Clock + Print>(
+pub(crate) fn measure_field<R: Alloc<A = Global> + Clock + Print>(
     rt: &R,
     kinds: &[Kind],
 ) -> io::Result<()> {
@@ -56,7 +56,7 @@ fn time_field<R: Alloc<A = Global> + Clock>(rt: &R, grid: &Grid, goal: u32) -> i
 }
 
 /// Many fields, one after another and over all processors, by cell that they reach.
-pub fn measure_fields<R: Alloc<A = Global> + Clock + Print + Threads + Sync>(
+pub(crate) fn measure_fields<R: Alloc<A = Global> + Clock + Print + Threads + Sync>(
     rt: &R,
     kind: Kind,
 ) -> io::Result<()> {

@@ -30,7 +30,7 @@ pub struct Fleet {
 impl Fleet {
     /// The fleet that starts from these cells, each robot with the field of its number, and from the first again where there
     /// are fewer fields.
-    pub fn new(
+    pub(crate) fn new(
         alloc: Global,
         site: &Site,
         starts: Vec<u32>,
@@ -59,7 +59,7 @@ impl Fleet {
     }
 
     /// One step of all robots.
-    pub fn step(
+    pub(crate) fn step(
         &mut self,
         site: &Site,
         fields: &[Field],
@@ -94,7 +94,7 @@ impl Fleet {
     }
 
     /// Gives each robot that is on its goal a new one, and counts the wait of the others.
-    pub fn arrive(&mut self, site: &Site, fields: &[Field], random: &mut Random)
+    pub(crate) fn arrive(&mut self, site: &Site, fields: &[Field], random: &mut Random)
         requires some { 0 < length fields.now }
         requires way { IsUnderWay site.now.grid site.now.home (length fields.now) self.old.from.items self.old.to.items self.old.waits.items self.old.aims.items }
         ensures way { IsUnderWay site.now.grid site.now.home (length fields.now) self.new.from.items self.new.to.items self.new.waits.items self.new.aims.items }

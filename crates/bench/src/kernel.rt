@@ -33,7 +33,7 @@ pub enum Kernel {
 
 impl Kernel {
     /// The kernel of that name.
-    pub fn named(word: &str) -> Option<Kernel>
+    pub(crate) fn named(word: &str) -> Option<Kernel>
         ensures { result ≡ kernel_named word.now }
     {
         match word {
@@ -49,7 +49,7 @@ impl Kernel {
 }
 
 /// Measures the kernel, and prints a line for each measure.
-pub fn run<R: Alloc<A = Global> + Clock + Print + Threads + Sync>(
+pub(crate) fn run<R: Alloc<A = Global> + Clock + Print + Threads + Sync>(
     rt: &R,
     kernel: Kernel,
 ) -> io::Result<()> {

@@ -3,7 +3,7 @@
 ghost use Rattle.std.specs.Prelude.{◌≡◌, ◌⊎◌, ◌<◌, ◌≤◌, ◌*◌, length, IfOk, All};
 ghost use Rattle.fleet_map.specs.Form.{HasSides};
 ghost use Rattle.fleet_map.specs.Grammar.{view, is_letter};
-ghost use Rattle.bench.specs.Kinds.{height_of, width_of, HasLetters};
+ghost use Rattle.bench.specs.Kinds.{name_of, height_of, width_of, HasLetters};
 
 use fleet_grid::Grid;
 use fleet_map::MapText;
@@ -27,7 +27,9 @@ impl Kind {
     pub const ALL: [Kind; 4] = [Kind::Open, Kind::Warehouse, Kind::Maze, Kind::Spiral];
 
     /// What it is called in a line.
-    pub fn name(self) -> &'static str {
+    pub(crate) fn name(self) -> &'static str
+        ensures { result.now ≡ name_of self }
+    {
         match self {
             Kind::Open => "open",
             Kind::Warehouse => "warehouse",
@@ -37,7 +39,7 @@ impl Kind {
     }
 
     /// The number of rows.
-    pub fn height(self) -> u32
+    pub(crate) fn height(self) -> u32
         ensures { result ≡ height_of self }
     {
         match self {
@@ -49,7 +51,7 @@ impl Kind {
     }
 
     /// The number of columns.
-    pub fn width(self) -> u32
+    pub(crate) fn width(self) -> u32
         ensures { result ≡ width_of self }
     {
         match self {
@@ -127,7 +129,7 @@ fn is_corridor(row: u32, col: u32) -> bool {
 }
 
 /// The map of a kind.
-pub fn map_of(alloc: Global, kind: Kind) -> Result<MapText, AllocError>
+pub(crate) fn map_of(alloc: Global, kind: Kind) -> Result<MapText, AllocError>
     ensures height { IfOk result (λ map. map.height ≡ height_of kind) }
     ensures width { IfOk result (λ map. map.width ≡ width_of kind) }
     ensures sides { IfOk result (λ map. HasSides (view map)) }
@@ -147,7 +149,7 @@ pub fn map_of(alloc: Global, kind: Kind) -> Result<MapText, AllocError>
 }
 
 /// The floor of the map of a kind.
-pub fn grid_of(alloc: Global, kind: Kind) -> Result<Grid, AllocError>
+pub(crate) fn grid_of(alloc: Global, kind: Kind) -> Result<Grid, AllocError>
     ensures height { IfOk result (λ grid. grid.height ≡ height_of kind) }
     ensures width { IfOk result (λ grid. grid.width ≡ width_of kind) }
 {

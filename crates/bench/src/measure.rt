@@ -24,7 +24,7 @@ impl Measure {
     };
 
     /// With one repeat more, which took so many nanoseconds.
-    pub fn with(self, nanos: u128) -> Measure
+    pub(crate) fn with(self, nanos: u128) -> Measure
         ensures more { self.repeats + 1 < 2 ^ 64 → result.repeats ≡ self.repeats + 1 }
         ensures least { result.least ≡ min self.least nanos }
         ensures all { self.all + nanos < 2 ^ 128 → result.all ≡ self.all + nanos }
@@ -39,7 +39,7 @@ impl Measure {
 
 /// A line of the kernel, the map, how many things one repeat works on, the repeats, and the nanoseconds by thing of the
 /// fastest repeat and on average.
-pub fn print_measure(
+pub(crate) fn print_measure(
     rt: &impl Print,
     kernel: &str,
     map: &str,

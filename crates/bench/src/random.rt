@@ -1,6 +1,6 @@
 //! Numbers that look as if they were thrown, and are the same in each run.
 
-ghost use Rattle.std.specs.Prelude.{◌<◌};
+ghost use Rattle.std.specs.Prelude.{◌≡◌, ◌<◌};
 
 /// A linear congruential sequence.
 #[derive(Clone, Copy, Debug)]
@@ -10,12 +10,14 @@ pub struct Random {
 
 impl Random {
     /// The sequence from a seed on.
-    pub fn from_seed(seed: u64) -> Random {
+    pub(crate) fn from_seed(seed: u64) -> Random
+        ensures { result.seed ≡ seed }
+    {
         Random { seed }
     }
 
     /// The next number, below a bound.
-    pub fn below(&mut self, bound: usize) -> usize
+    pub(crate) fn below(&mut self, bound: usize) -> usize
         requires { 0 < bound }
         ensures { result < bound }
     {

@@ -26,7 +26,7 @@ pub struct Site {
 
 impl Site {
     /// A map with its first part; none where it has no floor.
-    pub fn new(alloc: Global, grid: Grid) -> Result<Option<Site>, AllocError>
+    pub(crate) fn new(alloc: Global, grid: Grid) -> Result<Option<Site>, AllocError>
         ensures { IfOk result (λ site. MatchOption site ((c : ℕ) → IsFloor grid c → ⊥) (λ s. s.grid ≡ grid)) }
     {
         let Some(home) = first_floor(&grid) else {
@@ -37,7 +37,7 @@ impl Site {
     }
 
     /// A cell of the part.
-    pub fn cell(&self, random: &mut Random) -> u32
+    pub(crate) fn cell(&self, random: &mut Random) -> u32
         ensures { IsWithin self.now.grid self.now.home result }
     {
         self.cells[random.below(self.cells.len())]
@@ -45,7 +45,7 @@ impl Site {
 
     /// So many cells of the part; a cell may be there more than once.
     #[tactic(auto, using(crate::proofs::Throws::within_more))]
-    pub fn goals(
+    pub(crate) fn goals(
         &self,
         alloc: Global,
         count: usize,
@@ -63,7 +63,7 @@ impl Site {
 
     /// The fields of so many goals in the part.
     #[tactic(auto, using(crate::proofs::Throws::serves_none, crate::proofs::Throws::serves_more))]
-    pub fn fields(
+    pub(crate) fn fields(
         &self,
         alloc: Global,
         count: usize,
@@ -82,7 +82,7 @@ impl Site {
 
     /// So many cells of the part, each once, or fewer where they are hard to find.
     #[tactic(auto, using(crate::proofs::Throws::starts_none))]
-    pub fn starts(
+    pub(crate) fn starts(
         &self,
         alloc: Global,
         count: usize,

@@ -37,7 +37,7 @@ const TICKS: u32 = 20;
 const REPEATS: u32 = 100;
 
 /// A step of each number of robots on each map, by robot.
-pub fn measure_step<R: Alloc<A = Global> + Clock + Print>(
+pub(crate) fn measure_step<R: Alloc<A = Global> + Clock + Print>(
     rt: &R,
     kinds: &[Kind],
 ) -> io::Result<()> {

@@ -38,7 +38,7 @@ const GOALS: usize = 64;
 const TICKS: u32 = 200;
 
 /// A tick of each number of robots on each map, by robot.
-pub fn measure_tick<R: Alloc<A = Global> + Clock + Print + Threads + Sync>(
+pub(crate) fn measure_tick<R: Alloc<A = Global> + Clock + Print + Threads + Sync>(
     rt: &R,
     kinds: &[Kind],
 ) -> io::Result<()> {

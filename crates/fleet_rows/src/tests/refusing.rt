@@ -11,7 +11,7 @@ pub struct Refusing<B: Allocator> {
 
 impl<B: Allocator> Refusing<B> {
     /// Refuses nothing before so many allocations.
-    pub fn after(inner: B, left: u64) -> Refusing<B> {
+    pub(crate) fn after(inner: B, left: u64) -> Refusing<B> {
         Refusing {
             inner,
             left: AtomicU64::new(left),
@@ -19,7 +19,7 @@ impl<B: Allocator> Refusing<B> {
     }
 
     /// From now on so many allocations are passed on.
-    pub fn allow(&self, left: u64) {
+    pub(crate) fn allow(&self, left: u64) {
         self.left.store(left, Ordering::SeqCst);
     }
 }

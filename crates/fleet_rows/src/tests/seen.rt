@@ -43,18 +43,18 @@ pub struct Seen {
 
 impl Seen {
     /// The reply to the event of this number, from 0.
-    pub fn reply(&self, event: usize) -> Option<Reply> {
+    pub(crate) fn reply(&self, event: usize) -> Option<Reply> {
         self.replies.get(event).copied()
     }
 }
 
 /// An order to go.
-pub fn go(robot: u32, cell: u32) -> Order {
+pub(crate) fn go(robot: u32, cell: u32) -> Order {
     Order::Go { robot, cell }
 }
 
 /// The grid of a map whose letters fill its sides.
-pub fn grid_of(
+pub(crate) fn grid_of(
     rt: &impl Abort,
     alloc: Global,
     sides: (u32, u32),
@@ -96,7 +96,7 @@ fn arrived_of(alloc: Global, played: &Played) -> Result<Vec<u32>, AllocError> {
 }
 
 /// No closures yet.
-pub fn no_hooks<A: Allocator + Copy>(lists: A) -> Hooks<A> {
+pub(crate) fn no_hooks<A: Allocator + Copy>(lists: A) -> Hooks<A> {
     Hooks {
         ties: Vec::new(lists),
         arrivals: Vec::new(lists),
@@ -105,7 +105,7 @@ pub fn no_hooks<A: Allocator + Copy>(lists: A) -> Hooks<A> {
 }
 
 /// Adds the closures of one more robot.
-pub fn add<A: Allocator + Copy>(
+pub(crate) fn add<A: Allocator + Copy>(
     hooks: &mut Hooks<A>,
     tie: TieHook,
     arrival: ArrivalHook,
@@ -139,7 +139,7 @@ fn seen_in(alloc: Global, ended: Result<Played, RunFault>) -> Result<Seen, Alloc
 }
 
 /// A run on a map with as many closures as are asked for: ties of equal rank, and stamps 0.
-pub fn seen_of(
+pub(crate) fn seen_of(
     rt: &(impl Alloc<A = Global> + Threads + Sync),
     grid: Grid,
     starts: &[u32],
