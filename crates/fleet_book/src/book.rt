@@ -2,7 +2,7 @@
 ghost use Rattle.std.specs.Prelude.{◌≡◌, ◌<◌, ◌≤◌, ◌+◌, ◌-◌, ◌^◌, length, replicate, slice_set, slice_index_or, true, false, IfOk};
 ghost use Rattle.fleet_book.specs.Limits.{AreValid};
 ghost use Rattle.fleet_book.specs.Rule.{verdict_of, go_verdict};
-ghost use Rattle.fleet_book.specs.Counts.{blank, account_of, is_shut, standing, with_account, entered, MayEnter, IsNumbered, IsWithin};
+ghost use Rattle.fleet_book.specs.Counts.{blank, account_of, is_shut, standing, with_account, entered, MayEnter, IsNumbered, IsWithin, AreWithin};
 
 use crate::account::Account;
 use crate::facts::{Facts, Place};
@@ -47,6 +47,19 @@ impl<A: Allocator + Copy> Book<A> {
 }
 
 impl<A: Allocator> Book<A> {
+    /// The book of these accounts, with these robots shut.
+    pub fn of_accounts(accounts: Vec<Account, A>, shut: Vec<bool, A>, life: u64) -> Self
+        requires within { AreWithin life accounts.items }
+        requires life { life ≤ 2 ^ 40 }
+        ensures { result ≡ record { accounts = accounts.items; shut = shut.items; life = life } }
+    {
+        Book {
+            accounts,
+            shut,
+            life,
+        }
+    }
+
     /// The verdict of the client's order, which changes nothing here.
     pub fn judge(&self, client: u32, order: Order, facts: Facts) -> Verdict
         requires { client < length self.now.accounts }

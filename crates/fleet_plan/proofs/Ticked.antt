@@ -11,8 +11,10 @@ use Rattle.fleet_history.specs.declared.history.Bye.{Bye}
 use Rattle.fleet_history.specs.declared.history.Entry.TheVariants.{Take, Tick, Shut}
 use Rattle.fleet_history.specs.History.{History, after, robots, unfinished, front, errand_for}
 use Rattle.fleet_history.specs.Legal.{due_of, due, IsLegal}
+use Rattle.fleet_history.specs.Verdicts.{IsVerdict}
 use Rattle.fleet_history.specs.Landing.{landed}
-use Rattle.fleet_history.proofs.Arrivals.{unfinished-after_take, unfinished-after_tick, unfinished-after_shut}
+use Rattle.fleet_history.proofs.Arrivals.{unfinished-after_tick, unfinished-after_shut}
+use Rattle.fleet_history.proofs.Places.{front-after_take}
 use Rattle.fleet_plan.specs.Planned.{cell_of}
 use Rattle.fleet_plan.specs.Counted.{goal_ticked}
 
@@ -30,9 +32,9 @@ goal-after_tick h to arrived farewells r l shows =
     ap (λ (u : List Errand). cell_of (slice_get u 0)) (unfinished-after_tick h to arrived farewells r l shows) ∙ ticked to r (unfinished h r)
 
 -- errands behind others change no goal
-pub goal-after_take : {A : Type 0} (m : Floor) (h : History A) (c : ℕ) (order : Order) (v : Verdict) (r : ℕ) → IsLegal m h → r < robots h →
+pub goal-after_take : {A : Type 0} (m : Floor) (h : History A) (c : ℕ) (order : Order) (v : Verdict) (r : ℕ) → IsLegal m h → IsVerdict m h c order v → r < robots h →
     cell_of (front (after h (Take c order v)) r) ≡ cell_of (slice_get (unfinished h r ++ errand_for r c order v) 0)
-goal-after_take m h c order v r legal l = ap (λ (u : List Errand). cell_of (slice_get u 0)) (unfinished-after_take m h c order v r legal l)
+goal-after_take m h c order v r legal is l = ap cell_of (front-after_take m h c order v r legal is l)
 
 pub goal-after_shut : {A : Type 0} (h : History A) (robot : ℕ) (farewell : Option ℕ) (r : ℕ) → cell_of (front (after h (Shut robot farewell)) r) ≡ cell_of (front h r)
 goal-after_shut h robot farewell r = ap (λ (u : List Errand). cell_of (slice_get u 0)) (unfinished-after_shut h robot farewell r)

@@ -4,8 +4,8 @@ mod refusing;
 mod seen;
 
 use fleet_world::{
-    Event, Limits, Notice, OpenFault, Reply, RunFault, ShutFault, TakeFault, TickFault, TickReport,
-    Verdict,
+    Event, Limits, Notice, OpenFault, Order, Reply, RunFault, ShutFault, TakeFault, TickFault,
+    TickReport, Verdict,
 };
 use seen::{go, grid_of, seen_of};
 use std::alloc::{Alloc, Global};
@@ -316,5 +316,45 @@ fn opening_faults(rt: HostRuntime) -> Result<(), Fail> {
     assert!(rt; opening_fault(&rt, &[0], 1, narrow)? == opening(OpenFault::Limits));
     assert!(rt; opening_fault(&rt, &[0], 0, all)? == opening(OpenFault::Hooks));
     assert!(rt; opening_fault(&rt, &[0], 1, all)? == None);
+    Ok(())
+}
+
+#[test]
+fn withdrawals(rt: HostRuntime) -> Result<(), Fail> {
+    let grid = grid_of(&rt, rt.alloc(), (1, 3), b"...")?;
+    let give_up = |number: u64| Event::Post(0, Order::Withdraw { number });
+    let events = [
+        Event::Post(0, go(0, 1)),
+        Event::Post(0, go(0, 2)),
+        give_up(2),
+        give_up(1),
+        give_up(3),
+        Event::Take(0),
+        Event::Take(0),
+        Event::Take(0),
+        Event::Take(0),
+        Event::Take(0),
+        Event::Tick,
+        Event::Tick,
+        give_up(2),
+        Event::Take(0),
+        Event::Post(0, Order::Close),
+        give_up(1),
+        Event::Take(0),
+        Event::Take(0),
+    ];
+    let seen = seen_of(&rt, grid, &[0], 1, Limits::DEFAULT, &events)?;
+    assert!(rt; seen.reply(5) == took(1, Verdict::Accepted(1)));
+    assert!(rt; seen.reply(6) == took(2, Verdict::Accepted(2)));
+    assert!(rt; seen.reply(7) == took(3, Verdict::Withdrawn));
+    assert!(rt; seen.reply(8) == took(4, Verdict::TooLate));
+    assert!(rt; seen.reply(9) == took(5, Verdict::NoErrand));
+    assert!(rt; seen.reply(10) == ticked(1, 1, 0));
+    assert!(rt; seen.reply(11) == ticked(2, 0, 0));
+    assert!(rt; seen.reply(13) == took(6, Verdict::NoErrand));
+    assert!(rt; seen.reply(16) == took(7, Verdict::Closed));
+    assert!(rt; seen.reply(17) == took(8, Verdict::ClientClosed));
+    assert!(rt; seen.places.as_slice() == [1, 1].as_slice());
+    assert!(rt; seen.arrival_calls == 1);
     Ok(())
 }

@@ -4,7 +4,7 @@ use Rattle.std.specs.Option.{option_map, option_and_then}
 use Rattle.std.specs.Str.{bytes_eq}
 use Rattle.fleet_map.specs.Text.{words_of, lines_of}
 use Rattle.fleet_book.specs.declared.order.Order.{Order}
-use Rattle.fleet_book.specs.declared.order.Order.TheVariants.{Go, Close}
+use Rattle.fleet_book.specs.declared.order.Order.TheVariants.{Go, Close, Withdraw}
 use Rattle.fleet_book.specs.declared.limits.Limits.{Limits}
 use Rattle.fleet_world.specs.declared.events.Event.{Event}
 use Rattle.fleet_world.specs.declared.events.Event.TheVariants.{Post, Take, Tick, Give, Collect, Shut}
@@ -23,9 +23,14 @@ pub record Repeated : Type 0 where
 abbrev pub once_only : Event → Repeated
 once_only event = record { event = event; times = 1 }
 
--- close, or go ROBOT CELL
+-- the withdrawal of the errand of this number
+abbrev pub withdrawal_in : List ℕ → Option Order
+withdrawal_in word = option_map (λ n. Withdraw n) (number_in most64 word)
+
+-- close, withdraw NUMBER, or go ROBOT CELL
 abbrev pub order_in : List ℕ → List (List ℕ) → Option Order
 order_in word [] = if bytes_eq word (codes "close") then Some Close else None
+order_in word (number ∷ []) = if bytes_eq word (codes "withdraw") then withdrawal_in number else None
 order_in word (robot ∷ cell ∷ []) =
     if bytes_eq word (codes "go")
     then option_and_then (λ r. option_map (λ x. Go r x) (number_in most32 cell)) (number_in most32 robot)

@@ -3,10 +3,10 @@
 ghost use Rattle.std.specs.Prelude.{◌≡◌, ◌≤◌, length, IfOk, IfSome, Some, Ok};
 ghost use Rattle.std.specs.Option.{option_map};
 ghost use Rattle.fleet_map.specs.Text.{words_of};
-ghost use Rattle.fleet_script.specs.Script.{order_in, post_in, ticks_in, events_of};
+ghost use Rattle.fleet_script.specs.Script.{order_in, withdrawal_in, post_in, ticks_in, events_of};
 ghost use Rattle.fleet_script.specs.Shown.{repeated};
 
-use crate::numbers::{one_number, one_small_number, small_number};
+use crate::numbers::{number_of_word, one_number, one_small_number, small_number};
 use fleet_book::Order;
 use fleet_map::text::first_word;
 use fleet_world::Event;
@@ -18,24 +18,38 @@ pub struct Repeat {
     pub times: u32,
 }
 
-/// An order: `close`, or `go`, robot and cell.
+/// An order: `close`, `withdraw` with a number, or `go` with robot and cell.
 fn order(word: &[u8], words: &[u8]) -> Option<Order>
     ensures { result ≡ order_in word.now (words_of words.now) }
 {
-    let Some((robot, rest)) = first_word(words) else {
+    let Some((first, rest)) = first_word(words) else {
         return if word == b"close".as_slice() {
             Some(Order::Close)
         } else {
             None
         };
     };
-    let (cell, rest) = first_word(rest)?;
+    let Some((second, rest)) = first_word(rest) else {
+        return if word == b"withdraw".as_slice() {
+            withdrawal(first)
+        } else {
+            None
+        };
+    };
     if first_word(rest).is_some() || word != b"go".as_slice() {
         return None;
     }
-    let robot = small_number(robot)?;
-    let cell = small_number(cell)?;
+    let robot = small_number(first)?;
+    let cell = small_number(second)?;
     Some(Order::Go { robot, cell })
+}
+
+/// The withdrawal of the errand that the word numbers.
+fn withdrawal(word: &[u8]) -> Option<Order>
+    ensures { result ≡ withdrawal_in word.now }
+{
+    let number = number_of_word(word, u64::MAX)?;
+    Some(Order::Withdraw { number })
 }
 
 /// A post: client and order.

@@ -28,7 +28,7 @@ use Rattle.fleet_history.specs.Verdicts.{IsVerdict, standing}
 use Rattle.fleet_history.specs.Waits.{wait, wait_for}
 use Rattle.fleet_history.specs.Waited.{wait_ticked, wait_taken, wait_anew, one_more}
 use Rattle.fleet_history.proofs.Legal.{accepted-rule}
-use Rattle.fleet_history.proofs.Owed.{accepted-robot}
+use Rattle.fleet_history.proofs.Legal.{accepted-robot}
 use Rattle.fleet_history.proofs.Reach.{CanBeReached, legal-reach}
 use Rattle.fleet_history.proofs.Ticks.{each_tick-start, each_tick-tick, each_tick-take, each_tick-shut}
 use Rattle.fleet_history.proofs.WaitLaws.{wait-after_tick, wait-after_take, wait-shut}
@@ -92,7 +92,7 @@ module _ {A : Type 0} (m : Floor) (h : History A) (c : ℕ) (order : Order) (v :
   wait_stays r l none = wait-after_take m h c order v r legal is l ∙ ap (λ xs. wait_taken xs (wait h r)) none ∙ taken_none (wait h r)
 
   goal_stays : (r : ℕ) → r < robots h → errand_for r c order v ≡ [] → cell_of (front (after h (entry.Take c order v)) r) ≡ cell_of (front h r)
-  goal_stays r l none = goal-after_take m h c order v r legal l ∙ rw none (ap (λ xs. cell_of (slice_get xs 0)) (append-nil (unfinished h r)))
+  goal_stays r l none = goal-after_take m h c order v r legal is l ∙ rw none (ap (λ xs. cell_of (slice_get xs 0)) (append-nil (unfinished h r)))
 
   begins_none : ((r : ℕ) → errand_for r c order v ≡ []) → Begins h None (after h (entry.Take c order v))
   begins_none none = record {
@@ -111,7 +111,7 @@ begins_go {A = A} m h c robot cell n q legal is same =
     let one : errand_for robot c order v ≡ x ∷ [] = rw (eq-eqb robot robot refl) refl in
     let others : (r : ℕ) → (robot ≡ r → ⊥) → errand_for r c order v ≡ [] = λ r ne. rw (ne_eqb robot r ne) refl in
     let waits_on : wait g robot ≡ wait_taken (x ∷ []) (wait h robot) = wait-after_take m h c order v robot legal is known ∙ ap (λ xs. wait_taken xs (wait h robot)) one in
-    let aims_on : cell_of (front g robot) ≡ cell_of (slice_get (unfinished h robot ++ x ∷ []) 0) = goal-after_take m h c order v robot legal known ∙ ap (λ xs. cell_of (slice_get (unfinished h robot ++ xs) 0)) one in
+    let aims_on : cell_of (front g robot) ≡ cell_of (slice_get (unfinished h robot ++ x ∷ []) 0) = goal-after_take m h c order v robot legal is known ∙ ap (λ xs. cell_of (slice_get (unfinished h robot ++ xs) 0)) one in
     elim (cases_Bool (is_none_left q)) [
       | inl t ↦
           (let none : unfinished h robot ≡ [] = sym same ∙ none_left_nil q t in

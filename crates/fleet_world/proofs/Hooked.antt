@@ -20,7 +20,8 @@ use Rattle.fleet_history.specs.History.{History, after, robots, unfinished, is_s
 use Rattle.fleet_history.specs.Verdicts.{IsVerdict, standing}
 use Rattle.fleet_history.specs.Legal.{IsLegal, is_done, is_none_left, is_leaving, arrival_law, farewell_law, IsFarewell}
 use Rattle.fleet_history.proofs.After.{shut-after}
-use Rattle.fleet_history.proofs.Arrivals.{unfinished-after_take, unfinished-after_shut}
+use Rattle.fleet_history.proofs.Arrivals.{unfinished-after_shut}
+use Rattle.fleet_history.proofs.Places.{done-after_take}
 use Rattle.fleet_history.proofs.Legal.{accepted-rule}
 use Rattle.fleet_world.specs.Hooks.{law_at, AreArrivals, AreFarewells, IsLastStamp}
 
@@ -52,9 +53,7 @@ module _ {A : Type 0} (h : History A) (spare : List (Option StampLaw)) (k : AreF
   farewells-take m c order v legal is = record {
     count = k.count;
     each = k.each;
-    unspent = λ r l d. k.unspent r l (done_back (is_done h r) (is_done (after h (entry.Take c order v)) r) (λ was.
-        let both = both_true (is_shut h r) (is_none_left (unfinished h r)) was in
-        rw (unfinished-after_take m h c order v r legal l, none_for_shut m h c r order v is both.0, append-nil (unfinished h r), shut-after h r (entry.Take c order v), or-false (is_shut h r)) was) d);
+    unspent = λ r l d. k.unspent r l (done_back (is_done h r) (is_done (after h (entry.Take c order v)) r) (λ was. done-after_take m h c order v r legal is l ∙ was) d);
   }
 
   shut_more : (robot : ℕ) (farewell : Option ℕ) (r : ℕ) → is_done h r ≡ true → is_done (after {A = A} h (entry.Shut robot farewell)) r ≡ true

@@ -1,5 +1,5 @@
 -- What a world keeps stays true when an order is taken, or a robot shut.
-use Rattle.std.proofs.Common.{◌≡◌, ℕ, zero, suc, ◌+◌, ◌*◌, ◌<◌, ◌≤◌, List, [], ◌∷◌, ◌++◌, length, cond, eqb, Bool, true, false, ◌||◌, sym, refl, ap, ◌∙◌, subst, arith, inl, inr, add-zero, Option}
+use Rattle.std.proofs.Common.{◌≡◌, ℕ, zero, suc, ◌+◌, ◌-◌, ◌*◌, ◌<◌, ◌≤◌, List, [], ◌∷◌, ◌++◌, length, cond, eqb, Bool, true, false, ◌||◌, sym, refl, ap, ◌∙◌, subst, arith, inl, inr, add-zero, Option}
 use Rattle.std.specs.Prelude.{slice_set, slice_index_or, ◌↔◌, IsTrue, is_some}
 use Rattle.std.proofs.lemmas.List.{append-nil, length-set, get_or-set_same, get_or-set_other, length_push}
 use Rattle.std.proofs.lemmas.Bool.{eq-eqb, ne_eqb, eqb-false, cases_eq, cases_Bool}
@@ -9,7 +9,8 @@ use Rattle.fleet_queue.specs.declared.errand.Errand.{Errand}
 use Rattle.fleet_queue.specs.Queue.{Queue}
 use Rattle.fleet_book.specs.declared.account.Account.{Account}
 use Rattle.fleet_book.specs.declared.facts.Facts.{Facts}
-use Rattle.fleet_book.specs.declared.facts.Place.TheVariants.{Absent}
+use Rattle.fleet_book.specs.declared.facts.Place.{Place}
+use Rattle.fleet_book.specs.declared.facts.Place.TheVariants.{Absent, Front, Behind}
 use Rattle.fleet_book.specs.declared.limits.Limits.{Limits}
 use Rattle.fleet_book.specs.declared.notice.Notice.TheVariants as notice
 use Rattle.fleet_book.specs.declared.order.Order.{Order}
@@ -18,7 +19,7 @@ use Rattle.fleet_book.specs.declared.verdict.Verdict.{Verdict}
 use Rattle.fleet_book.specs.declared.verdict.Verdict.TheVariants.{Accepted, Closed, Withdrawn, ClientClosed, NoRobot, RobotShut, NoCell, Blocked, Unreachable, QueueFull, LifeSpent, NoErrand}
 use Rattle.fleet_book.specs.Counts as book
 use Rattle.fleet_book.specs.Counts.{Counts, account_of, with_account, entered, MayEnter, blank}
-use Rattle.fleet_book.specs.Rule.{Standing, verdict_of}
+use Rattle.fleet_book.specs.Rule.{Standing, verdict_of, place_verdict}
 use Rattle.fleet_history.specs.declared.history.Entry.{Entry}
 use Rattle.fleet_history.specs.declared.history.Entry.TheVariants as entry
 use Rattle.fleet_history.specs.History.{History, after, robots, clients, place, clock, unfinished, owed, accepts, closes, accepted_count, taken_count, is_closed, is_shut, errand_for}
@@ -28,8 +29,11 @@ use Rattle.fleet_history.specs.Legal.{IsLegal, Fits, grown, is_none_left, IsFare
 use Rattle.fleet_history.specs.Notices.{told, noticed_count}
 use Rattle.fleet_history.proofs.After.{place-after, clock-after, accepted_count-after, taken_count-after, noticed_count-after, closed-after, shut-after}
 use Rattle.fleet_history.proofs.Arrivals.{unfinished-after_take, unfinished-after_shut}
+use Rattle.fleet_history.specs.Taking.{kept_by}
+use Rattle.fleet_history.proofs.InOrder.{kept_shorter}
+use Rattle.fleet_history.proofs.Places.{withdrawn-owed}
 use Rattle.fleet_history.proofs.Legal.{accepted-rule, length-place, legal-opening}
-use Rattle.fleet_history.proofs.Owed.{owed_more, owed-after_take, owed-after_shut}
+use Rattle.fleet_history.proofs.Owed.{owed_more, owed_less, owed-after_take, owed-after_shut}
 use Rattle.fleet_world.specs.declared.enter.Tally.{Tally}
 use Rattle.fleet_world.specs.Pending.{Pending, no_pending}
 use Rattle.fleet_world.specs.Core.{delivered}
@@ -95,12 +99,14 @@ no_accepted_close s f n e = go s.closed e
     go true e = cc
     go false e = cc
 
-no_accepted_withdraw : (s : Standing) (f : Facts) (n k : ℕ) → f.place ≡ Absent → Accepted n ≡ verdict_of (Withdraw k) s f → ⊥
-no_accepted_withdraw s f n k place e = go s.closed (rw place at e)
+no_accepted_withdraw : (s : Standing) (f : Facts) (n k : ℕ) → Accepted n ≡ verdict_of (Withdraw k) s f → ⊥
+no_accepted_withdraw s f n k e = go s.closed f.place e
   where
-    go : (b : Bool) → Accepted n ≡ cond b ClientClosed NoErrand → ⊥
-    go true e = cc
-    go false e = cc
+    go : (b : Bool) (p : Place) → Accepted n ≡ cond b ClientClosed (place_verdict p) → ⊥
+    go true p e = cc
+    go false Absent e = cc
+    go false Front e = cc
+    go false Behind e = cc
 
 no_withdrawn_go : (z a b c d e g l : Bool) (n : ℕ) →
     Withdrawn ≡ cond z ClientClosed (cond a (cond b RobotShut (cond c (cond d (cond e (cond g QueueFull (cond l LifeSpent (Accepted n))) Unreachable) Blocked) NoCell)) NoRobot) → ⊥
@@ -114,40 +120,49 @@ no_withdrawn_go false true false true true true true l n q = cc
 no_withdrawn_go false true false true true true false true n q = cc
 no_withdrawn_go false true false true true true false false n q = cc
 
--- nothing is withdrawn yet
-pub no_withdrawn : {A : Type 0} (m : Floor) (h : History A) (order : Order) (s : Standing) (f : Facts) → AreFacts m h order f → Withdrawn ≡ verdict_of order s f → ⊥
-no_withdrawn m h (Go robot cell) s f are e = no_withdrawn_go s.closed f.robot_known s.shut f.in_range f.floor f.same_part f.queue_full (eqb s.accepted s.life) (s.accepted + 1) e
-no_withdrawn m h Close s f are e = go s.closed e
+-- only a withdrawal is answered Withdrawn
+withdrawn_go : (s : Standing) (f : Facts) (robot cell : ℕ) → Withdrawn ≡ verdict_of (Go robot cell) s f → ⊥
+withdrawn_go s f robot cell e = no_withdrawn_go s.closed f.robot_known s.shut f.in_range f.floor f.same_part f.queue_full (eqb s.accepted s.life) (s.accepted + 1) e
+
+withdrawn_close : (s : Standing) (f : Facts) → Withdrawn ≡ verdict_of Close s f → ⊥
+withdrawn_close s f e = go s.closed e
   where
     go : (b : Bool) → Withdrawn ≡ cond b ClientClosed Closed → ⊥
     go true e = cc
     go false e = cc
-no_withdrawn m h (Withdraw number) s f are e = go s.closed (rw are at e)
+
+-- only a Close is answered Closed
+closed_withdraw : (s : Standing) (f : Facts) (k : ℕ) → Closed ≡ verdict_of (Withdraw k) s f → ⊥
+closed_withdraw s f k e = go s.closed f.place e
   where
-    go : (b : Bool) → Withdrawn ≡ cond b ClientClosed NoErrand → ⊥
-    go true e = cc
-    go false e = cc
+    go : (b : Bool) (p : Place) → Closed ≡ cond b ClientClosed (place_verdict p) → ⊥
+    go true p e = cc
+    go false Absent e = cc
+    go false Front e = cc
+    go false Behind e = cc
 
 -- the verdict may be entered in the book
-pub may-enter : {A : Type 0} (m : Floor) (h : History A) (counts : Counts) (c : ℕ) (order : Order) (f : Facts) (v : Verdict) → AreFacts m h order f →
-    v ≡ verdict_of order (book.standing counts c order) f → (account_of counts c).accepted ≤ counts.life → MayEnter counts.life v (account_of counts c)
-may-enter m h counts c (Go robot cell) f (Accepted n) are e within =
+pub may-enter : {A : Type 0} (m : Floor) (h : History A) (counts : Counts) (c : ℕ) (order : Order) (f : Facts) (v : Verdict) → IsLegal m h → IsVerdict m h c order v →
+    account_of counts c ≡ account_after h c → v ≡ verdict_of order (book.standing counts c order) f → (account_of counts c).accepted ≤ counts.life → MayEnter counts.life v (account_of counts c)
+may-enter m h counts c (Go robot cell) f (Accepted n) legal is same e within =
     let why = accepted-rule (book.standing counts c (Go robot cell)) f n robot cell e in
     let ne = eqb-false (account_of counts c).accepted counts.life why.life_left in
     (why.number, omega (arith, why.number, lt_from_ne (account_of counts c).accepted counts.life within ne))
   where
     lt_from_ne : (a b : ℕ) → a ≤ b → (a ≡ b → ⊥) → a < b
     lt_from_ne a b l ne = elim (cases_eq a b) [ inl s ↦ absurd (ne s) | inr s ↦ omega arith ]
-may-enter m h counts c Close f (Accepted n) are e within = absurd (no_accepted_close (book.standing counts c Close) f n e)
-may-enter m h counts c (Withdraw k) f (Accepted n) are e within = absurd (no_accepted_withdraw (book.standing counts c (Withdraw k)) f n k are e)
-may-enter m h counts c order f Withdrawn are e within = absurd (no_withdrawn m h order (book.standing counts c order) f are e)
-may-enter m h counts c order f v are e within = tt
+may-enter m h counts c Close f (Accepted n) legal is same e within = absurd (no_accepted_close (book.standing counts c Close) f n e)
+may-enter m h counts c (Withdraw k) f (Accepted n) legal is same e within = absurd (no_accepted_withdraw (book.standing counts c (Withdraw k)) f n k e)
+may-enter m h counts c (Withdraw k) f Withdrawn legal is same e within = omega (arith, withdrawn-owed m h c k legal is, ap (λ (a : Account). a.owed) same)
+may-enter m h counts c (Go robot cell) f Withdrawn legal is same e within = absurd (withdrawn_go (book.standing counts c (Go robot cell)) f robot cell e)
+may-enter m h counts c Close f Withdrawn legal is same e within = absurd (withdrawn_close (book.standing counts c Close) f e)
+may-enter m h counts c order f v legal is same e within = tt
 
 -- an accepted errand finds its queue, with room
-pub has-place : {A : Type 0} (m : Floor) (h : History A) (queues : List Queue) (order : Order) (s : Standing) (f : Facts) (v : Verdict) → AreFacts m h order f → v ≡ verdict_of order s f →
+pub has-place : {A : Type 0} (m : Floor) (h : History A) (queues : List Queue) (c : ℕ) (order : Order) (s : Standing) (f : Facts) (v : Verdict) → AreFacts m h c order f → v ≡ verdict_of order s f →
     length queues ≡ robots h → ((r : ℕ) → r < robots h → (queue_at queues r).items ≡ unfinished h r) → ((r : ℕ) → r < robots h → (queue_at queues r).capacity ≡ h.opening.queue) →
     ((r : ℕ) → r < robots h → length (queue_at queues r).items ≤ (queue_at queues r).capacity) → HasPlace queues order v
-has-place m h queues (Go robot cell) s f (Accepted n) are e count items room within =
+has-place m h queues c (Go robot cell) s f (Accepted n) are e count items room within =
     let why = accepted-rule s f n robot cell e in
     let known : robot < robots h = are.known.0 why.known in
     let same : length (queue_at queues robot).items ≡ length (unfinished h robot) = ap length (items robot known) in
@@ -160,9 +175,9 @@ has-place m h queues (Go robot cell) s f (Accepted n) are e count items room wit
 
     both_ways : (b : Bool) → b ≡ false → b ≡ true → ⊥
     both_ways b p q = cc
-has-place m h queues (Go robot cell) s f v are e count items room within = tt
-has-place m h queues Close s f v are e count items room within = tt
-has-place m h queues (Withdraw number) s f v are e count items room within = tt
+has-place m h queues c (Go robot cell) s f v are e count items room within = tt
+has-place m h queues c Close s f v are e count items room within = tt
+has-place m h queues c (Withdraw number) s f v are e count items room within = tt
 
 -- ---- a client's account and tally after a take
 
@@ -174,17 +189,19 @@ or-true true = refl
 or-true false = refl
 
 account_take : {A : Type 0} (m : Floor) (h : History A) (c : ℕ) (order : Order) (v : Verdict) → IsVerdict m h c order v →
-    entered v (account_after h c) ≡ record { accepted = accepted_count h c + cond (accepts {A = A} c (entry.Take c order v)) 1 0; owed = owed h c + owed_more c c order v; closed = is_closed h c || closes {A = A} c (entry.Take c order v) }
-account_take m h c (Go robot cell) (Accepted n) is = rw (eq-eqb c c refl) (account_same (accepted_count h c + 1) (accepted_count h c + 1) (owed h c + 1) (owed h c + 1) (is_closed h c) (is_closed h c || false) refl refl (sym (or-false (is_closed h c))))
+    entered v (account_after h c) ≡ record { accepted = accepted_count h c + cond (accepts {A = A} c (entry.Take c order v)) 1 0; owed = owed h c + owed_more c c order v - owed_less c c order v; closed = is_closed h c || closes {A = A} c (entry.Take c order v) }
+account_take m h c (Go robot cell) (Accepted n) is = rw (eq-eqb c c refl) (account_same (accepted_count h c + 1) (accepted_count h c + 1) (owed h c + 1) (owed h c + 1 - 0) (is_closed h c) (is_closed h c || false) refl (omega arith) (sym (or-false (is_closed h c))))
 account_take m h c Close (Accepted n) is = absurd (no_accepted_close (verdicts.standing h c Close) is.facts n is.judged)
-account_take m h c (Withdraw k) (Accepted n) is = absurd (no_accepted_withdraw (verdicts.standing h c (Withdraw k)) is.facts n k is.are_facts is.judged)
-account_take m h c order Withdrawn is = absurd (no_withdrawn m h order (verdicts.standing h c order) is.facts is.are_facts is.judged)
-account_take m h c (Go robot cell) Closed is = rw (eq-eqb c c refl) (account_same (accepted_count h c) (accepted_count h c + 0) (owed h c) (owed h c + 0) true (is_closed h c || true) (sym (add-zero (accepted_count h c))) (sym (add-zero (owed h c))) (sym (or-true (is_closed h c))))
-account_take m h c Close Closed is = rw (eq-eqb c c refl) (account_same (accepted_count h c) (accepted_count h c + 0) (owed h c) (owed h c + 0) true (is_closed h c || true) (sym (add-zero (accepted_count h c))) (sym (add-zero (owed h c))) (sym (or-true (is_closed h c))))
-account_take m h c (Withdraw k) Closed is = rw (eq-eqb c c refl) (account_same (accepted_count h c) (accepted_count h c + 0) (owed h c) (owed h c + 0) true (is_closed h c || true) (sym (add-zero (accepted_count h c))) (sym (add-zero (owed h c))) (sym (or-true (is_closed h c))))
-account_take m h c (Go robot cell) v is = rw (eq-eqb c c refl) (account_same (accepted_count h c) (accepted_count h c + 0) (owed h c) (owed h c + 0) (is_closed h c) (is_closed h c || false) (sym (add-zero (accepted_count h c))) (sym (add-zero (owed h c))) (sym (or-false (is_closed h c))))
-account_take m h c Close v is = rw (eq-eqb c c refl) (account_same (accepted_count h c) (accepted_count h c + 0) (owed h c) (owed h c + 0) (is_closed h c) (is_closed h c || false) (sym (add-zero (accepted_count h c))) (sym (add-zero (owed h c))) (sym (or-false (is_closed h c))))
-account_take m h c (Withdraw k) v is = rw (eq-eqb c c refl) (account_same (accepted_count h c) (accepted_count h c + 0) (owed h c) (owed h c + 0) (is_closed h c) (is_closed h c || false) (sym (add-zero (accepted_count h c))) (sym (add-zero (owed h c))) (sym (or-false (is_closed h c))))
+account_take m h c (Withdraw k) (Accepted n) is = absurd (no_accepted_withdraw (verdicts.standing h c (Withdraw k)) is.facts n k is.judged)
+account_take m h c (Go robot cell) Withdrawn is = absurd (withdrawn_go (verdicts.standing h c (Go robot cell)) is.facts robot cell is.judged)
+account_take m h c Close Withdrawn is = absurd (withdrawn_close (verdicts.standing h c Close) is.facts is.judged)
+account_take m h c (Withdraw k) Withdrawn is = rw (eq-eqb c c refl) (account_same (accepted_count h c) (accepted_count h c + 0) (owed h c - 1) (owed h c + 0 - 1) (is_closed h c) (is_closed h c || false) (omega arith) (omega arith) (sym (or-false (is_closed h c))))
+account_take m h c (Go robot cell) Closed is = rw (eq-eqb c c refl) (account_same (accepted_count h c) (accepted_count h c + 0) (owed h c) (owed h c + 0 - 0) true (is_closed h c || true) (omega arith) (omega arith) (sym (or-true (is_closed h c))))
+account_take m h c Close Closed is = rw (eq-eqb c c refl) (account_same (accepted_count h c) (accepted_count h c + 0) (owed h c) (owed h c + 0 - 0) true (is_closed h c || true) (omega arith) (omega arith) (sym (or-true (is_closed h c))))
+account_take m h c (Withdraw k) Closed is = rw (eq-eqb c c refl) (account_same (accepted_count h c) (accepted_count h c + 0) (owed h c) (owed h c + 0 - 0) true (is_closed h c || true) (omega arith) (omega arith) (sym (or-true (is_closed h c))))
+account_take m h c (Go robot cell) v is = rw (eq-eqb c c refl) (account_same (accepted_count h c) (accepted_count h c + 0) (owed h c) (owed h c + 0 - 0) (is_closed h c) (is_closed h c || false) (omega arith) (omega arith) (sym (or-false (is_closed h c))))
+account_take m h c Close v is = rw (eq-eqb c c refl) (account_same (accepted_count h c) (accepted_count h c + 0) (owed h c) (owed h c + 0 - 0) (is_closed h c) (is_closed h c || false) (omega arith) (omega arith) (sym (or-false (is_closed h c))))
+account_take m h c (Withdraw k) v is = rw (eq-eqb c c refl) (account_same (accepted_count h c) (accepted_count h c + 0) (owed h c) (owed h c + 0 - 0) (is_closed h c) (is_closed h c || false) (omega arith) (omega arith) (sym (or-false (is_closed h c))))
 
 owed_more-le : (c client : ℕ) (order : Order) (v : Verdict) → owed_more c client order v ≤ 1
 owed_more-le c client (Go robot cell) (Accepted n) = elim (cases_Bool (eqb client c)) [ inl e ↦ rw e (omega arith) | inr e ↦ rw e (omega arith) ]
@@ -198,11 +215,15 @@ owed_more-other c client (Go robot cell) v ne = refl
 owed_more-other c client Close v ne = refl
 owed_more-other c client (Withdraw k) v ne = refl
 
+owed_less-other : (c client : ℕ) (order : Order) (v : Verdict) → (client ≡ c → ⊥) → owed_less c client order v ≡ 0
+owed_less-other c client (Withdraw k) Withdrawn ne = rw (ne_eqb client c ne) refl
+owed_less-other c client order v ne = refl
+
 account-take_same : {A : Type 0} (m : Floor) (h : History A) (c : ℕ) (order : Order) (v : Verdict) → IsLegal m h → IsVerdict m h c order v →
     account_after (after h (entry.Take c order v)) c ≡ entered v (account_after h c)
 account-take_same {A = A} m h c order v legal is =
     let e : Entry A = entry.Take c order v in
-    account_same _ _ _ _ _ _ (accepted_count-after h c e) (owed-after_take m h c c order v legal is) (closed-after h c e) ∙ sym (account_take m h c order v is)
+    account_same _ _ _ _ _ _ (accepted_count-after h c e) (omega (arith, owed-after_take m h c c order v legal is)) (closed-after h c e) ∙ sym (account_take m h c order v is)
 
 account-take_other : {A : Type 0} (m : Floor) (h : History A) (k c : ℕ) (order : Order) (v : Verdict) → IsLegal m h → IsVerdict m h c order v → (c ≡ k → ⊥) →
     account_after (after h (entry.Take c order v)) k ≡ account_after h k
@@ -210,7 +231,7 @@ account-take_other {A = A} m h k c order v legal is ne =
     let e : Entry A = entry.Take c order v in
     account_same _ _ _ _ _ _
     (accepted_count-after h k e ∙ rw (ne_eqb c k ne) (add-zero (accepted_count h k)))
-    (owed-after_take m h k c order v legal is ∙ rw (owed_more-other k c order v ne) (add-zero (owed h k)))
+    (omega (arith, owed-after_take m h k c order v legal is, owed_more-other k c order v ne, owed_less-other k c order v ne))
     (closed-after h k e ∙ rw (ne_eqb c k ne) (or-false (is_closed h k)))
 
 tally-take_same : {A : Type 0} (h : History A) (c : ℕ) (order : Order) (v : Verdict) →
@@ -237,10 +258,10 @@ small_weaker n n' t l s = record { taken = omega (arith, s.taken); noticed = ome
 
 -- the queues after a take
 abbrev pub queue_more : Queue → ℕ → ℕ → Order → Verdict → Queue
-queue_more q r c order v = record { items = q.items ++ errand_for r c order v; capacity = q.capacity }
+queue_more q r c order v = record { items = kept_by c order v q.items ++ errand_for r c order v; capacity = q.capacity }
 
 within_place : (queues : List Queue) (c r : ℕ) (order : Order) (v : Verdict) → HasPlace queues order v → length (queue_at queues r).items ≤ (queue_at queues r).capacity →
-    length ((queue_at queues r).items ++ errand_for r c order v) ≤ (queue_at queues r).capacity
+    length (kept_by c order v (queue_at queues r).items ++ errand_for r c order v) ≤ (queue_at queues r).capacity
 within_place queues c r (Go robot cell) (Accepted n) place within =
     elim (cases_eq robot r) [
       | inl e ↦ rw (eq-eqb robot r e) (omega (arith, length_push (queue_at queues r).items (record { client = c; number = n; cell = cell }), subst (λ k. length (queue_at queues k).items < (queue_at queues k).capacity) e place.1))
@@ -248,7 +269,7 @@ within_place queues c r (Go robot cell) (Accepted n) place within =
     ]
 within_place queues c r (Go robot cell) v place within = rw (append-nil (queue_at queues r).items) within
 within_place queues c r Close v place within = rw (append-nil (queue_at queues r).items) within
-within_place queues c r (Withdraw k) v place within = rw (append-nil (queue_at queues r).items) within
+within_place queues c r (Withdraw k) v place within = rw (append-nil (kept_by c (Withdraw k) v (queue_at queues r).items)) (omega (arith, kept_shorter c (Withdraw k) v (queue_at queues r).items))
 
 entered_within : (life : ℕ) (v : Verdict) (a : Account) → MayEnter life v a → a.accepted ≤ life → (entered v a).accepted ≤ life
 entered_within life (Accepted n) a may within = omega (arith, may.0, may.1)
@@ -272,7 +293,7 @@ IsKept-take {A = A} m limits h cells queues queues' counts tallies boxes tick c 
       legal = grown e k.legal (inside, is) refl;
       placed = k.placed ∙ sym (place-after h e);
       queue_count = same ∙ k.queue_count;
-      queued = λ r l. ap (λ (q : Queue). q.items) (grows r (omega (arith, k.queue_count))) ∙ ap (λ x. x ++ errand_for r c order v) (k.queued r l) ∙ sym (unfinished-after_take m h c order v r k.legal l);
+      queued = λ r l. ap (λ (q : Queue). q.items) (grows r (omega (arith, k.queue_count))) ∙ ap (λ x. kept_by c order v x ++ errand_for r c order v) (k.queued r l) ∙ sym (unfinished-after_take m h c order v r k.legal is l);
       queue_room = λ r l. ap (λ (q : Queue). q.capacity) (grows r (omega (arith, k.queue_count))) ∙ k.queue_room r l;
       queue_within = λ r l. rw (grows r (omega (arith, k.queue_count))) (within_place queues c r order v place (k.queue_within r l));
       account_count = length-set counts.accounts c a ∙ k.account_count;
@@ -305,10 +326,10 @@ IsKept-take {A = A} m limits h cells queues queues' counts tallies boxes tick c 
       box_count = length-set boxes c b ∙ k.box_count;
       box_room = λ j l. elim (cases_eq c j) [
         | inl s ↦ subst (λ j. length (box_at (slice_set boxes c b) j).notices + owed (after h e) j ≤ (box_at (slice_set boxes c b) j).limit) s
-            (rw (get_or-set_same boxes c b no_pending has_box, owed-after_take m h c c order v k.legal is)
-            (omega (arith, length_push (box_at boxes c).notices (notice.Verdict ((tally_at tallies c).noticed + 1) ((tally_at tallies c).taken + 1) v), owed_more-le c c order v)))
-        | inr ne ↦ rw (get_or-set_other boxes c j b no_pending (λ s. ne (sym s)), owed-after_take m h j c order v k.legal is, owed_more-other j c order v ne)
-            (omega (arith, k.box_room j l))
+            (rw (get_or-set_same boxes c b no_pending has_box)
+            (omega (arith, owed-after_take m h c c order v k.legal is, length_push (box_at boxes c).notices (notice.Verdict ((tally_at tallies c).noticed + 1) ((tally_at tallies c).taken + 1) v), owed_more-le c c order v)))
+        | inr ne ↦ rw (get_or-set_other boxes c j b no_pending (λ s. ne (sym s)))
+            (omega (arith, owed-after_take m h j c order v k.legal is, owed_more-other j c order v ne, k.box_room j l))
       ];
       ticked = k.ticked ∙ sym (clock-after h e ∙ add-zero (clock h));
       few_entries = omega (arith, length_push h.entries e);
@@ -364,7 +385,7 @@ IsKept-shut {A = A} m limits h cells queues counts tallies boxes tick robot fare
 
 -- the verdict that the book gives is that of the history
 pub verdict-kept : {A : Type 0} (m : Floor) (limits : Limits) (h : History A) (cells : List ℕ) (queues : List Queue) (counts : Counts) (tallies : List Tally) (boxes : List Pending) (tick c : ℕ) (order : Order) (f : Facts) (v : Verdict) →
-    IsKept m limits h cells queues counts tallies boxes tick → c < clients h → AreFacts m h order f → v ≡ verdict_of order (book.standing counts c order) f → IsVerdict m h c order v
+    IsKept m limits h cells queues counts tallies boxes tick → c < clients h → AreFacts m h c order f → v ≡ verdict_of order (book.standing counts c order) f → IsVerdict m h c order v
 verdict-kept m limits h cells queues counts tallies boxes tick c order f v k inside are e = record {
   facts = f;
   are_facts = are;
@@ -372,9 +393,9 @@ verdict-kept m limits h cells queues counts tallies boxes tick c order f v k ins
 }
 
 pub place-kept : {A : Type 0} (m : Floor) (limits : Limits) (h : History A) (cells : List ℕ) (queues : List Queue) (counts : Counts) (tallies : List Tally) (boxes : List Pending) (tick c : ℕ) (order : Order) (f : Facts) (v : Verdict) →
-    IsKept m limits h cells queues counts tallies boxes tick → AreFacts m h order f → v ≡ verdict_of order (book.standing counts c order) f → HasPlace queues order v
+    IsKept m limits h cells queues counts tallies boxes tick → AreFacts m h c order f → v ≡ verdict_of order (book.standing counts c order) f → HasPlace queues order v
 place-kept m limits h cells queues counts tallies boxes tick c order f v k are e =
-    has-place m h queues order (book.standing counts c order) f v are e k.queue_count k.queued k.queue_room k.queue_within
+    has-place m h queues c order (book.standing counts c order) f v are e k.queue_count k.queued k.queue_room k.queue_within
 
 none_left_is : (xs : List Errand) (b : Bool) → (IsTrue b ↔ (xs ≡ [])) → b ≡ is_none_left xs
 none_left_is [] b e = e.1 refl

@@ -19,6 +19,7 @@ use Rattle.fleet_history.specs.declared.history.Opening.{Opening}
 use Rattle.fleet_history.specs.declared.history.RobotState.{RobotState}
 use Rattle.fleet_history.specs.History.{History, start, errands_at, unknown_client, unfinished, owed}
 use Rattle.fleet_history.specs.Legal.{IsLegal, IsRobotInOrder, opened, no_law}
+use Rattle.fleet_history.proofs.Withdrawals.{unfinished-start}
 use Rattle.fleet_world.specs.declared.faults.OpenFault.{OpenFault}
 use Rattle.fleet_world.specs.declared.faults.OpenFault.TheVariants as fault
 use Rattle.fleet_world.specs.Hooks.{HookLaws, law_at, HaveCount, AreOrderly, AreArrivals, AreFarewells}
@@ -212,7 +213,7 @@ none_owed h c a n none = none_owed_in (unfinished h) (range_with_len a n) c none
 pub unfinished-opened : (A : Type 0) (starts : List ℕ) (n : ℕ) (limits : Limits) (laws : HookLaws) (r : ℕ) → unfinished {A = A} (start (opening_of starts n limits laws)) r ≡ []
 unfinished-opened A starts n limits laws r =
     let h : History A = start (opening_of starts n limits laws) in
-    append-nil (errands_at h.opening r) ∙ no_errands A starts laws.arrivals laws.farewells r
+    unfinished-start h.opening r ∙ no_errands A starts laws.arrivals laws.farewells r
 
 replicate_false : (n r : ℕ) → slice_index_or (replicate n false) r false ≡ false
 replicate_false zero r = refl
@@ -229,7 +230,7 @@ IsKept-opened {A = A} m starts n limits laws can orderly =
     let box : Pending = record { notices = []; limit = limits.mailbox } in
     let robots = robot_count A starts laws.arrivals laws.farewells in
     let count = length-replicate n unknown_client in
-    let none : (r : ℕ) → unfinished h r ≡ [] = λ r. append-nil (errands_at h.opening r) ∙ no_errands A starts laws.arrivals laws.farewells r in
+    let none : (r : ℕ) → unfinished h r ≡ [] = λ r. unfinished-start h.opening r ∙ no_errands A starts laws.arrivals laws.farewells r in
     let no_owed : (c : ℕ) → owed h c ≡ 0 = λ c. none_owed h c 0 (length h.opening.robots) none in
     record {
       legal = legal-opened m starts n limits laws can orderly;

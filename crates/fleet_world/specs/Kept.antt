@@ -3,8 +3,10 @@ use Rattle.std.specs.Prelude.{ℕ, ◌+◌, ◌*◌, ◌≡◌, ◌==◌, ◌&&�
 use Rattle.std.specs.List.{flat_map, range_with_len}
 use Rattle.fleet_grid.specs.Floor.{Floor}
 use Rattle.fleet_queue.specs.declared.errand.Errand.{Errand}
-use Rattle.fleet_queue.specs.Queue.{Queue}
+use Rattle.fleet_queue.specs.Queue.{Queue, is_of}
 use Rattle.fleet_book.specs.declared.account.Account.{Account}
+use Rattle.fleet_book.specs.declared.facts.Place.{Place}
+use Rattle.fleet_book.specs.declared.facts.Place.TheVariants.{Absent, Front, Behind}
 use Rattle.fleet_book.specs.declared.limits.Limits.{Limits}
 use Rattle.fleet_book.specs.declared.order.Order.{Order}
 use Rattle.fleet_book.specs.declared.order.Order.TheVariants.{Go}
@@ -15,6 +17,7 @@ use Rattle.fleet_book.specs.Counts.{Counts, account_of}
 use Rattle.fleet_book.specs.Limits.{AreValid}
 use Rattle.fleet_history.specs.History.{History, place, clock, robots, clients, unfinished, owed, accepted_count, taken_count, is_closed, is_shut}
 use Rattle.fleet_history.specs.Notices.{noticed_count}
+use Rattle.fleet_history.specs.Verdicts.{place_in}
 use Rattle.fleet_history.specs.Legal.{IsLegal, Due, due_at, is_none_left, robot_if}
 use Rattle.fleet_world.specs.declared.enter.Tally.{Tally}
 use Rattle.fleet_world.specs.Pending.{Pending, no_pending}
@@ -73,6 +76,12 @@ pub record IsKept {A : Type 0} (m : Floor) (limits : Limits) (h : History A) (ce
 abbrev pub HasPlace : List Queue → Order → Verdict → Type 0
 HasPlace queues (Go robot cell) (Accepted number) = (robot < length queues) × (length (queue_at queues robot).items < (queue_at queues robot).capacity)
 HasPlace queues _ _ = Unit {0}
+
+-- where the client's errand of this number stands, by all queues
+abbrev pub IsPlaceAmong : List Queue → ℕ → ℕ → Place → Type 0
+IsPlaceAmong queues c number Absent = (r : ℕ) → r < length queues → place_in (is_of c number) (queue_at queues r).items ≡ Absent
+IsPlaceAmong queues c number Front = (r : ℕ) × (r < length queues) × (place_in (is_of c number) (queue_at queues r).items ≡ Front)
+IsPlaceAmong queues c number Behind = (r : ℕ) × (r < length queues) × (place_in (is_of c number) (queue_at queues r).items ≡ Behind)
 
 -- whether a shut robot's last errand is done now
 abbrev pub is_last_landing : Bool → List ℕ → ℕ → List Errand → Bool

@@ -1,13 +1,17 @@
 //! What an entry changes, over plain vectors.
-ghost use Rattle.std.specs.Prelude.{◌≡◌, ◌+◌, ◌-◌, ◌≤◌, ◌<◌, ◌^◌, ◌++◌, ◌∷◌, ◌==◌, [], List, ℕ, length, OnOk, OnErr, IfOk, map, drop, filter, count_by, All, slice_get, slice_set, slice_index_or, vec_len, vec_capacity};
+ghost use Rattle.std.specs.Prelude.{◌≡◌, ◌≢◌, true, ◌+◌, ◌-◌, ◌≤◌, ◌<◌, ◌^◌, ◌++◌, ◌∷◌, ◌==◌, [], List, ℕ, length, OnOk, OnErr, IfOk, map, drop, filter, count_by, All, slice_get, slice_set, slice_index_or, vec_len, vec_capacity};
 ghost use Rattle.fleet_book.specs.Counts.{Counts, account_of, with_account, entered, MayEnter};
 ghost use Rattle.fleet_history.specs.History.{errand_for};
 ghost use Rattle.fleet_history.specs.Notices.{arrival_notices};
 ghost use Rattle.fleet_history.specs.Landing.{landed};
-ghost use Rattle.fleet_world.specs.Kept.{queue_at, tally_at, box_at, HasPlace};
+ghost use Rattle.fleet_history.specs.Taking.{kept_by};
+ghost use Rattle.fleet_history.specs.Verdicts.{place_in};
+ghost use Rattle.fleet_queue.specs.Queue.{is_of, without_behind_front};
+ghost use Rattle.std.specs.List.{list_any};
+ghost use Rattle.fleet_world.specs.Kept.{queue_at, tally_at, box_at, HasPlace, IsPlaceAmong};
 
 use crate::mailbox::Mailbox;
-use fleet_book::{Book, Notice, Order, Verdict};
+use fleet_book::{Book, Notice, Order, Place, Verdict};
 use fleet_history::{Arrival, Bye, Entry, Row};
 use fleet_queue::{Errand, ErrandQueue};
 use std::alloc::Allocator;
@@ -39,21 +43,78 @@ pub(crate) fn enqueue<A: Allocator + Copy>(
     ensures len { vec_len queues.new ≡ vec_len queues.old }
     ensures queues { (r : ℕ) → r < vec_len queues.old →
         queue_at queues.new.items r ≡ record {
-          items = (queue_at queues.old.items r).items ++ errand_for r client order verdict;
+          items = kept_by client order verdict (queue_at queues.old.items r).items ++ errand_for r client order verdict;
           capacity = (queue_at queues.old.items r).capacity;
         } }
 {
-    let Verdict::Accepted(number) = verdict else {
-        return;
-    };
-    if let Order::Go { robot, cell } = order {
-        let queue = &mut queues[robot as usize];
-        let _ = queue.try_push(Errand {
-            client,
-            number,
-            cell,
-        });
+    match verdict {
+        Verdict::Accepted(number) => {
+            if let Order::Go { robot, cell } = order {
+                let queue = &mut queues[robot as usize];
+                let _ = queue.try_push(Errand {
+                    client,
+                    number,
+                    cell,
+                });
+            }
+        }
+        Verdict::Withdrawn => {
+            if let Order::Withdraw { number } = order {
+                withdraw_everywhere(queues, client, number);
+            }
+        }
+        _ => {}
     }
+}
+
+/// Withdraws the client's errand of this number where it stands behind a front.
+fn withdraw_everywhere<A: Allocator + Copy>(
+    queues: &mut Vec<ErrandQueue<A>, A>,
+    client: u32,
+    number: u64,
+)
+    ensures len { vec_len queues.new ≡ vec_len queues.old }
+    ensures queues { (r : ℕ) → r < vec_len queues.old →
+        queue_at queues.new.items r ≡ record {
+          items = without_behind_front (is_of client number) (queue_at queues.old.items r).items;
+          capacity = (queue_at queues.old.items r).capacity;
+        } }
+{
+    for r in 0..queues.len() {
+        let queue = &mut queues[r];
+        let _ = queue.withdraw(client, number);
+    }
+}
+
+/// Where the client's errand of this number stands.
+pub(crate) fn place_of<A: Allocator + Copy>(
+    queues: &[ErrandQueue<A>],
+    client: u32,
+    number: u64,
+) -> Place
+    ensures { IsPlaceAmong queues.now client number result }
+{
+    for r in 0..queues.len() {
+        let queue = &queues[r];
+        if queue.holds(client, number) {
+            return place_held(queue, client, number);
+        }
+    }
+    Place::Absent
+}
+
+// Where in the queue the errand stands that it holds.
+fn place_held<A: Allocator + Copy>(queue: &ErrandQueue<A>, client: u32, number: u64) -> Place
+    requires { list_any (is_of client number) queue.now.items ≡ true }
+    ensures at { result ≡ place_in (is_of client number) queue.now.items }
+    ensures some { result ≢ Place.Absent }
+{
+    if let Some(front) = queue.front() {
+        if front.client == client && front.number == number {
+            return Place::Front;
+        }
+    }
+    Place::Behind
 }
 
 /// Enters a take: its entry, its notice, its errand and the client's counts.
@@ -79,7 +140,7 @@ pub(crate) fn enter_take<A: Allocator + Copy>(
     ensures queue_count { vec_len queues.new ≡ vec_len queues.old }
     ensures queues { (r : ℕ) → r < vec_len queues.old →
         queue_at queues.new.items r ≡ record {
-          items = (queue_at queues.old.items r).items ++ errand_for r client order verdict;
+          items = kept_by client order verdict (queue_at queues.old.items r).items ++ errand_for r client order verdict;
           capacity = (queue_at queues.old.items r).capacity;
         } }
     ensures book { book.new ≡ with_account book.old client (entered verdict (account_of book.old client)) }

@@ -17,7 +17,7 @@ ghost use Rattle.fleet_world.specs.Core.{Takes, Ticks, Shuts, pending, without_f
 use crate::aiming::{
     aim_first, begin_wait, begun_by, count_waits, has_no_bridge, is_nobody, next_goals, no_waits,
 };
-use crate::enter::{Tally, add, enter_take};
+use crate::enter::{Tally, add, enter_take, place_of};
 use crate::faults::{ShutFault, TakeFault, TickFault, TickReport};
 use crate::mailbox::Mailbox;
 use crate::opening::{blank_tallies, empty_mailboxes, empty_queues, nobodies, robots_at};
@@ -193,8 +193,8 @@ impl<A: Allocator + Copy> Core<A> {
     }
 
     /// What is so of an order.
-    fn facts(&self, order: Order) -> Facts
-        ensures { AreFacts self.now.floor self.now.history order result }
+    fn facts(&self, client: u32, order: Order) -> Facts
+        ensures { AreFacts self.now.floor self.now.history client order result }
     {
         let mut facts = Facts {
             robot_known: false,
@@ -204,14 +204,20 @@ impl<A: Allocator + Copy> Core<A> {
             queue_full: false,
             place: Place::Absent,
         };
-        if let Order::Go { robot, cell } = order {
-            facts.in_range = cell < self.grid.cell_count();
-            facts.floor = self.grid.is_floor(cell);
-            if (robot as usize) < self.queues.len() {
-                facts.robot_known = true;
-                facts.queue_full = self.queues[robot as usize].is_full();
-                facts.same_part = facts.floor
-                    && self.grid.same_part(self.cells[robot as usize], cell);
+        match order {
+            Order::Go { robot, cell } => {
+                facts.in_range = cell < self.grid.cell_count();
+                facts.floor = self.grid.is_floor(cell);
+                if (robot as usize) < self.queues.len() {
+                    facts.robot_known = true;
+                    facts.queue_full = self.queues[robot as usize].is_full();
+                    facts.same_part = facts.floor
+                        && self.grid.same_part(self.cells[robot as usize], cell);
+                }
+            }
+            Order::Close => {}
+            Order::Withdraw { number } => {
+                facts.place = place_of(self.queues.as_slice(), client, number);
             }
         }
         facts
@@ -243,7 +249,7 @@ impl<A: Allocator + Copy> Core<A> {
         if self.chapter.entries.len() >= self.limits.chapter as usize {
             return Err(TakeFault::ChapterFull);
         }
-        let facts = self.facts(order);
+        let facts = self.facts(client, order);
         let verdict = self.book.judge(client, order, facts);
         let first = begun_by(self.queues.as_slice(), order, verdict);
         self.chapter.entries.reserve(1)?;

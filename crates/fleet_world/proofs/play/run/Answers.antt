@@ -6,7 +6,7 @@ use Rattle.fleet_history.specs.Legal.{IsLegal}
 use Rattle.fleet_history.proofs.Arrivals.{arrives-legal}
 use Rattle.fleet_history.proofs.Legal.{no_conflict-legal, none_closed-legal}
 use Rattle.fleet_history.proofs.Once.{numbered-legal}
-use Rattle.fleet_history.proofs.Numbers.{arrivals_rise-legal}
+use Rattle.fleet_history.proofs.Arrivals.{arrivals_rise-legal}
 use Rattle.fleet_world.specs.Core.{Run, state_of, opened_state}
 use Rattle.fleet_world.specs.Hooks.{laws_of}
 use Rattle.fleet_world.specs.Laws.{KeepsRings}

@@ -1,10 +1,10 @@
-use Rattle.std.proofs.Common.{arith, ◌∙◌, ◌<◌, length, ap, slice_index}
+use Rattle.std.proofs.Common.{arith, ◌∙◌, ◌<◌, length, ap, subst, slice_index}
 use Rattle.std.proofs.lemmas.List.{get_or_read}
 use Rattle.fleet_queue.specs.Queue.{Queue}
 use Rattle.fleet_history.specs.History.{history_of, robots, place}
 use Rattle.fleet_history.proofs.Legal.{legal-placement, length-place}
-use Rattle.fleet_world.specs.Kept.{no_queue}
-use Rattle.fleet_world.proofs.Facts.{facts-are}
+use Rattle.fleet_world.specs.Kept.{no_queue, IsPlaceAmong}
+use Rattle.fleet_world.proofs.Facts.{facts-are, place-among}
 use Rattle.fleet_world.proofs.kernel.Core.facts.Goals as goal
 
 pub index-requires-then-facts : goal.index-requires-then-facts
@@ -30,3 +30,10 @@ returns-then-facts g c =
     (facts-are c.self.inside.grid h c.in-Go.robot c.in-Go.cell c.cell_count.result c.index-then-facts.result.now c.is_floor.result c.same_part.result c.is_full.result c.index.result.now known
     (c.cell_count.ensures.value ∙ c.cell_count.ensures.form.covered) c.is_floor.ensures c.same_part.ensures (at ∙ ap (λ cells. slice_index cells c.in-Go.robot) c.self.invariant.0.placed) c.is_full.ensures.full
     (ap (λ (q : Queue). q.items) queue ∙ c.self.invariant.0.queued c.in-Go.robot known) (ap (λ (q : Queue). q.capacity) queue ∙ c.self.invariant.0.queue_room c.in-Go.robot known))
+
+pub returns-in-Withdraw : goal.returns-in-Withdraw
+returns-in-Withdraw g c =
+    let h = history_of c.self.inside.chapter in
+    rw (← c.self.view_is, c.in-Withdraw.is)
+    (place-among h c.self.inside.queues.items c.args.client c.in-Withdraw.number c.place_of-facts.result c.self.invariant.0.queue_count c.self.invariant.0.queued
+    (subst (λ q. IsPlaceAmong q c.args.client c.in-Withdraw.number c.place_of-facts.result) c.as_slice.ensures.value c.place_of-facts.ensures))

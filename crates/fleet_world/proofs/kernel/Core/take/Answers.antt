@@ -13,21 +13,23 @@ pub enter_take-requires-clause-may : goal.enter_take-requires-clause-may
 enter_take-requires-clause-may g c =
     let h = history_of c.self.inside.chapter in
     let inside : c.args.client < clients h = subst (λ w. c.args.client < clients w.history) (sym c.self.view_is) c.requires in
-    let are : AreFacts c.self.inside.grid h c.args.order c.facts-facts.result = subst (λ w. AreFacts w.floor w.history c.args.order c.facts-facts.result) (sym c.self.view_is) c.facts-facts.ensures in
-    may-enter c.self.inside.grid h c.self.inside.book c.args.client c.args.order c.facts-facts.result c.judge-verdict.result are c.judge-verdict.ensures.verdict (c.self.invariant.0.within_life c.args.client inside)
+    let are : AreFacts c.self.inside.grid h c.args.client c.args.order c.facts-facts.result = subst (λ w. AreFacts w.floor w.history c.args.client c.args.order c.facts-facts.result) (sym c.self.view_is) c.facts-facts.ensures in
+    let is = verdict-kept c.self.inside.grid c.self.inside.limits h c.self.inside.cells.items c.self.inside.queues.items c.self.inside.book c.self.inside.tallies.items c.self.inside.mailboxes.items c.self.inside.tick
+    c.args.client c.args.order c.facts-facts.result c.judge-verdict.result c.self.invariant.0 inside are c.judge-verdict.ensures.verdict in
+    may-enter c.self.inside.grid h c.self.inside.book c.args.client c.args.order c.facts-facts.result c.judge-verdict.result c.self.invariant.0.legal is (c.self.invariant.0.accounted c.args.client inside) c.judge-verdict.ensures.verdict (c.self.invariant.0.within_life c.args.client inside)
 
 pub enter_take-requires-clause-place : goal.enter_take-requires-clause-place
 enter_take-requires-clause-place g c =
     let h = history_of c.self.inside.chapter in
-    let are : AreFacts c.self.inside.grid h c.args.order c.facts-facts.result = subst (λ w. AreFacts w.floor w.history c.args.order c.facts-facts.result) (sym c.self.view_is) c.facts-facts.ensures in
+    let are : AreFacts c.self.inside.grid h c.args.client c.args.order c.facts-facts.result = subst (λ w. AreFacts w.floor w.history c.args.client c.args.order c.facts-facts.result) (sym c.self.view_is) c.facts-facts.ensures in
     place-kept c.self.inside.grid c.self.inside.limits h c.self.inside.cells.items c.self.inside.queues.items c.self.inside.book c.self.inside.tallies.items c.self.inside.mailboxes.items c.self.inside.tick
     c.args.client c.args.order c.facts-facts.result c.judge-verdict.result c.self.invariant.0 are c.judge-verdict.ensures.verdict
 
 in_range : (g : _) (c : After-enter_take g) → c.args.client < clients (history_of c.self.inside.chapter)
 in_range g c = subst (λ w. c.args.client < clients w.history) (sym c.self.view_is) c.requires
 
-are_facts : (g : _) (c : After-enter_take g) → AreFacts c.self.inside.grid (history_of c.self.inside.chapter) c.args.order c.facts-facts.result
-are_facts g c = subst (λ w. AreFacts w.floor w.history c.args.order c.facts-facts.result) (sym c.self.view_is) c.facts-facts.ensures
+are_facts : (g : _) (c : After-enter_take g) → AreFacts c.self.inside.grid (history_of c.self.inside.chapter) c.args.client c.args.order c.facts-facts.result
+are_facts g c = subst (λ w. AreFacts w.floor w.history c.args.client c.args.order c.facts-facts.result) (sym c.self.view_is) c.facts-facts.ensures
 
 verdict_is : (g : _) (c : After-enter_take g) → IsVerdict c.self.inside.grid (history_of c.self.inside.chapter) c.args.client c.args.order c.judge-verdict.result
 verdict_is g c =
@@ -43,7 +45,7 @@ invariant_of-self-2 g c =
       rw (c.enter_take.ensures.entries, c.reserve.ensures.items, c.enter_take.ensures.book, c.enter_take.ensures.tallies, c.enter_take.ensures.mailboxes)
           (IsKept-take c.self.inside.grid c.self.inside.limits h c.self.inside.cells.items c.self.inside.queues.items c.enter_take.new.queues.items c.self.inside.book c.self.inside.tallies.items c.self.inside.mailboxes.items c.self.inside.tick
           c.args.client c.args.order c.judge-verdict.result c.self.invariant.0 (in_range g c) (omega (arith, c.self.inside.chapter.entries.ok.0)) (verdict_is g c)
-          (may-enter c.self.inside.grid h c.self.inside.book c.args.client c.args.order c.facts-facts.result c.judge-verdict.result (are_facts g c) c.judge-verdict.ensures.verdict (c.self.invariant.0.within_life c.args.client (in_range g c)))
+          (may-enter c.self.inside.grid h c.self.inside.book c.args.client c.args.order c.facts-facts.result c.judge-verdict.result c.self.invariant.0.legal (verdict_is g c) (c.self.invariant.0.accounted c.args.client (in_range g c)) c.judge-verdict.ensures.verdict (c.self.invariant.0.within_life c.args.client (in_range g c)))
           (place-kept c.self.inside.grid c.self.inside.limits h c.self.inside.cells.items c.self.inside.queues.items c.self.inside.book c.self.inside.tallies.items c.self.inside.mailboxes.items c.self.inside.tick
           c.args.client c.args.order c.facts-facts.result c.judge-verdict.result c.self.invariant.0 (are_facts g c) c.judge-verdict.ensures.verdict)
           (subst (λ w. HasRoom w c.args.client) (sym c.self.view_is) (room_is g c))
@@ -76,7 +78,7 @@ pub aim_first-requires-clause-known : goal.aim_first-requires-clause-known
 aim_first-requires-clause-known g c robot cell e =
     let h = history_of c.self.inside.chapter in
     let inside : c.args.client < clients h = subst (λ w. c.args.client < clients w.history) (sym c.self.view_is) c.requires in
-    let are : AreFacts c.self.inside.grid h c.args.order c.facts-facts.result = subst (λ w. AreFacts w.floor w.history c.args.order c.facts-facts.result) (sym c.self.view_is) c.facts-facts.ensures in
+    let are : AreFacts c.self.inside.grid h c.args.client c.args.order c.facts-facts.result = subst (λ w. AreFacts w.floor w.history c.args.client c.args.order c.facts-facts.result) (sym c.self.view_is) c.facts-facts.ensures in
     let is = verdict-kept c.self.inside.grid c.self.inside.limits h c.self.inside.cells.items c.self.inside.queues.items c.self.inside.book c.self.inside.tallies.items c.self.inside.mailboxes.items c.self.inside.tick
     c.args.client c.args.order c.facts-facts.result c.judge-verdict.result c.self.invariant.0 inside are c.judge-verdict.ensures.verdict in
     let p = begun-known c.self.inside.grid h c.self.inside.queues.items c.args.client c.args.order c.judge-verdict.result robot cell is (sym (rw c.as_slice.ensures.value at c.begun_by-first.ensures) ∙ e) in
@@ -86,7 +88,7 @@ pub begin_wait-requires : goal.begin_wait-requires
 begin_wait-requires g c robot cell e =
     let h = history_of c.self.inside.chapter in
     let inside : c.args.client < clients h = subst (λ w. c.args.client < clients w.history) (sym c.self.view_is) c.requires in
-    let are : AreFacts c.self.inside.grid h c.args.order c.facts-facts.result = subst (λ w. AreFacts w.floor w.history c.args.order c.facts-facts.result) (sym c.self.view_is) c.facts-facts.ensures in
+    let are : AreFacts c.self.inside.grid h c.args.client c.args.order c.facts-facts.result = subst (λ w. AreFacts w.floor w.history c.args.client c.args.order c.facts-facts.result) (sym c.self.view_is) c.facts-facts.ensures in
     let is = verdict-kept c.self.inside.grid c.self.inside.limits h c.self.inside.cells.items c.self.inside.queues.items c.self.inside.book c.self.inside.tallies.items c.self.inside.mailboxes.items c.self.inside.tick
     c.args.client c.args.order c.facts-facts.result c.judge-verdict.result c.self.invariant.0 inside are c.judge-verdict.ensures.verdict in
     let p = begun-known c.self.inside.grid h c.self.inside.queues.items c.args.client c.args.order c.judge-verdict.result robot cell is (sym (rw c.as_slice.ensures.value at c.begun_by-first.ensures) ∙ e) in
