@@ -2,7 +2,7 @@
 use Rattle.std.proofs.Common.{◌≡◌, ℕ, zero, suc, List, [], ◌∷◌, length, map, take, refl, ap, ◌∙◌}
 use Rattle.fleet_hooks.specs.declared.law.StampLaw.{StampLaw}
 use Rattle.fleet_hooks.specs.declared.law.TieLaw.{TieLaw}
-use Rattle.fleet_world.specs.Hooks.{HookLaws}
+use Rattle.fleet_core.specs.Hooks.{HookLaws}
 use Rattle.errands.specs.Kit.{KitLaws, cut_laws, chosen_laws}
 use Rattle.fleet_script.specs.Script.{Plan}
 use Rattle.std.specs.Prelude.{if◌then◌else◌}

@@ -6,7 +6,7 @@ use Rattle.fleet_grid.specs.Floor.{Floor, IsNeighbour}
 use Rattle.fleet_grid.specs.Walk.{IsBridgeless}
 use Rattle.fleet_world.specs.declared.events.Event.{Event}
 use Rattle.fleet_world.specs.declared.events.Reply.{Reply}
-use Rattle.fleet_world.specs.Core.{State, Run, opened_state}
+use Rattle.fleet_world.specs.Run.{State, Run, opened_state}
 use Rattle.fleet_world.specs.Laws.{KeepsRings}
 use Rattle.fleet_history.specs.Legal.{IsLegal}
 use Rattle.fleet_history.specs.Laws.{ArrivesInOrder, ArrivalsRise, EachTick, HasNoConflict, AcceptsNoneClosed}
@@ -17,7 +17,7 @@ use Rattle.errands.specs.declared.said.Complaint.{Complaint}
 use Rattle.errands.specs.declared.said.Complaint.TheVariants as complaint
 use Rattle.errands.specs.Outcome.{Outcome, IsScriptOutcome, IsLawfulEnd, IsMapNamed, IsJobOutcome, refused, ran, run_outcome, fault}
 use Rattle.errands.specs.declared.words.Job.{Job}
-use Rattle.fleet_world.specs.Hooks.{HookLaws}
+use Rattle.fleet_core.specs.Hooks.{HookLaws}
 use Rattle.fleet_script.specs.Script.{Plan}
 use Rattle.errands.specs.Kit.{KitLaws, chosen_laws}
 use Rattle.fleet_map.specs.declared.fault.MapFault.{MapFault}

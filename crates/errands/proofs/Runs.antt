@@ -6,10 +6,11 @@ use Rattle.fleet_world.specs.declared.events.Event.{Event}
 use Rattle.fleet_world.specs.declared.events.Event.TheVariants.{Post, Take, Tick, Give, Collect, Shut}
 use Rattle.fleet_world.specs.declared.events.Reply.{Reply}
 use Rattle.fleet_world.specs.declared.events.Reply.TheVariants.{Posted, LaneFull, Took, LaneEmpty, TakeRefused, Ticked, TickRefused, Gave, NothingPending, OutletFull, Collected, NothingThere, ShutDone, ShutRefused, NoClient}
-use Rattle.fleet_world.specs.declared.faults.TakeFault.TheVariants as take_fault
-use Rattle.fleet_world.specs.declared.faults.TickFault.TheVariants as tick_fault
-use Rattle.fleet_world.specs.declared.faults.ShutFault.TheVariants as shut_fault
-use Rattle.fleet_world.specs.Core.{State, World, Step, Run}
+use Rattle.fleet_core.specs.declared.faults.TakeFault.TheVariants as take_fault
+use Rattle.fleet_core.specs.declared.faults.TickFault.TheVariants as tick_fault
+use Rattle.fleet_core.specs.declared.faults.ShutFault.TheVariants as shut_fault
+use Rattle.fleet_core.specs.Core.{World}
+use Rattle.fleet_world.specs.Run.{State, Step, Run}
 
 abbrev floor_in : {A : Type 0} → State A → Floor
 floor_in s = s.world.floor

@@ -1,6 +1,6 @@
 -- The laws of the closures that a script chooses from.
 use Rattle.std.specs.Prelude.{ℕ, length, take, if◌then◌else◌}
-use Rattle.fleet_world.specs.Hooks.{HookLaws, laws_of}
+use Rattle.fleet_core.specs.Hooks.{HookLaws, laws_of}
 use Rattle.errands.specs.declared.kit.HookKit.{HookKit}
 use Rattle.fleet_script.specs.Script.{Plan}
 

@@ -11,7 +11,7 @@ use Rattle.fleet_history.specs.declared.history.Entry.{Entry}
 use Rattle.fleet_world.specs.declared.events.Event.{Event}
 use Rattle.fleet_world.specs.declared.events.Reply.{Reply}
 use Rattle.fleet_world.specs.declared.faults.OpenFault.{OpenFault}
-use Rattle.fleet_world.specs.Core.{State, Run, opened_state}
+use Rattle.fleet_world.specs.Run.{State, Run, opened_state}
 use Rattle.fleet_world.specs.Opening.{IsRefused}
 use Rattle.fleet_world.specs.Laws.{KeepsRings}
 use Rattle.fleet_history.specs.Legal.{IsLegal}

@@ -17,12 +17,12 @@ use Rattle.fleet_world.specs.declared.events.Event.{Event}
 use Rattle.fleet_world.specs.declared.events.Event.TheVariants.{Post, Take, Tick, Give, Collect, Shut}
 use Rattle.fleet_world.specs.declared.events.Reply.{Reply}
 use Rattle.fleet_world.specs.declared.events.Reply.TheVariants.{Posted, LaneFull, Took, LaneEmpty, TakeRefused, Ticked, TickRefused, Gave, NothingPending, OutletFull, Collected, NothingThere, ShutDone, ShutRefused, NoClient}
-use Rattle.fleet_world.specs.declared.faults.TakeFault.{TakeFault}
-use Rattle.fleet_world.specs.declared.faults.TakeFault.TheVariants as take_fault
-use Rattle.fleet_world.specs.declared.faults.TickFault.{TickFault}
-use Rattle.fleet_world.specs.declared.faults.TickFault.TheVariants as tick_fault
-use Rattle.fleet_world.specs.declared.faults.ShutFault.{ShutFault}
-use Rattle.fleet_world.specs.declared.faults.ShutFault.TheVariants as shut_fault
+use Rattle.fleet_core.specs.declared.faults.TakeFault.{TakeFault}
+use Rattle.fleet_core.specs.declared.faults.TakeFault.TheVariants as take_fault
+use Rattle.fleet_core.specs.declared.faults.TickFault.{TickFault}
+use Rattle.fleet_core.specs.declared.faults.TickFault.TheVariants as tick_fault
+use Rattle.fleet_core.specs.declared.faults.ShutFault.{ShutFault}
+use Rattle.fleet_core.specs.declared.faults.ShutFault.TheVariants as shut_fault
 
 abbrev pub verdict_text : Verdict → List ℕ
 verdict_text (verdict.Accepted number) = codes "accepted " ++ decimal number

@@ -1,7 +1,7 @@
 //! The closures that a script chooses from.
 
 ghost use Rattle.std.specs.Prelude.{◌≡◌, if◌then◌else◌};
-ghost use Rattle.fleet_world.specs.Hooks.{laws_of};
+ghost use Rattle.fleet_core.specs.Hooks.{laws_of};
 ghost use Rattle.errands.specs.Kit.{kit_laws};
 
 use fleet_hooks::Hooks;

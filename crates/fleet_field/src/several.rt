@@ -15,7 +15,7 @@ use std::thread::Threads;
 const LARGE: u64 = 1_048_576;
 
 /// The fields of several goals, one after another.
-fn fields_in_turn<A: Allocator + Copy, B: Allocator + Copy>(
+pub(crate) fn fields_in_turn<A: Allocator + Copy, B: Allocator + Copy>(
     alloc: A,
     grid: &Grid<B>,
     goals: &[u32],

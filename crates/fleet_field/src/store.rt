@@ -11,7 +11,7 @@ ghost use Rattle.std.specs.List.{Contains};
 ghost use Rattle.fleet_field.specs.declared.store.Held.{Held as HeldView};
 
 use crate::field::Field;
-use crate::several::fields;
+use crate::several::{fields, fields_in_turn};
 use fleet_grid::Grid;
 use slab::Slab;
 use std::alloc::{AllocError, Allocator, Global};
@@ -283,6 +283,33 @@ impl<A: Allocator + Copy + Send + Sync> FieldStore<A> {
     {
         let missing = missing_of(self.alloc, &self.held, goals)?;
         let fresh = fields(rt, self.alloc, grid, &missing)?;
+        let mut keys = Vec::with_capacity(self.alloc, goals.len())?;
+        self.held.reserve(fresh.len())?;
+        put_all(&mut self.held, fresh);
+        use_all(&mut self.held, goals, &mut keys);
+        Ok(keys)
+    }
+}
+
+impl<A: Allocator + Copy> FieldStore<A> {
+    /// Holds the fields of several goals, floor cells, and gives their keys in turn, as `hold_all` does. Fields that the
+    /// store has not are searched one after another. Each goal is held fewer than 2^32 times at once.
+    pub fn hold_each<B: Allocator + Copy>(
+        &mut self,
+        grid: &Grid<B>,
+        goals: &[u32],
+    ) -> Result<Vec<usize, A>, AllocError>
+        requires floor { (i : ℕ) → i < length goals.now → IsFloor grid.now (slice_index goals.now i) }
+        requires serves { Serves grid.now self.old }
+        requires few { length goals.now < 2 ^ 32 }
+        requires fewer { (key : ℕ) → (held : HeldView Aim) → shown self.old key ≡ Some held → held.uses + length goals.now < 2 ^ 32 }
+        ensures held { IfOk result (λ keys. AreHeld goals.now self.old keys.items self.new) }
+        ensures serves { Serves grid.now self.new }
+        ensures once { OnOk result (IsOnce self.new) }
+        ensures refused { OnErr result (self.new ≡ self.old) }
+    {
+        let missing = missing_of(self.alloc, &self.held, goals)?;
+        let fresh = fields_in_turn(self.alloc, grid, &missing)?;
         let mut keys = Vec::with_capacity(self.alloc, goals.len())?;
         self.held.reserve(fresh.len())?;
         put_all(&mut self.held, fresh);

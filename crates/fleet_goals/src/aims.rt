@@ -11,7 +11,6 @@ use fleet_grid::Grid;
 use fleet_pibt::Goals;
 use std::alloc::{AllocError, Allocator, Global};
 use std::marker::Model;
-use std::thread::Threads;
 
 /// What each robot of a fleet aims at: its goal with the distances to it, or nothing. Contracts see the list of these, one
 /// for each robot. Robots with one goal share its distances.
@@ -82,12 +81,11 @@ impl<A: Allocator + Copy> Aims<A> {
     }
 }
 
-impl<A: Allocator + Copy + Send + Sync> Aims<A> {
+impl<A: Allocator + Copy> Aims<A> {
     /// From now on each robot aims at its next goal, a floor cell, or at nothing. Distances to new goals are searched
     /// together; where no robot turns to a new goal, nothing is allocated.
-    pub fn turn<B: Allocator + Copy + Send + Sync>(
+    pub fn turn<B: Allocator + Copy>(
         &mut self,
-        rt: &(impl Threads + Sync),
         grid: &Grid<B>,
         next: &[Option<u32>],
     ) -> Result<(), AllocError>
@@ -99,7 +97,7 @@ impl<A: Allocator + Copy + Send + Sync> Aims<A> {
         ensures goals { OnOk result (goals_of self.new ≡ next.now) }
         ensures refused { OnErr result (self.new ≡ self.old) }
     {
-        turn_to(rt, self.alloc, grid, &mut self.store, &mut self.keys, next)
+        turn_to(self.alloc, grid, &mut self.store, &mut self.keys, next)
     }
 }
 

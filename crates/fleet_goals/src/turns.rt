@@ -9,7 +9,6 @@ use crate::keys::{exchange, goal_of};
 use fleet_field::FieldStore;
 use fleet_grid::Grid;
 use std::alloc::{AllocError, Allocator};
-use std::thread::Threads;
 
 /// Robots, and beside each the goal that it turns to.
 #[derive(Drop)]
@@ -103,8 +102,7 @@ fn idle<A: Allocator + Copy>(
 }
 
 /// Turns each robot to its next goal, or to none. New goals are held together, and then what the robots had is given back.
-pub(crate) fn turn_to<A: Allocator + Copy + Send + Sync, B: Allocator + Copy + Send + Sync>(
-    rt: &(impl Threads + Sync),
+pub(crate) fn turn_to<A: Allocator + Copy, B: Allocator + Copy>(
     alloc: A,
     grid: &Grid<B>,
     store: &mut FieldStore<A>,
@@ -123,7 +121,7 @@ pub(crate) fn turn_to<A: Allocator + Copy + Send + Sync, B: Allocator + Copy + S
     ensures keys { OnErr result (keys.new ≡ keys.old) }
 {
     let turning = turning_of(alloc, store, keys, next)?;
-    let fresh = store.hold_all(rt, grid, &turning.goals)?;
+    let fresh = store.hold_each(grid, &turning.goals)?;
     deal(store, keys, &turning.robots, &fresh);
     idle(store, keys, next);
     Ok(())

@@ -4,7 +4,7 @@ use Rattle.std.proofs.Common.{subst}
 use Rattle.std.specs.Prelude.{slice_get}
 use Rattle.fleet_world.specs.declared.events.Event.{Event}
 use Rattle.fleet_world.specs.declared.events.Reply.{Reply}
-use Rattle.fleet_world.specs.Core.{State, Step, Run}
+use Rattle.fleet_world.specs.Run.{State, Step, Run}
 use Rattle.std.proofs.lemmas.List.{length-take-le}
 
 take_next_at : {X : Type 0} (xs : List X) (n : ℕ) (x : X) → slice_get (drop n xs) 0 ≡ Some x → take (suc n) xs ≡ take n xs ++ x ∷ []

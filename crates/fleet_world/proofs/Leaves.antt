@@ -9,9 +9,10 @@ use Rattle.fleet_book.specs.declared.limits.Limits.{Limits}
 use Rattle.fleet_book.specs.declared.order.Order.{Order}
 use Rattle.fleet_book.specs.declared.notice.Notice.{Notice}
 use Rattle.fleet_history.specs.History.{History, start, clients, unknown_client}
-use Rattle.fleet_world.specs.Hooks.{HookLaws}
-use Rattle.fleet_world.specs.Pending.{Pending, no_pending}
-use Rattle.fleet_world.specs.Core.{World, Lists, lane, outlet, no_lists, state_of, opened_state, opening_of}
+use Rattle.fleet_core.specs.Hooks.{HookLaws}
+use Rattle.fleet_core.specs.Pending.{Pending, no_pending}
+use Rattle.fleet_core.specs.Core.{World, opening_of}
+use Rattle.fleet_world.specs.Run.{Lists, lane, outlet, no_lists, state_of, opened_state}
 use Rattle.fleet_world.specs.Laws.{RingLaw, KeepsRings}
 use Rattle.fleet_world.specs.Played.{lists_from}
 

@@ -1,13 +1,4 @@
-pub mod Rings
-pub mod Leaves
-pub mod Farewells
 pub mod Fronts
-pub mod Ranges
-pub mod Facts
-pub mod Goaled
-pub mod Delivers
-pub mod Keeps
-pub mod Ticked
-pub mod Opens
-pub mod Hooked
-pub mod Gives
+pub mod Leaves
+pub mod Rings
+pub mod Refusals

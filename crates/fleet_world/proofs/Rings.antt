@@ -13,18 +13,19 @@ use Rattle.fleet_history.specs.Legal.{IsLegal, grown}
 use Rattle.fleet_history.specs.Notices.{told}
 use Rattle.fleet_history.specs.Laws.{orders, order_by}
 use Rattle.fleet_history.proofs.Told.{notices-after, orders-after}
-use Rattle.fleet_world.specs.declared.faults.TakeFault.TheVariants as take_fault
-use Rattle.fleet_world.specs.declared.faults.TickFault.TheVariants as tick_fault
-use Rattle.fleet_world.specs.declared.faults.ShutFault.TheVariants as shut_fault
+use Rattle.fleet_core.specs.declared.faults.TakeFault.TheVariants as take_fault
+use Rattle.fleet_core.specs.declared.faults.TickFault.TheVariants as tick_fault
+use Rattle.fleet_core.specs.declared.faults.ShutFault.TheVariants as shut_fault
 use Rattle.fleet_world.specs.declared.events.Event.{Event}
 use Rattle.fleet_world.specs.declared.events.Event.TheVariants.{Post, Take, Tick, Give, Collect, Shut}
 use Rattle.fleet_world.specs.declared.events.Reply.{Reply}
 use Rattle.fleet_world.specs.declared.events.Reply.TheVariants.{Posted, LaneFull, Took, LaneEmpty, TakeRefused, Ticked, TickRefused, Gave, NothingPending, OutletFull, Collected, NothingThere, ShutDone, ShutRefused, NoClient}
-use Rattle.fleet_world.specs.Pending.{Pending, no_pending}
+use Rattle.fleet_core.specs.Pending.{Pending, no_pending}
 use Rattle.fleet_world.specs.Core as core
-use Rattle.fleet_world.specs.Core.{State, World, Lists, lists, lane, outlet, mailbox, pending, delivered, with_lists, with_sent, with_taken, with_given, with_collected, no_lists, Step, Run, state_of}
+use Rattle.fleet_core.specs.Core.{World, pending, delivered}
+use Rattle.fleet_world.specs.Run.{State, Lists, lists, lane, outlet, mailbox, with_lists, with_sent, with_taken, with_given, with_collected, no_lists, Step, Run, state_of}
 use Rattle.fleet_world.specs.Laws.{RingLaw, KeepsRings}
-use Rattle.fleet_world.proofs.Ticked.{length-delivered, box_at-delivered}
+use Rattle.fleet_core.proofs.Ticked.{length-delivered, box_at-delivered}
 
 -- ---- one client
 

@@ -4,7 +4,7 @@ use Rattle.fleet_book.specs.declared.notice.Notice.{Notice}
 use Rattle.fleet_history.specs.History.{History, clients}
 use Rattle.fleet_history.specs.Notices.{notices}
 use Rattle.fleet_history.specs.Laws.{orders}
-use Rattle.fleet_world.specs.Core.{State, Lists, lists, lane, outlet, mailbox}
+use Rattle.fleet_world.specs.Run.{State, Lists, lists, lane, outlet, mailbox}
 
 -- a client's lists and the history belong together
 pub record RingLaw {A : Type 0} (h : History A) (c : ℕ) (box : List Notice) (l : Lists) : Type 0 where

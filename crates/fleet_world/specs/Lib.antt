@@ -1,10 +1,8 @@
 pub use Rattle.fleet_plan.specs.Planned
 pub use Rattle.fleet_pibt.specs.Eldest
-pub mod Hooks
-pub mod Pending
+pub use Rattle.fleet_core.specs.Core
+pub use Rattle.fleet_core.specs.Hooks
 pub mod Opening
-pub mod Core
+pub mod Run
 pub mod Laws
-pub mod Kept
-pub mod Aimed
 pub mod Played

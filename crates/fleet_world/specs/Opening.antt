@@ -1,23 +1,12 @@
--- Which worlds are opened, and why others are not.
+-- Why worlds are not opened.
 use Rattle.std.specs.Prelude.{ℕ, ◌≡◌, ◌<◌, ◌≤◌, ◌⊎◌, List, length, slice_index}
 use Rattle.fleet_grid.specs.Floor.{Floor, IsFloor}
 use Rattle.fleet_grid.specs.Step.{IsPlacement}
 use Rattle.fleet_book.specs.declared.limits.Limits.{Limits}
-use Rattle.fleet_book.specs.Limits.{AreValid, IsBetween}
-use Rattle.fleet_world.specs.Hooks.{HookLaws, HaveCount}
+use Rattle.fleet_core.specs.Hooks.{HookLaws, HaveCount}
+use Rattle.fleet_core.specs.Opening.{AreInRange, AreRobots, AreOnFloor, CanOpen}
 use Rattle.fleet_world.specs.declared.faults.OpenFault.{OpenFault}
 use Rattle.fleet_world.specs.declared.faults.OpenFault.TheVariants as fault
-
--- the limits and the number of clients are in their ranges
-abbrev pub AreInRange : ℕ → Limits → Type 0
-AreInRange clients limits = AreValid limits × IsBetween 1 64 clients
-
--- there are 1 to 512 robots
-abbrev pub AreRobots : List ℕ → Type 0
-AreRobots starts = IsBetween 1 512 (length starts)
-
-abbrev pub AreOnFloor : Floor → List ℕ → Type 0
-AreOnFloor m starts = (r : ℕ) → r < length starts → IsFloor m (slice_index starts r)
 
 -- the robot is the first that does not start on floor
 pub record IsFirstOffFloor (m : Floor) (starts : List ℕ) (r : ℕ) : Type 0 where
@@ -35,13 +24,6 @@ pub record AreShared (starts : List ℕ) (i j : ℕ) : Type 0 where
 pub record IsFirstShared (starts : List ℕ) (i j : ℕ) : Type 0 where
   pub shared : AreShared starts i j
   pub least : (k l : ℕ) → AreShared starts k l → (i < k) ⊎ ((i ≡ k) × (j ≤ l))
-
--- what an opening asks for
-pub record CanOpen (m : Floor) (starts : List ℕ) (clients : ℕ) (limits : Limits) (laws : HookLaws) : Type 0 where
-  pub range : AreInRange clients limits
-  pub robots : AreRobots starts
-  pub placed : IsPlacement m starts
-  pub hooks : HaveCount (length starts) laws
 
 -- when an opening is refused for this reason, want of memory apart
 abbrev pub IsRefused : Floor → List ℕ → ℕ → Limits → HookLaws → OpenFault → Type 0

@@ -6,7 +6,7 @@ use Rattle.fleet_book.specs.declared.notice.Notice.{Notice}
 use Rattle.fleet_history.specs.History.{History, clients}
 use Rattle.fleet_history.specs.Laws.{orders}
 use Rattle.fleet_world.specs.declared.play.Played.{Played}
-use Rattle.fleet_world.specs.Core.{Lists}
+use Rattle.fleet_world.specs.Run.{Lists}
 
 -- a client's lists, by the history, and by what is left in its lane and outlet and what it collected: it sent what was
 -- taken and what is left in its lane, and was given what it collected and what is left in its outlet

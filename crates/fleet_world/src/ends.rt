@@ -1,6 +1,6 @@
 //! The lists of one client in a run.
 ghost use Rattle.std.specs.Prelude.{◌≡◌, ◌≤◌, ◌<◌, ◌^◌, length, drop, slice_get, vec_len, OnOk, Some};
-ghost use Rattle.fleet_world.specs.Core.{lane, outlet, with_sent, with_taken, with_given, with_collected, no_lists};
+ghost use Rattle.fleet_world.specs.Run.{lane, outlet, with_sent, with_taken, with_given, with_collected, no_lists};
 
 use fleet_book::{Notice, Order};
 use std::alloc::{AllocError, Allocator};
@@ -25,7 +25,7 @@ pub(crate) struct Left<A: Allocator + Copy> {
 
 impl<A: Allocator + Copy> Model for Ends<A> {
     ghost use Rattle.std.specs.Prelude.{take, length, ◌≤◌};
-    ghost use Rattle.fleet_world.specs.Core.{Lists};
+    ghost use Rattle.fleet_world.specs.Run.{Lists};
 
     ghost Value = { Lists };
 

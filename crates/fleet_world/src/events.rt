@@ -1,5 +1,5 @@
 //! The core events and their replies.
-use crate::faults::{ShutFault, TakeFault, TickFault, TickReport};
+use fleet_core::{ShutFault, TakeFault, TickFault, TickReport};
 use fleet_book::{Notice, Order, Verdict};
 
 /// What happens at once.

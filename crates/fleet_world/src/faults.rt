@@ -1,4 +1,4 @@
-//! What the calls of a world refuse, and what a tick reports.
+//! Why a world is not opened, and why a run is given up.
 
 use std::alloc::AllocError;
 
@@ -19,52 +19,6 @@ pub enum OpenFault {
     NoMemory,
 }
 
-/// Why an order is not taken; the first that stands is answered.
-#[derive(Clone, Copy, Debug, PartialEq, Eq)]
-pub enum TakeFault {
-    /// The client's notices and unfinished errands leave no room for two more.
-    MailboxFull,
-    /// The chapter has all the entries that it may have.
-    ChapterFull,
-    /// Memory was refused.
-    NoMemory,
-}
-
-/// Why no tick is made; the first that stands is answered.
-#[derive(Clone, Copy, Debug, PartialEq, Eq)]
-pub enum TickFault {
-    /// All the ticks were made that may be made.
-    ClockSpent,
-    /// The chapter has all the entries that it may have.
-    ChapterFull,
-    /// Memory was refused.
-    NoMemory,
-}
-
-/// Why a robot is not shut; the first that stands is answered.
-#[derive(Clone, Copy, Debug, PartialEq, Eq)]
-pub enum ShutFault {
-    /// There is no such robot.
-    NoRobot,
-    /// It is shut already.
-    Already,
-    /// The chapter has all the entries that it may have.
-    ChapterFull,
-    /// Memory was refused.
-    NoMemory,
-}
-
-/// What a tick did.
-#[derive(Clone, Copy, Debug, PartialEq, Eq)]
-pub struct TickReport {
-    /// The ticks made so far, with this one.
-    pub tick: u64,
-    /// How many robots arrived.
-    pub arrived: u32,
-    /// How many robots took their leave.
-    pub farewells: u32,
-}
-
 /// Why a run was given up.
 #[derive(Clone, Copy, Debug, PartialEq, Eq)]
 pub enum RunFault {
@@ -82,38 +36,5 @@ impl From<AllocError> for OpenFault {
 
     fn from(_e: AllocError) -> OpenFault {
         OpenFault::NoMemory
-    }
-}
-
-impl From<AllocError> for TakeFault {
-    ghost use Rattle.std.specs.Prelude.{◌≡◌};
-    ghost use Rattle.fleet_world.specs.declared.faults.TakeFault.TheVariants.{NoMemory};
-
-    ghost from_gives = { λ _ e. e ≡ NoMemory };
-
-    fn from(_e: AllocError) -> TakeFault {
-        TakeFault::NoMemory
-    }
-}
-
-impl From<AllocError> for TickFault {
-    ghost use Rattle.std.specs.Prelude.{◌≡◌};
-    ghost use Rattle.fleet_world.specs.declared.faults.TickFault.TheVariants.{NoMemory};
-
-    ghost from_gives = { λ _ e. e ≡ NoMemory };
-
-    fn from(_e: AllocError) -> TickFault {
-        TickFault::NoMemory
-    }
-}
-
-impl From<AllocError> for ShutFault {
-    ghost use Rattle.std.specs.Prelude.{◌≡◌};
-    ghost use Rattle.fleet_world.specs.declared.faults.ShutFault.TheVariants.{NoMemory};
-
-    ghost from_gives = { λ _ e. e ≡ NoMemory };
-
-    fn from(_e: AllocError) -> ShutFault {
-        ShutFault::NoMemory
     }
 }

@@ -1,5 +1,5 @@
 //! The world, as its callers see it.
-ghost use Rattle.std.specs.Prelude.{◌≡◌, ◌≤◌, ◌<◌, ◌↔◌, ℕ, true, false, OnOk, OnErr, IfOk, IsTrue, MatchOption, map, slice_get};
+ghost use Rattle.std.specs.Prelude.{◌≡◌, ◌≤◌, ◌<◌, ◌^◌, ◌↔◌, ℕ, true, false, OnOk, OnErr, IfOk, IsTrue, MatchOption, map, slice_get};
 ghost use Rattle.fleet_history.specs.History.{history_of, clients, robots, clock, place, is_shut};
 ghost use Rattle.fleet_grid.specs.Floor.{IsNeighbour};
 ghost use Rattle.fleet_grid.specs.Walk.{IsBridgeless};
@@ -7,32 +7,30 @@ ghost use Rattle.fleet_history.specs.Laws.{EachTick};
 ghost use Rattle.fleet_history.specs.Waits.{wait};
 ghost use Rattle.fleet_plan.specs.Planned.{waits, IsPlanned, IsAdvancingTick};
 ghost use Rattle.fleet_pibt.specs.Eldest.{IsEldest};
-ghost use Rattle.fleet_world.specs.Aimed.{IsIdle};
-ghost use Rattle.fleet_world.specs.Hooks.{laws_of, spare_laws, AreOrderly, AreArrivals, AreFarewells};
-ghost use Rattle.fleet_world.specs.Opening.{CanOpen, IsRefused, IsNamed};
-ghost use Rattle.fleet_world.specs.Core.{Takes, Ticks, Shuts, pending, without_first, opened_world, HasRoom, HasNoRoom, HasEntries, HasNoEntries};
+ghost use Rattle.fleet_core.specs.Aimed.{IsIdle};
+ghost use Rattle.fleet_core.specs.Hooks.{laws_of, spare_laws, AreOrderly, AreArrivals, AreFarewells};
+ghost use Rattle.fleet_core.specs.Opening.{CanOpen};
+ghost use Rattle.fleet_world.specs.Opening.{IsRefused, IsNamed};
+ghost use Rattle.fleet_core.specs.Core.{Takes, Ticks, Shuts, pending, without_first, opened_world, HasRoom, HasNoRoom, HasEntries, HasNoEntries};
 
-use crate::faults::{OpenFault, ShutFault, TakeFault, TickFault, TickReport};
-use crate::kernel::Core;
+use crate::faults::OpenFault;
 use crate::opening::{arrival_laws, farewell_laws, opening_fault, spare, tie_laws};
 use fleet_book::{Limits, Notice, Order, Verdict};
+use fleet_core::{Core, Robots, ShutFault, TakeFault, TickFault, TickReport};
 use fleet_grid::Grid;
 use fleet_history::Chapter;
-use fleet_hooks::{ArrivalHook, Farewell, Hooks, TieHook};
+use fleet_hooks::Hooks;
 use std::alloc::{Alloc, AllocError, Allocator, Global};
-use std::thread::Threads;
 
 /// A world: robots on a map, the clients whose orders they carry out, the history of it all, and the robots' closures.
 #[derive(Drop)]
 pub struct World<A: Allocator + Copy = Global> {
     /// Its map, limits, history and mailboxes.
     pub core: Core<A>,
-    ties: Vec<TieHook, A>,
-    arrivals: Vec<ArrivalHook, A>,
-    farewells: Vec<Option<Farewell>, A>,
-    ghost tie_laws: { map (λ h. h.law) ties.items ≡ core.ties },
-    ghost arrival_laws: { AreArrivals core.history (map (λ h. h.law) arrivals.items) },
-    ghost spare: { AreFarewells core.history (spare_laws farewells.items) },
+    robots: Robots<A>,
+    ghost tie_laws: { map (λ h. h.law) robots.ties.items ≡ core.ties },
+    ghost arrival_laws: { AreArrivals core.history (map (λ h. h.law) robots.arrivals.items) },
+    ghost spare: { AreFarewells core.history (spare_laws robots.farewells.items) },
 }
 
 impl<A: Allocator + Copy> World<A> {
@@ -96,12 +94,20 @@ impl<A: Allocator + Copy> World<A> {
             leaving.as_slice(),
         )?;
         let farewells = spare(alloc, farewells)?;
-        Ok(World {
-            core,
+        let robots = Robots {
             ties,
             arrivals,
             farewells,
-        })
+        };
+        Ok(World { core, robots })
+    }
+
+    /// The core, and the closures beside it.
+    pub fn apart(self) -> (Core<A>, Robots<A>)
+        requires { 0 ≤ self.core.number }
+        ensures { result.0 ≡ self.core }
+    {
+        (self.core, self.robots)
     }
 
     /// Where the robots stand, by number.
@@ -176,6 +182,7 @@ impl<A: Allocator + Copy> World<A> {
     ///
     /// Refused in this order: there is no such robot, it is shut already, the chapter is full, want of memory.
     pub fn shut(&mut self, robot: u32) -> Result<Option<u32>, ShutFault>
+        requires { robot < 2 ^ 32 }
         ensures no_robot { (result ≡ Err ShutFault.NoRobot) ↔ (robots self.old.core.history ≤ robot) }
         ensures already { (result ≡ Err ShutFault.Already) ↔ ((robot < robots self.old.core.history) × (is_shut self.old.core.history robot ≡ true)) }
         ensures chapter_full { (result ≡ Err ShutFault.ChapterFull) ↔
@@ -184,7 +191,7 @@ impl<A: Allocator + Copy> World<A> {
         ensures ok { IfOk result (λ farewell. Shuts self.old.core robot farewell self.new.core) }
         ensures err { OnErr result (self.new.core ≡ self.old.core) }
     {
-        self.core.shut(robot, &mut self.farewells)
+        self.core.shut(robot, &mut self.robots.farewells)
     }
 
     /// The first notice that a client was not given yet.
@@ -205,11 +212,11 @@ impl<A: Allocator + Copy> World<A> {
     }
 }
 
-impl<A: Allocator + Copy + Send + Sync> World<A> {
+impl<A: Allocator + Copy> World<A> {
     /// Moves all robots by one step.
     ///
     /// Refused in this order: the ticks are spent, the chapter is full, want of memory.
-    pub fn tick<R: Alloc<A = A> + Threads + Sync>(
+    pub fn tick<R: Alloc<A = A>>(
         &mut self,
         rt: &R,
     ) -> Result<TickReport, TickFault>
@@ -223,9 +230,9 @@ impl<A: Allocator + Copy + Send + Sync> World<A> {
     {
         self.core.tick(
             rt,
-            self.ties.as_slice(),
-            self.arrivals.as_slice(),
-            &mut self.farewells,
+            self.robots.ties.as_slice(),
+            self.robots.arrivals.as_slice(),
+            &mut self.robots.farewells,
         )
     }
 }

@@ -1,9 +1,9 @@
 use Rattle.std.proofs.Common.{◌≡◌, rules, Err, length, sym, ap, ◌∙◌}
 use Rattle.fleet_world.specs.declared.faults.RunFault.{RunFault}
 use Rattle.fleet_map.specs.Grammar.{view}
-use Rattle.fleet_world.specs.Core.{State, state_of, opened_state}
+use Rattle.fleet_world.specs.Run.{State, state_of, opened_state}
 use Rattle.fleet_world.specs.Played.{lists_of}
-use Rattle.fleet_world.specs.Hooks.{laws_of}
+use Rattle.fleet_core.specs.Hooks.{laws_of}
 use Rattle.errands.specs.Kit.{kit_laws}
 use Rattle.errands.specs.Outcome.{IsScriptOutcome, floor_of_map}
 use Rattle.fleet_script.specs.Shown.{plan}

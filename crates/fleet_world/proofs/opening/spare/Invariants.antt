@@ -1,5 +1,5 @@
 use Rattle.std.proofs.Common.{◌≡◌, map, Some}
-use Rattle.fleet_world.specs.Hooks.{spare_laws}
+use Rattle.fleet_core.specs.Hooks.{spare_laws}
 use Rattle.fleet_world.proofs.opening.spare.Given as goal
 
 abbrev pub invariant-loop-hook : goal.invariant-loop-hook

@@ -1,6 +1,6 @@
 use Rattle.std.proofs.Common.{arith, ◌∙◌, slice_set, ap, sym}
 use Rattle.std.proofs.lemmas.List.{get_or_read, set-get_or}
-use Rattle.fleet_world.specs.Core.{no_lists, state_of, outlet}
+use Rattle.fleet_world.specs.Run.{no_lists, state_of, outlet}
 use Rattle.fleet_world.proofs.Fronts.{nil_from_none}
 use Rattle.fleet_world.proofs.play.collect.Goals as goal
 

@@ -1,5 +1,5 @@
 use Rattle.std.proofs.Common.{◌≡◌, replicate}
-use Rattle.fleet_world.specs.Core.{no_lists}
+use Rattle.fleet_world.specs.Run.{no_lists}
 use Rattle.fleet_world.proofs.play.empty_ends.Given as goal
 
 abbrev pub invariant-loop-i : goal.invariant-loop-i

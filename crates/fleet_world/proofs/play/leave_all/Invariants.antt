@@ -1,5 +1,5 @@
 use Rattle.std.proofs.Common.{◌≡◌, map}
-use Rattle.fleet_world.specs.Core.{lane, outlet}
+use Rattle.fleet_world.specs.Run.{lane, outlet}
 use Rattle.fleet_world.proofs.play.leave_all.Given as goal
 
 abbrev pub invariant-loop-list : goal.invariant-loop-list

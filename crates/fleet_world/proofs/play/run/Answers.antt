@@ -7,11 +7,12 @@ use Rattle.fleet_history.proofs.Arrivals.{arrives-legal}
 use Rattle.fleet_history.proofs.Legal.{no_conflict-legal, none_closed-legal}
 use Rattle.fleet_history.proofs.Once.{numbered-legal}
 use Rattle.fleet_history.proofs.Arrivals.{arrivals_rise-legal}
-use Rattle.fleet_world.specs.Core.{Run, state_of, opened_state}
-use Rattle.fleet_world.specs.Hooks.{laws_of}
+use Rattle.fleet_world.specs.Run.{Run, state_of, opened_state}
+use Rattle.fleet_core.specs.Hooks.{laws_of}
 use Rattle.fleet_world.specs.Laws.{KeepsRings}
 use Rattle.fleet_world.specs.Played.{client_lists}
-use Rattle.fleet_world.proofs.Opens.{not_refused, legal-opened}
+use Rattle.fleet_core.proofs.Opens.{legal-opened}
+use Rattle.fleet_world.proofs.Refusals.{not_refused}
 use Rattle.fleet_world.proofs.Rings.{KeepsRings-run, legal-run}
 use Rattle.fleet_world.proofs.Leaves.{lists-left, KeepsRings-opened}
 use Rattle.fleet_world.proofs.play.run.Goals as goal

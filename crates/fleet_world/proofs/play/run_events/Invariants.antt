@@ -1,6 +1,6 @@
 use Rattle.std.proofs.Common.{◌≡◌, take, vec_len}
 use Rattle.fleet_history.specs.History.{clients}
-use Rattle.fleet_world.specs.Core.{Run, state_of}
+use Rattle.fleet_world.specs.Run.{Run, state_of}
 use Rattle.fleet_world.proofs.play.run_events.Given as goal
 
 abbrev pub invariant-loop-i : goal.invariant-loop-i

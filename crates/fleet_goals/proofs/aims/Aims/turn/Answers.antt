@@ -10,5 +10,5 @@ returns-clause-on g c =
     subst (λ (keys : List (Option ℕ)). AreOn c.args.grid.now (fields_of c.turn_to.new.store keys)) (sym items) c.turn_to.ensures.on
 
 pub turn_to-requires-clause-on : goal.turn_to-requires-clause-on
-turn_to-requires-clause-on g c κs within =
+turn_to-requires-clause-on g c =
     subst (λ (keys : List (Option ℕ)). AreOn c.args.grid.now (fields_of c.self.inside.store keys)) (sym c.deref_mut.ensures.value) (subst (AreOn c.args.grid.now) (sym c.self.view_is) c.requires.on)

@@ -1,5 +1,5 @@
 use Rattle.std.proofs.Common.{◌≡◌, Some, slice_get, subst, sym, refl}
-use Rattle.fleet_world.specs.Core.{lane}
+use Rattle.fleet_world.specs.Run.{lane}
 use Rattle.fleet_world.proofs.Fronts.{take_next}
 use Rattle.fleet_world.proofs.ends.Ends.take.Goals as goal
 

@@ -1,7 +1,7 @@
 use Rattle.std.proofs.Common.{◌≡◌, ◌∙◌, ap, refl}
-use Rattle.fleet_world.specs.Hooks.{HookLaws, laws_of}
-use Rattle.fleet_world.specs.Core.{opened_world}
-use Rattle.fleet_world.proofs.Opens.{arrivals-opened, farewells-opened, some_laws}
+use Rattle.fleet_core.specs.Hooks.{HookLaws, laws_of}
+use Rattle.fleet_core.specs.Core.{opened_world}
+use Rattle.fleet_core.proofs.Opens.{arrivals-opened, farewells-opened, some_laws}
 use Rattle.fleet_world.proofs.world.World.make.Goals as goal
 
 pub returns-clause-orderly : goal.returns-clause-orderly

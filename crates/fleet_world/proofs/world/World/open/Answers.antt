@@ -1,5 +1,5 @@
-use Rattle.fleet_world.proofs.Opens.{refused-err, refused-ok, refused-memory}
-use Rattle.fleet_world.specs.Hooks.{laws_of}
+use Rattle.fleet_world.proofs.Refusals.{refused-err, refused-ok, refused-memory}
+use Rattle.fleet_core.specs.Hooks.{laws_of}
 use Rattle.fleet_world.proofs.world.World.open.Goals as goal
 
 pub returns-in-Some-clause-refused : goal.returns-in-Some-clause-refused

@@ -1,0 +1,12 @@
+pub mod Ranges
+pub mod Facts
+pub mod Farewells
+pub mod Goaled
+pub mod Delivers
+pub mod Keeps
+pub mod Boxes
+pub mod Counts
+pub mod Ticked
+pub mod Opens
+pub mod Hooked
+pub mod Alike

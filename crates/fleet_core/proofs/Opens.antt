@@ -1,0 +1,229 @@
+-- What holds of a world at its opening.
+use Rattle.std.proofs.Common.{◌≡◌, ℕ, zero, suc, ◌+◌, ◌<◌, ◌≤◌, ◌↔◌, List, [], ◌∷◌, length, map, get_or, replicate, sym, refl, ap, ◌∙◌, subst, arith, inl, inr, Option, Some, None, false, Ok, Err, Result}
+use Rattle.std.specs.Prelude.{slice_get, slice_index_or, All, sum_by, count_by, ◌==◌}
+use Rattle.std.specs.List.{range_with_len}
+use Rattle.std.proofs.lemmas.List.{append-nil, length-map, length-replicate, get_or-replicate, get_or_past, ext_get_or}
+use Rattle.std.proofs.lemmas.List.FromFn.{length-range_with_len}
+use Rattle.std.proofs.lemmas.List.Elements.{All-nil}
+use Rattle.std.proofs.lemmas.List.Sums.{sum_by-cons}
+use Rattle.std.proofs.lemmas.Bool.{cases_lt, cases_order}
+use Rattle.fleet_grid.specs.Floor.{Floor, IsFloor, IsNeighbour}
+use Rattle.fleet_grid.specs.Walk.{AreJoined}
+use Rattle.fleet_queue.specs.declared.errand.Errand.{Errand}
+use Rattle.fleet_queue.specs.Queue.{Queue}
+use Rattle.fleet_book.specs.declared.limits.Limits.{Limits}
+use Rattle.fleet_book.specs.Counts.{blank}
+use Rattle.fleet_hooks.specs.Law.{IsStampLaw}
+use Rattle.fleet_hooks.specs.declared.law.StampLaw.{StampLaw}
+use Rattle.fleet_history.specs.declared.history.Opening.{Opening}
+use Rattle.fleet_history.specs.declared.history.RobotState.{RobotState}
+use Rattle.fleet_history.specs.History.{History, start, errands_at, unknown_client, unfinished, owed}
+use Rattle.fleet_history.specs.Legal.{IsLegal, IsRobotInOrder, opened, no_law}
+use Rattle.fleet_history.proofs.Withdrawals.{unfinished-start}
+use Rattle.fleet_core.specs.Hooks.{HookLaws, law_at, HaveCount, AreOrderly, AreArrivals, AreFarewells}
+use Rattle.fleet_core.specs.Pending.{Pending, no_pending}
+use Rattle.fleet_core.specs.Opening.{CanOpen}
+use Rattle.fleet_core.specs.Core.{robot_at, opening_of}
+use Rattle.fleet_core.specs.Kept.{IsKept, no_queue, no_tally}
+
+-- a word of each robot
+field_at : {X Y : Type 0} (p : X → Y) (f : ℕ → X) (a n r k : ℕ) (d : Y) → r < n → k ≡ a + r → get_or (map p (map f (range_with_len a n))) r d ≡ p (f k)
+field_at p f a zero r k d l e = absurd (omega arith)
+field_at p f a (suc n) zero k d l e = let s : a ≡ k = omega arith in ap (λ i. p (f i)) s
+field_at p f a (suc n) (suc r) k d l e = field_at p f (a + 1) n r k d (omega arith) (omega arith)
+
+length-fields : {X Y : Type 0} (p : X → Y) (f : ℕ → X) (n : ℕ) → length (map p (map f (range_with_len 0 n))) ≡ n
+length-fields p f n = length-map (map f (range_with_len 0 n)) p ∙ length-map (range_with_len 0 n) f ∙ length-range_with_len 0 n
+
+-- a word that is the same for each robot and for none
+same_field : {X Y : Type 0} (p : X → Y) (f : ℕ → X) (n r : ℕ) (d : Y) → ((k : ℕ) → p (f k) ≡ d) → get_or (map p (map f (range_with_len 0 n))) r d ≡ d
+same_field p f n r d same =
+    elim (cases_lt r n) [
+      | inl l ↦ field_at p f 0 n r r d l (omega arith) ∙ same r
+      | inr l ↦ get_or_past (map p (map f (range_with_len 0 n))) r d (omega (arith, length-fields p f n))
+    ]
+
+module _ (A : Type 0) (starts : List ℕ) (arrivals farewells : List StampLaw) where
+  abbrev opened_robots : List (RobotState A)
+  opened_robots = map (robot_at starts arrivals farewells) (range_with_len 0 (length starts))
+
+  cells_of : map (λ (x : RobotState A). x.cell) opened_robots ≡ starts
+  cells_of =
+      ext_get_or 0 (map (λ (x : RobotState A). x.cell) opened_robots) starts (length-fields (λ (x : RobotState A). x.cell) (robot_at starts arrivals farewells) (length starts))
+      (λ r l. field_at (λ (x : RobotState A). x.cell) (robot_at starts arrivals farewells) 0 (length starts) r r 0 (omega (arith, length-fields (λ (x : RobotState A). x.cell) (robot_at {A = A} starts arrivals farewells) (length starts))) (omega arith))
+
+  no_errands : (r : ℕ) → slice_index_or (map (λ (x : RobotState A). x.errands) opened_robots) r [] ≡ []
+  no_errands r = same_field (λ (x : RobotState A). x.errands) (robot_at starts arrivals farewells) (length starts) r [] (λ k. refl)
+
+  none_shut : (r : ℕ) → slice_index_or (map (λ (x : RobotState A). x.shut) opened_robots) r false ≡ false
+  none_shut r = same_field (λ (x : RobotState A). x.shut) (robot_at starts arrivals farewells) (length starts) r false (λ k. refl)
+
+  pub arrival_laws : (r : ℕ) → r < length starts → slice_index_or (map (λ (x : RobotState A). x.arrival_law) opened_robots) r no_law ≡ law_at arrivals r
+  arrival_laws r l = field_at (λ (x : RobotState A). x.arrival_law) (robot_at starts arrivals farewells) 0 (length starts) r r no_law l (omega arith)
+
+  pub farewell_laws : (r : ℕ) → r < length starts → slice_index_or (map (λ (x : RobotState A). x.farewell_law) opened_robots) r no_law ≡ law_at farewells r
+  farewell_laws r l = field_at (λ (x : RobotState A). x.farewell_law) (robot_at starts arrivals farewells) 0 (length starts) r r no_law l (omega arith)
+
+  pub robot_count : length opened_robots ≡ length starts
+  robot_count = length-map (range_with_len 0 (length starts)) (robot_at {A = A} starts arrivals farewells) ∙ length-range_with_len 0 (length starts)
+
+none_owed_in : {X : Type 0} (f : X → List Errand) (xs : List X) (c : ℕ) → ((x : X) → f x ≡ []) → sum_by (λ x. count_by (λ e. e.client == c) (f x)) xs ≡ 0
+none_owed_in f [] c none = refl
+none_owed_in f (x ∷ xs) c none =
+    let z : count_by (λ (e : Errand). e.client == c) (f x) ≡ 0 = ap (count_by (λ (e : Errand). e.client == c)) (none x) in
+    omega (arith, sum_by-cons (λ x. count_by (λ (e : Errand). e.client == c) (f x)) x xs, none_owed_in f xs c none)
+
+none_owed_at : (A : Type 0) (f : ℕ → RobotState A) (ks : List ℕ) (c : ℕ) → ((k : ℕ) → (f k).errands ≡ []) → sum_by (λ (x : RobotState A). count_by (λ e. e.client == c) x.errands) (map f ks) ≡ 0
+none_owed_at A f [] c none = refl
+none_owed_at A f (k ∷ ks) c none =
+    let z : count_by (λ (e : Errand). e.client == c) (f k).errands ≡ 0 = ap (count_by (λ (e : Errand). e.client == c)) (none k) in
+    omega (arith, sum_by-cons (λ (x : RobotState A). count_by (λ e. e.client == c) x.errands) (f k) (map f ks), none_owed_at A f ks c none)
+
+in_order_robot : {A : Type 0} (m : Floor) (o : Opening A) (x : RobotState A) → x.wait ≡ None → x.errands ≡ [] → IsStampLaw x.arrival_law → IsStampLaw x.farewell_law → IsRobotInOrder m o x
+in_order_robot m o x w e a f = record {
+  arrival_law = a;
+  farewell_law = f;
+  waits = rw (w, e) refl;
+  not_longer = λ v is. absurd (no_some v (sym w ∙ is));
+  room = rw e (omega arith);
+  known = rw e (All-nil (λ (e : Errand). e.client < length o.clients));
+  numbered = rw e (All-nil (λ (e : Errand). (1 ≤ e.number) × (e.number ≤ (slice_index_or o.clients e.client unknown_client).accepted)));
+  on_floor = rw e (All-nil (λ (e : Errand). IsFloor m e.cell));
+  reachable = rw e (All-nil (λ (e : Errand). AreJoined (IsNeighbour m) x.cell e.cell));
+}
+  where
+    no_some : (v : ℕ) → None ≡ Some v → ⊥
+    no_some v q = cc
+
+in_order_robots : {A : Type 0} (m : Floor) (o : Opening A) (f : ℕ → RobotState A) (ks : List ℕ) → ((k : ℕ) → IsRobotInOrder m o (f k)) → All (IsRobotInOrder m o) (map f ks)
+in_order_robots m o f [] each k d l = absurd (omega arith)
+in_order_robots m o f (x ∷ ks) each zero d l = each x
+in_order_robots m o f (x ∷ ks) each (suc k) d l = in_order_robots m o f ks each k d (omega arith)
+
+orderly_at : (laws : List StampLaw) (r : ℕ) → All IsStampLaw laws → IsStampLaw (law_at laws r)
+orderly_at laws r all =
+    elim (cases_lt r (length laws)) [
+      | inl l ↦ all r no_law l
+      | inr l ↦ rw (get_or_past laws r no_law l) (omega arith)
+    ]
+
+pub legal-opened : {A : Type 0} (m : Floor) (starts : List ℕ) (n : ℕ) (limits : Limits) (laws : HookLaws) → CanOpen m starts n limits laws → AreOrderly laws → IsLegal {A = A} m (start (opening_of starts n limits laws))
+legal-opened {A = A} m starts n limits laws can orderly =
+    let o : Opening A = opening_of starts n limits laws in
+    let count = length-replicate n unknown_client in
+    let robots = robot_count A starts laws.arrivals laws.farewells in
+    opened (record {
+      some_robots = omega (arith, can.robots.0, robots);
+      few_robots = omega (arith, can.robots.1, robots);
+      some_clients = omega (arith, can.range.1.0);
+      few_clients = omega (arith, can.range.1.1);
+      queue = can.range.0.queue;
+      life = can.range.0.life;
+      placed = rw (cells_of A starts laws.arrivals laws.farewells) can.placed;
+      robots = in_order_robots m o (robot_at starts laws.arrivals laws.farewells) (range_with_len 0 (length starts))
+          (λ k. in_order_robot m o (robot_at starts laws.arrivals laws.farewells k) refl refl (orderly_at laws.arrivals k orderly.arrivals) (orderly_at laws.farewells k orderly.farewells));
+      clients = λ c l. rw (get_or-replicate n c unknown_client unknown_client (omega (arith, count)), none_owed_at A (robot_at starts laws.arrivals laws.farewells) (range_with_len 0 (length starts)) c (λ k. refl))
+          (record { fewer = omega arith; within_life = omega arith; close_taken = λ e. cc; told = omega arith; not_early = omega arith; small = omega arith; small_notices = omega arith });
+      names = record {
+        apart = λ r q i j x y e f a b. absurd (no_first i x (subst (λ es. slice_get es i ≡ Some x) (no_errands A starts laws.arrivals laws.farewells r) e));
+        rising = λ r i j x y before e f same. absurd (no_first i x (subst (λ es. slice_get es i ≡ Some x) (no_errands A starts laws.arrivals laws.farewells r) e));
+      };
+    })
+  where
+    no_first : (i : ℕ) (x : Errand) → slice_get [] i ≡ Some x → ⊥
+    no_first i x e = cc
+
+none_owed : {A : Type 0} (h : History A) (c a n : ℕ) → ((r : ℕ) → unfinished h r ≡ []) → sum_by (λ r. count_by (λ e. e.client == c) (unfinished h r)) (range_with_len a n) ≡ 0
+none_owed h c a n none = none_owed_in (unfinished h) (range_with_len a n) c none
+
+-- nobody has an errand at the opening
+pub unfinished-opened : (A : Type 0) (starts : List ℕ) (n : ℕ) (limits : Limits) (laws : HookLaws) (r : ℕ) → unfinished {A = A} (start (opening_of starts n limits laws)) r ≡ []
+unfinished-opened A starts n limits laws r =
+    let h : History A = start (opening_of starts n limits laws) in
+    unfinished-start h.opening r ∙ no_errands A starts laws.arrivals laws.farewells r
+
+replicate_false : (n r : ℕ) → slice_index_or (replicate n false) r false ≡ false
+replicate_false zero r = refl
+replicate_false (suc n) zero = refl
+replicate_false (suc n) (suc r) = replicate_false n r
+
+pub IsKept-opened : {A : Type 0} (m : Floor) (starts : List ℕ) (n : ℕ) (limits : Limits) (laws : HookLaws) → CanOpen m starts n limits laws → AreOrderly laws →
+    IsKept {A = A} m limits (start (opening_of starts n limits laws)) starts (replicate (length starts) (record { items = []; capacity = limits.queue }))
+    (record { accounts = replicate n blank; shut = replicate (length starts) false; life = limits.life }) (replicate n no_tally)
+    (replicate n (record { notices = []; limit = limits.mailbox })) 0
+IsKept-opened {A = A} m starts n limits laws can orderly =
+    let h : History A = start (opening_of starts n limits laws) in
+    let queue : Queue = record { items = []; capacity = limits.queue } in
+    let box : Pending = record { notices = []; limit = limits.mailbox } in
+    let robots = robot_count A starts laws.arrivals laws.farewells in
+    let count = length-replicate n unknown_client in
+    let none : (r : ℕ) → unfinished h r ≡ [] = λ r. unfinished-start h.opening r ∙ no_errands A starts laws.arrivals laws.farewells r in
+    let no_owed : (c : ℕ) → owed h c ≡ 0 = λ c. none_owed h c 0 (length h.opening.robots) none in
+    record {
+      legal = legal-opened m starts n limits laws can orderly;
+      placed = sym (cells_of A starts laws.arrivals laws.farewells);
+      queue_count = length-replicate (length starts) queue ∙ sym robots;
+      queued = λ r l. ap (λ (q : Queue). q.items) (get_or-replicate (length starts) r queue no_queue (omega arith)) ∙ sym (none r);
+      queue_room = λ r l. ap (λ (q : Queue). q.capacity) (get_or-replicate (length starts) r queue no_queue (omega arith));
+      queue_within = λ r l. rw (get_or-replicate (length starts) r queue no_queue (omega arith)) (omega arith);
+      account_count = length-replicate n blank ∙ sym count;
+      accounted = λ c l. rw (get_or-replicate n c blank blank (omega arith), get_or-replicate n c unknown_client unknown_client (omega arith), no_owed c) refl;
+      within_life = λ c l. rw (get_or-replicate n c blank blank (omega arith)) (omega arith);
+      shut_count = length-replicate (length starts) false ∙ sym robots;
+      shut = λ r. replicate_false (length starts) r ∙ sym (rw (none_shut A starts laws.arrivals laws.farewells r) refl);
+      life = refl;
+      tally_count = length-replicate n no_tally ∙ sym count;
+      tallied = λ c l. rw (get_or-replicate n c no_tally no_tally (omega arith), get_or-replicate n c unknown_client unknown_client (omega arith)) refl;
+      small = λ c l. rw (get_or-replicate n c no_tally no_tally (omega arith)) (record { taken = omega arith; noticed = omega arith });
+      box_count = length-replicate n box ∙ sym count;
+      box_room = λ c l. rw (get_or-replicate n c box no_pending (omega arith), no_owed c) (omega arith);
+      ticked = refl;
+      few_entries = omega arith;
+      tick_within = omega arith;
+      valid = can.range.0;
+    }
+
+-- ---- the closures at the opening
+
+pub arrivals-opened : {A : Type 0} (starts : List ℕ) (n : ℕ) (limits : Limits) (laws : HookLaws) → HaveCount (length starts) laws →
+    AreArrivals {A = A} (start (opening_of starts n limits laws)) laws.arrivals
+arrivals-opened {A = A} starts n limits laws have =
+    let robots = robot_count A starts laws.arrivals laws.farewells in
+    record {
+      count = have.arrivals ∙ sym robots;
+      each = λ r l. sym (arrival_laws A starts laws.arrivals laws.farewells r (omega arith));
+    }
+
+map_some_at : (xs : List StampLaw) (r : ℕ) → r < length xs → slice_index_or (map Some xs) r None ≡ Some (law_at xs r)
+map_some_at [] r l = absurd (omega arith)
+map_some_at (x ∷ xs) zero l = refl
+map_some_at (x ∷ xs) (suc r) l = map_some_at xs r (omega arith)
+
+some_within : (xs : List (Option StampLaw)) (r n : ℕ) (x : StampLaw) → slice_index_or xs r None ≡ Some x → length xs ≡ n → r < n
+some_within xs r n x e s =
+    elim (cases_lt r (length xs)) [
+      | inl l ↦ omega arith
+      | inr l ↦ (let q : None ≡ Some x = sym (get_or_past xs r None l) ∙ e in absurd (no_law_of x q))
+    ]
+  where
+    no_law_of : (x : StampLaw) → None ≡ Some x → ⊥
+    no_law_of x q = cc
+
+pub farewells-opened : {A : Type 0} (starts : List ℕ) (n : ℕ) (limits : Limits) (laws : HookLaws) → HaveCount (length starts) laws →
+    AreFarewells {A = A} (start (opening_of starts n limits laws)) (map Some laws.farewells)
+farewells-opened {A = A} starts n limits laws have =
+    let robots = robot_count A starts laws.arrivals laws.farewells in
+    record {
+      count = length-map laws.farewells Some ∙ have.farewells ∙ sym robots;
+      each = λ r law e.
+          let l : r < length laws.farewells = some_within (map Some laws.farewells) r (length laws.farewells) law e (length-map laws.farewells Some) in
+          let at = map_some_at laws.farewells r l in
+          let q : Some (law_at laws.farewells r) ≡ Some law = sym at ∙ e in
+          let s : law_at laws.farewells r ≡ law = cc in
+          sym s ∙ sym (farewell_laws A starts laws.arrivals laws.farewells r (omega (arith, have.farewells)));
+      unspent = λ r l d. rw (map_some_at laws.farewells r (omega (arith, have.farewells))) refl;
+    }
+
+pub some_laws : {X : Type 0} (law : X → StampLaw) (xs : List X) → map Some (map law xs) ≡ map (λ x. Some (law x)) xs
+some_laws law [] = refl
+some_laws law (x ∷ xs) = ap (λ t. Some (law x) ∷ t) (some_laws law xs)

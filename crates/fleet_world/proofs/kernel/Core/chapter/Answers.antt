@@ -1,9 +1,0 @@
-use Rattle.fleet_history.specs.History.{history_of}
-use Rattle.fleet_world.proofs.Goaled.{each_advances}
-use Rattle.fleet_world.proofs.kernel.Core.chapter.Goals as goal
-
-pub returns-clause-planned : goal.returns-clause-planned
-returns-clause-planned g c = rw (← c.self.view_is) c.self.invariant.1.planned
-
-pub returns-clause-advancing : goal.returns-clause-advancing
-returns-clause-advancing g c = rw (← c.self.view_is) (each_advances c.self.inside.grid c.self.inside.ties.items (history_of c.self.inside.chapter) c.self.invariant.1.planned)

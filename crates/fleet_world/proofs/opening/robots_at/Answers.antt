@@ -1,8 +1,0 @@
-use Rattle.std.proofs.Common.{refl}
-use Rattle.fleet_world.specs.Core.{robot_at}
-use Rattle.fleet_world.proofs.Ranges.{map-range_more}
-use Rattle.fleet_world.proofs.opening.robots_at.Goals as goal
-
-pub loop-r-preserved : goal.loop-r-preserved
-loop-r-preserved g c =
-    rw (c.in_ok-push.ensures.items, c.loop-r.invariant, map-range_more (robot_at {A = g.row.A.Denot} c.args.starts.now c.args.arrivals.now c.args.farewells.now) c.loop-r.r, c.new.ensures) refl
