@@ -37,7 +37,7 @@ fn aimed_and_turned(rt: HostRuntime) -> Result<(), Fail> {
     aims.aim(&grid, 1, 8)?;
     let next = [Some(1), Some(8)];
     assert!(rt; are_floor(&grid, &next));
-    aims.turn(&rt, &grid, &next)?;
+    aims.turn(&grid, &next)?;
     assert_eq!(rt; (aims.goal(0), aims.goal(1)), (Some(1), Some(8)));
     assert_eq!(rt; (aims.at(0, 8), aims.at(1, 1)), (Some(3), Some(3)));
     Ok(())
@@ -58,9 +58,9 @@ fn is_refused(
     aims.aim(grid, 0, 8)?;
     let next = [Some(1), Some(5)];
     assert!(rt; are_floor(grid, &next));
-    let second = aims.turn(rt, grid, &next).is_err();
+    let second = aims.turn(grid, &next).is_err();
     assert!(rt; aims.goal(0) == Some(if second { 8 } else { 1 }));
-    aims.turn(rt, grid, &next)?;
+    aims.turn(grid, &next)?;
     assert!(rt; aims.at(0, 0) == Some(1) && aims.at(1, 8) == Some(1));
     Ok(first || second)
 }
@@ -95,8 +95,8 @@ fn turned_without_memory(rt: HostRuntime) -> Result<(), Fail> {
         }
         // Where no growth was left behind the goal's own, one here would be refused.
         assert!(rt; are_floor(&grid, &[Some(8), None]) && are_floor(&grid, &[None, None]));
-        assert!(rt; aims.turn(&rt, &grid, &[Some(8), None]).is_ok());
-        assert!(rt; aims.turn(&rt, &grid, &[None, None]).is_ok());
+        assert!(rt; aims.turn(&grid, &[Some(8), None]).is_ok());
+        assert!(rt; aims.turn(&grid, &[None, None]).is_ok());
     }
     Ok(())
 }

@@ -1,9 +1,11 @@
 //! The world, as its callers see it.
-ghost use Rattle.std.specs.Prelude.{◌≡◌, ◌≤◌, ◌<◌, ◌^◌, ◌↔◌, ℕ, true, false, OnOk, OnErr, IfOk, IsTrue, MatchOption, map, slice_get};
-ghost use Rattle.fleet_history.specs.History.{history_of, clients, robots, clock, place, is_shut};
+ghost use Rattle.std.specs.Prelude.{◌≡◌, ◌+◌, ◌≤◌, ◌<◌, ◌^◌, ◌↔◌, ℕ, true, false, OnOk, OnErr, IfOk, IsTrue, MatchOption, map, slice_get, length};
+ghost use Rattle.fleet_history.specs.History.{history_of, owed, clients, robots, clock, place, is_shut};
 ghost use Rattle.fleet_grid.specs.Floor.{IsNeighbour};
 ghost use Rattle.fleet_grid.specs.Walk.{IsBridgeless};
 ghost use Rattle.fleet_history.specs.Laws.{EachTick};
+ghost use Rattle.fleet_history.specs.Legal.{IsLegal};
+ghost use Rattle.fleet_history.specs.Notices.{noticed_count};
 ghost use Rattle.fleet_history.specs.Waits.{wait};
 ghost use Rattle.fleet_plan.specs.Planned.{waits, IsPlanned, IsAdvancingTick};
 ghost use Rattle.fleet_pibt.specs.Eldest.{IsEldest};
@@ -11,7 +13,7 @@ ghost use Rattle.fleet_core.specs.Aimed.{IsIdle};
 ghost use Rattle.fleet_core.specs.Hooks.{laws_of, spare_laws, AreOrderly, AreArrivals, AreFarewells};
 ghost use Rattle.fleet_core.specs.Opening.{CanOpen};
 ghost use Rattle.fleet_world.specs.Opening.{IsRefused, IsNamed};
-ghost use Rattle.fleet_core.specs.Core.{Takes, Ticks, Shuts, pending, without_first, opened_world, HasRoom, HasNoRoom, HasEntries, HasNoEntries};
+ghost use Rattle.fleet_core.specs.Core.{Takes, Ticks, Shuts, pending, without_first, widened, opened_world, HasRoom, HasNoRoom, HasEntries, HasNoEntries};
 
 use crate::faults::OpenFault;
 use crate::opening::{arrival_laws, farewell_laws, opening_fault, spare, tie_laws};
@@ -128,10 +130,39 @@ impl<A: Allocator + Copy> World<A> {
     pub fn chapter(&self) -> &Chapter<A>
         ensures history { history_of result.now ≡ self.now.core.history }
         ensures number { result.now.number ≡ self.now.core.number }
+        ensures legal { IsLegal self.now.core.floor self.now.core.history }
+        ensures counts { (c : ℕ) → c < clients self.now.core.history → noticed_count self.now.core.history c + owed self.now.core.history c ≤ 2 ^ 57 }
         ensures planned { EachTick (IsPlanned self.now.core.floor self.now.core.ties) self.now.core.history }
         ensures advancing { IsBridgeless (IsNeighbour self.now.core.floor) → EachTick (IsAdvancingTick self.now.core.floor) self.now.core.history }
     {
         self.core.chapter()
+    }
+
+    /// The map and the present chapter.
+    pub fn finish(self) -> (Grid<A>, Chapter<A>)
+        ensures floor { result.0 ≡ self.core.floor }
+        ensures history { history_of result.1 ≡ self.core.history }
+        ensures number { result.1.number ≡ self.core.number }
+        ensures legal { IsLegal self.core.floor self.core.history }
+        ensures planned { EachTick (IsPlanned self.core.floor self.core.ties) self.core.history }
+        ensures advancing { IsBridgeless (IsNeighbour self.core.floor) → EachTick (IsAdvancingTick self.core.floor) self.core.history }
+    {
+        let World { core, robots: _ } = self;
+        core.finish()
+    }
+
+    /// How many robots there are, 1 to 512.
+    pub fn robots(&self) -> usize
+        ensures { result ≡ robots self.now.core.history }
+    {
+        self.core.robots()
+    }
+
+    /// How many clients there are, 1 to 64.
+    pub fn clients(&self) -> usize
+        ensures { result ≡ clients self.now.core.history }
+    {
+        self.core.clients()
     }
 
     /// How many ticks the robot has waited for the arrival at its front errand's cell; none where it has no errand.
@@ -200,6 +231,24 @@ impl<A: Allocator + Copy> World<A> {
         ensures { result ≡ slice_get (pending self.now.core client).notices 0 }
     {
         self.core.next_notice(client)
+    }
+
+    /// How many notices a client was not given yet.
+    pub fn pending_count(&self, client: u32) -> usize
+        requires { client < clients self.now.core.history }
+        ensures { result ≡ length (pending self.now.core client).notices }
+    {
+        self.core.pending_count(client)
+    }
+
+    /// Lets a client's mailbox hold so many more notices and unfinished errands, at most 2^60 in all.
+    pub fn widen(&mut self, client: u32, extra: u64) -> Result<(), AllocError>
+        requires client { client < clients self.old.core.history }
+        requires small { (pending self.old.core client).limit + extra ≤ 2 ^ 60 }
+        ensures ok { OnOk result (self.new.core ≡ widened self.old.core client extra) }
+        ensures err { OnErr result (self.new.core ≡ self.old.core) }
+    {
+        self.core.widen(client, extra)
     }
 
     /// Takes out the first notice that a client was not given yet.

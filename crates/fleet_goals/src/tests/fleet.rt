@@ -78,7 +78,7 @@ fn aims_at(
 {
     assert!(rt; are_floor(grid, goals));
     let mut aims = Aims::new(alloc, goals.len())?;
-    aims.turn(rt, grid, goals)?;
+    aims.turn(grid, goals)?;
     Ok(aims)
 }
 
@@ -156,7 +156,7 @@ impl Fleet {
             &mut self.arrivals,
         )?;
         assert!(rt; self.goals.len() == robots && are_floor(&self.grid, &self.goals));
-        self.aims.turn(rt, &self.grid, &self.goals)?;
+        self.aims.turn(&self.grid, &self.goals)?;
         Ok(())
     }
 
