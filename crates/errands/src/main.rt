@@ -3,34 +3,16 @@
 //! is exactly `script`, and the script behind it. `errands map FILE` tells of a map alone.
 #![tactic(auto)]
 
-mod answer;
-mod closures;
-mod input;
-mod kit;
-mod map_report;
-mod output;
-mod program;
-mod report;
-mod said;
-#[cfg(test)]
-mod tests;
-mod texts;
-mod words;
-
 ghost use Rattle.std.specs.Prelude.{◌≡◌, true};
-ghost use Rattle.errands.specs.Told.{names_two};
+ghost use Rattle.fleet_program.specs.Told.{names_two};
 
-use closures::run_with_kit;
-use input::InputFault;
-use output::write_whole;
-use program::fail;
+use fleet_program::{InputFault, Job, WordFault, fail, parse_words, run_with_kit, write_whole};
 use std::alloc::{Alloc, Global};
 use std::env::{self, Env};
 use std::fs::{File, Files};
 use std::io::{self, ErrorKind, Write};
 use std::process::ExitCode;
 use std::thread::Threads;
-use words::{Job, WordFault, parse_words};
 
 /// The words that the program was given.
 fn words_given(rt: &(impl Env + Alloc<A = Global>)) -> io::Result<Vec<String>> {
@@ -49,7 +31,16 @@ fn fail_words<E: Write>(fault: &io::Error, error: &mut E) -> u8 {
     2
 }
 
-/// Opens the files of a map and a script in their order, and runs the script on the map. The result is the status.
+/// Says that a file could not be opened: memory ran out, or another reason. The result is the status.
+fn fail_open<E: Write>(fault: &io::Error, error: &mut E) -> u8 {
+    if fault.kind() == ErrorKind::OutOfMemory {
+        return fail(InputFault::NoMemory, error);
+    }
+    fail(InputFault::File, error)
+}
+
+/// Opens the files of a map and a script in their order, the second only where the first could be opened, and runs the
+/// script on the map. The result is the status.
 fn run_files<R: Files + Alloc<A = Global> + Threads + Sync, W: Write, E: Write>(
     rt: &R,
     job: &Job,
@@ -60,8 +51,13 @@ fn run_files<R: Files + Alloc<A = Global> + Threads + Sync, W: Write, E: Write>(
 ) -> u8
     requires { true ≡ names_two job.now }
 {
-    let (Ok(mut map), Ok(mut script)) = (File::open(rt, first), File::open(rt, second)) else {
-        return fail(InputFault::File, error);
+    let mut map = match File::open(rt, first) {
+        Ok(file) => file,
+        Err(fault) => return fail_open(&fault, error),
+    };
+    let mut script = match File::open(rt, second) {
+        Ok(file) => file,
+        Err(fault) => return fail_open(&fault, error),
     };
     run_with_kit(rt, job, &mut map, Some(&mut script), output, error)
 }
@@ -93,7 +89,7 @@ fn main(rt: HostRuntime) -> ExitCode {
         Job::Bundle => run_with_kit(&rt, &job, &mut rt.stdin(), None, &mut output, &mut error),
         Job::Map { file } => match File::open(&rt, file.as_str()) {
             Ok(mut map) => run_with_kit(&rt, &job, &mut map, None, &mut output, &mut error),
-            Err(_) => fail(InputFault::File, &mut error),
+            Err(fault) => fail_open(&fault, &mut error),
         },
         Job::Run { first, second } => run_files(
             &rt,

@@ -1,8 +1,9 @@
-//! Orders, verdicts and notices, and the book that judges orders on its counts.
+//! Orders, verdicts, notices and events, and the book that judges orders on its counts.
 #![tactic(auto)]
 
 mod account;
 mod book;
+mod event;
 mod facts;
 mod limits;
 mod notice;
@@ -11,6 +12,7 @@ mod verdict;
 
 pub use account::Account;
 pub use book::Book;
+pub use event::Event;
 pub use facts::{Facts, Place};
 pub use limits::Limits;
 pub use notice::Notice;

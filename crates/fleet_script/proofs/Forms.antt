@@ -3,8 +3,8 @@ use Rattle.std.proofs.Common.{◌≡◌, ℕ, zero, suc, ◌+◌, ◌≤◌, tru
 use Rattle.std.specs.List.{AllByRecursion, IsDistinct}
 use Rattle.std.proofs.lemmas.Bool.{cases_Bool, leb-true, or_parts, or_from}
 use Rattle.std.proofs.lemmas.Option.{same_Some}
-use Rattle.fleet_world.specs.declared.events.Event.{Event}
-use Rattle.fleet_world.specs.declared.events.Event.TheVariants as event
+use Rattle.fleet_book.specs.declared.event.Event.{Event}
+use Rattle.fleet_book.specs.declared.event.Event.TheVariants as event
 use Rattle.fleet_script.specs.Numbers.{most32, one_in}
 use Rattle.fleet_script.specs.Script.{Draft, Repeated, once_only, post_in, ticks_in, no_events, blank_draft, with_header, with_events, with_other, with_line_of, with_words, events_of}
 use Rattle.fleet_script.specs.Grammar.{Line, is_header, IsHeadLine, IsBodyLine, first_words, AreInForm}

@@ -6,15 +6,16 @@ use Rattle.std.proofs.lemmas.Slice.Eq.{bytes_eq-Decides}
 use Rattle.std.proofs.lemmas.Option.{same_Some}
 use Rattle.fleet_script.specs.declared.head.GivenLimits.{GivenLimits}
 use Rattle.fleet_script.specs.Numbers.{most32, most64, one_in}
-use Rattle.fleet_script.specs.Script.{Draft, starts_in, ties_in, if_new, blank_draft, with_header}
+use Rattle.fleet_script.specs.Script.{Draft, starts_in, ties_in, turns_in, if_new, blank_draft, with_header}
 use Rattle.fleet_script.specs.Grammar.{Line, is_header, says}
 
--- ---- the twelve header words
+-- ---- the thirteen header words
 
 pub record Apart (key : List ℕ) : Type 0 where
   pub robots : bytes_eq key (codes "robots") ≡ false
   pub clients : bytes_eq key (codes "clients") ≡ false
   pub ties : bytes_eq key (codes "ties") ≡ false
+  pub turns : bytes_eq key (codes "turns") ≡ false
   pub lane : bytes_eq key (codes "lane") ≡ false
   pub outlet : bytes_eq key (codes "outlet") ≡ false
   pub queue : bytes_eq key (codes "queue") ≡ false
@@ -33,12 +34,12 @@ at_word P key word at apart = elim (cases_Bool (bytes_eq key word)) [
 ]
 
 -- the key is one of the header words, or none of them
-pub by_word : (P : List ℕ → Type 0) (key : List ℕ) → P (codes "robots") → P (codes "clients") → P (codes "ties") → P (codes "lane") → P (codes "outlet") → P (codes "queue") → P (codes "mailbox") → P (codes "life") → P (codes "orders")
+pub by_word : (P : List ℕ → Type 0) (key : List ℕ) → P (codes "robots") → P (codes "clients") → P (codes "ties") → P (codes "turns") → P (codes "lane") → P (codes "outlet") → P (codes "queue") → P (codes "mailbox") → P (codes "life") → P (codes "orders")
     → P (codes "clock") → P (codes "chapter") → P (codes "chapters") → (Apart key → P key) → P key
-by_word P key robots clients ties lane outlet queue mailbox life orders clock chapter chapters none =
-    at_word P key (codes "robots") robots (λ a. at_word P key (codes "clients") clients (λ b. at_word P key (codes "ties") ties (λ c. at_word P key (codes "lane") lane (λ d. at_word P key (codes "outlet") outlet (λ e. at_word P key (codes "queue") queue (λ f.
+by_word P key robots clients ties turns lane outlet queue mailbox life orders clock chapter chapters none =
+    at_word P key (codes "robots") robots (λ a. at_word P key (codes "clients") clients (λ b. at_word P key (codes "ties") ties (λ c. at_word P key (codes "turns") turns (λ m. at_word P key (codes "lane") lane (λ d. at_word P key (codes "outlet") outlet (λ e. at_word P key (codes "queue") queue (λ f.
     at_word P key (codes "mailbox") mailbox (λ g. at_word P key (codes "life") life (λ h. at_word P key (codes "orders") orders (λ i. at_word P key (codes "clock") clock (λ j. at_word P key (codes "chapter") chapter (λ k. at_word P key (codes "chapters") chapters (λ l.
-    none (record { robots = a; clients = b; ties = c; lane = d; outlet = e; queue = f; mailbox = g; life = h; orders = i; clock = j; chapter = k; chapters = l })))))))))))))
+    none (record { robots = a; clients = b; ties = c; turns = m; lane = d; outlet = e; queue = f; mailbox = g; life = h; orders = i; clock = j; chapter = k; chapters = l }))))))))))))))
 
 -- whether a header line with this first word stood
 abbrev pub given : Draft → List ℕ → Bool
@@ -46,6 +47,7 @@ given d key =
     cond (bytes_eq key (codes "robots")) (is_some d.starts)
     (cond (bytes_eq key (codes "clients")) (is_some d.clients)
     (cond (bytes_eq key (codes "ties")) (is_some d.south)
+    (cond (bytes_eq key (codes "turns")) (is_some d.turns)
     (cond (bytes_eq key (codes "lane")) (is_some d.limits.lane)
     (cond (bytes_eq key (codes "outlet")) (is_some d.limits.outlet)
     (cond (bytes_eq key (codes "queue")) (is_some d.limits.queue)
@@ -54,11 +56,11 @@ given d key =
     (cond (bytes_eq key (codes "orders")) (is_some d.limits.orders)
     (cond (bytes_eq key (codes "clock")) (is_some d.limits.clock)
     (cond (bytes_eq key (codes "chapter")) (is_some d.limits.chapter)
-    (cond (bytes_eq key (codes "chapters")) (is_some d.limits.chapters) false)))))))))))
+    (cond (bytes_eq key (codes "chapters")) (is_some d.limits.chapters) false))))))))))))
 
 pub none_given : (key : List ℕ) → given blank_draft key ≡ false
-none_given key = by_word (λ k. given blank_draft k ≡ false) key refl refl refl refl refl refl refl refl refl refl refl refl
-    (λ a. rw (a.robots, a.clients, a.ties, a.lane, a.outlet, a.queue, a.mailbox, a.life, a.orders, a.clock, a.chapter, a.chapters) refl)
+none_given key = by_word (λ k. given blank_draft k ≡ false) key refl refl refl refl refl refl refl refl refl refl refl refl refl
+    (λ a. rw (a.robots, a.clients, a.ties, a.turns, a.lane, a.outlet, a.queue, a.mailbox, a.life, a.orders, a.clock, a.chapter, a.chapters) refl)
 
 -- the draft with what a header line says
 abbrev pub told : Draft → Line → Draft
@@ -66,6 +68,7 @@ told d line = record {
   starts = option_or (says (codes "robots") starts_in line) d.starts;
   clients = option_or (says (codes "clients") (one_in most32) line) d.clients;
   south = option_or (says (codes "ties") ties_in line) d.south;
+  turns = option_or (says (codes "turns") turns_in line) d.turns;
   limits = record {
     lane = option_or (says (codes "lane") (one_in most32) line) d.limits.lane;
     outlet = option_or (says (codes "outlet") (one_in most32) line) d.limits.outlet;
@@ -139,6 +142,8 @@ header_is d key words = by_word (λ k. Takes d k words) key
     (λ x k. at_word (λ w. given (record d { clients = Some x }) w ≡ (bytes_eq w (codes "clients") || given d w)) k (codes "clients") refl (λ e. rw e refl)))
     (word_is d (codes "ties") words d.south (ties_in words) (λ x. record d { south = Some x }) refl refl refl (λ x e. rw e refl)
     (λ x k. at_word (λ w. given (record d { south = Some x }) w ≡ (bytes_eq w (codes "ties") || given d w)) k (codes "ties") refl (λ e. rw e refl)))
+    (word_is d (codes "turns") words d.turns (turns_in words) (λ x. record d { turns = Some x }) refl refl refl (λ x e. rw e refl)
+    (λ x k. at_word (λ w. given (record d { turns = Some x }) w ≡ (bytes_eq w (codes "turns") || given d w)) k (codes "turns") refl (λ e. rw e refl)))
     (limit_is d (codes "lane") words d.limits.lane (one_in most32 words) (λ x. record d.limits { lane = Some x }) refl refl refl (λ x e. rw e refl)
     (λ x k. at_word (λ w. given (record d { limits = record d.limits { lane = Some x } }) w ≡ (bytes_eq w (codes "lane") || given d w)) k (codes "lane") refl (λ e. rw e refl)))
     (limit_is d (codes "outlet") words d.limits.outlet (one_in most32 words) (λ x. record d.limits { outlet = Some x }) refl refl refl (λ x e. rw e refl)
@@ -158,6 +163,6 @@ header_is d key words = by_word (λ k. Takes d k words) key
     (limit_is d (codes "chapters") words d.limits.chapters (one_in most32 words) (λ x. record d.limits { chapters = Some x }) refl refl refl (λ x e. rw e refl)
     (λ x k. at_word (λ w. given (record d { limits = record d.limits { chapters = Some x } }) w ≡ (bytes_eq w (codes "chapters") || given d w)) k (codes "chapters") refl (λ e. rw e refl)))
     (λ a. record {
-      took = λ e h. let bad : None ≡ draft e = rw (a.robots, a.clients, a.ties, a.lane, a.outlet, a.queue, a.mailbox, a.life, a.orders, a.clock, a.chapter, a.chapters) at h in absurd cc;
-      takes = λ h o. let bad : false ≡ true = rw (a.robots, a.clients, a.ties, a.lane, a.outlet, a.queue, a.mailbox, a.life, a.orders, a.clock, a.chapter, a.chapters) at h in absurd cc;
+      took = λ e h. let bad : None ≡ draft e = rw (a.robots, a.clients, a.ties, a.turns, a.lane, a.outlet, a.queue, a.mailbox, a.life, a.orders, a.clock, a.chapter, a.chapters) at h in absurd cc;
+      takes = λ h o. let bad : false ≡ true = rw (a.robots, a.clients, a.ties, a.turns, a.lane, a.outlet, a.queue, a.mailbox, a.life, a.orders, a.clock, a.chapter, a.chapters) at h in absurd cc;
     })

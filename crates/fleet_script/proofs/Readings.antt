@@ -96,7 +96,7 @@ is_script bytes p h = go (fold_lines blank_draft 1 (lines_in bytes)) refl
     is e read None starts g = absurd cc
     is e read (Some cells) starts g =
         subst (λ (q : Plan). IsScript (lines_in bytes) q) (same_ok (plan_from (draft_said (lines_in bytes)) cells) p g)
-        (record { form = in_form (lines_in bytes) e read; starts = starts; clients = refl; limits = refl; south = refl; events = refl; numbers = refl })
+        (record { form = in_form (lines_in bytes) e read; starts = starts; clients = refl; limits = refl; south = refl; turns = refl; events = refl; numbers = refl })
 
     go : (o : Option Draft) → fold_lines blank_draft 1 (lines_in bytes) ≡ o → IsScript (lines_in bytes) p
     go None read =
@@ -108,7 +108,7 @@ is_script bytes p h = go (fold_lines blank_draft 1 (lines_in bytes)) refl
 pub is_read : (bytes : List ℕ) (p : Plan) → IsScript (lines_in bytes) p → script_of bytes ≡ Ok p
 is_read bytes p s =
     let f = form_read (lines_in bytes) s.form in
-    whole bytes f.0 f.1 ∙ rw s.starts (ap ok (rw (← s.clients, ← s.limits, ← s.south, ← s.events, ← s.numbers) refl))
+    whole bytes f.0 f.1 ∙ rw s.starts (ap ok (rw (← s.clients, ← s.limits, ← s.south, ← s.turns, ← s.events, ← s.numbers) refl))
 
 pub is_fault : (bytes : List ℕ) (n : ℕ) → script_of bytes ≡ Err n → IsFirstFault (lines_in bytes) (script_fault.Line n)
 is_fault bytes n h = go (fold_lines blank_draft 1 (lines_in bytes)) refl

@@ -3,7 +3,7 @@ use Rattle.std.proofs.Common.{◌≡◌, ℕ, ◌+◌, List, [], ◌∷◌, ◌+
 use Rattle.std.specs.Option.{option_or}
 use Rattle.std.proofs.lemmas.Option.{same_Some}
 use Rattle.fleet_script.specs.Numbers.{most32, most64, one_in}
-use Rattle.fleet_script.specs.Script.{Draft, Repeated, starts_in, ties_in, blank_draft, with_events, with_line_of, with_words, events_of}
+use Rattle.fleet_script.specs.Script.{Draft, Repeated, starts_in, ties_in, turns_in, blank_draft, with_events, with_line_of, with_words, events_of}
 use Rattle.fleet_script.specs.Grammar.{Line, event_on, says, said, limits_said, times_of, events_said, numbers_said}
 use Rattle.fleet_script.proofs.Heads.{told, header_is}
 use Rattle.fleet_script.proofs.Forms.{event_is, other_is, and_then_some, fold_lines}
@@ -15,6 +15,7 @@ added d n lines = record {
   starts = option_or (said (codes "robots") starts_in lines) d.starts;
   clients = option_or (said (codes "clients") (one_in most32) lines) d.clients;
   south = option_or (said (codes "ties") ties_in lines) d.south;
+  turns = option_or (said (codes "turns") turns_in lines) d.turns;
   limits = record {
     lane = option_or (said (codes "lane") (one_in most32) lines) d.limits.lane;
     outlet = option_or (said (codes "outlet") (one_in most32) lines) d.limits.outlet;
@@ -50,6 +51,7 @@ added_step d n line lines = rw (
   joins starts_in (codes "robots") line lines d.starts,
   joins (one_in most32) (codes "clients") line lines d.clients,
   joins ties_in (codes "ties") line lines d.south,
+  joins turns_in (codes "turns") line lines d.turns,
   joins (one_in most32) (codes "lane") line lines d.limits.lane,
   joins (one_in most32) (codes "outlet") line lines d.limits.outlet,
   joins (one_in most32) (codes "queue") line lines d.limits.queue,
@@ -90,6 +92,7 @@ draft_said lines = record {
   starts = said (codes "robots") starts_in lines;
   clients = said (codes "clients") (one_in most32) lines;
   south = said (codes "ties") ties_in lines;
+  turns = said (codes "turns") turns_in lines;
   limits = limits_said lines;
   events = events_said lines;
   lines = numbers_said 1 lines;
@@ -100,6 +103,7 @@ added_blank lines = rw (
   or_none (said (codes "robots") starts_in lines),
   or_none (said (codes "clients") (one_in most32) lines),
   or_none (said (codes "ties") ties_in lines),
+  or_none (said (codes "turns") turns_in lines),
   or_none (said (codes "lane") (one_in most32) lines),
   or_none (said (codes "outlet") (one_in most32) lines),
   or_none (said (codes "queue") (one_in most32) lines),

@@ -4,12 +4,12 @@ use Rattle.std.specs.List.{AllByRecursion, IsDistinct, flat_map, list_any}
 use Rattle.std.specs.Option.{option_or}
 use Rattle.std.specs.Str.{bytes_eq}
 use Rattle.fleet_map.specs.Text.{lines_of, words_of}
-use Rattle.fleet_world.specs.declared.events.Event.{Event}
+use Rattle.fleet_book.specs.declared.event.Event.{Event}
 use Rattle.fleet_script.specs.declared.head.GivenLimits.{GivenLimits}
 use Rattle.fleet_script.specs.declared.script.ScriptFault.{ScriptFault}
 use Rattle.fleet_script.specs.declared.script.ScriptFault.TheVariants as script_fault
 use Rattle.fleet_script.specs.Numbers.{most32, most64, one_in}
-use Rattle.fleet_script.specs.Script.{Repeated, Plan, is_comment, starts_in, ties_in, events_of, limits_of}
+use Rattle.fleet_script.specs.Script.{Repeated, Plan, is_comment, starts_in, ties_in, turns_in, events_of, limits_of}
 
 -- ---- lines
 
@@ -29,6 +29,7 @@ abbrev pub is_header : List ℕ → List (List ℕ) → Bool
 is_header key words =
     if bytes_eq key (codes "robots") then is_some (starts_in words)
     else if bytes_eq key (codes "ties") then is_some (ties_in words)
+    else if bytes_eq key (codes "turns") then is_some (turns_in words)
     else if list_any (bytes_eq key) (codes "life" ∷ codes "orders" ∷ codes "clock" ∷ []) then is_some (one_in most64 words)
     else if list_any (bytes_eq key) (codes "clients" ∷ codes "lane" ∷ codes "outlet" ∷ codes "queue" ∷ codes "mailbox" ∷ codes "chapter" ∷ codes "chapters" ∷ []) then is_some (one_in most32 words)
     else false
@@ -108,6 +109,7 @@ pub record IsScript (lines : List Line) (plan : Plan) : Type 0 where
   pub clients : plan.clients ≡ unwrap_or (said (codes "clients") (one_in most32) lines) 1
   pub limits : plan.limits ≡ limits_of (limits_said lines)
   pub south : plan.south ≡ unwrap_or (said (codes "ties") ties_in lines) false
+  pub turns : plan.turns ≡ unwrap_or (said (codes "turns") turns_in lines) 16
   pub events : plan.events ≡ events_said lines
   pub numbers : plan.lines ≡ numbers_said 1 lines
 

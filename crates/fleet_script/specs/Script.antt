@@ -6,8 +6,8 @@ use Rattle.fleet_map.specs.Text.{words_of, lines_of}
 use Rattle.fleet_book.specs.declared.order.Order.{Order}
 use Rattle.fleet_book.specs.declared.order.Order.TheVariants.{Go, Close, Withdraw}
 use Rattle.fleet_book.specs.declared.limits.Limits.{Limits}
-use Rattle.fleet_world.specs.declared.events.Event.{Event}
-use Rattle.fleet_world.specs.declared.events.Event.TheVariants.{Post, Take, Tick, Give, Collect, Shut}
+use Rattle.fleet_book.specs.declared.event.Event.{Event}
+use Rattle.fleet_book.specs.declared.event.Event.TheVariants.{Post, Take, Tick, Give, Collect, Shut}
 use Rattle.fleet_script.specs.declared.head.LimitName.{LimitName}
 use Rattle.fleet_script.specs.declared.head.LimitName.TheVariants.{Lane, Outlet, Queue, Mailbox, Life, Orders, Clock, Chapter, Chapters}
 use Rattle.fleet_script.specs.declared.head.GivenLimits.{GivenLimits}
@@ -99,12 +99,17 @@ abbrev pub ties_in : List (List ℕ) → Option Bool
 ties_in (word ∷ []) = if bytes_eq word (codes "plain") then Some false else if bytes_eq word (codes "south") then Some true else None
 ties_in words = None
 
+-- how many turns each ticker makes in a serve, 1 to 1,000,000
+abbrev pub turns_in : List (List ℕ) → Option ℕ
+turns_in words = option_and_then (λ n. if nat_le 1 n then Some n else None) (one_in 1000000 words)
+
 -- ---- the script so far
 
 pub record Draft : Type 0 where
   pub starts : Option (List ℕ)
   pub clients : Option ℕ
   pub south : Option Bool
+  pub turns : Option ℕ
   pub limits : GivenLimits
   pub events : List Event
   -- the line of each event
@@ -120,6 +125,7 @@ with_header d key words =
     if bytes_eq key (codes "robots") then option_map (λ cells. record d { starts = Some cells }) (if_new d.starts (starts_in words))
     else if bytes_eq key (codes "clients") then option_map (λ n. record d { clients = Some n }) (if_new d.clients (one_in most32 words))
     else if bytes_eq key (codes "ties") then option_map (λ s. record d { south = Some s }) (if_new d.south (ties_in words))
+    else if bytes_eq key (codes "turns") then option_map (λ n. record d { turns = Some n }) (if_new d.turns (turns_in words))
     else with_limit_line d (limit_named key) words
 
 abbrev pub no_events : List Event → Bool
@@ -157,7 +163,7 @@ abbrev pub no_limits : GivenLimits
 no_limits = record { lane = None; outlet = None; queue = None; mailbox = None; life = None; orders = None; clock = None; chapter = None; chapters = None }
 
 abbrev pub blank_draft : Draft
-blank_draft = record { starts = None; clients = None; south = None; limits = no_limits; events = []; lines = [] }
+blank_draft = record { starts = None; clients = None; south = None; turns = None; limits = no_limits; events = []; lines = [] }
 
 -- the limits that the script gives, and the program's own for the others
 abbrev pub limits_of : GivenLimits → Limits
@@ -180,11 +186,13 @@ pub record Plan : Type 0 where
   pub limits : Limits
   -- whether the southern closures rank the cells
   pub south : Bool
+  -- of each ticker, in a serve
+  pub turns : ℕ
   pub events : List Event
   pub lines : List ℕ
 
 abbrev pub plan_from : Draft → List ℕ → Plan
-plan_from d starts = record { starts = starts; clients = unwrap_or d.clients 1; limits = limits_of d.limits; south = unwrap_or d.south false; events = d.events; lines = d.lines }
+plan_from d starts = record { starts = starts; clients = unwrap_or d.clients 1; limits = limits_of d.limits; south = unwrap_or d.south false; turns = unwrap_or d.turns 16; events = d.events; lines = d.lines }
 
 abbrev pub or_line : {A : Type 0} → ℕ → Option A → Result A ℕ
 or_line number None = Err number

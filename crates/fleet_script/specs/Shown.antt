@@ -12,10 +12,10 @@ abbrev pub repeated : Repeat → spec.Repeated
 repeated r = record { event = r.event; times = r.times }
 
 abbrev pub shown : {A : Type 0} → Draft A → spec.Draft
-shown d = record { starts = option_map (λ v. v.items) d.starts; clients = d.clients; south = d.south; limits = d.limits; events = d.events.items; lines = d.lines.items }
+shown d = record { starts = option_map (λ v. v.items) d.starts; clients = d.clients; south = d.south; turns = d.turns; limits = d.limits; events = d.events.items; lines = d.lines.items }
 
 abbrev pub plan : {A : Type 0} → Script A → spec.Plan
-plan s = record { starts = s.starts.items; clients = s.clients; limits = s.limits; south = s.south; events = s.events.items; lines = s.lines.items }
+plan s = record { starts = s.starts.items; clients = s.clients; limits = s.limits; south = s.south; turns = s.turns; events = s.events.items; lines = s.lines.items }
 
 abbrev pub FailsAt : {Y : Type 0} → ScriptFault → Result Y ℕ → Type 0
 FailsAt NoMemory read = Unit {0}

@@ -2,7 +2,7 @@
 
 ghost use Rattle.std.specs.Prelude.{◌≡◌};
 ghost use Rattle.fleet_map.specs.Text.{words_of};
-ghost use Rattle.fleet_script.specs.Script.{limit_named, ties_in, if_new, with_limit, limits_of, no_limits};
+ghost use Rattle.fleet_script.specs.Script.{limit_named, ties_in, turns_in, if_new, with_limit, limits_of, no_limits};
 
 use crate::numbers::{one_number, one_small_number};
 use fleet_book::Limits;
@@ -77,6 +77,16 @@ pub fn is_south(words: &[u8]) -> Option<bool>
         Some(true)
     } else {
         None
+    }
+}
+
+/// How many turns each ticker makes in a serve, as the words say.
+pub fn turn_count(words: &[u8]) -> Option<u32>
+    ensures { result ≡ turns_in (words_of words.now) }
+{
+    match one_number(words, 1_000_000) {
+        Some(count) if count >= 1 => Some(count as u32),
+        _ => None,
     }
 }
 

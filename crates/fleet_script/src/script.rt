@@ -10,12 +10,12 @@ ghost use Rattle.fleet_script.specs.Shown.{repeated, shown, plan, Gives};
 ghost use Rattle.fleet_script.specs.declared.lines.Repeat.{Repeat};
 ghost use Rattle.fleet_script.specs.declared.script.ScriptFault.{ScriptFault};
 
-use crate::head::{GivenLimits, is_south, limit_name, only_once};
+use crate::head::{GivenLimits, is_south, limit_name, only_once, turn_count};
 use crate::lines::{Repeat, events_of_line};
 use crate::numbers::{one_small_number, small_number};
 use fleet_book::Limits;
 use fleet_map::text::{first_line, first_word};
-use fleet_world::Event;
+use fleet_book::Event;
 use std::alloc::{AllocError, Allocator, Global};
 
 /// What a script says.
@@ -29,6 +29,8 @@ pub struct Script<A: Allocator + Copy = Global> {
     pub limits: Limits,
     /// Whether the southern closures rank the cells, and not the plain ones.
     pub south: bool,
+    /// How many turns each ticker makes in a serve, 1 to 1,000,000, by default 16.
+    pub turns: u32,
     /// The events in order, `tick N` as N ticks.
     pub events: Vec<Event, A>,
     /// The line of each event, from 1.
@@ -61,6 +63,7 @@ pub struct Draft<A: Allocator + Copy = Global> {
     pub starts: Option<Vec<u32, A>>,
     pub clients: Option<u32>,
     pub south: Option<bool>,
+    pub turns: Option<u32>,
     pub limits: GivenLimits,
     pub events: Vec<Event, A>,
     pub lines: Vec<u32, A>,
@@ -110,6 +113,7 @@ impl<A: Allocator + Copy> Draft<A> {
             starts: None,
             clients: None,
             south: None,
+            turns: None,
             limits: GivenLimits::NONE,
             events: Vec::new(alloc),
             lines: Vec::new(alloc),
@@ -150,6 +154,9 @@ impl<A: Allocator + Copy> Draft<A> {
         } else if key == b"ties".as_slice() {
             let south = only_once(draft.south, is_south(words)).ok_or(fault)?;
             draft.south = Some(south);
+        } else if key == b"turns".as_slice() {
+            let turns = only_once(draft.turns, turn_count(words)).ok_or(fault)?;
+            draft.turns = Some(turns);
         } else {
             let name = limit_name(key).ok_or(fault)?;
             draft.limits = draft.limits.with(name, words).ok_or(fault)?;
@@ -202,6 +209,7 @@ fn finished<A: Allocator + Copy>(draft: Draft<A>, number: u32) -> Result<Script<
         starts,
         clients,
         south,
+        turns,
         limits,
         events,
         lines,
@@ -213,6 +221,7 @@ fn finished<A: Allocator + Copy>(draft: Draft<A>, number: u32) -> Result<Script<
             clients: clients.unwrap_or(1),
             limits: limits.limits(),
             south: south.unwrap_or(false),
+            turns: turns.unwrap_or(16),
             events,
             lines,
         }),

@@ -2,8 +2,8 @@
 use Rattle.std.proofs.Common.{◌≡◌, ℕ, zero, suc, ◌+◌, ◌≤◌, List, [], ◌∷◌, ◌++◌, length, take, drop, Some, None, refl, ap, add-one}
 use Rattle.std.proofs.Common.{subst}
 use Rattle.std.specs.Prelude.{slice_get}
-use Rattle.fleet_world.specs.declared.events.Event.{Event}
-use Rattle.fleet_world.specs.declared.events.Reply.{Reply}
+use Rattle.fleet_book.specs.declared.event.Event.{Event}
+use Rattle.fleet_world.specs.declared.reply.Reply.{Reply}
 use Rattle.fleet_world.specs.Run.{State, Step, Run}
 use Rattle.std.proofs.lemmas.List.{length-take-le}
 

@@ -1,4 +1,6 @@
 pub mod Fronts
-pub mod Leaves
+pub mod Moves
+pub mod Plays
 pub mod Rings
+pub mod Leaves
 pub mod Refusals

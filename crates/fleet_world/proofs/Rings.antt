@@ -1,4 +1,4 @@
--- Each step of the core keeps the law of the rings, and a legal history.
+-- Each step of the core keeps the law of the rings.
 use Rattle.std.proofs.Common.{◌≡◌, ℕ, ◌<◌, ◌≤◌, List, [], ◌∷◌, ◌++◌, length, drop, sym, refl, ap, ◌∙◌, subst, arith, inl, inr, Some, length-append}
 use Rattle.std.specs.Prelude.{slice_get, slice_set, slice_index_or}
 use Rattle.std.proofs.lemmas.List.{append-nil, append_assoc, length-set, get_or-set_same, get_or-set_other, drop-append-le, drop-drop}
@@ -9,19 +9,18 @@ use Rattle.fleet_book.specs.declared.notice.Notice.{Notice}
 use Rattle.fleet_history.specs.declared.history.Entry.{Entry}
 use Rattle.fleet_history.specs.declared.history.Entry.TheVariants as entry
 use Rattle.fleet_history.specs.History.{History, after, clients}
-use Rattle.fleet_history.specs.Legal.{IsLegal, grown}
 use Rattle.fleet_history.specs.Notices.{told}
 use Rattle.fleet_history.specs.Laws.{orders, order_by}
 use Rattle.fleet_history.proofs.Told.{notices-after, orders-after}
 use Rattle.fleet_core.specs.declared.faults.TakeFault.TheVariants as take_fault
 use Rattle.fleet_core.specs.declared.faults.TickFault.TheVariants as tick_fault
 use Rattle.fleet_core.specs.declared.faults.ShutFault.TheVariants as shut_fault
-use Rattle.fleet_world.specs.declared.events.Event.{Event}
-use Rattle.fleet_world.specs.declared.events.Event.TheVariants.{Post, Take, Tick, Give, Collect, Shut}
-use Rattle.fleet_world.specs.declared.events.Reply.{Reply}
-use Rattle.fleet_world.specs.declared.events.Reply.TheVariants.{Posted, LaneFull, Took, LaneEmpty, TakeRefused, Ticked, TickRefused, Gave, NothingPending, OutletFull, Collected, NothingThere, ShutDone, ShutRefused, NoClient}
+use Rattle.fleet_book.specs.declared.event.Event.{Event}
+use Rattle.fleet_book.specs.declared.event.Event.TheVariants.{Post, Take, Tick, Give, Collect, Shut}
+use Rattle.fleet_world.specs.declared.reply.Reply.{Reply}
+use Rattle.fleet_world.specs.declared.reply.Reply.TheVariants.{Posted, LaneFull, Took, LaneEmpty, TakeRefused, Ticked, TickRefused, Gave, NothingPending, OutletFull, Collected, NothingThere, ShutDone, ShutRefused, NoClient}
 use Rattle.fleet_core.specs.Pending.{Pending, no_pending}
-use Rattle.fleet_world.specs.Core as core
+use Rattle.fleet_core.specs.Core as core
 use Rattle.fleet_core.specs.Core.{World, pending, delivered}
 use Rattle.fleet_world.specs.Run.{State, Lists, lists, lane, outlet, mailbox, with_lists, with_sent, with_taken, with_given, with_collected, no_lists, Step, Run, state_of}
 use Rattle.fleet_world.specs.Laws.{RingLaw, KeepsRings}
@@ -184,46 +183,3 @@ module _ {A : Type 0} where
   KeepsRings-run s t (e ∷ events) (p ∷ replies) (mid, first, rest) k = KeepsRings-run mid t events replies rest (KeepsRings-step s mid e p first k)
   KeepsRings-run s t [] (p ∷ replies) r k = absurd r
   KeepsRings-run s t (e ∷ events) [] r k = absurd r
-
-  -- ---- legal histories
-
-  abbrev pub IsLegalWorld : World A → Type 0
-  IsLegalWorld w = IsLegal w.floor w.history
-
-  legal_same : (s t : State A) → t ≡ s → IsLegalWorld s.world → IsLegalWorld t.world
-  legal_same s t e k = subst (λ x. IsLegalWorld x.world) (sym e) k
-
-  -- each step keeps the history legal
-  pub legal-step : (s t : State A) (event : Event) (reply : Reply) → Step s event reply t → IsLegalWorld s.world → IsLegalWorld t.world
-  legal-step s t (Post c o) NoClient st k = legal_same s t st.1 k
-  legal-step s t (Post c o) LaneFull st k = legal_same s t st.2 k
-  legal-step s t (Post c o) (Posted n) st k = subst (λ x. IsLegalWorld x.world) (sym st.3) k
-  legal-step s t (Take c) NoClient st k = legal_same s t st.1 k
-  legal-step s t (Take c) LaneEmpty st k = legal_same s t st.2 k
-  legal-step s t (Take c) (TakeRefused take_fault.MailboxFull) st k = legal_same s t st.3 k
-  legal-step s t (Take c) (TakeRefused take_fault.ChapterFull) st k = legal_same s t st.4 k
-  legal-step s t (Take c) (Took order_no v) (inside, room, entries, order, next, takes, number, same) k =
-      subst IsLegalWorld (sym takes.world) (grown (entry.Take c order v) k (inside, takes.verdict) refl)
-  legal-step s t Tick (TickRefused tick_fault.ClockSpent) st k = legal_same s t st.1 k
-  legal-step s t Tick (TickRefused tick_fault.ChapterFull) st k = legal_same s t st.2 k
-  legal-step s t Tick (Ticked report) (early, room, ticks, same) k =
-      subst IsLegalWorld (sym ticks.world) (grown (entry.Tick ticks.to ticks.arrived ticks.farewells) k ticks.fits refl)
-  legal-step s t (Shut r) (ShutRefused shut_fault.NoRobot) st k = legal_same s t st.1 k
-  legal-step s t (Shut r) (ShutRefused shut_fault.Already) st k = legal_same s t st.2 k
-  legal-step s t (Shut r) (ShutRefused shut_fault.ChapterFull) st k = legal_same s t st.3 k
-  legal-step s t (Shut r) (ShutDone farewell) (room, shuts, same) k =
-      subst IsLegalWorld (sym shuts.world) (grown (entry.Shut r farewell) k shuts.fits refl)
-  legal-step s t (Give c) NoClient st k = legal_same s t st.1 k
-  legal-step s t (Give c) NothingPending st k = legal_same s t st.2 k
-  legal-step s t (Give c) OutletFull st k = legal_same s t st.3 k
-  legal-step s t (Give c) (Gave seq) (inside, room, notice, next, number, same) k = subst (λ x. IsLegalWorld x.world) (sym same) k
-  legal-step s t (Collect c) NoClient st k = legal_same s t st.1 k
-  legal-step s t (Collect c) NothingThere st k = legal_same s t st.2 k
-  legal-step s t (Collect c) (Collected n) st k = subst (λ x. IsLegalWorld x.world) (sym st.2) k
-  legal-step s t _ _ st k = absurd st
-
-  pub legal-run : (s t : State A) (events : List Event) (replies : List Reply) → Run s events replies t → IsLegalWorld s.world → IsLegalWorld t.world
-  legal-run s t [] [] r k = legal_same s t r k
-  legal-run s t (e ∷ events) (p ∷ replies) (mid, first, rest) k = legal-run mid t events replies rest (legal-step s mid e p first k)
-  legal-run s t [] (p ∷ replies) r k = absurd r
-  legal-run s t (e ∷ events) [] r k = absurd r

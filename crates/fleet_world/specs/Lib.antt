@@ -5,4 +5,6 @@ pub use Rattle.fleet_core.specs.Hooks
 pub mod Opening
 pub mod Run
 pub mod Laws
+pub mod Leavings
+pub mod Session
 pub mod Played

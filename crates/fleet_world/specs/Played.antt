@@ -1,4 +1,4 @@
--- The lists of the clients, as a run leaves them.
+-- The lists of the clients, as a session keeps them and as a run leaves them.
 use Rattle.std.specs.Prelude.{ℕ, List, [], ◌++◌, map, slice_index_or}
 use Rattle.std.specs.List.{range_with_len}
 use Rattle.fleet_book.specs.declared.order.Order.{Order}
@@ -6,7 +6,7 @@ use Rattle.fleet_book.specs.declared.notice.Notice.{Notice}
 use Rattle.fleet_history.specs.History.{History, clients}
 use Rattle.fleet_history.specs.Laws.{orders}
 use Rattle.fleet_world.specs.declared.play.Played.{Played}
-use Rattle.fleet_world.specs.Run.{Lists}
+use Rattle.fleet_world.specs.Run.{Lists, State, state_of}
 
 -- a client's lists, by the history, and by what is left in its lane and outlet and what it collected: it sent what was
 -- taken and what is left in its lane, and was given what it collected and what is left in its outlet
@@ -24,3 +24,11 @@ client_lists h lanes outlets collected = map (lists_from h lanes outlets collect
 
 abbrev pub lists_of : {A f g h : Type 0} {F : f → Type 0} {G : g → Type 0} {H : h → Type 0} {k l m : _} → Played A f g h F G H k l m → List Lists
 lists_of p = client_lists p.world.core.history (map (λ v. v.items) p.lanes.items) (map (λ v. v.items) p.outlets.items) (map (λ v. v.items) p.collected.items)
+
+-- what each client collected
+abbrev pub collected_of : {A f g h : Type 0} {F : f → Type 0} {G : g → Type 0} {H : h → Type 0} {k l m : _} → Played A f g h F G H k l m → List (List Notice)
+collected_of p = map (λ v. v.items) p.collected.items
+
+-- the state that a run leaves
+abbrev pub end_of : {A f g h : Type 0} {F : f → Type 0} {G : g → Type 0} {H : h → Type 0} {k l m : _} → Played A f g h F G H k l m → State A
+end_of p = state_of p.world.core (lists_of p)

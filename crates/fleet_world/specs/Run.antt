@@ -1,20 +1,22 @@
--- The core step and the core run: what each event does to the world and to the lists of its clients.
-use Rattle.std.specs.Prelude.{ℕ, ◌+◌, false, true, ◌≡◌, ◌<◌, ◌≤◌, List, [], ◌∷◌, ◌++◌, Option, Some, None, drop, length, slice_get, slice_index_or, slice_set, replicate}
+-- The core run: what each event does to a world and to the lists of its clients.
+use Rattle.std.specs.Prelude.{ℕ, ◌+◌, false, true, ◌≡◌, ◌<◌, ◌≤◌, List, [], ◌∷◌, ◌++◌, Some, drop, length, slice_get, slice_index_or, slice_set, replicate}
 use Rattle.fleet_grid.specs.Floor.{Floor}
-use Rattle.fleet_book.specs.declared.order.Order.{Order}
+use Rattle.fleet_book.specs.declared.event.Event.{Event}
+use Rattle.fleet_book.specs.declared.event.Event.TheVariants.{Post, Take, Tick, Give, Collect, Shut}
 use Rattle.fleet_book.specs.declared.limits.Limits.{Limits}
 use Rattle.fleet_book.specs.declared.notice.Notice.{Notice}
+use Rattle.fleet_book.specs.declared.order.Order.{Order}
 use Rattle.fleet_history.specs.History.{robots, clients, clock, is_shut}
 use Rattle.fleet_history.specs.Notices.{seq_of}
+use Rattle.fleet_world.specs.declared.faults.RunFault.{RunFault}
+use Rattle.fleet_world.specs.declared.faults.RunFault.TheVariants as run_fault
 use Rattle.fleet_core.specs.declared.faults.TakeFault.TheVariants as take_fault
 use Rattle.fleet_core.specs.declared.faults.TickFault.TheVariants as tick_fault
 use Rattle.fleet_core.specs.declared.faults.ShutFault.TheVariants as shut_fault
-use Rattle.fleet_world.specs.declared.events.Event.{Event}
-use Rattle.fleet_world.specs.declared.events.Event.TheVariants.{Post, Take, Tick, Give, Collect, Shut}
-use Rattle.fleet_world.specs.declared.events.Reply.{Reply}
-use Rattle.fleet_world.specs.declared.events.Reply.TheVariants.{Posted, LaneFull, Took, LaneEmpty, TakeRefused, Ticked, TickRefused, Gave, NothingPending, OutletFull, Collected, NothingThere, ShutDone, ShutRefused, NoClient}
-use Rattle.fleet_core.specs.Hooks.{HookLaws}
+use Rattle.fleet_world.specs.declared.reply.Reply.{Reply}
+use Rattle.fleet_world.specs.declared.reply.Reply.TheVariants.{Posted, LaneFull, Took, LaneEmpty, TakeRefused, Ticked, TickRefused, Gave, NothingPending, OutletFull, Collected, NothingThere, ShutDone, ShutRefused, NoClient}
 use Rattle.fleet_core.specs.Core.{World, pending, without_first, HasRoom, HasNoRoom, HasEntries, HasNoEntries, Takes, Ticks, Shuts, opened_world}
+use Rattle.fleet_core.specs.Hooks.{HookLaws}
 
 -- ---- the lists of the clients
 
@@ -37,16 +39,16 @@ abbrev pub outlet : Lists → List Notice
 outlet l = drop (length l.collected) l.given
 
 abbrev pub with_sent : Lists → Order → Lists
-with_sent l order = record { sent = l.sent ++ order ∷ []; taken = l.taken; given = l.given; collected = l.collected }
+with_sent l order = record l { sent = l.sent ++ order ∷ [] }
 
 abbrev pub with_taken : Lists → Order → Lists
-with_taken l order = record { sent = l.sent; taken = l.taken ++ order ∷ []; given = l.given; collected = l.collected }
+with_taken l order = record l { taken = l.taken ++ order ∷ [] }
 
 abbrev pub with_given : Lists → Notice → Lists
-with_given l notice = record { sent = l.sent; taken = l.taken; given = l.given ++ notice ∷ []; collected = l.collected }
+with_given l notice = record l { given = l.given ++ notice ∷ [] }
 
 abbrev pub with_collected : Lists → Notice → Lists
-with_collected l notice = record { sent = l.sent; taken = l.taken; given = l.given; collected = l.collected ++ notice ∷ [] }
+with_collected l notice = record l { collected = l.collected ++ notice ∷ [] }
 
 pub record State (A : Type 0) : Type 0 where
   pub world : World A
@@ -128,5 +130,11 @@ Run {A} s (event ∷ events) (reply ∷ replies) t = (mid : State A) × Step s e
 Run s [] (reply ∷ replies) t = ⊥
 Run s (event ∷ events) [] t = ⊥
 
+-- memory was refused at one of so many events, counted from 0
+abbrev pub IsAtEvent : ℕ → RunFault → Type 0
+IsAtEvent n (run_fault.NoMemory i) = i < n
+IsAtEvent n (run_fault.Opening fault) = ⊥
+
+-- the state of a world that was just opened, before its clients did anything
 abbrev pub opened_state : {A : Type 0} → Floor → List ℕ → ℕ → Limits → HookLaws → State A
 opened_state m starts n limits laws = record { world = opened_world m starts n limits laws; clients = replicate n no_lists }

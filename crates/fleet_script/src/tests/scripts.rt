@@ -1,7 +1,7 @@
 //! Scripts, bundles and their faults.
 
 use crate::{ScriptFault, read_script, split_bundle};
-use fleet_world::{Event, Order};
+use fleet_book::{Event, Order};
 use std::test::Fail;
 
 #[test]
@@ -73,7 +73,10 @@ fn faults_of_closing_lines(rt: HostRuntime) {
     assert_eq!(rt; refused_at(&rt, b"robots 0\npost 0 withdraw\n"), Some(2));
     assert_eq!(rt; refused_at(&rt, b"robots 0\npost 0 withdraw 1 2\n"), Some(2));
     assert_eq!(rt; refused_at(&rt, b"robots 0\npost 0 withdraw 18446744073709551615\n"), None);
-    assert_eq!(rt; refused_at(&rt, b"robots 0\nturns 1\n"), Some(2));
+    assert_eq!(rt; refused_at(&rt, b"robots 0\nturns 1000000\n"), None);
+    assert_eq!(rt; refused_at(&rt, b"robots 0\nturns 0\n"), Some(2));
+    assert_eq!(rt; refused_at(&rt, b"robots 0\nturns 1000001\n"), Some(2));
+    assert_eq!(rt; refused_at(&rt, b"turns 1\nturns 1\n"), Some(2));
     assert_eq!(rt; refused_at(&rt, b"robots 0\nshut\n"), Some(2));
 }
 

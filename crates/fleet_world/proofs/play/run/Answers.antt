@@ -1,80 +1,95 @@
-use Rattle.std.proofs.Common.{◌≡◌, ℕ, Result, Err, map, sym, subst}
-use Rattle.fleet_world.specs.declared.faults.OpenFault.{OpenFault}
-use Rattle.fleet_world.specs.declared.faults.RunFault.{RunFault}
-use Rattle.fleet_world.specs.declared.faults.RunFault.TheVariants as run_fault
+use Rattle.std.proofs.Common.{◌≡◌, List, map, sym, ap, ◌∙◌, subst, arith}
+use Rattle.fleet_grid.specs.Floor.{IsNeighbour}
+use Rattle.fleet_grid.specs.Walk.{IsBridgeless}
+use Rattle.fleet_history.specs.Laws.{EachTick}
 use Rattle.fleet_history.specs.Legal.{IsLegal}
-use Rattle.fleet_history.proofs.Arrivals.{arrives-legal}
+use Rattle.fleet_history.proofs.Arrivals.{arrives-legal, arrivals_rise-legal}
 use Rattle.fleet_history.proofs.Legal.{no_conflict-legal, none_closed-legal}
 use Rattle.fleet_history.proofs.Once.{numbered-legal}
-use Rattle.fleet_history.proofs.Arrivals.{arrivals_rise-legal}
-use Rattle.fleet_world.specs.Run.{Run, state_of, opened_state}
+use Rattle.fleet_plan.specs.Planned.{IsPlanned, IsAdvancingTick}
+use Rattle.fleet_world.specs.declared.reply.Reply.{Reply}
+use Rattle.fleet_core.specs.Core.{World, opened_world}
 use Rattle.fleet_core.specs.Hooks.{laws_of}
-use Rattle.fleet_world.specs.Laws.{KeepsRings}
-use Rattle.fleet_world.specs.Played.{client_lists}
-use Rattle.fleet_core.proofs.Opens.{legal-opened}
+use Rattle.fleet_world.specs.Laws.{KeepsRings, KeepsEachRing, CollectsInOrder, IsSameGround}
+use Rattle.fleet_world.specs.Played.{collected_of, end_of}
+use Rattle.fleet_world.specs.Run.{State, Run, state_of, opened_state}
 use Rattle.fleet_world.proofs.Refusals.{not_refused}
-use Rattle.fleet_world.proofs.Rings.{KeepsRings-run, legal-run}
-use Rattle.fleet_world.proofs.Leaves.{lists-left, KeepsRings-opened}
+use Rattle.fleet_world.proofs.Plays.{IsEnd, ends, same_length, end-left, end-clients, end-each, end-once}
 use Rattle.fleet_world.proofs.play.run.Goals as goal
 
-pub returns-clause-refused : goal.returns-clause-refused
-returns-clause-refused g c f named =
+pub returns-in-Ok-play-clause-refused : goal.returns-in-Ok-play-clause-refused
+returns-in-Ok-play-clause-refused g c f named =
     (λ s. cc, λ q. absurd (not_refused c.args.grid c.args.starts.items c.args.clients c.args.limits (laws_of c.args.hooks) f c.in-Ok.ensures.can q))
 
-abbrev Fails : (X : Type 0) → RunFault → Result X RunFault
-Fails X f = Err f
+-- the state that the run led to, and what holds of it
+led : (g : _) (c : goal.After-close g) →
+    Run (opened_state c.args.grid c.args.starts.items c.args.clients c.args.limits (laws_of c.args.hooks)) c.args.events.now c.in-Ok-play.replies.items (state_of c.play.new.self.world.core c.play.new.self.lists.items)
+led g c = rw c.in-Ok.ensures.ok at c.in-Ok-play.ensures.run
 
--- want of memory is no refused opening
-other_fault : (X : Type 0) (n : ℕ) (f : OpenFault) → Fails X (run_fault.NoMemory n) ≡ Fails X (run_fault.Opening f) → ⊥
-other_fault X n f e = cc
+ended : (g : _) (c : goal.After-close g) →
+    IsEnd (opened_world c.args.grid c.args.starts.items c.args.clients c.args.limits (laws_of c.args.hooks)) (state_of c.play.new.self.world.core c.play.new.self.lists.items)
+ended g c =
+    ends c.args.grid c.args.starts.items c.args.clients c.args.limits (laws_of c.args.hooks) c.args.events.now c.in-Ok-play.replies.items (state_of c.play.new.self.world.core c.play.new.self.lists.items) c.in-Ok.ensures.can c.in-Ok.ensures.orderly (led g c)
 
-pub returns-in_default-leave_all-clause-refused : goal.returns-in_default-leave_all-clause-refused
-returns-in_default-leave_all-clause-refused g c f named =
-    (λ s. absurd (other_fault _ _ f s), λ q. absurd (not_refused c.args.grid c.args.starts.items c.args.clients c.args.limits (laws_of c.args.hooks) f c.in-Ok.ensures.can q))
+-- it is the state that is handed out
+same : (g : _) (c : goal.After-close g) → end_of c.close.result ≡ state_of c.play.new.self.world.core c.play.new.self.lists.items
+same g c =
+    end-left c.play.new.self.world.core c.close.result.world.core c.play.new.self.lists.items (map (λ v. v.items) c.close.result.lanes.items) (map (λ v. v.items) c.close.result.outlets.items) (collected_of c.close.result)
+    (ended g c).rings c.close.ensures.world c.close.ensures.lanes c.close.ensures.outlets c.close.ensures.collected
 
--- the run, from the opening
-played : (g : _) (c : goal.In-Ok-leave_all g) →
-    Run (opened_state c.args.grid c.args.starts.items c.args.clients c.args.limits (laws_of c.args.hooks)) c.args.events.now c.in-Ok-run_events.replies.items (state_of c.run_events.new.world.core c.run_events.new.ends.items)
-played g c = rw (c.in-Ok.ensures.ok, c.in-Ok-empty_ends.ensures) at c.in-Ok-run_events.ensures.run
+legal : (g : _) (c : goal.After-close g) → IsLegal c.close.result.world.core.floor c.close.result.world.core.history
+legal g c = subst (λ (w : World _). IsLegal w.floor w.history) (sym c.close.ensures.world) (ended g c).legal
 
-rings_kept : (g : _) (c : goal.In-Ok-leave_all g) → KeepsRings (state_of c.run_events.new.world.core c.run_events.new.ends.items)
-rings_kept g c =
-    KeepsRings-run (opened_state c.args.grid c.args.starts.items c.args.clients c.args.limits (laws_of c.args.hooks)) (state_of c.run_events.new.world.core c.run_events.new.ends.items)
-    c.args.events.now c.in-Ok-run_events.replies.items (played g c) (KeepsRings-opened c.args.grid c.args.starts.items c.args.clients c.args.limits (laws_of c.args.hooks))
+pub returns-in-Ok-play-clause-run : goal.returns-in-Ok-play-clause-run
+returns-in-Ok-play-clause-run g c =
+    let o = opened_state c.args.grid c.args.starts.items c.args.clients c.args.limits (laws_of c.args.hooks) in
+    subst (λ (s : State _). Run o c.args.events.now c.close.result.replies.items s) (sym (same g c))
+    (subst (λ (r : List Reply). Run o c.args.events.now r (state_of c.play.new.self.world.core c.play.new.self.lists.items)) (sym (ap (λ v. v.items) c.close.ensures.replies)) (led g c))
 
-lists_are : (g : _) (c : goal.In-Ok-leave_all g) →
-    client_lists c.run_events.new.world.core.history (map (λ v. v.items) c.in-Ok-leave_all.left.lanes.items) (map (λ v. v.items) c.in-Ok-leave_all.left.outlets.items) (map (λ v. v.items) c.in-Ok-leave_all.left.collected.items)
-    ≡ c.run_events.new.ends.items
-lists_are g c =
-    lists-left c.run_events.new.world.core c.run_events.new.ends.items (map (λ v. v.items) c.in-Ok-leave_all.left.lanes.items) (map (λ v. v.items) c.in-Ok-leave_all.left.outlets.items) (map (λ v. v.items) c.in-Ok-leave_all.left.collected.items)
-    (rings_kept g c) c.in-Ok-leave_all.ensures.lanes c.in-Ok-leave_all.ensures.outlets c.in-Ok-leave_all.ensures.collected
+pub returns-in-Ok-play-clause-same : goal.returns-in-Ok-play-clause-same
+returns-in-Ok-play-clause-same g c = subst (λ (w : World _). IsSameGround (opened_world c.args.grid c.args.starts.items c.args.clients c.args.limits (laws_of c.args.hooks)) w) (sym c.close.ensures.world) (ended g c).ground
 
-legal_is : (g : _) (c : goal.In-Ok-leave_all g) → IsLegal c.run_events.new.world.core.floor c.run_events.new.world.core.history
-legal_is g c =
-    legal-run (opened_state c.args.grid c.args.starts.items c.args.clients c.args.limits (laws_of c.args.hooks)) (state_of c.run_events.new.world.core c.run_events.new.ends.items)
-    c.args.events.now c.in-Ok-run_events.replies.items (played g c) (legal-opened c.args.grid c.args.starts.items c.args.clients c.args.limits (laws_of c.args.hooks) c.in-Ok.ensures.can c.in-Ok.ensures.orderly)
+pub returns-in-Ok-play-clause-legal : goal.returns-in-Ok-play-clause-legal
+returns-in-Ok-play-clause-legal g c = legal g c
 
-pub returns-clause-run : goal.returns-clause-run
-returns-clause-run g c =
-    subst (λ l. Run (opened_state c.args.grid c.args.starts.items c.args.clients c.args.limits (laws_of c.args.hooks)) c.args.events.now c.in-Ok-run_events.replies.items (state_of c.run_events.new.world.core l)) (sym (lists_are g c)) (played g c)
+pub returns-in-Ok-play-clause-rings : goal.returns-in-Ok-play-clause-rings
+returns-in-Ok-play-clause-rings g c = subst KeepsRings (sym (same g c)) (ended g c).rings
 
-pub returns-clause-legal : goal.returns-clause-legal
-returns-clause-legal g c = legal_is g c
+pub returns-in-Ok-play-clause-each_ring : goal.returns-in-Ok-play-clause-each_ring
+returns-in-Ok-play-clause-each_ring g c =
+    subst KeepsEachRing (sym (same g c)) (end-each c.args.grid c.args.starts.items c.args.clients c.args.limits (laws_of c.args.hooks) (state_of c.play.new.self.world.core c.play.new.self.lists.items) (ended g c))
 
-pub returns-clause-rings : goal.returns-clause-rings
-returns-clause-rings g c = subst (λ l. KeepsRings (state_of c.run_events.new.world.core l)) (sym (lists_are g c)) (rings_kept g c)
+pub returns-in-Ok-play-clause-once : goal.returns-in-Ok-play-clause-once
+returns-in-Ok-play-clause-once g c =
+    subst (λ (w : World _). CollectsInOrder w.history (collected_of c.close.result)) (sym c.close.ensures.world)
+    (end-once (state_of c.play.new.self.world.core c.play.new.self.lists.items) (collected_of c.close.result) (ended g c).rings c.close.ensures.collected)
 
-pub returns-clause-arrivals : goal.returns-clause-arrivals
-returns-clause-arrivals g c = arrives-legal c.run_events.new.world.core.floor c.run_events.new.world.core.history (legal_is g c)
+pub returns-in-Ok-play-clause-arrivals : goal.returns-in-Ok-play-clause-arrivals
+returns-in-Ok-play-clause-arrivals g c = arrives-legal c.close.result.world.core.floor c.close.result.world.core.history (legal g c)
 
-pub returns-clause-numbers : goal.returns-clause-numbers
-returns-clause-numbers g c = arrivals_rise-legal c.run_events.new.world.core.floor c.run_events.new.world.core.history (legal_is g c)
+pub returns-in-Ok-play-clause-numbers : goal.returns-in-Ok-play-clause-numbers
+returns-in-Ok-play-clause-numbers g c = arrivals_rise-legal c.close.result.world.core.floor c.close.result.world.core.history (legal g c)
 
-pub returns-clause-numbered : goal.returns-clause-numbered
-returns-clause-numbered g c client = numbered-legal c.run_events.new.world.core.floor c.run_events.new.world.core.history client (legal_is g c)
+pub returns-in-Ok-play-clause-numbered : goal.returns-in-Ok-play-clause-numbered
+returns-in-Ok-play-clause-numbered g c client = numbered-legal c.close.result.world.core.floor c.close.result.world.core.history client (legal g c)
 
-pub returns-clause-conflicts : goal.returns-clause-conflicts
-returns-clause-conflicts g c = no_conflict-legal c.run_events.new.world.core.floor c.run_events.new.world.core.history (legal_is g c)
+pub returns-in-Ok-play-clause-conflicts : goal.returns-in-Ok-play-clause-conflicts
+returns-in-Ok-play-clause-conflicts g c = no_conflict-legal c.close.result.world.core.floor c.close.result.world.core.history (legal g c)
 
-pub returns-clause-closes : goal.returns-clause-closes
-returns-clause-closes g c = none_closed-legal c.run_events.new.world.core.floor c.run_events.new.world.core.history (legal_is g c)
+pub returns-in-Ok-play-clause-closes : goal.returns-in-Ok-play-clause-closes
+returns-in-Ok-play-clause-closes g c = none_closed-legal c.close.result.world.core.floor c.close.result.world.core.history (legal g c)
+
+pub returns-in-Ok-play-clause-planned : goal.returns-in-Ok-play-clause-planned
+returns-in-Ok-play-clause-planned g c = subst (λ (w : World _). EachTick (IsPlanned w.floor w.ties) w.history) (sym c.close.ensures.world) (ended g c).planned
+
+pub returns-in-Ok-play-clause-advancing : goal.returns-in-Ok-play-clause-advancing
+returns-in-Ok-play-clause-advancing g c =
+    subst (λ (w : World _). IsBridgeless (IsNeighbour w.floor) → EachTick (IsAdvancingTick w.floor) w.history) (sym c.close.ensures.world) (ended g c).advancing
+
+pub returns-in-Ok-play-clause-counts : goal.returns-in-Ok-play-clause-counts
+returns-in-Ok-play-clause-counts g c =
+    let count = (ended g c).rings.list_count ∙ end-clients c.args.grid c.args.starts.items c.args.clients c.args.limits (laws_of c.args.hooks) (state_of c.play.new.self.world.core c.play.new.self.lists.items) (ended g c) in (
+      omega (arith, count, c.close.result.lanes.ok.0, same_length _ _ _ _ c.close.ensures.lanes),
+      omega (arith, count, c.close.result.outlets.ok.0, same_length _ _ _ _ c.close.ensures.outlets),
+      omega (arith, count, c.close.result.collected.ok.0, same_length _ _ _ _ c.close.ensures.collected),
+    )

@@ -1,0 +1,92 @@
+//! One case: the program's words, its standard input, and the files that the words name.
+
+use std::alloc::{AllocError, Global};
+
+/// A file that the words of a case name.
+#[derive(Debug, Drop)]
+pub struct CaseFile {
+    pub name: Vec<u8>,
+    pub bytes: Vec<u8>,
+}
+
+/// A case. Without a name it is no case.
+#[derive(Debug, Drop)]
+pub struct Case {
+    pub name: Vec<u8>,
+    /// The program's words, its own name first.
+    pub words: Vec<String>,
+    pub input: Vec<u8>,
+    pub files: Vec<CaseFile>,
+}
+
+impl Case {
+    /// A case without words, input and files.
+    pub fn new(alloc: Global, name: &[u8]) -> Result<Case, AllocError> {
+        let mut words = Vec::new(alloc);
+        words.push(String::from_str(alloc, "errands")?)?;
+        Ok(Case {
+            name: Vec::from_slice(alloc, name)?,
+            words,
+            input: Vec::new(alloc),
+            files: Vec::new(alloc),
+        })
+    }
+
+    /// Takes in one more line of the case, which its first byte marks.
+    pub fn read(&mut self, alloc: Global, line: &[u8]) -> Result<(), AllocError> {
+        let Some((mark, text)) = line.split_first() else {
+            return Ok(());
+        };
+        match *mark {
+            b'$' => self.add_words(alloc, text),
+            b'<' => self.add_file(alloc, text),
+            b'|' => self.add_bytes(text, b"\n"),
+            b':' => self.add_bytes(text, b""),
+            _ => Ok(()),
+        }
+    }
+
+    /// The words between blanks that are text.
+    fn add_words(&mut self, alloc: Global, text: &[u8]) -> Result<(), AllocError> {
+        for word in text.split(|byte| *byte == b' ') {
+            if word.is_empty() {
+                continue;
+            }
+            if let Ok(word) = str::from_utf8(word) {
+                self.words.push(String::from_str(alloc, word)?)?;
+            }
+        }
+        Ok(())
+    }
+
+    fn add_file(&mut self, alloc: Global, text: &[u8]) -> Result<(), AllocError> {
+        let name = Vec::from_slice(alloc, text.trim_ascii())?;
+        let bytes = Vec::new(alloc);
+        self.files.push(CaseFile { name, bytes })?;
+        Ok(())
+    }
+
+    /// Bytes of the file that was begun last, or of standard input.
+    fn add_bytes(&mut self, text: &[u8], end: &[u8]) -> Result<(), AllocError> {
+        if let Some(file) = self.files.last_mut() {
+            return append(&mut file.bytes, text, end);
+        }
+        append(&mut self.input, text, end)
+    }
+
+    /// The bytes of the file of this name.
+    pub fn file(&self, name: &str) -> Option<&[u8]> {
+        for file in &self.files {
+            if file.name.as_slice() == name.as_bytes() {
+                return Some(file.bytes.as_slice());
+            }
+        }
+        None
+    }
+}
+
+fn append(bytes: &mut Vec<u8>, text: &[u8], end: &[u8]) -> Result<(), AllocError> {
+    bytes.extend_from_slice(text)?;
+    bytes.extend_from_slice(end)?;
+    Ok(())
+}

@@ -1,0 +1,114 @@
+//! What came out of a case.
+
+ghost use Rattle.std.specs.Prelude.{◌≡◌, true};
+ghost use Rattle.fleet_program.specs.Told.{names_two};
+
+use crate::case::Case;
+use fleet_program::{InputFault, Job, WordFault, fail, parse_words, run_with_kit};
+use std::alloc::{Alloc, AllocError, Global};
+use std::thread::Threads;
+
+/// What the program wrote, and its status.
+#[derive(Drop)]
+struct Outcome {
+    output: Vec<u8>,
+    complaint: Vec<u8>,
+    status: u8,
+}
+
+/// Runs the script of the second file on the map of the first. The result is the status.
+fn run_on<R: Alloc<A = Global> + Threads + Sync>(
+    rt: &R,
+    case: &Case,
+    job: &Job,
+    names: (&str, &str),
+    output: &mut Vec<u8>,
+    complaint: &mut Vec<u8>,
+) -> u8
+    requires { true ≡ names_two job.now }
+{
+    let (Some(mut map), Some(mut script)) = (case.file(names.0), case.file(names.1)) else {
+        return fail(InputFault::File, complaint);
+    };
+    run_with_kit(rt, job, &mut map, Some(&mut script), output, complaint)
+}
+
+/// Does the job of a case. The result is the status.
+fn run_job<R: Alloc<A = Global> + Threads + Sync>(
+    rt: &R,
+    case: &Case,
+    job: &Job,
+    output: &mut Vec<u8>,
+    complaint: &mut Vec<u8>,
+) -> u8 {
+    match job {
+        Job::Bundle => {
+            let mut input = case.input.as_slice();
+            run_with_kit(rt, job, &mut input, None, output, complaint)
+        }
+        Job::Map { file } => match case.file(file.as_str()) {
+            Some(mut map) => run_with_kit(rt, job, &mut map, None, output, complaint),
+            None => fail(InputFault::File, complaint),
+        },
+        Job::Run { first, second } => {
+            let names = (first.as_str(), second.as_str());
+            run_on(rt, case, job, names, output, complaint)
+        }
+    }
+}
+
+/// What comes out of a case. The text of words that are refused is `clap`'s own, and left out.
+fn outcome_of<R: Alloc<A = Global> + Threads + Sync>(
+    rt: &R,
+    case: &Case,
+) -> Result<Outcome, AllocError> {
+    let alloc = rt.alloc();
+    let mut output = Vec::new(alloc);
+    let mut complaint = Vec::new(alloc);
+    let status = match parse_words(alloc, &case.words) {
+        Ok(job) => run_job(rt, case, &job, &mut output, &mut complaint),
+        Err(WordFault::Words(_text)) => 2,
+        Err(WordFault::NoMemory) => return Err(AllocError),
+    };
+    Ok(Outcome {
+        output,
+        complaint,
+        status,
+    })
+}
+
+/// Writes the lines of a text, each behind the mark.
+fn write_marked(told: &mut Vec<u8>, mark: u8, text: &[u8]) -> Result<(), AllocError> {
+    let mut begins = true;
+    for byte in text {
+        if begins {
+            told.push(mark)?;
+        }
+        told.push(*byte)?;
+        begins = *byte == b'\n';
+    }
+    if !begins {
+        told.push(b'\n')?;
+    }
+    Ok(())
+}
+
+/// Tells what came out of a case, where it is one.
+pub fn tell<R: Alloc<A = Global> + Threads + Sync>(
+    rt: &R,
+    case: &Case,
+    told: &mut Vec<u8>,
+) -> Result<(), AllocError> {
+    if case.name.is_empty() {
+        return Ok(());
+    }
+    let outcome = outcome_of(rt, case)?;
+    told.extend_from_slice(b"= ")?;
+    told.extend_from_slice(&case.name)?;
+    told.push(b'\n')?;
+    write_marked(told, b'|', &outcome.output)?;
+    write_marked(told, b'!', &outcome.complaint)?;
+    let status = format!(in rt.alloc(); "? {}\n", outcome.status)?;
+    told.extend_from_slice(status.as_bytes())?;
+    Ok(())
+}

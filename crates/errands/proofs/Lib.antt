@@ -1,4 +1,0 @@
-pub mod Runs
-pub mod Kits
-pub mod Transfers
-pub mod Outcomes

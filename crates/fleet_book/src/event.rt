@@ -1,0 +1,20 @@
+//! What may happen in a run.
+
+use crate::order::Order;
+
+/// What happens at once.
+#[derive(Clone, Copy, Debug, PartialEq, Eq)]
+pub enum Event {
+    /// The client pushes an order on its lane.
+    Post(u32, Order),
+    /// The client's next order goes from its lane into the world.
+    Take(u32),
+    /// All robots make one step.
+    Tick,
+    /// The client's next notice goes from the world to its outlet.
+    Give(u32),
+    /// The client pops a notice from its outlet.
+    Collect(u32),
+    /// The robot refuses further errands.
+    Shut(u32),
+}

@@ -1,0 +1,13 @@
+pub mod Greatest
+pub mod Reach
+pub mod Levels
+pub mod Fronts
+pub mod Moments
+pub mod Ticks
+pub mod Pauses
+pub mod Runs
+pub mod Keeps
+pub mod Errands
+pub mod Longest
+pub mod Queues
+pub mod Within

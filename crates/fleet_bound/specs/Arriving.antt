@@ -1,0 +1,24 @@
+-- How soon errands arrive, and how soon a fleet is idle.
+use Rattle.std.specs.Prelude.{◌≡◌, ℕ, ◌+◌, ◌*◌, ◌<◌, ◌≤◌, ◌⊎◌, List, Some, None, true, slice_get, Contains}
+use Rattle.fleet_grid.specs.Floor.{Floor}
+use Rattle.fleet_queue.specs.declared.errand.Errand.{Errand}
+use Rattle.fleet_history.specs.declared.history.Entry.{Entry}
+use Rattle.fleet_history.specs.History.{History, robots, front, unfinished, arrivals, is_withdrawn}
+use Rattle.fleet_bound.specs.Bound.{wait_bound}
+use Rattle.fleet_bound.specs.Onward.{onward, GoesOn, TakesNothing, tick_count}
+
+-- the errand of the robot arrived, or it was withdrawn
+abbrev pub IsGone : {A : Type 0} → History A → ℕ → Errand → Type 0
+IsGone h r x = Contains (arrivals h r) x ⊎ (is_withdrawn h x ≡ true)
+
+-- the errand at place j of a robot's queue, whose front is at 0, is gone behind each legal continuation that has the bound's
+-- ticks j + 1 times
+abbrev pub ErrandsArrive : {A : Type 0} → Floor → History A → Type 0
+ErrandsArrive {A} m h = (r j : ℕ) (x : Errand) (more : List (Entry A)) →
+    r < robots h → slice_get (unfinished h r) j ≡ Some x →
+    GoesOn m h more → (j + 1) * wait_bound m h ≤ tick_count more → IsGone (onward h more) r x
+
+-- nobody has a front behind a legal continuation that has so many ticks and takes no order
+abbrev pub IsIdleWithin : {A : Type 0} → Floor → History A → ℕ → Type 0
+IsIdleWithin {A} m h ticks = (r : ℕ) (more : List (Entry A)) → r < robots h →
+    GoesOn m h more → TakesNothing more → ticks ≤ tick_count more → front (onward h more) r ≡ None

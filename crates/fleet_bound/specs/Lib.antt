@@ -1,0 +1,5 @@
+pub mod Reach
+pub mod Bound
+pub mod Onward
+pub mod Arriving
+pub mod Idle

@@ -1,0 +1,30 @@
+//! How soon a fleet is idle.
+
+ghost use Rattle.std.specs.Prelude.{◌≡◌, ◌≤◌, map};
+ghost use Rattle.fleet_bound.specs.Idle.{longest_queue, idle_within};
+
+use fleet_queue::ErrandQueue;
+use std::alloc::Allocator;
+
+/// The length of the longest of these queues, 0 where there is none.
+pub fn longest_queue<A: Allocator + Copy>(queues: &[ErrandQueue<A>]) -> usize
+    ensures { result ≡ longest_queue (map (λ q. q.items) queues.now) }
+{
+    queues
+        .iter()
+        .fold(0, |longest, queue| queue.len().max(longest))
+}
+
+/// How many ticks it takes at most until a fleet that gets no more orders is idle, by the length of its longest queue (at most
+/// 65,536), its robots (at most 512) and the map's floor cells. `None` on a map with a bridge.
+pub fn idle_within(longest: usize, robots: usize, floor_count: u32, bridgeless: bool) -> Option<u64>
+    requires queued { longest ≤ 65536 }
+    requires few { robots ≤ 512 }
+    ensures { result ≡ idle_within bridgeless longest robots floor_count }
+{
+    if !bridgeless {
+        return None;
+    }
+    let farthest = floor_count.saturating_sub(1).max(1);
+    Some(longest as u64 * robots as u64 * farthest as u64)
+}

@@ -1,0 +1,73 @@
+//! Laws of waits over legal histories whose ticks are advancing, for the crates above and for readers. No call does anything.
+
+ghost use Rattle.std.specs.Prelude.{◌≡◌, ℕ, ◌-◌, ◌<◌, ◌≤◌, List, [], Option, Some, max};
+ghost use Rattle.fleet_book.specs.declared.order.Order.{Order};
+ghost use Rattle.fleet_book.specs.declared.verdict.Verdict.{Verdict};
+ghost use Rattle.fleet_grid.specs.Floor.{Floor};
+ghost use Rattle.fleet_grid.specs.Counts.{floor_count};
+ghost use Rattle.fleet_history.specs.declared.history.Arrival.{Arrival};
+ghost use Rattle.fleet_history.specs.declared.history.Bye.{Bye};
+ghost use Rattle.fleet_history.specs.declared.history.Entry.{Entry};
+ghost use Rattle.fleet_history.specs.declared.history.Entry.TheVariants.{Take, Tick, Shut};
+ghost use Rattle.fleet_history.specs.declared.history.Opening.{Opening};
+ghost use Rattle.fleet_history.specs.History.{History, start, after, robots, errands_at};
+ghost use Rattle.fleet_history.specs.Laws.{EachTick};
+ghost use Rattle.fleet_history.specs.Legal.{IsLegal, IsInOrder, Fits};
+ghost use Rattle.fleet_history.specs.Next.{next_opening};
+ghost use Rattle.fleet_history.specs.Waits.{wait};
+ghost use Rattle.fleet_plan.specs.Planned.{IsAdvancingTick};
+ghost use Rattle.fleet_bound.specs.Arriving.{ErrandsArrive, IsIdleWithin};
+ghost use Rattle.fleet_bound.specs.Bound.{KeepsBound, WaitsAreBounded};
+ghost use Rattle.fleet_bound.specs.Idle.{idle_ticks, longest_after};
+ghost use Rattle.fleet_bound.specs.Onward.{onward, GoesOn};
+ghost use Rattle.fleet_bound.specs.Reach.{IsReach, reach};
+
+/// The reach of a map is 1, or the greatest distance of two of its cells. It is below the number of floor cells, where there
+/// are two or more.
+pub fn reach_is_greatest()
+    ensures is { (m : Floor) → IsReach m (reach m) }
+    ensures few { (m : Floor) → reach m ≤ max 1 (floor_count m - 1) }
+{}
+
+/// An opening keeps the bound where no robot has waited yet, as where no robot has errands.
+pub fn openings_keep_bound<A>()
+    ensures unwaited { (m : Floor) (o : Opening A) → IsInOrder m o →
+        ((r w : ℕ) → r < robots (start o) → wait (start o) r ≡ Some w → w ≡ 0) → KeepsBound m (start o) }
+    ensures empty { (m : Floor) (o : Opening A) → IsInOrder m o →
+        ((r : ℕ) → r < robots (start o) → errands_at o r ≡ []) → KeepsBound m (start o) }
+{}
+
+/// Each entry that fits keeps the bound, if it is no tick or an advancing one. So does the next chapter's opening.
+pub fn entries_keep_bound<A>()
+    ensures take { (m : Floor) (h : History A) (client : ℕ) (order : Order) (verdict : Verdict) → IsLegal m h →
+        Fits m h (Take client order verdict) → KeepsBound m h → KeepsBound m (after h (Take client order verdict)) }
+    ensures tick { (m : Floor) (h : History A) (to : List ℕ) (arrived : List Arrival) (farewells : List Bye) → IsLegal m h →
+        Fits m h (Tick to arrived farewells) → IsAdvancingTick m h to → KeepsBound m h →
+        KeepsBound m (after h (Tick to arrived farewells)) }
+    ensures shut { (m : Floor) (h : History A) (robot : ℕ) (farewell : Option ℕ) → IsLegal m h →
+        Fits m h (Shut robot farewell) → KeepsBound m h → KeepsBound m (after h (Shut robot farewell)) }
+    ensures next { (m : Floor) (h : History A) → IsLegal m h → KeepsBound m h → KeepsBound m (start (next_opening h)) }
+{}
+
+/// In a legal history whose ticks are all advancing, and whose opening keeps the bound, each wait is below it: the history
+/// keeps the bound too, as does each continuation.
+pub fn waits_are_bounded<A>()
+    ensures bounded { (m : Floor) (h : History A) → IsLegal m h → EachTick (IsAdvancingTick m) h →
+        KeepsBound m (start h.opening) → WaitsAreBounded m h }
+    ensures kept { (m : Floor) (h : History A) → IsLegal m h → EachTick (IsAdvancingTick m) h →
+        KeepsBound m (start h.opening) → KeepsBound m h }
+    ensures onward { (m : Floor) (h : History A) (more : List (Entry A)) → GoesOn m h more →
+        KeepsBound m h → KeepsBound m (onward h more) }
+    ensures below { (m : Floor) (h : History A) → IsLegal m h → KeepsBound m h → WaitsAreBounded m h }
+{}
+
+/// Each errand arrives, or is withdrawn, within the bound's ticks times its place in the queue, counted from 1, whatever the
+/// waits were.
+pub fn errands_arrive<A>()
+    ensures { (m : Floor) (h : History A) → ErrandsArrive m h }
+{}
+
+/// A fleet that gets no more orders is idle within the ticks that `idle_within` tells.
+pub fn fleet_gets_idle<A>()
+    ensures { (m : Floor) (h : History A) → IsIdleWithin m h (idle_ticks (longest_after h) (robots h) (floor_count m)) }
+{}

@@ -1,0 +1,3 @@
+pub mod Kits
+pub mod Transfers
+pub mod Outcomes

@@ -1,0 +1,104 @@
+-- What the program says of what it was given.
+use Rattle.std.proofs.Common.{◌≡◌, ℕ, suc, ◌+◌, Option, Some, None, Bool, true, false, List, [], ◌∷◌, ◌++◌, length, Result, Ok, Err, refl, sym, ap, subst, ◌∙◌, arith}
+use Rattle.std.specs.Prelude.{IfOk, IfSome, codes, decimal}
+use Rattle.std.specs.declared.alloc.AllocError.{AllocError}
+use Rattle.fleet_grid.specs.Floor.{Floor, IsNeighbour}
+use Rattle.fleet_grid.specs.Walk.{IsBridgeless}
+use Rattle.fleet_book.specs.declared.event.Event.{Event}
+use Rattle.fleet_world.specs.declared.reply.Reply.{Reply}
+use Rattle.fleet_world.specs.Run.{State, Run, opened_state}
+use Rattle.fleet_world.specs.Laws.{KeepsRings}
+use Rattle.fleet_history.specs.Legal.{IsLegal}
+use Rattle.fleet_history.specs.Laws.{ArrivesInOrder, ArrivalsRise, EachTick, HasNoConflict, AcceptsNoneClosed}
+use Rattle.fleet_history.specs.Numbering.{AreNumbered}
+use Rattle.fleet_plan.specs.Planned.{IsPlanned, IsAdvancingTick}
+use Rattle.fleet_program.specs.declared.said.Said.{Said}
+use Rattle.fleet_program.specs.declared.said.Complaint.{Complaint}
+use Rattle.fleet_program.specs.declared.said.Complaint.TheVariants as complaint
+use Rattle.fleet_program.specs.Outcome.{Outcome, IsScriptOutcome, IsLawfulEnd, IsMapNamed, IsJobOutcome, refused, ran, run_outcome, fault}
+use Rattle.fleet_program.specs.declared.words.Job.{Job}
+use Rattle.fleet_core.specs.Hooks.{HookLaws}
+use Rattle.fleet_script.specs.Script.{Plan}
+use Rattle.fleet_program.specs.Kit.{KitLaws, chosen_laws}
+use Rattle.fleet_map.specs.declared.fault.MapFault.{MapFault}
+use Rattle.fleet_map.specs.declared.fault.MapFault.TheVariants as map_fault
+use Rattle.fleet_map.specs.Grammar.{Fails, map_of}
+use Rattle.fleet_world.specs.declared.faults.OpenFault.{OpenFault}
+use Rattle.fleet_world.specs.Opening.{IsNamed, IsRefused}
+use Rattle.fleet_program.specs.Said.{said}
+use Rattle.fleet_script.specs.Shown.{FailsAt}
+use Rattle.fleet_script.specs.declared.script.ScriptFault.{ScriptFault}
+use Rattle.fleet_script.specs.declared.script.ScriptFault.TheVariants as script_fault
+
+-- a run has a reply for each event
+pub run_length : {A : Type 0} (s t : State A) (events : List Event) (replies : List Reply) → Run s events replies t → length replies ≡ length events
+run_length s t [] [] r = refl
+run_length s t (e ∷ es) (x ∷ xs) r = ap suc (run_length r.0 t es xs r.2)
+run_length s t [] (x ∷ xs) r = absurd r
+run_length s t (e ∷ es) [] r = absurd r
+
+-- what is said is such an outcome
+pub said_is : {A : Type 0} (P : Outcome → Type 0) (r : Result (Said A) AllocError) (o : Outcome) → IfOk r (λ s. said s ≡ o) → P o → IfOk r (λ s. P (said s))
+said_is P (Ok s) o e p = subst P (sym e) p
+said_is P (Err x) o e p = tt
+
+pub said_more : {A : Type 0} (P Q : Outcome → Type 0) (r : Result (Said A) AllocError) → ((o : Outcome) → P o → Q o) → IfOk r (λ s. P (said s)) → IfOk r (λ s. Q (said s))
+said_more P Q (Ok s) more p = more (said s) p
+said_more P Q (Err x) more p = tt
+
+-- what a run ends in is lawful on its own map
+pub lawful_is : {A : Type 0} (m g : Floor) (last : State A) → g ≡ m → last.world.floor ≡ g → IsLegal last.world.floor last.world.history → KeepsRings last → ArrivesInOrder last.world.history
+    → ArrivalsRise last.world.history → ((client : ℕ) → AreNumbered last.world.history client) → HasNoConflict last.world.floor last.world.history → AcceptsNoneClosed last.world.history
+    → EachTick (IsPlanned last.world.floor last.world.ties) last.world.history
+    → (IsBridgeless (IsNeighbour last.world.floor) → EachTick (IsAdvancingTick last.world.floor) last.world.history) → IsLawfulEnd A m last
+lawful_is m g last e f legal rings arrivals numbers numbered conflicts closes planned advancing = record {
+  legal = subst (λ (x : Floor). IsLegal x last.world.history) (f ∙ e) legal;
+  rings = rings;
+  arrivals = arrivals;
+  numbers = numbers;
+  numbered = numbered;
+  conflicts = subst (λ (x : Floor). HasNoConflict x last.world.history) (f ∙ e) conflicts;
+  closes = closes;
+  planned = subst (λ (x : Floor). EachTick (IsPlanned x last.world.ties) last.world.history) (f ∙ e) planned;
+  advancing = subst (λ (x : Floor). IsBridgeless (IsNeighbour x) → EachTick (IsAdvancingTick x) last.world.history) (f ∙ e) advancing;
+}
+
+pub ran_is : {A : Type 0} (kit : KitLaws) (laws : HookLaws) (m g : Floor) (p : Plan) (called shown : List Event) (replies : List Reply) (last : State A) → g ≡ m → called ≡ p.events → shown ≡ p.events → laws ≡ chosen_laws kit p
+    → Run (opened_state g p.starts p.clients p.limits laws) called replies last → IsLawfulEnd A m last → IsScriptOutcome A kit m p (run_outcome shown replies last.world.history.entries)
+ran_is {A} kit laws m g p called shown replies last e f d l r lawful = ran (record {
+  replies = replies;
+  last = last;
+  run = subst (λ (x : HookLaws). Run (opened_state m p.starts p.clients p.limits x) p.events replies last) l
+      (subst (λ (x : Floor). Run (opened_state x p.starts p.clients p.limits laws) p.events replies last) e (subst (λ (x : List Event). Run (opened_state g p.starts p.clients p.limits laws) x replies last) f r));
+  lawful = lawful;
+  said = ap (λ (x : List Event). run_outcome x replies last.world.history.entries) d;
+})
+
+pub refused_is : {A : Type 0} (kit : KitLaws) (laws : HookLaws) (r : Result (Said A) AllocError) (c : Complaint) (m g : Floor) (p : Plan) (f : OpenFault) → g ≡ m → laws ≡ chosen_laws kit p → c ≡ complaint.Opening f → IfOk r (λ s. said s ≡ fault c)
+    → IsRefused g p.starts p.clients p.limits laws f → IfOk r (λ s. IsScriptOutcome A kit m p (said s))
+refused_is kit laws (Ok s) c m g p f e l named is why = refused f (subst (λ (x : HookLaws). IsRefused m p.starts p.clients p.limits x f) l (subst (λ (x : Floor). IsRefused x p.starts p.clients p.limits laws f) e why)) (is ∙ ap fault named)
+refused_is kit laws (Err x) c m g p f e l named is why = tt
+
+-- the map's text is at fault
+pub map_fails : (f : MapFault) (map : List ℕ) → Fails f (map_of map) → IsMapNamed f → map_of map ≡ Err f
+map_fails (map_fault.Header line) map e named = e
+map_fails map_fault.Size map e named = e
+map_fails (map_fault.Row row) map e named = e
+map_fails (map_fault.Cell row col) map e named = e
+map_fails (map_fault.Trailing line) map e named = e
+map_fails map_fault.NoMemory map e named = absurd named
+
+pub fails_line : {Y : Type 0} (f : ScriptFault) (line : ℕ) (read : Result Y ℕ) → f ≡ script_fault.Line line → FailsAt f read → read ≡ Err line
+fails_line {Y} f line read e fails = subst (λ (x : ScriptFault). FailsAt x read) e fails
+
+-- what is said to the job at hand
+pub job_is : {A : Type 0} (kit : KitLaws) (r : Result (Said A) AllocError) (job named : Job) (first second : List ℕ) → job ≡ named → IfOk r (λ s. IsJobOutcome A kit named first second (said s))
+    → IfOk r (λ s. IsJobOutcome A kit job first second (said s))
+job_is {A} kit (Ok s) job named first second e p = subst (λ (j : Job). IsJobOutcome A kit j first second (said s)) (sym e) p
+job_is kit (Err x) job named first second e p = tt
+
+-- what follows of what both readers had
+pub for_both : (all other : Option (List ℕ)) (P Q : List ℕ → List ℕ → Type 0) → ((x y : List ℕ) → P x y → Q x y) → IfSome all (λ x. IfSome other (λ y. P x y)) → IfSome all (λ x. IfSome other (λ y. Q x y))
+for_both None other P Q f p = tt
+for_both (Some x) None P Q f p = tt
+for_both (Some x) (Some y) P Q f p = f x y p

@@ -1,0 +1,46 @@
+-- What the program leaves on its two writers.
+use Rattle.std.specs.Prelude.{◌≡◌, ℕ, ◌≤◌, Bool, true, false, List, [], length, Option, Some, None}
+use Rattle.std.specs.Borrow.{MutBor}
+use Rattle.std.specs.Io.KnownBytes.{Appends}
+use Rattle.fleet_program.specs.declared.words.Job.{Job}
+use Rattle.fleet_program.specs.declared.words.Job.TheVariants as job
+use Rattle.fleet_program.specs.declared.said.Complaint.TheVariants as complaint
+use Rattle.fleet_program.specs.declared.input.TheConstants.{MOST_BYTES}
+use Rattle.fleet_program.specs.Complaint.{complaint_line, status_of}
+use Rattle.fleet_program.specs.Kit.{KitLaws}
+use Rattle.fleet_program.specs.Outcome.{Outcome, IsJobOutcome}
+use Rattle.fleet_program.specs.Transfer.{AppendsFront}
+
+-- whether the job names two files
+abbrev pub names_two : Job → Bool
+names_two job.Bundle = false
+names_two (job.Map file) = false
+names_two (job.Run map script) = true
+
+-- what a second reader has, and nothing where there is none
+abbrev pub bytes_of : {I : Type 0} → (I → Option (List ℕ)) → Option (MutBor I) → Option (List ℕ)
+bytes_of remaining None = Some []
+bytes_of remaining (Some reader) = remaining reader.now
+
+-- a file or memory failed, and the error writer got the front of a line that says so
+pub data Failed (old_err new_err : Option (List ℕ)) (status : ℕ) : Type 0 where
+  file : status ≡ status_of complaint.File → AppendsFront old_err new_err (complaint_line complaint.File) → Failed old_err new_err status
+  memory : status ≡ status_of complaint.Memory → AppendsFront old_err new_err (complaint_line complaint.Memory) → Failed old_err new_err status
+
+-- what there is to say was written: all of it, or the front of it where a write failed
+pub data IsTold (o : Outcome) (old_out new_out old_err new_err : Option (List ℕ)) (status : ℕ) : Type 0 where
+  whole : status ≡ o.status → Appends old_out new_out o.output → AppendsFront old_err new_err o.complaint → IsTold o old_out new_out old_err new_err status
+  cut_short : AppendsFront old_out new_out o.output → status ≡ status_of complaint.File → AppendsFront old_err new_err (complaint_line complaint.File)
+      → IsTold o old_out new_out old_err new_err status
+
+-- what there is to say of files that hold these bytes
+pub record IsAnswer (A : Type 0) (kit : KitLaws) (job : Job) (first second : List ℕ) (o : Outcome) : Type 0 where
+  pub short : length first ≤ MOST_BYTES
+  pub other_short : length second ≤ MOST_BYTES
+  pub outcome : IsJobOutcome A kit job first second o
+
+-- what the program left on its writers when it ended with this status, where its job's files hold these bytes
+pub data IsShown (A : Type 0) (kit : KitLaws) (job : Job) (first second : List ℕ) (old_out new_out old_err new_err : Option (List ℕ)) (status : ℕ) : Type 0 where
+  told : (o : Outcome) → IsAnswer A kit job first second o → IsTold o old_out new_out old_err new_err status → IsShown A kit job first second old_out new_out old_err new_err status
+  -- a read or memory failed, or a file is too long
+  nothing : new_out ≡ old_out → Failed old_err new_err status → IsShown A kit job first second old_out new_out old_err new_err status

@@ -1,0 +1,123 @@
+//! The program's own closures, which nothing hands out: they are made where the job is done.
+
+ghost use Rattle.std.specs.Prelude.{◌≡◌, ◌<◌, is_some};
+ghost use Rattle.fleet_hooks.specs.Law.{IsRank};
+ghost use Rattle.fleet_program.specs.Told.{names_two};
+ghost use Rattle.fleet_program.specs.declared.closures.TheConstants.{SOUTH_FIRST};
+
+use crate::input::InputFault;
+use crate::kit::HookKit;
+use crate::program::{fail, run_program};
+use crate::words::Job;
+use fleet_grid::Dir;
+use fleet_hooks::{
+    ArrivalHook, ArrivalView, Farewell, FarewellView, Hooks, StampLaw, TieHook, TieLaw, TieView,
+};
+use std::alloc::{Alloc, AllocError, Global};
+use std::io::{Read, Write};
+use std::thread::Threads;
+
+/// How many robots there are closures for.
+const ROBOTS: usize = 16;
+
+const NOUGHT: StampLaw = StampLaw { low: 0, high: 0 };
+
+const BELOW_THOUSAND: StampLaw = StampLaw { low: 0, high: 999 };
+
+const ANY: StampLaw = StampLaw {
+    low: 0,
+    high: 4_294_967_295,
+};
+
+const ALIKE: TieLaw = TieLaw {
+    low: [0, 0, 0, 0],
+    high: [0, 0, 0, 0],
+};
+
+const SOUTH_FIRST: TieLaw = TieLaw {
+    low: [1, 1, 0, 1],
+    high: [9, 9, 0, 9],
+};
+
+/// No closures yet.
+fn no_hooks(alloc: Global) -> Hooks {
+    Hooks {
+        ties: Vec::new(alloc),
+        arrivals: Vec::new(alloc),
+        farewells: Vec::new(alloc),
+    }
+}
+
+/// Adds the closures of one more robot.
+fn add(
+    hooks: &mut Hooks,
+    tie: TieHook,
+    arrival: ArrivalHook,
+    farewell: Farewell,
+) -> Result<(), AllocError> {
+    hooks.ties.push(tie)?;
+    hooks.arrivals.push(arrival)?;
+    hooks.farewells.push(farewell)?;
+    Ok(())
+}
+
+/// Makes the program's closures and does the job with them.
+fn run_with_closures<R: Alloc<A = Global> + Threads + Sync, I: Read, W: Write, E: Write>(
+    rt: &R,
+    job: &Job,
+    map: &mut I,
+    other: Option<&mut I>,
+    output: &mut W,
+    error: &mut E,
+) -> Result<u8, AllocError>
+    requires { is_some other ≡ names_two job.now }
+{
+    let alloc = rt.alloc();
+    let mut plain = no_hooks(alloc);
+    let mut south = no_hooks(alloc);
+    for _ in 0..ROBOTS {
+        let tie = |_view: TieView| -> u8
+            ensures { result ≡ 0 }
+        { 0 };
+        let arrival = |_view: ArrivalView| -> u32
+            ensures { result ≡ 0 }
+        { 0 };
+        let farewell = |_view: FarewellView| -> u32
+            ensures { result ≡ 0 }
+        { 0 };
+        let tie = TieHook::new(ALIKE, Box::new(alloc, tie)?);
+        let arrival = ArrivalHook::new(NOUGHT, Box::new(alloc, arrival)?);
+        let farewell = Farewell::new(NOUGHT, Box::new(alloc, farewell)?);
+        add(&mut plain, tie, arrival, farewell)?;
+        let tie = |view: TieView| -> u8
+            ensures { IsRank SOUTH_FIRST view.dir result }
+        { if view.dir == Dir::South { 0 } else { 1 } };
+        let arrival = |view: ArrivalView| -> u32
+            ensures { result < 1000 }
+        { (view.tick % 1000) as u32 };
+        let farewell = |view: FarewellView| view.cell;
+        let tie = TieHook::new(SOUTH_FIRST, Box::new(alloc, tie)?);
+        let arrival = ArrivalHook::new(BELOW_THOUSAND, Box::new(alloc, arrival)?);
+        let farewell = Farewell::new(ANY, Box::new(alloc, farewell)?);
+        add(&mut south, tie, arrival, farewell)?;
+    }
+    let kit = HookKit { plain, south };
+    Ok(run_program(rt, job, map, other, output, error, kit))
+}
+
+/// Does the job with the program's closures. The result is the status, 7 where they could not be made.
+pub fn run_with_kit<R: Alloc<A = Global> + Threads + Sync, I: Read, W: Write, E: Write>(
+    rt: &R,
+    job: &Job,
+    map: &mut I,
+    other: Option<&mut I>,
+    output: &mut W,
+    error: &mut E,
+) -> u8
+    requires { is_some other ≡ names_two job.now }
+{
+    match run_with_closures(rt, job, map, other, output, error) {
+        Ok(status) => status,
+        Err(AllocError) => fail(InputFault::NoMemory, error),
+    }
+}

@@ -1,0 +1,91 @@
+//! The program over any readers and writers.
+
+ghost use Rattle.std.specs.Prelude.{◌≡◌, IfOk, IfSome, is_some};
+ghost use Rattle.fleet_program.specs.Told.{Failed, IsAnswer, IsTold, IsShown, bytes_of, names_two};
+ghost use Rattle.fleet_program.specs.Kit.{kit_laws};
+ghost use Rattle.fleet_program.specs.Said.{said as said_of};
+
+use crate::answer::answer;
+use crate::input::{InputFault, read_other, read_whole};
+use crate::kit::HookKit;
+use crate::output::write_whole;
+use crate::said::{Complaint, Said};
+use crate::words::Job;
+use std::alloc::{Alloc, Allocator};
+use std::io::{Read, Write};
+use std::thread::Threads;
+
+/// Says on the error writer that a file or memory failed. The result is the status.
+pub fn fail<E: Write>(fault: InputFault, error: &mut E) -> u8
+    ensures { Failed (E.contents error.old) (E.contents error.new) result }
+{
+    match fault {
+        InputFault::File => {
+            write_whole(error, b"errands: file\n");
+            Complaint::File.status()
+        }
+        InputFault::NoMemory => {
+            write_whole(error, b"errands: memory\n");
+            Complaint::Memory.status()
+        }
+    }
+}
+
+/// Writes what there is to say. The result is the status.
+fn tell<A: Allocator + Copy, W: Write, E: Write>(
+    said: &Said<A>,
+    output: &mut W,
+    error: &mut E,
+) -> u8
+    ensures { IsTold (said_of said.now) (W.contents output.old) (W.contents output.new) (E.contents error.old) (E.contents error.new) result }
+{
+    if !write_whole(output, said.output.as_bytes()) {
+        write_whole(error, b"errands: file\n");
+        return Complaint::File.status();
+    }
+    write_whole(error, said.complaint.as_bytes());
+    said.status
+}
+
+/// What there is to say to the files of a job, which are read in their order.
+fn answer_files<A: Allocator + Copy + Send + Sync, R: Alloc<A = A> + Threads + Sync, I: Read>(
+    rt: &R,
+    job: &Job,
+    map: &mut I,
+    other: Option<&mut I>,
+    kit: HookKit<A>,
+) -> Result<Said<A>, InputFault>
+    ensures { IfOk result (λ s. IfSome (I.remaining map.old) (λ first. IfSome (bytes_of I.remaining other.entry) (λ second.
+        IsAnswer A (kit_laws kit) job.now first second (said_of s)))) }
+{
+    let first = read_whole(rt.alloc(), map)?;
+    let second = read_other(rt.alloc(), other)?;
+    Ok(answer(rt, job, &first, &second, kit)?)
+}
+
+/// Does the job and writes what there is to say. The result is the status: 0 good, 3 a file failed, 4 the map or 5 the
+/// script or the opening is refused, 7 memory ran out, 8 a limit was met.
+pub fn run_program<
+    A: Allocator + Copy + Send + Sync,
+    R: Alloc<A = A> + Threads + Sync,
+    I: Read,
+    W: Write,
+    E: Write,
+>(
+    rt: &R,
+    job: &Job,
+    map: &mut I,
+    other: Option<&mut I>,
+    output: &mut W,
+    error: &mut E,
+    kit: HookKit<A>,
+) -> u8
+    requires { is_some other ≡ names_two job.now }
+    ensures { IfSome (I.remaining map.old) (λ first. IfSome (bytes_of I.remaining other.entry) (λ second.
+        IsShown A (kit_laws kit) job.now first second (W.contents output.old) (W.contents output.new) (E.contents error.old) (E.contents error.new) result)) }
+{
+    match answer_files(rt, job, map, other, kit) {
+        Ok(said) => tell(&said, output, error),
+        Err(fault) => fail(fault, error),
+    }
+}

@@ -1,0 +1,88 @@
+//! What the program has to say, and how it names what is wrong.
+
+ghost use Rattle.std.specs.Prelude.{◌≡◌, ◌++◌, Some, IfOk, string_bytes};
+ghost use Rattle.fleet_program.specs.Complaint.{complaint_text, complaint_line, status_of};
+ghost use Rattle.fleet_program.specs.Outcome.{fault};
+ghost use Rattle.fleet_program.specs.Said.{said};
+
+use crate::texts::{MapFaultText, OpenFaultText};
+use fleet_map::MapFault;
+use fleet_world::OpenFault;
+use std::alloc::{AllocError, Allocator, Global};
+use std::fmt;
+
+/// What is wrong, as the error writer is told.
+#[derive(Clone, Copy, Debug, PartialEq, Eq)]
+pub enum Complaint {
+    /// A file could not be opened, read or written, or is too long.
+    File,
+    Map(MapFault),
+    /// The script's line that may not stand, from 1.
+    Script(u32),
+    Opening(OpenFault),
+    Memory,
+    /// The clock or the chapter was full at some event.
+    Limit,
+}
+
+impl Complaint {
+    /// The program's status.
+    pub fn status(self) -> u8
+        ensures { result ≡ status_of self }
+    {
+        match self {
+            Complaint::File => 3,
+            Complaint::Map(_) => 4,
+            Complaint::Script(_) | Complaint::Opening(_) => 5,
+            Complaint::Memory => 7,
+            Complaint::Limit => 8,
+        }
+    }
+}
+
+impl fmt::Display for Complaint {
+    ghost output = { λ c. Some (complaint_text c) };
+
+    fn fmt<W: fmt::Write>(&self, f: &mut fmt::Formatter<W>) -> fmt::Result {
+        match *self {
+            Complaint::File => write!(f, "file"),
+            Complaint::Map(fault) => {
+                let text = MapFaultText(fault);
+                write!(f, "map {text}")
+            }
+            Complaint::Script(line) => write!(f, "script {line}"),
+            Complaint::Opening(fault) => {
+                let text = OpenFaultText(fault);
+                write!(f, "opening {text}")
+            }
+            Complaint::Memory => write!(f, "memory"),
+            Complaint::Limit => write!(f, "limit"),
+        }
+    }
+}
+
+/// What the program has to say, and its status.
+#[derive(Drop)]
+pub struct Said<A: Allocator + Copy = Global> {
+    pub output: String<A>,
+    pub status: u8,
+    pub complaint: String<A>,
+}
+
+/// The line of a complaint.
+pub fn line_of<A: Allocator + Copy>(alloc: A, complaint: Complaint) -> Result<String<A>, AllocError>
+    ensures { IfOk result (λ line. string_bytes line ≡ complaint_line complaint) }
+{
+    format!(in alloc; "errands: {complaint}\n")
+}
+
+/// What is said where there is nothing but a complaint.
+pub fn faulty<A: Allocator + Copy>(alloc: A, complaint: Complaint) -> Result<Said<A>, AllocError>
+    ensures { IfOk result (λ s. said s ≡ fault complaint) }
+{
+    Ok(Said {
+        output: String::new(alloc),
+        status: complaint.status(),
+        complaint: line_of(alloc, complaint)?,
+    })
+}

@@ -1,0 +1,5 @@
+pub mod Counts
+pub mod Eldest
+pub mod Keeps
+pub mod Bounds
+pub mod Runs
