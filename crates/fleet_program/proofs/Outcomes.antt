@@ -1,13 +1,14 @@
 -- What the program says of what it was given.
-use Rattle.std.proofs.Common.{◌≡◌, ℕ, suc, ◌+◌, Option, Some, None, Bool, true, false, List, [], ◌∷◌, ◌++◌, length, Result, Ok, Err, refl, sym, ap, subst, ◌∙◌, arith}
-use Rattle.std.specs.Prelude.{IfOk, IfSome, codes, decimal}
+use Rattle.std.proofs.Common.{◌≡◌, ℕ, suc, Option, Some, None, List, [], ◌∷◌, map, length, Result, Ok, Err, refl, sym, ap, subst, ◌∙◌}
+use Rattle.std.specs.Prelude.{IfOk, IfSome}
 use Rattle.std.specs.declared.alloc.AllocError.{AllocError}
 use Rattle.fleet_grid.specs.Floor.{Floor, IsNeighbour}
 use Rattle.fleet_grid.specs.Walk.{IsBridgeless}
 use Rattle.fleet_book.specs.declared.event.Event.{Event}
 use Rattle.fleet_world.specs.declared.reply.Reply.{Reply}
 use Rattle.fleet_world.specs.Run.{State, Run, opened_state}
-use Rattle.fleet_world.specs.Laws.{KeepsRings}
+use Rattle.fleet_world.specs.Laws.{KeepsRings, KeepsEachRing}
+use Rattle.fleet_world.proofs.Plays.{end-once}
 use Rattle.fleet_history.specs.Legal.{IsLegal}
 use Rattle.fleet_history.specs.Laws.{ArrivesInOrder, ArrivalsRise, EachTick, HasNoConflict, AcceptsNoneClosed}
 use Rattle.fleet_history.specs.Numbering.{AreNumbered}
@@ -24,7 +25,7 @@ use Rattle.fleet_map.specs.declared.fault.MapFault.{MapFault}
 use Rattle.fleet_map.specs.declared.fault.MapFault.TheVariants as map_fault
 use Rattle.fleet_map.specs.Grammar.{Fails, map_of}
 use Rattle.fleet_world.specs.declared.faults.OpenFault.{OpenFault}
-use Rattle.fleet_world.specs.Opening.{IsNamed, IsRefused}
+use Rattle.fleet_world.specs.Opening.{IsRefused}
 use Rattle.fleet_program.specs.Said.{said}
 use Rattle.fleet_script.specs.Shown.{FailsAt}
 use Rattle.fleet_script.specs.declared.script.ScriptFault.{ScriptFault}
@@ -47,13 +48,15 @@ said_more P Q (Ok s) more p = more (said s) p
 said_more P Q (Err x) more p = tt
 
 -- what a run ends in is lawful on its own map
-pub lawful_is : {A : Type 0} (m g : Floor) (last : State A) → g ≡ m → last.world.floor ≡ g → IsLegal last.world.floor last.world.history → KeepsRings last → ArrivesInOrder last.world.history
+pub lawful_is : {A : Type 0} (m g : Floor) (last : State A) → g ≡ m → last.world.floor ≡ g → IsLegal last.world.floor last.world.history → KeepsRings last → KeepsEachRing last → ArrivesInOrder last.world.history
     → ArrivalsRise last.world.history → ((client : ℕ) → AreNumbered last.world.history client) → HasNoConflict last.world.floor last.world.history → AcceptsNoneClosed last.world.history
     → EachTick (IsPlanned last.world.floor last.world.ties) last.world.history
     → (IsBridgeless (IsNeighbour last.world.floor) → EachTick (IsAdvancingTick last.world.floor) last.world.history) → IsLawfulEnd A m last
-lawful_is m g last e f legal rings arrivals numbers numbered conflicts closes planned advancing = record {
+lawful_is m g last e f legal rings each_ring arrivals numbers numbered conflicts closes planned advancing = record {
   legal = subst (λ (x : Floor). IsLegal x last.world.history) (f ∙ e) legal;
   rings = rings;
+  each_ring = each_ring;
+  once = end-once last (map (λ l. l.collected) last.clients) rings refl;
   arrivals = arrivals;
   numbers = numbers;
   numbered = numbered;

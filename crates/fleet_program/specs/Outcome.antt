@@ -1,5 +1,5 @@
 -- What a job comes to: the text for the output, the status, and the text for the error writer.
-use Rattle.std.specs.Prelude.{◌≡◌, ℕ, ◌+◌, List, [], length, Ok, Err, if◌then◌else◌}
+use Rattle.std.specs.Prelude.{◌≡◌, ℕ, ◌+◌, List, [], map, length, Ok, Err, if◌then◌else◌}
 use Rattle.std.specs.List.{list_any}
 use Rattle.fleet_map.specs.declared.fault.MapFault.{MapFault}
 use Rattle.fleet_map.specs.declared.fault.MapFault.TheVariants as map_fault
@@ -13,7 +13,7 @@ use Rattle.fleet_world.specs.declared.reply.Reply.{Reply}
 use Rattle.fleet_world.specs.declared.faults.OpenFault.{OpenFault}
 use Rattle.fleet_world.specs.Run.{State, Run, opened_state}
 use Rattle.fleet_world.specs.Opening.{IsRefused}
-use Rattle.fleet_world.specs.Laws.{KeepsRings}
+use Rattle.fleet_world.specs.Laws.{KeepsRings, KeepsEachRing, CollectsInOrder}
 use Rattle.fleet_history.specs.Legal.{IsLegal}
 use Rattle.fleet_history.specs.Laws.{ArrivesInOrder, ArrivalsRise, EachTick, HasNoConflict, AcceptsNoneClosed}
 use Rattle.fleet_history.specs.Numbering.{AreNumbered}
@@ -76,6 +76,9 @@ pub record IsLawfulEnd (A : Type 0) (m : Floor) (last : State A) : Type 0 where
   pub legal : IsLegal m last.world.history
   -- each client's lists are what it sent, was given and collected, in order and once
   pub rings : KeepsRings last
+  pub each_ring : KeepsEachRing last
+  -- what each client collected is the beginning of its notices
+  pub once : CollectsInOrder last.world.history (map (λ l. l.collected) last.clients)
   pub arrivals : ArrivesInOrder last.world.history
   pub numbers : ArrivalsRise last.world.history
   pub numbered : (client : ℕ) → AreNumbered last.world.history client

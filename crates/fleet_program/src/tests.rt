@@ -1,7 +1,6 @@
-//! Words, files, and what the program answers.
+//! Words, files, failing readers and writers. What the program answers to bundles, scripts and maps stands in casebook.
 
-mod answers;
 mod failing;
 mod files;
-mod maps;
+mod full_map;
 mod words;

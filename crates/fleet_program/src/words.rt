@@ -84,7 +84,9 @@ fn errands_command<'a>(alloc: Global) -> Result<Command<'a>, AllocError>
     Command::new(alloc, "errands")
         .about("Moves robots over a map while clients post errands")
         .version("0.1.0")
-        .after_help("Without a word it reads a map, the line `script` and a script from standard input.")
+        .after_help(
+            "Without a word it reads a map, the line `script` and a script from standard input.",
+        )
         .subcommand(map_command(alloc)?)?
         .subcommand(run_command(alloc)?)
 }

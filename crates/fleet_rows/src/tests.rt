@@ -1,5 +1,7 @@
 //! Rows by run: replies in full, placements, arrivals, and how often closures are called.
 mod calls;
+mod closures;
+mod refused;
 mod refusing;
 mod seen;
 
@@ -49,93 +51,6 @@ fn one_cell(rt: HostRuntime) -> Result<(), Fail> {
     assert!(rt; seen.reply(5) == ticked(2, 1, 0));
     assert!(rt; seen.places.as_slice() == [0, 0].as_slice());
     assert!(rt; seen.arrival_calls == 2 && seen.farewell_calls == 0);
-    Ok(())
-}
-
-#[test]
-fn verdicts_by_cell(rt: HostRuntime) -> Result<(), Fail> {
-    let grid = grid_of(&rt, rt.alloc(), (1, 5), b".W.@.")?;
-    let events = [
-        Event::Post(0, go(0, 1)),
-        Event::Post(0, go(0, 2)),
-        Event::Post(0, go(0, 5)),
-        Event::Post(0, go(1, 0)),
-        Event::Take(0),
-        Event::Take(0),
-        Event::Take(0),
-        Event::Take(0),
-        Event::Take(0),
-        Event::Take(1),
-    ];
-    let seen = seen_of(&rt, grid, &[0], 1, Limits::DEFAULT, &events)?;
-    assert!(rt; seen.reply(4) == took(1, Verdict::Blocked));
-    assert!(rt; seen.reply(5) == took(2, Verdict::Unreachable));
-    assert!(rt; seen.reply(6) == took(3, Verdict::NoCell));
-    assert!(rt; seen.reply(7) == took(4, Verdict::NoRobot));
-    assert!(rt; seen.reply(8) == Some(Reply::LaneEmpty));
-    assert!(rt; seen.reply(9) == Some(Reply::NoClient));
-    Ok(())
-}
-
-#[test]
-fn queue_full(rt: HostRuntime) -> Result<(), Fail> {
-    let grid = grid_of(&rt, rt.alloc(), (1, 2), b"..")?;
-    let limits = Limits {
-        queue: 1,
-        ..Limits::DEFAULT
-    };
-    let events = [
-        Event::Post(0, go(0, 1)),
-        Event::Post(0, go(0, 0)),
-        Event::Take(0),
-        Event::Take(0),
-        Event::Tick,
-        Event::Post(0, go(0, 0)),
-        Event::Take(0),
-    ];
-    let seen = seen_of(&rt, grid, &[0], 1, limits, &events)?;
-    assert!(rt; seen.reply(2) == took(1, Verdict::Accepted(1)));
-    assert!(rt; seen.reply(3) == took(2, Verdict::QueueFull));
-    assert!(rt; seen.reply(4) == ticked(1, 1, 0));
-    assert!(rt; seen.reply(6) == took(3, Verdict::Accepted(2)));
-    assert!(rt; seen.places.as_slice() == [1].as_slice());
-    Ok(())
-}
-
-#[test]
-fn life_spent(rt: HostRuntime) -> Result<(), Fail> {
-    let grid = grid_of(&rt, rt.alloc(), (1, 2), b"..")?;
-    let limits = Limits {
-        life: 1,
-        ..Limits::DEFAULT
-    };
-    let events = [
-        Event::Post(0, go(0, 1)),
-        Event::Post(0, go(0, 0)),
-        Event::Take(0),
-        Event::Take(0),
-    ];
-    let seen = seen_of(&rt, grid, &[0], 1, limits, &events)?;
-    assert!(rt; seen.reply(2) == took(1, Verdict::Accepted(1)));
-    assert!(rt; seen.reply(3) == took(2, Verdict::LifeSpent));
-    Ok(())
-}
-
-#[test]
-fn closed(rt: HostRuntime) -> Result<(), Fail> {
-    let grid = grid_of(&rt, rt.alloc(), (1, 2), b"..")?;
-    let events = [
-        Event::Post(0, go(0, 1)),
-        Event::Post(0, fleet_world::Order::Close),
-        Event::Post(0, go(0, 0)),
-        Event::Take(0),
-        Event::Take(0),
-        Event::Take(0),
-    ];
-    let seen = seen_of(&rt, grid, &[0], 1, Limits::DEFAULT, &events)?;
-    assert!(rt; seen.reply(3) == took(1, Verdict::Accepted(1)));
-    assert!(rt; seen.reply(4) == took(2, Verdict::Closed));
-    assert!(rt; seen.reply(5) == took(3, Verdict::ClientClosed));
     Ok(())
 }
 
@@ -316,45 +231,5 @@ fn opening_faults(rt: HostRuntime) -> Result<(), Fail> {
     assert!(rt; opening_fault(&rt, &[0], 1, narrow)? == opening(OpenFault::Limits));
     assert!(rt; opening_fault(&rt, &[0], 0, all)? == opening(OpenFault::Hooks));
     assert!(rt; opening_fault(&rt, &[0], 1, all)? == None);
-    Ok(())
-}
-
-#[test]
-fn withdrawals(rt: HostRuntime) -> Result<(), Fail> {
-    let grid = grid_of(&rt, rt.alloc(), (1, 3), b"...")?;
-    let give_up = |number: u64| Event::Post(0, Order::Withdraw { number });
-    let events = [
-        Event::Post(0, go(0, 1)),
-        Event::Post(0, go(0, 2)),
-        give_up(2),
-        give_up(1),
-        give_up(3),
-        Event::Take(0),
-        Event::Take(0),
-        Event::Take(0),
-        Event::Take(0),
-        Event::Take(0),
-        Event::Tick,
-        Event::Tick,
-        give_up(2),
-        Event::Take(0),
-        Event::Post(0, Order::Close),
-        give_up(1),
-        Event::Take(0),
-        Event::Take(0),
-    ];
-    let seen = seen_of(&rt, grid, &[0], 1, Limits::DEFAULT, &events)?;
-    assert!(rt; seen.reply(5) == took(1, Verdict::Accepted(1)));
-    assert!(rt; seen.reply(6) == took(2, Verdict::Accepted(2)));
-    assert!(rt; seen.reply(7) == took(3, Verdict::Withdrawn));
-    assert!(rt; seen.reply(8) == took(4, Verdict::TooLate));
-    assert!(rt; seen.reply(9) == took(5, Verdict::NoErrand));
-    assert!(rt; seen.reply(10) == ticked(1, 1, 0));
-    assert!(rt; seen.reply(11) == ticked(2, 0, 0));
-    assert!(rt; seen.reply(13) == took(6, Verdict::NoErrand));
-    assert!(rt; seen.reply(16) == took(7, Verdict::Closed));
-    assert!(rt; seen.reply(17) == took(8, Verdict::ClientClosed));
-    assert!(rt; seen.places.as_slice() == [1, 1].as_slice());
-    assert!(rt; seen.arrival_calls == 1);
     Ok(())
 }

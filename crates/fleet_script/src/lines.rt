@@ -7,9 +7,8 @@ ghost use Rattle.fleet_script.specs.Script.{order_in, withdrawal_in, post_in, ti
 ghost use Rattle.fleet_script.specs.Shown.{repeated};
 
 use crate::numbers::{number_of_word, one_number, one_small_number, small_number};
-use fleet_book::Order;
+use fleet_book::{Event, Order};
 use fleet_map::text::first_word;
-use fleet_book::Event;
 
 /// The events of a line: one event, and how often.
 #[derive(Clone, Copy, Debug, PartialEq, Eq)]

@@ -13,9 +13,8 @@ ghost use Rattle.fleet_script.specs.declared.script.ScriptFault.{ScriptFault};
 use crate::head::{GivenLimits, is_south, limit_name, only_once, turn_count};
 use crate::lines::{Repeat, events_of_line};
 use crate::numbers::{one_small_number, small_number};
-use fleet_book::Limits;
+use fleet_book::{Event, Limits};
 use fleet_map::text::{first_line, first_word};
-use fleet_book::Event;
 use std::alloc::{AllocError, Allocator, Global};
 
 /// What a script says.

@@ -148,4 +148,3 @@ pub(crate) fn spare<A: Allocator + Copy>(
     }
     Ok(farewells)
 }
-

@@ -86,7 +86,7 @@ impl<A: Allocator + Copy> Session<A> {
         }
     }
 
-    /// A shut.
+    /// A shut: the robot refuses further errands.
     pub(crate) fn shut(&mut self, robot: u32) -> Result<Reply, AllocError>
         ensures step { IfOk result (λ reply. Step (state self.old) (Event.Shut robot) reply (state self.new)) }
         ensures err { OnErr result (state self.new ≡ state self.old) }
@@ -100,7 +100,7 @@ impl<A: Allocator + Copy> Session<A> {
 }
 
 impl<A: Allocator + Copy + Send + Sync> Session<A> {
-    /// A tick.
+    /// A tick: all robots make one step.
     pub(crate) fn tick<R: Alloc<A = A> + Threads + Sync>(
         &mut self,
         rt: &R,

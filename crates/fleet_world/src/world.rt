@@ -265,10 +265,7 @@ impl<A: Allocator + Copy> World<A> {
     /// Moves all robots by one step.
     ///
     /// Refused in this order: the ticks are spent, the chapter is full, want of memory.
-    pub fn tick<R: Alloc<A = A>>(
-        &mut self,
-        rt: &R,
-    ) -> Result<TickReport, TickFault>
+    pub fn tick<R: Alloc<A = A>>(&mut self, rt: &R) -> Result<TickReport, TickFault>
         ensures clock_spent { (result ≡ Err TickFault.ClockSpent) ↔ (clock self.old.core.history ≡ self.old.core.limits.clock) }
         ensures chapter_full { (result ≡ Err TickFault.ChapterFull) ↔
             ((clock self.old.core.history < self.old.core.limits.clock) × HasNoEntries self.old.core) }

@@ -71,8 +71,14 @@ fn faults_of_closing_lines(rt: HostRuntime) {
     assert_eq!(rt; refused_at(&rt, b"ties east\nrobots 0\n"), Some(1));
     assert_eq!(rt; refused_at(&rt, b"robots 0\npost 0 close 0\n"), Some(2));
     assert_eq!(rt; refused_at(&rt, b"robots 0\npost 0 withdraw\n"), Some(2));
-    assert_eq!(rt; refused_at(&rt, b"robots 0\npost 0 withdraw 1 2\n"), Some(2));
-    assert_eq!(rt; refused_at(&rt, b"robots 0\npost 0 withdraw 18446744073709551615\n"), None);
+    assert_eq!(rt;
+        refused_at(&rt, b"robots 0\npost 0 withdraw 1 2\n"),
+        Some(2)
+    );
+    assert_eq!(rt;
+        refused_at(&rt, b"robots 0\npost 0 withdraw 18446744073709551615\n"),
+        None
+    );
     assert_eq!(rt; refused_at(&rt, b"robots 0\nturns 1000000\n"), None);
     assert_eq!(rt; refused_at(&rt, b"robots 0\nturns 0\n"), Some(2));
     assert_eq!(rt; refused_at(&rt, b"robots 0\nturns 1000001\n"), Some(2));

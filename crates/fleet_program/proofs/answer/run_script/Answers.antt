@@ -1,4 +1,4 @@
-use Rattle.std.proofs.Common.{◌≡◌, rules, Err, length, sym, ap, ◌∙◌}
+use Rattle.std.proofs.Common.{rules, Err, length, sym, ap, ◌∙◌}
 use Rattle.fleet_world.specs.declared.faults.RunFault.{RunFault}
 use Rattle.fleet_map.specs.Grammar.{view}
 use Rattle.fleet_world.specs.Run.{State}
@@ -18,7 +18,7 @@ pub returns-in-Ok : goal.returns-in-Ok
 returns-in-Ok g c =
     let last : State g.row.A.Denot = end_of c.in-Ok.played in
     let floor = c.in-Ok.ensures.same.floor in
-    let lawful = lawful_is (floor_of_map (view c.args.map)) c.in_ok-grid.grid last c.in_ok-grid.ensures floor c.in-Ok.ensures.legal c.in-Ok.ensures.rings c.in-Ok.ensures.arrivals c.in-Ok.ensures.numbers c.in-Ok.ensures.numbered c.in-Ok.ensures.conflicts c.in-Ok.ensures.closes c.in-Ok.ensures.planned c.in-Ok.ensures.advancing in
+    let lawful = lawful_is (floor_of_map (view c.args.map)) c.in_ok-grid.grid last c.in_ok-grid.ensures floor c.in-Ok.ensures.legal c.in-Ok.ensures.rings c.in-Ok.ensures.each_ring c.in-Ok.ensures.arrivals c.in-Ok.ensures.numbers c.in-Ok.ensures.numbered c.in-Ok.ensures.conflicts c.in-Ok.ensures.closes c.in-Ok.ensures.planned c.in-Ok.ensures.advancing in
     said_is (IsScriptOutcome g.row.A.Denot (kit_laws c.args.kit) (floor_of_map (view c.args.map)) (plan c.args.script)) c.played_lines.result _ c.played_lines.ensures
     (ran_is (kit_laws c.args.kit) (laws_of c.cut-hooks.result) (floor_of_map (view c.args.map)) c.in_ok-grid.grid (plan c.args.script) c.deref.result.now c.deref-in-Ok.result.now c.in-Ok.played.replies.items _ c.in_ok-grid.ensures c.deref.ensures.value c.deref-in-Ok.ensures.value (chosen_is (kit_laws c.args.kit) (plan c.args.script) (laws_of c.choose.result) c.len.result _ _ _ c.choose.ensures (search rules)
     (first_laws (λ x. x.law) c.len.result c.choose.result.ties.items c.cut-hooks.result.ties.items c.cut-hooks.ensures.ties)

@@ -12,4 +12,4 @@ returns-clause-advancing g c = rw (← c.self.view_is) (each_advances c.self.ins
 pub returns-clause-counts : goal.returns-clause-counts
 returns-clause-counts g c =
     rw (← c.self.view_is) (counts-small c.self.inside.grid c.self.inside.limits (history_of c.self.inside.chapter) c.self.inside.cells.items c.self.inside.queues.items c.self.inside.book c.self.inside.tallies.items
-        c.self.inside.mailboxes.items c.self.inside.tick c.self.invariant.0)
+    c.self.inside.mailboxes.items c.self.inside.tick c.self.invariant.0)

@@ -10,8 +10,8 @@ loop-r-preserved g c =
     let h = c.args.self.now.history in
     let e : c.as_slice-robots.result.now ≡ h.opening.robots = c.as_slice-robots.ensures ∙ ap (λ x. x.opening.robots) c.chapter.ensures.history in
     left-more h (spare_laws c.args.farewells.now) c.loop-r.r c.farewell_at-found.result c.farewell_law_at-wanted.result c.farewell_at-found.ensures
-        (subst (λ xs. slice_get (map (λ x. x.farewell_law) xs) c.loop-r.r ≡ Some c.farewell_law_at-wanted.result) e c.farewell_law_at-wanted.ensures)
-        (c.if-not-may_have.ensures refl) c.loop-r.invariant
+    (subst (λ xs. slice_get (map (λ x. x.farewell_law) xs) c.loop-r.r ≡ Some c.farewell_law_at-wanted.result) e c.farewell_law_at-wanted.ensures)
+    (c.if-not-may_have.ensures refl) c.loop-r.invariant
 
 pub returns : goal.returns
 returns g c =

@@ -26,4 +26,4 @@ returns-clause-err g c =
     let inside : c.args.client < length c.self.inside.mailboxes.items = omega (arith, c.self.invariant.0.box_count) in
     let box = get_or_read c.self.inside.mailboxes.items c.args.client c.index_mut-mailbox.result.now inside c.index_mut-mailbox.ensures.value no_pending in
     boxes-stay c.widen.result (λ boxes. record { floor = c.self.inside.grid; limits = c.self.inside.limits; ties = c.self.inside.ties.items; number = c.self.inside.chapter.number; history = h; mailboxes = boxes })
-        c.self.inside.mailboxes.items c.args.client c.index_mut-mailbox.result.now c.widen.new.self c.args.self.now c.widen.ensures.err box inside c.self.view_is
+    c.self.inside.mailboxes.items c.args.client c.index_mut-mailbox.result.now c.widen.new.self c.args.self.now c.widen.ensures.err box inside c.self.view_is
