@@ -1,0 +1,10 @@
+pub mod Parts
+pub mod Laws
+pub mod Judged
+pub mod Ranges
+pub mod Dues
+pub mod Steps
+pub mod Accounts
+pub mod Entered
+pub mod Opened
+pub mod NextOpening

@@ -1,0 +1,16 @@
+use Rattle.std.proofs.Common.{arith, ◌≡◌, ◌∙◌, Some, None, sym, get_or}
+use Rattle.std.proofs.lemmas.Option.{slice_get-get_or}
+use Rattle.fleet_queue.specs.declared.errand.Errand.{Errand}
+use Rattle.fleet_state.proofs.Ranges.{take-get_more}
+use Rattle.fleet_state.proofs.opening.errands_of.Goals as goal
+use Rattle.fleet_state.proofs.opening.errands_of.Goals.{in-Some+in_ok-push, in_default}
+
+pub loop-place-preserved : goal.loop-place-preserved
+loop-place-preserved g c =
+    elim c.match-get.branch [
+      | in-Some+in_ok-push w ↦
+          rw (w.errands-is, w.in_ok-push.ensures.items, c.loop-place.invariant) (sym (take-get_more c.args.queue.now.items c.loop-place.place w.in-Some.errand (sym w.in-Some.ensures)))
+      | in_default w ↦
+          (let none : Errand = record { client = 0; number = 0; cell = 0 } in
+          let q : None ≡ Some (get_or c.args.queue.now.items c.loop-place.place none) = w.in_default.ensures ∙ slice_get-get_or c.args.queue.now.items c.loop-place.place none (omega (arith, c.loop-place-test.true, c.len-place-end.ensures.len)) in cc)
+    ]

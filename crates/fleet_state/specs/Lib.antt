@@ -1,0 +1,10 @@
+pub use Rattle.fleet_history.specs.Legal
+pub use Rattle.fleet_history.specs.Waits
+pub mod Landed
+pub mod Robots
+pub mod Clients
+pub mod State
+pub mod Opened
+pub mod Due
+pub mod Next
+pub mod Follows

@@ -1,0 +1,38 @@
+-- What an opening says of each robot and client, as the state has it.
+use Rattle.std.specs.Prelude.{ℕ, List, ◌==◌, length, map, count_by, sum_by, slice_index_or}
+use Rattle.std.specs.List.{range_with_len}
+use Rattle.fleet_queue.specs.Queue.{Queue}
+use Rattle.fleet_book.specs.declared.account.Account.{Account}
+use Rattle.fleet_history.specs.declared.history.ClientState.{ClientState}
+use Rattle.fleet_history.specs.declared.history.Opening.{Opening}
+use Rattle.fleet_history.specs.declared.history.RobotState.{RobotState}
+use Rattle.fleet_history.specs.History.{unknown_client}
+use Rattle.fleet_state.specs.declared.clients.Tally.{Tally}
+use Rattle.fleet_state.specs.Clients.{Clients}
+use Rattle.fleet_state.specs.Robots.{Robots}
+
+abbrev pub queue_in : {A : Type 0} → ℕ → RobotState A → Queue
+queue_in room x = record { items = x.errands; capacity = room }
+
+abbrev pub tally_in : ClientState → Tally
+tally_in x = record { taken = x.taken; noticed = x.noticed }
+
+-- how many of the robots' errands are the client's
+abbrev pub owed_in : {A : Type 0} → List (RobotState A) → ℕ → ℕ
+owed_in robots c = sum_by (λ x. count_by (λ e. e.client == c) x.errands) robots
+
+abbrev pub account_in : {A : Type 0} → List ClientState → List (RobotState A) → ℕ → Account
+account_in clients robots c = record {
+  accepted = (slice_index_or clients c unknown_client).accepted;
+  owed = owed_in robots c;
+  closed = (slice_index_or clients c unknown_client).closed;
+}
+
+abbrev pub robots_in : {A : Type 0} → ℕ → List (RobotState A) → Robots
+robots_in room robots = record { cells = map (λ x. x.cell) robots; queues = map (queue_in room) robots; waits = map (λ x. x.wait) robots }
+
+abbrev pub clients_in : {A : Type 0} → Opening A → Clients
+clients_in o = record {
+  counts = record { accounts = map (account_in o.clients o.robots) (range_with_len 0 (length o.clients)); shut = map (λ x. x.shut) o.robots; life = o.life };
+  tallies = map tally_in o.clients;
+}

@@ -1,0 +1,14 @@
+//! The state that a history comes to: where the robots stand, their errands and waits, and what is known of the clients.
+#![tactic(auto)]
+
+mod clients;
+mod due;
+mod enter;
+mod landing;
+mod opening;
+mod robots;
+mod state;
+mod verdict;
+
+pub use clients::Tally;
+pub use state::FleetState;

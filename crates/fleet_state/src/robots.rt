@@ -1,0 +1,213 @@
+//! The robots of a state: their cells, errands and waits.
+ghost use Rattle.std.specs.Prelude.{◌≡◌, ◌≢◌, ◌+◌, ◌<◌, ◌≤◌, ◌^◌, ◌++◌, ℕ, None, Some, All, IfOk, true, length, slice_index, slice_index_or};
+ghost use Rattle.std.specs.List.{list_any};
+ghost use Rattle.fleet_queue.specs.Queue.{is_of};
+ghost use Rattle.fleet_history.specs.Verdicts.{place_in};
+ghost use Rattle.fleet_state.specs.Landed.{landing};
+ghost use Rattle.fleet_state.specs.Opened.{robots_in};
+ghost use Rattle.fleet_state.specs.Robots.{queue_at, stepped, joined, without_errand, HasPlace, AreTaken, IsPlaceAmong};
+
+use crate::landing::{landing, wait_on};
+use fleet_book::{Order, Place, Verdict};
+use fleet_history::RobotState;
+use fleet_queue::{Errand, ErrandQueue};
+use std::alloc::{AllocError, Allocator, Global};
+use std::marker::Model;
+
+/// The robots, by number. Only `open` takes memory.
+#[derive(Drop)]
+pub(crate) struct Robots<A: Allocator + Copy = Global> {
+    cells: Vec<u32, A>,
+    queues: Vec<ErrandQueue<A>, A>,
+    waits: Vec<Option<u64>, A>,
+}
+
+impl<A: Allocator + Copy> Model for Robots<A> {
+    ghost use Rattle.std.specs.Prelude.{◌≡◌, length};
+    ghost use Rattle.fleet_state.specs.Robots.{Robots};
+
+    ghost Value = { Robots };
+
+    ghost view = { λ x. record { cells = x.cells.items; queues = x.queues.items; waits = x.waits.items } };
+
+    ghost invariant = { λ x. (length x.cells.items ≡ length x.queues.items) × (length x.waits.items ≡ length x.queues.items) };
+}
+
+impl<A: Allocator + Copy> Robots<A> {
+    /// The robots of an opening, with memory for so many errands a queue.
+    pub(crate) fn open(alloc: A, states: &[RobotState<A>], room: u32) -> Result<Self, AllocError>
+        requires { All (λ x. length x.errands ≤ room) states.now }
+        ensures { IfOk result (λ x. x ≡ robots_in room states.now) }
+    {
+        let mut cells = Vec::new(alloc);
+        let mut queues = Vec::new(alloc);
+        let mut waits = Vec::new(alloc);
+        for robot in states {
+            cells.push(robot.cell)?;
+            queues.push(queue_of(alloc, robot.errands.as_slice(), room)?)?;
+            waits.push(robot.wait)?;
+        }
+        Ok(Robots {
+            cells,
+            queues,
+            waits,
+        })
+    }
+
+    /// How many robots there are.
+    pub(crate) fn len(&self) -> usize
+        ensures { result ≡ length self.now.queues }
+    {
+        self.queues.len()
+    }
+
+    /// Where the robots stand.
+    pub(crate) fn cells(&self) -> &[u32]
+        ensures { result.now ≡ self.now.cells }
+    {
+        self.cells.as_slice()
+    }
+
+    /// The robots' waits.
+    pub(crate) fn waits(&self) -> &[Option<u64>]
+        ensures { result.now ≡ self.now.waits }
+    {
+        self.waits.as_slice()
+    }
+
+    /// The robot's queue of unfinished errands.
+    pub(crate) fn queue(&self, robot: usize) -> &ErrandQueue<A>
+        requires { robot < length self.now.queues }
+        ensures { result.now ≡ queue_at self.now.queues robot }
+    {
+        &self.queues[robot]
+    }
+
+    /// Where the robot stands.
+    pub(crate) fn cell_of(&self, robot: usize) -> u32
+        requires { robot < length self.now.queues }
+        ensures { result ≡ slice_index self.now.cells robot }
+    {
+        self.cells[robot]
+    }
+
+    /// How long the robot has waited.
+    pub(crate) fn wait_of(&self, robot: usize) -> Option<u64>
+        requires { robot < length self.now.queues }
+        ensures { result ≡ slice_index_or self.now.waits robot None }
+    {
+        self.waits[robot]
+    }
+
+    /// Where the client's errand of this number stands.
+    pub(crate) fn place_of(&self, client: u32, number: u64) -> Place
+        ensures { IsPlaceAmong self.now.queues client number result }
+    {
+        for r in 0..self.queues.len() {
+            let queue = &self.queues[r];
+            if queue.holds(client, number) {
+                return place_held(queue, client, number);
+            }
+        }
+        Place::Absent
+    }
+
+    /// Lets the robot step to the cell: counts its wait on, and takes the errand that it lands on out of its queue.
+    pub(crate) fn step(&mut self, robot: usize, cell: u32) -> Option<Errand>
+        requires known { robot < length self.old.queues }
+        requires small { (w : ℕ) → slice_index_or self.old.waits robot None ≡ Some w → w + 1 < 2 ^ 64 }
+        ensures landing { result ≡ landing cell (queue_at self.old.queues robot).items }
+        ensures stepped { self.new ≡ stepped self.old robot cell }
+    {
+        self.cells[robot] = cell;
+        let queue = &mut self.queues[robot];
+        self.waits[robot] = wait_on(queue, cell, self.waits[robot]);
+        let landed = landing(queue, cell)?;
+        let _ = queue.pop();
+        Some(landed)
+    }
+
+    /// Lets an accepted errand join its robot's queue, where it may be the first and begin to wait, and a withdrawn one
+    /// leave its queue. Other verdicts change nothing.
+    pub(crate) fn take(&mut self, client: u32, order: Order, verdict: Verdict)
+        requires { HasPlace self.old.queues order verdict }
+        ensures { AreTaken client order verdict self.old self.new }
+    {
+        match verdict {
+            Verdict::Accepted(number) => {
+                if let Order::Go { robot, cell } = order {
+                    self.join(
+                        robot as usize,
+                        Errand {
+                            client,
+                            number,
+                            cell,
+                        },
+                    );
+                }
+            }
+            Verdict::Withdrawn => {
+                if let Order::Withdraw { number } = order {
+                    self.withdraw(client, number);
+                }
+            }
+            _ => {}
+        }
+    }
+
+    /// Puts the errand behind the robot's others. Where there are none, the robot begins to wait.
+    fn join(&mut self, robot: usize, errand: Errand)
+        requires { length (queue_at self.old.queues robot).items < (queue_at self.old.queues robot).capacity }
+        ensures { self.new ≡ joined self.old robot errand }
+    {
+        let queue = &mut self.queues[robot];
+        let _ = queue.try_push(errand);
+        if let None = self.waits[robot] {
+            self.waits[robot] = Some(0);
+        }
+    }
+
+    /// Takes the client's errand of this number out, wherever it stands behind a front.
+    fn withdraw(&mut self, client: u32, number: u64)
+        ensures cells { self.new.cells ≡ self.old.cells }
+        ensures count { length self.new.queues ≡ length self.old.queues }
+        ensures queues { (r : ℕ) → r < length self.old.queues →
+            queue_at self.new.queues r ≡ without_errand client number (queue_at self.old.queues r) }
+        ensures waits { self.new.waits ≡ self.old.waits }
+    {
+        for r in 0..self.queues.len() {
+            let queue = &mut self.queues[r];
+            let _ = queue.withdraw(client, number);
+        }
+    }
+}
+
+/// A queue of these errands, with this room.
+fn queue_of<A: Allocator + Copy>(
+    alloc: A,
+    errands: &[Errand],
+    room: u32,
+) -> Result<ErrandQueue<A>, AllocError>
+    requires { length errands.now ≤ room }
+    ensures { IfOk result (λ queue. queue ≡ record { items = errands.now; capacity = room }) }
+{
+    let mut queue = ErrandQueue::new(alloc, room)?;
+    for errand in errands {
+        let _ = queue.try_push(*errand);
+    }
+    Ok(queue)
+}
+
+/// Where in the queue the errand stands that it holds.
+fn place_held<A: Allocator + Copy>(queue: &ErrandQueue<A>, client: u32, number: u64) -> Place
+    requires { list_any (is_of client number) queue.now.items ≡ true }
+    ensures at { result ≡ place_in (is_of client number) queue.now.items }
+    ensures some { result ≢ Place.Absent }
+{
+    if let Some(front) = queue.front() {
+        if front.client == client && front.number == number {
+            return Place::Front;
+        }
+    }
+    Place::Behind
+}

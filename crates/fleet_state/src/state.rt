@@ -1,0 +1,128 @@
+//! The state that a history comes to.
+ghost use Rattle.std.specs.Prelude.{◌≡◌, ◌<◌, ◌+◌, List, ℕ, map, length, slice_get};
+ghost use Rattle.std.specs.List.{range_with_len};
+ghost use Rattle.fleet_history.specs.History.{place, clock, robots, clients, front, unfinished, owed, is_shut, taken_count, accepted_count};
+ghost use Rattle.fleet_history.specs.Notices.{noticed_count};
+ghost use Rattle.fleet_history.specs.Waits.{wait};
+ghost use Rattle.fleet_state.specs.State.{Of, robot_count, client_count, by_robot};
+
+use crate::clients::Clients;
+use crate::robots::Robots;
+use fleet_queue::Errand;
+use std::alloc::{Allocator, Global};
+use std::marker::Model;
+
+/// The state that a history comes to: cells, queues and waits of the robots, accounts and counts of the clients, the
+/// robots that are shut, and the ticks made.
+#[derive(Drop)]
+pub struct FleetState<A: Allocator + Copy = Global> {
+    pub(crate) robots: Robots<A>,
+    pub(crate) clients: Clients<A>,
+    pub(crate) queue: u32,
+    pub(crate) room: u32,
+    pub(crate) tick: u64,
+}
+
+impl<A: Allocator + Copy> Model for FleetState<A> {
+    ghost use Rattle.fleet_state.specs.State.{State, IsState, state_with};
+
+    ghost Value = { State A };
+
+    ghost view = { λ s. state_with s.robots s.clients s.queue s.room s.tick };
+
+    ghost invariant = { λ s. IsState {A = A} (state_with s.robots s.clients s.queue s.room s.tick) };
+}
+
+impl<A: Allocator + Copy> FleetState<A> {
+    /// Where the robots stand.
+    pub fn place(&self) -> &[u32]
+        ensures { Of self.now (λ h. result.now ≡ place h) }
+    {
+        self.robots.cells()
+    }
+
+    /// The ticks made.
+    pub fn clock(&self) -> u64
+        ensures { Of self.now (λ h. result ≡ clock h) }
+    {
+        self.tick
+    }
+
+    /// How many robots there are.
+    pub fn robots(&self) -> usize
+        ensures count { result ≡ robot_count self.now }
+        ensures of { Of self.now (λ h. result ≡ robots h) }
+    {
+        self.robots.len()
+    }
+
+    /// How many clients there are.
+    pub fn clients(&self) -> usize
+        ensures count { result ≡ client_count self.now }
+        ensures of { Of self.now (λ h. result ≡ clients h) }
+    {
+        self.clients.len()
+    }
+
+    /// The waits, by robot.
+    pub fn waits(&self) -> &[Option<u64>]
+        ensures { Of self.now (λ h. result.now ≡ by_robot h (wait h)) }
+    {
+        self.robots.waits()
+    }
+
+    pub fn wait_of(&self, robot: u32) -> Option<u64>
+        requires { robot < robot_count self.now }
+        ensures { Of self.now (λ h. result ≡ wait h robot) }
+    {
+        self.robots.wait_of(robot as usize)
+    }
+
+    /// Whether the robot refuses further errands.
+    pub fn is_shut(&self, robot: u32) -> bool
+        requires { robot < robot_count self.now }
+        ensures { Of self.now (λ h. result ≡ is_shut h robot) }
+    {
+        self.clients.is_shut(robot)
+    }
+
+    /// The robot's first unfinished errand.
+    pub fn front(&self, robot: u32) -> Option<Errand>
+        requires { robot < robot_count self.now }
+        ensures { Of self.now (λ h. result ≡ front h robot) }
+    {
+        self.robots.queue(robot as usize).front()
+    }
+
+    /// The robot's unfinished errand behind the front.
+    pub fn next(&self, robot: u32) -> Option<Errand>
+        requires { robot < robot_count self.now }
+        ensures { Of self.now (λ h. result ≡ slice_get (unfinished h robot) 1) }
+    {
+        self.robots.queue(robot as usize).get(1)
+    }
+
+    /// How many errands of the client are unfinished.
+    pub fn owed(&self, client: u32) -> u64
+        requires { client < client_count self.now }
+        ensures { Of self.now (λ h. result ≡ owed h client) }
+    {
+        self.clients.owed(client)
+    }
+
+    /// How many orders of the client were taken.
+    pub fn taken(&self, client: u32) -> u64
+        requires { client < client_count self.now }
+        ensures { Of self.now (λ h. result ≡ taken_count h client) }
+    {
+        self.clients.tally(client).taken
+    }
+
+    /// How many notices were made for the client.
+    pub fn noticed(&self, client: u32) -> u64
+        requires { client < client_count self.now }
+        ensures { Of self.now (λ h. result ≡ noticed_count h client) }
+    {
+        self.clients.tally(client).noticed
+    }
+}

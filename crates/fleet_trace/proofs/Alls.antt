@@ -1,0 +1,34 @@
+-- What holds of every item, as a loop goes on; and bounds on what is owed.
+use Rattle.std.proofs.Common.{◌≡◌, ℕ, zero, suc, ◌+◌, ◌*◌, ◌<◌, ◌≤◌, inl, inr, List, [], ◌∷◌, length, get_or, map, slice_index, refl, sym, ap, subst, ◌∙◌, arith}
+use Rattle.std.specs.Prelude.{All, count_by, ◌==◌}
+use Rattle.std.proofs.lemmas.Bool.{cases_eq}
+use Rattle.std.proofs.lemmas.List.{get_or_default}
+use Rattle.std.proofs.lemmas.List.Sums.{sum_by-le, count_by-le-length}
+use Rattle.fleet_grid.specs.Floor.{Floor}
+use Rattle.fleet_history.specs.declared.history.RobotState.{RobotState}
+use Rattle.fleet_history.specs.declared.history.Opening.{Opening}
+use Rattle.fleet_history.specs.Legal.{IsRobotInOrder}
+use Rattle.fleet_trace.specs.Opened.{owed_in}
+
+module _ {X : Type 0} (P : X → Type 0) where
+  pub all_more : (xs : List X) (i : ℕ) (x : X) → i < length xs → get_or xs i x ≡ x → P x → ((k : ℕ) (d : X) → k < i → P (get_or xs k d)) → (k : ℕ) (d : X) → k < i + 1 → P (get_or xs k d)
+  all_more xs i x within is here before k d less = elim (cases_eq k i) [
+    | inl same ↦ subst P (sym (ap (λ (j : ℕ). get_or xs j d) same ∙ get_or_default xs i d x within ∙ is)) here
+    | inr other ↦ before k d (omega (arith, less, other))
+  ]
+
+pub cell_at : {A : Type 0} (robots : List (RobotState A)) (i : ℕ) (d : RobotState A) → i < length robots → slice_index (map (λ x. x.cell) robots) i ≡ (get_or robots i d).cell
+cell_at [] i d less = absurd (omega (arith, less))
+cell_at (x ∷ robots) zero d less = refl
+cell_at (x ∷ robots) (suc i) d less = cell_at robots i d (omega (arith, less))
+
+pub length-cells : {A : Type 0} (robots : List (RobotState A)) → length (map (λ x. x.cell) robots) ≡ length robots
+length-cells [] = refl
+length-cells (x ∷ robots) = ap suc (length-cells robots)
+
+-- no client is owed more than all queues hold
+pub owed-small : {A : Type 0} (m : Floor) (o : Opening A) (c : ℕ) → length o.robots ≤ 512 → o.queue ≤ 65536 → All (IsRobotInOrder m o) o.robots → owed_in o.robots c ≤ 2199023255552
+owed-small m o c few queue fine =
+    let each : All (λ x. count_by (λ e. e.client == c) x.errands ≤ 65536) o.robots = λ k d less. (let x = get_or o.robots k d in omega (arith, count_by-le-length (λ e. e.client == c) x.errands, (fine k d less).room, queue)) in
+    let all : owed_in o.robots c ≤ length o.robots * 65536 = sum_by-le (λ x. count_by (λ e. e.client == c) x.errands) 65536 o.robots each in
+    omega (arith, all, few)

@@ -1,0 +1,11 @@
+pub mod TextLaws
+pub mod Lists
+pub mod NoFloat
+pub mod PlainTrace
+pub mod Again
+pub mod Naming
+pub mod Alls
+pub mod Ordered
+pub mod EntryByEntry
+pub mod Alike
+pub mod Calmed

@@ -1,0 +1,10 @@
+pub mod Trace
+pub mod Text
+pub mod Fits
+pub mod Version
+pub mod Told
+pub mod Reads
+pub mod Plain
+pub mod Opened
+pub mod Judged
+pub mod Calm

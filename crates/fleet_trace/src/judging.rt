@@ -1,0 +1,114 @@
+//! The judge of traces.
+
+mod calm;
+mod clients;
+mod names;
+mod opening;
+mod robots;
+mod room;
+mod shuts;
+mod stamps;
+mod takes;
+mod ticks;
+
+ghost use Rattle.std.specs.Prelude.{◌≡◌, ◌^◌, ◌<◌, ℕ, IfOk, IfErr, OnOk, length};
+ghost use Rattle.fleet_history.specs.History.{History, history_of, start, with_entries};
+ghost use Rattle.fleet_history.specs.Legal.{IsLegal};
+ghost use Rattle.fleet_state.specs.State.{IsStateOf};
+ghost use Rattle.fleet_trace.specs.Judged.{IsOf, JudgedBy, IsEntryFault, IsJudgeFault};
+
+use crate::fault::JudgeFault;
+use calm::calm_opening;
+use fleet_grid::Grid;
+use fleet_history::{Chapter, Entry, Opening, RobotState};
+use fleet_state::FleetState;
+use opening::is_in_order;
+use room::{has_place, room_of};
+use shuts::broken_shut;
+use std::alloc::{AllocError, Allocator};
+use takes::broken_take;
+use ticks::{broken_shown, is_step};
+
+/// The first rule that an entry behind the history of the state breaks.
+fn broken_rule<A: Allocator + Copy>(
+    alloc: A,
+    grid: &Grid<A>,
+    robots: &[RobotState<A>],
+    state: &FleetState<A>,
+    entry: &Entry<A>,
+) -> Result<Option<u8>, AllocError>
+    requires { (h : History A) × IsOf grid.now robots.now state.now h }
+    ensures { IfOk result (λ rule. JudgedBy grid.now robots.now state.now entry.now rule) }
+{
+    match entry {
+        Entry::Take {
+            client,
+            order,
+            verdict,
+        } => Ok(broken_take(grid, state, *client, *order, *verdict)),
+        Entry::Tick {
+            to,
+            arrived,
+            farewells,
+        } => {
+            let to = to.as_slice();
+            if !is_step(alloc, grid, state, to)? {
+                return Ok(Some(4));
+            }
+            let (arrived, farewells) = (arrived.as_slice(), farewells.as_slice());
+            broken_shown(alloc, robots, state, to, arrived, farewells)
+        }
+        Entry::Shut { robot, farewell } => Ok(broken_shut(robots, state, *robot, *farewell)),
+    }
+}
+
+/// Judges entries behind an opening, of which the state is.
+fn judge_entries<A: Allocator + Copy>(
+    alloc: A,
+    grid: &Grid<A>,
+    opening: &Opening<A>,
+    entries: &[Entry<A>],
+    state: &mut FleetState<A>,
+) -> Result<(), JudgeFault>
+    requires opened { IsStateOf grid.now (start opening.now) state.old }
+    requires early { opening.now.tick < 2 ^ 62 }
+    requires few { length entries.now < 2 ^ 32 }
+    ensures ok { OnOk result (IsLegal grid.now (with_entries (start opening.now) entries.now)) }
+    ensures fault { IfErr result (λ fault. IsEntryFault grid.now (with_entries (start opening.now) entries.now) fault) }
+{
+    let robots = opening.robots.as_slice();
+    for at in 0..entries.len() {
+        let entry = &entries[at];
+        if let Some(rule) = broken_rule(alloc, grid, robots, state, entry)? {
+            let at = at as u64 + 1;
+            return Err(JudgeFault::Illegal { at, rule });
+        }
+        if !has_place(state, entry) {
+            return Err(JudgeFault::NoMemory);
+        }
+        state.enter(entry);
+    }
+    Ok(())
+}
+
+/// Judges a trace: whether its opening is in order on the map and each entry is legal behind those before it.
+pub fn judge<A: Allocator + Copy>(
+    alloc: A,
+    grid: &Grid<A>,
+    chapter: &Chapter<A>,
+) -> Result<(), JudgeFault>
+    ensures ok { OnOk result (IsLegal grid.now (history_of chapter.now)) }
+    ensures fault { IfErr result (λ fault. IsJudgeFault grid.now (history_of chapter.now) fault) }
+    ensures legal { IsLegal grid.now (history_of chapter.now) → IfErr result (λ fault. fault ≡ JudgeFault.NoMemory) }
+{
+    let entries = chapter.entries.as_slice();
+    if !is_in_order(alloc, grid, &chapter.opening)? {
+        return Err(JudgeFault::Illegal { at: 0, rule: 1 });
+    }
+    if entries.len() >= 1 << 32 {
+        return Err(JudgeFault::NoMemory);
+    }
+    let opening = calm_opening(alloc, &chapter.opening)?;
+    let mut state = FleetState::open(alloc, &opening, room_of(&opening, entries))?;
+    judge_entries(alloc, grid, &opening, entries, &mut state)
+}

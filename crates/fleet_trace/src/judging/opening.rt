@@ -1,0 +1,57 @@
+//! Whether an opening is in order.
+
+ghost use Rattle.std.specs.Prelude.{◌≡◌, ◌↔◌, IsTrue, IfOk};
+ghost use Rattle.fleet_history.specs.Legal.{IsInOrder};
+ghost use Rattle.fleet_trace.specs.Opened.{AreSizesInOrder};
+
+use super::clients::{is_client_in_order, owed_of};
+use super::names::are_names_in_order;
+use super::robots::{are_robots_in_order, cells_of, is_placement};
+use fleet_grid::Grid;
+use fleet_history::Opening;
+use std::alloc::{AllocError, Allocator};
+
+/// Whether the numbers of robots and clients, and what they may have, are in their ranges.
+fn are_sizes_in_order<A: Allocator + Copy>(opening: &Opening<A>) -> bool
+    ensures { IsTrue result ↔ AreSizesInOrder opening.now }
+{
+    let (robots, clients) = (opening.robots.len(), opening.clients.len());
+    if robots < 1 || robots > 512 {
+        return false;
+    }
+    if clients < 1 || clients > 64 {
+        return false;
+    }
+    if opening.queue < 1 || opening.queue > 65_536 {
+        return false;
+    }
+    opening.life >= 1 && opening.life <= 1 << 40
+}
+
+/// Whether the opening is in order on the map. The error is want of memory.
+pub fn is_in_order<A: Allocator + Copy, B: Allocator + Copy>(
+    alloc: A,
+    grid: &Grid<B>,
+    opening: &Opening<A>,
+) -> Result<bool, AllocError>
+    ensures { IfOk result (λ fine. IsTrue fine ↔ IsInOrder grid.now opening.now) }
+{
+    if !are_sizes_in_order(opening) {
+        return Ok(false);
+    }
+    let cells = cells_of(alloc, opening.robots.as_slice())?;
+    if !is_placement(grid, &cells) || !are_robots_in_order(grid, opening) {
+        return Ok(false);
+    }
+    let (robots, clients) = (opening.robots.as_slice(), opening.clients.as_slice());
+    for c in 0..clients.len() {
+        let client = c as u32;
+        if !is_client_in_order(opening.life, owed_of(robots, client), &clients[c]) {
+            return Ok(false);
+        }
+        if !are_names_in_order(alloc, robots, client)? {
+            return Ok(false);
+        }
+    }
+    Ok(true)
+}

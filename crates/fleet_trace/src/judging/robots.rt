@@ -1,0 +1,159 @@
+//! Whether the robots of an opening are in order.
+
+ghost use Rattle.std.specs.Prelude.{◌≡◌, ◌≢◌, ◌↔◌, ◌<◌, ◌≤◌, ℕ, All, IsTrue, IfOk, length, map, not, is_some, slice_index};
+ghost use Rattle.fleet_grid.specs.Floor.{IsFloor};
+ghost use Rattle.fleet_grid.specs.Step.{IsPlacement};
+ghost use Rattle.fleet_hooks.specs.Law.{IsStampLaw};
+ghost use Rattle.fleet_history.specs.Legal.{IsRobotInOrder, is_none_left};
+ghost use Rattle.fleet_trace.specs.Opened.{IsErrandInOrder, IsWaitInOrder};
+
+use fleet_grid::Grid;
+use fleet_history::{ClientState, Opening, RobotState};
+use fleet_hooks::StampLaw;
+use fleet_queue::Errand;
+use std::alloc::{AllocError, Allocator};
+
+/// Where the robots stand.
+pub fn cells_of<A: Allocator + Copy>(
+    alloc: A,
+    robots: &[RobotState<A>],
+) -> Result<Vec<u32, A>, AllocError>
+    ensures { IfOk result (λ cells. cells.items ≡ map (λ x. x.cell) robots.now) }
+{
+    let mut cells = Vec::new(alloc);
+    for robot in robots {
+        cells.push(robot.cell)?;
+    }
+    Ok(cells)
+}
+
+fn are_on_floor<B: Allocator + Copy>(grid: &Grid<B>, cells: &[u32]) -> bool
+    ensures { IsTrue result ↔ ((r : ℕ) → r < length cells.now → IsFloor grid.now (slice_index cells.now r)) }
+{
+    for robot in 0..cells.len() {
+        if !grid.is_floor(cells[robot]) {
+            return false;
+        }
+    }
+    true
+}
+
+fn is_alone(cells: &[u32], upper: usize) -> bool
+    requires { upper < length cells.now }
+    ensures { IsTrue result ↔ ((i : ℕ) → i < upper → slice_index cells.now i ≢ slice_index cells.now upper) }
+{
+    for lower in 0..upper {
+        if cells[lower] == cells[upper] {
+            return false;
+        }
+    }
+    true
+}
+
+fn are_distinct(cells: &[u32]) -> bool
+    ensures { IsTrue result ↔ ((i j : ℕ) → i < j → j < length cells.now → slice_index cells.now i ≢ slice_index cells.now j) }
+{
+    for upper in 0..cells.len() {
+        if !is_alone(cells, upper) {
+            return false;
+        }
+    }
+    true
+}
+
+/// Whether robots may stand on these cells.
+pub fn is_placement<B: Allocator + Copy>(grid: &Grid<B>, cells: &[u32]) -> bool
+    ensures { IsTrue result ↔ IsPlacement grid.now cells.now }
+{
+    are_on_floor(grid, cells) && are_distinct(cells)
+}
+
+/// Whether the errand of a robot on the cell is in order.
+fn is_errand_in_order<B: Allocator + Copy>(
+    grid: &Grid<B>,
+    clients: &[ClientState],
+    cell: u32,
+    errand: &Errand,
+) -> bool
+    requires { IsFloor grid.now cell }
+    ensures { IsTrue result ↔ IsErrandInOrder grid.now clients.now cell errand.now }
+{
+    let client = errand.client as usize;
+    if client >= clients.len() {
+        return false;
+    }
+    if errand.number < 1 || errand.number > clients[client].accepted {
+        return false;
+    }
+    grid.is_floor(errand.cell) && grid.same_part(cell, errand.cell)
+}
+
+fn are_errands_in_order<B: Allocator + Copy>(
+    grid: &Grid<B>,
+    clients: &[ClientState],
+    cell: u32,
+    errands: &[Errand],
+) -> bool
+    requires { IsFloor grid.now cell }
+    ensures { IsTrue result ↔ All (IsErrandInOrder grid.now clients.now cell) errands.now }
+{
+    for errand in errands {
+        if !is_errand_in_order(grid, clients, cell, errand) {
+            return false;
+        }
+    }
+    true
+}
+
+fn is_law_in_order(law: &StampLaw) -> bool
+    ensures { IsTrue result ↔ IsStampLaw law.now }
+{
+    law.low <= law.high
+}
+
+/// Whether a wait is there exactly where errands are, and no longer than the clock.
+fn is_wait_in_order(wait: Option<u64>, idle: bool, tick: u64) -> bool
+    ensures { IsTrue result ↔ IsWaitInOrder wait idle tick }
+{
+    match wait {
+        None => idle,
+        Some(wait) => !idle && wait <= tick,
+    }
+}
+
+fn is_robot_in_order<A: Allocator + Copy, B: Allocator + Copy>(
+    grid: &Grid<B>,
+    opening: &Opening<A>,
+    robot: &RobotState<A>,
+) -> bool
+    requires { IsFloor grid.now robot.now.cell }
+    ensures { IsTrue result ↔ IsRobotInOrder grid.now opening.now robot.now }
+{
+    if !is_law_in_order(&robot.arrival_law) || !is_law_in_order(&robot.farewell_law) {
+        return false;
+    }
+    let errands = robot.errands.as_slice();
+    if errands.len() > opening.queue as usize {
+        return false;
+    }
+    if !is_wait_in_order(robot.wait, errands.is_empty(), opening.tick) {
+        return false;
+    }
+    are_errands_in_order(grid, opening.clients.as_slice(), robot.cell, errands)
+}
+
+/// Whether the robots, which stand on a placement, are in order.
+pub fn are_robots_in_order<A: Allocator + Copy, B: Allocator + Copy>(
+    grid: &Grid<B>,
+    opening: &Opening<A>,
+) -> bool
+    requires { IsPlacement grid.now (map (λ x. x.cell) opening.now.robots) }
+    ensures { IsTrue result ↔ All (IsRobotInOrder grid.now opening.now) opening.now.robots }
+{
+    for robot in opening.robots.as_slice() {
+        if !is_robot_in_order(grid, opening, robot) {
+            return false;
+        }
+    }
+    true
+}

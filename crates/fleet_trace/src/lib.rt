@@ -1,0 +1,19 @@
+//! Traces: every chapter can be written down as text and read back.
+#![tactic(auto)]
+
+mod fault;
+mod judging;
+mod law;
+mod read;
+mod version;
+mod write;
+
+pub use fault::{JudgeFault, TraceFault};
+pub use judging::judge;
+pub use law::{trace_reads_back, write_and_read};
+pub use read::read_trace;
+pub use version::Version;
+pub use write::write_trace;
+
+#[cfg(test)]
+mod tests;

@@ -1,0 +1,199 @@
+//! Entries from JSON values.
+
+ghost use Rattle.std.specs.Prelude.{◌≡◌, length, map, option_and_then};
+ghost use Rattle.serde_json.specs.View.{view};
+ghost use Rattle.fleet_trace.specs.Reads.{Gives};
+ghost use Rattle.fleet_trace.specs.Version.{has_withdrawal};
+ghost use Rattle.fleet_trace.specs.Told.{count_in, close_in, withdraw_in, go_in, order_in, refusal_of, verdict_in, shut_in, take_in, tick_in, entry_from, entry_in};
+
+use super::parts::{ReadValue, count_of, found, read_row, says, values_of};
+use crate::fault::TraceFault;
+use crate::version::Version;
+use fleet_book::{Order, Verdict};
+use fleet_history::Entry;
+use serde_json::Value;
+use std::alloc::Global;
+
+/// Whether errands may be withdrawn in the version.
+fn has_withdrawal(version: Version) -> bool
+    ensures { result ≡ has_withdrawal version }
+{
+    match version {
+        Version::First => false,
+        Version::Second => true,
+    }
+}
+
+fn order_of(version: Version, value: &Value) -> Option<Order>
+    ensures { result ≡ order_in version (view value.now) }
+{
+    let values = values_of(value)?;
+    match values.len() {
+        1 => close_of(&values[0]),
+        2 => withdraw_of(version, &values[0], &values[1]),
+        3 => go_of(&values[0], &values[1], &values[2]),
+        _ => None,
+    }
+}
+
+fn close_of(word: &Value) -> Option<Order>
+    ensures { result ≡ close_in (view word.now) }
+{
+    if says(word, "close") {
+        Some(Order::Close)
+    } else {
+        None
+    }
+}
+
+fn withdraw_of(version: Version, word: &Value, number: &Value) -> Option<Order>
+    ensures { result ≡ withdraw_in version (view word.now) (view number.now) }
+{
+    if has_withdrawal(version) && says(word, "withdraw") {
+        let number = number.as_u64()?;
+        Some(Order::Withdraw { number })
+    } else {
+        None
+    }
+}
+
+fn go_of(word: &Value, robot: &Value, cell: &Value) -> Option<Order>
+    ensures { result ≡ go_in (view word.now) (view robot.now) (view cell.now) }
+{
+    if says(word, "go") {
+        let robot = count_of(robot)?;
+        let cell = count_of(cell)?;
+        Some(Order::Go { robot, cell })
+    } else {
+        None
+    }
+}
+
+/// The refusal that has a code.
+fn refusal_of(version: Version, code: u64) -> Option<Verdict>
+    ensures { result ≡ refusal_of version code }
+{
+    match code {
+        1 => Some(Verdict::ClientClosed),
+        2 => Some(Verdict::NoRobot),
+        3 => Some(Verdict::RobotShut),
+        4 => Some(Verdict::NoCell),
+        5 => Some(Verdict::Blocked),
+        6 => Some(Verdict::Unreachable),
+        7 => Some(Verdict::QueueFull),
+        8 => Some(Verdict::LifeSpent),
+        9 if has_withdrawal(version) => Some(Verdict::NoErrand),
+        10 if has_withdrawal(version) => Some(Verdict::TooLate),
+        _ => None,
+    }
+}
+
+fn verdict_of(version: Version, value: &Value) -> Option<Verdict>
+    ensures { result ≡ verdict_in version (view value.now) }
+{
+    let values = values_of(value)?;
+    if values.len() == 1 {
+        if says(&values[0], "closed") {
+            return Some(Verdict::Closed);
+        }
+        if has_withdrawal(version) && says(&values[0], "withdrawn") {
+            return Some(Verdict::Withdrawn);
+        }
+        return None;
+    }
+    if values.len() == 2 {
+        if says(&values[0], "accepted") {
+            return Some(Verdict::Accepted(values[1].as_u64()?));
+        }
+        if says(&values[0], "refused") {
+            return refusal_of(version, values[1].as_u64()?);
+        }
+    }
+    None
+}
+
+fn take_of(version: Version, client: &Value, order: &Value, answer: &Value) -> Option<Entry>
+    ensures { result ≡ take_in version (view client.now) (view order.now) (view answer.now) }
+{
+    let client = count_of(client)?;
+    let order = order_of(version, order)?;
+    let verdict = verdict_of(version, answer)?;
+    Some(Entry::Take {
+        client,
+        order,
+        verdict,
+    })
+}
+
+fn tick_of(
+    alloc: Global,
+    version: Version,
+    to: &Value,
+    arrived: &Value,
+    farewells: &Value,
+) -> Result<Entry, TraceFault>
+    ensures { Gives (λ x. x) result (tick_in (view to.now) (view arrived.now) (view farewells.now)) }
+{
+    let to = read_row(alloc, version, to)?;
+    let arrived = read_row(alloc, version, arrived)?;
+    let farewells = read_row(alloc, version, farewells)?;
+    Ok(Entry::Tick {
+        to,
+        arrived,
+        farewells,
+    })
+}
+
+fn shut_of(word: &Value, robot: &Value, farewell: Option<u32>) -> Option<Entry>
+    ensures { result ≡ shut_in (view word.now) (view robot.now) farewell }
+{
+    if says(word, "shut") {
+        let robot = count_of(robot)?;
+        Some(Entry::Shut { robot, farewell })
+    } else {
+        None
+    }
+}
+
+fn farewell_of(word: &Value, robot: &Value, stamp: &Value) -> Option<Entry>
+    ensures { result ≡ option_and_then (λ s. shut_in (view word.now) (view robot.now) (Some s)) (count_in (view stamp.now)) }
+{
+    let stamp = count_of(stamp)?;
+    shut_of(word, robot, Some(stamp))
+}
+
+/// A take or a tick, by its first word.
+fn event_of(alloc: Global, version: Version, values: &[Value]) -> Result<Entry, TraceFault>
+    requires { length values.now ≡ 4 }
+    ensures { Gives (λ x. x) result (entry_from version (map view values.now)) }
+{
+    if says(&values[0], "take") {
+        return found(take_of(version, &values[1], &values[2], &values[3]));
+    }
+    if says(&values[0], "tick") {
+        return tick_of(alloc, version, &values[1], &values[2], &values[3]);
+    }
+    Err(TraceFault::Shape)
+}
+
+fn entry_of(alloc: Global, version: Version, values: &[Value]) -> Result<Entry, TraceFault>
+    ensures { Gives (λ x. x) result (entry_from version (map view values.now)) }
+{
+    match values.len() {
+        2 => found(shut_of(&values[0], &values[1], None)),
+        3 => found(farewell_of(&values[0], &values[1], &values[2])),
+        4 => event_of(alloc, version, values),
+        _ => Err(TraceFault::Shape),
+    }
+}
+
+impl ReadValue for Entry {
+    ghost told = { entry_in };
+
+    fn read_value(alloc: Global, version: Version, value: &Value) -> Result<Self, TraceFault> {
+        match values_of(value) {
+            Some(values) => entry_of(alloc, version, values),
+            None => Err(TraceFault::Shape),
+        }
+    }
+}

@@ -1,0 +1,90 @@
+//! An opening from JSON values.
+
+ghost use Rattle.std.specs.Prelude.{◌≡◌, map};
+ghost use Rattle.serde_json.specs.View.{view};
+ghost use Rattle.fleet_trace.specs.Reads.{Gives};
+ghost use Rattle.fleet_trace.specs.Told.{robot_from, robot_in, opening_in};
+
+use super::parts::{ReadValue, count_of, has_members, law_of, read_row, values_of, wait_of};
+use crate::fault::TraceFault;
+use crate::version::Version;
+use fleet_history::{Opening, RobotState};
+use serde_json::Value;
+use std::alloc::Global;
+
+/// What the values of a robot's numbers and laws tell, with no errands.
+fn robot_with(alloc: Global, version: Version, values: &[Value]) -> Result<RobotState, TraceFault>
+    ensures { Gives (λ x. x) result (robot_from (map view values.now)) }
+{
+    if values.len() != 6 {
+        return Err(TraceFault::Shape);
+    }
+    let Some(cell) = count_of(&values[0]) else {
+        return Err(TraceFault::Shape);
+    };
+    let Some(shut) = values[1].as_bool() else {
+        return Err(TraceFault::Shape);
+    };
+    let Some(wait) = wait_of(&values[2]) else {
+        return Err(TraceFault::Shape);
+    };
+    let Some(arrival_law) = law_of(&values[4]) else {
+        return Err(TraceFault::Shape);
+    };
+    let Some(farewell_law) = law_of(&values[5]) else {
+        return Err(TraceFault::Shape);
+    };
+    let errands = read_row(alloc, version, &values[3])?;
+    Ok(RobotState {
+        cell,
+        shut,
+        wait,
+        errands,
+        arrival_law,
+        farewell_law,
+    })
+}
+
+impl ReadValue for RobotState {
+    ghost told = { λ _ d. robot_in d };
+
+    fn read_value(alloc: Global, version: Version, value: &Value) -> Result<Self, TraceFault> {
+        match values_of(value) {
+            Some(values) => robot_with(alloc, version, values),
+            None => Err(TraceFault::Shape),
+        }
+    }
+}
+
+/// The opening that a value tells.
+pub fn read_opening(alloc: Global, version: Version, value: &Value) -> Result<Opening, TraceFault>
+    ensures { Gives (λ x. x) result (opening_in (view value.now)) }
+{
+    if !has_members(value, 5) {
+        return Err(TraceFault::Shape);
+    }
+    let Some(tick) = value.get("tick").and_then(Value::as_u64) else {
+        return Err(TraceFault::Shape);
+    };
+    let Some(queue) = value.get("queue").and_then(count_of) else {
+        return Err(TraceFault::Shape);
+    };
+    let Some(life) = value.get("life").and_then(Value::as_u64) else {
+        return Err(TraceFault::Shape);
+    };
+    let Some(clients) = value.get("clients") else {
+        return Err(TraceFault::Shape);
+    };
+    let Some(robots) = value.get("robots") else {
+        return Err(TraceFault::Shape);
+    };
+    let clients = read_row(alloc, version, clients)?;
+    let robots = read_row(alloc, version, robots)?;
+    Ok(Opening {
+        tick,
+        queue,
+        life,
+        clients,
+        robots,
+    })
+}

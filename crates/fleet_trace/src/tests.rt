@@ -1,0 +1,3 @@
+//! Traces as texts, and judged.
+mod judged;
+mod texts;

@@ -1,0 +1,123 @@
+//! What a trace's entries show, as JSON values.
+
+ghost use Rattle.std.specs.Prelude.{◌≡◌, IfOk, OnOk};
+ghost use Rattle.serde_json.specs.View.{view};
+ghost use Rattle.std.specs.List.{AllByRecursion};
+ghost use Rattle.fleet_trace.specs.Text.{order_data, verdict_data, refused, take_data, tick_data, shut_data, entry_data};
+ghost use Rattle.fleet_trace.specs.Fits.{Fits32, OrderFits, VerdictFits, ArrivalFits, ByeFits, StampFits, EntryFits};
+
+use super::values::{WriteValue, write_list};
+use fleet_book::{Order, Verdict};
+use fleet_history::{Arrival, Bye, Entry};
+use serde_json::{Value, json};
+use std::alloc::{AllocError, Allocator, Global};
+
+impl WriteValue for Order {
+    ghost written = { order_data };
+
+    ghost fits = { OrderFits };
+
+    fn write_value(&self, alloc: Global) -> Result<Value, AllocError> {
+        match *self {
+            Order::Go { robot, cell } => json!(in alloc; ["go", robot, cell]),
+            Order::Close => json!(in alloc; ["close"]),
+            Order::Withdraw { number } => json!(in alloc; ["withdraw", number]),
+        }
+    }
+}
+
+fn refused_value(alloc: Global, code: u32) -> Result<Value, AllocError>
+    ensures { IfOk result (λ v. view v ≡ refused code) }
+{
+    json!(in alloc; ["refused", code])
+}
+
+impl WriteValue for Verdict {
+    ghost written = { verdict_data };
+
+    ghost fits = { VerdictFits };
+
+    fn write_value(&self, alloc: Global) -> Result<Value, AllocError> {
+        match *self {
+            Verdict::Accepted(number) => json!(in alloc; ["accepted", number]),
+            Verdict::Closed => json!(in alloc; ["closed"]),
+            Verdict::Withdrawn => json!(in alloc; ["withdrawn"]),
+            Verdict::ClientClosed => refused_value(alloc, 1),
+            Verdict::NoRobot => refused_value(alloc, 2),
+            Verdict::RobotShut => refused_value(alloc, 3),
+            Verdict::NoCell => refused_value(alloc, 4),
+            Verdict::Blocked => refused_value(alloc, 5),
+            Verdict::Unreachable => refused_value(alloc, 6),
+            Verdict::QueueFull => refused_value(alloc, 7),
+            Verdict::LifeSpent => refused_value(alloc, 8),
+            Verdict::NoErrand => refused_value(alloc, 9),
+            Verdict::TooLate => refused_value(alloc, 10),
+        }
+    }
+}
+
+fn shut_value(alloc: Global, robot: u32, farewell: Option<u32>) -> Result<Value, AllocError>
+    ensures value { IfOk result (λ v. view v ≡ shut_data robot farewell) }
+    ensures fits { OnOk result (Fits32 robot × StampFits farewell) }
+{
+    match farewell {
+        None => json!(in alloc; ["shut", robot]),
+        Some(stamp) => json!(in alloc; ["shut", robot, stamp]),
+    }
+}
+
+fn take_value(
+    alloc: Global,
+    client: u32,
+    order: &Order,
+    verdict: &Verdict,
+) -> Result<Value, AllocError>
+    ensures value { IfOk result (λ v. view v ≡ take_data client order.now verdict.now) }
+    ensures fits { OnOk result (Fits32 client × OrderFits order.now × VerdictFits verdict.now) }
+{
+    let order = order.write_value(alloc)?;
+    let verdict = verdict.write_value(alloc)?;
+    json!(in alloc; ["take", client, order, verdict])
+}
+
+fn tick_value(
+    alloc: Global,
+    to: &[u32],
+    arrived: &[Arrival],
+    farewells: &[Bye],
+) -> Result<Value, AllocError>
+    ensures value { IfOk result (λ v. view v ≡ tick_data to.now arrived.now farewells.now) }
+    ensures fits { OnOk result (AllByRecursion Fits32 to.now × AllByRecursion ArrivalFits arrived.now × AllByRecursion ByeFits farewells.now) }
+{
+    let to = write_list(alloc, to)?;
+    let arrived = write_list(alloc, arrived)?;
+    let farewells = write_list(alloc, farewells)?;
+    json!(in alloc; ["tick", to, arrived, farewells])
+}
+
+impl<A: Allocator + Copy> WriteValue for Entry<A> {
+    ghost written = { entry_data };
+
+    ghost fits = { EntryFits };
+
+    fn write_value(&self, alloc: Global) -> Result<Value, AllocError> {
+        match self {
+            Entry::Take {
+                client,
+                order,
+                verdict,
+            } => take_value(alloc, *client, order, verdict),
+            Entry::Tick {
+                to,
+                arrived,
+                farewells,
+            } => tick_value(
+                alloc,
+                to.as_slice(),
+                arrived.as_slice(),
+                farewells.as_slice(),
+            ),
+            Entry::Shut { robot, farewell } => shut_value(alloc, *robot, *farewell),
+        }
+    }
+}
