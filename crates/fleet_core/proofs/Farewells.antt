@@ -1,47 +1,17 @@
--- Farewells that are called robot by robot, and what lists made robot by robot need.
-use Rattle.std.proofs.Common.{◌≡◌, ℕ, zero, suc, ◌+◌, ◌<◌, ◌≤◌, List, length, map, cond, eqb, Bool, true, false, Option, Some, None, sym, refl, ap, ◌∙◌, subst, arith, inl, inr, length-append}
-use Rattle.std.specs.Prelude.{slice_set, slice_index, slice_index_or}
+-- Farewells that are called one by one.
+use Rattle.std.proofs.Common.{◌≡◌, ℕ, zero, suc, ◌+◌, ◌<◌, ◌≤◌, List, [], ◌∷◌, ◌++◌, length, map, cond, Bool, true, false, Option, Some, None, sym, refl, ap, ◌∙◌, subst, arith, inl, inr}
+use Rattle.std.specs.Prelude.{slice_set, slice_index, slice_index_or, All}
 use Rattle.std.specs.List.{flat_map, range_with_len}
 use Rattle.std.specs.Option.{option_map}
-use Rattle.std.proofs.lemmas.List.{get_or-set_same, get_or-set_other, map-set}
+use Rattle.std.proofs.lemmas.List.{append-nil, get_or-set_same, get_or-set_other, map-set, length-set, length_push, get_or_push}
+use Rattle.std.proofs.Math.ListN.{get_or-append}
+use Rattle.std.proofs.lemmas.List.Elements.{All-nil, All-append}
 use Rattle.std.proofs.lemmas.Bool.{cases_eq, cases_Bool}
 use Rattle.fleet_hooks.specs.declared.law.StampLaw.{StampLaw}
-use Rattle.fleet_queue.specs.declared.errand.Errand.{Errand}
-use Rattle.fleet_history.specs.Legal.{robot_if, due_at}
-use Rattle.fleet_core.proofs.Ranges.{flat_map-range_more}
-
--- what one robot adds finds its place in the whole
-pub range_room : {X : Type 0} (f : ℕ → List X) (r n : ℕ) → r < n → length (flat_map f (range_with_len 0 r)) + length (f r) ≤ length (flat_map f (range_with_len 0 n))
-range_room f r zero l = absurd (omega arith)
-range_room f r (suc n) l =
-    let more : length (flat_map f (range_with_len 0 (n + 1))) ≡ length (flat_map f (range_with_len 0 n)) + length (f n) =
-    ap length (flat_map-range_more f n) ∙ length-append (flat_map f (range_with_len 0 n)) (f n) in
-    let whole : length (flat_map f (range_with_len 0 (suc n))) ≡ length (flat_map f (range_with_len 0 (n + 1))) = ap (λ k. length (flat_map f (range_with_len 0 k))) (let e : suc n ≡ n + 1 = omega arith in e) in
-    elim (cases_eq r n) [
-      | inl s ↦ subst (λ k. length (flat_map f (range_with_len 0 k)) + length (f k) ≤ length (flat_map f (range_with_len 0 (suc n)))) (sym s) (omega (arith, more, whole))
-      | inr ne ↦ omega (arith, range_room f r n (omega arith), more, whole)
-    ]
-
--- a list made of at most one item a robot has at most as many items
-pub range-le : {X : Type 0} (f : ℕ → List X) (n : ℕ) → ((r : ℕ) → length (f r) ≤ 1) → length (flat_map f (range_with_len 0 n)) ≤ n
-range-le f zero one = omega arith
-range-le f (suc n) one =
-    let more : length (flat_map f (range_with_len 0 (n + 1))) ≡ length (flat_map f (range_with_len 0 n)) + length (f n) =
-    ap length (flat_map-range_more f n) ∙ length-append (flat_map f (range_with_len 0 n)) (f n) in
-    let whole : length (flat_map f (range_with_len 0 (suc n))) ≡ length (flat_map f (range_with_len 0 (n + 1))) = ap (λ k. length (flat_map f (range_with_len 0 k))) (let e : suc n ≡ n + 1 = omega arith in e) in
-    omega (arith, range-le f n one, one n, more, whole)
-
-pub robot_if-le : (b : Bool) (r : ℕ) → length (robot_if b r) ≤ 1
-robot_if-le true r = omega arith
-robot_if-le false r = omega arith
-
-pub due_at-le : (to : List ℕ) (r : ℕ) (o : Option Errand) → length (due_at to r o) ≤ 1
-due_at-le to r None = omega arith
-due_at-le to r (Some f) =
-    elim (cases_Bool (eqb f.cell (slice_index to r))) [
-      | inl e ↦ rw e (omega arith)
-      | inr e ↦ rw e (omega arith)
-    ]
+use Rattle.fleet_history.specs.Legal.{robot_if}
+use Rattle.fleet_history.proofs.Legal.{All-single}
+use Rattle.fleet_state.proofs.Ranges.{flat_map-range_more}
+use Rattle.fleet_core.specs.Hooks.{without_all, DoRise}
 
 abbrev pub spare_law : List (Option StampLaw) → ℕ → Option StampLaw
 spare_law spare k = slice_index_or spare k None
@@ -69,6 +39,81 @@ unspent-before spare spare₀ p r stays inv behind k l =
       | inl e ↦ subst (λ k. spare_law spare k ≡ cond (p k) None (spare_law spare₀ k)) e (behind r (omega arith) ∙ rw stays refl)
       | inr ne ↦ inv k (omega arith)
     ]
+
+-- ---- several farewells
+
+-- one more is spent
+pub without-more : (rs : List ℕ) (r : ℕ) (spare : List (Option StampLaw)) → without_all (rs ++ r ∷ []) spare ≡ slice_set (without_all rs spare) r None
+without-more [] r spare = refl
+without-more (x ∷ rs) r spare = without-more rs r (slice_set spare x None)
+
+pub length-without : (rs : List ℕ) (spare : List (Option StampLaw)) → length (without_all rs spare) ≡ length spare
+length-without [] spare = refl
+length-without (r ∷ rs) spare = length-without rs (slice_set spare r None) ∙ length-set spare r None
+
+-- who is not among them keeps its own
+pub without-other : (rs : List ℕ) (k : ℕ) (spare : List (Option StampLaw)) → ((i : ℕ) → i < length rs → (slice_index rs i ≡ k → ⊥)) → spare_law (without_all rs spare) k ≡ spare_law spare k
+without-other [] k spare others = refl
+without-other (r ∷ rs) k spare others =
+    without-other rs k (slice_set spare r None) (λ i l. others (suc i) (omega arith)) ∙ get_or-set_other spare r k None None (λ e. others 0 (omega arith) (sym e))
+
+-- those who leave, by number
+abbrev pub leavers_to : (ℕ → Bool) → ℕ → List ℕ
+leavers_to p n = flat_map (λ r. robot_if (p r) r) (range_with_len 0 n)
+
+leavers-more : (p : ℕ → Bool) (n : ℕ) → leavers_to p (n + 1) ≡ leavers_to p n ++ robot_if (p n) n
+leavers-more p n = flat_map-range_more (λ r. robot_if (p r) r) n
+
+-- what holds of one more robot's list holds of that which is made of it
+one_more : (P : ℕ → List ℕ → Type 0) (p : ℕ → Bool) (n : ℕ) → P (n + 1) (leavers_to p n ++ robot_if (p n) n) → P (suc n) (leavers_to p (suc n))
+one_more P p n x =
+    let s : n + 1 ≡ suc n = omega arith in
+    subst (λ k. P k (leavers_to p k)) s (subst (P (n + 1)) (sym (leavers-more p n)) x)
+
+-- each of them is one of the robots, and leaves
+pub leavers-are : (p : ℕ → Bool) (n : ℕ) → All (λ r. (r < n) × (p r ≡ true)) (leavers_to p n)
+leavers-are p zero = All-nil (λ r. (r < 0) × (p r ≡ true))
+leavers-are p (suc n) =
+    one_more (λ k rs. All (λ r. (r < k) × (p r ≡ true)) rs) p n
+    (All-append (λ r. (r < n + 1) × (p r ≡ true)) (leavers_to p n) (robot_if (p n) n)
+    (λ i d l. let x = leavers-are p n i d l in (omega (arith, x.0), x.1))
+    (elim (cases_Bool (p n)) [
+      | inl e ↦ rw e (All-single (λ r. (r < n + 1) × (p r ≡ true)) n (omega arith, e))
+      | inr e ↦ rw e (All-nil (λ r. (r < n + 1) × (p r ≡ true)))
+    ]))
+
+rise-more : (rs : List ℕ) (n : ℕ) → DoRise rs → ((i : ℕ) → i < length rs → slice_index rs i < n) → DoRise (rs ++ n ∷ [])
+rise-more rs n rise below i j l m =
+    let total = length_push rs n in
+    let front : slice_index (rs ++ n ∷ []) i ≡ slice_index rs i = get_or-append rs (n ∷ []) 0 i (omega arith) in
+    elim (cases_eq j (length rs)) [
+      | inl e ↦ (let last : slice_index (rs ++ n ∷ []) j ≡ n = get_or_push rs n 0 j (sym e) in omega (arith, below i (omega arith)))
+      | inr ne ↦ (let inner : slice_index (rs ++ n ∷ []) j ≡ slice_index rs j = get_or-append rs (n ∷ []) 0 j (omega (arith, ne)) in omega (arith, rise i j l (omega (arith, ne))))
+    ]
+
+pub leavers-rise : (p : ℕ → Bool) (n : ℕ) → DoRise (leavers_to p n)
+leavers-rise p zero = λ i j l m. absurd (omega arith)
+leavers-rise p (suc n) =
+    one_more (λ k rs. DoRise rs) p n
+    (elim (cases_Bool (p n)) [
+      | inl e ↦ rw e (rise-more (leavers_to p n) n (leavers-rise p n) (λ i l. (leavers-are p n i 0 l).0))
+      | inr e ↦ rw (e, append-nil (leavers_to p n)) (leavers-rise p n)
+    ])
+
+abbrev AreSpent : (ℕ → Bool) → List (Option StampLaw) → ℕ → List ℕ → Type 0
+AreSpent p spare n rs = n ≤ length spare → (k : ℕ) → k < n → spare_law (without_all rs spare) k ≡ cond (p k) None (spare_law spare k)
+
+-- exactly theirs are spent
+pub leavers-spent : (p : ℕ → Bool) (spare : List (Option StampLaw)) (n : ℕ) → AreSpent p spare n (leavers_to p n)
+leavers-spent p spare zero = λ few k l. absurd (omega arith)
+leavers-spent p spare (suc n) =
+    one_more (AreSpent p spare) p n
+    (λ few k l. elim (cases_Bool (p n)) [
+      | inl e ↦ rw (e, without-more (leavers_to p n) n spare)
+          (spent-before (without_all (leavers_to p n) spare) spare p n (omega (arith, length-without (leavers_to p n) spare)) e (leavers-spent p spare n (omega arith)) k l)
+      | inr e ↦ rw (e, append-nil (leavers_to p n))
+          (unspent-before (without_all (leavers_to p n) spare) spare p n e (leavers-spent p spare n (omega arith)) (λ j m. without-other (leavers_to p n) j spare (λ i q at. omega (arith, (leavers-are p n i 0 q).0))) k l)
+    ])
 
 -- one farewell is taken out
 pub spare-set : {X : Type 0} (law : X → StampLaw) (xs : List (Option X)) (i : ℕ) (o : Option X) → o ≡ None →

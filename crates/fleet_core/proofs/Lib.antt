@@ -1,12 +1,9 @@
-pub mod Ranges
-pub mod Facts
 pub mod Farewells
 pub mod Goaled
 pub mod Delivers
-pub mod Keeps
-pub mod Boxes
-pub mod Counts
-pub mod Ticked
+pub mod Stamped
+pub mod Kept
 pub mod Opens
 pub mod Hooked
+pub mod Ticked
 pub mod Alike

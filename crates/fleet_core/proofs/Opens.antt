@@ -1,6 +1,6 @@
 -- What holds of a world at its opening.
 use Rattle.std.proofs.Common.{◌≡◌, ℕ, zero, suc, ◌+◌, ◌<◌, ◌≤◌, ◌↔◌, List, [], ◌∷◌, length, map, get_or, replicate, sym, refl, ap, ◌∙◌, subst, arith, inl, inr, Option, Some, None, false, Ok, Err, Result}
-use Rattle.std.specs.Prelude.{slice_get, slice_index_or, All, sum_by, count_by, ◌==◌}
+use Rattle.std.specs.Prelude.{slice_get, slice_index, slice_index_or, All, sum_by, count_by, ◌==◌}
 use Rattle.std.specs.List.{range_with_len}
 use Rattle.std.proofs.lemmas.List.{append-nil, length-map, length-replicate, get_or-replicate, get_or_past, ext_get_or}
 use Rattle.std.proofs.lemmas.List.FromFn.{length-range_with_len}
@@ -17,14 +17,18 @@ use Rattle.fleet_hooks.specs.Law.{IsStampLaw}
 use Rattle.fleet_hooks.specs.declared.law.StampLaw.{StampLaw}
 use Rattle.fleet_history.specs.declared.history.Opening.{Opening}
 use Rattle.fleet_history.specs.declared.history.RobotState.{RobotState}
-use Rattle.fleet_history.specs.History.{History, start, errands_at, unknown_client, unfinished, owed}
+use Rattle.fleet_history.specs.declared.history.ClientState.{ClientState}
+use Rattle.fleet_history.specs.History.{History, start, clients, errands_at, unknown_client, unfinished, owed}
+use Rattle.fleet_history.specs.Notices.{noticed_count}
+use Rattle.fleet_history.proofs.Chapters.{chapters-begin}
+use Rattle.fleet_state.proofs.Parts.{listed}
 use Rattle.fleet_history.specs.Legal.{IsLegal, IsRobotInOrder, opened, no_law}
 use Rattle.fleet_history.proofs.Withdrawals.{unfinished-start}
 use Rattle.fleet_core.specs.Hooks.{HookLaws, law_at, HaveCount, AreOrderly, AreArrivals, AreFarewells}
 use Rattle.fleet_core.specs.Pending.{Pending, no_pending}
 use Rattle.fleet_core.specs.Opening.{CanOpen}
 use Rattle.fleet_core.specs.Core.{robot_at, opening_of}
-use Rattle.fleet_core.specs.Kept.{IsKept, no_queue, no_tally}
+use Rattle.fleet_core.specs.Kept.{AreBoxes, IsWithin}
 
 -- a word of each robot
 field_at : {X Y : Type 0} (p : X → Y) (f : ℕ → X) (a n r k : ℕ) (d : Y) → r < n → k ≡ a + r → get_or (map p (map f (range_with_len a n))) r d ≡ p (f k)
@@ -142,45 +146,38 @@ unfinished-opened A starts n limits laws r =
     let h : History A = start (opening_of starts n limits laws) in
     unfinished-start h.opening r ∙ no_errands A starts laws.arrivals laws.farewells r
 
-replicate_false : (n r : ℕ) → slice_index_or (replicate n false) r false ≡ false
-replicate_false zero r = refl
-replicate_false (suc n) zero = refl
-replicate_false (suc n) (suc r) = replicate_false n r
+-- ---- what is kept
 
-pub IsKept-opened : {A : Type 0} (m : Floor) (starts : List ℕ) (n : ℕ) (limits : Limits) (laws : HookLaws) → CanOpen m starts n limits laws → AreOrderly laws →
-    IsKept {A = A} m limits (start (opening_of starts n limits laws)) starts (replicate (length starts) (record { items = []; capacity = limits.queue }))
-    (record { accounts = replicate n blank; shut = replicate (length starts) false; life = limits.life }) (replicate n no_tally)
-    (replicate n (record { notices = []; limit = limits.mailbox })) 0
-IsKept-opened {A = A} m starts n limits laws can orderly =
+get_replicate : (n c : ℕ) → slice_index (replicate n 0) c ≡ 0
+get_replicate zero c = refl
+get_replicate (suc n) zero = refl
+get_replicate (suc n) (suc c) = get_replicate n c
+
+pub boxes-opened : {A : Type 0} (m : Floor) (starts : List ℕ) (n : ℕ) (limits : Limits) (laws : HookLaws) → CanOpen m starts n limits laws →
+    AreBoxes {A = A} (start (opening_of starts n limits laws)) (record { boxes = replicate n (record { notices = []; limit = limits.mailbox }); noticed = replicate n 0 })
+boxes-opened {A = A} m starts n limits laws can =
     let h : History A = start (opening_of starts n limits laws) in
-    let queue : Queue = record { items = []; capacity = limits.queue } in
     let box : Pending = record { notices = []; limit = limits.mailbox } in
-    let robots = robot_count A starts laws.arrivals laws.farewells in
     let count = length-replicate n unknown_client in
-    let none : (r : ℕ) → unfinished h r ≡ [] = λ r. unfinished-start h.opening r ∙ no_errands A starts laws.arrivals laws.farewells r in
-    let no_owed : (c : ℕ) → owed h c ≡ 0 = λ c. none_owed h c 0 (length h.opening.robots) none in
+    let no_owed : (c : ℕ) → owed h c ≡ 0 = λ c. none_owed h c 0 (length h.opening.robots) (unfinished-opened A starts n limits laws) in
     record {
-      legal = legal-opened m starts n limits laws can orderly;
-      placed = sym (cells_of A starts laws.arrivals laws.farewells);
-      queue_count = length-replicate (length starts) queue ∙ sym robots;
-      queued = λ r l. ap (λ (q : Queue). q.items) (get_or-replicate (length starts) r queue no_queue (omega arith)) ∙ sym (none r);
-      queue_room = λ r l. ap (λ (q : Queue). q.capacity) (get_or-replicate (length starts) r queue no_queue (omega arith));
-      queue_within = λ r l. rw (get_or-replicate (length starts) r queue no_queue (omega arith)) (omega arith);
-      account_count = length-replicate n blank ∙ sym count;
-      accounted = λ c l. rw (get_or-replicate n c blank blank (omega arith), get_or-replicate n c unknown_client unknown_client (omega arith), no_owed c) refl;
-      within_life = λ c l. rw (get_or-replicate n c blank blank (omega arith)) (omega arith);
-      shut_count = length-replicate (length starts) false ∙ sym robots;
-      shut = λ r. replicate_false (length starts) r ∙ sym (rw (none_shut A starts laws.arrivals laws.farewells r) refl);
-      life = refl;
-      tally_count = length-replicate n no_tally ∙ sym count;
-      tallied = λ c l. rw (get_or-replicate n c no_tally no_tally (omega arith), get_or-replicate n c unknown_client unknown_client (omega arith)) refl;
-      small = λ c l. rw (get_or-replicate n c no_tally no_tally (omega arith)) (record { taken = omega arith; noticed = omega arith });
-      box_count = length-replicate n box ∙ sym count;
-      box_room = λ c l. rw (get_or-replicate n c box no_pending (omega arith), no_owed c) (omega arith);
-      ticked = refl;
-      few_entries = omega arith;
-      tick_within = omega arith;
+      count = length-replicate n box ∙ sym count;
+      room = λ c l. rw (get_or-replicate n c box no_pending (omega arith), no_owed c) (omega arith);
+      noticed = listed 0 (clients h) (noticed_count h) (replicate n 0) (length-replicate n 0 ∙ sym count)
+          (λ c l. get_replicate n c ∙ sym (rw (get_or-replicate n c unknown_client unknown_client (omega arith)) refl));
+    }
+
+pub within-opened : {A : Type 0} (m : Floor) (starts : List ℕ) (n : ℕ) (limits : Limits) (laws : HookLaws) → CanOpen m starts n limits laws →
+    IsWithin {A = A} limits 0 (start (opening_of starts n limits laws))
+within-opened {A = A} m starts n limits laws can =
+    let h : History A = start (opening_of starts n limits laws) in
+    let count = length-replicate n unknown_client in
+    record {
       valid = can.range.0;
+      entries = omega arith;
+      clock = omega arith;
+      numbered = omega (arith, can.range.0.chapters.0);
+      chapters = chapters-begin h limits.chapter (λ c l. ap (λ (s : ClientState). s.taken) (get_or-replicate n c unknown_client unknown_client (omega arith)));
     }
 
 -- ---- the closures at the opening

@@ -1,21 +1,48 @@
--- What a world keeps of the robots' waits and goals beside its history.
-use Rattle.std.specs.Prelude.{ℕ, ◌≡◌, ◌<◌, ◌≤◌, ◌↔◌, Bool, IsTrue, List, Option, Some, None, if◌then◌else◌, length, slice_index_or, slice_set}
+-- What a planner keeps of the robots' goals, and how it follows from the history.
+use Rattle.std.specs.Prelude.{ℕ, ◌≡◌, ◌<◌, ◌↔◌, Bool, IsTrue, ◌==◌, List, [], ◌∷◌, Option, Some, None, if◌then◌else◌, length, map, slice_get, slice_index, slice_set}
+use Rattle.std.specs.List.{range_with_len}
 use Rattle.fleet_grid.specs.Floor.{Floor, IsNeighbour}
 use Rattle.fleet_grid.specs.Walk.{IsBridgeless}
 use Rattle.fleet_field.specs.Field.{Aim}
 use Rattle.fleet_goals.specs.Aims.{goals_of, AreOn}
-use Rattle.fleet_hooks.specs.declared.law.TieLaw.{TieLaw}
 use Rattle.fleet_pibt.specs.Size.{Size}
+use Rattle.fleet_queue.specs.declared.errand.Errand.{Errand}
 use Rattle.fleet_queue.specs.Queue.{Queue}
 use Rattle.fleet_book.specs.declared.order.Order.{Order}
 use Rattle.fleet_book.specs.declared.order.Order.TheVariants.{Go}
 use Rattle.fleet_book.specs.declared.verdict.Verdict.{Verdict}
 use Rattle.fleet_book.specs.declared.verdict.Verdict.TheVariants.{Accepted}
 use Rattle.fleet_history.specs.History.{History, robots, front}
-use Rattle.fleet_history.specs.Laws.{EachTick}
 use Rattle.fleet_history.specs.Legal.{is_none_left}
-use Rattle.fleet_plan.specs.Planned.{waits, goals, IsPlanned}
-use Rattle.fleet_core.specs.Kept.{queue_at}
+use Rattle.fleet_history.specs.Verdicts.{IsVerdict}
+use Rattle.fleet_plan.specs.Planned.{goals, cell_of}
+use Rattle.fleet_state.specs.Robots.{queue_at}
+use Rattle.fleet_state.specs.State.{State, IsStateOf}
+
+-- what each robot aims at, the size of the fleet and its map, and whether the map has no bridge
+pub record Planner : Type 0 where
+  pub aims : List (Option Aim)
+  pub size : Size
+  pub bridgeless : Bool
+
+-- the planner goes by the goals after the history
+pub record IsAimed {A : Type 0} (m : Floor) (h : History A) (p : Planner) : Type 0 where
+  pub aimed : goals_of p.aims ≡ goals h
+  pub on : AreOn m p.aims
+  pub sized : p.size ≡ record { cells = length m.letters; robots = robots h }
+  pub bridge : IsTrue p.bridgeless ↔ IsBridgeless (IsNeighbour m)
+
+-- it goes by those of a history of which this is the state
+pub record MayPlan {A : Type 0} (m : Floor) (s : State A) (p : Planner) : Type 0 where
+  pub history : History A
+  pub is : IsStateOf m history s
+  pub aimed : IsAimed m history p
+
+-- the same, and the verdict is one that the history gives on an order of some client
+pub record MayBegin {A : Type 0} (m : Floor) (s : State A) (p : Planner) (order : Order) (v : Verdict) : Type 0 where
+  pub may : MayPlan m s p
+  pub client : ℕ
+  pub verdict : IsVerdict m may.history client order v
 
 -- the robot and the cell of an accepted errand that is its robot's first
 abbrev pub begun : List Queue → Order → Verdict → Option (ℕ × ℕ)
@@ -27,24 +54,14 @@ abbrev pub begun_goals : Option (ℕ × ℕ) → List (Option ℕ) → List (Opt
 begun_goals None gs = gs
 begun_goals (Some first) gs = slice_set gs first.0 (Some first.1)
 
--- the robot begins to wait
-abbrev pub begun_waits : Option (ℕ × ℕ) → List (Option ℕ) → List (Option ℕ)
-begun_waits None ws = ws
-begun_waits (Some first) ws = slice_set ws first.0 (Some 0)
+-- the goal behind a tick that brings a robot with these errands to the cell: an arrival makes way for the next errand
+abbrev pub goal_on : ℕ → List Errand → Option ℕ
+goal_on cell [] = None
+goal_on cell (f ∷ rest) = if f.cell == cell then cell_of (slice_get rest 0) else Some f.cell
 
--- no wait is longer
-abbrev pub AreAtMost : ℕ → List (Option ℕ) → Type 0
-AreAtMost tick ws = (r w : ℕ) → slice_index_or ws r None ≡ Some w → w ≤ tick
-
-pub record IsAimed {A : Type 0} (m : Floor) (ties : List TieLaw) (h : History A) (ws : List (Option ℕ)) (aims : List (Option Aim)) (size : Size) (bridgeless : Bool) (tick : ℕ) : Type 0 where
-  pub waited : ws ≡ waits h
-  pub short : AreAtMost tick ws
-  pub aimed : goals_of aims ≡ goals h
-  pub on : AreOn m aims
-  pub sized : size ≡ record { cells = length m.letters; robots = robots h }
-  pub bridge : IsTrue bridgeless ↔ IsBridgeless (IsNeighbour m)
-  pub tied : length ties ≡ robots h
-  pub planned : EachTick (IsPlanned m ties) h
+-- the goals behind a tick to these cells
+abbrev pub goals_ticked : List Queue → List ℕ → List (Option ℕ)
+goals_ticked queues to = map (λ r. goal_on (slice_index to r) (queue_at queues r).items) (range_with_len 0 (length queues))
 
 -- nobody has an errand
 abbrev pub IsIdle : {A : Type 0} → History A → Type 0

@@ -1,5 +1,5 @@
 -- The laws of a fleet's closures, and how the closures that a world has belong to it.
-use Rattle.std.specs.Prelude.{ℕ, ◌≡◌, ◌<◌, Bool, true, false, List, Option, Some, None, All, map, length, is_some, slice_index_or}
+use Rattle.std.specs.Prelude.{ℕ, ◌≡◌, ◌<◌, Bool, true, false, List, [], ◌∷◌, Option, Some, None, All, map, length, is_some, slice_index, slice_index_or, slice_set}
 use Rattle.std.specs.Option.{option_map}
 use Rattle.fleet_hooks.specs.declared.law.StampLaw.{StampLaw}
 use Rattle.fleet_hooks.specs.declared.law.TieLaw.{TieLaw}
@@ -63,3 +63,12 @@ IsLastStamp spare r stamp = (law : StampLaw) × (slice_index_or spare r None ≡
 abbrev pub IsLeft : Option StampLaw → StampLaw → Bool → Type 0
 IsLeft (Some law) wanted done = law ≡ wanted
 IsLeft None wanted done = done ≡ true
+
+-- what is left of farewells when those of these robots are spent
+abbrev pub without_all : List ℕ → List (Option StampLaw) → List (Option StampLaw)
+without_all [] spare = spare
+without_all (r ∷ rs) spare = without_all rs (slice_set spare r None)
+
+-- each of the numbers is less than the next
+abbrev pub DoRise : List ℕ → Type 0
+DoRise rs = (i j : ℕ) → i < j → j < length rs → slice_index rs i < slice_index rs j

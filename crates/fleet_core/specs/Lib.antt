@@ -4,5 +4,6 @@ pub mod Hooks
 pub mod Pending
 pub mod Opening
 pub mod Core
-pub mod Kept
+pub mod Mailboxes
 pub mod Aimed
+pub mod Kept

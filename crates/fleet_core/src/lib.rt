@@ -2,14 +2,15 @@
 //! robots' closures lie beside it.
 #![tactic(auto)]
 
-mod aiming;
-mod enter;
+mod entries;
 mod faults;
+mod gifts;
 mod kernel;
 mod mailbox;
 mod opening;
+mod planner;
 mod robots;
-mod tick;
+mod stamps;
 
 pub use crate::faults::{ShutFault, TakeFault, TickFault, TickReport};
 pub use crate::kernel::Core;

@@ -1,8 +1,10 @@
-//! A client's mailbox: the notices that it was not given yet, in a ring of fixed room.
-ghost use Rattle.std.specs.Prelude.{◌≡◌, ◌+◌, ◌<◌, ◌≤◌, ◌^◌, [], ◌∷◌, ◌++◌, length, drop, slice_get, IfOk, OnOk, OnErr};
+//! The clients' mailboxes: for each the notices that it was not given yet, in a ring of fixed room.
+ghost use Rattle.std.specs.Prelude.{◌≡◌, ◌+◌, ◌<◌, ◌≤◌, ◌^◌, ◌==◌, [], ◌∷◌, ◌++◌, ℕ, All, count_by, length, drop, replicate, slice_get, slice_index, IfOk, OnOk, OnErr};
+ghost use Rattle.fleet_core.specs.Mailboxes.{box_at, with_notice, with_box, AreDelivered};
 
 use circular_buffer::HeapCircularBuffer;
 use fleet_book::Notice;
+use fleet_history::Arrival;
 use std::alloc::{AllocError, Allocator};
 use std::marker::Model;
 
@@ -80,5 +82,130 @@ impl<A: Allocator + Copy> Mailbox<A> {
         ensures rest { self.new ≡ record self.old { notices = drop 1 self.old.notices } }
     {
         self.notices.pop_front()
+    }
+}
+
+/// The clients' mailboxes, by number, and how many notices were made for each client. Only `open` and `widen` take memory.
+#[derive(Drop)]
+pub(crate) struct Mailboxes<A: Allocator + Copy> {
+    boxes: Vec<Mailbox<A>, A>,
+    noticed: Vec<u64, A>,
+}
+
+impl<A: Allocator + Copy> Model for Mailboxes<A> {
+    ghost use Rattle.std.specs.Prelude.{◌≡◌, length};
+    ghost use Rattle.fleet_core.specs.Mailboxes.{Mailboxes};
+
+    ghost Value = { Mailboxes };
+
+    ghost view = { λ x. record { boxes = x.boxes.items; noticed = x.noticed.items } };
+
+    ghost invariant = { λ x. length x.noticed.items ≡ length x.boxes.items };
+}
+
+impl<A: Allocator + Copy> Mailboxes<A> {
+    /// So many mailboxes without notices, each with its room.
+    pub(crate) fn open(alloc: A, count: usize, limit: u32) -> Result<Self, AllocError>
+        ensures { IfOk result (λ x. x
+            ≡ record { boxes = replicate count record { notices = []; limit = limit }; noticed = replicate count 0 }) }
+    {
+        let mut boxes = Vec::new(alloc);
+        let mut noticed = Vec::new(alloc);
+        for _i in 0..count {
+            boxes.push(Mailbox::new(alloc, limit)?)?;
+            noticed.push(0)?;
+        }
+        Ok(Mailboxes { boxes, noticed })
+    }
+
+    /// How many notices the client was not given yet.
+    pub(crate) fn len_of(&self, client: u32) -> usize
+        requires { client < length self.now.boxes }
+        ensures value { result ≡ length (box_at self.now.boxes client).notices }
+        ensures small { result < 2 ^ 63 }
+    {
+        self.boxes[client as usize].len()
+    }
+
+    /// How many notices and unfinished errands the client may have.
+    pub(crate) fn limit_of(&self, client: u32) -> u64
+        requires { client < length self.now.boxes }
+        ensures { result ≡ (box_at self.now.boxes client).limit }
+    {
+        self.boxes[client as usize].limit()
+    }
+
+    /// The first notice that the client was not given yet.
+    pub(crate) fn first(&self, client: u32) -> Option<Notice>
+        requires { client < length self.now.boxes }
+        ensures { result ≡ slice_get (box_at self.now.boxes client).notices 0 }
+    {
+        self.boxes[client as usize].first()
+    }
+
+    /// The number of the client's next notice, from 1.
+    pub(crate) fn next_number(&self, client: u32) -> u64
+        requires known { client < length self.now.boxes }
+        requires small { slice_index self.now.noticed client + 1 < 2 ^ 64 }
+        ensures next { result ≡ slice_index self.now.noticed client + 1 }
+        ensures one_each { length self.now.noticed ≡ length self.now.boxes }
+    {
+        self.noticed[client as usize] + 1
+    }
+
+    /// Puts the client's next notice behind the others.
+    pub(crate) fn push(&mut self, client: u32, notice: Notice)
+        requires known { client < length self.old.boxes }
+        requires small { slice_index self.old.noticed client + 1 < 2 ^ 64 }
+        requires room { length (box_at self.old.boxes client).notices < (box_at self.old.boxes client).limit }
+        ensures { self.new ≡ with_notice self.old client notice }
+    {
+        let mailbox = &mut self.boxes[client as usize];
+        mailbox.push(notice);
+        self.noticed[client as usize] += 1;
+    }
+
+    /// Tells the clients of these arrivals of a tick that brought the robots to these cells.
+    pub(crate) fn deliver(&mut self, arrived: &[Arrival], to: &[u32], tick: u64)
+        requires known { All (λ a. a.client < length self.old.boxes) arrived.now }
+        requires on_map { All (λ a. a.robot < length to.now) arrived.now }
+        requires small { (c : ℕ) → c < length self.old.boxes → slice_index self.old.noticed c + length arrived.now < 2 ^ 60 }
+        requires room { (c : ℕ) → c < length self.old.boxes →
+            length (box_at self.old.boxes c).notices + count_by (λ a. a.client == c) arrived.now ≤ (box_at self.old.boxes c).limit }
+        ensures { AreDelivered arrived.now to.now tick self.old self.new }
+    {
+        for a in arrived {
+            let notice = Notice::Arrived {
+                seq: self.next_number(a.client),
+                number: a.number,
+                robot: a.robot,
+                cell: to[a.robot as usize],
+                tick,
+                stamp: a.stamp,
+            };
+            self.push(a.client, notice);
+        }
+    }
+
+    /// Takes the client's first notice out.
+    pub(crate) fn pop(&mut self, client: u32) -> Option<Notice>
+        requires { client < length self.old.boxes }
+        ensures first { result ≡ slice_get (box_at self.old.boxes client).notices 0 }
+        ensures rest { self.new ≡ with_box self.old client (record (box_at self.old.boxes client) { notices = drop 1 (box_at self.old.boxes client).notices }) }
+    {
+        let mailbox = &mut self.boxes[client as usize];
+        mailbox.pop()
+    }
+
+    /// Makes room for so many more notices of the client.
+    pub(crate) fn widen(&mut self, client: u32, extra: u64) -> Result<(), AllocError>
+        requires known { client < length self.old.boxes }
+        requires small { (box_at self.old.boxes client).limit + extra ≤ 2 ^ 60 }
+        ensures ok { OnOk result (self.new
+            ≡ with_box self.old client (record (box_at self.old.boxes client) { limit = (box_at self.old.boxes client).limit + extra })) }
+        ensures err { OnErr result (self.new ≡ self.old) }
+    {
+        let mailbox = &mut self.boxes[client as usize];
+        mailbox.widen(extra)
     }
 }

@@ -43,7 +43,7 @@ pub state-same : {A : Type 0} {a a' : List ℕ} {b b' : List Queue} {c c' : List
 state-same room a b c d e f t q n = rw (a, b, c, d, e, f, t, q, n) refl
 
 -- a list with one new item, by its items
-set-by : {X : Type 0} (d : X) (n i : ℕ) (x : X) (g : ℕ → X) (xs : List X) → length xs ≡ n → i < n → x ≡ g i → ((j : ℕ) → j < n → (i ≡ j → ⊥) → get_or xs j d ≡ g j) →
+pub set-by : {X : Type 0} (d : X) (n i : ℕ) (x : X) (g : ℕ → X) (xs : List X) → length xs ≡ n → i < n → x ≡ g i → ((j : ℕ) → j < n → (i ≡ j → ⊥) → get_or xs j d ≡ g j) →
     slice_set xs i x ≡ map g (range_with_len 0 n)
 set-by d n i x g xs count l here each =
     listed d n g (slice_set xs i x) (length-set xs i x ∙ count)

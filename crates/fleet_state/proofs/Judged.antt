@@ -80,7 +80,7 @@ module _ {A : Type 0} {m : Floor} {h : History A} {s : State A} (k : IsStateOf m
   has-place c Close v is enough = tt
   has-place c (Withdraw n) v is enough = tt
 
-  items-of : (r : ℕ) → r < robots h → (queue_at s.queues r).items ≡ unfinished h r
+  pub items-of : (r : ℕ) → r < robots h → (queue_at s.queues r).items ≡ unfinished h r
   items-of r l = ap (λ (q : Queue). q.items) (queue-of k r l)
 
   -- where the queues have an errand, the history has it

@@ -4,6 +4,7 @@ ghost use Rattle.std.specs.List.{range_with_len};
 ghost use Rattle.fleet_history.specs.History.{place, clock, robots, clients, front, unfinished, owed, is_shut, taken_count, accepted_count};
 ghost use Rattle.fleet_history.specs.Notices.{noticed_count};
 ghost use Rattle.fleet_history.specs.Waits.{wait};
+ghost use Rattle.fleet_state.specs.Robots.{queue_at};
 ghost use Rattle.fleet_state.specs.State.{Of, robot_count, client_count, by_robot};
 
 use crate::clients::Clients;
@@ -36,14 +37,16 @@ impl<A: Allocator + Copy> Model for FleetState<A> {
 impl<A: Allocator + Copy> FleetState<A> {
     /// Where the robots stand.
     pub fn place(&self) -> &[u32]
-        ensures { Of self.now (λ h. result.now ≡ place h) }
+        ensures cells { result.now ≡ self.now.cells }
+        ensures of { Of self.now (λ h. result.now ≡ place h) }
     {
         self.robots.cells()
     }
 
     /// The ticks made.
     pub fn clock(&self) -> u64
-        ensures { Of self.now (λ h. result ≡ clock h) }
+        ensures tick { result ≡ self.now.tick }
+        ensures of { Of self.now (λ h. result ≡ clock h) }
     {
         self.tick
     }
@@ -66,7 +69,8 @@ impl<A: Allocator + Copy> FleetState<A> {
 
     /// The waits, by robot.
     pub fn waits(&self) -> &[Option<u64>]
-        ensures { Of self.now (λ h. result.now ≡ by_robot h (wait h)) }
+        ensures waits { result.now ≡ self.now.waits }
+        ensures of { Of self.now (λ h. result.now ≡ by_robot h (wait h)) }
     {
         self.robots.waits()
     }
@@ -89,7 +93,8 @@ impl<A: Allocator + Copy> FleetState<A> {
     /// The robot's first unfinished errand.
     pub fn front(&self, robot: u32) -> Option<Errand>
         requires { robot < robot_count self.now }
-        ensures { Of self.now (λ h. result ≡ front h robot) }
+        ensures first { result ≡ slice_get (queue_at self.now.queues robot).items 0 }
+        ensures of { Of self.now (λ h. result ≡ front h robot) }
     {
         self.robots.queue(robot as usize).front()
     }
@@ -97,7 +102,8 @@ impl<A: Allocator + Copy> FleetState<A> {
     /// The robot's unfinished errand behind the front.
     pub fn next(&self, robot: u32) -> Option<Errand>
         requires { robot < robot_count self.now }
-        ensures { Of self.now (λ h. result ≡ slice_get (unfinished h robot) 1) }
+        ensures second { result ≡ slice_get (queue_at self.now.queues robot).items 1 }
+        ensures of { Of self.now (λ h. result ≡ slice_get (unfinished h robot) 1) }
     {
         self.robots.queue(robot as usize).get(1)
     }

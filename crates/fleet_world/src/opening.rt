@@ -8,7 +8,6 @@ ghost use Rattle.fleet_core.specs.Opening.{AreInRange, AreRobots, AreOnFloor, Ca
 ghost use Rattle.fleet_world.specs.Opening.{IsFirstOffFloor, AreShared, IsFirstShared, IsRefused};
 ghost use Rattle.fleet_core.specs.Hooks.{laws_of, spare_laws, HaveCount};
 ghost use Rattle.fleet_core.specs.Core.{robot_at};
-ghost use Rattle.fleet_core.specs.Kept.{no_tally};
 
 use crate::faults::OpenFault;
 use fleet_book::Limits;

@@ -1,6 +1,6 @@
 use Rattle.std.proofs.Common.{refl}
 use Rattle.fleet_core.specs.Core.{robot_at}
-use Rattle.fleet_core.proofs.Ranges.{map-range_more}
+use Rattle.fleet_state.proofs.Ranges.{map-range_more}
 use Rattle.fleet_core.proofs.opening.robots_at.Goals as goal
 
 pub loop-r-preserved : goal.loop-r-preserved

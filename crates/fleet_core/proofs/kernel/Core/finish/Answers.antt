@@ -2,8 +2,11 @@ use Rattle.fleet_history.specs.History.{history_of}
 use Rattle.fleet_core.proofs.Goaled.{each_advances}
 use Rattle.fleet_core.proofs.kernel.Core.finish.Goals as goal
 
+pub returns-clause-legal : goal.returns-clause-legal
+returns-clause-legal g c = rw (← c.self.view_is) c.self.invariant.is.legal
+
 pub returns-clause-planned : goal.returns-clause-planned
-returns-clause-planned g c = rw (← c.self.view_is) c.self.invariant.1.planned
+returns-clause-planned g c = rw (← c.self.view_is) c.self.invariant.tied.planned
 
 pub returns-clause-advancing : goal.returns-clause-advancing
-returns-clause-advancing g c = rw (← c.self.view_is) (each_advances c.self.inside.grid c.self.inside.ties.items (history_of c.self.inside.chapter) c.self.invariant.1.planned)
+returns-clause-advancing g c = rw (← c.self.view_is) (each_advances c.self.inside.grid c.self.inside.ties.items (history_of c.self.inside.chapter) c.self.invariant.tied.planned)

@@ -1,18 +1,25 @@
-use Rattle.std.proofs.Common.{arith, ◌<◌, ◌∙◌, length, ap, sym, subst}
-use Rattle.std.proofs.lemmas.List.{get_or_read, length-drop}
+use Rattle.std.proofs.Common.{arith, ◌<◌, sym, subst}
+use Rattle.std.proofs.lemmas.List.{length-drop}
 use Rattle.fleet_history.specs.History.{history_of, clients}
-use Rattle.fleet_core.specs.Pending.{Pending, no_pending}
-use Rattle.fleet_core.proofs.Boxes.{IsKept-box}
+use Rattle.fleet_core.specs.Mailboxes.{box_at}
+use Rattle.fleet_core.proofs.Kept.{boxes-with}
 use Rattle.fleet_core.proofs.kernel.Core.give.Goals as goal
+
+pub pop-requires : goal.pop-requires
+pop-requires g c =
+    let known : c.args.client < clients (history_of c.self.inside.chapter) = subst (λ w. c.args.client < clients w.history) (sym c.self.view_is) c.requires in
+    omega (arith, c.self.invariant.boxed.count)
 
 pub invariant_of-self : goal.invariant_of-self
 invariant_of-self g c =
-    let h = history_of c.self.inside.chapter in
-    let known : c.args.client < clients h = subst (λ w. c.args.client < clients w.history) (sym c.self.view_is) c.requires in
-    let box = get_or_read c.self.inside.mailboxes.items c.args.client c.index_mut-mailbox.result.now (omega (arith, c.self.invariant.0.box_count)) c.index_mut-mailbox.ensures.value no_pending in (
-      IsKept-box c.self.inside.grid c.self.inside.limits h c.self.inside.cells.items c.self.inside.queues.items c.self.inside.book c.self.inside.tallies.items c.self.inside.mailboxes.items c.self.inside.tick c.args.client c.pop.new.self
-          c.self.invariant.0 known
-          (omega (arith, ap (λ (b : Pending). length b.notices) box, ap (λ (b : Pending). length b.notices) c.pop.ensures.rest, length-drop 1 c.index_mut-mailbox.result.now.notices))
-          (omega (arith, ap (λ (b : Pending). b.limit) c.pop.ensures.rest, ap (λ (b : Pending). b.limit) box)),
-      c.self.invariant.1,
-    )
+    let known : c.args.client < clients (history_of c.self.inside.chapter) = subst (λ w. c.args.client < clients w.history) (sym c.self.view_is) c.requires in
+    let k = c.self.invariant in
+    let box = box_at c.self.inside.mailboxes.boxes c.args.client in
+    record {
+      is = k.is;
+      room = k.room;
+      within = k.within;
+      boxed = rw c.pop.ensures.rest (boxes-with k.is.legal k.boxed c.args.client _ known (omega (arith, length-drop 1 box.notices)) (omega arith));
+      aimed = k.aimed;
+      tied = k.tied;
+    }

@@ -1,4 +1,4 @@
-use Rattle.std.proofs.Common.{◌≡◌, ◌∙◌}
+use Rattle.std.proofs.Common.{◌≡◌}
 use Rattle.fleet_history.specs.History.{history_of}
 use Rattle.fleet_plan.specs.Planned.{waits}
 use Rattle.fleet_core.proofs.Goaled.{idle-is}
@@ -7,6 +7,6 @@ use Rattle.fleet_core.proofs.kernel.Core.is_idle.Goals as goal
 pub returns : goal.returns
 returns g c =
     let h = history_of c.self.inside.chapter in
-    let same : c.as_slice.result.now ≡ waits h = c.as_slice.ensures.value ∙ c.self.invariant.1.waited in
-    let idle = idle-is h c.as_slice.result.now same in
+    let same : c.waits.result.now ≡ waits h = c.waits.ensures.of c.self.inside.grid h c.self.invariant.is in
+    let idle = idle-is h c.waits.result.now same in
     rw (← c.self.view_is) (λ t. idle.0 (c.is_nobody.ensures.0 t), λ i. c.is_nobody.ensures.1 (idle.1 i))

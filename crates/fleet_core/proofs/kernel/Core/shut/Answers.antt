@@ -1,71 +1,114 @@
-use Rattle.std.proofs.Common.{arith, ◌≡◌, ◌∙◌, ◌<◌, [], false, ap, sym, refl, subst}
+use Rattle.std.proofs.Common.{arith, ◌≡◌, ◌∙◌, ◌<◌, [], false, length, ap, sym, refl, subst}
 use Rattle.std.specs.Prelude.{is_some}
-use Rattle.std.proofs.lemmas.List.{get_or_read}
-use Rattle.fleet_queue.specs.Queue.{Queue}
+use Rattle.std.specs.Option.{option_map}
+use Rattle.std.proofs.lemmas.List.{length-map}
 use Rattle.fleet_history.specs.declared.history.Entry.TheVariants as entry
 use Rattle.fleet_history.specs.History.{history_of, robots, unfinished, is_shut}
-use Rattle.fleet_history.specs.Legal.{Fits, IsFarewell}
+use Rattle.fleet_history.specs.Legal.{Fits, IsFarewell, is_none_left}
+use Rattle.fleet_history.proofs.Ticks.{each_tick-shut}
+use Rattle.fleet_plan.specs.Planned.{IsPlanned}
+use Rattle.fleet_state.proofs.Parts.{cell-count, queue-count}
+use Rattle.fleet_core.specs.Core.{HasEntries}
 use Rattle.fleet_core.specs.Hooks.{AreFarewells, spare_laws}
-use Rattle.fleet_core.specs.Kept.{no_queue}
-use Rattle.fleet_core.proofs.Goaled.{IsAimed-shut}
+use Rattle.fleet_core.proofs.Goaled.{aimed-shut, none_left_nil}
 use Rattle.fleet_core.proofs.Hooked.{farewell-there, farewell-is, farewells-done, farewells-shut}
-use Rattle.fleet_core.proofs.Keeps.{IsKept-shut, shut-fits, delivered-shut, cells-kept}
+use Rattle.fleet_core.proofs.Kept.{boxes-shut, delivered-shut, room-kept, within-shut}
 use Rattle.fleet_core.proofs.kernel.Core.shut.Goals as goal
-use Rattle.fleet_core.proofs.kernel.Core.shut.Goals.{then-is_empty, else-is_empty, After-add}
+use Rattle.fleet_core.proofs.kernel.Core.shut.Goals.{then-idle, else-idle, Joined-idle}
 
-spare_is : (g : _) (c : After-add g) → AreFarewells (history_of c.self.inside.chapter) (spare_laws c.args.farewells.now.items)
+spare_is : (g : _) (c : Joined-idle g) → AreFarewells (history_of c.self.inside.chapter) (spare_laws c.args.farewells.now.items)
 spare_is g c = subst (λ w. AreFarewells w.history (spare_laws c.args.farewells.now.items)) (sym c.self.view_is) c.requires.farewells
 
-fits_is : (g : _) (c : After-add g) → Fits {A = g.row.A.Denot} c.self.inside.grid (history_of c.self.inside.chapter) (entry.Shut c.args.robot c.if-is_empty.farewell)
+known_is : (g : _) (c : Joined-idle g) → c.args.robot < robots (history_of c.self.inside.chapter)
+known_is g c = omega (arith, c.if-robot-robots.false, c.robots.ensures.of c.self.inside.grid (history_of c.self.inside.chapter) c.self.invariant.is)
+
+none_is : (g : _) (c : Joined-idle g) → c.has_no_errand-idle.result ≡ is_none_left (unfinished (history_of c.self.inside.chapter) c.args.robot)
+none_is g c = c.has_no_errand-idle.ensures ∙ ap (λ w. is_none_left (unfinished w.history c.args.robot)) (sym c.self.view_is)
+
+fits_is : (g : _) (c : Joined-idle g) → Fits {A = g.row.A.Denot} c.self.inside.grid (history_of c.self.inside.chapter) (entry.Shut c.args.robot c.if-idle.farewell)
 fits_is g c =
-    let k = c.self.invariant.0 in
+    let k = c.self.invariant in
     let h = history_of c.self.inside.chapter in
-    let known : c.args.robot < robots h = omega (arith, c.self.inside.queues.ok.0, k.queue_count) in
-    let queue = get_or_read c.self.inside.queues.items c.args.robot c.index.result.now (omega (arith, k.queue_count)) c.index.ensures no_queue in
-    let not_shut : is_shut h c.args.robot ≡ false = sym (k.shut c.args.robot) ∙ sym c.is_shut.ensures ∙ c.if-is_shut.false in
+    let known = known_is g c in
+    let not_shut : is_shut h c.args.robot ≡ false = sym (c.is_shut.ensures c.self.inside.grid h k.is) ∙ c.if-is_shut.false in
     let spare = spare_laws c.args.farewells.now.items in
-    let shown : is_some c.if-is_empty.farewell ≡ c.is_empty.result = elim c.if-is_empty.branch [
-      | then-is_empty w ↦ rw (w.farewell-is, w.if-is_empty.true) (w.last_word-farewell.ensures.answers ∙ farewell-there h spare (spare_is g c) c.args.robot known not_shut)
-      | else-is_empty w ↦ rw (w.farewell-is, w.if-is_empty.false) refl
-    ] in
-    let stamp : IsFarewell h c.args.robot c.if-is_empty.farewell = elim c.if-is_empty.branch [
-      | then-is_empty w ↦ rw w.farewell-is (farewell-is h spare (spare_is g c) c.args.robot w.last_word-farewell.result w.last_word-farewell.ensures.stamp)
-      | else-is_empty w ↦ rw w.farewell-is refl
-    ] in
-    shut-fits c.self.inside.grid c.self.inside.limits h c.self.inside.cells.items c.self.inside.queues.items c.self.inside.book c.self.inside.tallies.items c.self.inside.mailboxes.items c.self.inside.tick
-    c.args.robot c.is_empty.result c.if-is_empty.farewell k known (sym c.is_shut.ensures ∙ c.if-is_shut.false) (rw queue at c.is_empty.ensures) shown stamp
+    record {
+      known = known;
+      first = not_shut;
+      leaves = (elim c.if-idle.branch [
+        | then-idle w ↦ rw (w.farewell-is, w.if-idle.true) (w.last_word-farewell.ensures.answers ∙ farewell-there h spare (spare_is g c) c.args.robot known not_shut)
+        | else-idle w ↦ rw (w.farewell-is, w.if-idle.false) refl
+      ]) ∙ none_is g c;
+      stamp = elim c.if-idle.branch [
+        | then-idle w ↦ rw w.farewell-is (farewell-is h spare (spare_is g c) c.args.robot w.last_word-farewell.result w.last_word-farewell.ensures.stamp)
+        | else-idle w ↦ rw w.farewell-is refl
+      ];
+    }
 
-pub index-requires-then-is_empty : goal.index-requires-then-is_empty
-index-requires-then-is_empty g c = omega (arith, c.self.inside.cells.ok.0, c.self.inside.queues.ok.0, cells-kept c.self.invariant.0)
+pub is_shut-requires : goal.is_shut-requires
+is_shut-requires g c = omega (arith, c.if-robot-robots.false, c.robots.ensures.count)
 
-pub returns-clause-farewells : goal.returns-clause-farewells
-returns-clause-farewells g c =
-    let k = c.self.invariant.0 in
-    let h = history_of c.self.inside.chapter in
-    let p = (goal.at.returns-clause-farewells g c).After-add in
-    let known : c.args.robot < robots h = omega (arith, c.self.inside.queues.ok.0, k.queue_count) in
-    let queue = get_or_read c.self.inside.queues.items c.args.robot c.index.result.now (omega (arith, k.queue_count)) c.index.ensures no_queue in
-    rw (c.add.ensures.items, c.reserve.ensures.items)
-    (elim c.if-is_empty.branch [
-      | then-is_empty w ↦
-          (let none : unfinished h c.args.robot ≡ [] = sym (k.queued c.args.robot known) ∙ ap (λ (q : Queue). q.items) (sym queue) ∙ c.is_empty.ensures.0 w.if-is_empty.true in
-          rw (w.farewells-is, w.last_word-farewell.ensures.spent) (farewells-done h (spare_laws c.args.farewells.now.items) (spare_is g p) c.args.robot c.if-is_empty.farewell known none))
-      | else-is_empty w ↦ rw w.farewells-is (farewells-shut h (spare_laws c.args.farewells.now.items) (spare_is g p) c.args.robot c.if-is_empty.farewell)
-    ])
+pub has_no_errand-idle-requires : goal.has_no_errand-idle-requires
+has_no_errand-idle-requires g c =
+    subst (λ w. c.args.robot < robots w.history) c.self.view_is (omega (arith, c.if-robot-robots.false, c.robots.ensures.of c.self.inside.grid (history_of c.self.inside.chapter) c.self.invariant.is))
+
+pub last_word-farewell-requires : goal.last_word-farewell-requires
+last_word-farewell-requires g c =
+    let k = c.self.invariant in
+    let spare = subst (λ w. AreFarewells w.history (spare_laws c.args.farewells.now.items)) (sym c.self.view_is) c.requires.farewells in
+    omega (arith, c.if-robot-robots.false, c.robots.ensures.of c.self.inside.grid (history_of c.self.inside.chapter) k.is, spare.count, length-map c.args.farewells.now.items (λ f. option_map (λ x. x.law) f), c.args.farewells.now.ok.0)
 
 pub invariant_of-self-2 : goal.invariant_of-self-2
-invariant_of-self-2 g c = (
-  rw (c.add.ensures.items, c.reserve.ensures.items, c.shut_robot.ensures)
-      (IsKept-shut c.self.inside.grid c.self.inside.limits (history_of c.self.inside.chapter) c.self.inside.cells.items c.self.inside.queues.items c.self.inside.book c.self.inside.tallies.items c.self.inside.mailboxes.items c.self.inside.tick
-      c.args.robot c.if-is_empty.farewell c.self.invariant.0 (omega (arith, c.self.inside.chapter.entries.ok.0)) (fits_is g c)),
-  rw (c.add.ensures.items, c.reserve.ensures.items)
-      (IsAimed-shut c.self.inside.grid c.self.inside.ties.items (history_of c.self.inside.chapter) c.self.inside.waits.items c.self.inside.aims c.self.inside.stepper c.self.inside.bridgeless c.self.inside.tick c.args.robot c.if-is_empty.farewell c.self.invariant.1),
-)
+invariant_of-self-2 g c =
+    let k = c.self.invariant in
+    let h = history_of c.self.inside.chapter in
+    let next = c.enter_shut.ensures.follows c.if-idle.farewell c.self.inside.grid h k.is (fits_is g (goal.at.invariant_of-self-2 g c).Joined-idle) in
+    let few : length h.entries < c.self.inside.limits.chapter = subst HasEntries (sym c.self.view_is) (c.if-is_full.ensures.room refl) in
+    rw (c.add.ensures, c.reserve.ensures.items)
+    record {
+      is = next;
+      room = room-kept k.is next refl c.enter_shut.ensures.room k.room;
+      within = within-shut k.within c.args.robot c.if-idle.farewell few;
+      boxed = boxes-shut k.is.legal k.boxed c.args.robot c.if-idle.farewell;
+      aimed = aimed-shut k.is k.aimed c.args.robot c.if-idle.farewell;
+      tied = record { count = k.tied.count; planned = each_tick-shut (IsPlanned c.self.inside.grid c.self.inside.ties.items) h c.args.robot c.if-idle.farewell k.tied.planned };
+    }
 
 pub returns-clause-ok : goal.returns-clause-ok
 returns-clause-ok g c =
     rw (← c.self.view_is)
     record {
-      fits = fits_is g c;
-      world = rw (c.add.ensures.items, c.reserve.ensures.items, delivered-shut (history_of c.self.inside.chapter) c.args.robot c.if-is_empty.farewell c.self.inside.mailboxes.items) refl;
+      fits = fits_is g (goal.at.returns-clause-ok g c).Joined-idle;
+      world = rw (c.add.ensures, c.reserve.ensures.items, delivered-shut (history_of c.self.inside.chapter) c.args.robot c.if-idle.farewell c.self.inside.mailboxes.boxes) refl;
+    }
+
+pub returns-clause-farewells : goal.returns-clause-farewells
+returns-clause-farewells g c =
+    let h = history_of c.self.inside.chapter in
+    let p = (goal.at.returns-clause-farewells g c).Joined-idle in
+    rw (c.add.ensures, c.reserve.ensures.items)
+    (elim c.if-idle.branch [
+      | then-idle w ↦
+          (let none : unfinished h c.args.robot ≡ [] = none_left_nil (unfinished h c.args.robot) (sym (none_is g p) ∙ w.if-idle.true) in
+          rw (w.farewells-is, w.last_word-farewell.ensures.spent) (farewells-done h (spare_laws c.args.farewells.now.items) (spare_is g p) c.args.robot c.if-idle.farewell (known_is g p) none))
+      | else-idle w ↦ rw w.farewells-is (farewells-shut h (spare_laws c.args.farewells.now.items) (spare_is g p) c.args.robot c.if-idle.farewell)
+    ])
+
+pub bounds-place-robot : goal.bounds-place-robot
+bounds-place-robot g c = omega (arith, ap length c.place.ensures.cells, c.if-robot-robots.false, c.robots.ensures.count, cell-count c.self.invariant.is, queue-count c.self.invariant.is)
+
+pub enter_shut-requires : goal.enter_shut-requires
+enter_shut-requires g c =
+    let k = c.self.invariant in
+    let h = history_of c.self.inside.chapter in
+    record {
+      farewell = c.if-idle.farewell;
+      may = record {
+        floor = c.self.inside.grid;
+        history = h;
+        is = k.is;
+        fits = fits_is g (goal.at.enter_shut-requires g c).Joined-idle;
+        early = omega (arith, k.within.clock, k.within.valid.clock.1);
+        few = omega (arith, k.within.entries, k.within.valid.chapter.1);
+      };
     }

@@ -1,0 +1,13 @@
+use Rattle.std.proofs.Common.{arith, ◌≡◌, ◌++◌, length, take, drop, ap, sym, subst}
+use Rattle.std.specs.Prelude.{All}
+use Rattle.fleet_history.specs.declared.history.Bye.{Bye}
+use Rattle.fleet_state.proofs.Ranges.{front-of}
+use Rattle.fleet_core.specs.Hooks.{spare_laws, IsLastStamp}
+use Rattle.fleet_core.proofs.stamps.take_leave.Goals as goal
+
+pub returns-clause-stamps : goal.returns-clause-stamps
+returns-clause-stamps g c =
+    let new = c.stamp_farewells.new.leaving in
+    let rest = drop (length new) c.args.leaving.now.items in
+    let whole : take c.args.leaving.now.len (new ++ rest) ≡ new = front-of c.args.leaving.now.len new rest (omega (arith, c.args.leaving.now.ok.0, c.stamp_farewells.auto.leaving, ap length c.as_mut_slice.ensures.value)) in
+    subst (All (λ (b : Bye). IsLastStamp (spare_laws c.args.farewells.now.items) b.robot b.stamp)) (sym whole) c.stamp_farewells.ensures.stamps

@@ -1,0 +1,165 @@
+//! What is entered in a core's history: takes, ticks and shuts.
+ghost use Rattle.std.specs.Prelude.{◌≡◌, ◌≤◌, ◌<◌, ◌++◌, ◌∷◌, ◌↔◌, [], true, false, OnOk, OnErr, IfOk, map, vec_len, vec_capacity};
+ghost use Rattle.fleet_history.specs.History.{clients, robots, clock, is_shut};
+ghost use Rattle.fleet_core.specs.Hooks.{AreArrivals, AreFarewells, spare_laws};
+ghost use Rattle.fleet_core.specs.Core.{Takes, Ticks, Shuts, HasRoom, HasNoRoom, HasEntries, HasNoEntries};
+
+use crate::faults::{ShutFault, TakeFault, TickFault, TickReport};
+use crate::kernel::Core;
+use crate::stamps::{arrive, last_word, take_leave};
+use fleet_book::{Notice, Order, Verdict};
+use fleet_history::{Entry, Row};
+use fleet_hooks::{ArrivalHook, Farewell, FarewellView, TieHook};
+use std::alloc::{Alloc, Allocator};
+
+impl<A: Allocator + Copy> Core<A> {
+    /// Whether the client's notices and unfinished errands leave room for two more.
+    fn has_room(&self, client: u32) -> bool
+        requires { client < clients self.now.history }
+        ensures yes { result ≡ true → HasRoom self.now client }
+        ensures no { result ≡ false → HasNoRoom self.now client }
+    {
+        self.mailboxes.len_of(client) as u64 + self.state.owed(client) + 2
+            <= self.mailboxes.limit_of(client)
+    }
+
+    /// Takes an order of a client, and judges it.
+    pub fn take(&mut self, client: u32, order: Order) -> Result<Verdict, TakeFault>
+        requires { client < clients self.old.history }
+        ensures mailbox_full { (result ≡ Err TakeFault.MailboxFull) ↔ HasNoRoom self.old client }
+        ensures chapter_full { (result ≡ Err TakeFault.ChapterFull) ↔ (HasRoom self.old client × HasNoEntries self.old) }
+        ensures room { OnOk result (HasRoom self.old client) }
+        ensures entries { OnOk result (HasEntries self.old) }
+        ensures ok { IfOk result (λ v. Takes self.old client order v self.new) }
+        ensures err { OnErr result (self.new ≡ self.old) }
+        ensures farewells { (spare : _) → AreFarewells self.old.history spare → AreFarewells self.new.history spare }
+    {
+        if !self.has_room(client) {
+            return Err(TakeFault::MailboxFull);
+        }
+        if self.is_full() {
+            return Err(TakeFault::ChapterFull);
+        }
+        let verdict = self.state.judge(&self.grid, client, order);
+        self.chapter.entries.reserve(1)?;
+        self.planner.begin(&self.grid, &self.state, order, verdict)?;
+        self.state.enter_take(client, order, verdict);
+        let notice = Notice::Verdict {
+            seq: self.mailboxes.next_number(client),
+            order_no: self.state.taken(client),
+            verdict,
+        };
+        self.mailboxes.push(client, notice);
+        add(
+            &mut self.chapter.entries,
+            Entry::Take {
+                client,
+                order,
+                verdict,
+            },
+        );
+        Ok(verdict)
+    }
+
+    /// A shut, with the robot's farewell closure, which is called where the robot has no errands.
+    pub fn shut(
+        &mut self,
+        robot: u32,
+        farewells: &mut Vec<Option<Farewell>, A>,
+    ) -> Result<Option<u32>, ShutFault>
+        requires farewells { AreFarewells self.old.history (spare_laws farewells.old.items) }
+        ensures no_robot { (result ≡ Err ShutFault.NoRobot) ↔ (robots self.old.history ≤ robot) }
+        ensures already { (result ≡ Err ShutFault.Already) ↔ ((robot < robots self.old.history) × (is_shut self.old.history robot ≡ true)) }
+        ensures chapter_full { (result ≡ Err ShutFault.ChapterFull) ↔
+            ((robot < robots self.old.history) × (is_shut self.old.history robot ≡ false) × HasNoEntries self.old) }
+        ensures entries { OnOk result (HasEntries self.old) }
+        ensures ok { IfOk result (λ farewell. Shuts self.old robot farewell self.new) }
+        ensures err { OnErr result (self.new ≡ self.old) }
+        ensures farewells { AreFarewells self.new.history (spare_laws farewells.new.items) }
+    {
+        if robot as usize >= self.state.robots() {
+            return Err(ShutFault::NoRobot);
+        }
+        if self.state.is_shut(robot) {
+            return Err(ShutFault::Already);
+        }
+        if self.is_full() {
+            return Err(ShutFault::ChapterFull);
+        }
+        let idle = self.has_no_errand(robot);
+        self.chapter.entries.reserve(1)?;
+        let farewell = if idle {
+            let view = FarewellView {
+                robot,
+                cell: self.state.place()[robot as usize],
+                tick: self.state.clock(),
+            };
+            last_word(farewells, view)
+        } else {
+            None
+        };
+        self.state.enter_shut(robot);
+        add(&mut self.chapter.entries, Entry::Shut { robot, farewell });
+        Ok(farewell)
+    }
+
+    /// A tick, with the robots' closures. Those for arrivals and farewells are called when nothing can fail any more.
+    pub fn tick<R: Alloc<A = A>>(
+        &mut self,
+        rt: &R,
+        ties: &[TieHook],
+        arrivals: &[ArrivalHook],
+        farewells: &mut Vec<Option<Farewell>, A>,
+    ) -> Result<TickReport, TickFault>
+        requires ties { map (λ h. h.law) ties.now ≡ self.old.ties }
+        requires arrivals { AreArrivals self.old.history (map (λ h. h.law) arrivals.now) }
+        requires farewells { AreFarewells self.old.history (spare_laws farewells.old.items) }
+        ensures clock_spent { (result ≡ Err TickFault.ClockSpent) ↔ (clock self.old.history ≡ self.old.limits.clock) }
+        ensures chapter_full { (result ≡ Err TickFault.ChapterFull) ↔
+            ((clock self.old.history < self.old.limits.clock) × HasNoEntries self.old) }
+        ensures early { OnOk result (clock self.old.history < self.old.limits.clock) }
+        ensures entries { OnOk result (HasEntries self.old) }
+        ensures ok { IfOk result (λ report. Ticks self.old report self.new) }
+        ensures err { OnErr result (self.new ≡ self.old) }
+        ensures farewells { AreFarewells self.new.history (spare_laws farewells.new.items) }
+    {
+        if self.is_spent() {
+            return Err(TickFault::ClockSpent);
+        }
+        if self.is_full() {
+            return Err(TickFault::ChapterFull);
+        }
+        let alloc = rt.alloc();
+        let to = self.planner.plan(alloc, &self.grid, &self.state, ties)?;
+        let mut arrived = self.state.dues(alloc, to.as_slice())?;
+        let mut leaving = self.state.leaving(alloc, to.as_slice())?;
+        self.chapter.entries.reserve(1)?;
+        self.planner
+            .turn(alloc, &self.grid, &self.state, to.as_slice())?;
+        let report = TickReport {
+            tick: self.state.clock() + 1,
+            arrived: arrived.len() as u32,
+            farewells: leaving.len() as u32,
+        };
+        arrive(&mut arrived, arrivals, to.as_slice(), report.tick);
+        take_leave(&mut leaving, farewells, to.as_slice(), report.tick);
+        self.mailboxes
+            .deliver(arrived.as_slice(), to.as_slice(), report.tick);
+        self.state.enter_tick(to.as_slice());
+        let entry = Entry::Tick {
+            to: Row::from_vec(to),
+            arrived: Row::from_vec(arrived),
+            farewells: Row::from_vec(leaving),
+        };
+        add(&mut self.chapter.entries, entry);
+        Ok(report)
+    }
+}
+
+/// Puts an item behind the others, where there is room.
+fn add<T: Drop, A: Allocator + Copy>(items: &mut Vec<T, A>, item: T)
+    requires { vec_len items.old < vec_capacity items.old }
+    ensures { items.new.items ≡ items.old.items ++ item ∷ [] }
+{
+    let _ = items.push(item);
+}

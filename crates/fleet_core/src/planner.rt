@@ -1,0 +1,194 @@
+//! What the robots go by from tick to tick: their goals, and the step by priority inheritance with backtracking.
+ghost use Rattle.std.specs.Prelude.{◌≡◌, ◌<◌, ◌≤◌, ◌^◌, ◌↔◌, ℕ, IsTrue, None, slice_get, length, map, replicate, IfOk, OnOk, OnErr};
+ghost use Rattle.fleet_grid.specs.Floor.{IsNeighbour};
+ghost use Rattle.fleet_grid.specs.Step.{IsConflictFree};
+ghost use Rattle.fleet_grid.specs.Walk.{IsBridgeless};
+ghost use Rattle.fleet_goals.specs.Aims.{goals_of, AreOn};
+ghost use Rattle.fleet_pibt.specs.Order.{wait_of};
+ghost use Rattle.fleet_plan.specs.Planned.{IsPlannedBy};
+ghost use Rattle.fleet_state.specs.Robots.{queue_at};
+ghost use Rattle.fleet_state.specs.State.{robot_count};
+ghost use Rattle.fleet_core.specs.Aimed.{MayPlan, MayBegin, begun, begun_goals, goal_on, goals_ticked};
+
+use fleet_book::{Order, Verdict};
+use fleet_bridge::first_bridge;
+use fleet_goals::Aims;
+use fleet_grid::Grid;
+use fleet_hooks::TieHook;
+use fleet_pibt::Stepper;
+use fleet_plan::plan;
+use fleet_state::FleetState;
+use std::alloc::{AllocError, Allocator, Global};
+use std::marker::Model;
+
+/// What each robot aims at, and the means to plan a step.
+#[derive(Drop)]
+pub(crate) struct Planner<A: Allocator + Copy = Global> {
+    aims: Aims<A>,
+    stepper: Stepper<A>,
+    bridgeless: bool,
+}
+
+impl<A: Allocator + Copy> Model for Planner<A> {
+    ghost use Rattle.fleet_core.specs.Aimed.{Planner};
+
+    ghost Value = { Planner };
+
+    ghost view = { λ p. record { aims = p.aims; size = p.stepper; bridgeless = p.bridgeless } };
+}
+
+impl<A: Allocator + Copy> Planner<A> {
+    /// A planner of so many robots, 512 at most, that have no goals.
+    pub(crate) fn open(alloc: A, grid: &Grid<A>, robots: usize) -> Result<Self, AllocError>
+        requires { robots ≤ 512 }
+        ensures none { IfOk result (λ p. p.aims ≡ replicate robots None) }
+        ensures on { IfOk result (λ p. AreOn grid.now p.aims) }
+        ensures size { IfOk result (λ p. p.size ≡ record { cells = length grid.now.letters; robots = robots }) }
+        ensures bridge { IfOk result (λ p. IsTrue p.bridgeless ↔ IsBridgeless (IsNeighbour grid.now)) }
+    {
+        Ok(Planner {
+            aims: Aims::new(alloc, robots)?,
+            stepper: Stepper::new(alloc, grid.cell_count(), robots as u32)?,
+            bridgeless: has_no_bridge(alloc, grid)?,
+        })
+    }
+
+    /// Whether the map has no bridge.
+    pub(crate) fn is_bridgeless(&self) -> bool
+        ensures { result ≡ self.now.bridgeless }
+    {
+        self.bridgeless
+    }
+
+    /// Where the robots go in the next tick.
+    pub(crate) fn plan(
+        &mut self,
+        alloc: A,
+        grid: &Grid<A>,
+        state: &FleetState<A>,
+        ties: &[TieHook],
+    ) -> Result<Vec<u32, A>, AllocError>
+        requires may { MayPlan grid.now state.now self.old }
+        requires tied { length ties.now ≡ robot_count state.now }
+        requires early { state.now.tick < 2 ^ 63 }
+        ensures same { self.new ≡ self.old }
+        ensures conflict_free { IfOk result (λ to. IsConflictFree grid.now state.now.cells to.items) }
+        ensures planned { IfOk result (λ to. IsPlannedBy grid.now (map (λ h. h.law) ties.now) state.now.waits (goals_of self.old.aims) state.now.cells to.items) }
+    {
+        plan(
+            alloc,
+            grid,
+            state.place(),
+            state.waits(),
+            &self.aims,
+            &mut self.stepper,
+            ties,
+            state.clock() + 1,
+        )
+    }
+
+    /// Aims the robot of an accepted order at its cell, if the errand is the robot's first. The state is that before the
+    /// order is entered.
+    pub(crate) fn begin(
+        &mut self,
+        grid: &Grid<A>,
+        state: &FleetState<A>,
+        order: Order,
+        verdict: Verdict,
+    ) -> Result<(), AllocError>
+        requires { MayBegin grid.now state.now self.old order verdict }
+        ensures goals { OnOk result (goals_of self.new.aims ≡ begun_goals (begun state.now.queues order verdict) (goals_of self.old.aims)) }
+        ensures on { AreOn grid.now self.new.aims }
+        ensures size { self.new.size ≡ self.old.size }
+        ensures bridge { self.new.bridgeless ≡ self.old.bridgeless }
+        ensures refused { OnErr result (self.new ≡ self.old) }
+    {
+        let Order::Go { robot, cell } = order else {
+            return Ok(());
+        };
+        let Verdict::Accepted(_) = verdict else {
+            return Ok(());
+        };
+        match state.front(robot) {
+            Some(_front) => Ok(()),
+            None => self.aims.aim(grid, robot, cell),
+        }
+    }
+}
+
+impl<A: Allocator + Copy> Planner<A> {
+    /// Aims the robots at the goals that they have behind a tick to these cells. The state is that before the tick is
+    /// entered.
+    pub(crate) fn turn(
+        &mut self,
+        alloc: A,
+        grid: &Grid<A>,
+        state: &FleetState<A>,
+        to: &[u32],
+    ) -> Result<(), AllocError>
+        requires may { MayPlan grid.now state.now self.old }
+        requires same { length to.now ≡ robot_count state.now }
+        ensures goals { OnOk result (goals_of self.new.aims ≡ goals_ticked state.now.queues to.now) }
+        ensures on { AreOn grid.now self.new.aims }
+        ensures size { self.new.size ≡ self.old.size }
+        ensures bridge { self.new.bridgeless ≡ self.old.bridgeless }
+        ensures refused { OnErr result (self.new ≡ self.old) }
+    {
+        let next = next_goals(alloc, state, to)?;
+        self.aims.turn(grid, next.as_slice())
+    }
+}
+
+/// The robots' goals behind a tick to these cells.
+fn next_goals<A: Allocator + Copy>(
+    alloc: A,
+    state: &FleetState<A>,
+    to: &[u32],
+) -> Result<Vec<Option<u32>, A>, AllocError>
+    requires same { length to.now ≡ robot_count state.now }
+    requires few { length to.now ≤ 512 }
+    ensures { IfOk result (λ goals. goals.items ≡ goals_ticked state.now.queues to.now) }
+{
+    let mut goals = Vec::new(alloc);
+    for r in 0..to.len() {
+        goals.push(next_goal(state, r as u32, to[r]))?;
+    }
+    Ok(goals)
+}
+
+/// The robot's goal behind a tick that brings it to the cell: that of its front, or of its next errand where it arrives.
+fn next_goal<A: Allocator + Copy>(state: &FleetState<A>, robot: u32, cell: u32) -> Option<u32>
+    requires { robot < robot_count state.now }
+    ensures { result ≡ goal_on cell (queue_at state.now.queues robot).items }
+{
+    let front = state.front(robot)?;
+    if front.cell != cell {
+        return Some(front.cell);
+    }
+    match state.next(robot) {
+        Some(next) => Some(next.cell),
+        None => None,
+    }
+}
+
+/// Whether the map has no bridge.
+fn has_no_bridge<A: Allocator + Copy>(alloc: A, grid: &Grid<A>) -> Result<bool, AllocError>
+    ensures { IfOk result (λ none. IsTrue none ↔ IsBridgeless (IsNeighbour grid.now)) }
+{
+    match first_bridge(alloc, grid)? {
+        Some(_bridge) => Ok(false),
+        None => Ok(true),
+    }
+}
+
+/// Whether nobody waits.
+pub(crate) fn is_nobody(waits: &[Option<u64>]) -> bool
+    ensures { IsTrue result ↔ ((r : ℕ) → wait_of waits.now r ≡ None) }
+{
+    for r in 0..waits.len() {
+        if let Some(_wait) = waits[r] {
+            return false;
+        }
+    }
+    true
+}

@@ -1,0 +1,70 @@
+-- What holds of a history that was handed out.
+use Rattle.std.proofs.Common.{◌≡◌, ◌++◌, ℕ, List, sym, ap, ◌∙◌, subst, arith, append_assoc}
+use Rattle.std.specs.Prelude.{slice_get, Vec}
+use Rattle.std.proofs.lemmas.Option.{slice_get_within}
+use Rattle.fleet_book.specs.declared.notice.Notice.{Notice}
+use Rattle.fleet_grid.specs.Floor.{Floor, IsNeighbour}
+use Rattle.fleet_grid.specs.Walk.{IsBridgeless}
+use Rattle.fleet_history.specs.History.{History}
+use Rattle.fleet_history.specs.Legal.{IsLegal}
+use Rattle.fleet_history.specs.Laws.{EachTick, orders}
+use Rattle.fleet_history.specs.Notices.{notices}
+use Rattle.fleet_history.specs.Rings.{KeepsRing}
+use Rattle.fleet_history.proofs.Rings.{ring-first}
+use Rattle.fleet_plan.specs.Planned.{IsPlanned, IsAdvancingTick}
+use Rattle.fleet_core.specs.Core.{World, pending}
+use Rattle.fleet_lanes.specs.Names.{LaneName}
+use Rattle.fleet_lanes.specs.Ends.{EndView, ClientView}
+use Rattle.fleet_office.specs.Hall.{IsLawful}
+use Rattle.fleet_office.specs.Views.{AreOn, AreSettled, core, cores}
+use Rattle.fleet_office.specs.Rests.{SameBut, RestsAre}
+use Rattle.fleet_office.specs.Concluded.{IsTold, AreTold}
+use Rattle.fleet_office.proofs.Places.{at_map, map_at, there_is}
+
+module _ {A : Type 0} (w v : World A) (m : Floor) (h : History A) (floor : m ≡ v.floor) (history : h ≡ v.history) (same : SameBut w v) where
+  pub legal-ended : IsLegal v.floor v.history → IsLegal m h
+  legal-ended l = subst (λ k. IsLegal m k) (sym history) (subst (λ k. IsLegal k v.history) (sym floor) l)
+
+  pub planned-ended : EachTick (IsPlanned v.floor v.ties) v.history → EachTick (IsPlanned m w.ties) h
+  planned-ended p = subst (λ t. EachTick (IsPlanned m t) h) same.ties
+      (subst (λ k. EachTick (IsPlanned m v.ties) k) (sym history) (subst (λ k. EachTick (IsPlanned k v.ties) v.history) (sym floor) p))
+
+  pub advancing-ended : (IsBridgeless (IsNeighbour v.floor) → EachTick (IsAdvancingTick v.floor) v.history) → IsBridgeless (IsNeighbour m) → EachTick (IsAdvancingTick m) h
+  advancing-ended p = subst (λ k. IsBridgeless (IsNeighbour m) → EachTick (IsAdvancingTick m) k) (sym history)
+      (subst (λ k. IsBridgeless (IsNeighbour k) → EachTick (IsAdvancingTick k) v.history) (sym floor) p)
+
+module _ {A : Type 0} (rings : List (LaneName A)) (w : World A) (ends : List (EndView A)) (t : ℕ) (law : IsLawful rings w ends t) where
+  -- what each client was told, once its lane is empty
+  pub told-ended : (number : ℕ) (h : History A) (cs : List (ClientView A)) (rests : List (Vec Notice A)) → number ≡ w.number → h ≡ w.history → AreOn rings (cores cs) → AreSettled ends cs → RestsAre rests w cs → AreTold number h cs rests
+  told-ended number h cs rests same is on settled rest k x at =
+      let c = x.number in
+      let r = rest k x at in
+      let ring = on k (core x) (map_at core cs k x at) in
+      let e = there_is ends c (omega (arith, slice_get_within rings c x.lane ring, law.ring_count)) in
+      let s = settled k x at in
+      let all : e.0.given ++ (pending w c).notices ≡ x.collected ++ r.0.items =
+      ap (λ g. g ++ (pending w c).notices) (sym (s.given e.0 e.1)) ∙ append_assoc x.collected x.known (pending w c).notices ∙ ap (λ y. x.collected ++ y) (sym r.2) in
+      let keeps : KeepsRing w.history c x.sent (x.collected ++ r.0.items) =
+      subst (λ o. KeepsRing w.history c o (x.collected ++ r.0.items)) (s.taken e.0 e.1) (subst (KeepsRing w.history c e.0.taken) all (law.laws c e.0 e.1).keeps) in
+      let own = λ (z : number ≡ 0). ring-first w.history c x.sent (x.collected ++ r.0.items) (law.first (sym same ∙ z) c) keeps.ring in (
+        r.0,
+        r.1,
+        subst (λ g. IsTold number g x r.0.items) (sym is) (record { keeps = keeps; orders = λ z. (own z).0; notices = λ z. (own z).1 }),
+      )
+
+-- of the clients as they were handed in
+pub told-same : {A : Type 0} (number : ℕ) (h : History A) (cs now : List (ClientView A)) (rests : List (Vec Notice A)) → cores now ≡ cores cs → AreTold number h now rests → AreTold number h cs rests
+told-same number h cs now rests same told k x at =
+    let d = at_map core now k (core x) (ap (λ z. slice_get z k) same ∙ map_at core cs k x at) in
+    let n : d.0.number ≡ x.number = ap (λ z. z.number) d.2 in
+    let r = told k d.0 d.1 in
+    let sent = ap (λ z. z.sent) d.2 in
+    let collected = ap (λ z. z.collected) d.2 in (
+      r.0,
+      ap (slice_get rests) (sym n) ∙ r.1,
+      record {
+        keeps = subst (λ c. KeepsRing h c x.sent (x.collected ++ r.0.items)) n (subst (λ o. KeepsRing h d.0.number o (x.collected ++ r.0.items)) sent (subst (λ g. KeepsRing h d.0.number d.0.sent (g ++ r.0.items)) collected r.2.keeps));
+        orders = λ z. ap (orders h) (sym n) ∙ r.2.orders z ∙ sent;
+        notices = λ z. ap (notices h) (sym n) ∙ r.2.notices z ∙ ap (λ g. g ++ r.0.items) collected;
+      },
+    )

@@ -1,0 +1,16 @@
+pub mod Places
+pub mod Pairs
+pub mod Laws
+pub mod TakeSteps
+pub mod GiveSteps
+pub mod Opening
+pub mod Over
+pub mod ShutSteps
+pub mod ManySteps
+pub mod Ended
+pub mod Drains
+pub mod Widening
+pub mod Meeting
+pub mod Emptied
+pub mod Settling
+pub mod Rested

@@ -1,0 +1,25 @@
+-- A refusal of one call is that of the call around it.
+use Rattle.std.proofs.Common.{◌≡◌, ◌↔◌, ap, sym, ◌∙◌}
+use Rattle.std.specs.Prelude.{Ok, Err, Result}
+
+abbrev err_of : (X : Type 0) {E : Type 0} → E → Result X E
+err_of X e = Err e
+
+abbrev ok_of : (E : Type 0) {X : Type 0} → X → Result X E
+ok_of E x = Ok x
+
+err_over : (X Y : Type 0) {E : Type 0} (e f : E) → err_of X e ≡ err_of X f → err_of Y e ≡ err_of Y f
+err_over X Y e f s = let same : e ≡ f = cc in ap (err_of Y) same
+
+module _ {X Y E : Type 0} where
+  pub refused-err : (r : Result X E) (e f : E) (P : Type 0) → r ≡ Err e → ((r ≡ Err f) ↔ P) → ((err_of Y e ≡ Err f) ↔ P)
+  refused-err r e f P is h = (
+    (λ s. h.0 (is ∙ err_over Y X e f s)),
+    (λ p. err_over X Y e f (sym is ∙ h.1 p)),
+  )
+
+  pub refused-ok : (r : Result X E) (x : X) (y : Y) (f : E) (P : Type 0) → r ≡ Ok x → ((r ≡ Err f) ↔ P) → ((ok_of E y ≡ Err f) ↔ P)
+  refused-ok r x y f P is h = (
+    (λ s. cc),
+    (λ p. let bad : ok_of E x ≡ err_of X f = sym is ∙ h.1 p in cc),
+  )

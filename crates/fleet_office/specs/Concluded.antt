@@ -1,0 +1,81 @@
+-- Why an office is not concluded, and what it comes to.
+use Rattle.std.specs.Prelude.{ℕ, ◌+◌, ◌≡◌, ◌≢◌, ◌<◌, ◌⊎◌, List, ◌++◌, Some, length, slice_get, Vec}
+use Rattle.std.specs.List.{sum_by}
+use Rattle.fleet_book.specs.declared.notice.Notice.{Notice}
+use Rattle.fleet_grid.specs.Floor.{Floor}
+use Rattle.fleet_history.specs.History.{History, clock}
+use Rattle.fleet_history.specs.Laws.{orders}
+use Rattle.fleet_history.specs.Notices.{notices}
+use Rattle.fleet_history.specs.Rings.{KeepsRing}
+use Rattle.fleet_core.specs.Core.{World, HasNoEntries}
+use Rattle.fleet_lanes.specs.Ends.{ClientView}
+use Rattle.fleet_office.specs.Views.{TickerView, AreDistinct, cores}
+use Rattle.fleet_office.specs.Draining.{DrainsFirst, StopsDraining}
+use Rattle.fleet_office.specs.declared.conclude.ConcludeFault.{ConcludeFault}
+use Rattle.fleet_office.specs.declared.conclude.ConcludeFault.TheVariants.{Missing, Twice, Tickers, ChapterFull, NoMemory}
+
+-- no client has the number
+abbrev pub IsMissing : {A : Type 0} → List (ClientView A) → ℕ → Type 0
+IsMissing {A} cs c = (k : ℕ) (x : ClientView A) → slice_get cs k ≡ Some x → x.number ≢ c
+
+-- each number below the count is some client's
+abbrev pub HasAll : {A : Type 0} → ℕ → List (ClientView A) → Type 0
+HasAll {A} count cs = (c : ℕ) → c < count → (k : ℕ) × (x : ClientView A) × (slice_get cs k ≡ Some x) × (x.number ≡ c)
+
+-- two clients have the number
+pub record AreTwice {A : Type 0} (cs : List (ClientView A)) (c : ℕ) : Type 0 where
+  pub first : ℕ
+  pub second : ℕ
+  pub apart : first < second
+  pub known : second < length cs
+  pub one : (x : ClientView A) → slice_get cs first ≡ Some x → x.number ≡ c
+  pub other : (x : ClientView A) → slice_get cs second ≡ Some x → x.number ≡ c
+
+-- all clients came home, and the tickers that made all ticks
+pub record AreHome {A : Type 0} (count : ℕ) (cs : List (ClientView A)) (ts : List TickerView) (ticks : ℕ) : Type 0 where
+  pub all : HasAll count cs
+  pub distinct : AreDistinct (cores cs)
+  pub counted : sum_by (λ t. t.count) ts ≡ ticks
+
+-- why not
+abbrev pub IsAway : {A : Type 0} → ℕ → List (ClientView A) → List TickerView → ℕ → ConcludeFault → Type 0
+IsAway count cs ts ticks (Missing c) = (c < count) × IsMissing cs c
+IsAway count cs ts ticks (Twice c) = HasAll count cs × AreTwice cs c
+IsAway count cs ts ticks (Tickers m) = HasAll count cs × AreDistinct (cores cs) × (0 < m) × (sum_by (λ t. t.count) ts + m ≡ ticks)
+IsAway count cs ts ticks ChapterFull = ⊥
+IsAway count cs ts ticks NoMemory = ⊥
+
+-- lanes were emptied, some or all
+abbrev pub DrainsPart : {A : Type 0} → ℕ → World A → World A → Type 0
+DrainsPart count w v = StopsDraining count w v ⊎ DrainsFirst count w v
+
+-- what was met where the lanes were emptied
+abbrev pub IsMet : {A : Type 0} → World A → ConcludeFault → Type 0
+IsMet v (Missing c) = ⊥
+IsMet v (Twice c) = ⊥
+IsMet v (Tickers m) = ⊥
+IsMet v ChapterFull = HasNoEntries v
+IsMet v NoMemory = Unit {0}
+
+-- all that a client sent was taken, and what it collected and then its rest is all that it was ever told
+pub record IsTold {A : Type 0} (number : ℕ) (h : History A) (x : ClientView A) (rest : List Notice) : Type 0 where
+  pub keeps : KeepsRing h x.number x.sent (x.collected ++ rest)
+  -- in the first chapter these are the history's own
+  pub orders : number ≡ 0 → orders h x.number ≡ x.sent
+  pub notices : number ≡ 0 → notices h x.number ≡ x.collected ++ rest
+
+abbrev pub AreTold : {A : Type 0} → ℕ → History A → List (ClientView A) → List (Vec Notice A) → Type 0
+AreTold {A} number h cs rests = (k : ℕ) (x : ClientView A) → slice_get cs k ≡ Some x → (v : Vec Notice A) × (slice_get rests x.number ≡ Some v) × IsTold number h x v.items
+
+-- the map and the chapter of a world, once the lanes were emptied into it
+pub record IsLast {A : Type 0} (count : ℕ) (w : World A) (m : Floor) (n : ℕ) (h : History A) : Type 0 where
+  pub world : World A
+  pub drains : DrainsFirst count w world
+  pub floor : m ≡ w.floor
+  pub number : n ≡ w.number
+  pub history : h ≡ world.history
+
+-- somebody is away, or a take or the room was refused
+abbrev pub IsUnconcluded : {A : Type 0} → ℕ → World A → List (ClientView A) → List TickerView → ConcludeFault → Type 0
+IsUnconcluded {A} count w cs ts fault =
+    IsAway count cs ts (clock w.history) fault ⊎ (AreHome count cs ts (clock w.history) × ((v : World A) × DrainsPart count w v × IsMet v fault))

@@ -1,0 +1,202 @@
+//! The end of an office.
+ghost use Rattle.std.specs.Prelude.{◌≡◌, ◌+◌, ◌<◌, ◌≤◌, ◌⊎◌, ℕ, length, Err, IfOk, IfErr, OnOk, OnErr};
+ghost use Rattle.std.specs.List.{sum_by};
+ghost use Rattle.fleet_grid.specs.Floor.{IsNeighbour};
+ghost use Rattle.fleet_grid.specs.Walk.{IsBridgeless};
+ghost use Rattle.fleet_history.specs.History.{history_of, clock};
+ghost use Rattle.fleet_history.specs.Legal.{IsLegal};
+ghost use Rattle.fleet_history.specs.Laws.{EachTick};
+ghost use Rattle.fleet_plan.specs.Planned.{IsPlanned, IsAdvancingTick};
+ghost use Rattle.fleet_office.specs.Views.{AreOn, AreDistinct, AreSettled, cores};
+ghost use Rattle.fleet_office.specs.Draining.{DrainsFirst};
+ghost use Rattle.fleet_office.specs.Rests.{AreRooms};
+ghost use Rattle.fleet_office.specs.Concluded.{AreHome, IsAway, DrainsPart, IsMet, AreTold, IsLast, IsUnconcluded};
+
+use crate::hall::Hall;
+use crate::homing::{missing, twice};
+use crate::names::OfficeName;
+use crate::office::Office;
+use crate::rest::Rest;
+use crate::resting::fill;
+use crate::ticker::Ticker;
+use fleet_book::Notice;
+use fleet_core::TakeFault;
+use fleet_grid::Grid;
+use fleet_history::Chapter;
+use fleet_lanes::Client;
+use std::alloc::{Allocator, Global};
+use std::sync::Mutex;
+
+/// Why an office is not concluded; the first that stands is answered.
+#[derive(Clone, Copy, Debug, PartialEq, Eq)]
+pub enum ConcludeFault {
+    /// The client was not handed in.
+    Missing(u32),
+    /// The client was handed in twice.
+    Twice(u32),
+    /// So many ticks were made by tickers that were not handed in.
+    Tickers(u64),
+    /// The chapter has all the entries that it may have, and an order is left in a lane.
+    ChapterFull,
+    /// Memory was refused.
+    NoMemory,
+}
+
+/// What comes back for a further call.
+#[derive(Drop)]
+pub struct Home<N: OfficeName<A>, A: Allocator + Copy = Global> {
+    pub office: Office<N, A>,
+    pub clients: Vec<Client<A>, A>,
+    pub tickers: Vec<Ticker<N>, A>,
+}
+
+/// The map, the last chapter, the ticks, and by client the notices that it had not collected.
+#[derive(Drop)]
+pub struct Final<A: Allocator + Copy = Global> {
+    pub grid: Grid<A>,
+    pub chapter: Chapter<A>,
+    pub tick: u64,
+    pub rest: Vec<Vec<Notice, A>, A>,
+}
+
+impl<N: OfficeName<A>, A: Allocator + Copy> Rest<N, A> {
+    /// Whether all clients came home, and the tickers that made all ticks.
+    fn see_home(
+        &mut self,
+        clients: &[Client<A>],
+        tickers: &mut Vec<Ticker<N>, A>,
+    ) -> Result<(), ConcludeFault>
+        ensures same { self.new ≡ self.old }
+        ensures tickers { tickers.new.items ≡ tickers.old.items }
+        ensures ok { OnOk result (AreHome (length N.rings) clients.now tickers.old.items (clock self.old.world.history)) }
+        ensures err { IfErr result (λ e. IsAway (length N.rings) clients.now tickers.old.items (clock self.old.world.history) e) }
+    {
+        if let Some(c) = missing(clients, self.ring_count()) {
+            return Err(ConcludeFault::Missing(c));
+        }
+        if let Some(c) = twice(clients) {
+            return Err(ConcludeFault::Twice(c));
+        }
+        let made = self.ticks_by(tickers);
+        let tick = self.clock();
+        if made < tick {
+            return Err(ConcludeFault::Tickers(tick - made));
+        }
+        Ok(())
+    }
+
+    /// Takes every order that is left in the lanes, and makes room for what the clients had not collected.
+    fn come_to_rest(
+        &mut self,
+        alloc: A,
+        clients: &mut [Client<A>],
+    ) -> Result<Vec<Vec<Notice, A>, A>, ConcludeFault>
+        requires on { AreOn N.rings (cores clients.old) }
+        requires distinct { AreDistinct (cores clients.old) }
+        ensures clients { cores clients.new ≡ cores clients.old }
+        ensures total { self.new.total ≡ self.old.total }
+        ensures settled { OnOk result (AreSettled self.new.ends clients.new) }
+        ensures drains { OnOk result (DrainsFirst (length N.rings) self.old.world self.new.world) }
+        ensures rooms { IfOk result (λ v. AreRooms v.items self.new.world clients.new) }
+        ensures part { OnErr result (DrainsPart (length N.rings) self.old.world self.new.world) }
+        ensures err { IfErr result (λ e. IsMet self.new.world e) }
+    {
+        match self.drain_all(clients) {
+            Ok(()) => {}
+            Err(TakeFault::ChapterFull) => return Err(ConcludeFault::ChapterFull),
+            Err(_) => return Err(ConcludeFault::NoMemory),
+        }
+        match self.rooms(alloc, clients) {
+            Ok(rooms) => Ok(rooms),
+            Err(_) => Err(ConcludeFault::NoMemory),
+        }
+    }
+
+    /// The map, the chapter, and what the clients had not collected.
+    fn finish(
+        self,
+        clients: Vec<Client<A>, A>,
+        rooms: Vec<Vec<Notice, A>, A>,
+    ) -> (Grid<A>, Chapter<A>, Vec<Vec<Notice, A>, A>)
+        requires on { AreOn N.rings (cores clients.items) }
+        requires distinct { AreDistinct (cores clients.items) }
+        requires settled { AreSettled self.ends clients.items }
+        requires rooms { AreRooms rooms.items self.world clients.items }
+        ensures floor { result.0 ≡ self.world.floor }
+        ensures history { history_of result.1 ≡ self.world.history }
+        ensures number { result.1.number ≡ self.world.number }
+        ensures legal { IsLegal result.0 (history_of result.1) }
+        ensures planned { EachTick (IsPlanned result.0 self.world.ties) (history_of result.1) }
+        ensures advancing { IsBridgeless (IsNeighbour result.0) → EachTick (IsAdvancingTick result.0) (history_of result.1) }
+        ensures told { AreTold result.1.number (history_of result.1) clients.items result.2.items }
+    {
+        let Rest {
+            mut core,
+            ends: _,
+            book: _,
+        } = self;
+        let mut clients = clients;
+        let mut rooms = rooms;
+        fill(&mut core, clients.as_mut_slice(), &mut rooms);
+        let (grid, chapter) = core.finish();
+        (grid, chapter, rooms)
+    }
+}
+
+impl<N: OfficeName<A>, A: Allocator + Copy> Hall<N, A> {
+    /// The hall's end: takes every order that is left in the lanes, and hands out the map, the chapter and what the
+    /// clients had not collected. It makes no tick.
+    pub fn conclude(
+        self,
+        alloc: A,
+        clients: Vec<Client<A>, A>,
+        tickers: Vec<Ticker<N>, A>,
+    ) -> Result<Final<A>, (ConcludeFault, Home<N, A>)>
+        requires on { AreOn N.rings (cores clients.items) }
+        ensures drains { IfOk result (λ f. IsLast (length N.rings) self.rest.world f.grid f.chapter.number (history_of f.chapter)) }
+        ensures legal { IfOk result (λ f. IsLegal f.grid (history_of f.chapter)) }
+        ensures planned { IfOk result (λ f. EachTick (IsPlanned f.grid self.rest.world.ties) (history_of f.chapter)) }
+        ensures advancing { IfOk result (λ f. IsBridgeless (IsNeighbour f.grid) → EachTick (IsAdvancingTick f.grid) (history_of f.chapter)) }
+        ensures told { IfOk result (λ f. AreTold f.chapter.number (history_of f.chapter) clients.items f.rest.items) }
+        ensures tick { IfOk result (λ f. (f.tick ≡ clock (history_of f.chapter)) × (f.tick ≡ sum_by (λ t. t.count) tickers.items)) }
+        ensures home { OnOk result (AreHome (length N.rings) clients.items tickers.items (clock self.rest.world.history)) }
+        ensures err { IfErr result (λ e. IsUnconcluded (length N.rings) self.rest.world clients.items tickers.items e.0) }
+        ensures back { IfErr result (λ e. (cores e.1.clients.items ≡ cores clients.items) × (e.1.tickers.items ≡ tickers.items)) }
+    {
+        let mut hall = self;
+        let mut clients = clients;
+        let mut tickers = tickers;
+        hall.rest.lawful();
+        if let Err(fault) = hall.rest.see_home(clients.as_slice(), &mut tickers) {
+            return Err((fault, come_home(hall, clients, tickers)));
+        }
+        let rooms = match hall.rest.come_to_rest(alloc, clients.as_mut_slice()) {
+            Ok(rooms) => rooms,
+            Err(fault) => return Err((fault, come_home(hall, clients, tickers))),
+        };
+        hall.rest.lawful();
+        let tick = hall.rest.clock();
+        let Hall { rest, robots: _ } = hall;
+        let (grid, chapter, rest) = rest.finish(clients, rooms);
+        Ok(Final {
+            grid,
+            chapter,
+            tick,
+            rest,
+        })
+    }
+}
+
+fn come_home<N: OfficeName<A>, A: Allocator + Copy>(
+    hall: Hall<N, A>,
+    clients: Vec<Client<A>, A>,
+    tickers: Vec<Ticker<N>, A>,
+) -> Home<N, A>
+    ensures { (result.clients.items ≡ clients.items) × (result.tickers.items ≡ tickers.items) }
+{
+    Home {
+        office: Office::of(Mutex::new(hall)),
+        clients,
+        tickers,
+    }
+}

@@ -1,0 +1,125 @@
+//! The lock's value.
+ghost use Rattle.std.specs.Prelude.{◌≡◌, ◌+◌, ◌<◌, ◌≤◌, ◌↔◌, true, ℕ, length, Err, IfOk, IfErr, IfSome, OnErr};
+ghost use Rattle.fleet_history.specs.History.{clock, robots, is_shut};
+ghost use Rattle.fleet_core.specs.Hooks.{laws_of};
+ghost use Rattle.fleet_world.specs.Opening.{IsRefused, IsNamed as IsNamedFault};
+ghost use Rattle.fleet_core.specs.Core.{Shuts, HasRoom, HasNoRoom, HasNoEntries, opened_world};
+ghost use Rattle.fleet_office.specs.Views.{IsNamed, AreOn, cores};
+ghost use Rattle.fleet_office.specs.Hall.{TakesOne, GivesAll, TicksOnce, Turns, StopsTurn, Looks};
+
+use crate::desk::Desk;
+use crate::names::OfficeName;
+use crate::report::{TurnFault, TurnReport};
+use crate::rest::Rest;
+use crate::ticker::Ticker;
+use fleet_book::Verdict;
+use fleet_core::{Robots, ShutFault, TakeFault, TickFault, TickReport};
+use fleet_grid::Grid;
+use fleet_hooks::Hooks;
+use fleet_lanes::Client;
+use fleet_world::{OpenFault, World};
+use std::alloc::{Alloc, Allocator, Global};
+
+/// The lock's value: all that one name speaks of, and the closures.
+#[derive(Drop)]
+pub struct Hall<N: OfficeName<A>, A: Allocator + Copy = Global> {
+    pub rest: Rest<N, A>,
+    pub(crate) robots: Robots<A>,
+}
+
+impl<N: OfficeName<A>, A: Allocator + Copy> Hall<N, A> {
+    /// Takes one order out of the client's lane into the world.
+    pub fn take_one(&mut self, client: u32) -> Result<Option<Verdict>, TakeFault>
+        requires { client < length self.old.rest.ends }
+        ensures ok { IfOk result (λ r. TakesOne self.old.rest client r self.new.rest) }
+        ensures mailbox_full { result ≡ Err TakeFault.MailboxFull → HasNoRoom self.old.rest.world client }
+        ensures chapter_full { result ≡ Err TakeFault.ChapterFull → HasRoom self.old.rest.world client × HasNoEntries self.old.rest.world }
+        ensures err { OnErr result (Looks self.old.rest self.new.rest) }
+    {
+        self.rest.take_one(client)
+    }
+
+    /// Gives each client's notices, client by client.
+    pub fn give_all(&mut self) -> u64
+        ensures { GivesAll self.old.rest result self.new.rest }
+    {
+        self.rest.give_all()
+    }
+
+    /// Shuts a robot.
+    pub fn shut(&mut self, robot: u32) -> Result<Option<u32>, ShutFault>
+        ensures ok { IfOk result (λ farewell. Shuts self.old.rest.world robot farewell self.new.rest.world
+            × (self.new.rest.ends ≡ self.old.rest.ends) × (self.new.rest.total ≡ self.old.rest.total)) }
+        ensures no_robot { result ≡ Err ShutFault.NoRobot → robots self.old.rest.world.history ≤ robot }
+        ensures already { result ≡ Err ShutFault.Already → (robot < robots self.old.rest.world.history) × (is_shut self.old.rest.world.history robot ≡ true) }
+        ensures err { OnErr result (self.new.rest ≡ self.old.rest) }
+    {
+        self.rest.shut(&mut self.robots, robot)
+    }
+
+    /// The hall over the desk's lanes, its clients, and a ticker that has all parts of the ledger.
+    pub fn open(
+        alloc: A,
+        desk: Desk<A>,
+        grid: Grid<A>,
+        starts: Vec<u32, A>,
+        hooks: Hooks<A>,
+    ) -> Result<(Hall<N, A>, Vec<Client<A>, A>, Ticker<N>), OpenFault>
+        requires named { IsNamed desk N.name N.parts N.rings }
+        ensures refused { (fault : _) → IsNamedFault fault →
+            ((result ≡ Err fault) ↔ IsRefused grid starts.items (length desk.clients) desk.limits (laws_of hooks) fault) }
+        ensures hall { IfOk result (λ r. r.0.rest.world ≡ opened_world grid starts.items (length desk.clients) desk.limits (laws_of hooks)) }
+        ensures clients { IfOk result (λ r. (r.1.items ≡ desk.clients) × AreOn N.rings (cores r.1.items)) }
+        ensures ticker { IfOk result (λ r. r.2 ≡ record { count = 0; parts = 65536 }) }
+    {
+        let Desk {
+            limits,
+            clients,
+            ends,
+            blank,
+        } = desk;
+        let count = clients.len() as u32;
+        let world = match World::open(alloc, grid, starts, count, limits, hooks) {
+            Ok(world) => world,
+            Err(fault) => return Err(fault),
+        };
+        let (core, robots) = world.apart();
+        let _ = core.chapter();
+        let (book, share) = blank.open::<N>();
+        let rest = Rest::new(core, ends, book);
+        Ok((Hall { rest, robots }, clients, Ticker::new(65536, share)))
+    }
+}
+
+impl<N: OfficeName<A>, A: Allocator + Copy> Hall<N, A> {
+    /// One tick of the world, counted by the ticker.
+    pub fn tick_with<R: Alloc<A = A>>(
+        &mut self,
+        rt: &R,
+        ticker: &mut Ticker<N>,
+    ) -> Result<TickReport, TickFault>
+        ensures ok { IfOk result (λ r. TicksOnce self.old.rest r self.new.rest
+            × (ticker.new ≡ record { count = ticker.old.count + 1; parts = ticker.old.parts }) × (ticker.new.count ≤ r.tick)) }
+        ensures clock_spent { result ≡ Err TickFault.ClockSpent → clock self.old.rest.world.history ≡ self.old.rest.world.limits.clock }
+        ensures chapter_full { result ≡ Err TickFault.ChapterFull →
+            (clock self.old.rest.world.history < self.old.rest.world.limits.clock) × HasNoEntries self.old.rest.world }
+        ensures err { OnErr result ((self.new.rest ≡ self.old.rest) × (ticker.new ≡ ticker.old)) }
+    {
+        self.rest.tick_with(rt, &mut self.robots, ticker)
+    }
+
+    /// A turn: gives all notices, takes the orders, makes one tick, and gives all notices.
+    pub fn turn<R: Alloc<A = A>>(
+        &mut self,
+        rt: &R,
+        ticker: &mut Ticker<N>,
+    ) -> Result<TurnReport, TurnFault>
+        ensures ok { IfOk result (λ r. Turns self.old.rest r self.new.rest) }
+        ensures ticker { IfOk result (λ r. (ticker.new ≡ record { count = ticker.old.count + 1; parts = ticker.old.parts })
+            × IfSome r.tick (λ t. ticker.new.count ≤ t)) }
+        ensures err { IfErr result (λ e. StopsTurn self.old.rest e self.new.rest) }
+        ensures kept { OnErr result (ticker.new ≡ ticker.old) }
+    {
+        self.rest.turn(rt, &mut self.robots, ticker)
+    }
+}

@@ -1,0 +1,53 @@
+//! What a look at an office shows.
+ghost use Rattle.std.specs.Prelude.{◌≡◌, ◌↔◌, length, IfOk, IsTrue, MatchOption};
+ghost use Rattle.fleet_history.specs.History.{clock, place};
+ghost use Rattle.fleet_plan.specs.Planned.{waits};
+ghost use Rattle.fleet_pibt.specs.Eldest.{IsEldest};
+ghost use Rattle.fleet_core.specs.Aimed.{IsIdle};
+
+use crate::names::OfficeName;
+use crate::rest::Rest;
+use std::alloc::{AllocError, Allocator, Global};
+
+/// What a look at an office shows.
+#[derive(Drop)]
+pub struct Look<A: Allocator + Copy = Global> {
+    /// The ticks made so far.
+    pub tick: u64,
+    /// Where the robots stand, by number.
+    pub placement: Vec<u32, A>,
+    /// The robot that has waited longest, where one has an errand.
+    pub eldest: Option<u32>,
+    /// Whether nobody has an errand.
+    pub idle: bool,
+    /// The chapter's number.
+    pub chapter: u32,
+    /// How many entries the chapter has.
+    pub entries: u32,
+}
+
+impl<N: OfficeName<A>, A: Allocator + Copy> Rest<N, A> {
+    /// What there is to see.
+    pub fn look(&self, alloc: A) -> Result<Look<A>, AllocError>
+        ensures tick { IfOk result (λ l. l.tick ≡ clock self.now.world.history) }
+        ensures placement { IfOk result (λ l. l.placement.items ≡ place self.now.world.history) }
+        ensures eldest { IfOk result (λ l. MatchOption l.eldest (IsIdle self.now.world.history) (λ e. IsEldest (waits self.now.world.history) e)) }
+        ensures idle { IfOk result (λ l. IsTrue l.idle ↔ IsIdle self.now.world.history) }
+        ensures chapter { IfOk result (λ l. l.chapter ≡ self.now.world.number) }
+        ensures entries { IfOk result (λ l. l.entries ≡ length self.now.world.history.entries) }
+    {
+        let chapter = self.core.chapter();
+        // A chapter has fewer entries, so no call ends here.
+        let Ok(entries) = u32::try_from(chapter.entries.len()) else {
+            return Err(AllocError);
+        };
+        Ok(Look {
+            tick: self.core.clock(),
+            placement: Vec::from_slice(alloc, self.core.placement())?,
+            eldest: self.core.eldest(),
+            idle: self.core.is_idle(),
+            chapter: chapter.number,
+            entries,
+        })
+    }
+}

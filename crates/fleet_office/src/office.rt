@@ -1,0 +1,129 @@
+//! The hall under its lock.
+ghost use Rattle.std.specs.Prelude.{◌≡◌, ◌+◌, ◌<◌, ◌≤◌, ◌^◌, ◌↔◌, length, Err, IfOk, IfErr, IfSome, OnErr};
+ghost use Rattle.std.specs.List.{sum_by};
+ghost use Rattle.fleet_grid.specs.Floor.{IsNeighbour};
+ghost use Rattle.fleet_grid.specs.Walk.{IsBridgeless};
+ghost use Rattle.fleet_history.specs.History.{history_of, clock};
+ghost use Rattle.fleet_history.specs.Legal.{IsLegal};
+ghost use Rattle.fleet_history.specs.Laws.{EachTick};
+ghost use Rattle.fleet_plan.specs.Planned.{IsAdvancingTick};
+ghost use Rattle.fleet_core.specs.Hooks.{laws_of};
+ghost use Rattle.fleet_world.specs.Opening.{IsRefused, IsNamed as IsNamedFault};
+ghost use Rattle.fleet_office.specs.Views.{IsNamed, AreOn, cores};
+ghost use Rattle.fleet_office.specs.Concluded.{AreTold};
+
+use crate::conclude::{ConcludeFault, Final, Home};
+use crate::desk::Desk;
+use crate::hall::Hall;
+use crate::look::Look;
+use crate::names::OfficeName;
+use crate::report::{TurnFault, TurnReport};
+use crate::ticker::Ticker;
+use fleet_core::ShutFault;
+use fleet_grid::Grid;
+use fleet_hooks::Hooks;
+use fleet_lanes::Client;
+use fleet_world::OpenFault;
+use std::alloc::{Alloc, AllocError, Allocator, Global};
+use std::sync::{Mutex, Wait};
+
+/// The hall under its lock.
+#[derive(Drop)]
+pub struct Office<N: OfficeName<A>, A: Allocator + Copy = Global> {
+    hall: Mutex<Hall<N, A>>,
+}
+
+impl<N: OfficeName<A>, A: Allocator + Copy> Office<N, A> {
+    /// Opens an office over the desk's lanes.
+    pub fn open(
+        alloc: A,
+        desk: Desk<A>,
+        grid: Grid<A>,
+        starts: Vec<u32, A>,
+        hooks: Hooks<A>,
+    ) -> Result<(Office<N, A>, Vec<Client<A>, A>, Ticker<N>), OpenFault>
+        requires named { IsNamed desk N.name N.parts N.rings }
+        ensures refused { (fault : _) → IsNamedFault fault →
+            ((result ≡ Err fault) ↔ IsRefused grid starts.items (length desk.clients) desk.limits (laws_of hooks) fault) }
+        ensures clients { IfOk result (λ r. (r.1.items ≡ desk.clients) × AreOn N.rings (cores r.1.items)) }
+        ensures ticker { IfOk result (λ r. r.2 ≡ record { count = 0; parts = 65536 }) }
+    {
+        match Hall::open(alloc, desk, grid, starts, hooks) {
+            Ok((hall, clients, ticker)) => Ok((
+                Office {
+                    hall: Mutex::new(hall),
+                },
+                clients,
+                ticker,
+            )),
+            Err(fault) => Err(fault),
+        }
+    }
+
+    pub(crate) fn of(hall: Mutex<Hall<N, A>>) -> Office<N, A> {
+        Office { hall }
+    }
+
+    /// The office's end: takes every order that is left in the lanes, and hands out the map, the chapter and what the
+    /// clients had not collected. It makes no tick. Waits for nobody.
+    ///
+    /// Refused in this order: a client that is not handed in, a client twice, ticks of tickers that are not handed in, a
+    /// full chapter where an order is left, want of memory. After the last two the takes made stand; no notice is lost.
+    pub fn conclude(
+        self,
+        alloc: A,
+        clients: Vec<Client<A>, A>,
+        tickers: Vec<Ticker<N>, A>,
+    ) -> Result<Final<A>, (ConcludeFault, Home<N, A>)>
+        requires on { AreOn N.rings (cores clients.items) }
+        ensures legal { IfOk result (λ f. IsLegal f.grid (history_of f.chapter)) }
+        ensures advancing { IfOk result (λ f. IsBridgeless (IsNeighbour f.grid) → EachTick (IsAdvancingTick f.grid) (history_of f.chapter)) }
+        ensures told { IfOk result (λ f. AreTold f.chapter.number (history_of f.chapter) clients.items f.rest.items) }
+        ensures tick { IfOk result (λ f. (f.tick ≡ clock (history_of f.chapter)) × (f.tick ≡ sum_by (λ t. t.count) tickers.items)) }
+        ensures back { IfErr result (λ e. (cores e.1.clients.items ≡ cores clients.items) × (e.1.tickers.items ≡ tickers.items)) }
+    {
+        let Office { hall } = self;
+        hall.into_inner().conclude(alloc, clients, tickers)
+    }
+
+    /// Shuts a robot.
+    pub fn shut<R: Wait>(&self, rt: &R, robot: u32) -> Result<Option<u32>, ShutFault>
+        requires { robot < 2 ^ 32 }
+    {
+        self.hall.lock(rt).shut(robot)
+    }
+
+    /// What the office shows: no fewer ticks than the ticker made.
+    pub fn look<R: Alloc<A = A> + Wait>(
+        &self,
+        rt: &R,
+        ticker: &Ticker<N>,
+    ) -> Result<Look<A>, AllocError>
+        requires { 0 ≤ ticker.now.count }
+        ensures { IfOk result (λ look. ticker.now.count ≤ look.tick) }
+    {
+        let hall = self.hall.lock(rt);
+        let look = hall.rest.look(rt.alloc())?;
+        // The ledger shows that no call ends here.
+        if look.tick < ticker.ticks() {
+            return Err(AllocError);
+        }
+        Ok(look)
+    }
+}
+
+impl<N: OfficeName<A>, A: Allocator + Copy> Office<N, A> {
+    /// A turn.
+    pub fn turn<R: Alloc<A = A> + Wait>(
+        &self,
+        rt: &R,
+        ticker: &mut Ticker<N>,
+    ) -> Result<TurnReport, TurnFault>
+        requires { 0 ≤ ticker.old.count }
+        ensures ticker { IfOk result (λ r. (ticker.new ≡ record { count = ticker.old.count + 1; parts = ticker.old.parts })
+            × IfSome r.tick (λ t. ticker.new.count ≤ t)) }
+        ensures kept { OnErr result (ticker.new ≡ ticker.old) }
+    {
+        self.hall.lock(rt).turn(rt, ticker)
+    }
+}
