@@ -16,10 +16,12 @@ use Rattle.fleet_history.specs.declared.history.Entry.TheVariants as entry
 use Rattle.fleet_history.specs.declared.history.Arrival.{Arrival}
 use Rattle.fleet_history.specs.declared.history.Bye.{Bye}
 use Rattle.fleet_history.specs.declared.history.Opening.{Opening}
-use Rattle.fleet_history.specs.History.{History, after, robots, unfinished, is_shut, errand_for}
+use Rattle.fleet_history.specs.History.{History, start, after, robots, unfinished, is_shut, errand_for}
 use Rattle.fleet_history.specs.Verdicts.{IsVerdict, standing}
 use Rattle.fleet_history.specs.Legal.{IsLegal, is_done, is_none_left, is_leaving, arrival_law, farewell_law, IsFarewell}
+use Rattle.fleet_history.specs.Next.{next_opening}
 use Rattle.fleet_history.proofs.After.{shut-after}
+use Rattle.fleet_history.proofs.Next.{next-robots, start-arrival_law, start-done, start-farewell_law}
 use Rattle.fleet_history.proofs.Arrivals.{unfinished-after_shut}
 use Rattle.fleet_history.proofs.Places.{done-after_take}
 use Rattle.fleet_history.proofs.Legal.{accepted-rule}
@@ -149,3 +151,26 @@ stamps-are h laws k xs known all i d l = subst (λ law. IsStamp law (get_or xs i
 -- the laws of arrivals are those of the opening
 pub arrivals-same : {A : Type 0} (h g : History A) (laws : List StampLaw) → g.opening ≡ h.opening → AreArrivals h laws → AreArrivals g laws
 arrivals-same {A = A} h g laws same k = subst (λ (o : Opening A). AreArrivals (record { opening = o; entries = g.entries }) laws) (sym same) (record { count = k.count; each = k.each })
+
+-- a chapter that goes on has the same laws, and the same robots are done
+pub arrivals-next : {A : Type 0} (h : History A) (laws : List StampLaw) → AreArrivals h laws → AreArrivals (start (next_opening h)) laws
+arrivals-next h laws k = record {
+  count = k.count ∙ sym (next-robots h);
+  each = λ r l. let inside : r < robots h = omega (arith, next-robots h) in k.each r inside ∙ sym (start-arrival_law h r inside);
+}
+
+pub farewells-next : {A : Type 0} (h : History A) (spare : List (Option StampLaw)) → AreFarewells h spare → AreFarewells (start (next_opening h)) spare
+farewells-next h spare k = record {
+  count = k.count ∙ sym (next-robots h);
+  each = λ r law e.
+      let inside = left_inside spare r law e in
+      let known : r < robots h = omega (arith, inside, k.count) in
+      k.each r law e ∙ sym (start-farewell_law h r known);
+  unspent = λ r l d. let known : r < robots h = omega (arith, next-robots h) in k.unspent r known (sym (start-done h r known) ∙ d);
+}
+  where
+    no_law : (law : StampLaw) → None ≡ Some law → ⊥
+    no_law law q = cc
+
+    left_inside : (spare : List (Option StampLaw)) (r : ℕ) (law : StampLaw) → slice_index_or spare r None ≡ Some law → r < length spare
+    left_inside spare r law e = elim (cases_lt r (length spare)) [ inl l ↦ l | inr l ↦ absurd (no_law law (sym (get_or_past spare r None l) ∙ e)) ]

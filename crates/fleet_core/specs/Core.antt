@@ -18,6 +18,7 @@ use Rattle.fleet_history.specs.declared.history.Entry.TheVariants as entry
 use Rattle.fleet_history.specs.History.{History, after, start, robots, clients, clock, owed, is_shut, unknown_client}
 use Rattle.fleet_history.specs.Verdicts.{IsVerdict}
 use Rattle.fleet_history.specs.Legal.{Fits}
+use Rattle.fleet_history.specs.Next.{next_opening}
 use Rattle.fleet_history.specs.Notices.{told, seq_of}
 use Rattle.fleet_plan.specs.Planned.{IsPlanned, IsAdvancingTick}
 use Rattle.fleet_core.specs.declared.faults.TickReport.{TickReport}
@@ -80,6 +81,17 @@ widened w c extra = record {
   number = w.number;
   history = w.history;
   mailboxes = slice_set w.mailboxes c (record { notices = (pending w c).notices; limit = (pending w c).limit + extra });
+}
+
+-- the world in its next chapter
+abbrev pub next_world : {A : Type 0} → World A → World A
+next_world w = record {
+  floor = w.floor;
+  limits = w.limits;
+  ties = w.ties;
+  number = w.number + 1;
+  history = start (next_opening w.history);
+  mailboxes = w.mailboxes;
 }
 
 -- a client's notices and unfinished errands leave room for two more

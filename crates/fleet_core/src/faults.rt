@@ -37,6 +37,15 @@ pub enum ShutFault {
     NoMemory,
 }
 
+/// Why no further chapter begins; the first that stands is answered.
+#[derive(Clone, Copy, Debug, PartialEq, Eq)]
+pub enum ChapterFault {
+    /// This is the last chapter that there may be.
+    BookSpent,
+    /// Memory was refused.
+    NoMemory,
+}
+
 /// What a tick did.
 #[derive(Clone, Copy, Debug, PartialEq, Eq)]
 pub struct TickReport {
@@ -78,5 +87,16 @@ impl From<AllocError> for ShutFault {
 
     fn from(_e: AllocError) -> ShutFault {
         ShutFault::NoMemory
+    }
+}
+
+impl From<AllocError> for ChapterFault {
+    ghost use Rattle.std.specs.Prelude.{◌≡◌};
+    ghost use Rattle.fleet_core.specs.declared.faults.ChapterFault.TheVariants.{NoMemory};
+
+    ghost from_gives = { λ _ e. e ≡ NoMemory };
+
+    fn from(_e: AllocError) -> ChapterFault {
+        ChapterFault::NoMemory
     }
 }

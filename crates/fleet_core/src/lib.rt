@@ -2,6 +2,7 @@
 //! robots' closures lie beside it.
 #![tactic(auto)]
 
+mod chapters;
 mod entries;
 mod faults;
 mod gifts;
@@ -12,6 +13,6 @@ mod planner;
 mod robots;
 mod stamps;
 
-pub use crate::faults::{ShutFault, TakeFault, TickFault, TickReport};
+pub use crate::faults::{ChapterFault, ShutFault, TakeFault, TickFault, TickReport};
 pub use crate::kernel::Core;
 pub use crate::robots::Robots;

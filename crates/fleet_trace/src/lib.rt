@@ -1,4 +1,4 @@
-//! Traces: every chapter can be written down as text and read back.
+//! Traces: every chapter can be written down as text, read back, and judged by its history alone.
 #![tactic(auto)]
 
 mod fault;

@@ -16,7 +16,7 @@ pub use crate::play::{Played, run};
 pub use crate::reply::Reply;
 pub use crate::world::World;
 pub use fleet_book::{Event, Limits, Notice, Order, Verdict};
-pub use fleet_core::{Core, Robots, ShutFault, TakeFault, TickFault, TickReport};
+pub use fleet_core::{ChapterFault, Core, Robots, ShutFault, TakeFault, TickFault, TickReport};
 pub use fleet_history::{Arrival, Bye, Chapter, ClientState, Entry, Opening, RobotState, Row};
 pub use fleet_hooks::{Hooks, StampLaw};
 pub use fleet_queue::Errand;

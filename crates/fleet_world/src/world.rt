@@ -13,12 +13,12 @@ ghost use Rattle.fleet_core.specs.Aimed.{IsIdle};
 ghost use Rattle.fleet_core.specs.Hooks.{laws_of, spare_laws, AreOrderly, AreArrivals, AreFarewells};
 ghost use Rattle.fleet_core.specs.Opening.{CanOpen};
 ghost use Rattle.fleet_world.specs.Opening.{IsRefused, IsNamed};
-ghost use Rattle.fleet_core.specs.Core.{Takes, Ticks, Shuts, pending, without_first, widened, opened_world, HasRoom, HasNoRoom, HasEntries, HasNoEntries};
+ghost use Rattle.fleet_core.specs.Core.{Takes, Ticks, Shuts, pending, without_first, widened, next_world, opened_world, HasRoom, HasNoRoom, HasEntries, HasNoEntries};
 
 use crate::faults::OpenFault;
 use crate::opening::{arrival_laws, farewell_laws, opening_fault, spare, tie_laws};
 use fleet_book::{Limits, Notice, Order, Verdict};
-use fleet_core::{Core, Robots, ShutFault, TakeFault, TickFault, TickReport};
+use fleet_core::{ChapterFault, Core, Robots, ShutFault, TakeFault, TickFault, TickReport};
 use fleet_grid::Grid;
 use fleet_history::Chapter;
 use fleet_hooks::Hooks;
@@ -136,6 +136,22 @@ impl<A: Allocator + Copy> World<A> {
         ensures advancing { IsBridgeless (IsNeighbour self.now.core.floor) → EachTick (IsAdvancingTick self.now.core.floor) self.now.core.history }
     {
         self.core.chapter()
+    }
+
+    /// Hands out the present chapter and begins the next, whose opening is the state now. Mailboxes stay.
+    ///
+    /// Refused in this order: this is the last of the chapters, want of memory.
+    pub fn next_chapter(&mut self) -> Result<Chapter<A>, ChapterFault>
+        ensures book_spent { (result ≡ Err ChapterFault.BookSpent) ↔ (self.old.core.number + 1 ≡ self.old.core.limits.chapters) }
+        ensures history { IfOk result (λ chapter. history_of chapter ≡ self.old.core.history) }
+        ensures number { IfOk result (λ chapter. chapter.number ≡ self.old.core.number) }
+        ensures legal { OnOk result (IsLegal self.old.core.floor self.old.core.history) }
+        ensures planned { OnOk result (EachTick (IsPlanned self.old.core.floor self.old.core.ties) self.old.core.history) }
+        ensures advancing { OnOk result (IsBridgeless (IsNeighbour self.old.core.floor) → EachTick (IsAdvancingTick self.old.core.floor) self.old.core.history) }
+        ensures next { OnOk result (self.new.core ≡ next_world self.old.core) }
+        ensures err { OnErr result (self.new.core ≡ self.old.core) }
+    {
+        self.core.next_chapter()
     }
 
     /// The map and the present chapter.

@@ -12,7 +12,7 @@ use fleet_history::{Opening, RobotState};
 use serde_json::Value;
 use std::alloc::Global;
 
-/// What the values of a robot's numbers and laws tell, with no errands.
+/// The state of a robot that six values tell.
 fn robot_with(alloc: Global, version: Version, values: &[Value]) -> Result<RobotState, TraceFault>
     ensures { Gives (λ x. x) result (robot_from (map view values.now)) }
 {

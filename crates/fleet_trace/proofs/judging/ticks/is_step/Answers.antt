@@ -6,4 +6,4 @@ use Rattle.fleet_trace.proofs.judging.ticks.is_step.Goals as goal
 pub check_step-requires : goal.check_step-requires
 check_step-requires g c =
     let k = c.requires.1 in
-    subst (λ (xs : List ℕ). IsPlacement c.args.grid.now xs) (sym (c.place.ensures c.args.grid.now c.requires.0 k)) (legal-placement c.args.grid.now c.requires.0 k.legal)
+    subst (λ (xs : List ℕ). IsPlacement c.args.grid.now xs) (sym (c.place.ensures.of c.args.grid.now c.requires.0 k)) (legal-placement c.args.grid.now c.requires.0 k.legal)

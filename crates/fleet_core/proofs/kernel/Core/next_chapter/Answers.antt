@@ -1,0 +1,60 @@
+use Rattle.std.proofs.Common.{arith, ◌≡◌, ◌∙◌, ◌+◌, ℕ, sym, ap, refl, subst}
+use Rattle.fleet_history.specs.History.{History, history_of, start, robots}
+use Rattle.fleet_history.specs.Next.{next_opening}
+use Rattle.fleet_history.proofs.Next.{next-robots}
+use Rattle.fleet_history.proofs.Ticks.{each_tick-start}
+use Rattle.fleet_plan.specs.Planned.{IsPlanned}
+use Rattle.fleet_state.proofs.NextOpening.{goes-on}
+use Rattle.fleet_state.proofs.Parts.{queue-count}
+use Rattle.fleet_core.specs.Hooks.{AreArrivals, AreFarewells}
+use Rattle.fleet_core.specs.Kept.{IsKept}
+use Rattle.fleet_core.proofs.Goaled.{each_advances, aimed-next}
+use Rattle.fleet_core.proofs.Hooked.{arrivals-next, farewells-next}
+use Rattle.fleet_core.proofs.Kept.{boxes-next, within-next, within-room}
+use Rattle.fleet_core.proofs.kernel.Core.next_chapter.Goals as goal
+
+-- the next chapter's history starts at the opening that follows
+history_is : (g : _) (c : goal.After-replace g) → history_of c.replace.new.dest ≡ start (next_opening (history_of c.self.inside.chapter))
+history_is g c =
+    let same = c.in_ok-opening.ensures.next c.self.inside.grid (history_of c.self.inside.chapter) c.self.invariant.is refl in
+    rw (c.replace.ensures.after, c.new.ensures.items, same) refl
+
+number_is : (g : _) (c : goal.After-replace g) → c.replace.new.dest.number ≡ c.self.inside.chapter.number + 1
+number_is g c = rw c.replace.ensures.after refl
+
+pub next_opening-requires : goal.next_opening-requires
+next_opening-requires g c = sym (queue-count c.self.invariant.is)
+
+pub invariant_of-self : goal.invariant_of-self
+invariant_of-self g c =
+    let k = c.self.invariant in
+    let h = history_of c.self.inside.chapter in
+    subst (λ (x : History g.row.A.Denot). IsKept c.self.inside.grid c.self.inside.limits c.self.inside.ties.items c.replace.new.dest.number x c.self.inside.state c.self.inside.planner c.self.inside.mailboxes) (sym (history_is g c))
+    (subst (λ n. IsKept c.self.inside.grid c.self.inside.limits c.self.inside.ties.items n (start (next_opening h)) c.self.inside.state c.self.inside.planner c.self.inside.mailboxes) (sym (number_is g c))
+    (record {
+      is = goes-on k.is (within-room k.within);
+      room = k.room;
+      within = within-next k.within c.if-self.false;
+      boxed = boxes-next k.is.legal k.boxed;
+      aimed = aimed-next k.is k.aimed;
+      tied = record { count = k.tied.count ∙ sym (next-robots h); planned = each_tick-start (IsPlanned c.self.inside.grid c.self.inside.ties.items) (next_opening h) };
+    }))
+
+pub returns-clause-planned : goal.returns-clause-planned
+returns-clause-planned g c = rw (← c.self.view_is) c.self.invariant.tied.planned
+
+pub returns-clause-advancing : goal.returns-clause-advancing
+returns-clause-advancing g c = rw (← c.self.view_is) (each_advances c.self.inside.grid c.self.inside.ties.items (history_of c.self.inside.chapter) c.self.invariant.tied.planned)
+
+pub returns-clause-next : goal.returns-clause-next
+returns-clause-next g c = rw (← c.self.view_is, history_is g c, number_is g c) refl
+
+pub returns-clause-arrivals : goal.returns-clause-arrivals
+returns-clause-arrivals g c = λ laws k.
+    subst (λ (x : History g.row.A.Denot). AreArrivals x laws) (sym (history_is g c))
+    (arrivals-next (history_of c.self.inside.chapter) laws (subst (λ w. AreArrivals w.history laws) (sym c.self.view_is) k))
+
+pub returns-clause-farewells : goal.returns-clause-farewells
+returns-clause-farewells g c = λ spare k.
+    subst (λ (x : History g.row.A.Denot). AreFarewells x spare) (sym (history_is g c))
+    (farewells-next (history_of c.self.inside.chapter) spare (subst (λ w. AreFarewells w.history spare) (sym c.self.view_is) k))
