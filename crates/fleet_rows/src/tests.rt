@@ -1,7 +1,5 @@
 //! Rows by run: replies in full, placements, arrivals, and how often closures are called.
 mod calls;
-mod closures;
-mod refused;
 mod refusing;
 mod seen;
 
