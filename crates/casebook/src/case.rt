@@ -21,7 +21,7 @@ pub struct Case {
 
 impl Case {
     /// A case without words, input and files.
-    pub fn new(alloc: Global, name: &[u8]) -> Result<Case, AllocError> {
+    pub(crate) fn new(alloc: Global, name: &[u8]) -> Result<Case, AllocError> {
         let mut words = Vec::new(alloc);
         words.push(String::from_str(alloc, "errands")?)?;
         Ok(Case {
@@ -33,7 +33,7 @@ impl Case {
     }
 
     /// Takes in one more line of the case, which its first byte marks.
-    pub fn read(&mut self, alloc: Global, line: &[u8]) -> Result<(), AllocError> {
+    pub(crate) fn read(&mut self, alloc: Global, line: &[u8]) -> Result<(), AllocError> {
         let Some((mark, text)) = line.split_first() else {
             return Ok(());
         };
@@ -75,7 +75,7 @@ impl Case {
     }
 
     /// The bytes of the file of this name.
-    pub fn file(&self, name: &str) -> Option<&[u8]> {
+    pub(crate) fn file(&self, name: &str) -> Option<&[u8]> {
         for file in &self.files {
             if file.name.as_slice() == name.as_bytes() {
                 return Some(file.bytes.as_slice());

@@ -94,7 +94,7 @@ fn write_marked(told: &mut Vec<u8>, mark: u8, text: &[u8]) -> Result<(), AllocEr
 }
 
 /// Tells what came out of a case, where it is one.
-pub fn tell<R: Alloc<A = Global> + Threads + Sync>(
+pub(crate) fn tell<R: Alloc<A = Global> + Threads + Sync>(
     rt: &R,
     case: &Case,
     told: &mut Vec<u8>,
