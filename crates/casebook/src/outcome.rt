@@ -16,7 +16,7 @@ struct Outcome {
     status: u8,
 }
 
-/// Runs the script of the second file on the map of the first. The result is the status.
+/// Does a job on the files of these names. The result is the status.
 fn run_on<R: Alloc<A = Global> + Threads + Sync>(
     rt: &R,
     case: &Case,
@@ -27,10 +27,10 @@ fn run_on<R: Alloc<A = Global> + Threads + Sync>(
 ) -> u8
     requires { true ≡ names_two job.now }
 {
-    let (Some(mut map), Some(mut script)) = (case.file(names.0), case.file(names.1)) else {
+    let (Some(mut map), Some(mut other)) = (case.file(names.0), case.file(names.1)) else {
         return fail(InputFault::File, complaint);
     };
-    run_with_kit(rt, job, &mut map, Some(&mut script), output, complaint)
+    run_with_kit(rt, job, &mut map, Some(&mut other), output, complaint)
 }
 
 /// Does the job of a case. The result is the status.
@@ -50,7 +50,15 @@ fn run_job<R: Alloc<A = Global> + Threads + Sync>(
             Some(mut map) => run_with_kit(rt, job, &mut map, None, output, complaint),
             None => fail(InputFault::File, complaint),
         },
-        Job::Run { first, second } => {
+        Job::Run {
+            first,
+            second,
+            trace: _,
+        } => {
+            let names = (first.as_str(), second.as_str());
+            run_on(rt, case, job, names, output, complaint)
+        }
+        Job::Judge { first, second } => {
             let names = (first.as_str(), second.as_str());
             run_on(rt, case, job, names, output, complaint)
         }

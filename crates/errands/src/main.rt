@@ -1,6 +1,7 @@
 //! `errands`: moves robots over a map while clients post errands, as a script says. `errands run MAP SCRIPT` runs the script
-//! of one file on the map of another. Without words it reads a bundle from standard input: the map up to the first line that
-//! is exactly `script`, and the script behind it. `errands map FILE` tells of a map alone.
+//! of one file on the map of another; with `--trace` it writes the trace of the run in place of its lines, and `errands judge
+//! MAP TRACE` tells whether such a trace is legal. Without words it reads a bundle from standard input: the map up to the
+//! first line that is exactly `script`, and the script behind it. `errands map FILE` tells of a map alone.
 #![tactic(auto)]
 
 ghost use Rattle.std.specs.Prelude.{◌≡◌, true};
@@ -39,8 +40,8 @@ fn fail_open<E: Write>(fault: &io::Error, error: &mut E) -> u8 {
     fail(InputFault::File, error)
 }
 
-/// Opens the files of a map and a script in their order, the second only where the first could be opened, and runs the
-/// script on the map. The result is the status.
+/// Opens the two files of a job in their order, the second only where the first could be opened, and does the job. The
+/// result is the status.
 fn run_files<R: Files + Alloc<A = Global> + Threads + Sync, W: Write, E: Write>(
     rt: &R,
     job: &Job,
@@ -55,11 +56,11 @@ fn run_files<R: Files + Alloc<A = Global> + Threads + Sync, W: Write, E: Write>(
         Ok(file) => file,
         Err(fault) => return fail_open(&fault, error),
     };
-    let mut script = match File::open(rt, second) {
+    let mut other = match File::open(rt, second) {
         Ok(file) => file,
         Err(fault) => return fail_open(&fault, error),
     };
-    run_with_kit(rt, job, &mut map, Some(&mut script), output, error)
+    run_with_kit(rt, job, &mut map, Some(&mut other), output, error)
 }
 
 /// The job that the program's words name, or the status where they name none.
@@ -91,7 +92,19 @@ fn main(rt: HostRuntime) -> ExitCode {
             Ok(mut map) => run_with_kit(&rt, &job, &mut map, None, &mut output, &mut error),
             Err(fault) => fail_open(&fault, &mut error),
         },
-        Job::Run { first, second } => run_files(
+        Job::Run {
+            first,
+            second,
+            trace: _,
+        } => run_files(
+            &rt,
+            &job,
+            first.as_str(),
+            second.as_str(),
+            &mut output,
+            &mut error,
+        ),
+        Job::Judge { first, second } => run_files(
             &rt,
             &job,
             first.as_str(),

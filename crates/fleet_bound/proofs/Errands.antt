@@ -1,12 +1,14 @@
 -- An errand over a continuation: its place in the queue falls with each arrival and withdrawal before it.
-use Rattle.std.proofs.Common.{◌≡◌, ℕ, zero, suc, ◌+◌, ◌-◌, ◌*◌, ◌<◌, ◌≤◌, inl, inr, List, [], ◌∷◌, ◌++◌, length, drop, cond, Bool, true, false, Option, Some, sym, refl, ap, ◌∙◌, subst, arith}
+use Rattle.std.proofs.Common.{◌≡◌, ℕ, zero, suc, ◌+◌, ◌-◌, ◌*◌, ◌<◌, ◌≤◌, inl, inr, List, [], ◌∷◌, ◌++◌, length, drop, cond, eqb, Bool, true, false, Option, Some, sym, refl, ap, ◌∙◌, subst, arith}
 use Rattle.std.specs.Prelude.{slice_get, filter, not, Contains}
-use Rattle.std.proofs.lemmas.Bool.{cases_Bool, or_left, or_right}
+use Rattle.std.proofs.lemmas.Bool.{cases_Bool, eq-eqb, or_left, or_right}
 use Rattle.std.proofs.lemmas.List.Elements.{Contains-append_left, Contains-push}
 use Rattle.fleet_grid.specs.Floor.{Floor}
 use Rattle.fleet_queue.specs.declared.errand.Errand.{Errand}
 use Rattle.fleet_book.specs.declared.order.Order.{Order}
+use Rattle.fleet_book.specs.declared.order.Order.TheVariants.{Go, Close, Withdraw}
 use Rattle.fleet_book.specs.declared.verdict.Verdict.{Verdict}
+use Rattle.fleet_book.specs.declared.verdict.Verdict.TheVariants.{Accepted}
 use Rattle.fleet_history.specs.declared.history.Arrival.{Arrival}
 use Rattle.fleet_history.specs.declared.history.Bye.{Bye}
 use Rattle.fleet_history.specs.declared.history.Entry.{Entry}
@@ -17,12 +19,13 @@ use Rattle.fleet_history.specs.Legal.{IsLegal, Fits, IsTickAfter}
 use Rattle.fleet_history.specs.Verdicts.{IsVerdict}
 use Rattle.fleet_history.proofs.After.{arrivals-after, withdrawn-after}
 use Rattle.fleet_history.proofs.Arrivals.{arrivals_by-fits, unfinished-after_tick, unfinished-after_shut, unfinished-after_take, kept-filtered}
+use Rattle.fleet_history.proofs.Legal.{accepted-robot}
 use Rattle.fleet_history.proofs.Numbers.{slice_get_front}
 use Rattle.fleet_waits.specs.Waiting.{IsAdvance, IsPause}
 use Rattle.fleet_waits.specs.Errands.{IsQueued, Follows, begins, ticked, paused}
 use Rattle.fleet_waits.proofs.Runs.{errands-arrive}
 use Rattle.fleet_bound.specs.Reach.{reach}
-use Rattle.fleet_bound.specs.Arriving.{IsGone, ErrandsArrive}
+use Rattle.fleet_bound.specs.Arriving.{IsGone, ErrandsArrive, ArrivesInTurn}
 use Rattle.fleet_bound.proofs.Fronts.{wait-some}
 use Rattle.fleet_bound.proofs.Moments.{moment, within-moment}
 use Rattle.fleet_bound.proofs.Ticks.{is_landing, lands, landed-none, landed-one, tick-advances}
@@ -170,3 +173,22 @@ module _ {A : Type 0} (m : Floor) (from : History A) (r : ℕ) (x : Errand) (kno
 pub errands-gone : {A : Type 0} (m : Floor) (h : History A) → ErrandsArrive m h
 errands-gone {A = A} m h r j x more known at goes enough =
     run-gone m h r x known (j + 1) (queued j at refl) (goes-run m h (λ (e : Entry A). e ≡ e) more goes (λ k d l. refl)) enough
+
+slice_get-last : {X : Type 0} (xs : List X) (x : X) → slice_get (xs ++ x ∷ []) (length xs) ≡ Some x
+slice_get-last [] x = refl
+slice_get-last (y ∷ xs) x = slice_get-last xs x
+
+own : (robot : ℕ) (e : Errand) → cond (eqb robot robot) (e ∷ []) [] ≡ e ∷ []
+own robot e = rw (eq-eqb robot robot refl) refl
+
+-- so is an errand that was accepted last
+pub accepted-gone : {A : Type 0} (m : Floor) (h : History A) (c : ℕ) (order : Order) (v : Verdict) → IsLegal m h → IsVerdict m h c order v → ArrivesInTurn m h c order v
+accepted-gone m h c (Go robot cell) (Accepted number) legal is = λ more goes enough.
+    let x : Errand = record { client = c; number = number; cell = cell } in
+    let known = accepted-robot m h c number robot cell is in
+    let last = unfinished-after_take m h c (Go robot cell) (Accepted number) robot legal is known ∙ ap (λ (u : List Errand). unfinished h robot ++ u) (own robot x) in
+    errands-gone m (after h (Take c (Go robot cell) (Accepted number))) robot (length (unfinished h robot)) x more known
+    (ap (λ u. slice_get u (length (unfinished h robot))) last ∙ slice_get-last (unfinished h robot) x) goes enough
+accepted-gone m h c (Go robot cell) v legal is = tt
+accepted-gone m h c Close v legal is = tt
+accepted-gone m h c (Withdraw k) v legal is = tt

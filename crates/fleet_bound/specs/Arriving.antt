@@ -1,9 +1,14 @@
 -- How soon errands arrive, and how soon a fleet is idle.
-use Rattle.std.specs.Prelude.{◌≡◌, ℕ, ◌+◌, ◌*◌, ◌<◌, ◌≤◌, ◌⊎◌, List, Some, None, true, slice_get, Contains}
+use Rattle.std.specs.Prelude.{◌≡◌, ℕ, ◌+◌, ◌*◌, ◌<◌, ◌≤◌, ◌⊎◌, List, Some, None, true, length, slice_get, Contains}
 use Rattle.fleet_grid.specs.Floor.{Floor}
 use Rattle.fleet_queue.specs.declared.errand.Errand.{Errand}
+use Rattle.fleet_book.specs.declared.order.Order.{Order}
+use Rattle.fleet_book.specs.declared.order.Order.TheVariants.{Go}
+use Rattle.fleet_book.specs.declared.verdict.Verdict.{Verdict}
+use Rattle.fleet_book.specs.declared.verdict.Verdict.TheVariants.{Accepted}
 use Rattle.fleet_history.specs.declared.history.Entry.{Entry}
-use Rattle.fleet_history.specs.History.{History, robots, front, unfinished, arrivals, is_withdrawn}
+use Rattle.fleet_history.specs.declared.history.Entry.TheVariants.{Take}
+use Rattle.fleet_history.specs.History.{History, after, robots, front, unfinished, arrivals, is_withdrawn}
 use Rattle.fleet_bound.specs.Bound.{wait_bound}
 use Rattle.fleet_bound.specs.Onward.{onward, GoesOn, TakesNothing, tick_count}
 
@@ -17,6 +22,16 @@ abbrev pub ErrandsArrive : {A : Type 0} → Floor → History A → Type 0
 ErrandsArrive {A} m h = (r j : ℕ) (x : Errand) (more : List (Entry A)) →
     r < robots h → slice_get (unfinished h r) j ≡ Some x →
     GoesOn m h more → (j + 1) * wait_bound m h ≤ tick_count more → IsGone (onward h more) r x
+
+-- an accepted errand, which is the last of its robot's queue, is gone behind each legal continuation of the history with its
+-- take that has the bound's ticks once for each errand of that queue, its own place among them
+abbrev pub ArrivesInTurn : {A : Type 0} → Floor → History A → ℕ → Order → Verdict → Type 0
+ArrivesInTurn {A} m h client (Go robot cell) (Accepted number) = (more : List (Entry A)) →
+    GoesOn m (after h (Take client (Go robot cell) (Accepted number))) more →
+    (length (unfinished h robot) + 1) * wait_bound m h ≤ tick_count more →
+    IsGone (onward (after h (Take client (Go robot cell) (Accepted number))) more) robot
+    (record { client = client; number = number; cell = cell })
+ArrivesInTurn m h client _ _ = Unit {0}
 
 -- nobody has a front behind a legal continuation that has so many ticks and takes no order
 abbrev pub IsIdleWithin : {A : Type 0} → Floor → History A → ℕ → Type 0

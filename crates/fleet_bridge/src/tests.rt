@@ -1,5 +1,4 @@
 //! The worked maps, small maps beside a plain search, large maps, and each growth refused in turn.
-mod refusing;
 
 use crate::{first_bridge, is_bridge};
 use fleet_grid::{Dir, Grid};

@@ -1,6 +1,5 @@
 //! The worked steps, a whole fleet, and each growth refused in turn.
 mod placement;
-mod refusing;
 
 use crate::{StepFault, check_step};
 use fleet_grid::Grid;
@@ -99,5 +98,30 @@ fn refused_growths(rt: HostRuntime) -> Result<(), Fail> {
     let heap = Refusing::after(rt.alloc(), 0);
     assert!(rt; check_step(&heap, &grid, &from, &[1, 3, 1, 0]) == Err(StepFault::Length));
     assert!(rt; check_step(&heap, &grid, &from, &[3, 3, 3]) == Err(StepFault::NotAdjacent(0)));
+    Ok(())
+}
+
+/// A step of 24 robots: the table of seats grows more than once, and each growth is refused in turn.
+#[test]
+fn refused_growths_of_a_fleet(rt: HostRuntime) -> Result<(), Fail> {
+    let grid = hall(rt.alloc())?;
+    let mut from = Vec::new(rt.alloc());
+    let mut south = Vec::new(rt.alloc());
+    for robot in 0..24u32 {
+        from.push(robot)?;
+        south.push(robot + 32)?;
+    }
+    assert!(rt; is_placement(&grid, &from));
+    let mut refused = 0;
+    for before in 0..16 {
+        let heap = Refusing::after(rt.alloc(), before);
+        let said = check_step(&heap, &grid, &from, &south);
+        if said == Ok(()) {
+            break;
+        }
+        assert!(rt; said == Err(StepFault::NoMemory));
+        refused = before + 1;
+    }
+    assert!(rt; refused >= 2 && refused < 16);
     Ok(())
 }

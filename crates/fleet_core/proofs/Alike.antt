@@ -1,13 +1,13 @@
 -- Lists that are alike at each place, as far as a loop has seen them.
-use Rattle.std.proofs.Common.{◌≡◌, ℕ, zero, suc, ◌+◌, ◌<◌, ◌≤◌, List, [], ◌∷◌, length, map, get_or, Some, None, Option, refl, ap, sym, ◌∙◌, subst, arith, inl, inr, false, true, Bool}
+use Rattle.std.proofs.Common.{◌≡◌, ℕ, suc, ◌+◌, ◌<◌, List, [], ◌∷◌, length, map, Some, None, Option, refl, ap, sym, ◌∙◌, subst, arith, inl, inr, false, true, Bool}
 use Rattle.std.specs.Prelude.{slice_get, slice_index_or, is_some}
 use Rattle.std.proofs.lemmas.Option.{get_or_from_slice_get}
 use Rattle.std.proofs.lemmas.List.{length-map, get_or_past}
 use Rattle.std.proofs.lemmas.Bool.{cases_eq, cases_lt}
 use Rattle.fleet_hooks.specs.declared.law.StampLaw.{StampLaw}
 use Rattle.fleet_history.specs.History.{History, robots}
-use Rattle.fleet_history.specs.Legal.{is_done, farewell_law, arrival_law, no_law}
-use Rattle.fleet_core.specs.Hooks.{AreFarewells, AreArrivals, law_at, IsLeft}
+use Rattle.fleet_history.specs.Legal.{is_done, farewell_law, no_law}
+use Rattle.fleet_core.specs.Hooks.{AreFarewells, AreArrivals, IsLeft}
 
 pub alike-more : {Z : Type 0} (ys zs : List Z) (r : ℕ) (y z : Z) → slice_get ys r ≡ Some y → slice_get zs r ≡ Some z → y ≡ z →
     ((j : ℕ) → j < r → slice_get ys j ≡ slice_get zs j) → (j : ℕ) → j < r + 1 → slice_get ys j ≡ slice_get zs j

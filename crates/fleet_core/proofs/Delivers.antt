@@ -1,5 +1,5 @@
 -- The notices of arrivals, delivered one by one.
-use Rattle.std.proofs.Common.{◌≡◌, ℕ, suc, ◌+◌, ◌-◌, ◌^◌, ◌<◌, ◌≤◌, List, [], ◌∷◌, ◌++◌, length, filter, take, get_or, cond, sym, refl, ap, ◌∙◌, subst, arith, inl, inr, add_assoc, add-zero, length-append}
+use Rattle.std.proofs.Common.{◌≡◌, ℕ, suc, ◌+◌, ◌^◌, ◌<◌, ◌≤◌, List, [], ◌∷◌, ◌++◌, length, filter, take, get_or, cond, sym, refl, ap, ◌∙◌, subst, arith, inl, inr, add-zero, length-append}
 use Rattle.std.specs.Prelude.{slice_set, slice_index, ◌==◌, count_by}
 use Rattle.std.proofs.lemmas.List.{append_assoc, append-nil, length-take, get_or-set_same, get_or-set_other, length-set}
 use Rattle.std.proofs.lemmas.List.Sums.{count_by_more_yes, count_by_more_no, count_by-le-length, length-filter, sum_by-take-le}

@@ -1,9 +1,8 @@
 -- The closures of a world belong to it also after an entry.
 use Rattle.std.proofs.Common.{◌≡◌, ℕ, ◌<◌, List, [], ◌∷◌, length, get_or, cond, eqb, Bool, true, false, ◌&&◌, ◌||◌, not, Option, Some, None, sym, refl, ◌∙◌, subst, arith, inl, inr}
 use Rattle.std.specs.Prelude.{slice_set, slice_index_or, is_some, All, IfSome}
-use Rattle.std.proofs.lemmas.List.{append-nil, length-set, get_or-set_same, get_or-set_other, get_or_past}
+use Rattle.std.proofs.lemmas.List.{length-set, get_or-set_same, get_or-set_other, get_or_past}
 use Rattle.std.proofs.lemmas.Bool.{cases_eq, cases_lt, eq-eqb, eqb-true, cond_both}
-use Rattle.std.proofs.Math.Bool.{or-false}
 use Rattle.fleet_grid.specs.Floor.{Floor}
 use Rattle.fleet_hooks.specs.Law.{IsStamp}
 use Rattle.fleet_hooks.specs.declared.law.StampLaw.{StampLaw}

@@ -1,14 +1,12 @@
 -- What a core keeps stays true after each entry, and when a mailbox or the chapter changes.
-use Rattle.std.proofs.Common.{Result, Ok, Err, ◌≡◌, ℕ, zero, suc, ◌+◌, ◌*◌, ◌^◌, ◌<◌, ◌≤◌, List, [], ◌∷◌, ◌++◌, length, map, filter, Option, sym, refl, ap, ◌∙◌, subst, arith, inl, inr, cond, eqb, length-append, add-zero, mul-le-mul}
+use Rattle.std.proofs.Common.{Result, Ok, Err, ◌≡◌, ℕ, zero, suc, ◌+◌, ◌^◌, ◌<◌, ◌≤◌, List, [], ◌∷◌, ◌++◌, length, map, filter, Option, sym, refl, ap, ◌∙◌, subst, arith, inl, inr, cond, eqb, length-append, add-zero}
 use Rattle.std.specs.Prelude.{slice_set, slice_index, count_by, ◌==◌, OnOk, OnErr}
 use Rattle.std.specs.List.{range_with_len}
-use Rattle.std.proofs.lemmas.List.{append-nil, length_push, length-set, get_or-set_same, get_or-set_other, ext_get_or, length-map}
+use Rattle.std.proofs.lemmas.List.{append-nil, length_push, length-set, get_or-set_same, get_or-set_other, ext_get_or}
 use Rattle.std.proofs.lemmas.List.Sums.{length-filter}
-use Rattle.std.proofs.lemmas.Bool.{eq-eqb, ne_eqb, cases_eq}
-use Rattle.fleet_grid.specs.Floor.{Floor, IsNeighbour}
-use Rattle.fleet_hooks.specs.declared.law.TieLaw.{TieLaw}
+use Rattle.std.proofs.lemmas.Bool.{eq-eqb, ne_eqb, cases_eq, cases_Bool}
+use Rattle.fleet_grid.specs.Floor.{Floor}
 use Rattle.fleet_book.specs.declared.limits.Limits.{Limits}
-use Rattle.fleet_book.specs.declared.notice.Notice.{Notice}
 use Rattle.fleet_book.specs.declared.notice.Notice.TheVariants as notice
 use Rattle.fleet_book.specs.declared.order.Order.{Order}
 use Rattle.fleet_book.specs.declared.order.Order.TheVariants.{Go, Close, Withdraw}
@@ -19,18 +17,18 @@ use Rattle.fleet_history.specs.declared.history.Bye.{Bye}
 use Rattle.fleet_history.specs.declared.history.Entry.{Entry}
 use Rattle.fleet_history.specs.declared.history.Entry.TheVariants as entry
 use Rattle.fleet_history.specs.History.{History, start, after, clients, clock, owed, taken_count}
-use Rattle.fleet_history.specs.Legal.{IsLegal, IsTickAfter, due_of, due}
+use Rattle.fleet_history.specs.Legal.{IsLegal, due_of, due}
 use Rattle.fleet_history.specs.Next.{next_opening, HasRoomForCounts}
-use Rattle.fleet_history.specs.Notices.{told, noticed_count, arrival_notices}
+use Rattle.fleet_history.specs.Notices.{told, told_count, noticed_count, arrival_notices}
 use Rattle.fleet_history.specs.Verdicts.{IsVerdict}
 use Rattle.fleet_history.proofs.After.{clock-after, noticed_count-after, taken_count-after}
 use Rattle.fleet_history.proofs.Chapters.{chapters-next, chapters-room}
 use Rattle.fleet_history.proofs.Counts.{legal-counts, taken-few}
 use Rattle.fleet_history.proofs.Next.{next-clients, start-clock, start-noticed, start-owed}
 use Rattle.fleet_history.proofs.Owed.{owed_more, owed-after_take, owed-after_tick, owed-after_shut}
-use Rattle.fleet_state.specs.State.{State, IsStateOf, by_client}
+use Rattle.fleet_state.specs.State.{State, IsStateOf, by_client, HasFullRooms}
 use Rattle.fleet_state.proofs.Entered.{set-by}
-use Rattle.fleet_state.proofs.Parts.{listed, item-by, same-by, length-by, queue-limit}
+use Rattle.fleet_state.proofs.Parts.{listed, item-by, same-by, length-by, queue-limit, queue-count}
 use Rattle.fleet_core.specs.Core.{delivered}
 use Rattle.fleet_core.specs.Kept.{AreBoxes, IsWithin}
 use Rattle.fleet_core.specs.Mailboxes.{Mailboxes, box_at, with_notice, with_box, AreDelivered}
@@ -67,6 +65,16 @@ told_take h c order v = rw (eq-eqb c c refl) refl
 
 told_take_other : {A : Type 0} (h : History A) (c j : ℕ) (order : Order) (v : Verdict) → (c ≡ j → ⊥) → told {A = A} h j (entry.Take c order v) ≡ []
 told_take_other h c j order v ne = rw (ne_eqb c j ne) refl
+
+-- as many notices as are counted
+length_told : {A : Type 0} (h : History A) (c : ℕ) (e : Entry A) → length (told h c e) ≡ told_count c e
+length_told h c (entry.Take client order v) = elim (cases_Bool (eqb client c)) [
+  | inl same ↦ rw same refl
+  | inr other ↦ rw other refl
+]
+length_told h c (entry.Tick to arrived farewells) =
+    length-arrival_notices to (clock h + 1) (noticed_count h c) (filter (λ a. a.client == c) arrived) ∙ length-filter (λ (a : Arrival). a.client == c) arrived
+length_told h c (entry.Shut robot farewell) = refl
 
 pub delivered-take : {A : Type 0} (h : History A) (c : ℕ) (order : Order) (v : Verdict) (boxes : List Pending) → c < length boxes →
     delivered {A = A} h (entry.Take c order v) 0 boxes
@@ -111,6 +119,9 @@ module _ {A : Type 0} {m : Floor} {h : History A} {x : Mailboxes} (legal : IsLeg
   boxes-grow : {y : Mailboxes} (e : Entry A) → y.boxes ≡ delivered h e 0 x.boxes → y.noticed ≡ by_client (after h e) (noticed_count (after h e)) →
       ((c : ℕ) → c < clients h → length (box_at x.boxes c).notices + length (told h c e) + owed (after h e) c ≤ (box_at x.boxes c).limit) → AreBoxes (after h e) y
   boxes-grow e grown numbers each = record {
+    told = λ c l.
+        rw (grown, box_at-delivered h e 0 c c x.boxes (omega arith) (omega (arith, k.count)))
+        (omega (arith, length-append (box_at x.boxes c).notices (told h c e), k.told c l, noticed_count-after h c e, length_told h c e));
     count = ap length grown ∙ length-delivered h e 0 x.boxes ∙ k.count;
     room = λ c l.
         rw (grown, box_at-delivered h e 0 c c x.boxes (omega arith) (omega (arith, k.count)))
@@ -183,6 +194,11 @@ module _ {A : Type 0} {m : Floor} {h : History A} {x : Mailboxes} (legal : IsLeg
           (rw (get_or-set_same x.boxes c b no_pending (omega (arith, k.count))) (omega (arith, k.room c known)))
       | inr ne ↦ rw (get_or-set_other x.boxes c j b no_pending (λ s. ne (sym s))) (k.room j l)
     ];
+    told = λ j l. elim (cases_eq c j) [
+      | inl s ↦ subst (λ j. length (box_at (slice_set x.boxes c b) j).notices ≤ noticed_count h j) s
+          (rw (get_or-set_same x.boxes c b no_pending (omega (arith, k.count))) (omega (arith, k.told c known)))
+      | inr ne ↦ rw (get_or-set_other x.boxes c j b no_pending (λ s. ne (sym s))) (k.told j l)
+    ];
     noticed = k.noticed;
   }
 
@@ -191,6 +207,7 @@ module _ {A : Type 0} {m : Floor} {h : History A} {x : Mailboxes} (legal : IsLeg
   boxes-next = record {
     count = k.count ∙ sym (next-clients h);
     room = λ c l. rw (start-owed h c) (k.room c (omega (arith, next-clients h)));
+    told = λ c l. omega (arith, k.told c (omega (arith, next-clients h)), start-noticed h c (omega (arith, next-clients h)));
     noticed = k.noticed ∙ sym (ap (λ n. map (noticed_count (start (next_opening h))) (range_with_len 0 n)) (next-clients h) ∙ same-by 0 (clients h) (noticed_count (start (next_opening h))) (noticed_count h) (λ c l. start-noticed h c l));
   }
 
@@ -230,12 +247,16 @@ module _ {A : Type 0} {limits : Limits} {number : ℕ} {h : History A} (k : IsWi
       let n = legal-counts m h c legal l in
       omega (arith, n.not_early, n.fewer, taken-few h c, within-room c l)
 
+  pub pending-small : (m : Floor) → IsLegal m h → {x : Mailboxes} → AreBoxes h x → (c : ℕ) → c < clients h → length (box_at x.boxes c).notices + owed h c ≤ 2 ^ 57
+  pending-small m legal boxed c l = omega (arith, counts-small m legal c l, boxed.told c l)
+
   pub noticed-small : (m : Floor) → IsLegal m h → (c : ℕ) → c < clients h → noticed_count h c + 512 < 2 ^ 60
   noticed-small m legal c l = omega (arith, counts-small m legal c l)
 
 -- a queue's room is that of the history
-pub room-kept : {A : Type 0} {m : Floor} {h g : History A} {s t : State A} → IsStateOf m h s → IsStateOf m g t → g.opening ≡ h.opening → t.room ≡ s.room → s.queue ≤ s.room → t.queue ≤ t.room
-room-kept k n same room enough = omega (arith, enough, room, queue-limit k, queue-limit n, ap (λ o. o.queue) same)
+pub room-kept : {A : Type 0} {m : Floor} {h g : History A} {s t : State A} → IsStateOf m h s → IsStateOf m g t → g.opening ≡ h.opening → t.rooms ≡ s.rooms → HasFullRooms s → HasFullRooms t
+room-kept k n same rooms enough r l =
+    rw rooms (omega (arith, enough r (omega (arith, l, queue-count k, queue-count n, ap (λ o. length o.robots) same)), queue-limit k, queue-limit n, ap (λ o. o.queue) same))
 
 -- mailboxes after a call that may fail
 pub either-way : {X E : Type 0} (r : Result X E) (P : Mailboxes → Type 0) (x a b : Mailboxes) → OnOk r (x ≡ a) → OnErr r (x ≡ b) → P a → P b → P x

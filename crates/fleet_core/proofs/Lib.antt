@@ -6,4 +6,5 @@ pub mod Kept
 pub mod Opens
 pub mod Hooked
 pub mod Ticked
+pub mod Bounded
 pub mod Alike

@@ -1,24 +1,22 @@
 -- What holds of a world at its opening.
-use Rattle.std.proofs.Common.{◌≡◌, ℕ, zero, suc, ◌+◌, ◌<◌, ◌≤◌, ◌↔◌, List, [], ◌∷◌, length, map, get_or, replicate, sym, refl, ap, ◌∙◌, subst, arith, inl, inr, Option, Some, None, false, Ok, Err, Result}
+use Rattle.std.proofs.Common.{◌≡◌, ℕ, zero, suc, ◌+◌, ◌<◌, ◌≤◌, List, [], ◌∷◌, length, map, get_or, replicate, sym, refl, ap, ◌∙◌, subst, arith, inl, inr, Option, Some, None, false}
 use Rattle.std.specs.Prelude.{slice_get, slice_index, slice_index_or, All, sum_by, count_by, ◌==◌}
 use Rattle.std.specs.List.{range_with_len}
-use Rattle.std.proofs.lemmas.List.{append-nil, length-map, length-replicate, get_or-replicate, get_or_past, ext_get_or}
+use Rattle.std.proofs.lemmas.List.{length-map, length-replicate, get_or-replicate, get_or_past, ext_get_or}
 use Rattle.std.proofs.lemmas.List.FromFn.{length-range_with_len}
 use Rattle.std.proofs.lemmas.List.Elements.{All-nil}
 use Rattle.std.proofs.lemmas.List.Sums.{sum_by-cons}
-use Rattle.std.proofs.lemmas.Bool.{cases_lt, cases_order}
+use Rattle.std.proofs.lemmas.Bool.{cases_lt}
 use Rattle.fleet_grid.specs.Floor.{Floor, IsFloor, IsNeighbour}
 use Rattle.fleet_grid.specs.Walk.{AreJoined}
 use Rattle.fleet_queue.specs.declared.errand.Errand.{Errand}
-use Rattle.fleet_queue.specs.Queue.{Queue}
 use Rattle.fleet_book.specs.declared.limits.Limits.{Limits}
-use Rattle.fleet_book.specs.Counts.{blank}
 use Rattle.fleet_hooks.specs.Law.{IsStampLaw}
 use Rattle.fleet_hooks.specs.declared.law.StampLaw.{StampLaw}
 use Rattle.fleet_history.specs.declared.history.Opening.{Opening}
 use Rattle.fleet_history.specs.declared.history.RobotState.{RobotState}
 use Rattle.fleet_history.specs.declared.history.ClientState.{ClientState}
-use Rattle.fleet_history.specs.History.{History, start, clients, errands_at, unknown_client, unfinished, owed}
+use Rattle.fleet_history.specs.History.{History, start, clients, unknown_client, unfinished, owed}
 use Rattle.fleet_history.specs.Notices.{noticed_count}
 use Rattle.fleet_history.proofs.Chapters.{chapters-begin}
 use Rattle.fleet_state.proofs.Parts.{listed}
@@ -163,6 +161,7 @@ boxes-opened {A = A} m starts n limits laws can =
     record {
       count = length-replicate n box ∙ sym count;
       room = λ c l. rw (get_or-replicate n c box no_pending (omega arith), no_owed c) (omega arith);
+      told = λ c l. rw (get_or-replicate n c box no_pending (omega arith)) (omega arith);
       noticed = listed 0 (clients h) (noticed_count h) (replicate n 0) (length-replicate n 0 ∙ sym count)
           (λ c l. get_replicate n c ∙ sym (rw (get_or-replicate n c unknown_client unknown_client (omega arith)) refl));
     }

@@ -1,6 +1,6 @@
 -- What a tick shows is known of its robots and clients.
-use Rattle.std.proofs.Common.{◌≡◌, ℕ, zero, suc, ◌+◌, ◌<◌, ◌≤◌, List, [], ◌∷◌, length, map, drop, eqb, Bool, true, false, ◌&&◌, not, sym, refl, ap, ◌∙◌, subst, arith, inl, inr, Option, Some, None, length-append, get_or}
-use Rattle.std.specs.Prelude.{slice_get, slice_index, slice_index_or, is_some, ◌==◌, count_by, All}
+use Rattle.std.proofs.Common.{◌≡◌, ℕ, zero, suc, ◌+◌, ◌<◌, ◌≤◌, List, [], ◌∷◌, length, map, drop, eqb, Bool, true, false, ◌&&◌, sym, refl, ap, ◌∙◌, subst, arith, inl, inr, Option, Some, None, length-append, get_or}
+use Rattle.std.specs.Prelude.{slice_index, slice_index_or, is_some, ◌==◌, count_by, All}
 use Rattle.std.specs.List.{flat_map, range_with_len}
 use Rattle.std.proofs.lemmas.List.{length-map}
 use Rattle.std.proofs.lemmas.List.Elements.{All-nil, All-append}
@@ -21,7 +21,7 @@ use Rattle.fleet_history.proofs.Arrivals.{unfinished-after_tick}
 use Rattle.fleet_history.proofs.Legal.{All-single, All-from_map, head_all, legal-known_unfinished, legal-opening}
 use Rattle.fleet_history.proofs.Owed.{owed-after_tick}
 use Rattle.fleet_core.specs.Hooks.{AreFarewells, DoRise, without_all}
-use Rattle.fleet_core.proofs.Farewells.{leavers_to, leavers-are, leavers-rise, leavers-spent}
+use Rattle.fleet_core.proofs.Farewells.{leavers-are, leavers-rise, leavers-spent}
 use Rattle.fleet_core.proofs.Hooked.{leaver-has, farewells-left}
 
 due_at-le : (to : List ℕ) (r : ℕ) (o : Option Errand) → length (due_at to r o) ≤ 1

@@ -1,5 +1,5 @@
 -- The core: what each event does to the history and to the lists of the clients.
-use Rattle.std.specs.Prelude.{ℕ, ◌+◌, false, true, ◌≡◌, ◌<◌, ◌≤◌, List, [], ◌∷◌, ◌++◌, Option, Some, None, drop, length, slice_get, slice_index_or, slice_set, map, replicate, slice_index}
+use Rattle.std.specs.Prelude.{ℕ, ◌+◌, false, ◌≡◌, ◌<◌, ◌≤◌, List, [], ◌∷◌, ◌++◌, Option, None, drop, length, slice_index_or, slice_set, map, replicate, slice_index}
 use Rattle.std.specs.List.{range_with_len}
 use Rattle.fleet_grid.specs.Floor.{Floor, IsNeighbour}
 use Rattle.fleet_grid.specs.Walk.{IsBridgeless}
@@ -7,7 +7,6 @@ use Rattle.fleet_hooks.specs.declared.law.StampLaw.{StampLaw}
 use Rattle.fleet_hooks.specs.declared.law.TieLaw.{TieLaw}
 use Rattle.fleet_book.specs.declared.order.Order.{Order}
 use Rattle.fleet_book.specs.declared.limits.Limits.{Limits}
-use Rattle.fleet_book.specs.declared.notice.Notice.{Notice}
 use Rattle.fleet_book.specs.declared.verdict.Verdict.{Verdict}
 use Rattle.fleet_history.specs.declared.history.Arrival.{Arrival}
 use Rattle.fleet_history.specs.declared.history.Bye.{Bye}
@@ -15,16 +14,13 @@ use Rattle.fleet_history.specs.declared.history.RobotState.{RobotState}
 use Rattle.fleet_history.specs.declared.history.Opening.{Opening}
 use Rattle.fleet_history.specs.declared.history.Entry.{Entry}
 use Rattle.fleet_history.specs.declared.history.Entry.TheVariants as entry
-use Rattle.fleet_history.specs.History.{History, after, start, robots, clients, clock, owed, is_shut, unknown_client}
+use Rattle.fleet_history.specs.History.{History, after, start, clock, owed, unknown_client}
 use Rattle.fleet_history.specs.Verdicts.{IsVerdict}
 use Rattle.fleet_history.specs.Legal.{Fits}
 use Rattle.fleet_history.specs.Next.{next_opening}
-use Rattle.fleet_history.specs.Notices.{told, seq_of}
+use Rattle.fleet_history.specs.Notices.{told}
 use Rattle.fleet_plan.specs.Planned.{IsPlanned, IsAdvancingTick}
 use Rattle.fleet_core.specs.declared.faults.TickReport.{TickReport}
-use Rattle.fleet_core.specs.declared.faults.TakeFault.TheVariants as take_fault
-use Rattle.fleet_core.specs.declared.faults.TickFault.TheVariants as tick_fault
-use Rattle.fleet_core.specs.declared.faults.ShutFault.TheVariants as shut_fault
 use Rattle.fleet_core.specs.Hooks.{HookLaws, law_at}
 use Rattle.fleet_core.specs.Pending.{Pending, no_pending}
 

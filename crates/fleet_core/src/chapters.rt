@@ -1,5 +1,6 @@
 //! How a core goes from one chapter of its history to the next.
 ghost use Rattle.std.specs.Prelude.{◌≡◌, ◌+◌, ◌↔◌, OnOk, OnErr, IfOk};
+ghost use Rattle.fleet_bound.specs.Bound.{WaitsAreBounded};
 ghost use Rattle.fleet_grid.specs.Floor.{IsNeighbour};
 ghost use Rattle.fleet_grid.specs.Walk.{IsBridgeless};
 ghost use Rattle.fleet_history.specs.History.{history_of};
@@ -24,6 +25,7 @@ impl<A: Allocator + Copy> Core<A> {
         ensures legal { OnOk result (IsLegal self.old.floor self.old.history) }
         ensures planned { OnOk result (EachTick (IsPlanned self.old.floor self.old.ties) self.old.history) }
         ensures advancing { OnOk result (IsBridgeless (IsNeighbour self.old.floor) → EachTick (IsAdvancingTick self.old.floor) self.old.history) }
+        ensures bounded { OnOk result (IsBridgeless (IsNeighbour self.old.floor) → WaitsAreBounded self.old.floor self.old.history) }
         ensures next { OnOk result (self.new ≡ next_world self.old) }
         ensures arrivals { (laws : _) → AreArrivals self.old.history laws → AreArrivals self.new.history laws }
         ensures farewells { (spare : _) → AreFarewells self.old.history spare → AreFarewells self.new.history spare }

@@ -1,5 +1,6 @@
 //! What is entered in a core's history: takes, ticks and shuts.
 ghost use Rattle.std.specs.Prelude.{◌≡◌, ◌≤◌, ◌<◌, ◌++◌, ◌∷◌, ◌↔◌, [], true, false, OnOk, OnErr, IfOk, map, vec_len, vec_capacity};
+ghost use Rattle.fleet_bound.specs.Arriving.{ArrivesInTurn};
 ghost use Rattle.fleet_history.specs.History.{clients, robots, clock, is_shut};
 ghost use Rattle.fleet_core.specs.Hooks.{AreArrivals, AreFarewells, spare_laws};
 ghost use Rattle.fleet_core.specs.Core.{Takes, Ticks, Shuts, HasRoom, HasNoRoom, HasEntries, HasNoEntries};
@@ -8,7 +9,7 @@ use crate::faults::{ShutFault, TakeFault, TickFault, TickReport};
 use crate::kernel::Core;
 use crate::stamps::{arrive, last_word, take_leave};
 use fleet_book::{Notice, Order, Verdict};
-use fleet_history::{Entry, Row};
+use fleet_history::{Arrival, Bye, Entry, Row};
 use fleet_hooks::{ArrivalHook, Farewell, FarewellView, TieHook};
 use std::alloc::{Alloc, Allocator};
 
@@ -31,6 +32,7 @@ impl<A: Allocator + Copy> Core<A> {
         ensures room { OnOk result (HasRoom self.old client) }
         ensures entries { OnOk result (HasEntries self.old) }
         ensures ok { IfOk result (λ v. Takes self.old client order v self.new) }
+        ensures arrives { IfOk result (λ v. ArrivesInTurn self.old.floor self.old.history client order v) }
         ensures err { OnErr result (self.new ≡ self.old) }
         ensures farewells { (spare : _) → AreFarewells self.old.history spare → AreFarewells self.new.history spare }
     {
@@ -115,8 +117,7 @@ impl<A: Allocator + Copy> Core<A> {
         requires arrivals { AreArrivals self.old.history (map (λ h. h.law) arrivals.now) }
         requires farewells { AreFarewells self.old.history (spare_laws farewells.old.items) }
         ensures clock_spent { (result ≡ Err TickFault.ClockSpent) ↔ (clock self.old.history ≡ self.old.limits.clock) }
-        ensures chapter_full { (result ≡ Err TickFault.ChapterFull) ↔
-            ((clock self.old.history < self.old.limits.clock) × HasNoEntries self.old) }
+        ensures chapter_full { (result ≡ Err TickFault.ChapterFull) ↔ ((clock self.old.history < self.old.limits.clock) × HasNoEntries self.old) }
         ensures early { OnOk result (clock self.old.history < self.old.limits.clock) }
         ensures entries { OnOk result (HasEntries self.old) }
         ensures ok { IfOk result (λ report. Ticks self.old report self.new) }
@@ -136,23 +137,29 @@ impl<A: Allocator + Copy> Core<A> {
         self.chapter.entries.reserve(1)?;
         self.planner
             .turn(alloc, &self.grid, &self.state, to.as_slice())?;
-        let report = TickReport {
-            tick: self.state.clock() + 1,
-            arrived: arrived.len() as u32,
-            farewells: leaving.len() as u32,
-        };
+        let report = TickReport::of(self.state.clock() + 1, arrived.len(), leaving.len());
         arrive(&mut arrived, arrivals, to.as_slice(), report.tick);
         take_leave(&mut leaving, farewells, to.as_slice(), report.tick);
         self.mailboxes
             .deliver(arrived.as_slice(), to.as_slice(), report.tick);
         self.state.enter_tick(to.as_slice());
-        let entry = Entry::Tick {
-            to: Row::from_vec(to),
-            arrived: Row::from_vec(arrived),
-            farewells: Row::from_vec(leaving),
-        };
-        add(&mut self.chapter.entries, entry);
+        add(&mut self.chapter.entries, tick_entry(to, arrived, leaving));
         Ok(report)
+    }
+}
+
+/// A tick to these cells, with whom it lets arrive and leave.
+fn tick_entry<A: Allocator + Copy>(
+    to: Vec<u32, A>,
+    arrived: Vec<Arrival, A>,
+    farewells: Vec<Bye, A>,
+) -> Entry<A>
+    ensures { result ≡ Entry.Tick to.items arrived.items farewells.items }
+{
+    Entry::Tick {
+        to: Row::from_vec(to),
+        arrived: Row::from_vec(arrived),
+        farewells: Row::from_vec(farewells),
     }
 }
 

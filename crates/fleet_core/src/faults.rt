@@ -1,4 +1,5 @@
 //! What the calls of a world's core refuse, and what a tick reports.
+ghost use Rattle.std.specs.Prelude.{◌≡◌, ◌<◌, ◌^◌};
 
 use std::alloc::AllocError;
 
@@ -55,6 +56,21 @@ pub struct TickReport {
     pub arrived: u32,
     /// How many robots took their leave.
     pub farewells: u32,
+}
+
+impl TickReport {
+    /// Of the tick that makes so many in all, with so many arrivals and farewells.
+    pub(crate) fn of(tick: u64, arrived: usize, farewells: usize) -> TickReport
+        requires arrived { arrived < 2 ^ 32 }
+        requires farewells { farewells < 2 ^ 32 }
+        ensures { result ≡ record { tick = tick; arrived = arrived; farewells = farewells } }
+    {
+        TickReport {
+            tick,
+            arrived: arrived as u32,
+            farewells: farewells as u32,
+        }
+    }
 }
 
 impl From<AllocError> for TakeFault {

@@ -1,9 +1,13 @@
 //! The core of a world: its map, limits, history and what follows from them. No closure lies inside.
-ghost use Rattle.std.specs.Prelude.{IsTrue, MatchOption, All, ◌≡◌, ◌+◌, ◌≤◌, ◌<◌, ◌^◌, ◌↔◌, ℕ, true, false, IfOk};
+ghost use Rattle.std.specs.Prelude.{IsTrue, MatchOption, IsSome, IfSome, All, ◌≡◌, ◌+◌, ◌≤◌, ◌<◌, ◌^◌, ◌↔◌, ℕ, true, false, length, IfOk};
+ghost use Rattle.fleet_bound.specs.Arriving.{IsIdleWithin};
+ghost use Rattle.fleet_bound.specs.Bound.{KeepsBound, WaitsAreBounded, wait_bound};
+ghost use Rattle.fleet_bound.specs.Idle.{idle_ticks, longest_after};
+ghost use Rattle.fleet_grid.specs.Counts.{floor_count};
 ghost use Rattle.fleet_grid.specs.Floor.{IsNeighbour};
 ghost use Rattle.fleet_grid.specs.Walk.{IsBridgeless};
 ghost use Rattle.fleet_hooks.specs.Law.{IsStampLaw};
-ghost use Rattle.fleet_history.specs.History.{history_of, owed, clients, robots, clock, place, unfinished};
+ghost use Rattle.fleet_history.specs.History.{history_of, owed, clients, robots, clock, place, unfinished, is_shut};
 ghost use Rattle.fleet_history.specs.Laws.{EachTick};
 ghost use Rattle.fleet_history.specs.Legal.{IsLegal, is_done, is_none_left};
 ghost use Rattle.fleet_history.specs.Notices.{noticed_count};
@@ -12,12 +16,13 @@ ghost use Rattle.fleet_pibt.specs.Eldest.{IsEldest};
 ghost use Rattle.fleet_plan.specs.Planned.{waits, IsPlanned, IsAdvancingTick};
 ghost use Rattle.fleet_core.specs.Aimed.{IsIdle};
 ghost use Rattle.fleet_core.specs.Opening.{CanOpen};
-ghost use Rattle.fleet_core.specs.Core.{opened_world, HasEntries, HasNoEntries};
+ghost use Rattle.fleet_core.specs.Core.{opened_world, pending, HasEntries, HasNoEntries};
 
 use crate::mailbox::Mailboxes;
 use crate::opening::{nobodies, robots_at};
 use crate::planner::{Planner, is_nobody};
 use fleet_book::Limits;
+use fleet_bound::{idle_within, longest_queue};
 use fleet_grid::Grid;
 use fleet_history::{Chapter, Opening, Row};
 use fleet_hooks::{StampLaw, TieLaw};
@@ -117,16 +122,21 @@ impl<A: Allocator + Copy> Core<A> {
         ensures history { history_of result.now ≡ self.now.history }
         ensures number { result.now.number ≡ self.now.number }
         ensures legal { IsLegal self.now.floor self.now.history }
+        ensures few { length self.now.history.entries ≤ self.now.limits.chapter }
         ensures counts { (c : ℕ) → c < clients self.now.history → noticed_count self.now.history c + owed self.now.history c ≤ 2 ^ 57 }
+        ensures pending { (c : ℕ) → c < clients self.now.history → length (pending self.now c).notices + owed self.now.history c ≤ 2 ^ 57 }
         ensures planned { EachTick (IsPlanned self.now.floor self.now.ties) self.now.history }
         ensures advancing { IsBridgeless (IsNeighbour self.now.floor) → EachTick (IsAdvancingTick self.now.floor) self.now.history }
+        ensures bounded { IsBridgeless (IsNeighbour self.now.floor) → WaitsAreBounded self.now.floor self.now.history }
+        ensures keeps_bound { IsBridgeless (IsNeighbour self.now.floor) → KeepsBound self.now.floor self.now.history }
     {
         &self.chapter
     }
 
     pub fn wait_of(&self, robot: u32) -> Option<u64>
         requires { robot < robots self.now.history }
-        ensures { result ≡ wait self.now.history robot }
+        ensures wait { result ≡ wait self.now.history robot }
+        ensures bounded { IsBridgeless (IsNeighbour self.now.floor) → IfSome result (λ w. w < wait_bound self.now.floor self.now.history) }
     {
         self.state.wait_of(robot)
     }
@@ -141,6 +151,21 @@ impl<A: Allocator + Copy> Core<A> {
         ensures { IsTrue result ↔ IsIdle self.now.history }
     {
         is_nobody(self.state.waits())
+    }
+
+    /// Within how many ticks nobody has an errand any more, where no order is taken meanwhile: ticks for each errand of the
+    /// longest queue and each robot, as many as a walk can have edges. `None` on a map with a bridge.
+    pub fn idle_within(&self) -> Option<u64>
+        ensures told { IsSome result ↔ IsBridgeless (IsNeighbour self.now.floor) }
+        ensures exact { IfSome result (λ ticks. ticks ≡ idle_ticks (longest_after self.now.history) (robots self.now.history) (floor_count self.now.floor)) }
+        ensures idle { IfSome result (λ ticks. IsIdleWithin self.now.floor self.now.history ticks) }
+    {
+        idle_within(
+            longest_queue(self.state.queues()),
+            self.state.robots(),
+            self.grid.floor_count(),
+            self.planner.is_bridgeless(),
+        )
     }
 
     pub fn is_bridgeless(&self) -> bool
@@ -169,12 +194,20 @@ impl<A: Allocator + Copy> Core<A> {
         self.state.clients()
     }
 
+    /// Whether the robot refuses further errands.
+    pub(crate) fn is_shut(&self, robot: u32) -> bool
+        requires { robot < robots self.now.history }
+        ensures { result ≡ is_shut self.now.history robot }
+    {
+        self.state.is_shut(robot)
+    }
+
     /// Whether the robot is shut and has no errands.
     pub(crate) fn is_done(&self, robot: u32) -> bool
         requires { robot < robots self.now.history }
         ensures { result ≡ is_done self.now.history robot }
     {
-        self.state.is_shut(robot) && self.has_no_errand(robot)
+        self.is_shut(robot) && self.has_no_errand(robot)
     }
 
     /// Its map and its history.
@@ -185,6 +218,7 @@ impl<A: Allocator + Copy> Core<A> {
         ensures legal { IsLegal self.floor self.history }
         ensures planned { EachTick (IsPlanned self.floor self.ties) self.history }
         ensures advancing { IsBridgeless (IsNeighbour self.floor) → EachTick (IsAdvancingTick self.floor) self.history }
+        ensures bounded { IsBridgeless (IsNeighbour self.floor) → WaitsAreBounded self.floor self.history }
     {
         (self.grid, self.chapter)
     }

@@ -164,18 +164,38 @@ impl<A: Allocator + Copy> Core<A> {
 
     /// Shuts a robot, as a world does, with the closures beside the core.
     pub fn shut_by(&mut self, by: &mut Robots<A>, robot: u32) -> Result<Option<u32>, ShutFault>
-        ensures no_robot { result ≡ Err ShutFault.NoRobot → robots self.old.history ≤ robot }
-        ensures already { result ≡ Err ShutFault.Already → (robot < robots self.old.history) × (is_shut self.old.history robot ≡ true) }
-        ensures chapter_full { result ≡ Err ShutFault.ChapterFull →
-            (robot < robots self.old.history) × (is_shut self.old.history robot ≡ false) × HasNoEntries self.old }
+        ensures no_robot { (result ≡ Err ShutFault.NoRobot) ↔ (robots self.old.history ≤ robot) }
+        ensures already { (result ≡ Err ShutFault.Already) ↔ ((robot < robots self.old.history) × (is_shut self.old.history robot ≡ true)) }
+        ensures chapter_full { (result ≡ Err ShutFault.ChapterFull) ↔
+            ((robot < robots self.old.history) × (is_shut self.old.history robot ≡ false) × HasNoEntries self.old) }
         ensures entries { OnOk result (HasEntries self.old) }
         ensures ok { IfOk result (λ farewell. Shuts self.old robot farewell self.new) }
         ensures err { OnErr result (self.new ≡ self.old) }
     {
         if !self.has_farewells(by.farewells.as_slice()) {
-            return Err(ShutFault::NoMemory);
+            return self.no_shut(robot);
         }
         self.shut(robot, &mut by.farewells)
+    }
+
+    /// Why the robot is not shut.
+    fn no_shut(&self, robot: u32) -> Result<Option<u32>, ShutFault>
+        ensures no_robot { (result ≡ Err ShutFault.NoRobot) ↔ (robots self.now.history ≤ robot) }
+        ensures already { (result ≡ Err ShutFault.Already) ↔ ((robot < robots self.now.history) × (is_shut self.now.history robot ≡ true)) }
+        ensures chapter_full { (result ≡ Err ShutFault.ChapterFull) ↔
+            ((robot < robots self.now.history) × (is_shut self.now.history robot ≡ false) × HasNoEntries self.now) }
+        ensures err { OnOk result ⊥ }
+    {
+        if robot as usize >= self.robots() {
+            return Err(ShutFault::NoRobot);
+        }
+        if self.is_shut(robot) {
+            return Err(ShutFault::Already);
+        }
+        if self.is_full() {
+            return Err(ShutFault::ChapterFull);
+        }
+        Err(ShutFault::NoMemory)
     }
 }
 

@@ -48,7 +48,7 @@ module _ (old new : List (Option (Held Aim))) (key : ℕ) (others : (other : ℕ
 
   pub hold_more : (m : Floor) (aimed : ℕ) → IsOnce old → (at : Held Aim) → shown old key ≡ Some at → at.field.goal ≡ aimed → shown new key ≡ Some (record at { uses = at.uses + 1 }) → IsHold m aimed old new key
   hold_more m aimed once at e same more = record {
-    shared = λ other held eo eg. (let one : other ≡ key = once other key held at eo e (eg ∙ sym same) in ap (shown old) (sym one) ∙ eo);
+    shared = λ other held eo eg. once other key held at eo e (eg ∙ sym same);
     held = subst (λ (o : Option (Held Aim)). IsHeldMore m aimed o (shown new key)) (sym e) (same, more);
     others = others;
   }

@@ -23,7 +23,7 @@ IsHeldMore m aimed None now = (held : Held Aim) × (now ≡ Some held) × IsFiel
 
 -- a hold of a goal: it takes the key that shows the goal, if there is one, and no other key shows anything else
 pub record IsHold (m : Floor) (aimed : ℕ) (old new : List (Option (Held Aim))) (key : ℕ) : Type 0 where
-  pub shared : (other : ℕ) (held : Held Aim) → shown old other ≡ Some held → held.field.goal ≡ aimed → shown old key ≡ Some held
+  pub shared : (other : ℕ) (held : Held Aim) → shown old other ≡ Some held → held.field.goal ≡ aimed → other ≡ key
   pub held : IsHeldMore m aimed (shown old key) (shown new key)
   pub others : (other : ℕ) → other ≢ key → shown new other ≡ shown old other
 

@@ -14,6 +14,9 @@ use std::thread::Threads;
 /// From so many cells to search on, threads gain more than they cost.
 const LARGE: u64 = 1_048_576;
 
+/// From so many goals on, threads search them whatever the map.
+const MANY: usize = 2_048;
+
 /// The fields of several goals, one after another.
 pub(crate) fn fields_in_turn<A: Allocator + Copy, B: Allocator + Copy>(
     alloc: A,
@@ -68,7 +71,7 @@ fn fields_side_by_side<A: Allocator + Copy + Send + Sync, B: Allocator + Copy + 
 }
 
 /// The fields of several goals, floor cells: for each goal in turn the one that `Field::from` makes. Large work is
-/// done by several threads.
+/// done by several threads, and so are many goals, whatever the map.
 pub fn fields<A: Allocator + Copy + Send + Sync, B: Allocator + Copy + Send + Sync>(
     rt: &(impl Threads + Sync),
     alloc: A,
@@ -78,8 +81,8 @@ pub fn fields<A: Allocator + Copy + Send + Sync, B: Allocator + Copy + Send + Sy
     requires { (i : ℕ) → i < length goals.now → IsFloor grid.now (slice_index goals.now i) }
     ensures { IfOk result (λ fields. AreFields grid.now goals.now fields.items) }
 {
-    let cells = u64::from(grid.cell_count());
-    if goals.len() < 2 || cells.saturating_mul(goals.len() as u64) < LARGE {
+    let searched = u64::from(grid.cell_count()).saturating_mul(goals.len() as u64);
+    if goals.len() < 2 || goals.len() < MANY && searched < LARGE {
         return fields_in_turn(alloc, grid, goals);
     }
     fields_side_by_side(rt, alloc, grid, goals)

@@ -1,6 +1,5 @@
 //! The worked map, shared fields, many goals, a large map, and each growth refused in turn.
 mod floor;
-mod refusing;
 
 use crate::{Field, FieldStore, fields};
 use fleet_grid::Grid;

@@ -234,7 +234,7 @@ module _ (m : Floor) (aimed : ℕ) (old new : List (Option (Held Aim))) (key : �
       let now = held_now in
       let one : now.0 ≡ h = some_once now.0 h (sym now.1 ∙ eh) in
       let goal : at.field.goal ≡ aimed = eg ∙ (sym (ap (λ (x : Held Aim). x.field.goal) one) ∙ now.2) in
-      ne (once k key at at ek (hold.shared k at ek goal) refl)))
+      ne (hold.shared k at ek goal)))
 
   pub counted_held : (keys : List (Option ℕ)) → AreCounted old keys [] → AreCounted new keys (key ∷ [])
   counted_held keys c = record {

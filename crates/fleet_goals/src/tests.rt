@@ -1,7 +1,6 @@
 //! Goals given and turned, robots that share a goal, and each growth refused in turn.
 mod fleet;
 mod placement;
-mod refusing;
 mod rows;
 mod step_goals;
 

@@ -7,6 +7,7 @@ use Rattle.fleet_grid.specs.declared.dir.Dir.{Dir}
 use Rattle.fleet_grid.specs.declared.dir.Dir.TheVariants.{North, East, South, West}
 use Rattle.fleet_grid.specs.Floor.{Floor, is_floor, IsFloor, IsBeside, IsNeighbourIn, IsNeighbour}
 use Rattle.fleet_grid.specs.Walk.{Walks}
+use Rattle.fleet_grid.specs.Counts.{has_east, has_south}
 use Rattle.fleet_grid.specs.Distance.{is_next, is_neighbour, is_walk_long}
 use Rattle.fleet_grid.proofs.Forms.{floor_inside}
 
@@ -93,3 +94,23 @@ passes_walk m (suc k) a b e =
       | inl here ↦ (y, here)
       | inr later ↦ some_of ys later
     ]
+
+-- an edge is counted at its west or its north end
+pub counted_east : (m : Floor) (cell : ℕ) → has_east m cell ≡ true → IsNeighbourIn m East cell (cell + 1)
+counted_east m cell e =
+    let p = and_parts (is_floor m cell) (is_floor m (cell + 1) && not (eqb ((cell + 1) % m.width) 0)) e in
+    let q = and_parts (is_floor m (cell + 1)) (not (eqb ((cell + 1) % m.width) 0)) p.1 in
+    record { from = p.0; to = q.0; beside = (refl, was_not_zero ((cell + 1) % m.width) q.1) }
+
+pub east_is_counted : (m : Floor) (cell : ℕ) → IsNeighbourIn m East cell (cell + 1) → has_east m cell ≡ true
+east_is_counted m cell n =
+    and_from (is_floor m cell) (is_floor m (cell + 1) && not (eqb ((cell + 1) % m.width) 0)) n.from
+    (and_from (is_floor m (cell + 1)) (not (eqb ((cell + 1) % m.width) 0)) n.to (not_zero ((cell + 1) % m.width) n.beside.1))
+
+pub counted_south : (m : Floor) (cell : ℕ) → has_south m cell ≡ true → IsNeighbourIn m South cell (cell + m.width)
+counted_south m cell e =
+    let p = and_parts (is_floor m cell) (is_floor m (cell + m.width)) e in
+    record { from = p.0; to = p.1; beside = refl }
+
+pub south_is_counted : (m : Floor) (cell : ℕ) → IsNeighbourIn m South cell (cell + m.width) → has_south m cell ≡ true
+south_is_counted m cell n = and_from (is_floor m cell) (is_floor m (cell + m.width)) n.from n.to

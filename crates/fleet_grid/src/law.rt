@@ -1,7 +1,9 @@
 //! Laws of the floor graph, for the proofs of the crates above. No call does anything.
 
 ghost use Rattle.std.specs.Prelude.{◌≡◌, ℕ, ◌+◌, ◌<◌, ◌≤◌, ◌↔◌, true, List, length, Some, None};
-ghost use Rattle.fleet_grid.specs.Floor.{Floor, IsFloor, IsNeighbour};
+ghost use Rattle.fleet_grid.specs.Floor.{Floor, IsFloor, IsNeighbour, IsNeighbourIn};
+ghost use Rattle.fleet_grid.specs.declared.dir.Dir.TheVariants.{East, South};
+ghost use Rattle.fleet_grid.specs.Counts.{has_east, has_south};
 ghost use Rattle.fleet_grid.specs.Walk.{Walks, AreJoined, AreApart, IsDistance};
 ghost use Rattle.fleet_grid.specs.Distance.{is_neighbour, distance};
 
@@ -9,6 +11,12 @@ ghost use Rattle.fleet_grid.specs.Distance.{is_neighbour, distance};
 pub fn edges_lead_both_ways()
     ensures test { (m : Floor) (a b : ℕ) → (is_neighbour m a b ≡ true) ↔ IsNeighbour m a b }
     ensures back { (m : Floor) (a b : ℕ) → IsNeighbour m a b → IsNeighbour m b a }
+{}
+
+/// Each edge is counted once: at its west end or at its north end.
+pub fn edges_are_counted_once()
+    ensures east { (m : Floor) (cell : ℕ) → (has_east m cell ≡ true) ↔ IsNeighbourIn m East cell (cell + 1) }
+    ensures south { (m : Floor) (cell : ℕ) → (has_south m cell ≡ true) ↔ IsNeighbourIn m South cell (cell + m.width) }
 {}
 
 /// Walks join and turn round.

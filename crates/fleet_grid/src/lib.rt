@@ -13,7 +13,8 @@ mod parts;
 pub use dir::Dir;
 pub use grid::Grid;
 pub use law::{
-    distance_is_least_walk, distances_across_an_edge, edges_lead_both_ways, walks_join_and_turn,
+    distance_is_least_walk, distances_across_an_edge, edges_are_counted_once, edges_lead_both_ways,
+    walks_join_and_turn,
 };
 pub use padded::{FAR, WALL, place_of};
 

@@ -1,7 +1,5 @@
 //! Maps of known counts and parts, and a refused growth.
 
-mod refusing;
-
 use crate::{Dir, FAR, Grid, WALL, place_of};
 use fleet_map::{MapText, read_map};
 use refusing::Refusing;

@@ -246,7 +246,7 @@ row_first lines height width rows rest e before fewer (inr f) =
     let at : AreRowsBefore lines height width rows (f.0 ∷ f.1) = subst (λ (l : List (List ℕ)). AreRowsBefore lines height width rows l) f.3 before in
     subst (λ (z : MapFault). IsFirstFault lines z) f.6 (cell height width rows f.0 f.1 f.2 at fewer f.4 f.5)
 
-map_fails : (lines : List (List ℕ)) (e : MapFault) → map_of_lines lines ≡ Err e → IsFirstFault lines e
+pub map_fails : (lines : List (List ℕ)) (e : MapFault) → map_of_lines lines ≡ Err e → IsFirstFault lines e
 unfolding map_of_lines
 map_fails lines e h =
     elim (bind_err (head_at lines) _ e h) [

@@ -6,7 +6,6 @@ use Rattle.std.specs.Str.{bytes_eq}
 use Rattle.fleet_map.specs.declared.fault.MapFault.{MapFault}
 use Rattle.fleet_map.specs.declared.fault.MapFault.TheVariants.{Header, Size, Row, Cell, Trailing, NoMemory}
 use Rattle.fleet_map.specs.declared.map_text.MapText.{MapText}
-use Rattle.fleet_map.specs.declared.map_text.TheConstants.{MOST_SIDE}
 use Rattle.fleet_map.specs.Text.{lines_of, trimmed, words_of, is_empty, begins_with_word, number_of}
 
 -- a map without where its cells lie in memory
@@ -70,7 +69,7 @@ is_type_line line = is_type_pair (key_and_word line)
 
 -- the side that stands behind its name; each one over the limit is as good as the first
 abbrev pub side_on : List ℕ → List ℕ → Option ℕ
-side_on name line = option_and_then (λ p. if bytes_eq p.0 name then option_map (λ n. min n (MOST_SIDE + 1)) (number_of p.1) else None) (key_and_word line)
+side_on name line = option_and_then (λ p. if bytes_eq p.0 name then option_map (λ n. min n 1025) (number_of p.1) else None) (key_and_word line)
 
 abbrev pub is_map_line : List ℕ → Bool
 is_map_line line = bytes_eq (trimmed line) (codes "map")
@@ -93,7 +92,7 @@ sides_at lines = do
   sides_behind (side_on (codes "height") line.0) (side_on (codes "width") line.0) line.1
 
 abbrev pub is_side : ℕ → Bool
-is_side n = nat_le 1 n && nat_le n MOST_SIDE
+is_side n = nat_le 1 n && nat_le n 1024
 
 -- lines 1 to 4, and those behind them
 unfoldable pub head_at : List (List ℕ) → Result (ℕ × ℕ × List (List ℕ)) MapFault

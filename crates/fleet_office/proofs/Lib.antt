@@ -14,3 +14,6 @@ pub mod Meeting
 pub mod Emptied
 pub mod Settling
 pub mod Rested
+pub mod ChapterSteps
+pub mod Guests
+pub mod Counted

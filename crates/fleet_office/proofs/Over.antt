@@ -1,6 +1,6 @@
 -- A refusal of one call is that of the call around it.
 use Rattle.std.proofs.Common.{◌≡◌, ◌↔◌, ap, sym, ◌∙◌}
-use Rattle.std.specs.Prelude.{Ok, Err, Result}
+use Rattle.std.specs.Prelude.{Ok, Err, Result, IfErr}
 
 abbrev err_of : (X : Type 0) {E : Type 0} → E → Result X E
 err_of X e = Err e
@@ -23,3 +23,8 @@ module _ {X Y E : Type 0} where
     (λ s. cc),
     (λ p. let bad : ok_of E x ≡ err_of X f = sym is ∙ h.1 p in cc),
   )
+
+-- a fault that one world gives is a fault that some world gives
+pub some-world : {W X E : Type 0} (P : W → E → Type 0) (r : Result X E) (w : W) → IfErr r (λ e. P w e) → IfErr r (λ e. (v : W) × P v e)
+some-world P (Ok x) w h = tt
+some-world P (Err e) w h = (w, h)

@@ -35,3 +35,9 @@ pub there_is : {A : Type 0} (xs : List A) (k : ℕ) → k < length xs → (x : A
 there_is [] k h = absurd (omega arith)
 there_is (x ∷ xs) zero h = (x, refl)
 there_is (x ∷ xs) (suc k) h = there_is xs k (omega arith)
+
+-- what was put at a place stands there
+pub set_there : {A : Type 0} (xs : List A) (i : ℕ) (x y : A) → slice_get xs i ≡ Some x → slice_get (set xs i y) i ≡ Some y
+set_there [] i x y e = cc
+set_there (z ∷ xs) zero x y e = refl
+set_there (z ∷ xs) (suc i) x y e = set_there xs i x y e

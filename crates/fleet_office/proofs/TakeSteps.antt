@@ -1,5 +1,5 @@
 -- An order more, or none.
-use Rattle.std.proofs.Common.{◌≡◌, ℕ, List, length, set, Some, None, Option, refl, ap, sym, ◌∙◌, subst}
+use Rattle.std.proofs.Common.{◌≡◌, ◌≢◌, ◌↔◌, ◌<◌, ℕ, List, length, set, Some, None, Option, refl, ap, sym, ◌∙◌, subst, ⊎_elim}
 use Rattle.std.specs.Prelude.{IfOk, OnErr, Ok, Err, Result, slice_get}
 use Rattle.fleet_book.specs.declared.verdict.Verdict.{Verdict}
 use Rattle.fleet_lanes.specs.Names.{LaneName}
@@ -7,8 +7,9 @@ use Rattle.fleet_lanes.specs.Ends.{EndView}
 use Rattle.fleet_history.specs.declared.history.Entry.TheVariants as entry
 use Rattle.fleet_core.specs.Core.{World, grown}
 use Rattle.fleet_core.specs.declared.faults.TakeFault.{TakeFault}
-use Rattle.fleet_office.specs.Hall.{IsLawful, TakesOne, TakesFrom, StaysBut, Looks, lists, lists_of}
+use Rattle.fleet_office.specs.Hall.{IsLawful, ShowsOrder, TakesOne, TakesFrom, StaysBut, Looks, lists, lists_of}
 use Rattle.fleet_office.proofs.Laws.{lawful_take, lawful_same}
+use Rattle.fleet_office.proofs.Places.{at_set, set_there}
 use Rattle.std.proofs.lemmas.List.{map-set}
 use Rattle.std.proofs.Math.Seq.{map-set_same}
 use Rattle.std.proofs.lemmas.Option.{get_or_from_slice_get}
@@ -55,3 +56,20 @@ module _ {A : Type 0} where
     pub untold : (r : Result (Option Verdict) TakeFault) → Taken w v e d c r → OnErr r (Looks (record { world = w; ends = ends; total = t }) (record { world = v; ends = set ends c d; total = t }))
     untold (Ok o) k = tt
     untold (Err f) k = record { world = k.err.0; lists = same_lists ends c e d at (ap lists k.err.1); total = refl }
+
+    -- an order that the client's end shows is one that the office shows
+    shows : 0 < length d.known → ShowsOrder (record { world = v; ends = set ends c d; total = t }) c
+    shows known = (d, set_there ends c e d at, known)
+
+    knows : ShowsOrder (record { world = v; ends = set ends c d; total = t }) c → 0 < length d.known
+    knows k =
+        let own : d ≡ k.0 = ⊎_elim (λ (s : (c ≡ c) × (d ≡ k.0)). s.1) (λ (s : (c ≢ c) × (slice_get ends c ≡ Some k.0)). absurd (s.0 refl)) (at_set ends c c d k.0 k.1) in
+        subst (λ x. 0 < length x.known) (sym own) k.2
+
+    pub shown : (r : Result (Option Verdict) TakeFault) (f : TakeFault) (P : Type 0) → ((r ≡ Err f) ↔ ((0 < length d.known) × P))
+        → ((r ≡ Err f) ↔ (ShowsOrder (record { world = v; ends = set ends c d; total = t }) c × P))
+    shown r f P h = ((λ is. let k = h.0 is in (shows k.0, k.1)), (λ k. h.1 (knows k.0, k.1)))
+
+    pub shown-both : (r : Result (Option Verdict) TakeFault) (f : TakeFault) (P Q : Type 0) → ((r ≡ Err f) ↔ ((0 < length d.known) × P × Q))
+        → ((r ≡ Err f) ↔ (ShowsOrder (record { world = v; ends = set ends c d; total = t }) c × P × Q))
+    shown-both r f P Q h = ((λ is. let k = h.0 is in (shows k.0, k.1, k.2)), (λ k. h.1 (knows k.0, k.1, k.2)))

@@ -1,5 +1,6 @@
 -- What lies under the lock, what always holds of it, and what its calls do.
 use Rattle.std.specs.Prelude.{ℕ, zero, suc, ◌+◌, ◌^◌, ◌≡◌, ◌<◌, ◌≤◌, ◌⊎◌, Bool, true, false, if◌then◌else◌, List, [], ◌∷◌, ◌++◌, Option, Some, None, length, slice_get, slice_set, map}
+use Rattle.std.specs.List.{sum_by}
 use Rattle.fleet_book.specs.declared.order.Order.{Order}
 use Rattle.fleet_book.specs.declared.verdict.Verdict.{Verdict}
 use Rattle.fleet_book.specs.declared.notice.Notice.{Notice}
@@ -7,7 +8,7 @@ use Rattle.fleet_book.specs.Limits.{AreValid}
 use Rattle.fleet_history.specs.History.{clients, client_at, clock, unknown_client}
 use Rattle.fleet_history.specs.Legal.{IsLegal}
 use Rattle.fleet_history.specs.Rings.{KeepsRing}
-use Rattle.fleet_core.specs.Core.{World, pending, Takes, Ticks, HasRoom, HasNoRoom, HasEntries, HasNoEntries}
+use Rattle.fleet_core.specs.Core.{World, pending, next_world, Takes, Ticks, HasRoom, HasNoRoom, HasEntries, HasNoEntries}
 use Rattle.fleet_core.specs.declared.faults.TickReport.{TickReport}
 use Rattle.fleet_office.specs.declared.report.TurnCause.{TurnCause}
 use Rattle.fleet_office.specs.declared.report.TurnCause.TheVariants as cause
@@ -78,6 +79,10 @@ pub record Looks {A : Type 0} (h g : HallView A) : Type 0 where
   pub lists : lists_of g.ends ≡ lists_of h.ends
   pub total : g.total ≡ h.total
 
+-- the client's end knows of an order in the lane
+abbrev pub ShowsOrder : {A : Type 0} → HallView A → ℕ → Type 0
+ShowsOrder {A} h c = (e : EndView A) × (slice_get h.ends c ≡ Some e) × (0 < length e.known)
+
 -- one order of the client's lane was taken into the world
 pub record TakesOrder {A : Type 0} (h : HallView A) (c : ℕ) (verdict : Verdict) (g : HallView A) : Type 0 where
   pub order : Order
@@ -129,10 +134,14 @@ pub record GivesOne {A : Type 0} (h : HallView A) (c n : ℕ) (g : HallView A) :
   pub until : ((pending g.world c).notices ≡ []) ⊎ (after.free ≡ 0)
   pub total : g.total ≡ h.total
 
--- the first k clients were given to, one after another; the count is the number of notices, where that fits
+-- how many notices were given, to all clients
+abbrev pub given_count : {A : Type 0} → HallView A → ℕ
+given_count h = sum_by (λ e. length e.given) h.ends
+
+-- the first k clients were given to, one after another; the count is the number of notices
 abbrev pub GivesFrom : {A : Type 0} → ℕ → HallView A → ℕ → HallView A → Type 0
 GivesFrom zero h n g = (g ≡ h) × (n ≡ 0)
-GivesFrom {A} (suc k) h n g = (mid : HallView A) × (m : ℕ) × (j : ℕ) × GivesFrom k h m mid × GivesOne mid k j g × (m + j < 2 ^ 64 → n ≡ m + j)
+GivesFrom {A} (suc k) h n g = (mid : HallView A) × (m : ℕ) × (j : ℕ) × GivesFrom k h m mid × GivesOne mid k j g × (n ≡ m + j)
 
 -- all clients were given to, by number
 abbrev pub GivesAll : {A : Type 0} → HallView A → ℕ → HallView A → Type 0
@@ -208,7 +217,7 @@ pub record Turns {A : Type 0} (h : HallView A) (report : TurnReport) (g : HallVi
   pub ticks : TicksOnce taken tick ticked
   pub last : ℕ
   pub gives_again : GivesAll ticked last g
-  pub count : first + last < 2 ^ 64 → report.given ≡ first + last
+  pub count : report.given ≡ first + last
   pub arrived : report.arrived ≡ tick.arrived
   pub shown : report.tick ≡ Some tick.tick
 
@@ -220,3 +229,9 @@ pub record StopsTurn {A : Type 0} (h : HallView A) (fault : TurnFault) (g : Hall
       ⊎ (TakesFirst (length h.ends) given fault.report.taken fault.report.held g × IsCause g fault.cause)
   pub none_arrived : fault.report.arrived ≡ 0
   pub no_tick : fault.report.tick ≡ None
+
+-- ---- chapters
+
+-- the hall in its next chapter
+abbrev pub next_hall : {A : Type 0} → HallView A → HallView A
+next_hall h = record { world = next_world h.world; ends = h.ends; total = h.total }

@@ -5,4 +5,5 @@ pub mod Hall
 pub mod Causes
 pub mod Draining
 pub mod Rests
+pub mod Shown
 pub mod Concluded

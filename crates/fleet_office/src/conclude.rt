@@ -10,9 +10,9 @@ ghost use Rattle.fleet_plan.specs.Planned.{IsPlanned, IsAdvancingTick};
 ghost use Rattle.fleet_office.specs.Views.{AreOn, AreDistinct, AreSettled, cores};
 ghost use Rattle.fleet_office.specs.Draining.{DrainsFirst};
 ghost use Rattle.fleet_office.specs.Rests.{AreRooms};
-ghost use Rattle.fleet_office.specs.Concluded.{AreHome, IsAway, DrainsPart, IsMet, AreTold, IsLast, IsUnconcluded};
+ghost use Rattle.fleet_office.specs.Concluded.{AreHome, HasAll, IsAway, DrainsPart, IsMet, AreTold, IsLast, IsUnconcluded};
 
-use crate::hall::Hall;
+use crate::hall::{Hall, HallOf};
 use crate::homing::{missing, twice};
 use crate::names::OfficeName;
 use crate::office::Office;
@@ -159,6 +159,7 @@ impl<N: OfficeName<A>, A: Allocator + Copy> Hall<N, A> {
         ensures advancing { IfOk result (λ f. IsBridgeless (IsNeighbour f.grid) → EachTick (IsAdvancingTick f.grid) (history_of f.chapter)) }
         ensures told { IfOk result (λ f. AreTold f.chapter.number (history_of f.chapter) clients.items f.rest.items) }
         ensures tick { IfOk result (λ f. (f.tick ≡ clock (history_of f.chapter)) × (f.tick ≡ sum_by (λ t. t.count) tickers.items)) }
+        ensures all { OnOk result (HasAll (length N.rings) clients.items) }
         ensures home { OnOk result (AreHome (length N.rings) clients.items tickers.items (clock self.rest.world.history)) }
         ensures err { IfErr result (λ e. IsUnconcluded (length N.rings) self.rest.world clients.items tickers.items e.0) }
         ensures back { IfErr result (λ e. (cores e.1.clients.items ≡ cores clients.items) × (e.1.tickers.items ≡ tickers.items)) }
@@ -176,7 +177,7 @@ impl<N: OfficeName<A>, A: Allocator + Copy> Hall<N, A> {
         };
         hall.rest.lawful();
         let tick = hall.rest.clock();
-        let Hall { rest, robots: _ } = hall;
+        let HallOf { rest, robots: _ } = hall;
         let (grid, chapter, rest) = rest.finish(clients, rooms);
         Ok(Final {
             grid,

@@ -1,11 +1,11 @@
 //! The lock's value.
-ghost use Rattle.std.specs.Prelude.{◌≡◌, ◌+◌, ◌<◌, ◌≤◌, ◌↔◌, true, ℕ, length, Err, IfOk, IfErr, IfSome, OnErr};
+ghost use Rattle.std.specs.Prelude.{◌≡◌, ◌+◌, ◌<◌, ◌≤◌, ◌↔◌, true, false, ℕ, length, Err, IfOk, IfErr, IfSome, OnOk, OnErr};
 ghost use Rattle.fleet_history.specs.History.{clock, robots, is_shut};
 ghost use Rattle.fleet_core.specs.Hooks.{laws_of};
 ghost use Rattle.fleet_world.specs.Opening.{IsRefused, IsNamed as IsNamedFault};
-ghost use Rattle.fleet_core.specs.Core.{Shuts, HasRoom, HasNoRoom, HasNoEntries, opened_world};
+ghost use Rattle.fleet_core.specs.Core.{Shuts, HasRoom, HasNoRoom, HasEntries, HasNoEntries, opened_world};
 ghost use Rattle.fleet_office.specs.Views.{IsNamed, AreOn, cores};
-ghost use Rattle.fleet_office.specs.Hall.{TakesOne, GivesAll, TicksOnce, Turns, StopsTurn, Looks};
+ghost use Rattle.fleet_office.specs.Hall.{ShowsOrder, TakesOne, GivesAll, given_count, TicksOnce, Turns, StopsTurn, Looks};
 
 use crate::desk::Desk;
 use crate::names::OfficeName;
@@ -20,20 +20,24 @@ use fleet_lanes::Client;
 use fleet_world::{OpenFault, World};
 use std::alloc::{Alloc, Allocator, Global};
 
-/// The lock's value: all that one name speaks of, and the closures.
+/// The lock's value in two parts, so that each may be shown to cross threads by itself.
 #[derive(Drop)]
-pub struct Hall<N: OfficeName<A>, A: Allocator + Copy = Global> {
-    pub rest: Rest<N, A>,
-    pub(crate) robots: Robots<A>,
+pub struct HallOf<X, Y> {
+    pub rest: X,
+    pub(crate) robots: Y,
 }
+
+/// The lock's value: all that one name speaks of, and the closures.
+pub type Hall<N, A = Global> = HallOf<Rest<N, A>, Robots<A>>;
 
 impl<N: OfficeName<A>, A: Allocator + Copy> Hall<N, A> {
     /// Takes one order out of the client's lane into the world.
     pub fn take_one(&mut self, client: u32) -> Result<Option<Verdict>, TakeFault>
         requires { client < length self.old.rest.ends }
         ensures ok { IfOk result (λ r. TakesOne self.old.rest client r self.new.rest) }
-        ensures mailbox_full { result ≡ Err TakeFault.MailboxFull → HasNoRoom self.old.rest.world client }
-        ensures chapter_full { result ≡ Err TakeFault.ChapterFull → HasRoom self.old.rest.world client × HasNoEntries self.old.rest.world }
+        ensures mailbox_full { (result ≡ Err TakeFault.MailboxFull) ↔ (ShowsOrder self.new.rest client × HasNoRoom self.old.rest.world client) }
+        ensures chapter_full { (result ≡ Err TakeFault.ChapterFull) ↔
+            (ShowsOrder self.new.rest client × HasRoom self.old.rest.world client × HasNoEntries self.old.rest.world) }
         ensures err { OnErr result (Looks self.old.rest self.new.rest) }
     {
         self.rest.take_one(client)
@@ -41,7 +45,8 @@ impl<N: OfficeName<A>, A: Allocator + Copy> Hall<N, A> {
 
     /// Gives each client's notices, client by client.
     pub fn give_all(&mut self) -> u64
-        ensures { GivesAll self.old.rest result self.new.rest }
+        ensures gives { GivesAll self.old.rest result self.new.rest }
+        ensures counted { given_count self.new.rest ≡ given_count self.old.rest + result }
     {
         self.rest.give_all()
     }
@@ -50,8 +55,11 @@ impl<N: OfficeName<A>, A: Allocator + Copy> Hall<N, A> {
     pub fn shut(&mut self, robot: u32) -> Result<Option<u32>, ShutFault>
         ensures ok { IfOk result (λ farewell. Shuts self.old.rest.world robot farewell self.new.rest.world
             × (self.new.rest.ends ≡ self.old.rest.ends) × (self.new.rest.total ≡ self.old.rest.total)) }
-        ensures no_robot { result ≡ Err ShutFault.NoRobot → robots self.old.rest.world.history ≤ robot }
-        ensures already { result ≡ Err ShutFault.Already → (robot < robots self.old.rest.world.history) × (is_shut self.old.rest.world.history robot ≡ true) }
+        ensures no_robot { (result ≡ Err ShutFault.NoRobot) ↔ (robots self.old.rest.world.history ≤ robot) }
+        ensures already { (result ≡ Err ShutFault.Already) ↔ ((robot < robots self.old.rest.world.history) × (is_shut self.old.rest.world.history robot ≡ true)) }
+        ensures chapter_full { (result ≡ Err ShutFault.ChapterFull) ↔
+            ((robot < robots self.old.rest.world.history) × (is_shut self.old.rest.world.history robot ≡ false) × HasNoEntries self.old.rest.world) }
+        ensures entries { OnOk result (HasEntries self.old.rest.world) }
         ensures err { OnErr result (self.new.rest ≡ self.old.rest) }
     {
         self.rest.shut(&mut self.robots, robot)
@@ -87,7 +95,7 @@ impl<N: OfficeName<A>, A: Allocator + Copy> Hall<N, A> {
         let _ = core.chapter();
         let (book, share) = blank.open::<N>();
         let rest = Rest::new(core, ends, book);
-        Ok((Hall { rest, robots }, clients, Ticker::new(65536, share)))
+        Ok((HallOf { rest, robots }, clients, Ticker::new(65536, share)))
     }
 }
 
@@ -100,9 +108,11 @@ impl<N: OfficeName<A>, A: Allocator + Copy> Hall<N, A> {
     ) -> Result<TickReport, TickFault>
         ensures ok { IfOk result (λ r. TicksOnce self.old.rest r self.new.rest
             × (ticker.new ≡ record { count = ticker.old.count + 1; parts = ticker.old.parts }) × (ticker.new.count ≤ r.tick)) }
-        ensures clock_spent { result ≡ Err TickFault.ClockSpent → clock self.old.rest.world.history ≡ self.old.rest.world.limits.clock }
-        ensures chapter_full { result ≡ Err TickFault.ChapterFull →
-            (clock self.old.rest.world.history < self.old.rest.world.limits.clock) × HasNoEntries self.old.rest.world }
+        ensures clock_spent { (result ≡ Err TickFault.ClockSpent) ↔ (clock self.old.rest.world.history ≡ self.old.rest.world.limits.clock) }
+        ensures chapter_full { (result ≡ Err TickFault.ChapterFull) ↔
+            ((clock self.old.rest.world.history < self.old.rest.world.limits.clock) × HasNoEntries self.old.rest.world) }
+        ensures early { OnOk result (clock self.old.rest.world.history < self.old.rest.world.limits.clock) }
+        ensures entries { OnOk result (HasEntries self.old.rest.world) }
         ensures err { OnErr result ((self.new.rest ≡ self.old.rest) × (ticker.new ≡ ticker.old)) }
     {
         self.rest.tick_with(rt, &mut self.robots, ticker)
@@ -115,6 +125,7 @@ impl<N: OfficeName<A>, A: Allocator + Copy> Hall<N, A> {
         ticker: &mut Ticker<N>,
     ) -> Result<TurnReport, TurnFault>
         ensures ok { IfOk result (λ r. Turns self.old.rest r self.new.rest) }
+        ensures given { IfOk result (λ r. given_count self.new.rest ≡ given_count self.old.rest + r.given) }
         ensures ticker { IfOk result (λ r. (ticker.new ≡ record { count = ticker.old.count + 1; parts = ticker.old.parts })
             × IfSome r.tick (λ t. ticker.new.count ≤ t)) }
         ensures err { IfErr result (λ e. StopsTurn self.old.rest e self.new.rest) }

@@ -1,10 +1,13 @@
 //! The office: a world, the hall's ends of its clients' rings and the ledger of its ticks, under one lock.
 #![tactic(auto)]
 
+mod beside;
+mod chapters;
 mod conclude;
 mod desk;
 mod emptying;
 mod giving;
+mod guest;
 mod hall;
 mod homing;
 mod look;
@@ -16,12 +19,14 @@ mod resting;
 mod taking;
 mod ticker;
 
+pub use crate::beside::side_by_side;
 pub use crate::conclude::{ConcludeFault, Final, Home};
 pub use crate::desk::Desk;
-pub use crate::hall::Hall;
+pub use crate::guest::{Guest, clients_of, guests_of};
+pub use crate::hall::{Hall, HallOf};
 pub use crate::look::Look;
 pub use crate::names::OfficeName;
-pub use crate::office::Office;
+pub use crate::office::{Office, OfficeOf};
 pub use crate::report::{TurnCause, TurnFault, TurnReport};
 pub use crate::rest::Rest;
 pub use crate::ticker::Ticker;

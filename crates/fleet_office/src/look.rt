@@ -1,6 +1,11 @@
 //! What a look at an office shows.
-ghost use Rattle.std.specs.Prelude.{◌≡◌, ◌↔◌, length, IfOk, IsTrue, MatchOption};
-ghost use Rattle.fleet_history.specs.History.{clock, place};
+ghost use Rattle.std.specs.Prelude.{◌≡◌, ◌↔◌, length, IfOk, IfSome, IsSome, IsTrue, MatchOption};
+ghost use Rattle.fleet_bound.specs.Arriving.{IsIdleWithin};
+ghost use Rattle.fleet_bound.specs.Idle.{idle_ticks, longest_after};
+ghost use Rattle.fleet_grid.specs.Counts.{floor_count};
+ghost use Rattle.fleet_grid.specs.Floor.{IsNeighbour};
+ghost use Rattle.fleet_grid.specs.Walk.{IsBridgeless};
+ghost use Rattle.fleet_history.specs.History.{clock, place, robots};
 ghost use Rattle.fleet_plan.specs.Planned.{waits};
 ghost use Rattle.fleet_pibt.specs.Eldest.{IsEldest};
 ghost use Rattle.fleet_core.specs.Aimed.{IsIdle};
@@ -24,6 +29,8 @@ pub struct Look<A: Allocator + Copy = Global> {
     pub chapter: u32,
     /// How many entries the chapter has.
     pub entries: u32,
+    /// Within how many ticks nobody has an errand any more, where no order is taken meanwhile. `None` on a map with a bridge.
+    pub idle_within: Option<u64>,
 }
 
 impl<N: OfficeName<A>, A: Allocator + Copy> Rest<N, A> {
@@ -35,6 +42,10 @@ impl<N: OfficeName<A>, A: Allocator + Copy> Rest<N, A> {
         ensures idle { IfOk result (λ l. IsTrue l.idle ↔ IsIdle self.now.world.history) }
         ensures chapter { IfOk result (λ l. l.chapter ≡ self.now.world.number) }
         ensures entries { IfOk result (λ l. l.entries ≡ length self.now.world.history.entries) }
+        ensures told { IfOk result (λ l. IsSome l.idle_within ↔ IsBridgeless (IsNeighbour self.now.world.floor)) }
+        ensures idle_within { IfOk result (λ l. IfSome l.idle_within (λ ticks.
+            ticks ≡ idle_ticks (longest_after self.now.world.history) (robots self.now.world.history) (floor_count self.now.world.floor))) }
+        ensures within { IfOk result (λ l. IfSome l.idle_within (λ ticks. IsIdleWithin self.now.world.floor self.now.world.history ticks)) }
     {
         let chapter = self.core.chapter();
         // A chapter has fewer entries, so no call ends here.
@@ -48,6 +59,7 @@ impl<N: OfficeName<A>, A: Allocator + Copy> Rest<N, A> {
             idle: self.core.is_idle(),
             chapter: chapter.number,
             entries,
+            idle_within: self.core.idle_within(),
         })
     }
 }

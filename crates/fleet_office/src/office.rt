@@ -1,7 +1,7 @@
 //! The hall under its lock.
-ghost use Rattle.std.specs.Prelude.{◌≡◌, ◌+◌, ◌<◌, ◌≤◌, ◌^◌, ◌↔◌, length, Err, IfOk, IfErr, IfSome, OnErr};
+ghost use Rattle.std.specs.Prelude.{◌≡◌, ◌+◌, ◌<◌, ◌≤◌, ◌^◌, ◌↔◌, length, Err, IfOk, IfErr, IfSome, OnOk, OnErr};
 ghost use Rattle.std.specs.List.{sum_by};
-ghost use Rattle.fleet_grid.specs.Floor.{IsNeighbour};
+ghost use Rattle.fleet_grid.specs.Floor.{Floor, IsNeighbour};
 ghost use Rattle.fleet_grid.specs.Walk.{IsBridgeless};
 ghost use Rattle.fleet_history.specs.History.{history_of, clock};
 ghost use Rattle.fleet_history.specs.Legal.{IsLegal};
@@ -10,28 +10,35 @@ ghost use Rattle.fleet_plan.specs.Planned.{IsAdvancingTick};
 ghost use Rattle.fleet_core.specs.Hooks.{laws_of};
 ghost use Rattle.fleet_world.specs.Opening.{IsRefused, IsNamed as IsNamedFault};
 ghost use Rattle.fleet_office.specs.Views.{IsNamed, AreOn, cores};
-ghost use Rattle.fleet_office.specs.Concluded.{AreTold};
+ghost use Rattle.fleet_office.specs.Concluded.{AreTold, HasAll, IsUnconcluded};
+ghost use Rattle.fleet_office.specs.Shown.{Shows};
+ghost use Rattle.fleet_core.specs.Core.{World};
 
 use crate::conclude::{ConcludeFault, Final, Home};
 use crate::desk::Desk;
-use crate::hall::Hall;
+use crate::hall::{Hall, HallOf};
 use crate::look::Look;
 use crate::names::OfficeName;
 use crate::report::{TurnFault, TurnReport};
+use crate::rest::Rest;
 use crate::ticker::Ticker;
-use fleet_core::ShutFault;
+use fleet_core::{ChapterFault, Robots, ShutFault};
 use fleet_grid::Grid;
+use fleet_history::Chapter;
 use fleet_hooks::Hooks;
 use fleet_lanes::Client;
 use fleet_world::OpenFault;
 use std::alloc::{Alloc, AllocError, Allocator, Global};
 use std::sync::{Mutex, Wait};
 
-/// The hall under its lock.
+/// A hall's parts under their lock.
 #[derive(Drop)]
-pub struct Office<N: OfficeName<A>, A: Allocator + Copy = Global> {
-    hall: Mutex<Hall<N, A>>,
+pub struct OfficeOf<X, Y> {
+    hall: Mutex<HallOf<X, Y>>,
 }
+
+/// The hall under its lock.
+pub type Office<N, A = Global> = OfficeOf<Rest<N, A>, Robots<A>>;
 
 impl<N: OfficeName<A>, A: Allocator + Copy> Office<N, A> {
     /// Opens an office over the desk's lanes.
@@ -50,7 +57,7 @@ impl<N: OfficeName<A>, A: Allocator + Copy> Office<N, A> {
     {
         match Hall::open(alloc, desk, grid, starts, hooks) {
             Ok((hall, clients, ticker)) => Ok((
-                Office {
+                OfficeOf {
                     hall: Mutex::new(hall),
                 },
                 clients,
@@ -61,7 +68,7 @@ impl<N: OfficeName<A>, A: Allocator + Copy> Office<N, A> {
     }
 
     pub(crate) fn of(hall: Mutex<Hall<N, A>>) -> Office<N, A> {
-        Office { hall }
+        OfficeOf { hall }
     }
 
     /// The office's end: takes every order that is left in the lanes, and hands out the map, the chapter and what the
@@ -80,9 +87,11 @@ impl<N: OfficeName<A>, A: Allocator + Copy> Office<N, A> {
         ensures advancing { IfOk result (λ f. IsBridgeless (IsNeighbour f.grid) → EachTick (IsAdvancingTick f.grid) (history_of f.chapter)) }
         ensures told { IfOk result (λ f. AreTold f.chapter.number (history_of f.chapter) clients.items f.rest.items) }
         ensures tick { IfOk result (λ f. (f.tick ≡ clock (history_of f.chapter)) × (f.tick ≡ sum_by (λ t. t.count) tickers.items)) }
+        ensures all { OnOk result (HasAll (length N.rings) clients.items) }
+        ensures err { IfErr result (λ e. (w : World A) × IsUnconcluded (length N.rings) w clients.items tickers.items e.0) }
         ensures back { IfErr result (λ e. (cores e.1.clients.items ≡ cores clients.items) × (e.1.tickers.items ≡ tickers.items)) }
     {
-        let Office { hall } = self;
+        let OfficeOf { hall } = self;
         hall.into_inner().conclude(alloc, clients, tickers)
     }
 
@@ -93,6 +102,15 @@ impl<N: OfficeName<A>, A: Allocator + Copy> Office<N, A> {
         self.hall.lock(rt).shut(robot)
     }
 
+    /// Hands the chapter out and begins the next, whose opening is the state now.
+    pub fn next_chapter<R: Wait>(&self, rt: &R) -> Result<Chapter<A>, ChapterFault>
+        requires { 0 ≤ 1 }
+        ensures { IfOk result (λ chapter. (m : Floor) × IsLegal m (history_of chapter)
+            × (IsBridgeless (IsNeighbour m) → EachTick (IsAdvancingTick m) (history_of chapter))) }
+    {
+        self.hall.lock(rt).next_chapter()
+    }
+
     /// What the office shows: no fewer ticks than the ticker made.
     pub fn look<R: Alloc<A = A> + Wait>(
         &self,
@@ -100,9 +118,11 @@ impl<N: OfficeName<A>, A: Allocator + Copy> Office<N, A> {
         ticker: &Ticker<N>,
     ) -> Result<Look<A>, AllocError>
         requires { 0 ≤ ticker.now.count }
-        ensures { IfOk result (λ look. ticker.now.count ≤ look.tick) }
+        ensures tick { IfOk result (λ look. ticker.now.count ≤ look.tick) }
+        ensures shown { IfOk result (λ look. (w : World A) × Shows w look) }
     {
         let hall = self.hall.lock(rt);
+        hall.rest.lawful();
         let look = hall.rest.look(rt.alloc())?;
         // The ledger shows that no call ends here.
         if look.tick < ticker.ticks() {

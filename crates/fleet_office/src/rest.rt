@@ -1,5 +1,5 @@
 //! What lies under the lock beside the closures.
-ghost use Rattle.std.specs.Prelude.{◌≡◌, ◌+◌, ◌<◌, ◌≤◌, ◌^◌, true, ℕ, length, Some, None, Err, IfOk, IfErr, IfSome, OnOk, OnErr, slice_get};
+ghost use Rattle.std.specs.Prelude.{◌≡◌, ◌+◌, ◌<◌, ◌≤◌, ◌^◌, ◌↔◌, true, false, ℕ, length, Some, None, Err, IfOk, IfErr, IfSome, OnOk, OnErr, slice_get};
 ghost use Rattle.fleet_history.specs.History.{clock, place, robots, is_shut, history_of};
 ghost use Rattle.std.specs.List.{sum_by};
 ghost use Rattle.fleet_grid.specs.Floor.{IsNeighbour};
@@ -9,7 +9,7 @@ ghost use Rattle.fleet_history.specs.Laws.{EachTick};
 ghost use Rattle.fleet_plan.specs.Planned.{IsPlanned, IsAdvancingTick};
 ghost use Rattle.fleet_core.specs.Core.{Shuts, HasRoom, HasNoRoom, HasEntries, HasNoEntries};
 ghost use Rattle.fleet_office.specs.Views.{TickerView};
-ghost use Rattle.fleet_office.specs.Hall.{HallView, IsLawful, TakesOne, GivesOne, GivesAll, TakesSome, TakesUntil, TakesFirst, StopsTaking, TicksOnce, Turns, StopsTurn, Looks};
+ghost use Rattle.fleet_office.specs.Hall.{HallView, IsLawful, ShowsOrder, TakesOne, GivesOne, GivesAll, given_count, TakesSome, TakesUntil, TakesFirst, StopsTaking, TicksOnce, Turns, StopsTurn, Looks};
 ghost use Rattle.fleet_office.specs.Causes.{cause_of};
 
 use crate::giving::give_from;
@@ -71,8 +71,8 @@ impl<N: OfficeName<A>, A: Allocator + Copy> Rest<N, A> {
     pub fn take_one(&mut self, client: u32) -> Result<Option<Verdict>, TakeFault>
         requires { client < length self.old.ends }
         ensures ok { IfOk result (λ r. TakesOne self.old client r self.new) }
-        ensures mailbox_full { result ≡ Err TakeFault.MailboxFull → HasNoRoom self.old.world client }
-        ensures chapter_full { result ≡ Err TakeFault.ChapterFull → HasRoom self.old.world client × HasNoEntries self.old.world }
+        ensures mailbox_full { (result ≡ Err TakeFault.MailboxFull) ↔ (ShowsOrder self.new client × HasNoRoom self.old.world client) }
+        ensures chapter_full { (result ≡ Err TakeFault.ChapterFull) ↔ (ShowsOrder self.new client × HasRoom self.old.world client × HasNoEntries self.old.world) }
         ensures err { OnErr result (Looks self.old self.new) }
     {
         take_from(&mut self.core, &mut self.ends[client as usize], client)
@@ -90,12 +90,24 @@ impl<N: OfficeName<A>, A: Allocator + Copy> Rest<N, A> {
     pub fn give_all(&mut self) -> u64
         ensures all { GivesAll self.old result self.new }
         ensures as_many { length self.new.ends ≡ length self.old.ends }
+        ensures counted { given_count self.new ≡ given_count self.old + result }
+        ensures few { given_count self.new ≤ 2 ^ 63 }
     {
         let mut count = 0u64;
         for client in 0..self.clients() {
-            count = count.saturating_add(self.give_one(client));
+            let given = self.give_one(client);
+            self.is_countable();
+            count += given;
         }
+        self.is_countable();
         count
+    }
+
+    // All notices that were ever given are few enough to be counted.
+    fn is_countable(&self)
+        ensures { given_count self.now ≤ 2 ^ 63 }
+    {
+        let _ = self.core.chapter();
     }
 
     /// How many clients there are.
@@ -164,8 +176,11 @@ impl<N: OfficeName<A>, A: Allocator + Copy> Rest<N, A> {
         requires { robot < 2 ^ 32 }
         ensures ok { IfOk result (λ farewell. Shuts self.old.world robot farewell self.new.world × (self.new.ends ≡ self.old.ends)
             × (self.new.total ≡ self.old.total)) }
-        ensures no_robot { result ≡ Err ShutFault.NoRobot → robots self.old.world.history ≤ robot }
-        ensures already { result ≡ Err ShutFault.Already → (robot < robots self.old.world.history) × (is_shut self.old.world.history robot ≡ true) }
+        ensures no_robot { (result ≡ Err ShutFault.NoRobot) ↔ (robots self.old.world.history ≤ robot) }
+        ensures already { (result ≡ Err ShutFault.Already) ↔ ((robot < robots self.old.world.history) × (is_shut self.old.world.history robot ≡ true)) }
+        ensures chapter_full { (result ≡ Err ShutFault.ChapterFull) ↔
+            ((robot < robots self.old.world.history) × (is_shut self.old.world.history robot ≡ false) × HasNoEntries self.old.world) }
+        ensures entries { OnOk result (HasEntries self.old.world) }
         ensures err { OnErr result (self.new ≡ self.old) }
     {
         self.core.shut_by(by, robot)
@@ -208,9 +223,11 @@ impl<N: OfficeName<A>, A: Allocator + Copy> Rest<N, A> {
         requires { 0 ≤ ticker.old.count }
         ensures ok { IfOk result (λ r. TicksOnce self.old r self.new
             × (ticker.new ≡ record { count = ticker.old.count + 1; parts = ticker.old.parts }) × (ticker.new.count ≤ r.tick)) }
-        ensures clock_spent { result ≡ Err TickFault.ClockSpent → clock self.old.world.history ≡ self.old.world.limits.clock }
-        ensures chapter_full { result ≡ Err TickFault.ChapterFull →
-            (clock self.old.world.history < self.old.world.limits.clock) × HasNoEntries self.old.world }
+        ensures clock_spent { (result ≡ Err TickFault.ClockSpent) ↔ (clock self.old.world.history ≡ self.old.world.limits.clock) }
+        ensures chapter_full { (result ≡ Err TickFault.ChapterFull) ↔
+            ((clock self.old.world.history < self.old.world.limits.clock) × HasNoEntries self.old.world) }
+        ensures early { OnOk result (clock self.old.world.history < self.old.world.limits.clock) }
+        ensures entries { OnOk result (HasEntries self.old.world) }
         ensures err { OnErr result ((self.new ≡ self.old) × (ticker.new ≡ ticker.old)) }
     {
         let report = self.core.tick_by(rt, by)?;
@@ -226,6 +243,7 @@ impl<N: OfficeName<A>, A: Allocator + Copy> Rest<N, A> {
         ticker: &mut Ticker<N>,
     ) -> Result<TurnReport, TurnFault>
         ensures ok { IfOk result (λ r. Turns self.old r self.new) }
+        ensures given { IfOk result (λ r. given_count self.new ≡ given_count self.old + r.given) }
         ensures ticker { IfOk result (λ r. (ticker.new ≡ record { count = ticker.old.count + 1; parts = ticker.old.parts })
             × IfSome r.tick (λ t. ticker.new.count ≤ t)) }
         ensures err { IfErr result (λ e. StopsTurn self.old e self.new) }
@@ -247,7 +265,7 @@ impl<N: OfficeName<A>, A: Allocator + Copy> Rest<N, A> {
                 Ok(TurnReport {
                     taken,
                     held,
-                    given: given.saturating_add(more),
+                    given: given + more,
                     arrived: report.arrived,
                     tick: Some(report.tick),
                 })

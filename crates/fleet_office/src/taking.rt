@@ -1,5 +1,5 @@
 // One order from a lane into the world.
-ghost use Rattle.std.specs.Prelude.{◌≤◌, ◌^◌, ◌≡◌, ◌<◌, ◌+◌, ◌++◌, ◌∷◌, [], ℕ, length, IfOk, OnOk, OnErr, Err, MatchOption};
+ghost use Rattle.std.specs.Prelude.{◌≤◌, ◌^◌, ◌≡◌, ◌<◌, ◌+◌, ◌++◌, ◌∷◌, ◌↔◌, [], ℕ, length, IfOk, OnOk, OnErr, Err, MatchOption};
 ghost use Rattle.fleet_history.specs.History.{clients, owed};
 ghost use Rattle.fleet_core.specs.Core.{Takes, HasRoom, HasNoRoom, HasEntries, HasNoEntries};
 ghost use Rattle.fleet_book.specs.declared.order.Order.{Order};
@@ -18,8 +18,8 @@ pub(crate) fn take_from<A: Allocator + Copy>(
 ) -> Result<Option<Verdict>, TakeFault>
     requires { client < clients core.old.history }
     ensures ok { IfOk result (λ r. TakesFrom core.old end.old client r core.new end.new) }
-    ensures mailbox_full { result ≡ Err TakeFault.MailboxFull → HasNoRoom core.old client }
-    ensures chapter_full { result ≡ Err TakeFault.ChapterFull → HasRoom core.old client × HasNoEntries core.old }
+    ensures mailbox_full { (result ≡ Err TakeFault.MailboxFull) ↔ ((0 < length end.new.known) × HasNoRoom core.old client) }
+    ensures chapter_full { (result ≡ Err TakeFault.ChapterFull) ↔ ((0 < length end.new.known) × HasRoom core.old client × HasNoEntries core.old) }
     ensures err { OnErr result ((core.new ≡ core.old) × StaysBut end.old end.new) }
 {
     let Some(order) = end.peek() else {

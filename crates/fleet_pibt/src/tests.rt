@@ -1,6 +1,5 @@
 //! Worked orders, the smallest steps, how often a tie closure is asked, and each growth refused in turn. Whole runs are
 //! tested above, over proved distances.
-mod refusing;
 
 ghost use Rattle.std.specs.Prelude.{◌≡◌, ℕ, Option, Some, None, cond, ◌==◌};
 

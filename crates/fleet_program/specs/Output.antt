@@ -23,6 +23,8 @@ use Rattle.fleet_core.specs.declared.faults.TickFault.{TickFault}
 use Rattle.fleet_core.specs.declared.faults.TickFault.TheVariants as tick_fault
 use Rattle.fleet_core.specs.declared.faults.ShutFault.{ShutFault}
 use Rattle.fleet_core.specs.declared.faults.ShutFault.TheVariants as shut_fault
+use Rattle.fleet_trace.specs.declared.fault.TraceFault.{TraceFault}
+use Rattle.fleet_trace.specs.declared.fault.TraceFault.TheVariants as trace_fault
 
 abbrev pub verdict_text : Verdict → List ℕ
 verdict_text (verdict.Accepted number) = codes "accepted " ++ decimal number
@@ -138,6 +140,12 @@ open_fault_text (open_fault.Start robot) = codes "3 start"
 open_fault_text (open_fault.Shared i j) = codes "4 shared"
 open_fault_text open_fault.Hooks = codes "5 hooks"
 open_fault_text open_fault.NoMemory = codes "6 no-memory"
+
+abbrev pub trace_fault_text : TraceFault → List ℕ
+trace_fault_text trace_fault.NotJson = codes "1 not-json"
+trace_fault_text trace_fault.Version = codes "2 version"
+trace_fault_text trace_fault.Shape = codes "3 shape"
+trace_fault_text trace_fault.NoMemory = codes "4 no-memory"
 
 -- whether a limit was met
 abbrev pub is_limit_met : Reply → Bool

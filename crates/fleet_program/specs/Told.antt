@@ -5,7 +5,6 @@ use Rattle.std.specs.Io.KnownBytes.{Appends}
 use Rattle.fleet_program.specs.declared.words.Job.{Job}
 use Rattle.fleet_program.specs.declared.words.Job.TheVariants as job
 use Rattle.fleet_program.specs.declared.said.Complaint.TheVariants as complaint
-use Rattle.fleet_program.specs.declared.input.TheConstants.{MOST_BYTES}
 use Rattle.fleet_program.specs.Complaint.{complaint_line, status_of}
 use Rattle.fleet_program.specs.Kit.{KitLaws}
 use Rattle.fleet_program.specs.Outcome.{Outcome, IsJobOutcome}
@@ -15,7 +14,8 @@ use Rattle.fleet_program.specs.Transfer.{AppendsFront}
 abbrev pub names_two : Job → Bool
 names_two job.Bundle = false
 names_two (job.Map file) = false
-names_two (job.Run map script) = true
+names_two (job.Run map script trace) = true
+names_two (job.Judge map trace) = true
 
 -- what a second reader has, and nothing where there is none
 abbrev pub bytes_of : {I : Type 0} → (I → Option (List ℕ)) → Option (MutBor I) → Option (List ℕ)
@@ -34,13 +34,13 @@ pub data IsTold (o : Outcome) (old_out new_out old_err new_err : Option (List �
       → IsTold o old_out new_out old_err new_err status
 
 -- what there is to say of files that hold these bytes
-pub record IsAnswer (A : Type 0) (kit : KitLaws) (job : Job) (first second : List ℕ) (o : Outcome) : Type 0 where
-  pub short : length first ≤ MOST_BYTES
-  pub other_short : length second ≤ MOST_BYTES
-  pub outcome : IsJobOutcome A kit job first second o
+pub record IsAnswer (kit : KitLaws) (job : Job) (first second : List ℕ) (o : Outcome) : Type 0 where
+  pub short : length first ≤ 16777216
+  pub other_short : length second ≤ 16777216
+  pub outcome : IsJobOutcome kit job first second o
 
 -- what the program left on its writers when it ended with this status, where its job's files hold these bytes
-pub data IsShown (A : Type 0) (kit : KitLaws) (job : Job) (first second : List ℕ) (old_out new_out old_err new_err : Option (List ℕ)) (status : ℕ) : Type 0 where
-  told : (o : Outcome) → IsAnswer A kit job first second o → IsTold o old_out new_out old_err new_err status → IsShown A kit job first second old_out new_out old_err new_err status
+pub data IsShown (kit : KitLaws) (job : Job) (first second : List ℕ) (old_out new_out old_err new_err : Option (List ℕ)) (status : ℕ) : Type 0 where
+  told : (o : Outcome) → IsAnswer kit job first second o → IsTold o old_out new_out old_err new_err status → IsShown kit job first second old_out new_out old_err new_err status
   -- a read or memory failed, or a file is too long
-  nothing : new_out ≡ old_out → Failed old_err new_err status → IsShown A kit job first second old_out new_out old_err new_err status
+  nothing : new_out ≡ old_out → Failed old_err new_err status → IsShown kit job first second old_out new_out old_err new_err status

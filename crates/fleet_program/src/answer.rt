@@ -1,30 +1,34 @@
 //! What the program has to say to the texts that it read.
 
-ghost use Rattle.std.specs.Prelude.{◌≡◌, ◌≤◌, length, IfOk};
+ghost use Rattle.std.specs.Prelude.{◌≡◌, ◌≤◌, ◌++◌, length, IfOk, codes, string_bytes};
 ghost use Rattle.std.specs.List.{list_any};
 ghost use Rattle.fleet_map.specs.Form.{HasSides};
 ghost use Rattle.fleet_map.specs.Grammar.{view};
 ghost use Rattle.fleet_world.specs.Opening.{IsNamed};
 ghost use Rattle.fleet_program.specs.Output.{is_limit_met};
-ghost use Rattle.fleet_program.specs.Outcome.{IsBundleOutcome, IsMapOutcome, IsDescribed, IsPartsOutcome, IsScriptOutcome, IsJobOutcome, IsMapNamed, floor_of_map, run_outcome};
+ghost use Rattle.fleet_program.specs.Outcome.{IsBundleOutcome, IsMapOutcome, IsDescribed, IsPartsOutcome, IsScriptOutcome, IsJobOutcome, floor_of_map, run_output, run_outcome};
+ghost use Rattle.fleet_trace.specs.Trace.{trace_of};
+ghost use Rattle.fleet_trace.specs.Text.{trace_text};
 ghost use Rattle.fleet_program.specs.Kit.{kit_laws};
 ghost use Rattle.fleet_program.specs.Said.{said};
 ghost use Rattle.fleet_script.specs.Shown.{plan};
 ghost use Rattle.fleet_program.specs.declared.said.Complaint.{Complaint};
 
+use crate::judgement::answer_trace;
 use crate::kit::HookKit;
 use crate::map_report::map_report;
 use crate::report::report;
-use crate::said::{Complaint, Said, faulty, line_of};
+use crate::said::{Complaint, Said, faulty, line_of, map_complaint};
 use crate::words::Job;
 use fleet_grid::Grid;
-use fleet_history::Entry;
-use fleet_map::{MapFault, MapText, read_map};
+use fleet_history::Chapter;
+use fleet_map::{MapText, read_map};
 use fleet_script::{Script, ScriptFault, read_script, split_bundle};
+use fleet_trace::write_trace;
 use fleet_world::{
     Event, OpenFault, Played, Reply, RunFault, ShutFault, TakeFault, TickFault, run,
 };
-use std::alloc::{Alloc, AllocError, Allocator};
+use std::alloc::{Alloc, AllocError, Global};
 use std::thread::Threads;
 
 /// Whether a limit was met.
@@ -47,17 +51,6 @@ fn meets_limit(replies: &[Reply]) -> bool
     replies.iter().any(|reply| is_limit(*reply))
 }
 
-/// The complaint of a map with this fault. Want of memory is none.
-fn map_complaint(fault: MapFault) -> Result<Complaint, AllocError>
-    ensures named { IfOk result (λ c. IsMapNamed fault) }
-    ensures value { IfOk result (λ c. c ≡ Complaint.Map fault) }
-{
-    if fault == MapFault::NoMemory {
-        return Err(AllocError);
-    }
-    Ok(Complaint::Map(fault))
-}
-
 /// The complaint of a world that is not opened for this reason. Want of memory is none.
 fn opening_complaint(fault: OpenFault) -> Result<Complaint, AllocError>
     ensures named { IfOk result (λ c. IsNamed fault) }
@@ -69,17 +62,36 @@ fn opening_complaint(fault: OpenFault) -> Result<Complaint, AllocError>
     Ok(Complaint::Opening(fault))
 }
 
-/// What is said of a run: its lines, and whether a limit was met.
-fn run_lines<A: Allocator + Copy>(
-    alloc: A,
-    events: &[Event],
-    replies: &[Reply],
-    entries: &[Entry<A>],
-) -> Result<Said<A>, AllocError>
-    requires { length replies.now ≡ length events.now }
-    ensures { IfOk result (λ s. said s ≡ run_outcome events.now replies.now entries.now) }
+/// The trace of a chapter, and a line feed.
+fn trace_line(alloc: Global, chapter: &Chapter) -> Result<String, AllocError>
+    ensures { IfOk result (λ s. string_bytes s ≡ trace_text (trace_of chapter.now) ++ codes "\n") }
 {
-    let output = report(alloc, events, replies, entries)?;
+    let mut text = write_trace(alloc, chapter)?;
+    text.push_str("\n")?;
+    Ok(text)
+}
+
+/// What is written of a run: its trace, or its lines.
+fn output_of(
+    alloc: Global,
+    trace: bool,
+    events: &[Event],
+    played: &Played,
+) -> Result<String, AllocError>
+    requires { length played.now.replies.items ≡ length events.now }
+    ensures { IfOk result (λ s. string_bytes s ≡ run_output trace events.now played.now.replies.items played.now.world.core) }
+{
+    let chapter = played.world.chapter();
+    if trace {
+        return trace_line(alloc, chapter);
+    }
+    report(alloc, events, played.replies.as_slice(), chapter.entries.as_slice())
+}
+
+/// What is said of a run with these replies: its output, and whether a limit was met.
+fn ended(alloc: Global, replies: &[Reply], output: String) -> Result<Said, AllocError>
+    ensures { IfOk result (λ s. said s ≡ run_outcome replies.now (string_bytes output)) }
+{
     if meets_limit(replies) {
         return Ok(Said {
             output,
@@ -95,27 +107,29 @@ fn run_lines<A: Allocator + Copy>(
 }
 
 /// What is said of a run that was made.
-fn played_lines<A: Allocator + Copy>(
-    alloc: A,
+fn played_text(
+    alloc: Global,
+    trace: bool,
     events: &[Event],
-    played: &Played<A>,
-) -> Result<Said<A>, AllocError>
+    played: &Played,
+) -> Result<Said, AllocError>
     requires { length played.now.replies.items ≡ length events.now }
-    ensures { IfOk result (λ s. said s ≡ run_outcome events.now played.now.replies.items played.now.world.core.history.entries) }
+    ensures { IfOk result (λ s. said s ≡ run_outcome played.now.replies.items (run_output trace events.now played.now.replies.items played.now.world.core)) }
 {
-    let entries = played.world.chapter().entries.as_slice();
-    run_lines(alloc, events, played.replies.as_slice(), entries)
+    let output = output_of(alloc, trace, events, played)?;
+    ended(alloc, played.replies.as_slice(), output)
 }
 
 /// Runs a script on a map.
-fn run_script<A: Allocator + Copy + Send + Sync, R: Alloc<A = A> + Threads + Sync>(
+fn run_script<R: Alloc<A = Global> + Threads + Sync>(
     rt: &R,
-    map: MapText<A>,
-    script: Script<A>,
-    kit: HookKit<A>,
-) -> Result<Said<A>, AllocError>
+    map: MapText,
+    script: Script,
+    kit: HookKit,
+    trace: bool,
+) -> Result<Said, AllocError>
     requires { HasSides (view map) }
-    ensures { IfOk result (λ s. IsScriptOutcome A (kit_laws kit) (floor_of_map (view map)) (plan script) (said s)) }
+    ensures { IfOk result (λ s. IsScriptOutcome (kit_laws kit) trace (floor_of_map (view map)) (plan script) (said s)) }
 {
     let grid = Grid::new(map)?;
     let Script {
@@ -129,50 +143,51 @@ fn run_script<A: Allocator + Copy + Send + Sync, R: Alloc<A = A> + Threads + Syn
     } = script;
     let hooks = kit.choose(south).cut(starts.len());
     match run(rt, grid, starts, clients, limits, hooks, &events) {
-        Ok(played) => played_lines(rt.alloc(), &events, &played),
+        Ok(played) => played_text(rt.alloc(), trace, &events, &played),
         Err(RunFault::NoMemory(_)) => Err(AllocError),
         Err(RunFault::Opening(fault)) => faulty(rt.alloc(), opening_complaint(fault)?),
     }
 }
 
 /// What the program has to say to a map and a script.
-fn answer_parts<A: Allocator + Copy + Send + Sync, R: Alloc<A = A> + Threads + Sync>(
+fn answer_parts<R: Alloc<A = Global> + Threads + Sync>(
     rt: &R,
     map: &[u8],
     script: &[u8],
-    kit: HookKit<A>,
-) -> Result<Said<A>, AllocError>
+    kit: HookKit,
+    trace: bool,
+) -> Result<Said, AllocError>
     requires { length script.now ≤ 16777216 }
-    ensures { IfOk result (λ s. IsPartsOutcome A (kit_laws kit) map.now script.now (said s)) }
+    ensures { IfOk result (λ s. IsPartsOutcome (kit_laws kit) trace map.now script.now (said s)) }
 {
     let map = match read_map(rt.alloc(), map) {
         Ok(map) => map,
         Err(fault) => return faulty(rt.alloc(), map_complaint(fault)?),
     };
     match read_script(rt.alloc(), script) {
-        Ok(script) => run_script(rt, map, script, kit),
+        Ok(script) => run_script(rt, map, script, kit, trace),
         Err(ScriptFault::NoMemory) => Err(AllocError),
         Err(ScriptFault::Line(line)) => faulty(rt.alloc(), Complaint::Script(line)),
     }
 }
 
 /// What the program has to say to a bundle.
-fn answer_bundle<A: Allocator + Copy + Send + Sync, R: Alloc<A = A> + Threads + Sync>(
+fn answer_bundle<R: Alloc<A = Global> + Threads + Sync>(
     rt: &R,
     bytes: &[u8],
-    kit: HookKit<A>,
-) -> Result<Said<A>, AllocError>
+    kit: HookKit,
+) -> Result<Said, AllocError>
     requires { length bytes.now ≤ 16777216 }
-    ensures { IfOk result (λ s. IsBundleOutcome A (kit_laws kit) bytes.now (said s)) }
+    ensures { IfOk result (λ s. IsBundleOutcome (kit_laws kit) bytes.now (said s)) }
 {
     match split_bundle(bytes) {
-        Ok((map, script)) => answer_parts(rt, map, script, kit),
+        Ok((map, script)) => answer_parts(rt, map, script, kit, false),
         Err(line) => faulty(rt.alloc(), Complaint::Script(line)),
     }
 }
 
 /// What the program has to say of a map that was read.
-fn describe_map<A: Allocator + Copy>(alloc: A, map: MapText<A>) -> Result<Said<A>, AllocError>
+fn describe_map(alloc: Global, map: MapText) -> Result<Said, AllocError>
     requires { HasSides (view map) }
     ensures { IfOk result (λ s. IsDescribed (floor_of_map (view map)) (said s)) }
 {
@@ -185,7 +200,7 @@ fn describe_map<A: Allocator + Copy>(alloc: A, map: MapText<A>) -> Result<Said<A
 }
 
 /// What the program has to say to a map alone.
-fn answer_map<A: Allocator + Copy>(alloc: A, bytes: &[u8]) -> Result<Said<A>, AllocError>
+fn answer_map(alloc: Global, bytes: &[u8]) -> Result<Said, AllocError>
     ensures { IfOk result (λ s. IsMapOutcome bytes.now (said s)) }
 {
     match read_map(alloc, bytes) {
@@ -195,20 +210,25 @@ fn answer_map<A: Allocator + Copy>(alloc: A, bytes: &[u8]) -> Result<Said<A>, Al
 }
 
 /// What the program has to say to the texts of a job, the second of which counts only where the job names two files.
-pub fn answer<A: Allocator + Copy + Send + Sync, R: Alloc<A = A> + Threads + Sync>(
+pub fn answer<R: Alloc<A = Global> + Threads + Sync>(
     rt: &R,
     job: &Job,
     first: &[u8],
     second: &[u8],
-    kit: HookKit<A>,
-) -> Result<Said<A>, AllocError>
+    kit: HookKit,
+) -> Result<Said, AllocError>
     requires first { length first.now ≤ 16777216 }
     requires second { length second.now ≤ 16777216 }
-    ensures { IfOk result (λ s. IsJobOutcome A (kit_laws kit) job.now first.now second.now (said s)) }
+    ensures { IfOk result (λ s. IsJobOutcome (kit_laws kit) job.now first.now second.now (said s)) }
 {
     match job {
         Job::Bundle => answer_bundle(rt, first, kit),
         Job::Map { .. } => answer_map(rt.alloc(), first),
-        Job::Run { .. } => answer_parts(rt, first, second, kit),
+        Job::Run {
+            first: _,
+            second: _,
+            trace,
+        } => answer_parts(rt, first, second, kit, *trace),
+        Job::Judge { .. } => answer_trace(rt.alloc(), first, second),
     }
 }

@@ -34,7 +34,7 @@ pub fn read_whole<A: Allocator + Copy, R: Read>(
     reader: &mut R,
 ) -> Result<Vec<u8, A>, InputFault>
     ensures whole { IfOk result (λ bytes. IfSome (R.remaining reader.old) (λ all. bytes.items ≡ all)) }
-    ensures short { IfOk result (λ bytes. vec_len bytes ≤ MOST_BYTES) }
+    ensures short { IfOk result (λ bytes. vec_len bytes ≤ 16777216) }
 {
     let mut bytes = Vec::new(alloc);
     let mut piece = [0u8; 4096];
@@ -58,7 +58,7 @@ pub fn read_other<A: Allocator + Copy, R: Read>(
     reader: Option<&mut R>,
 ) -> Result<Vec<u8, A>, InputFault>
     ensures whole { IfOk result (λ bytes. IfSome (bytes_of R.remaining reader.entry) (λ all. bytes.items ≡ all)) }
-    ensures short { IfOk result (λ bytes. vec_len bytes ≤ MOST_BYTES) }
+    ensures short { IfOk result (λ bytes. vec_len bytes ≤ 16777216) }
 {
     match reader {
         Some(reader) => read_whole(alloc, reader),

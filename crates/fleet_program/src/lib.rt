@@ -5,6 +5,7 @@
 mod answer;
 mod closures;
 mod input;
+mod judgement;
 mod kit;
 mod map_report;
 mod output;

@@ -11,7 +11,7 @@ use crate::kit::HookKit;
 use crate::output::write_whole;
 use crate::said::{Complaint, Said};
 use crate::words::Job;
-use std::alloc::{Alloc, Allocator};
+use std::alloc::{Alloc, Global};
 use std::io::{Read, Write};
 use std::thread::Threads;
 
@@ -32,11 +32,7 @@ pub fn fail<E: Write>(fault: InputFault, error: &mut E) -> u8
 }
 
 /// Writes what there is to say. The result is the status.
-fn tell<A: Allocator + Copy, W: Write, E: Write>(
-    said: &Said<A>,
-    output: &mut W,
-    error: &mut E,
-) -> u8
+fn tell<W: Write, E: Write>(said: &Said, output: &mut W, error: &mut E) -> u8
     ensures { IsTold (said_of said.now) (W.contents output.old) (W.contents output.new) (E.contents error.old) (E.contents error.new) result }
 {
     if !write_whole(output, said.output.as_bytes()) {
@@ -48,41 +44,35 @@ fn tell<A: Allocator + Copy, W: Write, E: Write>(
 }
 
 /// What there is to say to the files of a job, which are read in their order.
-fn answer_files<A: Allocator + Copy + Send + Sync, R: Alloc<A = A> + Threads + Sync, I: Read>(
+fn answer_files<R: Alloc<A = Global> + Threads + Sync, I: Read>(
     rt: &R,
     job: &Job,
     map: &mut I,
     other: Option<&mut I>,
-    kit: HookKit<A>,
-) -> Result<Said<A>, InputFault>
+    kit: HookKit,
+) -> Result<Said, InputFault>
     ensures { IfOk result (λ s. IfSome (I.remaining map.old) (λ first. IfSome (bytes_of I.remaining other.entry) (λ second.
-        IsAnswer A (kit_laws kit) job.now first second (said_of s)))) }
+        IsAnswer (kit_laws kit) job.now first second (said_of s)))) }
 {
     let first = read_whole(rt.alloc(), map)?;
     let second = read_other(rt.alloc(), other)?;
     Ok(answer(rt, job, &first, &second, kit)?)
 }
 
-/// Does the job and writes what there is to say. The result is the status: 0 good, 3 a file failed, 4 the map or 5 the
-/// script or the opening is refused, 7 memory ran out, 8 a limit was met.
-pub fn run_program<
-    A: Allocator + Copy + Send + Sync,
-    R: Alloc<A = A> + Threads + Sync,
-    I: Read,
-    W: Write,
-    E: Write,
->(
+/// Does the job and writes what there is to say. The result is the status: 0 good, 3 a file failed, 4 the map, 5 the
+/// script or the opening or 6 the trace is refused, 6 too where the trace is illegal, 7 memory ran out, 8 a limit was met.
+pub fn run_program<R: Alloc<A = Global> + Threads + Sync, I: Read, W: Write, E: Write>(
     rt: &R,
     job: &Job,
     map: &mut I,
     other: Option<&mut I>,
     output: &mut W,
     error: &mut E,
-    kit: HookKit<A>,
+    kit: HookKit,
 ) -> u8
     requires { is_some other ≡ names_two job.now }
     ensures { IfSome (I.remaining map.old) (λ first. IfSome (bytes_of I.remaining other.entry) (λ second.
-        IsShown A (kit_laws kit) job.now first second (W.contents output.old) (W.contents output.new) (E.contents error.old) (E.contents error.new) result)) }
+        IsShown (kit_laws kit) job.now first second (W.contents output.old) (W.contents output.new) (E.contents error.old) (E.contents error.new) result)) }
 {
     match answer_files(rt, job, map, other, kit) {
         Ok(said) => tell(&said, output, error),

@@ -2,13 +2,14 @@
 
 ghost use Rattle.std.specs.Prelude.{◌≡◌, ◌++◌, Some, IfOk, string_bytes};
 ghost use Rattle.fleet_program.specs.Complaint.{complaint_text, complaint_line, status_of};
-ghost use Rattle.fleet_program.specs.Outcome.{fault};
+ghost use Rattle.fleet_program.specs.Outcome.{IsMapNamed, fault};
 ghost use Rattle.fleet_program.specs.Said.{said};
 
-use crate::texts::{MapFaultText, OpenFaultText};
+use crate::texts::{MapFaultText, OpenFaultText, TraceFaultText};
 use fleet_map::MapFault;
+use fleet_trace::TraceFault;
 use fleet_world::OpenFault;
-use std::alloc::{AllocError, Allocator, Global};
+use std::alloc::{AllocError, Global};
 use std::fmt;
 
 /// What is wrong, as the error writer is told.
@@ -20,6 +21,7 @@ pub enum Complaint {
     /// The script's line that may not stand, from 1.
     Script(u32),
     Opening(OpenFault),
+    Trace(TraceFault),
     Memory,
     /// The clock or the chapter was full at some event.
     Limit,
@@ -34,6 +36,7 @@ impl Complaint {
             Complaint::File => 3,
             Complaint::Map(_) => 4,
             Complaint::Script(_) | Complaint::Opening(_) => 5,
+            Complaint::Trace(_) => 6,
             Complaint::Memory => 7,
             Complaint::Limit => 8,
         }
@@ -55,6 +58,10 @@ impl fmt::Display for Complaint {
                 let text = OpenFaultText(fault);
                 write!(f, "opening {text}")
             }
+            Complaint::Trace(fault) => {
+                let text = TraceFaultText(fault);
+                write!(f, "trace {text}")
+            }
             Complaint::Memory => write!(f, "memory"),
             Complaint::Limit => write!(f, "limit"),
         }
@@ -63,21 +70,21 @@ impl fmt::Display for Complaint {
 
 /// What the program has to say, and its status.
 #[derive(Drop)]
-pub struct Said<A: Allocator + Copy = Global> {
-    pub output: String<A>,
+pub struct Said {
+    pub output: String,
     pub status: u8,
-    pub complaint: String<A>,
+    pub complaint: String,
 }
 
 /// The line of a complaint.
-pub fn line_of<A: Allocator + Copy>(alloc: A, complaint: Complaint) -> Result<String<A>, AllocError>
+pub fn line_of(alloc: Global, complaint: Complaint) -> Result<String, AllocError>
     ensures { IfOk result (λ line. string_bytes line ≡ complaint_line complaint) }
 {
     format!(in alloc; "errands: {complaint}\n")
 }
 
 /// What is said where there is nothing but a complaint.
-pub fn faulty<A: Allocator + Copy>(alloc: A, complaint: Complaint) -> Result<Said<A>, AllocError>
+pub fn faulty(alloc: Global, complaint: Complaint) -> Result<Said, AllocError>
     ensures { IfOk result (λ s. said s ≡ fault complaint) }
 {
     Ok(Said {
@@ -85,4 +92,15 @@ pub fn faulty<A: Allocator + Copy>(alloc: A, complaint: Complaint) -> Result<Sai
         status: complaint.status(),
         complaint: line_of(alloc, complaint)?,
     })
+}
+
+/// The complaint of a map with this fault. Want of memory is none.
+pub fn map_complaint(fault: MapFault) -> Result<Complaint, AllocError>
+    ensures named { IfOk result (λ c. IsMapNamed fault) }
+    ensures value { IfOk result (λ c. c ≡ Complaint.Map fault) }
+{
+    if fault == MapFault::NoMemory {
+        return Err(AllocError);
+    }
+    Ok(Complaint::Map(fault))
 }

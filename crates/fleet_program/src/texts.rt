@@ -1,11 +1,12 @@
 //! The words of the program's output.
 
 ghost use Rattle.std.specs.Prelude.{◌≡◌, Some, ◌++◌, OnOk, string_bytes};
-ghost use Rattle.fleet_program.specs.Output.{verdict_text, take_fault_text, tick_fault_text, shut_fault_text, notice_text, arrival_line, farewell_text, map_fault_text, open_fault_text};
+ghost use Rattle.fleet_program.specs.Output.{verdict_text, take_fault_text, tick_fault_text, shut_fault_text, notice_text, arrival_line, farewell_text, map_fault_text, open_fault_text, trace_fault_text};
 
 use fleet_book::{Notice, Verdict};
 use fleet_history::Arrival;
 use fleet_map::MapFault;
+use fleet_trace::TraceFault;
 use fleet_world::{OpenFault, ShutFault, TakeFault, TickFault};
 use std::fmt;
 
@@ -190,6 +191,23 @@ impl fmt::Display for OpenFaultText {
             OpenFault::Shared(_, _) => write!(f, "4 shared"),
             OpenFault::Hooks => write!(f, "5 hooks"),
             OpenFault::NoMemory => write!(f, "6 no-memory"),
+        }
+    }
+}
+
+/// Why a file tells no trace, as the program names it.
+#[derive(Clone, Copy, Debug)]
+pub struct TraceFaultText(pub TraceFault);
+
+impl fmt::Display for TraceFaultText {
+    ghost output = { λ t. Some (trace_fault_text t.0) };
+
+    fn fmt<W: fmt::Write>(&self, f: &mut fmt::Formatter<W>) -> fmt::Result {
+        match self.0 {
+            TraceFault::NotJson => write!(f, "1 not-json"),
+            TraceFault::Version => write!(f, "2 version"),
+            TraceFault::Shape => write!(f, "3 shape"),
+            TraceFault::NoMemory => write!(f, "4 no-memory"),
         }
     }
 }

@@ -1,16 +1,16 @@
 //! The words that the program is given, and the job that they name.
 
-ghost use Rattle.std.specs.Prelude.{◌≡◌, IfOk, IfErr, Some, false, true, map, string_bytes};
+ghost use Rattle.std.specs.Prelude.{◌≡◌, [], IfOk, IfErr, Some, false, true, map, string_bytes};
 ghost use Rattle.clap.specs.declared.builder.command.Command.TheViews.{out-Command as fields_of};
-ghost use Rattle.clap.specs.Words.{first_of, found_of, rows_of, app_of, rule_of, subcommand_of, subcommand_rows_of, takes};
+ghost use Rattle.clap.specs.Words.{fault_of, first_of, found_of, rows_of, app_of, rule_of, subcommand_of, subcommand_rows_of, takes};
 ghost use Rattle.clap.specs.Values.{kind_of};
 ghost use Rattle.clap.specs.declared.error.kind.ErrorKind.TheVariants.{OutOfMemory};
-ghost use Rattle.fleet_program.specs.Command.{errands_app, file_rule, map_app, run_app};
-ghost use Rattle.fleet_program.specs.Asked.{asked, job_of};
+ghost use Rattle.fleet_program.specs.Command.{errands_app, file_rule, trace_rule, map_app, run_app, judge_app};
+ghost use Rattle.fleet_program.specs.Asked.{asked, job_of, has_flag};
 ghost use Rattle.fleet_program.specs.declared.words.WordFault.TheVariants.{NoMemory};
 
 use clap::error::ErrorKind;
-use clap::{Arg, ArgMatches, Command, Error};
+use clap::{Arg, ArgAction, ArgMatches, Command, Error};
 use std::alloc::{AllocError, Global};
 
 /// What the program is to do.
@@ -20,8 +20,14 @@ pub enum Job {
     Bundle,
     /// To say how large a map is, and whether it has a bridge.
     Map { file: String },
-    /// To run the script of the second file on the map of the first.
-    Run { first: String, second: String },
+    /// To run the script of the second file on the map of the first, and to write its lines, or its trace.
+    Run {
+        first: String,
+        second: String,
+        trace: bool,
+    },
+    /// To judge the trace of the second file on the map of the first.
+    Judge { first: String, second: String },
 }
 
 /// Why the words name no job.
@@ -63,6 +69,17 @@ fn map_command<'a>(alloc: Global) -> Result<Command<'a>, AllocError>
         .arg(file)
 }
 
+/// The flag that asks for the trace of a run.
+fn trace_flag<'a>(alloc: Global) -> Arg<'a>
+    ensures rule { rule_of result ≡ trace_rule }
+    ensures own { result.global ≡ false }
+{
+    Arg::new(alloc, "trace")
+        .long("trace")
+        .action(ArgAction::SetTrue)
+        .help("Write the trace of the run in place of its lines")
+}
+
 /// The subcommand `run`.
 fn run_command<'a>(alloc: Global) -> Result<Command<'a>, AllocError>
     ensures app { IfOk result (λ c. app_of c ≡ run_app) }
@@ -73,8 +90,23 @@ fn run_command<'a>(alloc: Global) -> Result<Command<'a>, AllocError>
     Command::new(alloc, "run")
         .about("Runs a script on a map: a line for each event, arrival and farewell")
         .after_help("Example: errands run ring.map two_robots.script")
+        .arg(trace_flag(alloc))?
         .arg(map)?
         .arg(script)
+}
+
+/// The subcommand `judge`.
+fn judge_command<'a>(alloc: Global) -> Result<Command<'a>, AllocError>
+    ensures app { IfOk result (λ c. app_of c ≡ judge_app) }
+    ensures own { IfOk result (λ c. (fields_of c).has_globals ≡ false) }
+{
+    let map = file_argument(alloc, "MAP", "A map");
+    let trace = file_argument(alloc, "TRACE", "What `errands run --trace` wrote");
+    Command::new(alloc, "judge")
+        .about("Tells whether a trace is legal on a map, or its first illegal entry and the rule broken")
+        .after_help("Example: errands judge ring.map two_robots.trace")
+        .arg(map)?
+        .arg(trace)
 }
 
 /// The command `errands` with its subcommands.
@@ -88,7 +120,8 @@ fn errands_command<'a>(alloc: Global) -> Result<Command<'a>, AllocError>
             "Without a word it reads a map, the line `script` and a script from standard input.",
         )
         .subcommand(map_command(alloc)?)?
-        .subcommand(run_command(alloc)?)
+        .subcommand(run_command(alloc)?)?
+        .subcommand(judge_command(alloc)?)
 }
 
 /// The word that stands for a required argument.
@@ -99,6 +132,16 @@ fn word_for(alloc: Global, matches: &ArgMatches<'_>, name: &str) -> Result<Strin
         Some(word) => String::from_str(alloc, word),
         // `clap` has a word for each required argument, so this never runs
         None => Err(AllocError),
+    }
+}
+
+/// Whether a flag was given.
+fn has_flag(matches: &ArgMatches<'_>, name: &str) -> bool
+    ensures { result ≡ has_flag name.now (rows_of (found_of matches.now)) }
+{
+    match matches.get_str(name) {
+        Some(word) => word == "true",
+        None => false,
     }
 }
 
@@ -114,8 +157,17 @@ fn job_from(alloc: Global, matches: &ArgMatches<'_>) -> Result<Job, AllocError>
         return Ok(Job::Map { file });
     }
     let first = word_for(alloc, inner, "MAP")?;
+    if name == "judge" {
+        let second = word_for(alloc, inner, "TRACE")?;
+        return Ok(Job::Judge { first, second });
+    }
     let second = word_for(alloc, inner, "SCRIPT")?;
-    Ok(Job::Run { first, second })
+    let trace = has_flag(inner, "trace");
+    Ok(Job::Run {
+        first,
+        second,
+        trace,
+    })
 }
 
 /// Why `clap` did not take the words.
@@ -133,6 +185,8 @@ fn fault_from(alloc: Global, error: &Error) -> WordFault
 
 /// The job that the words name. The first word is the program's own name.
 pub fn parse_words(alloc: Global, words: &[String]) -> Result<Job, WordFault>
+    // only words that `clap` takes name a job
+    ensures taken { IfOk result (λ job. fault_of errands_app (map (λ w. string_bytes w) words.now) ≡ []) }
     ensures job { IfOk result (λ job. job_of (subcommand_of errands_app (map (λ w. string_bytes w) words.now)) ≡ Some (asked job)) }
     // words that `clap` takes are refused for want of memory alone
     ensures refused { IfErr result (λ f. takes errands_app (map (λ w. string_bytes w) words.now) ≡ true → f ≡ NoMemory) }

@@ -1,6 +1,7 @@
 //! Rows by run: replies in full, placements, arrivals, and how often closures are called.
+mod bound;
 mod calls;
-mod refusing;
+mod limited;
 mod seen;
 
 use fleet_world::{

@@ -3,11 +3,13 @@
 
 mod bundle;
 mod head;
+mod law;
 mod lines;
 mod numbers;
 mod script;
 
 pub use bundle::split_bundle;
+pub use law::reading_is_by_grammar;
 pub use script::{Script, ScriptFault, read_script};
 
 #[cfg(test)]

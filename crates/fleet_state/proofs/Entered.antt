@@ -35,12 +35,12 @@ use Rattle.fleet_state.proofs.Steps.{AreStepped, AreArrived, stepped-cells}
 use Rattle.fleet_state.proofs.Accounts.{account-take_same, account-take_other, tally-take_same, tally-take_other, account-shut, tally-shut, account-tick, tally-tick, or-true}
 
 -- states of the same parts are the same
-pub state-same : {A : Type 0} {a a' : List ℕ} {b b' : List Queue} {c c' : List (Option ℕ)} {d d' : List Account} {e e' : List Bool} {f f' : ℕ} {t t' : List Tally} {q q' : ℕ} {n n' : ℕ} (room : ℕ) →
+pub state-same : {A : Type 0} {a a' : List ℕ} {b b' : List Queue} {c c' : List (Option ℕ)} {d d' : List Account} {e e' : List Bool} {f f' : ℕ} {t t' : List Tally} {q q' : ℕ} {n n' : ℕ} (rooms : List ℕ) →
     a ≡ a' → b ≡ b' → c ≡ c' → d ≡ d' → e ≡ e' → f ≡ f' → t ≡ t' → q ≡ q' → n ≡ n' →
     ◌≡◌ {A = State A}
-    (record { cells = a; queues = b; waits = c; counts = record { accounts = d; shut = e; life = f }; tallies = t; queue = q; room = room; tick = n })
-    (record { cells = a'; queues = b'; waits = c'; counts = record { accounts = d'; shut = e'; life = f' }; tallies = t'; queue = q'; room = room; tick = n' })
-state-same room a b c d e f t q n = rw (a, b, c, d, e, f, t, q, n) refl
+    (record { cells = a; queues = b; waits = c; counts = record { accounts = d; shut = e; life = f }; tallies = t; queue = q; rooms = rooms; tick = n })
+    (record { cells = a'; queues = b'; waits = c'; counts = record { accounts = d'; shut = e'; life = f' }; tallies = t'; queue = q'; rooms = rooms; tick = n' })
+state-same rooms a b c d e f t q n = rw (a, b, c, d, e, f, t, q, n) refl
 
 -- a list with one new item, by its items
 pub set-by : {X : Type 0} (d : X) (n i : ℕ) (x : X) (g : ℕ → X) (xs : List X) → length xs ≡ n → i < n → x ≡ g i → ((j : ℕ) → j < n → (i ≡ j → ⊥) → get_or xs j d ≡ g j) →
@@ -60,17 +60,17 @@ tick-of {A = A} k = ap (λ (s : State A). s.tick) k.is
 
 module _ {A : Type 0} {m : Floor} {h : History A} {s : State A} (k : IsStateOf m h s) where
   pub taken-is : (c : ℕ) (order : Order) (v : Verdict) (x : Robots) → c < clients h → IsVerdict m h c order v → AreTaken c order v (robots_of s) x →
-      IsStateOf m (after h (entry.Take c order v)) (state_with x (with_verdict (clients_of s) c v) s.queue s.room s.tick)
+      IsStateOf m (after h (entry.Take c order v)) (state_with x (with_verdict (clients_of s) c v) s.queue s.rooms s.tick)
   taken-is c order v x l is taken =
       let e : Entry A = entry.Take c order v in
       let g : History A = after h e in
       record {
         legal = grown e k.legal (l, is) refl;
-        is = state-same s.room
+        is = state-same s.rooms
             (taken.cells ∙ cells-of k ∙ sym (place-after h e))
-            (listed no_queue (robots h) (queue_after s.room g) x.queues (taken.queue_count ∙ queue-count k)
+            (listed no_queue (robots h) (queue_after s.rooms g) x.queues (taken.queue_count ∙ queue-count k)
             (λ r i. taken.queues r (omega (arith, i, queue-count k)) ∙ ap (queue_taken r c order v) (queue-of k r i)
-            ∙ ap (λ u. record { items = u; capacity = s.room }) (sym (unfinished-after_take m h c order v r k.legal is i))))
+            ∙ ap (λ u. record { items = u; capacity = slice_index s.rooms r }) (sym (unfinished-after_take m h c order v r k.legal is i))))
             (listed None (robots h) (wait g) x.waits (taken.wait_count ∙ wait-count k)
             (λ r i. taken.waits r (omega (arith, i, wait-count k)) ∙ ap (wait_taken (errand_for r c order v)) (wait-of k r i) ∙ sym (wait-after_take m h c order v r k.legal is i)))
             (set-by blank (clients h) c (entered v (account_of s.counts c)) (account_after g) s.counts.accounts (account-count k) l
@@ -87,15 +87,15 @@ module _ {A : Type 0} {m : Floor} {h : History A} {s : State A} (k : IsStateOf m
 
   pub shut-is : (robot : ℕ) (farewell : Option ℕ) → IsShutAfter h robot farewell →
       IsStateOf m (after h (entry.Shut robot farewell))
-      (record { cells = s.cells; queues = s.queues; waits = s.waits; counts = record { accounts = s.counts.accounts; shut = slice_set s.counts.shut robot true; life = s.counts.life }; tallies = s.tallies; queue = s.queue; room = s.room; tick = s.tick })
+      (record { cells = s.cells; queues = s.queues; waits = s.waits; counts = record { accounts = s.counts.accounts; shut = slice_set s.counts.shut robot true; life = s.counts.life }; tallies = s.tallies; queue = s.queue; rooms = s.rooms; tick = s.tick })
   shut-is robot farewell fits =
       let e : Entry A = entry.Shut robot farewell in
       let g : History A = after h e in
       record {
         legal = grown e k.legal fits refl;
-        is = state-same s.room
+        is = state-same s.rooms
             (cells-of k ∙ sym (place-after h e))
-            (queues-of k ∙ same-by no_queue (robots h) (queue_after s.room h) (queue_after s.room g) (λ r i. ap (λ u. record { items = u; capacity = s.room }) (sym (unfinished-after_shut h robot farewell r))))
+            (queues-of k ∙ same-by no_queue (robots h) (queue_after s.rooms h) (queue_after s.rooms g) (λ r i. ap (λ u. record { items = u; capacity = slice_index s.rooms r }) (sym (unfinished-after_shut h robot farewell r))))
             (waits-of k ∙ same-by None (robots h) (wait h) (wait g) (λ r i. sym (wait-shut h robot farewell r)))
             (accounts-of k ∙ same-by blank (clients h) (account_after h) (account_after g) (λ c i. sym (account-shut h c robot farewell)))
             (set-by false (robots h) robot true (is_shut g) s.counts.shut (shut-count k) fits.known
@@ -109,18 +109,18 @@ module _ {A : Type 0} {m : Floor} {h : History A} {s : State A} (k : IsStateOf m
 
   pub ticked-is : (to : List ℕ) (arrived : List Arrival) (farewells : List Bye) (x : Robots) (y : Clients) → IsTickAfter m h to arrived farewells →
       AreStepped to (length to) (robots_of s) x → AreArrived s.queues to (length to) (clients_of s) y →
-      IsStateOf m (after h (entry.Tick to arrived farewells)) (state_with x y s.queue s.room (s.tick + 1))
+      IsStateOf m (after h (entry.Tick to arrived farewells)) (state_with x y s.queue s.rooms (s.tick + 1))
   ticked-is to arrived farewells x y fits steps arrive =
       let e : Entry A = entry.Tick to arrived farewells in
       let g : History A = after h e in
       let many = to-count k to fits in
       record {
         legal = grown e k.legal fits refl;
-        is = state-same s.room
+        is = state-same s.rooms
             (stepped-cells to (robots_of s) x steps (omega (arith, cell-count k, queue-count k)) ∙ sym (place-after h e))
-            (listed no_queue (robots h) (queue_after s.room g) x.queues (steps.queue_count ∙ queue-count k)
+            (listed no_queue (robots h) (queue_after s.rooms g) x.queues (steps.queue_count ∙ queue-count k)
             (λ r i. steps.before r (omega (arith, i, queue-count k)) ∙ ap (without_landed (slice_index to r)) (queue-of k r i)
-            ∙ ap (λ u. record { items = u; capacity = s.room }) (rest-is to r (unfinished h r) ∙ sym (unfinished-after_tick h to arrived farewells r i fits.shows))))
+            ∙ ap (λ u. record { items = u; capacity = slice_index s.rooms r }) (rest-is to r (unfinished h r) ∙ sym (unfinished-after_tick h to arrived farewells r i fits.shows))))
             (listed None (robots h) (wait g) x.waits (steps.wait_count ∙ wait-count k)
             (λ r i. steps.waited r (omega (arith, i, queue-count k)) ∙ ap (λ (q : Queue). wait_on (slice_index to r) q.items (slice_index_or s.waits r None)) (queue-of k r i)
             ∙ ap (wait_on (slice_index to r) (unfinished h r)) (wait-of k r i) ∙ wait-on-is h to r ∙ sym (wait-after_tick h to arrived farewells r i fits.shows)))

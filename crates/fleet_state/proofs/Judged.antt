@@ -21,7 +21,7 @@ use Rattle.fleet_history.specs.Verdicts.{AreFacts, AreGoFacts, IsPlaceOf, IsVerd
 use Rattle.fleet_history.proofs.InOrder.{legal-room}
 use Rattle.fleet_history.proofs.Legal.{accepted-robot}
 use Rattle.fleet_state.specs.Robots.{queue_at, HasPlace, IsPlaceAmong}
-use Rattle.fleet_state.specs.State.{State, IsStateOf}
+use Rattle.fleet_state.specs.State.{State, IsStateOf, HasFullRooms}
 use Rattle.fleet_state.proofs.Parts.{account-of, shut-at, shut-count, queue-of, queue-count}
 use Rattle.fleet_state.proofs.Laws.{legal-unshut, room-left, both_ways}
 
@@ -71,11 +71,11 @@ module _ {A : Type 0} {m : Floor} {h : History A} {s : State A} (k : IsStateOf m
   }
 
   -- an accepted errand finds room, where the queues have room for what robots may have
-  pub has-place : (c : ℕ) (order : Order) (v : Verdict) → IsVerdict m h c order v → s.queue ≤ s.room → HasPlace s.queues order v
+  pub has-place : (c : ℕ) (order : Order) (v : Verdict) → IsVerdict m h c order v → HasFullRooms s → HasPlace s.queues order v
   has-place c (Go robot cell) (Accepted n) is enough =
       let known = accepted-robot m h c n robot cell is in
       let left = room-left m h c n robot cell is (legal-room m h robot k.legal known) in
-      rw (queue-of k robot known) (omega (arith, left, ap (λ (s : State A). s.queue) k.is))
+      rw (queue-of k robot known) (omega (arith, left, enough robot (omega (arith, known, queue-count k)), ap (λ (s : State A). s.queue) k.is))
   has-place c (Go robot cell) v is enough = tt
   has-place c Close v is enough = tt
   has-place c (Withdraw n) v is enough = tt

@@ -79,12 +79,12 @@ opening-made s o tick clients robots t c r = rw (t, c, r) refl
 -- ---- the state
 
 -- the next chapter begins in the state in which this one ends
-pub state-next : {A : Type 0} (m : Floor) (h : History A) (room : ℕ) → IsLegal m h → state_after room (start (next_opening h)) ≡ state_after room h
-state-next m h room legal =
+pub state-next : {A : Type 0} (m : Floor) (h : History A) (rooms : List ℕ) → IsLegal m h → state_after rooms (start (next_opening h)) ≡ state_after rooms h
+state-next m h rooms legal =
     let g = start (next_opening h) in
-    state-same room
+    state-same rooms
     (start-place h m legal)
-    (ap (λ n. map (queue_after room g) (range_with_len 0 n)) (next-robots h) ∙ same-by no_queue (robots h) (queue_after room g) (queue_after room h) (λ r l. ap (λ u. record { items = u; capacity = room }) (start-unfinished h r l)))
+    (ap (λ n. map (queue_after rooms g) (range_with_len 0 n)) (next-robots h) ∙ same-by no_queue (robots h) (queue_after rooms g) (queue_after rooms h) (λ r l. ap (λ u. record { items = u; capacity = slice_index rooms r }) (start-unfinished h r l)))
     (ap (λ n. map (wait g) (range_with_len 0 n)) (next-robots h) ∙ same-by None (robots h) (wait g) (wait h) (λ r l. start-wait h r l))
     (ap (λ n. map (account_after g) (range_with_len 0 n)) (next-clients h) ∙ same-by blank (clients h) (account_after g) (account_after h) (λ c l. account_same _ _ _ _ _ _ (start-accepted h c l) (start-owed h c) (start-closed h c l)))
     (ap (λ n. map (history.is_shut g) (range_with_len 0 n)) (next-robots h) ∙ same-by false (robots h) (history.is_shut g) (history.is_shut h) (λ r l. start-shut h r l))
@@ -95,9 +95,9 @@ state-next m h room legal =
 
 -- so it is the state of the history that goes on
 pub goes-on : {A : Type 0} {m : Floor} {h : History A} {s : State A} → IsStateOf m h s → HasRoomForCounts h → IsStateOf m (start (next_opening h)) s
-goes-on {m = m} {h = h} {s = s} k room = record { legal = next-legal m h k.legal room; is = k.is ∙ sym (state-next m h s.room k.legal) }
+goes-on {m = m} {h = h} {s = s} k room = record { legal = next-legal m h k.legal room; is = k.is ∙ sym (state-next m h s.rooms k.legal) }
 
 -- the state at the opening that follows a history is the state after it
-pub opened-next : {A : Type 0} {n : Floor} {o : Opening A} (i : IsInOrder n o) (room : ℕ) (m : Floor) (h : History A) → IsLegal m h → o ≡ next_opening h →
-    state_with (robots_in room o.robots) (clients_in o) o.queue room o.tick ≡ state_after room h
-opened-next i room m h legal e = (opened-is i room).is ∙ ap (λ o. state_after room (start o)) e ∙ state-next m h room legal
+pub opened-next : {A : Type 0} {n : Floor} {o : Opening A} (i : IsInOrder n o) (rooms : List ℕ) (m : Floor) (h : History A) → IsLegal m h → o ≡ next_opening h →
+    state_with (robots_in rooms o.robots) (clients_in o) o.queue rooms o.tick ≡ state_after rooms h
+opened-next i rooms m h legal e = (opened-is i rooms).is ∙ ap (λ o. state_after rooms (start o)) e ∙ state-next m h rooms legal

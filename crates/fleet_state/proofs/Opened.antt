@@ -1,6 +1,6 @@
 -- The state at an opening.
 use Rattle.std.proofs.Common.{◌≡◌, ℕ, ◌+◌, ◌<◌, List, [], ◌∷◌, length, map, Bool, false, Option, Some, None, not, sym, refl, ap, ◌∙◌, subst, arith, get_or, add-zero}
-use Rattle.std.specs.Prelude.{slice_get, slice_index_or, is_some, unwrap_or}
+use Rattle.std.specs.Prelude.{slice_get, slice_index, slice_index_or, is_some, unwrap_or}
 use Rattle.std.specs.List.{range_with_len}
 use Rattle.std.proofs.lemmas.List.{length-map, get_or-map}
 use Rattle.std.proofs.Math.Bool.{or-false}
@@ -51,14 +51,14 @@ module _ {A : Type 0} {m : Floor} {o : Opening A} (i : IsInOrder m o) where
       let known : k < length o.clients = omega (arith, length-by (account_in o.clients o.robots) (length o.clients)) in
       subst (IsWithin o.life) (sym (item-by (account_in o.clients o.robots) (length o.clients) k d known)) (owed-within k known)
 
-  pub opened-is : (room : ℕ) →
-      IsStateOf m (start o) (state_with (robots_in room o.robots) (clients_in o) o.queue room o.tick)
-  opened-is room = record {
+  pub opened-is : (rooms : List ℕ) →
+      IsStateOf m (start o) (state_with (robots_in rooms o.robots) (clients_in o) o.queue rooms o.tick)
+  opened-is rooms = record {
     legal = opened i;
-    is = state-same room
+    is = state-same rooms
         refl
-        (listed no_queue (length o.robots) (queue_after room (start o)) (map (queue_in room) o.robots) (length-map o.robots (queue_in room))
-        (λ r l. robot-at (queue_in room) o r no_queue l ∙ ap (λ u. record { items = u; capacity = room }) (sym (errands-of r l))))
+        (same-by no_queue (length o.robots) (queue_in rooms o.robots) (queue_after rooms (start o))
+        (λ r l. ap (λ u. record { items = u; capacity = slice_index rooms r }) (sym (unfinished-start o r))))
         (listed None (length o.robots) (wait (start o)) (map (λ (x : RobotState A). x.wait) o.robots) (length-map o.robots (λ (x : RobotState A). x.wait))
         (λ r l. robot-at (λ (x : RobotState A). x.wait) o r None l
         ∙ wait_from o r (get_or o.robots r unknown_robot).errands (get_or o.robots r unknown_robot).wait (i.robots r unknown_robot l).waits

@@ -3,8 +3,10 @@ use Rattle.std.proofs.Common.{◌≡◌, ℕ, ◌<◌, ◌≤◌, List, None, fa
 use Rattle.std.specs.List.{range_with_len}
 use Rattle.std.proofs.lemmas.List.{length-map, get_or-map, ext_get_or}
 use Rattle.std.proofs.lemmas.List.FromFn.{length-range_with_len, get_or-range_with_len}
+use Rattle.std.proofs.lemmas.Simd.{map-map}
 use Rattle.fleet_grid.specs.Floor.{Floor}
-use Rattle.fleet_history.specs.History.{History, place, robots, clients, is_shut}
+use Rattle.fleet_queue.specs.Queue.{Queue}
+use Rattle.fleet_history.specs.History.{History, place, robots, clients, unfinished, is_shut}
 use Rattle.fleet_history.specs.Waits.{wait}
 use Rattle.fleet_history.proofs.Legal.{length-place, legal-opening}
 use Rattle.fleet_book.specs.Counts.{account_of, blank}
@@ -34,7 +36,7 @@ module _ {A : Type 0} {m : Floor} {h : History A} {s : State A} (k : IsStateOf m
   pub cells-of : s.cells ≡ place h
   cells-of = ap (λ (s : State A). s.cells) k.is
 
-  pub queues-of : s.queues ≡ by_robot h (queue_after s.room h)
+  pub queues-of : s.queues ≡ by_robot h (queue_after s.rooms h)
   queues-of = ap (λ (s : State A). s.queues) k.is
 
   pub waits-of : s.waits ≡ by_robot h (wait h)
@@ -53,7 +55,7 @@ module _ {A : Type 0} {m : Floor} {h : History A} {s : State A} (k : IsStateOf m
   cell-count = ap length cells-of ∙ length-place m h k.legal
 
   pub queue-count : length s.queues ≡ robots h
-  queue-count = ap length queues-of ∙ length-by (queue_after s.room h) (robots h)
+  queue-count = ap length queues-of ∙ length-by (queue_after s.rooms h) (robots h)
 
   pub wait-count : length s.waits ≡ robots h
   wait-count = ap length waits-of ∙ length-by (wait h) (robots h)
@@ -67,8 +69,11 @@ module _ {A : Type 0} {m : Floor} {h : History A} {s : State A} (k : IsStateOf m
   pub tally-count : length s.tallies ≡ clients h
   tally-count = ap length tallies-of ∙ length-by (tally_after h) (clients h)
 
-  pub queue-of : (r : ℕ) → r < robots h → queue_at s.queues r ≡ queue_after s.room h r
-  queue-of r l = ap (λ q. queue_at q r) queues-of ∙ item-by (queue_after s.room h) (robots h) r no_queue l
+  pub queue-of : (r : ℕ) → r < robots h → queue_at s.queues r ≡ queue_after s.rooms h r
+  queue-of r l = ap (λ q. queue_at q r) queues-of ∙ item-by (queue_after s.rooms h) (robots h) r no_queue l
+
+  pub items-of : map (λ (q : Queue). q.items) s.queues ≡ by_robot h (unfinished h)
+  items-of = ap (λ (qs : List Queue). map (λ (q : Queue). q.items) qs) queues-of ∙ map-map (λ (q : Queue). q.items) (queue_after s.rooms h) (range_with_len 0 (robots h))
 
   pub account-of : (c : ℕ) → c < clients h → account_of s.counts c ≡ account_after h c
   account-of c l = ap (λ a. get_or a c blank) accounts-of ∙ item-by (account_after h) (clients h) c blank l

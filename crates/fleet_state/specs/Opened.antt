@@ -1,6 +1,7 @@
 -- What an opening says of each robot and client, as the state has it.
-use Rattle.std.specs.Prelude.{ℕ, List, ◌==◌, length, map, count_by, sum_by, slice_index_or}
+use Rattle.std.specs.Prelude.{ℕ, ◌≡◌, ◌<◌, ◌≤◌, List, [], ◌==◌, length, map, count_by, sum_by, slice_index, slice_index_or}
 use Rattle.std.specs.List.{range_with_len}
+use Rattle.fleet_queue.specs.declared.errand.Errand.{Errand}
 use Rattle.fleet_queue.specs.Queue.{Queue}
 use Rattle.fleet_book.specs.declared.account.Account.{Account}
 use Rattle.fleet_history.specs.declared.history.ClientState.{ClientState}
@@ -11,8 +12,18 @@ use Rattle.fleet_state.specs.declared.clients.Tally.{Tally}
 use Rattle.fleet_state.specs.Clients.{Clients}
 use Rattle.fleet_state.specs.Robots.{Robots}
 
-abbrev pub queue_in : {A : Type 0} → ℕ → RobotState A → Queue
-queue_in room x = record { items = x.errands; capacity = room }
+-- the errands of a robot
+abbrev pub errands_in : {A : Type 0} → List (RobotState A) → ℕ → List Errand
+errands_in robots r = slice_index_or (map (λ x. x.errands) robots) r []
+
+-- they lie in a queue with the robot's room
+abbrev pub queue_in : {A : Type 0} → List ℕ → List (RobotState A) → ℕ → Queue
+queue_in rooms robots r = record { items = errands_in robots r; capacity = slice_index rooms r }
+
+-- each robot's errands find room
+pub record HaveRooms {A : Type 0} (rooms : List ℕ) (robots : List (RobotState A)) : Type 0 where
+  pub count : length rooms ≡ length robots
+  pub each : (r : ℕ) → r < length robots → length (errands_in robots r) ≤ slice_index rooms r
 
 abbrev pub tally_in : ClientState → Tally
 tally_in x = record { taken = x.taken; noticed = x.noticed }
@@ -28,8 +39,12 @@ account_in clients robots c = record {
   closed = (slice_index_or clients c unknown_client).closed;
 }
 
-abbrev pub robots_in : {A : Type 0} → ℕ → List (RobotState A) → Robots
-robots_in room robots = record { cells = map (λ x. x.cell) robots; queues = map (queue_in room) robots; waits = map (λ x. x.wait) robots }
+abbrev pub robots_in : {A : Type 0} → List ℕ → List (RobotState A) → Robots
+robots_in rooms robots = record {
+  cells = map (λ x. x.cell) robots;
+  queues = map (queue_in rooms robots) (range_with_len 0 (length robots));
+  waits = map (λ x. x.wait) robots;
+}
 
 abbrev pub clients_in : {A : Type 0} → Opening A → Clients
 clients_in o = record {

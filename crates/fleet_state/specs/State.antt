@@ -1,5 +1,5 @@
 -- The state that a history comes to.
-use Rattle.std.specs.Prelude.{ℕ, ◌≡◌, List, Option, map, length}
+use Rattle.std.specs.Prelude.{ℕ, ◌≡◌, ◌<◌, ◌≤◌, List, Option, map, length, slice_index}
 use Rattle.std.specs.List.{range_with_len}
 use Rattle.fleet_grid.specs.Floor.{Floor}
 use Rattle.fleet_queue.specs.Queue.{Queue}
@@ -19,13 +19,14 @@ pub record State (A : Type 0) : Type 0 where
   pub cells : List ℕ
   pub queues : List Queue
   pub waits : List (Option ℕ)
+  -- for how many errands the robot's queue has memory
+  pub rooms : List ℕ
   -- by client and by robot
   pub counts : Counts
   -- by client
   pub tallies : List Tally
-  -- how many errands a robot may have, for how many its queue has memory, and the ticks made
+  -- how many errands a robot may have, and the ticks made
   pub queue : ℕ
-  pub room : ℕ
   pub tick : ℕ
 
 abbrev pub by_robot : {A X : Type 0} → History A → (ℕ → X) → List X
@@ -34,9 +35,9 @@ by_robot h f = map f (range_with_len 0 (robots h))
 abbrev pub by_client : {A X : Type 0} → History A → (ℕ → X) → List X
 by_client h f = map f (range_with_len 0 (clients h))
 
--- a robot's unfinished errands, in a queue with this room
-abbrev pub queue_after : {A : Type 0} → ℕ → History A → ℕ → Queue
-queue_after room h r = record { items = unfinished h r; capacity = room }
+-- a robot's unfinished errands, in a queue with its room
+abbrev pub queue_after : {A : Type 0} → List ℕ → History A → ℕ → Queue
+queue_after rooms h r = record { items = unfinished h r; capacity = slice_index rooms r }
 
 abbrev pub account_after : {A : Type 0} → History A → ℕ → Account
 account_after h c = record { accepted = accepted_count h c; owed = owed h c; closed = is_closed h c }
@@ -44,16 +45,16 @@ account_after h c = record { accepted = accepted_count h c; owed = owed h c; clo
 abbrev pub tally_after : {A : Type 0} → History A → ℕ → Tally
 tally_after h c = record { taken = taken_count h c; noticed = noticed_count h c }
 
--- the state after a history, in queues with this room
-abbrev pub state_after : {A : Type 0} → ℕ → History A → State A
-state_after room h = record {
+-- the state after a history, in queues with these rooms
+abbrev pub state_after : {A : Type 0} → List ℕ → History A → State A
+state_after rooms h = record {
   cells = place h;
-  queues = by_robot h (queue_after room h);
+  queues = by_robot h (queue_after rooms h);
   waits = by_robot h (wait h);
+  rooms = rooms;
   counts = record { accounts = by_client h (account_after h); shut = by_robot h (is_shut h); life = h.opening.life };
   tallies = by_client h (tally_after h);
   queue = h.opening.queue;
-  room = room;
   tick = clock h;
 }
 
@@ -66,15 +67,15 @@ abbrev pub clients_of : {A : Type 0} → State A → Clients
 clients_of s = record { counts = s.counts; tallies = s.tallies }
 
 -- the state of these robots and clients
-abbrev pub state_with : {A : Type 0} → Robots → Clients → ℕ → ℕ → ℕ → State A
-state_with x y queue room tick = record {
+abbrev pub state_with : {A : Type 0} → Robots → Clients → ℕ → List ℕ → ℕ → State A
+state_with x y queue rooms tick = record {
   cells = x.cells;
   queues = x.queues;
   waits = x.waits;
+  rooms = rooms;
   counts = y.counts;
   tallies = y.tallies;
   queue = queue;
-  room = room;
   tick = tick;
 }
 
@@ -83,7 +84,7 @@ state_with x y queue room tick = record {
 -- it is the state of a legal history
 pub record IsStateOf {A : Type 0} (m : Floor) (h : History A) (s : State A) : Type 0 where
   pub legal : IsLegal m h
-  pub is : s ≡ state_after s.room h
+  pub is : s ≡ state_after s.rooms h
 
 -- it is the state of some legal history
 pub record IsState {A : Type 0} (s : State A) : Type 0 where
@@ -100,3 +101,7 @@ robot_count s = length s.queues
 
 abbrev pub client_count : {A : Type 0} → State A → ℕ
 client_count s = length s.tallies
+
+-- each robot's queue has memory for as many errands as it may have
+abbrev pub HasFullRooms : {A : Type 0} → State A → Type 0
+HasFullRooms s = (r : ℕ) → r < robot_count s → s.queue ≤ slice_index s.rooms r

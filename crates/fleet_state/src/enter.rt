@@ -14,7 +14,7 @@ impl<A: Allocator + Copy> FleetState<A> {
         requires may { MayFollow self.old entry.now }
         requires place { IsPlaced self.old.queues entry.now }
         ensures follows { Follows self.old entry.now self.new }
-        ensures room { self.new.room ≡ self.old.room }
+        ensures rooms { self.new.rooms ≡ self.old.rooms }
     {
         match entry {
             Entry::Take {
@@ -36,7 +36,7 @@ impl<A: Allocator + Copy> FleetState<A> {
         requires may { MayFollow self.old (Entry.Take client order verdict) }
         requires place { HasPlace self.old.queues order verdict }
         ensures follows { Follows self.old (Entry.Take client order verdict) self.new }
-        ensures room { self.new.room ≡ self.old.room }
+        ensures rooms { self.new.rooms ≡ self.old.rooms }
     {
         self.robots.take(client, order, verdict);
         self.clients.take(client, verdict);
@@ -46,7 +46,7 @@ impl<A: Allocator + Copy> FleetState<A> {
     pub fn enter_shut(&mut self, robot: u32)
         requires { MayShut self.old robot }
         ensures follows { FollowsShut self.old robot self.new }
-        ensures room { self.new.room ≡ self.old.room }
+        ensures rooms { self.new.rooms ≡ self.old.rooms }
     {
         self.clients.shut_robot(robot);
     }
@@ -55,7 +55,7 @@ impl<A: Allocator + Copy> FleetState<A> {
     pub fn enter_tick(&mut self, to: &[u32])
         requires { MayTick self.old to.now }
         ensures follows { FollowsTick self.old to.now self.new }
-        ensures room { self.new.room ≡ self.old.room }
+        ensures rooms { self.new.rooms ≡ self.old.rooms }
     {
         for r in 0..to.len() {
             if let Some(errand) = self.robots.step(r, to[r]) {

@@ -1,11 +1,12 @@
 //! The state at an opening, and the opening of the chapter that follows.
-ghost use Rattle.std.specs.Prelude.{◌≡◌, ◌≤◌, All, IfOk, length, map};
+ghost use Rattle.std.specs.Prelude.{◌≡◌, ◌≤◌, All, IfOk, length, map, replicate};
 ghost use Rattle.std.specs.List.{range_with_len};
 ghost use Rattle.fleet_grid.specs.Floor.{Floor};
 ghost use Rattle.fleet_history.specs.History.{History, start};
 ghost use Rattle.fleet_history.specs.Legal.{IsInOrder, IsLegal};
 ghost use Rattle.fleet_history.specs.Next.{next_opening, HasRoomForCounts};
-ghost use Rattle.fleet_state.specs.State.{IsStateOf, Of, state_after, robot_count, clients_of};
+ghost use Rattle.fleet_state.specs.State.{IsStateOf, Of, HasFullRooms, state_after, robot_count, clients_of};
+ghost use Rattle.fleet_state.specs.Opened.{HaveRooms};
 ghost use Rattle.fleet_state.specs.Clients.{client_known};
 ghost use Rattle.fleet_state.specs.Next.{robot_known};
 
@@ -22,14 +23,29 @@ impl<A: Allocator + Copy> FleetState<A> {
         requires order { (m : Floor) × IsInOrder m opening.now }
         requires room { All (λ x. length x.errands ≤ room) opening.now.robots }
         ensures of { IfOk result (λ s. (m : Floor) → IsInOrder m opening.now → IsStateOf m (start opening.now) s) }
-        ensures goes_on { IfOk result (λ s. (m : Floor) (h : History A) → IsLegal m h → opening.now ≡ next_opening h → s ≡ state_after room h) }
-        ensures room { IfOk result (λ s. s.room ≡ room) }
+        ensures full { IfOk result (λ s. s.queue ≤ room → HasFullRooms s) }
+    {
+        let rooms = same_rooms(alloc, opening.robots.len(), room)?;
+        FleetState::open_within(alloc, opening, rooms)
+    }
+
+    /// The state at an opening that is in order, where each robot's queue has memory for so many errands.
+    pub fn open_within(
+        alloc: A,
+        opening: &Opening<A>,
+        rooms: Vec<u32, A>,
+    ) -> Result<Self, AllocError>
+        requires order { (m : Floor) × IsInOrder m opening.now }
+        requires rooms { HaveRooms rooms.items opening.now.robots }
+        ensures of { IfOk result (λ s. (m : Floor) → IsInOrder m opening.now → IsStateOf m (start opening.now) s) }
+        ensures goes_on { IfOk result (λ s. (m : Floor) (h : History A) → IsLegal m h → opening.now ≡ next_opening h → s ≡ state_after rooms.items h) }
+        ensures rooms { IfOk result (λ s. s.rooms ≡ rooms.items) }
     {
         Ok(FleetState {
-            robots: Robots::open(alloc, opening.robots.as_slice(), room)?,
+            robots: Robots::open(alloc, opening.robots.as_slice(), &rooms)?,
             clients: Clients::open(alloc, opening)?,
             queue: opening.queue,
-            room,
+            rooms,
             tick: opening.tick,
         })
     }
@@ -101,4 +117,15 @@ fn errands_of<A: Allocator + Copy>(
         }
     }
     Ok(errands)
+}
+
+/// The same room for so many robots.
+fn same_rooms<A: Allocator + Copy>(
+    alloc: A,
+    robots: usize,
+    room: u32,
+) -> Result<Vec<u32, A>, AllocError>
+    ensures { IfOk result (λ rooms. rooms.items ≡ replicate robots room) }
+{
+    vec![in alloc; room; robots]
 }

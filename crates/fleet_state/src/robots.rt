@@ -1,10 +1,10 @@
 //! The robots of a state: their cells, errands and waits.
-ghost use Rattle.std.specs.Prelude.{◌≡◌, ◌≢◌, ◌+◌, ◌<◌, ◌≤◌, ◌^◌, ◌++◌, ℕ, None, Some, All, IfOk, true, length, slice_index, slice_index_or};
-ghost use Rattle.std.specs.List.{list_any};
+ghost use Rattle.std.specs.Prelude.{◌≡◌, ◌≢◌, ◌+◌, ◌<◌, ◌≤◌, ◌^◌, ◌++◌, ℕ, None, Some, IfOk, true, length, map, slice_index, slice_index_or};
+ghost use Rattle.std.specs.List.{list_any, range_with_len};
 ghost use Rattle.fleet_queue.specs.Queue.{is_of};
 ghost use Rattle.fleet_history.specs.Verdicts.{place_in};
 ghost use Rattle.fleet_state.specs.Landed.{landing};
-ghost use Rattle.fleet_state.specs.Opened.{robots_in};
+ghost use Rattle.fleet_state.specs.Opened.{HaveRooms, queue_in, robots_in};
 ghost use Rattle.fleet_state.specs.Robots.{queue_at, stepped, joined, without_errand, HasPlace, AreTaken, IsPlaceAmong};
 
 use crate::landing::{landing, wait_on};
@@ -34,17 +34,20 @@ impl<A: Allocator + Copy> Model for Robots<A> {
 }
 
 impl<A: Allocator + Copy> Robots<A> {
-    /// The robots of an opening, with memory for so many errands a queue.
-    pub(crate) fn open(alloc: A, states: &[RobotState<A>], room: u32) -> Result<Self, AllocError>
-        requires { All (λ x. length x.errands ≤ room) states.now }
-        ensures { IfOk result (λ x. x ≡ robots_in room states.now) }
+    /// The robots of an opening, where each one's queue has memory for so many errands.
+    pub(crate) fn open(
+        alloc: A,
+        states: &[RobotState<A>],
+        rooms: &[u32],
+    ) -> Result<Self, AllocError>
+        requires { HaveRooms rooms.now states.now }
+        ensures { IfOk result (λ x. x ≡ robots_in rooms.now states.now) }
     {
+        let queues = queues_of(alloc, states, rooms)?;
         let mut cells = Vec::new(alloc);
-        let mut queues = Vec::new(alloc);
         let mut waits = Vec::new(alloc);
         for robot in states {
             cells.push(robot.cell)?;
-            queues.push(queue_of(alloc, robot.errands.as_slice(), room)?)?;
             waits.push(robot.wait)?;
         }
         Ok(Robots {
@@ -73,6 +76,13 @@ impl<A: Allocator + Copy> Robots<A> {
         ensures { result.now ≡ self.now.waits }
     {
         self.waits.as_slice()
+    }
+
+    /// The robots' queues of unfinished errands.
+    pub(crate) fn queues(&self) -> &[ErrandQueue<A>]
+        ensures { result.now ≡ self.now.queues }
+    {
+        self.queues.as_slice()
     }
 
     /// The robot's queue of unfinished errands.
@@ -180,6 +190,22 @@ impl<A: Allocator + Copy> Robots<A> {
             let _ = queue.withdraw(client, number);
         }
     }
+}
+
+/// The queues of the robots of an opening, each with its room.
+fn queues_of<A: Allocator + Copy>(
+    alloc: A,
+    states: &[RobotState<A>],
+    rooms: &[u32],
+) -> Result<Vec<ErrandQueue<A>, A>, AllocError>
+    requires { HaveRooms rooms.now states.now }
+    ensures { IfOk result (λ queues. queues.items ≡ map (queue_in rooms.now states.now) (range_with_len 0 (length states.now))) }
+{
+    let mut queues = Vec::new(alloc);
+    for r in 0..states.len() {
+        queues.push(queue_of(alloc, states[r].errands.as_slice(), rooms[r])?)?;
+    }
+    Ok(queues)
 }
 
 /// A queue of these errands, with this room.

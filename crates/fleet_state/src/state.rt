@@ -9,7 +9,7 @@ ghost use Rattle.fleet_state.specs.State.{Of, robot_count, client_count, by_robo
 
 use crate::clients::Clients;
 use crate::robots::Robots;
-use fleet_queue::Errand;
+use fleet_queue::{Errand, ErrandQueue};
 use std::alloc::{Allocator, Global};
 use std::marker::Model;
 
@@ -20,7 +20,8 @@ pub struct FleetState<A: Allocator + Copy = Global> {
     pub(crate) robots: Robots<A>,
     pub(crate) clients: Clients<A>,
     pub(crate) queue: u32,
-    pub(crate) room: u32,
+    /// By robot: for how many errands its queue has memory.
+    pub(crate) rooms: Vec<u32, A>,
     pub(crate) tick: u64,
 }
 
@@ -29,9 +30,9 @@ impl<A: Allocator + Copy> Model for FleetState<A> {
 
     ghost Value = { State A };
 
-    ghost view = { λ s. state_with s.robots s.clients s.queue s.room s.tick };
+    ghost view = { λ s. state_with s.robots s.clients s.queue s.rooms.items s.tick };
 
-    ghost invariant = { λ s. IsState {A = A} (state_with s.robots s.clients s.queue s.room s.tick) };
+    ghost invariant = { λ s. IsState {A = A} (state_with s.robots s.clients s.queue s.rooms.items s.tick) };
 }
 
 impl<A: Allocator + Copy> FleetState<A> {
@@ -73,6 +74,14 @@ impl<A: Allocator + Copy> FleetState<A> {
         ensures of { Of self.now (λ h. result.now ≡ by_robot h (wait h)) }
     {
         self.robots.waits()
+    }
+
+    /// The queues of unfinished errands, by robot.
+    pub fn queues(&self) -> &[ErrandQueue<A>]
+        ensures queues { result.now ≡ self.now.queues }
+        ensures of { Of self.now (λ h. map (λ q. q.items) result.now ≡ by_robot h (unfinished h)) }
+    {
+        self.robots.queues()
     }
 
     pub fn wait_of(&self, robot: u32) -> Option<u64>

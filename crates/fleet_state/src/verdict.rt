@@ -1,9 +1,9 @@
 //! The verdict rule on the history.
-ghost use Rattle.std.specs.Prelude.{◌≡◌, ◌<◌, ◌≤◌, true};
+ghost use Rattle.std.specs.Prelude.{◌≡◌, ◌<◌, true};
 ghost use Rattle.fleet_grid.specs.Step.{IsPlacement};
 ghost use Rattle.fleet_history.specs.History.{History};
 ghost use Rattle.fleet_history.specs.Verdicts.{AreFacts, IsVerdict};
-ghost use Rattle.fleet_state.specs.State.{IsStateOf, client_count};
+ghost use Rattle.fleet_state.specs.State.{IsStateOf, HasFullRooms, client_count};
 ghost use Rattle.fleet_state.specs.Robots.{HasPlace};
 
 use crate::state::FleetState;
@@ -48,7 +48,7 @@ impl<A: Allocator + Copy> FleetState<A> {
         requires client { client < client_count self.now }
         requires placed { IsPlacement grid.now self.now.cells }
         ensures verdict { (h : History A) → IsStateOf grid.now h self.now → IsVerdict grid.now h client order result }
-        ensures place { (h : History A) → IsStateOf grid.now h self.now → self.now.queue ≤ self.now.room → HasPlace self.now.queues order result }
+        ensures place { (h : History A) → IsStateOf grid.now h self.now → HasFullRooms self.now → HasPlace self.now.queues order result }
     {
         let facts = self.facts(grid, client, order);
         self.clients.judge(client, order, facts)

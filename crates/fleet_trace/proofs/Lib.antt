@@ -9,3 +9,4 @@ pub mod Ordered
 pub mod EntryByEntry
 pub mod Alike
 pub mod Calmed
+pub mod Rooms

@@ -8,3 +8,4 @@ pub mod Plain
 pub mod Opened
 pub mod Judged
 pub mod Calm
+pub mod Rooms

@@ -5,7 +5,7 @@ mod clients;
 mod names;
 mod opening;
 mod robots;
-mod room;
+mod rooms;
 mod shuts;
 mod stamps;
 mod takes;
@@ -23,7 +23,7 @@ use fleet_grid::Grid;
 use fleet_history::{Chapter, Entry, Opening, RobotState};
 use fleet_state::FleetState;
 use opening::is_in_order;
-use room::{has_place, room_of};
+use rooms::{has_place, rooms_of};
 use shuts::broken_shut;
 use std::alloc::{AllocError, Allocator};
 use takes::broken_take;
@@ -109,6 +109,7 @@ pub fn judge<A: Allocator + Copy>(
         return Err(JudgeFault::NoMemory);
     }
     let opening = calm_opening(alloc, &chapter.opening)?;
-    let mut state = FleetState::open(alloc, &opening, room_of(&opening, entries))?;
+    let rooms = rooms_of(alloc, &opening, entries)?;
+    let mut state = FleetState::open_within(alloc, &opening, rooms)?;
     judge_entries(alloc, grid, &opening, entries, &mut state)
 }

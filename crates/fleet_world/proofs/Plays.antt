@@ -2,13 +2,14 @@
 use Rattle.std.proofs.Common.{◌≡◌, ℕ, ◌<◌, List, [], ◌++◌, length, map, sym, ap, ◌∙◌, subst, arith}
 use Rattle.std.specs.Prelude.{slice_index_or}
 use Rattle.std.proofs.lemmas.List.{append_assoc, length-map, length-replicate, get_or-replicate, get_or-map}
-use Rattle.fleet_grid.specs.Floor.{Floor}
+use Rattle.fleet_grid.specs.Floor.{Floor, IsNeighbour}
+use Rattle.fleet_grid.specs.Walk.{IsBridgeless}
 use Rattle.fleet_book.specs.declared.event.Event.{Event}
 use Rattle.fleet_book.specs.declared.limits.Limits.{Limits}
 use Rattle.fleet_book.specs.declared.notice.Notice.{Notice}
 use Rattle.fleet_book.specs.declared.order.Order.{Order}
 use Rattle.fleet_history.specs.declared.history.Opening.{Opening}
-use Rattle.fleet_history.specs.History.{clients, client_at, unknown_client}
+use Rattle.fleet_history.specs.History.{start, clients, client_at, unknown_client}
 use Rattle.fleet_history.specs.Laws.{orders}
 use Rattle.fleet_history.specs.Rings.{KeepsRing}
 use Rattle.fleet_history.proofs.Rings.{ring-legal}
@@ -23,8 +24,22 @@ use Rattle.fleet_world.specs.Played.{client_lists}
 use Rattle.fleet_world.specs.Run.{State, Lists, Run, lane, outlet, mailbox, lists, no_lists, state_of, opened_state}
 use Rattle.fleet_world.proofs.Leaves.{lists-left, KeepsRings-opened}
 use Rattle.fleet_world.proofs.Moves.{IsLegalWorld, ArePlanned, AreAdvancing, legal-run, ground-run, planned-run, advancing-run}
+use Rattle.fleet_bound.specs.Bound.{KeepsBound, WaitsAreBounded}
+use Rattle.fleet_bound.proofs.Keeps.{bounded-legal}
+use Rattle.fleet_core.proofs.Bounded.{bound-opened}
 use Rattle.fleet_core.proofs.Opens.{legal-opened}
 use Rattle.fleet_world.proofs.Rings.{KeepsRings-run}
+
+-- on a map without bridges the waits are below the bound
+abbrev pub AreBounded : {A : Type 0} → World A → Type 0
+AreBounded w = IsBridgeless (IsNeighbour w.floor) → WaitsAreBounded w.floor w.history
+
+-- they are where they were at the opening, and each tick since is advancing
+bounded-same : {A : Type 0} (o w : World A) → IsSameGround o w → KeepsBound o.floor (start o.history.opening) → IsLegalWorld w → AreAdvancing w → AreBounded w
+bounded-same {A = A} o w same begins legal advancing none =
+    let opened : KeepsBound w.floor (start w.history.opening)
+    = subst (λ f. KeepsBound f (start w.history.opening)) (sym same.floor) (subst (λ (p : Opening A). KeepsBound o.floor (start p)) (sym same.opening) begins) in
+    bounded-legal w.floor w.history legal (advancing none) opened
 
 -- what holds of the state that a run leads to from this world
 pub record IsEnd {A : Type 0} (o : World A) (s : State A) : Type 0 where
@@ -33,18 +48,23 @@ pub record IsEnd {A : Type 0} (o : World A) (s : State A) : Type 0 where
   pub rings : KeepsRings s
   pub planned : ArePlanned s.world
   pub advancing : AreAdvancing s.world
+  pub bounded : AreBounded s.world
 
 pub ends : {A : Type 0} (m : Floor) (starts : List ℕ) (n : ℕ) (limits : Limits) (laws : HookLaws) (events : List Event) (replies : List Reply) (s : State A) →
     CanOpen m starts n limits laws → AreOrderly laws → Run (opened_state m starts n limits laws) events replies s → IsEnd (opened_world m starts n limits laws) s
 ends {A = A} m starts n limits laws events replies s can orderly r =
     let o : State A = opened_state m starts n limits laws in
     let opening : Opening A = opening_of starts n limits laws in
+    let legal = legal-run o s events replies r (legal-opened m starts n limits laws can orderly) in
+    let ground = ground-run o s events replies r in
+    let advancing = advancing-run o s events replies r (λ none. each_tick-start (IsAdvancingTick m) opening) in
     record {
-      legal = legal-run o s events replies r (legal-opened m starts n limits laws can orderly);
-      ground = ground-run o s events replies r;
+      legal = legal;
+      ground = ground;
       rings = KeepsRings-run o s events replies r (KeepsRings-opened m starts n limits laws);
       planned = planned-run o s events replies r (each_tick-start (IsPlanned m laws.ties) opening);
-      advancing = advancing-run o s events replies r (λ none. each_tick-start (IsAdvancingTick m) opening);
+      advancing = advancing;
+      bounded = bounded-same (opened_world m starts n limits laws) s.world ground (bound-opened m starts n limits laws can orderly) legal advancing;
     }
 
 -- lists that look the same by parts are of one length

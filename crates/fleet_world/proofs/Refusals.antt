@@ -1,5 +1,5 @@
 -- Why an opening is refused: for one reason at most.
-use Rattle.std.proofs.Common.{◌≡◌, ℕ, ◌+◌, ◌<◌, ◌≤◌, ◌↔◌, List, length, sym, refl, ap, ◌∙◌, subst, arith, inl, inr, Ok, Err, Result}
+use Rattle.std.proofs.Common.{◌≡◌, ℕ, ◌↔◌, List, sym, refl, ap, ◌∙◌, subst, arith, inl, inr, Ok, Err, Result}
 use Rattle.std.proofs.lemmas.Bool.{cases_order}
 use Rattle.fleet_grid.specs.Floor.{Floor}
 use Rattle.fleet_book.specs.declared.limits.Limits.{Limits}

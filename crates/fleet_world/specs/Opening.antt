@@ -4,7 +4,7 @@ use Rattle.fleet_grid.specs.Floor.{Floor, IsFloor}
 use Rattle.fleet_grid.specs.Step.{IsPlacement}
 use Rattle.fleet_book.specs.declared.limits.Limits.{Limits}
 use Rattle.fleet_core.specs.Hooks.{HookLaws, HaveCount}
-use Rattle.fleet_core.specs.Opening.{AreInRange, AreRobots, AreOnFloor, CanOpen}
+use Rattle.fleet_core.specs.Opening.{AreInRange, AreRobots, AreOnFloor}
 use Rattle.fleet_world.specs.declared.faults.OpenFault.{OpenFault}
 use Rattle.fleet_world.specs.declared.faults.OpenFault.TheVariants as fault
 

@@ -9,6 +9,7 @@ mod play;
 mod reply;
 mod session;
 mod steps;
+mod waits;
 mod world;
 
 pub use crate::faults::{OpenFault, RunFault};

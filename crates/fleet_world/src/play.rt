@@ -1,5 +1,6 @@
 //! The pure core over a list of events.
 ghost use Rattle.std.specs.Prelude.{◌≡◌, ◌<◌, ◌^◌, ◌↔◌, ℕ, Err, IfOk, length, vec_len};
+ghost use Rattle.fleet_bound.specs.Bound.{WaitsAreBounded};
 ghost use Rattle.fleet_grid.specs.Floor.{IsNeighbour};
 ghost use Rattle.fleet_grid.specs.Walk.{IsBridgeless};
 ghost use Rattle.fleet_history.specs.Legal.{IsLegal};
@@ -70,6 +71,7 @@ pub fn run<A: Allocator + Copy + Send + Sync, R: Alloc<A = A> + Threads + Sync>(
     ensures closes { IfOk result (λ p. AcceptsNoneClosed p.world.core.history) }
     ensures planned { IfOk result (λ p. EachTick (IsPlanned p.world.core.floor p.world.core.ties) p.world.core.history) }
     ensures advancing { IfOk result (λ p. IsBridgeless (IsNeighbour p.world.core.floor) → EachTick (IsAdvancingTick p.world.core.floor) p.world.core.history) }
+    ensures bounded { IfOk result (λ p. IsBridgeless (IsNeighbour p.world.core.floor) → WaitsAreBounded p.world.core.floor p.world.core.history) }
 {
     let mut session = match Session::open(rt.alloc(), grid, starts, clients, limits, hooks) {
         Ok(session) => session,

@@ -1,15 +1,14 @@
 //! The world, as its callers see it.
-ghost use Rattle.std.specs.Prelude.{◌≡◌, ◌+◌, ◌≤◌, ◌<◌, ◌^◌, ◌↔◌, ℕ, true, false, OnOk, OnErr, IfOk, IsTrue, MatchOption, map, slice_get, length};
+ghost use Rattle.std.specs.Prelude.{◌≡◌, ◌+◌, ◌≤◌, ◌<◌, ◌^◌, ◌↔◌, ℕ, true, false, OnOk, OnErr, IfOk, IsTrue, map, slice_get, length};
+ghost use Rattle.fleet_bound.specs.Arriving.{ArrivesInTurn};
+ghost use Rattle.fleet_bound.specs.Bound.{KeepsBound, WaitsAreBounded};
 ghost use Rattle.fleet_history.specs.History.{history_of, owed, clients, robots, clock, place, is_shut};
 ghost use Rattle.fleet_grid.specs.Floor.{IsNeighbour};
 ghost use Rattle.fleet_grid.specs.Walk.{IsBridgeless};
 ghost use Rattle.fleet_history.specs.Laws.{EachTick};
 ghost use Rattle.fleet_history.specs.Legal.{IsLegal};
 ghost use Rattle.fleet_history.specs.Notices.{noticed_count};
-ghost use Rattle.fleet_history.specs.Waits.{wait};
-ghost use Rattle.fleet_plan.specs.Planned.{waits, IsPlanned, IsAdvancingTick};
-ghost use Rattle.fleet_pibt.specs.Eldest.{IsEldest};
-ghost use Rattle.fleet_core.specs.Aimed.{IsIdle};
+ghost use Rattle.fleet_plan.specs.Planned.{IsPlanned, IsAdvancingTick};
 ghost use Rattle.fleet_core.specs.Hooks.{laws_of, spare_laws, AreOrderly, AreArrivals, AreFarewells};
 ghost use Rattle.fleet_core.specs.Opening.{CanOpen};
 ghost use Rattle.fleet_world.specs.Opening.{IsRefused, IsNamed};
@@ -131,9 +130,13 @@ impl<A: Allocator + Copy> World<A> {
         ensures history { history_of result.now ≡ self.now.core.history }
         ensures number { result.now.number ≡ self.now.core.number }
         ensures legal { IsLegal self.now.core.floor self.now.core.history }
+        ensures few { length self.now.core.history.entries ≤ self.now.core.limits.chapter }
         ensures counts { (c : ℕ) → c < clients self.now.core.history → noticed_count self.now.core.history c + owed self.now.core.history c ≤ 2 ^ 57 }
+        ensures pending { (c : ℕ) → c < clients self.now.core.history → length (pending self.now.core c).notices + owed self.now.core.history c ≤ 2 ^ 57 }
         ensures planned { EachTick (IsPlanned self.now.core.floor self.now.core.ties) self.now.core.history }
         ensures advancing { IsBridgeless (IsNeighbour self.now.core.floor) → EachTick (IsAdvancingTick self.now.core.floor) self.now.core.history }
+        ensures bounded { IsBridgeless (IsNeighbour self.now.core.floor) → WaitsAreBounded self.now.core.floor self.now.core.history }
+        ensures keeps_bound { IsBridgeless (IsNeighbour self.now.core.floor) → KeepsBound self.now.core.floor self.now.core.history }
     {
         self.core.chapter()
     }
@@ -148,6 +151,7 @@ impl<A: Allocator + Copy> World<A> {
         ensures legal { OnOk result (IsLegal self.old.core.floor self.old.core.history) }
         ensures planned { OnOk result (EachTick (IsPlanned self.old.core.floor self.old.core.ties) self.old.core.history) }
         ensures advancing { OnOk result (IsBridgeless (IsNeighbour self.old.core.floor) → EachTick (IsAdvancingTick self.old.core.floor) self.old.core.history) }
+        ensures bounded { OnOk result (IsBridgeless (IsNeighbour self.old.core.floor) → WaitsAreBounded self.old.core.floor self.old.core.history) }
         ensures next { OnOk result (self.new.core ≡ next_world self.old.core) }
         ensures err { OnErr result (self.new.core ≡ self.old.core) }
     {
@@ -162,6 +166,7 @@ impl<A: Allocator + Copy> World<A> {
         ensures legal { IsLegal self.core.floor self.core.history }
         ensures planned { EachTick (IsPlanned self.core.floor self.core.ties) self.core.history }
         ensures advancing { IsBridgeless (IsNeighbour self.core.floor) → EachTick (IsAdvancingTick self.core.floor) self.core.history }
+        ensures bounded { IsBridgeless (IsNeighbour self.core.floor) → WaitsAreBounded self.core.floor self.core.history }
     {
         let World { core, robots: _ } = self;
         core.finish()
@@ -181,28 +186,6 @@ impl<A: Allocator + Copy> World<A> {
         self.core.clients()
     }
 
-    /// How many ticks the robot has waited for the arrival at its front errand's cell; none where it has no errand.
-    pub fn wait_of(&self, robot: u32) -> Option<u64>
-        requires { robot < robots self.now.core.history }
-        ensures { result ≡ wait self.now.core.history robot }
-    {
-        self.core.wait_of(robot)
-    }
-
-    /// The robot of greatest wait, the least number on a tie; none where nobody has an errand.
-    pub fn eldest(&self) -> Option<u32>
-        ensures { MatchOption result (IsIdle self.now.core.history) (λ e. IsEldest (waits self.now.core.history) e) }
-    {
-        self.core.eldest()
-    }
-
-    /// Whether nobody has an errand.
-    pub fn is_idle(&self) -> bool
-        ensures { IsTrue result ↔ IsIdle self.now.core.history }
-    {
-        self.core.is_idle()
-    }
-
     /// Whether the map has no bridge.
     pub fn is_bridgeless(&self) -> bool
         ensures { IsTrue result ↔ IsBridgeless (IsNeighbour self.now.core.floor) }
@@ -220,6 +203,8 @@ impl<A: Allocator + Copy> World<A> {
         ensures room { OnOk result (HasRoom self.old.core client) }
         ensures entries { OnOk result (HasEntries self.old.core) }
         ensures ok { IfOk result (λ v. Takes self.old.core client order v self.new.core) }
+        // On a bridgeless map each tick of the world is advancing, and what it accepts arrives in its queue's turn.
+        ensures arrives { IfOk result (λ v. ArrivesInTurn self.old.core.floor self.old.core.history client order v) }
         ensures err { OnErr result (self.new.core ≡ self.old.core) }
     {
         self.core.take(client, order)

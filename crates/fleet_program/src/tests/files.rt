@@ -19,7 +19,11 @@ fn answers<'x>(
     let (mut map, mut script) = files;
     let mut said = Vec::new(rt.alloc());
     let mut fault = Vec::new(rt.alloc());
-    let job = Job::Run { first, second };
+    let job = Job::Run {
+        first,
+        second,
+        trace: false,
+    };
     let met = run_with_kit(rt, &job, &mut map, Some(&mut script), &mut said, &mut fault);
     Ok(met == status && said.as_slice() == output && fault.as_slice() == complaint)
 }

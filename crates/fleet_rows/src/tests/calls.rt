@@ -1,6 +1,6 @@
 //! A world by its own calls, and growths refused.
 
-use super::refusing::Refusing;
+use super::limited::Refusing;
 use super::seen::{ANY, STAMPS, add, go, grid_of, no_hooks};
 use fleet_grid::Grid;
 use fleet_hooks::{ArrivalHook, ArrivalView, Farewell, FarewellView, TieHook, TieView};

@@ -1,4 +1,4 @@
-use Rattle.std.proofs.Common.{◌≡◌, refl, arith, rules}
+use Rattle.std.proofs.Common.{refl, rules}
 use Rattle.fleet_core.proofs.Alike.{alike-more, alike-maps}
 use Rattle.fleet_core.proofs.robots.are_arrivals.Goals as goal
 

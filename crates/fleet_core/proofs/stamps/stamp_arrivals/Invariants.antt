@@ -1,4 +1,4 @@
-use Rattle.std.proofs.Common.{◌≡◌, ◌<◌, ℕ, length, map, get_or}
+use Rattle.std.proofs.Common.{◌≡◌, ◌<◌, ℕ, map, get_or}
 use Rattle.fleet_hooks.specs.Law.{IsStamp}
 use Rattle.fleet_history.specs.Legal.{due_of}
 use Rattle.fleet_core.specs.Hooks.{law_at}

@@ -1,4 +1,4 @@
-use Rattle.std.proofs.Common.{arith, ◌≡◌, ◌<◌, ◌∙◌, ℕ, None, true, false, List, length, map, ap, subst, sym, get_or, refl, vec_len}
+use Rattle.std.proofs.Common.{arith, ◌≡◌, ◌<◌, ◌∙◌, ℕ, None, true, false, length, map, ap, subst, sym, get_or, refl}
 use Rattle.std.specs.Prelude.{is_some, slice_index, slice_set}
 use Rattle.std.proofs.lemmas.List.{get_or-map, length-map}
 use Rattle.fleet_history.specs.declared.history.Bye.{Bye}

@@ -10,3 +10,6 @@ returns-in-Map g c = job_is (kit_laws c.args.kit) c.answer_map.result c.args.job
 
 pub returns-in-Run : goal.returns-in-Run
 returns-in-Run g c = job_is (kit_laws c.args.kit) c.answer_parts.result c.args.job.now _ c.args.first.now c.args.second.now c.in-Run.is c.answer_parts.ensures
+
+pub returns-in-Judge : goal.returns-in-Judge
+returns-in-Judge g c = job_is (kit_laws c.args.kit) c.answer_trace.result c.args.job.now _ c.args.first.now c.args.second.now c.in-Judge.is c.answer_trace.ensures

@@ -7,6 +7,7 @@ use Rattle.fleet_history.proofs.Arrivals.{arrives-legal, arrivals_rise-legal}
 use Rattle.fleet_history.proofs.Legal.{no_conflict-legal, none_closed-legal}
 use Rattle.fleet_history.proofs.Once.{numbered-legal}
 use Rattle.fleet_plan.specs.Planned.{IsPlanned, IsAdvancingTick}
+use Rattle.fleet_bound.specs.Bound.{WaitsAreBounded}
 use Rattle.fleet_world.specs.declared.reply.Reply.{Reply}
 use Rattle.fleet_core.specs.Core.{World, opened_world}
 use Rattle.fleet_core.specs.Hooks.{laws_of}
@@ -85,6 +86,10 @@ returns-in-Ok-play-clause-planned g c = subst (λ (w : World _). EachTick (IsPla
 pub returns-in-Ok-play-clause-advancing : goal.returns-in-Ok-play-clause-advancing
 returns-in-Ok-play-clause-advancing g c =
     subst (λ (w : World _). IsBridgeless (IsNeighbour w.floor) → EachTick (IsAdvancingTick w.floor) w.history) (sym c.close.ensures.world) (ended g c).advancing
+
+pub returns-in-Ok-play-clause-bounded : goal.returns-in-Ok-play-clause-bounded
+returns-in-Ok-play-clause-bounded g c =
+    subst (λ (w : World _). IsBridgeless (IsNeighbour w.floor) → WaitsAreBounded w.floor w.history) (sym c.close.ensures.world) (ended g c).bounded
 
 pub returns-in-Ok-play-clause-counts : goal.returns-in-Ok-play-clause-counts
 returns-in-Ok-play-clause-counts g c =

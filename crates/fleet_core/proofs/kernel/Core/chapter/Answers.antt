@@ -1,6 +1,7 @@
 use Rattle.fleet_history.specs.History.{history_of}
 use Rattle.fleet_core.proofs.Goaled.{each_advances}
-use Rattle.fleet_core.proofs.Kept.{counts-small}
+use Rattle.fleet_core.proofs.Bounded.{bound-kept, waits-kept}
+use Rattle.fleet_core.proofs.Kept.{counts-small, pending-small}
 use Rattle.fleet_core.proofs.kernel.Core.chapter.Goals as goal
 
 pub returns-clause-legal : goal.returns-clause-legal
@@ -14,3 +15,15 @@ returns-clause-planned g c = rw (← c.self.view_is) c.self.invariant.tied.plann
 
 pub returns-clause-advancing : goal.returns-clause-advancing
 returns-clause-advancing g c = rw (← c.self.view_is) (each_advances c.self.inside.grid c.self.inside.ties.items (history_of c.self.inside.chapter) c.self.invariant.tied.planned)
+
+pub returns-clause-few : goal.returns-clause-few
+returns-clause-few g c = rw (← c.self.view_is) c.self.invariant.within.entries
+
+pub returns-clause-pending : goal.returns-clause-pending
+returns-clause-pending g c = rw (← c.self.view_is) (pending-small c.self.invariant.within c.self.inside.grid c.self.invariant.is.legal c.self.invariant.boxed)
+
+pub returns-clause-bounded : goal.returns-clause-bounded
+returns-clause-bounded g c = rw (← c.self.view_is) (waits-kept c.self.invariant)
+
+pub returns-clause-keeps_bound : goal.returns-clause-keeps_bound
+returns-clause-keeps_bound g c = rw (← c.self.view_is) (bound-kept c.self.invariant)

@@ -1,4 +1,5 @@
 use Rattle.fleet_history.specs.History.{history_of}
+use Rattle.fleet_core.proofs.Bounded.{waits-kept}
 use Rattle.fleet_core.proofs.Goaled.{each_advances}
 use Rattle.fleet_core.proofs.kernel.Core.finish.Goals as goal
 
@@ -10,3 +11,6 @@ returns-clause-planned g c = rw (← c.self.view_is) c.self.invariant.tied.plann
 
 pub returns-clause-advancing : goal.returns-clause-advancing
 returns-clause-advancing g c = rw (← c.self.view_is) (each_advances c.self.inside.grid c.self.inside.ties.items (history_of c.self.inside.chapter) c.self.invariant.tied.planned)
+
+pub returns-clause-bounded : goal.returns-clause-bounded
+returns-clause-bounded g c = rw (← c.self.view_is) (waits-kept c.self.invariant)

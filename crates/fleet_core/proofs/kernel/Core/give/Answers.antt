@@ -22,4 +22,5 @@ invariant_of-self g c =
       boxed = rw c.pop.ensures.rest (boxes-with k.is.legal k.boxed c.args.client _ known (omega (arith, length-drop 1 box.notices)) (omega arith));
       aimed = k.aimed;
       tied = k.tied;
+      bounded = k.bounded;
     }

@@ -1,4 +1,4 @@
-use Rattle.std.proofs.Common.{arith, ◌≡◌, ◌<◌, ◌∙◌, subst, sym, ap, List, [], ◌∷◌, Option, Some, None, true, false, refl}
+use Rattle.std.proofs.Common.{arith, ◌≡◌, ◌<◌, subst, sym, List, [], ◌∷◌, Some, None, true, false, refl}
 use Rattle.std.specs.Prelude.{slice_get}
 use Rattle.fleet_queue.specs.declared.errand.Errand.{Errand}
 use Rattle.fleet_history.specs.History.{history_of, robots, unfinished}

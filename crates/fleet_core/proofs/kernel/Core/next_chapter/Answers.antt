@@ -1,5 +1,5 @@
-use Rattle.std.proofs.Common.{arith, ◌≡◌, ◌∙◌, ◌+◌, ℕ, sym, ap, refl, subst}
-use Rattle.fleet_history.specs.History.{History, history_of, start, robots}
+use Rattle.std.proofs.Common.{◌≡◌, ◌∙◌, ◌+◌, sym, refl, subst}
+use Rattle.fleet_history.specs.History.{History, history_of, start}
 use Rattle.fleet_history.specs.Next.{next_opening}
 use Rattle.fleet_history.proofs.Next.{next-robots}
 use Rattle.fleet_history.proofs.Ticks.{each_tick-start}
@@ -8,6 +8,8 @@ use Rattle.fleet_state.proofs.NextOpening.{goes-on}
 use Rattle.fleet_state.proofs.Parts.{queue-count}
 use Rattle.fleet_core.specs.Hooks.{AreArrivals, AreFarewells}
 use Rattle.fleet_core.specs.Kept.{IsKept}
+use Rattle.fleet_bound.proofs.Keeps.{bound-next}
+use Rattle.fleet_core.proofs.Bounded.{bound-kept, waits-kept}
 use Rattle.fleet_core.proofs.Goaled.{each_advances, aimed-next}
 use Rattle.fleet_core.proofs.Hooked.{arrivals-next, farewells-next}
 use Rattle.fleet_core.proofs.Kept.{boxes-next, within-next, within-room}
@@ -38,6 +40,7 @@ invariant_of-self g c =
       boxed = boxes-next k.is.legal k.boxed;
       aimed = aimed-next k.is k.aimed;
       tied = record { count = k.tied.count ∙ sym (next-robots h); planned = each_tick-start (IsPlanned c.self.inside.grid c.self.inside.ties.items) (next_opening h) };
+      bounded = λ none. bound-next c.self.inside.grid h k.is.legal (bound-kept k none);
     }))
 
 pub returns-clause-planned : goal.returns-clause-planned
@@ -58,3 +61,6 @@ pub returns-clause-farewells : goal.returns-clause-farewells
 returns-clause-farewells g c = λ spare k.
     subst (λ (x : History g.row.A.Denot). AreFarewells x spare) (sym (history_is g c))
     (farewells-next (history_of c.self.inside.chapter) spare (subst (λ w. AreFarewells w.history spare) (sym c.self.view_is) k))
+
+pub returns-clause-bounded : goal.returns-clause-bounded
+returns-clause-bounded g c = rw (← c.self.view_is) (waits-kept c.self.invariant)

@@ -1,4 +1,4 @@
-use Rattle.std.proofs.Common.{arith, ◌≡◌, ◌∙◌, ℕ, List, length, replicate, sym, ap, refl, Option, None}
+use Rattle.std.proofs.Common.{arith, ◌≡◌, ◌∙◌, ℕ, length, replicate, sym, ap, refl, Option, None}
 use Rattle.fleet_history.specs.declared.history.Opening.{Opening}
 use Rattle.fleet_history.specs.History.{start, unknown_client}
 use Rattle.fleet_history.specs.Legal.{IsInOrder}
@@ -8,6 +8,7 @@ use Rattle.fleet_plan.specs.Planned.{IsPlanned}
 use Rattle.fleet_state.proofs.Parts.{queue-limit}
 use Rattle.fleet_core.specs.Hooks.{HookLaws, AreOrderly}
 use Rattle.fleet_core.specs.Core.{opening_of}
+use Rattle.fleet_core.proofs.Bounded.{bound-opened}
 use Rattle.fleet_core.proofs.Goaled.{aimed-start}
 use Rattle.fleet_core.proofs.Opens.{legal-opened, boxes-opened, within-opened, robot_count, unfinished-opened}
 use Rattle.fleet_core.proofs.kernel.Core.open.Goals as goal
@@ -45,13 +46,14 @@ invariant_of-result g c =
     rw (c.new.ensures.items, known, robots)
     record {
       is = here;
-      room = omega (arith, queue-limit here, c.in_ok-state.ensures.room);
+      room = c.in_ok-state.ensures.full (omega (arith, queue-limit here));
       within = within-opened c.args.grid c.args.starts.items c.args.clients c.args.limits laws c.requires.can;
       boxed = rw c.in_ok-mailboxes.ensures (boxes-opened c.args.grid c.args.starts.items c.args.clients c.args.limits laws c.requires.can);
       aimed = aimed-start c.args.grid o n c.in_ok-planner.planner many (unfinished-opened g.row.A.Denot c.args.starts.items c.args.clients c.args.limits laws)
           (c.in_ok-planner.ensures.none ∙ ap (λ k. replicate k none) size) c.in_ok-planner.ensures.on
           (c.in_ok-planner.ensures.size ∙ ap (λ (k : ℕ). record { cells = length c.args.grid.letters; robots = k }) size) c.in_ok-planner.ensures.bridge;
       tied = record { count = c.requires.can.hooks.ties ∙ sym many; planned = each_tick-start (IsPlanned c.args.grid c.args.ties.items) o };
+      bounded = λ none. bound-opened c.args.grid c.args.starts.items c.args.clients c.args.limits laws c.requires.can orderly;
     }
 
 pub returns : goal.returns

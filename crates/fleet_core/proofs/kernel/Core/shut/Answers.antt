@@ -1,10 +1,9 @@
 use Rattle.std.proofs.Common.{arith, ◌≡◌, ◌∙◌, ◌<◌, [], false, length, ap, sym, refl, subst}
-use Rattle.std.specs.Prelude.{is_some}
 use Rattle.std.specs.Option.{option_map}
 use Rattle.std.proofs.lemmas.List.{length-map}
 use Rattle.fleet_history.specs.declared.history.Entry.TheVariants as entry
 use Rattle.fleet_history.specs.History.{history_of, robots, unfinished, is_shut}
-use Rattle.fleet_history.specs.Legal.{Fits, IsFarewell, is_none_left}
+use Rattle.fleet_history.specs.Legal.{Fits, is_none_left}
 use Rattle.fleet_history.proofs.Ticks.{each_tick-shut}
 use Rattle.fleet_plan.specs.Planned.{IsPlanned}
 use Rattle.fleet_state.proofs.Parts.{cell-count, queue-count}
@@ -67,11 +66,12 @@ invariant_of-self-2 g c =
     rw (c.add.ensures, c.reserve.ensures.items)
     record {
       is = next;
-      room = room-kept k.is next refl c.enter_shut.ensures.room k.room;
+      room = room-kept k.is next refl c.enter_shut.ensures.rooms k.room;
       within = within-shut k.within c.args.robot c.if-idle.farewell few;
       boxed = boxes-shut k.is.legal k.boxed c.args.robot c.if-idle.farewell;
       aimed = aimed-shut k.is k.aimed c.args.robot c.if-idle.farewell;
       tied = record { count = k.tied.count; planned = each_tick-shut (IsPlanned c.self.inside.grid c.self.inside.ties.items) h c.args.robot c.if-idle.farewell k.tied.planned };
+      bounded = k.bounded;
     }
 
 pub returns-clause-ok : goal.returns-clause-ok

@@ -1,10 +1,11 @@
-use Rattle.std.proofs.Common.{arith, ◌≡◌, ◌<◌, ◌∙◌, length, ap, sym, refl, subst}
+use Rattle.std.proofs.Common.{arith, ◌<◌, length, ap, sym, refl, subst}
 use Rattle.fleet_history.specs.declared.history.Entry.TheVariants as entry
 use Rattle.fleet_history.specs.History.{history_of, after, clients}
 use Rattle.fleet_history.proofs.Legal.{legal-placement}
 use Rattle.fleet_history.proofs.Ticks.{each_tick-take}
 use Rattle.fleet_plan.specs.Planned.{IsPlanned}
 use Rattle.fleet_state.proofs.Parts.{cells-of, tally-count}
+use Rattle.fleet_bound.proofs.Errands.{accepted-gone}
 use Rattle.fleet_core.specs.Core.{HasRoom, HasEntries}
 use Rattle.fleet_core.specs.Hooks.{AreFarewells}
 use Rattle.fleet_core.proofs.Goaled.{aimed-take}
@@ -52,11 +53,12 @@ invariant_of-self-2 g c =
     rw (c.add.ensures, c.reserve.ensures.items)
     record {
       is = next;
-      room = room-kept k.is next refl c.enter_take.ensures.room k.room;
+      room = room-kept k.is next refl c.enter_take.ensures.rooms k.room;
       within = within-take k.within c.args.client c.args.order c.judge-verdict.result few;
       boxed = rw c.push.ensures (boxes-take k.is.legal k.boxed c.args.client c.args.order c.judge-verdict.result known is c.next_number.result c.taken.result c.next_number.ensures.next (c.taken.ensures c.self.inside.grid _ next) room);
       aimed = aimed-take k.is k.aimed c.args.client c.args.order c.judge-verdict.result is c.in_ok-begin.ensures.goals c.begin.ensures.on c.begin.ensures.size c.begin.ensures.bridge;
       tied = record { count = k.tied.count; planned = each_tick-take (IsPlanned c.self.inside.grid c.self.inside.ties.items) h c.args.client c.args.order c.judge-verdict.result k.tied.planned };
+      bounded = k.bounded;
     }
 
 pub returns-clause-ok : goal.returns-clause-ok
@@ -79,3 +81,9 @@ returns-clause-farewells g c spare a =
     let h = history_of c.self.inside.chapter in
     rw (c.add.ensures, c.reserve.ensures.items)
     (farewells-take h spare (subst (λ w. AreFarewells w.history spare) (sym c.self.view_is) a) c.self.inside.grid c.args.client c.args.order c.judge-verdict.result c.self.invariant.is.legal (c.judge-verdict.ensures.verdict h c.self.invariant.is))
+
+pub returns-clause-arrives : goal.returns-clause-arrives
+returns-clause-arrives g c =
+    let k = c.self.invariant in
+    rw (← c.self.view_is)
+    (accepted-gone c.self.inside.grid (history_of c.self.inside.chapter) c.args.client c.args.order c.judge-verdict.result k.is.legal (c.judge-verdict.ensures.verdict (history_of c.self.inside.chapter) k.is))

@@ -1,10 +1,7 @@
-use Rattle.std.proofs.Common.{arith, ◌≡◌, ◌∙◌, ◌+◌, ◌<◌, ℕ, List, [], length, map, take, ap, sym, refl, subst}
-use Rattle.std.specs.Prelude.{All}
+use Rattle.std.proofs.Common.{arith, ◌≡◌, ◌∙◌, ◌+◌, ◌<◌, [], length, map, ap, sym, refl, subst}
 use Rattle.std.specs.Option.{option_map}
-use Rattle.std.proofs.lemmas.List.{length-map, take_all}
-use Rattle.fleet_history.specs.declared.history.Arrival.{Arrival}
+use Rattle.std.proofs.lemmas.List.{length-map}
 use Rattle.fleet_history.specs.declared.history.Bye.{Bye}
-use Rattle.fleet_history.specs.declared.history.Entry.{Entry}
 use Rattle.fleet_history.specs.declared.history.Entry.TheVariants as entry
 use Rattle.fleet_history.specs.History.{history_of, robots, clock, after}
 use Rattle.fleet_history.specs.Legal.{due_of, due, leaving, IsTickAfter}
@@ -13,10 +10,11 @@ use Rattle.fleet_plan.specs.Planned.{IsPlanned}
 use Rattle.fleet_plan.proofs.Goals.{planned-advances}
 use Rattle.fleet_state.specs.State.{IsStateOf}
 use Rattle.fleet_state.proofs.Parts.{cell-count, cells-of, queue-count, waits-of}
+use Rattle.fleet_core.specs.declared.faults.TickReport.{TickReport}
 use Rattle.fleet_core.specs.Aimed.{Planner}
 use Rattle.fleet_core.specs.Core.{HasEntries}
 use Rattle.fleet_core.specs.Mailboxes.{AreDelivered}
-use Rattle.fleet_core.specs.Hooks.{AreArrivals, AreFarewells, spare_laws, without_all, DoRise}
+use Rattle.fleet_core.specs.Hooks.{AreArrivals, AreFarewells, spare_laws}
 use Rattle.fleet_core.proofs.Goaled.{aimed-tick}
 use Rattle.fleet_core.proofs.Hooked.{stamps-are, last_stamps-are}
 use Rattle.fleet_core.proofs.Kept.{noticed-of, noticed-small, room-kept, boxes-tick, ticked-boxes, within-tick}
@@ -63,14 +61,14 @@ arrivals_are g c = subst (λ w. AreArrivals w.history (map (λ h. h.law) c.args.
 arrivals_count : (g : _) (c : After-len-2 g) → length c.args.arrivals.now ≡ robots (history_of c.self.inside.chapter)
 arrivals_count g c = sym (length-map c.args.arrivals.now (λ h. h.law)) ∙ (arrivals_are g c).count
 
-pub overflow_cast-report : goal.overflow_cast-report
-overflow_cast-report g c =
+pub of-report-requires-clause-arrived : goal.of-report-requires-clause-arrived
+of-report-requires-clause-arrived g c =
     let h = history_of c.self.inside.chapter in
     let shows : map due_of c.in_ok-arrived.arrived.items ≡ due h c.in_ok-to.to.items = c.in_ok-arrived.ensures c.self.inside.grid h c.self.invariant.is ∙ ap (due h) c.as_slice.ensures.value in
     omega (arith, c.len.ensures, c.in_ok-arrived.arrived.ok.0, arrived-few c.self.inside.grid h c.self.invariant.is.legal c.in_ok-to.to.items c.in_ok-arrived.arrived.items shows)
 
-pub overflow_cast-report-2 : goal.overflow_cast-report-2
-overflow_cast-report-2 g c =
+pub of-report-requires-clause-farewells : goal.of-report-requires-clause-farewells
+of-report-requires-clause-farewells g c =
     let h = history_of c.self.inside.chapter in
     let shows = shows_is g c in
     omega (arith, c.len-2.ensures, c.in_ok-leaving.leaving.ok.0, leaving-few c.self.inside.grid h c.self.invariant.is.legal c.in_ok-to.to.items c.in_ok-arrived.arrived.items shows [] c.in_ok-leaving.leaving.items (leaves_is g c c.in_ok-arrived.arrived.items [] shows))
@@ -190,12 +188,10 @@ next_is g c p fits =
     subst (λ to. IsStateOf c.self.inside.grid (after h (entry.Tick to c.arrive.new.arrived.items c.take_leave.new.leaving.items)) c.enter_tick.new.self) c.as_slice-8.ensures.value
     (c.enter_tick.ensures.follows c.arrive.new.arrived.items c.take_leave.new.leaving.items c.self.inside.grid h c.self.invariant.is (subst (λ to. IsTickAfter c.self.inside.grid h to c.arrive.new.arrived.items c.take_leave.new.leaving.items) (sym c.as_slice-8.ensures.value) fits))
 
--- what is entered are the lists with their stamps
-arrived_is : (g : _) (c : After-add g) → c.from_vec-2.result ≡ c.arrive.new.arrived.items
-arrived_is g c = c.from_vec-2.ensures
-
-leaving_is : (g : _) (c : After-add g) → c.from_vec-3.result ≡ c.take_leave.new.leaving.items
-leaving_is g c = c.from_vec-3.ensures
+-- the report's clock is that of the tick
+clock_is : (g : _) (c : After-add g) → c.of-report.result.tick ≡ clock (history_of c.self.inside.chapter) + 1
+clock_is g c =
+    ap (λ (r : TickReport). r.tick) c.of-report.ensures ∙ ap (λ n. n + 1) (c.clock.ensures.of c.self.inside.grid (history_of c.self.inside.chapter) c.self.invariant.is)
 
 planned_is : (g : _) (c : After-add g) → IsPlanned c.self.inside.grid c.self.inside.ties.items (history_of c.self.inside.chapter) c.in_ok-to.to.items
 planned_is g c =
@@ -203,10 +199,10 @@ planned_is g c =
     let laws : map (λ h. h.law) c.args.ties.now ≡ c.self.inside.ties.items = c.requires.ties ∙ ap (λ w. w.ties) (sym c.self.view_is) in
     rw (laws, waits-of k.is, k.aimed.aimed, cells-of k.is) at c.in_ok-to.ensures.planned
 
-delivered_is : (g : _) (c : After-add g) (p : After-as_slice-7 g) → AreDelivered c.arrive.new.arrived.items c.in_ok-to.to.items (c.clock.result + 1) c.self.inside.mailboxes c.deliver.new.self
+delivered_is : (g : _) (c : After-add g) (p : After-as_slice-7 g) → AreDelivered c.arrive.new.arrived.items c.in_ok-to.to.items c.of-report.result.tick c.self.inside.mailboxes c.deliver.new.self
 delivered_is g c p =
-    subst (λ xs. AreDelivered xs c.in_ok-to.to.items (c.clock.result + 1) c.self.inside.mailboxes c.deliver.new.self) c.as_slice-6.ensures.value
-    (subst (λ to. AreDelivered c.as_slice-6.result.now to (c.clock.result + 1) c.self.inside.mailboxes c.deliver.new.self) c.as_slice-7.ensures.value c.deliver.ensures)
+    subst (λ xs. AreDelivered xs c.in_ok-to.to.items c.of-report.result.tick c.self.inside.mailboxes c.deliver.new.self) c.as_slice-6.ensures.value
+    (subst (λ to. AreDelivered c.as_slice-6.result.now to c.of-report.result.tick c.self.inside.mailboxes c.deliver.new.self) c.as_slice-7.ensures.value c.deliver.ensures)
 
 pub invariant_of-self-2 : goal.invariant_of-self-2
 invariant_of-self-2 g c =
@@ -220,16 +216,17 @@ invariant_of-self-2 g c =
     let few : length h.entries < c.self.inside.limits.chapter = subst HasEntries (sym c.self.view_is) (c.if-is_full.ensures.room refl) in
     let early : clock h < c.self.inside.limits.clock = subst (λ w. clock w.history < w.limits.clock) (sym c.self.view_is) (c.if-is_spent.ensures.early refl) in
     let shows = shown_is g p in
-    let tick = ap (λ n. n + 1) (c.clock.ensures.of c.self.inside.grid h k.is) in
-    rw (c.add.ensures, c.reserve.ensures.items, c.from_vec.ensures, arrived_is g a, leaving_is g a)
+    let tick = clock_is g a in
+    rw (c.add.ensures, c.reserve.ensures.items, c.tick_entry.ensures)
     record {
       is = next;
-      room = room-kept k.is next refl c.enter_tick.ensures.room k.room;
+      room = room-kept k.is next refl c.enter_tick.ensures.rooms k.room;
       within = within-tick k.within c.in_ok-to.to.items c.arrive.new.arrived.items c.take_leave.new.leaving.items few early;
-      boxed = boxes-tick k.is.legal k.boxed c.in_ok-to.to.items c.arrive.new.arrived.items c.take_leave.new.leaving.items (c.clock.result + 1) tick (delivered_is g a p) shows;
+      boxed = boxes-tick k.is.legal k.boxed c.in_ok-to.to.items c.arrive.new.arrived.items c.take_leave.new.leaving.items c.of-report.result.tick tick (delivered_is g a p) shows;
       aimed = aimed-tick k.is k.aimed c.in_ok-to.to.items c.arrive.new.arrived.items c.take_leave.new.leaving.items shows (rw c.as_slice-3.ensures.value at c.in_ok-turn.ensures.goals ∙ refl) c.turn.ensures.on
           (c.turn.ensures.size ∙ ap (λ (x : Planner). x.size) c.plan.ensures.same) (c.turn.ensures.bridge ∙ ap (λ (x : Planner). x.bridgeless) c.plan.ensures.same);
       tied = record { count = k.tied.count; planned = each_tick-tick (IsPlanned c.self.inside.grid c.self.inside.ties.items) h c.in_ok-to.to.items c.arrive.new.arrived.items c.take_leave.new.leaving.items k.tied.planned (planned_is g a) };
+      bounded = k.bounded;
     }
 
 pub returns-clause-ok : goal.returns-clause-ok
@@ -239,7 +236,7 @@ returns-clause-ok g c =
     let a = (goal.at.returns-clause-ok g c).After-add in
     let p = (goal.at.returns-clause-ok g c).After-as_slice-7 in
     let q = (goal.at.returns-clause-ok g c).After-len-2 in
-    let tick = ap (λ n. n + 1) (c.clock.ensures.of c.self.inside.grid h k.is) in
+    let tick = clock_is g a in
     rw (← c.self.view_is)
     record {
       to = c.in_ok-to.to.items;
@@ -248,12 +245,12 @@ returns-clause-ok g c =
       fits = fits_is g p q;
       planned = planned_is g a;
       advancing = λ none. planned-advances c.self.inside.grid c.self.inside.ties.items _ _ _ _ none (planned_is g a);
-      world = rw (c.add.ensures, c.reserve.ensures.items, c.from_vec.ensures, arrived_is g a, leaving_is g a)
+      world = rw (c.add.ensures, c.reserve.ensures.items, c.tick_entry.ensures)
           (ap (λ b. record { floor = c.self.inside.grid; limits = c.self.inside.limits; ties = c.self.inside.ties.items; number = c.self.inside.chapter.number; history = after h (entry.Tick c.in_ok-to.to.items c.arrive.new.arrived.items c.take_leave.new.leaving.items); mailboxes = b })
-          (ticked-boxes k.is.legal k.boxed c.in_ok-to.to.items c.arrive.new.arrived.items c.take_leave.new.leaving.items (c.clock.result + 1) tick (delivered_is g a p)));
+          (ticked-boxes k.is.legal k.boxed c.in_ok-to.to.items c.arrive.new.arrived.items c.take_leave.new.leaving.items c.of-report.result.tick tick (delivered_is g a p)));
       tick = tick;
-      arrived_count = omega (arith, c.len.ensures, c.in_ok-arrived.arrived.ok.0, sym (length-map c.arrive.new.arrived.items due_of) ∙ ap length c.arrive.ensures.shows ∙ length-map c.in_ok-arrived.arrived.items due_of);
-      farewell_count = omega (arith, c.len-2.ensures, c.in_ok-leaving.leaving.ok.0, sym (length-map c.take_leave.new.leaving.items (λ (b : Bye). b.robot)) ∙ ap length c.take_leave.ensures.robots ∙ length-map c.in_ok-leaving.leaving.items (λ (b : Bye). b.robot));
+      arrived_count = omega (arith, ap (λ (r : TickReport). r.arrived) c.of-report.ensures, c.len.ensures, c.in_ok-arrived.arrived.ok.0, sym (length-map c.arrive.new.arrived.items due_of) ∙ ap length c.arrive.ensures.shows ∙ length-map c.in_ok-arrived.arrived.items due_of);
+      farewell_count = omega (arith, ap (λ (r : TickReport). r.farewells) c.of-report.ensures, c.len-2.ensures, c.in_ok-leaving.leaving.ok.0, sym (length-map c.take_leave.new.leaving.items (λ (b : Bye). b.robot)) ∙ ap length c.take_leave.ensures.robots ∙ length-map c.in_ok-leaving.leaving.items (λ (b : Bye). b.robot));
     }
 
 pub returns-clause-farewells : goal.returns-clause-farewells
@@ -265,7 +262,7 @@ returns-clause-farewells g c =
     let q = (goal.at.returns-clause-farewells g c).After-len-2 in
     let leaves = leaves_is g q c.arrive.new.arrived.items c.take_leave.new.leaving.items (shown_is g p) in
     let spent = c.take_leave.ensures.spent in
-    rw (c.add.ensures, c.reserve.ensures.items, c.from_vec.ensures, arrived_is g a, leaving_is g a)
+    rw (c.add.ensures, c.reserve.ensures.items, c.tick_entry.ensures)
     (farewells-tick c.self.inside.grid h k.is.legal c.in_ok-to.to.items c.arrive.new.arrived.items (shown_is g p) c.take_leave.new.leaving.items c.in_ok-leaving.leaving.items leaves (spare_laws c.args.farewells.now.items) (spare_is g q)
     (spare_laws c.take_leave.new.farewells.items) spent
     (omega (

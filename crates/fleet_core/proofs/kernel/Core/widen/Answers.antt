@@ -1,7 +1,6 @@
 use Rattle.std.proofs.Common.{arith, ◌<◌, sym, subst}
 use Rattle.fleet_history.specs.History.{history_of, clients}
 use Rattle.fleet_core.specs.Kept.{AreBoxes}
-use Rattle.fleet_core.specs.Mailboxes.{box_at}
 use Rattle.fleet_core.proofs.Kept.{boxes-with, either-way}
 use Rattle.fleet_core.proofs.kernel.Core.widen.Goals as goal
 
@@ -22,4 +21,5 @@ invariant_of-self g c =
       boxed = either-way c.widen.result (AreBoxes h) c.widen.new.self _ c.self.inside.mailboxes c.widen.ensures.ok c.widen.ensures.err (boxes-with k.is.legal k.boxed c.args.client _ known (omega arith) (omega arith)) k.boxed;
       aimed = k.aimed;
       tied = k.tied;
+      bounded = k.bounded;
     }

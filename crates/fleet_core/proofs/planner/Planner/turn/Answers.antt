@@ -1,11 +1,9 @@
-use Rattle.std.proofs.Common.{arith, ◌≡◌, ◌∙◌, length, ap, sym, subst, map}
-use Rattle.std.specs.List.{range_with_len}
+use Rattle.std.proofs.Common.{arith, ◌∙◌, length, ap, sym, subst}
 use Rattle.fleet_goals.specs.Aims.{AreFloor}
-use Rattle.fleet_history.proofs.Legal.{legal-opening}
 use Rattle.fleet_state.proofs.Parts.{queue-count, robots-few, length-by}
 use Rattle.fleet_state.specs.Robots.{queue_at}
 use Rattle.std.specs.Prelude.{slice_index}
-use Rattle.fleet_core.specs.Aimed.{IsAimed, goal_on, goals_ticked}
+use Rattle.fleet_core.specs.Aimed.{IsAimed, goal_on}
 use Rattle.fleet_core.proofs.Goaled.{aims-count, next-floor}
 use Rattle.fleet_core.proofs.planner.Planner.turn.Goals as goal
 

@@ -1,6 +1,7 @@
-use Rattle.std.proofs.Common.{◌≡◌, length, Some, refl, rules}
-use Rattle.std.specs.Prelude.{slice_get}
+use Rattle.std.proofs.Common.{◌≡◌, length, Some, Result, Ok, Err, refl, rules}
+use Rattle.std.specs.Prelude.{slice_get, OnErr}
 use Rattle.std.proofs.lemmas.Option.{slice_get_read}
+use Rattle.fleet_office.specs.Draining.{Widens}
 use Rattle.fleet_office.proofs.Laws.{boxed}
 use Rattle.fleet_office.proofs.Widening.{few_used, used_after}
 use Rattle.fleet_office.proofs.Meeting.{TakenLeft, kept_left, moves_left, next_left, stay_left}
@@ -43,3 +44,20 @@ take_left_from-requires-clause-known g c =
     let s = c.self.inside in
     let at : slice_get s.ends.items c.args.client ≡ Some c.index_mut.result.now = slice_get_read s.ends.items (length s.ends.items) c.args.client c.index_mut.result.now refl (search rules) c.index_mut.ensures.value in
     c.requires.known c.index_mut.result.now (rw (← c.self.view_is) at)
+
+first_err : {X E : Type 0} (P Q : Type 0) (r : Result X E) → OnErr r (P × Q) → OnErr r P
+first_err P Q (Ok x) e = e
+first_err P Q (Err x) e = e.0
+
+pub returns-clause-next : goal.returns-clause-next
+returns-clause-next g c =
+    let s = c.self.inside in
+    let at : slice_get s.ends.items c.args.client ≡ Some c.index_mut.result.now = slice_get_read s.ends.items (length s.ends.items) c.args.client c.index_mut.result.now refl (search rules) c.index_mut.ensures.value in
+    let k : TakenLeft s.core c.take_left_from.new.core c.index_mut.result.now c.take_left_from.new.end c.args.client c.args.left c.take_left_from.result = record { ok = c.take_left_from.ensures.ok; err = c.take_left_from.ensures.err } in
+    rw (← c.self.view_is) (next_left g.N.OfficeName.rings s.core s.ends.items s.book.total c.args.client c.args.left c.index_mut.result.now at c.take_left_from.new.core c.take_left_from.new.end c.take_left_from.result k)
+
+pub returns-clause-err : goal.returns-clause-err
+returns-clause-err g c = rw (← c.self.view_is) (first_err (Widens c.self.inside.core c.args.client c.args.left c.take_left_from.new.core) (c.take_left_from.new.end ≡ c.index_mut.result.now) c.take_left_from.result c.take_left_from.ensures.err)
+
+pub returns-clause-full : goal.returns-clause-full
+returns-clause-full g c = rw (← c.self.view_is) c.take_left_from.ensures.full

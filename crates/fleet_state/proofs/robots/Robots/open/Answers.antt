@@ -1,5 +1,7 @@
-use Rattle.std.proofs.Common.{arith, ◌<◌, sym, length}
+use Rattle.std.proofs.Common.{arith, ◌≡◌, ◌<◌, ◌∙◌, sym, ap, length}
+use Rattle.std.proofs.lemmas.Grind.{common_steps}
 use Rattle.fleet_state.specs.Opened.{queue_in}
+use Rattle.fleet_state.proofs.Parts.{length-by}
 use Rattle.fleet_state.proofs.Ranges.{map-take_more}
 use Rattle.fleet_state.proofs.robots.Robots.open.Goals as goal
 
@@ -11,6 +13,10 @@ loop-robot-preserved g c =
     let l : i < length xs = omega (arith, c.loop-robot-test.true) in
     record {
       cells = rw (c.in_ok-push.ensures.items, c.loop-robot.invariant.cells) (sym (map-take_more (λ x. x.cell) xs i x l c.robot-item.is));
-      queues = rw (c.in_ok-push-2.ensures.items, c.loop-robot.invariant.queues, c.in_ok-queue_of.ensures, c.as_slice.ensures) (sym (map-take_more (queue_in c.args.room) xs i x l c.robot-item.is));
-      waits = rw (c.in_ok-push-3.ensures.items, c.loop-robot.invariant.waits) (sym (map-take_more (λ x. x.wait) xs i x l c.robot-item.is));
+      waits = rw (c.in_ok-push-2.ensures.items, c.loop-robot.invariant.waits) (sym (map-take_more (λ x. x.wait) xs i x l c.robot-item.is));
     }
+
+pub invariant_of-result : goal.invariant_of-result
+invariant_of-result g c =
+    let many : length c.in_ok-queues.queues.items ≡ length c.args.states.now = ap length c.in_ok-queues.ensures ∙ length-by (queue_in c.args.rooms.now c.args.states.now) (length c.args.states.now) in
+    (grind (arith, common_steps, many), grind (arith, common_steps, many))

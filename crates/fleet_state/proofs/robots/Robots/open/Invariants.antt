@@ -1,10 +1,8 @@
 use Rattle.std.proofs.Common.{◌≡◌, map, take}
-use Rattle.fleet_state.specs.Opened.{queue_in}
 use Rattle.fleet_state.proofs.robots.Robots.open.Given as goal
 
 abbrev pub invariant-loop-robot : goal.invariant-loop-robot
 invariant-loop-robot g l = record {
   cells : l.cells.items ≡ map (λ x. x.cell) (take l.robot-index l.states);
-  queues : l.queues.items ≡ map (queue_in l.room) (take l.robot-index l.states);
   waits : l.waits.items ≡ map (λ x. x.wait) (take l.robot-index l.states);
 }

@@ -68,7 +68,7 @@ loop-r-preserved g c =
             arrive = rw (w.self-inside-is, w.arrive.ensures)
                 (arrived-more x.queues to r c.self.inside.clients c.loop-r.self-inside.clients inv.arrive f e known (omega (arith, known, account-count i, tally-count i)));
             queue = rw w.self-inside-is inv.queue;
-            room = rw w.self-inside-is inv.room;
+            rooms = rw w.self-inside-is inv.rooms;
             tick = rw w.self-inside-is inv.tick;
           })
       | in_default w ↦
@@ -77,7 +77,7 @@ loop-r-preserved g c =
             steps = rw (w.self-inside-is, c.step.ensures.stepped) moved;
             arrive = rw w.self-inside-is (arrived-same x.queues to r c.self.inside.clients c.loop-r.self-inside.clients inv.arrive e);
             queue = rw w.self-inside-is inv.queue;
-            room = rw w.self-inside-is inv.room;
+            rooms = rw w.self-inside-is inv.rooms;
             tick = rw w.self-inside-is inv.tick;
           })
     ]
@@ -90,7 +90,7 @@ invariant_of-self g c =
     record {
       floor = may.floor;
       history = after may.history (entry.Tick c.args.to.now c.requires.arrived c.requires.farewells);
-      is = rw (inv.queue, inv.room, inv.tick)
+      is = rw (inv.queue, inv.rooms, inv.tick)
           (ticked-is (inside c.self.view_is may.is) c.args.to.now c.requires.arrived c.requires.farewells c.loop-r.self-inside.robots c.loop-r.self-inside.clients may.fits
           (subst (λ n. AreStepped c.args.to.now n c.self.inside.robots c.loop-r.self-inside.robots) last inv.steps)
           (subst (λ n. AreArrived c.self.inside.robots.queues c.args.to.now n c.self.inside.clients c.loop-r.self-inside.clients) last inv.arrive));
@@ -100,7 +100,7 @@ pub returns-clause-follows : goal.returns-clause-follows
 returns-clause-follows g c arrived farewells m h k fits =
     let inv = c.loop-r.invariant in
     let last : c.loop-r.r ≡ length c.args.to.now = omega (arith, c.loop-r-test.false, c.loop-r.auto.r-end) in
-    rw (inv.queue, inv.room, inv.tick)
+    rw (inv.queue, inv.rooms, inv.tick)
     (ticked-is (inside c.self.view_is k) c.args.to.now arrived farewells c.loop-r.self-inside.robots c.loop-r.self-inside.clients fits
     (subst (λ n. AreStepped c.args.to.now n c.self.inside.robots c.loop-r.self-inside.robots) last inv.steps)
     (subst (λ n. AreArrived c.self.inside.robots.queues c.args.to.now n c.self.inside.clients c.loop-r.self-inside.clients) last inv.arrive))

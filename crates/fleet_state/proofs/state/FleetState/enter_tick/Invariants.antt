@@ -7,6 +7,6 @@ invariant-loop-r g l = record {
   steps : AreStepped l.to l.r l.initial.self-inside.robots l.self-inside.robots;
   arrive : AreArrived l.initial.self-inside.robots.queues l.to l.r l.initial.self-inside.clients l.self-inside.clients;
   queue : l.self-inside.queue ≡ l.initial.self-inside.queue;
-  room : l.self-inside.room ≡ l.initial.self-inside.room;
+  rooms : l.self-inside.rooms.items ≡ l.initial.self-inside.rooms.items;
   tick : l.self-inside.tick ≡ l.initial.self-inside.tick;
 }

@@ -1,17 +1,36 @@
+use Rattle.std.proofs.Common.{◌≡◌, ◌≤◌, ◌<◌, ◌∙◌, ℕ, List, [], Result, Ok, Err, length, map, replicate, slice_index, get_or, sym, ap, arith}
+use Rattle.std.specs.Prelude.{IfOk}
+use Rattle.std.specs.declared.alloc.AllocError.{AllocError}
+use Rattle.std.proofs.lemmas.List.{get_or-map, get_or-replicate, length-replicate}
+use Rattle.fleet_grid.specs.Floor.{Floor}
+use Rattle.fleet_history.specs.declared.history.Opening.{Opening}
+use Rattle.fleet_history.specs.declared.history.RobotState.{RobotState}
 use Rattle.fleet_history.specs.History.{start}
-use Rattle.fleet_state.proofs.Opened.{opened-is}
-use Rattle.fleet_state.proofs.NextOpening.{opened-next}
+use Rattle.fleet_history.specs.Legal.{IsInOrder}
+use Rattle.fleet_history.proofs.Legal.{unknown_robot}
+use Rattle.fleet_state.specs.Opened.{HaveRooms, errands_in}
+use Rattle.fleet_state.specs.State.{State, IsStateOf, HasFullRooms}
+use Rattle.fleet_state.proofs.Laws.{robot-at}
+use Rattle.fleet_state.proofs.Parts.{queue-count}
 use Rattle.fleet_state.proofs.state.FleetState.open.Goals as goal
 
-pub invariant_of-result : goal.invariant_of-result
-invariant_of-result g c = record {
-  floor = c.requires.order.0;
-  history = start c.args.opening.now;
-  is = rw (c.in_ok-open.ensures, c.in_ok-open-2.ensures, c.as_slice.ensures) (opened-is c.requires.order.1 c.args.room);
-}
+same-room : (n room r : ℕ) → r < n → slice_index (replicate n room) r ≡ room
+same-room n room r l = get_or-replicate n r room 0 l
 
-pub returns-clause-of : goal.returns-clause-of
-returns-clause-of g c m i = rw (c.in_ok-open.ensures, c.in_ok-open-2.ensures, c.as_slice.ensures) (opened-is i c.args.room)
+full-is : {A : Type 0} (x : Result (State A) AllocError) (m : Floor) (o : Opening A) (n room : ℕ) (rooms : List ℕ) → IsInOrder m o → n ≡ length o.robots → rooms ≡ replicate n room →
+    IfOk x (λ s. (m : Floor) → IsInOrder m o → IsStateOf m (start o) s) → IfOk x (λ s. s.rooms ≡ rooms) → IfOk x (λ s. s.queue ≤ room → HasFullRooms s)
+full-is (Ok s) m o n room rooms i many e of same =
+    λ enough r l. rw (same, e, same-room n room r (omega (arith, l, many, queue-count (of m i)))) enough
+full-is (Err f) m o n room rooms i many e of same = tt
 
-pub returns-clause-goes_on : goal.returns-clause-goes_on
-returns-clause-goes_on g c m h legal e = rw (c.in_ok-open.ensures, c.in_ok-open-2.ensures, c.as_slice.ensures) (opened-next c.requires.order.1 c.args.room m h legal e)
+pub open_within-requires-clause-rooms : goal.open_within-requires-clause-rooms
+open_within-requires-clause-rooms g c =
+    let robots = c.args.opening.now.robots in
+    rw (c.in_ok-rooms.ensures, c.len.ensures) record {
+      count = length-replicate (length robots) c.args.room;
+      each = λ r l. rw (same-room (length robots) c.args.room r l, robot-at (λ (x : RobotState _). x.errands) c.args.opening.now r [] l) (c.requires.room r unknown_robot l);
+    }
+
+pub returns-clause-full : goal.returns-clause-full
+returns-clause-full g c =
+    full-is c.open_within.result c.requires.order.0 c.args.opening.now c.len.result c.args.room c.in_ok-rooms.rooms.items c.requires.order.1 c.len.ensures c.in_ok-rooms.ensures c.open_within.ensures.of c.open_within.ensures.rooms

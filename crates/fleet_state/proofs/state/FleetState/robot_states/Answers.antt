@@ -26,6 +26,6 @@ loop-r-preserved g c =
     let farewells : (get_or opened r y).farewell_law ≡ farewell_law (start o) r =
     ap (λ x. x.farewell_law) (sym c.index-opened-r-in-loop-r.is ∙ get_or_read o.robots r y l (rw c.as_slice-opened.ensures at c.index-opened-r-in-loop-r.is) unknown_robot) ∙ sym (robot-at (λ x. x.farewell_law) o r no_law l) in
     rw (c.in_ok-push.ensures.items, c.loop-r.invariant)
-    (known-made (state_with c.self.inside.robots c.self.inside.clients c.self.inside.queue c.self.inside.room c.self.inside.tick) o r c.cell_of.result c.is_shut.result c.wait_of.result c.from_vec.result
+    (known-made (state_with c.self.inside.robots c.self.inside.clients c.self.inside.queue c.self.inside.rooms.items c.self.inside.tick) o r c.cell_of.result c.is_shut.result c.wait_of.result c.from_vec.result
     (get_or opened r x).arrival_law (get_or opened r y).farewell_law
     c.cell_of.ensures c.is_shut.ensures c.wait_of.ensures (c.from_vec.ensures ∙ c.in_ok-errands_of.ensures ∙ ap (λ (q : Queue). q.items) c.queue.ensures) arrivals farewells)

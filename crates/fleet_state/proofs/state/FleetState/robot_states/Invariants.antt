@@ -6,4 +6,4 @@ use Rattle.fleet_state.proofs.state.FleetState.robot_states.Given as goal
 
 abbrev pub invariant-loop-r : goal.invariant-loop-r
 invariant-loop-r g l = l.states.items
-    ≡ map (robot_known (state_with l.self-inside.robots l.self-inside.clients l.self-inside.queue l.self-inside.room l.self-inside.tick) l.opening) (range_with_len 0 l.r)
+    ≡ map (robot_known (state_with l.self-inside.robots l.self-inside.clients l.self-inside.queue l.self-inside.rooms.items l.self-inside.tick) l.opening) (range_with_len 0 l.r)

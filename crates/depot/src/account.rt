@@ -1,0 +1,135 @@
+//! What became of all orders.
+
+use crate::tally::Tally;
+use fleet_book::Verdict;
+use fleet_history::{Arrival, Chapter, Entry};
+use std::alloc::{AllocError, Global};
+
+/// What the clients sent and were told, and what the history says of it.
+#[derive(Clone, Copy, Debug, PartialEq, Eq)]
+pub struct Account {
+    pub told: Tally,
+    /// Orders that the history takes, errands that it accepts, and arrivals that it shows.
+    pub taken: u64,
+    pub accepted: u64,
+    pub arrived: u64,
+}
+
+impl Account {
+    /// Before the first client.
+    pub const NONE: Account = Account {
+        told: Tally::NONE,
+        taken: 0,
+        accepted: 0,
+        arrived: 0,
+    };
+
+    /// Adds what a client sent and was told.
+    pub(crate) fn add(&mut self, tally: &Tally) {
+        let told = &mut self.told;
+        told.orders = told.orders.saturating_add(tally.orders);
+        told.verdicts = told.verdicts.saturating_add(tally.verdicts);
+        told.accepted = told.accepted.saturating_add(tally.accepted);
+        told.arrived = told.arrived.saturating_add(tally.arrived);
+        told.in_order &= tally.in_order;
+    }
+
+    /// Adds what the history says.
+    pub(crate) fn read(&mut self, chapter: &Chapter) {
+        for entry in &chapter.entries {
+            match entry {
+                Entry::Take { verdict, .. } => {
+                    self.taken = self.taken.saturating_add(1);
+                    if let Verdict::Accepted(_) = verdict {
+                        self.accepted = self.accepted.saturating_add(1);
+                    }
+                }
+                Entry::Tick { arrived, .. } => {
+                    self.arrived = self.arrived.saturating_add(arrived.len() as u64);
+                }
+                Entry::Shut { .. } => {}
+            }
+        }
+    }
+
+    /// Errands that are in a queue still.
+    pub(crate) fn queued(&self) -> u64 {
+        self.accepted.saturating_sub(self.arrived)
+    }
+
+    /// Whether each order has its verdict, each accepted errand its arrival or its place in a queue, and all that the history
+    /// says was told, in order.
+    pub(crate) fn is_right(&self) -> bool {
+        self.told.in_order
+            && self.told.orders == self.told.verdicts
+            && self.told.verdicts == self.taken
+            && self.told.accepted == self.accepted
+            && self.told.arrived == self.arrived
+            && self.arrived <= self.accepted
+    }
+}
+
+/// When each errand was accepted, by client and number, and when each robot last arrived.
+#[derive(Drop)]
+struct Times {
+    accepted: Vec<Vec<u64>>,
+    arrived: Vec<u64>,
+}
+
+impl Times {
+    /// How long a robot that arrives at that tick had waited before.
+    fn wait_before(&self, arrival: &Arrival, tick: u64) -> u64 {
+        let mut since = 0;
+        if let Some(errands) = self.accepted.get(arrival.client as usize) {
+            if let Some(at) = errands.get(arrival.number.saturating_sub(1) as usize) {
+                since = *at;
+            }
+        }
+        if let Some(at) = self.arrived.get(arrival.robot as usize) {
+            since = since.max(*at);
+        }
+        tick.saturating_sub(since)
+    }
+}
+
+/// How many ticks a robot waited at most for an arrival that the chapter shows.
+pub(crate) fn greatest_wait(
+    alloc: Global,
+    chapter: &Chapter,
+    clients: u32,
+    robots: u32,
+) -> Result<u64, AllocError> {
+    let mut times = Times {
+        accepted: Vec::new(alloc),
+        arrived: vec![in alloc; 0u64; robots as usize]?,
+    };
+    for _ in 0..clients {
+        times.accepted.push(Vec::new(alloc))?;
+    }
+    let mut tick = 0u64;
+    let mut greatest = 0u64;
+    for entry in &chapter.entries {
+        match entry {
+            Entry::Take {
+                client,
+                verdict: Verdict::Accepted(_),
+                ..
+            } => {
+                if let Some(errands) = times.accepted.get_mut(*client as usize) {
+                    errands.push(tick)?;
+                }
+            }
+            Entry::Tick { arrived, .. } => {
+                for arrival in arrived.as_slice() {
+                    greatest = greatest.max(times.wait_before(arrival, tick));
+                    if let Some(at) = times.arrived.get_mut(arrival.robot as usize) {
+                        *at = tick.saturating_add(1);
+                    }
+                }
+                tick = tick.saturating_add(1);
+            }
+            _ => {}
+        }
+    }
+    Ok(greatest)
+}

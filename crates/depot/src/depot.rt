@@ -1,0 +1,159 @@
+//! The depot: an office over the warehouse, its clients and its tickers.
+
+ghost use Rattle.std.specs.Prelude.{◌≡◌, IfOk};
+ghost use Rattle.fleet_office.specs.Views.{IsNamed, AreOn, cores};
+
+use crate::account::Account;
+use crate::random::Random;
+use crate::tally::Tally;
+use crate::work::{Shift, Worker, work_all};
+use fleet_grid::Grid;
+use fleet_history::Chapter;
+use fleet_hooks::Hooks;
+use fleet_lanes::Client;
+use fleet_office::{
+    ConcludeFault, Desk, Final, Office, OfficeName, Ticker, TurnCause, clients_of, guests_of,
+};
+use fleet_world::OpenFault;
+use std::alloc::{Alloc, AllocError, Global};
+use std::sync::Wait;
+use std::thread::Threads;
+
+/// How a day at the depot ended.
+#[derive(Drop)]
+pub struct Day {
+    pub account: Account,
+    pub chapter: Chapter,
+    pub tick: u64,
+    /// No two cells are further apart.
+    pub reach: u32,
+}
+
+/// Why a day at the depot had no end.
+#[derive(Clone, Copy, Debug, PartialEq, Eq)]
+pub enum DayFault {
+    Opening(OpenFault),
+    Turn(TurnCause),
+    Conclude(ConcludeFault),
+    NoMemory,
+}
+
+impl From<AllocError> for DayFault {
+    ghost use Rattle.std.specs.Prelude.{◌≡◌};
+    ghost use Rattle.depot.specs.declared.depot.DayFault.TheVariants.{NoMemory};
+
+    ghost from_gives = { λ _ e. e ≡ NoMemory };
+
+    fn from(_e: AllocError) -> DayFault {
+        DayFault::NoMemory
+    }
+}
+
+/// The clients at their work, each with a seed of its own.
+fn workers_of<N: OfficeName<Global>>(
+    alloc: Global,
+    clients: Vec<Client>,
+    seed: u64,
+) -> Result<Vec<Worker<N>>, AllocError>
+    requires { AreOn N.rings (cores clients.items) }
+{
+    let mut guests = guests_of::<N, Global>(alloc, clients)?;
+    let mut workers = Vec::new(alloc);
+    while !guests.is_empty() {
+        let guest = guests.remove(0);
+        let random = Random::from_seed(seed.wrapping_add(u64::from(guest.number())));
+        workers.push(Worker {
+            guest,
+            random,
+            tally: Tally::NONE,
+        })?;
+    }
+    Ok(workers)
+}
+
+/// The clients that come home from their work, and what each was told.
+fn home_of<N: OfficeName<Global>>(
+    alloc: Global,
+    workers: Vec<Worker<N>>,
+) -> Result<(Vec<Client>, Vec<Tally>), AllocError>
+    ensures { IfOk result (λ home. AreOn N.rings (cores home.0.items)) }
+{
+    let mut workers = workers;
+    let mut guests = Vec::new(alloc);
+    let mut tallies = Vec::new(alloc);
+    while !workers.is_empty() {
+        let Worker { guest, tally, .. } = workers.remove(0);
+        guests.push(guest)?;
+        tallies.push(tally)?;
+    }
+    Ok((clients_of::<N, Global>(alloc, guests)?, tallies))
+}
+
+/// Both tickers.
+fn pair_of<N: OfficeName<Global>>(
+    alloc: Global,
+    first: Ticker<N>,
+    second: Ticker<N>,
+) -> Result<Vec<Ticker<N>>, AllocError> {
+    let mut tickers = Vec::new(alloc);
+    tickers.push(first)?;
+    tickers.push(second)?;
+    Ok(tickers)
+}
+
+/// What became of all orders.
+fn account_of(end: &Final, tallies: &[Tally]) -> Account {
+    let mut account = Account::NONE;
+    for (client, tally) in tallies.iter().enumerate() {
+        let mut tally = *tally;
+        if let Some(rest) = end.rest.get(client) {
+            for notice in rest {
+                tally.note(*notice);
+            }
+        }
+        account.add(&tally);
+    }
+    account.read(&end.chapter);
+    account
+}
+
+/// Opens an office over the desk, lets clients and tickers work side by side, and concludes.
+pub(crate) fn spend_day<
+    N: OfficeName<Global> + Send + Sync,
+    R: Alloc<A = Global> + Threads + Sync + Wait,
+>(
+    rt: &R,
+    desk: Desk,
+    grid: Grid,
+    starts: Vec<u32>,
+    hooks: Hooks,
+    shift: &Shift,
+    seed: u64,
+) -> Result<Day, DayFault>
+    requires { IsNamed desk N.name N.parts N.rings }
+{
+    let alloc = rt.alloc();
+    let (office, clients, mut first) = match Office::<N>::open(alloc, desk, grid, starts, hooks) {
+        Ok(opened) => opened,
+        Err(fault) => return Err(DayFault::Opening(fault)),
+    };
+    let Some(second) = first.split() else {
+        return Err(DayFault::NoMemory);
+    };
+    let workers = workers_of::<N>(alloc, clients, seed)?;
+    let (workers, first, second) = work_all(rt, &office, workers, first, second, shift)?;
+    if let Some(cause) = first.stopped.or(second.stopped) {
+        return Err(DayFault::Turn(cause));
+    }
+    let (clients, tallies) = home_of(alloc, workers)?;
+    let tickers = pair_of(alloc, first.ticker, second.ticker)?;
+    match office.conclude(alloc, clients, tickers) {
+        Ok(end) => Ok(Day {
+            account: account_of(&end, &tallies),
+            tick: end.tick,
+            reach: end.grid.floor_count(),
+            chapter: end.chapter,
+        }),
+        Err((fault, _home)) => Err(DayFault::Conclude(fault)),
+    }
+}

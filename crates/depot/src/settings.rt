@@ -1,0 +1,107 @@
+//! The depot's size, from the program's words.
+
+ghost use Rattle.std.specs.Prelude.{◌≡◌, ◌≤◌, IfOk};
+
+use clap::error::ErrorKind;
+use clap::{Arg, ArgAction, ArgMatches, Command, Error};
+use fleet_map::text::number_up_to;
+use std::alloc::{AllocError, Global};
+
+/// How large the depot is, and how long it is kept going.
+#[derive(Clone, Copy, Debug, PartialEq, Eq)]
+pub struct Settings {
+    /// 1 to 512.
+    pub robots: u32,
+    /// 1 to 64.
+    pub clients: u32,
+    /// Orders of each client, and turns that each ticker makes at least: 1 to 1,000,000.
+    pub turns: u64,
+    pub seed: u64,
+}
+
+/// Why there are no settings.
+#[derive(Debug, Drop)]
+pub enum SettingsFault {
+    /// What `clap` says of the words. A request for help is among these.
+    Words(String),
+    /// A number that is none, or out of range.
+    Number,
+    NoMemory,
+}
+
+impl From<AllocError> for SettingsFault {
+    ghost use Rattle.std.specs.Prelude.{◌≡◌};
+    ghost use Rattle.depot.specs.declared.settings.SettingsFault.TheVariants.{NoMemory};
+
+    ghost from_gives = { λ _ e. e ≡ NoMemory };
+
+    fn from(_error: AllocError) -> SettingsFault {
+        SettingsFault::NoMemory
+    }
+}
+
+/// An option that has a number.
+fn option<'a>(alloc: Global, name: &'a str, help: &'a str) -> Arg<'a> {
+    Arg::new(alloc, name)
+        .long(name)
+        .action(ArgAction::Set)
+        .help(help)
+}
+
+/// The command `depot` with its options.
+fn command<'a>(alloc: Global) -> Result<Command<'a>, AllocError> {
+    Command::new(alloc, "depot")
+        .about("Keeps robots, clients and two tickers of one office going side by side")
+        .arg(option(alloc, "robots", "Robots, 1 to 512 (default 8)"))?
+        .arg(option(alloc, "clients", "Clients, 1 to 64 (default 3)"))?
+        .arg(option(
+            alloc,
+            "turns",
+            "Orders of each client, and the least turns of each ticker (default 20)",
+        ))?
+        .arg(option(alloc, "seed", "Where the random errands begin (default 1)"))
+}
+
+/// The number of an option, or another where it is not given.
+fn number_of(
+    matches: &ArgMatches<'_>,
+    name: &str,
+    other: u64,
+    most: u64,
+) -> Result<u64, SettingsFault>
+    requires { (other ≤ most) × (most ≤ 4294967295) }
+    ensures { IfOk result (λ n. n ≤ most) }
+{
+    let Some(word) = matches.get_str(name) else {
+        return Ok(other);
+    };
+    match number_up_to(word.as_bytes(), most + 1) {
+        Some(number) if number <= most => Ok(number),
+        _ => Err(SettingsFault::Number),
+    }
+}
+
+/// The settings that the words name. The first word is the program's own name.
+pub(crate) fn settings_of(alloc: Global, words: &[String]) -> Result<Settings, SettingsFault> {
+    let command = command(alloc)?;
+    match command.try_get_matches_from(words) {
+        Ok(matches) => Ok(Settings {
+            robots: number_of(&matches, "robots", 8, 512)? as u32,
+            clients: number_of(&matches, "clients", 3, 64)? as u32,
+            turns: number_of(&matches, "turns", 20, 1_000_000)?,
+            seed: number_of(&matches, "seed", 1, 4_294_967_295)?,
+        }),
+        Err(error) => Err(fault_from(alloc, &error)),
+    }
+}
+
+/// Why `clap` did not take the words.
+fn fault_from(alloc: Global, error: &Error) -> SettingsFault {
+    if error.kind() == ErrorKind::OutOfMemory {
+        return SettingsFault::NoMemory;
+    }
+    match error.to_string(alloc) {
+        Ok(text) => SettingsFault::Words(text),
+        Err(_) => SettingsFault::NoMemory,
+    }
+}

@@ -1,0 +1,59 @@
+//! What a client was told.
+
+use fleet_book::{Notice, Verdict};
+
+/// What a client sent and was told so far.
+#[derive(Clone, Copy, Debug, PartialEq, Eq)]
+pub struct Tally {
+    /// Orders sent.
+    pub orders: u64,
+    pub verdicts: u64,
+    /// Verdicts that accepted an errand.
+    pub accepted: u64,
+    pub arrived: u64,
+    /// The number of the last notice.
+    pub last: u64,
+    /// Whether the notices were numbered through, and the verdicts in the order of the orders.
+    pub in_order: bool,
+}
+
+impl Tally {
+    /// Before the first order.
+    pub const NONE: Tally = Tally {
+        orders: 0,
+        verdicts: 0,
+        accepted: 0,
+        arrived: 0,
+        last: 0,
+        in_order: true,
+    };
+
+    /// Counts a notice.
+    pub(crate) fn note(&mut self, notice: Notice) {
+        let number = match notice {
+            Notice::Verdict {
+                seq,
+                order_no,
+                verdict,
+            } => {
+                self.verdicts = self.verdicts.saturating_add(1);
+                self.in_order &= order_no == self.verdicts;
+                if let Verdict::Accepted(_) = verdict {
+                    self.accepted = self.accepted.saturating_add(1);
+                }
+                seq
+            }
+            Notice::Arrived { seq, .. } => {
+                self.arrived = self.arrived.saturating_add(1);
+                seq
+            }
+        };
+        self.last = self.last.saturating_add(1);
+        self.in_order &= number == self.last;
+    }
+
+    /// Whether all that was sent has its verdict, and all that was accepted has arrived.
+    pub(crate) fn is_settled(&self) -> bool {
+        self.verdicts == self.orders && self.arrived == self.accepted
+    }
+}

@@ -1,0 +1,156 @@
+//! Clients and tickers at work, each in its thread.
+
+ghost use Rattle.std.specs.Prelude.{◌≡◌, ◌<◌, ◌^◌, vec_len};
+
+use crate::random::Random;
+use crate::tally::Tally;
+use fleet_book::Order;
+use fleet_office::{Guest, Office, OfficeName, Ticker, TurnCause, side_by_side};
+use std::alloc::{Alloc, AllocError, Global};
+use std::sync::Wait;
+use std::sync::atomic::{AtomicU64, Ordering};
+use std::thread;
+use std::thread::{Threads, join};
+
+/// How often a client looks for a free slot or a notice at most, and how many turns a ticker makes at most.
+const MOST_TRIES: u64 = 200_000_000;
+
+/// How many notices a client collects at once at most.
+const HANDFUL: u32 = 64;
+
+/// A client with what it sends and what it was told.
+#[derive(Drop)]
+pub struct Worker<N: OfficeName<Global>> {
+    pub guest: Guest<N>,
+    pub random: Random,
+    pub tally: Tally,
+}
+
+/// What all threads share: how many robots there are, on which cells errands lie, how many orders each client sends, how many
+/// turns each ticker makes at least, and how many clients have done their work.
+#[derive(Drop)]
+pub struct Shift {
+    pub robots: u32,
+    pub cells: Vec<u32>,
+    pub orders: u64,
+    pub turns: u64,
+    pub clients: u64,
+    pub done: AtomicU64,
+    ghost robots_there: { 0 < robots },
+    ghost cells_there: { 0 < vec_len cells },
+}
+
+impl<N: OfficeName<Global>> Worker<N> {
+    /// Collects what is on the outlet, a handful at most.
+    fn collect(&mut self) {
+        for _ in 0..HANDFUL {
+            let Some(notice) = self.guest.collect() else {
+                return;
+            };
+            self.tally.note(notice);
+        }
+    }
+
+    /// Posts a random errand, and says whether the lane took it.
+    fn post(&mut self, shift: &Shift) -> bool {
+        let mut random = self.random;
+        let robot = random.below(shift.robots as usize) as u32;
+        let cell = shift.cells[random.below(shift.cells.len())];
+        match self.guest.post(Order::Go { robot, cell }) {
+            Ok(number) => {
+                self.random = random;
+                self.tally.orders = number;
+                true
+            }
+            Err(_full) => false,
+        }
+    }
+}
+
+/// One client's work: it sends its orders as its lane takes them, and collects until each accepted errand has arrived.
+fn work<N: OfficeName<Global>>(worker: Worker<N>, shift: &Shift) -> Worker<N> {
+    let mut worker = worker;
+    for _ in 0..MOST_TRIES {
+        worker.collect();
+        if worker.tally.orders < shift.orders {
+            if !worker.post(shift) {
+                thread::yield_now();
+            }
+        } else if worker.tally.is_settled() {
+            break;
+        } else {
+            thread::yield_now();
+        }
+    }
+    shift.done.fetch_add(1, Ordering::SeqCst);
+    worker
+}
+
+/// A ticker, and why it stopped early.
+#[derive(Drop)]
+pub struct Shifted<N: OfficeName<Global>> {
+    pub ticker: Ticker<N>,
+    pub stopped: Option<TurnCause>,
+}
+
+/// One ticker's work: its turns, and further ones until all clients have done theirs.
+fn tick<N: OfficeName<Global>, R: Alloc<A = Global> + Wait>(
+    rt: &R,
+    office: &Office<N>,
+    ticker: Ticker<N>,
+    shift: &Shift,
+) -> Shifted<N> {
+    let mut ticker = ticker;
+    for turn in 0..MOST_TRIES {
+        if turn >= shift.turns && shift.done.load(Ordering::SeqCst) >= shift.clients {
+            break;
+        }
+        if let Err(fault) = office.turn(rt, &mut ticker) {
+            return Shifted {
+                ticker,
+                stopped: Some(fault.cause),
+            };
+        }
+    }
+    Shifted {
+        ticker,
+        stopped: None,
+    }
+}
+
+/// Two tickers side by side.
+fn tick_both<N: OfficeName<Global> + Send + Sync, R: Alloc<A = Global> + Threads + Sync + Wait>(
+    rt: &R,
+    office: &Office<N>,
+    first: Ticker<N>,
+    second: Ticker<N>,
+    shift: &Shift,
+) -> (Shifted<N>, Shifted<N>) {
+    side_by_side(
+        rt,
+        office,
+        first,
+        second,
+        &|office: &Office<N>, ticker: Ticker<N>| tick(rt, office, ticker, shift),
+    )
+}
+
+/// All clients side by side, beside the tickers.
+pub(crate) fn work_all<
+    N: OfficeName<Global> + Send + Sync,
+    R: Alloc<A = Global> + Threads + Sync + Wait,
+>(
+    rt: &R,
+    office: &Office<N>,
+    workers: Vec<Worker<N>>,
+    first: Ticker<N>,
+    second: Ticker<N>,
+    shift: &Shift,
+) -> Result<(Vec<Worker<N>>, Shifted<N>, Shifted<N>), AllocError> {
+    let (home, (first, second)) = join(
+        rt,
+        || thread::map_vec(rt, workers, &|worker| work(worker, shift)),
+        || tick_both(rt, office, first, second, shift),
+    );
+    Ok((home?, first, second))
+}

@@ -1,0 +1,67 @@
+//! The warehouse: aisles round shelves.
+
+ghost use Rattle.std.specs.Prelude.{◌≡◌, ◌*◌, ◌≤◌, length, IfOk};
+
+use fleet_grid::Grid;
+use fleet_map::MapText;
+use std::alloc::{AllocError, Global};
+
+const HEIGHT: u32 = 33;
+
+const WIDTH: u32 = 61;
+
+/// What stands in that row and column: shelves of one row by four columns, with an aisle on each side.
+fn letter_at(row: u32, col: u32) -> u8 {
+    if row % 2 == 1 && col % 5 != 0 {
+        b'@'
+    } else {
+        b'.'
+    }
+}
+
+/// The warehouse's letters, row by row.
+fn letters(alloc: Global) -> Result<Vec<u8>, AllocError>
+    ensures { IfOk result (λ letters. length letters.items ≡ HEIGHT * WIDTH) }
+{
+    let mut letters = Vec::new(alloc);
+    for cell in 0..HEIGHT * WIDTH {
+        letters.push(letter_at(cell / WIDTH, cell % WIDTH))?;
+    }
+    Ok(letters)
+}
+
+/// The warehouse, whose map has no bridge.
+pub(crate) fn warehouse(alloc: Global) -> Result<Grid, AllocError> {
+    Grid::new(MapText {
+        height: HEIGHT,
+        width: WIDTH,
+        cells: letters(alloc)?,
+    })
+}
+
+/// The floor cells, by number.
+pub(crate) fn floor_of(alloc: Global, grid: &Grid) -> Result<Vec<u32>, AllocError> {
+    let mut cells = Vec::new(alloc);
+    for cell in 0..grid.cell_count() {
+        if grid.is_floor(cell) {
+            cells.push(cell)?;
+        }
+    }
+    Ok(cells)
+}
+
+/// Where so many robots start: spread over the cells.
+pub(crate) fn starts_on(
+    alloc: Global,
+    cells: &[u32],
+    robots: u32,
+) -> Result<Vec<u32>, AllocError> {
+    let mut starts = Vec::new(alloc);
+    for robot in 0..robots as usize {
+        let at = robot.saturating_mul(cells.len()) / (robots as usize).max(1);
+        if let Some(cell) = cells.get(at) {
+            starts.push(*cell)?;
+        }
+    }
+    Ok(starts)
+}

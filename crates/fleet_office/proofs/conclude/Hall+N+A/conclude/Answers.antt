@@ -1,0 +1,108 @@
+use Rattle.std.proofs.Common.{◌≡◌, length, rules, sym, ap, ◌∙◌, subst, arith, inr}
+use Rattle.fleet_history.specs.History.{history_of, clock}
+use Rattle.fleet_history.specs.Laws.{EachTick}
+use Rattle.fleet_plan.specs.Planned.{IsPlanned}
+use Rattle.fleet_office.specs.Views.{AreOn, AreDistinct, AreSettled, cores}
+use Rattle.fleet_office.specs.Draining.{DrainsFirst}
+use Rattle.fleet_office.specs.Rests.{AreRooms}
+use Rattle.fleet_office.specs.Concluded.{AreHome, DrainsPart, AreTold}
+use Rattle.fleet_office.proofs.Settling.{first_frame, lent_back}
+use Rattle.fleet_office.proofs.Ended.{told-same}
+use Rattle.fleet_office.proofs.conclude.Hall+N+A.conclude.Goals as goal
+
+pub come_to_rest-requires-clause-on : goal.come_to_rest-requires-clause-on
+come_to_rest-requires-clause-on g c =
+    let e : c.as_mut_slice.result.now ≡ c.args.clients.items = search rules in
+    subst (λ xs. AreOn g.N.OfficeName.rings (cores xs)) (sym e) c.requires.on
+
+pub come_to_rest-requires-clause-distinct : goal.come_to_rest-requires-clause-distinct
+come_to_rest-requires-clause-distinct g c =
+    let e : c.as_mut_slice.result.now ≡ c.args.clients.items = search rules in
+    let a : c.as_slice.result.now ≡ c.args.clients.items = search rules in
+    subst (λ xs. AreDistinct (cores xs)) (a ∙ sym e) c.in_default.ensures.ok.distinct
+
+pub returns-in-Err-come_to_rest-clause-err : goal.returns-in-Err-come_to_rest-clause-err
+returns-in-Err-come_to_rest-clause-err g c =
+    let count = length g.N.OfficeName.rings in
+    let a : c.as_slice.result.now ≡ c.args.clients.items = search rules in
+    let home : AreHome count c.args.clients.items c.args.tickers.items (clock c.args.self.rest.world.history) =
+    subst (λ xs. AreHome count xs c.args.tickers.items (clock c.args.self.rest.world.history)) a c.in_default.ensures.ok in
+    let f = c.in-Err-come_to_rest.ensures in
+    inr (home, (c.come_to_rest.new.self.world, subst (λ v. DrainsPart count v.world c.come_to_rest.new.self.world) c.see_home.ensures.same f.part, f.err))
+
+pub returns-in-Err-come_to_rest-clause-back : goal.returns-in-Err-come_to_rest-clause-back
+returns-in-Err-come_to_rest-clause-back g c =
+    let items = c.args.clients.items in
+    let e : c.as_mut_slice.result.now ≡ items = search rules in
+    let same : cores c.come_to_rest.new.clients ≡ cores items = c.come_to_rest.ensures.clients ∙ ap cores e in
+    let now = lent_back c.come_to_rest.new.clients items c.args.clients.len (omega (arith, c.args.clients.ok.0)) same in
+    let h = c.come_home-in-Err-come_to_rest.ensures in
+    (ap cores (h.0 ∙ now) ∙ same, h.1 ∙ c.see_home.ensures.tickers)
+
+pub finish-grid-requires-clause-on : goal.finish-grid-requires-clause-on
+finish-grid-requires-clause-on g c =
+    let items = c.args.clients.items in
+    let e : c.as_mut_slice.result.now ≡ items = search rules in
+    let same : cores c.come_to_rest.new.clients ≡ cores items = c.come_to_rest.ensures.clients ∙ ap cores e in
+    let now = lent_back c.come_to_rest.new.clients items c.args.clients.len (omega (arith, c.args.clients.ok.0)) same in
+    subst (AreOn g.N.OfficeName.rings) (sym (ap cores now ∙ same)) c.requires.on
+
+pub finish-grid-requires-clause-distinct : goal.finish-grid-requires-clause-distinct
+finish-grid-requires-clause-distinct g c =
+    let items = c.args.clients.items in
+    let e : c.as_mut_slice.result.now ≡ items = search rules in
+    let a : c.as_slice.result.now ≡ items = search rules in
+    let same : cores c.come_to_rest.new.clients ≡ cores items = c.come_to_rest.ensures.clients ∙ ap cores e in
+    let now = lent_back c.come_to_rest.new.clients items c.args.clients.len (omega (arith, c.args.clients.ok.0)) same in
+    subst AreDistinct (ap cores a ∙ sym (ap cores now ∙ same)) c.in_default.ensures.ok.distinct
+
+pub finish-grid-requires-clause-settled : goal.finish-grid-requires-clause-settled
+finish-grid-requires-clause-settled g c =
+    let items = c.args.clients.items in
+    let e : c.as_mut_slice.result.now ≡ items = search rules in
+    let same : cores c.come_to_rest.new.clients ≡ cores items = c.come_to_rest.ensures.clients ∙ ap cores e in
+    let now = lent_back c.come_to_rest.new.clients items c.args.clients.len (omega (arith, c.args.clients.ok.0)) same in
+    subst (AreSettled c.come_to_rest.new.self.ends) (sym now) c.in-Ok.ensures.settled
+
+pub finish-grid-requires-clause-rooms : goal.finish-grid-requires-clause-rooms
+finish-grid-requires-clause-rooms g c =
+    let items = c.args.clients.items in
+    let e : c.as_mut_slice.result.now ≡ items = search rules in
+    let same : cores c.come_to_rest.new.clients ≡ cores items = c.come_to_rest.ensures.clients ∙ ap cores e in
+    let now = lent_back c.come_to_rest.new.clients items c.args.clients.len (omega (arith, c.args.clients.ok.0)) same in
+    subst (AreRooms c.in-Ok.rooms.items c.come_to_rest.new.self.world) (sym now) c.in-Ok.ensures.rooms
+
+pub returns-clause-drains : goal.returns-clause-drains
+returns-clause-drains g c =
+    let count = length g.N.OfficeName.rings in
+    let last = c.come_to_rest.new.self.world in
+    let f = c.finish-grid.ensures in
+    let drains : DrainsFirst count c.args.self.rest.world last = subst (λ v. DrainsFirst count v.world last) c.see_home.ensures.same c.in-Ok.ensures.drains in
+    let frame = first_frame count c.args.self.rest.world last drains in
+    record { world = last; drains = drains; floor = f.floor ∙ frame.0; number = f.number ∙ frame.2; history = f.history }
+
+pub returns-clause-planned : goal.returns-clause-planned
+returns-clause-planned g c =
+    let count = length g.N.OfficeName.rings in
+    let last = c.come_to_rest.new.self.world in
+    let f = c.finish-grid in
+    let drains : DrainsFirst count c.args.self.rest.world last = subst (λ v. DrainsFirst count v.world last) c.see_home.ensures.same c.in-Ok.ensures.drains in
+    subst (λ t. EachTick (IsPlanned f.result.0 t) (history_of f.result.1)) (first_frame count c.args.self.rest.world last drains).1 f.ensures.planned
+
+pub returns-clause-told : goal.returns-clause-told
+returns-clause-told g c =
+    let items = c.args.clients.items in
+    let f = c.finish-grid in
+    let e : c.as_mut_slice.result.now ≡ items = search rules in
+    let same : cores c.come_to_rest.new.clients ≡ cores items = c.come_to_rest.ensures.clients ∙ ap cores e in
+    let now = lent_back c.come_to_rest.new.clients items c.args.clients.len (omega (arith, c.args.clients.ok.0)) same in
+    told-same f.result.1.number (history_of f.result.1) items c.come_to_rest.new.clients f.result.2.items same
+    (subst (λ xs. AreTold f.result.1.number (history_of f.result.1) xs f.result.2.items) now f.ensures.told)
+
+pub returns-clause-all : goal.returns-clause-all
+returns-clause-all g c =
+    let count = length g.N.OfficeName.rings in
+    let a : c.as_slice.result.now ≡ c.args.clients.items = search rules in
+    let home : AreHome count c.args.clients.items c.args.tickers.items (clock c.args.self.rest.world.history) =
+    subst (λ xs. AreHome count xs c.args.tickers.items (clock c.args.self.rest.world.history)) a c.in_default.ensures.ok in
+    home.all

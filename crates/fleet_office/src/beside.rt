@@ -1,0 +1,20 @@
+//! Two threads at one office.
+use crate::office::OfficeOf;
+use std::thread::{Threads, join};
+
+/// Does the work at the office twice, side by side, each time with what one thread brings, as a ticker. Answers what either came to.
+///
+/// It knows the office by its parts alone: that each may cross threads is shown apart, where the whole is too large to be shown
+/// at once.
+pub fn side_by_side<
+    X: Send,
+    Y: Send,
+    T: Send + Drop,
+    O: Send + Drop,
+    R: Threads + Sync,
+    F: Fn(&OfficeOf<X, Y>, T) -> O + Sync,
+>(rt: &R, office: &OfficeOf<X, Y>, first: T, second: T, work: &F) -> (O, O)
+    requires { F.IsAlwaysCallable work.now }
+{
+    join(rt, || work(office, first), || work(office, second))
+}

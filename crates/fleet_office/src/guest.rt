@@ -1,0 +1,132 @@
+//! A client that its office knows again, whatever thread it went through.
+ghost use Rattle.std.specs.Prelude.{◌≡◌, ◌+◌, ◌<◌, ◌≤◌, ◌↔◌, ◌⊎◌, ◌++◌, ◌∷◌, [], true, length, Some, slice_get, Err, IfOk, IfErr, IfSome, IfNone, IsSome};
+ghost use Rattle.fleet_lanes.specs.Ends.{has_close};
+ghost use Rattle.fleet_lanes.specs.Posts.{AreSpent, HandsBack};
+ghost use Rattle.fleet_office.specs.Views.{AreOn, cores};
+
+use crate::names::OfficeName;
+use fleet_book::{Notice, Order};
+use fleet_lanes::{Client, PostFault};
+use std::alloc::{AllocError, Allocator, Global};
+use std::marker::{Model, PhantomData};
+
+/// A client of the office of this name, and seen as that client. Its type says that it is on the office's rings, so it may go
+/// through a thread and come home.
+#[derive(Drop)]
+pub struct Guest<N: OfficeName<A>, A: Allocator + Copy = Global> {
+    client: Client<A>,
+    of: PhantomData<N>,
+}
+
+impl<N: OfficeName<A>, A: Allocator + Copy> Model for Guest<N, A> {
+    ghost use Rattle.std.specs.Prelude.{◌≡◌, Some, slice_get};
+    ghost use Rattle.fleet_lanes.specs.Ends.{ClientView};
+
+    ghost Value = { ClientView A };
+
+    ghost view = { λ g. g.client };
+
+    ghost invariant = { λ g. slice_get N.rings g.client.number ≡ Some g.client.lane };
+}
+
+impl<N: OfficeName<A>, A: Allocator + Copy> Guest<N, A> {
+    /// The client, which is on its office's rings.
+    pub fn new(client: Client<A>) -> Guest<N, A>
+        requires { slice_get N.rings client.number ≡ Some client.lane }
+        ensures { result ≡ client }
+    {
+        Guest {
+            client,
+            of: PhantomData,
+        }
+    }
+
+    /// Sends an order, as the client does.
+    pub fn post(&mut self, order: Order) -> Result<u64, PostFault>
+        ensures ok { IfOk result (λ number. (number ≡ length self.old.sent + 1)
+            × (self.new ≡ record self.old { sent = self.old.sent ++ order ∷ []; free = self.new.free })
+            × (self.old.free ≤ self.new.free + 1)) }
+        ensures closed { (result ≡ Err PostFault.Closed) ↔ (has_close self.old.sent ≡ true) }
+        ensures spent { (result ≡ Err (PostFault.NumbersSpent order)) ↔ AreSpent self.old order }
+        ensures full { result ≡ Err (PostFault.LaneFull order) → self.old.free ≡ 0 }
+        ensures refused { IfErr result (λ fault. HandsBack order fault × (self.new ≡ self.old)) }
+    {
+        self.client.post(order)
+    }
+
+    /// Sends Close, as the client does.
+    pub fn close(&mut self) -> Result<u64, PostFault>
+        ensures ok { IfOk result (λ number. (number ≡ length self.old.sent + 1)
+            × (self.new ≡ record self.old { sent = self.old.sent ++ Order.Close ∷ []; free = self.new.free })
+            × (self.old.free ≤ self.new.free + 1)) }
+        ensures closed { (result ≡ Err PostFault.Closed) ↔ (has_close self.old.sent ≡ true) }
+        ensures full { result ≡ Err (PostFault.LaneFull Order.Close) → self.old.free ≡ 0 }
+        ensures refused { IfErr result (λ fault.
+            ((fault ≡ PostFault.Closed) ⊎ (fault ≡ PostFault.LaneFull Order.Close)) × (self.new ≡ self.old)) }
+    {
+        self.client.close()
+    }
+
+    /// The oldest notice that is found on the outlet.
+    pub fn collect(&mut self) -> Option<Notice>
+        ensures some { IfSome result (λ notice. self.new
+            ≡ record self.old { collected = self.old.collected ++ notice ∷ []; known = self.new.known }) }
+        ensures none { IfNone result (self.new ≡ self.old) }
+        ensures succeeds { 0 < length self.old.known → IsSome result }
+    {
+        self.client.collect()
+    }
+
+    /// The client's number, from 0.
+    pub fn number(&self) -> u32
+        ensures { result ≡ self.now.number }
+    {
+        self.client.number()
+    }
+
+    /// How many orders were sent.
+    pub fn sent(&self) -> u64
+        ensures { result ≡ length self.now.sent }
+    {
+        self.client.sent()
+    }
+
+    /// The client, which its office knows.
+    pub fn into_client(self) -> Client<A>
+        ensures same { result ≡ self }
+        ensures on { slice_get N.rings result.number ≡ Some result.lane }
+    {
+        self.client
+    }
+}
+
+/// The clients of an office as its guests.
+pub fn guests_of<N: OfficeName<A>, A: Allocator + Copy>(
+    alloc: A,
+    clients: Vec<Client<A>, A>,
+) -> Result<Vec<Guest<N, A>, A>, AllocError>
+    requires { AreOn N.rings (cores clients.items) }
+{
+    let mut clients = clients;
+    let mut guests = Vec::with_capacity(alloc, clients.len())?;
+    while !clients.is_empty() {
+        let client = clients.remove(0);
+        guests.push(Guest::new(client))?;
+    }
+    Ok(guests)
+}
+
+/// The clients that these guests are, as their office knows them.
+pub fn clients_of<N: OfficeName<A>, A: Allocator + Copy>(
+    alloc: A,
+    guests: Vec<Guest<N, A>, A>,
+) -> Result<Vec<Client<A>, A>, AllocError>
+    ensures { IfOk result (λ clients. AreOn N.rings (cores clients.items)) }
+{
+    let mut guests = guests;
+    let mut clients = Vec::with_capacity(alloc, guests.len())?;
+    while !guests.is_empty() {
+        clients.push(guests.remove(0).into_client())?;
+    }
+    Ok(clients)
+}

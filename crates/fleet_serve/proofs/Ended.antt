@@ -1,0 +1,33 @@
+-- What the history of a concluded office says of the clients that ran their lines.
+use Rattle.std.proofs.Common.{◌≡◌, ◌∙◌, ℕ, ◌<◌, List, ◌++◌, length, Some, sym, subst}
+use Rattle.std.specs.Prelude.{Vec, slice_get}
+use Rattle.fleet_book.specs.declared.event.Event.{Event}
+use Rattle.fleet_book.specs.declared.notice.Notice.{Notice}
+use Rattle.fleet_history.specs.History.{History}
+use Rattle.fleet_history.specs.Laws.{orders}
+use Rattle.fleet_history.specs.Notices.{notices}
+use Rattle.fleet_lanes.specs.Ends.{ClientView}
+use Rattle.fleet_office.specs.Concluded.{AreTold, HasAll}
+use Rattle.fleet_serve.specs.Posted.{posts, until_close, IsSubsequence, AllHaveRun, TakesPosted, TakesAll, AreLastNotices}
+
+module _ {A : Type 0} (h : History A) (number count : ℕ) (cs : List (ClientView A)) (rests : List (Vec Notice A))
+    (first : number ≡ 0) (told : AreTold number h cs rests) (all : HasAll count cs) where
+  pub last-notices : AreLastNotices h rests count
+  last-notices = λ c l.
+      let a = all c l in
+      let t = told a.0 a.1 a.2 in
+      (t.0, subst (λ n. slice_get rests n ≡ Some t.0) a.3 t.1, (a.1.collected, subst (λ n. a.1.collected ++ t.0.items ≡ notices h n) a.3 (sym (t.2.notices first))))
+
+  module _ (events : List Event) (most full : ℕ) (ran : AllHaveRun events most cs full) where
+    pub takes-posted : TakesPosted h events count
+    takes-posted = λ c l.
+        let a = all c l in
+        let t = told a.0 a.1 a.2 in
+        subst (λ n. IsSubsequence (orders h n) (posts n events)) a.3
+        (subst (λ os. IsSubsequence os (posts a.1.number events)) (sym (t.2.orders first)) (ran a.0 a.1 a.2).part)
+
+    pub takes-all : full ≡ 0 → length events < most → TakesAll h events count
+    takes-all none room = λ c l.
+        let a = all c l in
+        let t = told a.0 a.1 a.2 in
+        subst (λ n. orders h n ≡ until_close (posts n events)) a.3 (t.2.orders first ∙ (ran a.0 a.1 a.2).whole none room)

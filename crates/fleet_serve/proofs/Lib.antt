@@ -1,0 +1,4 @@
+pub mod Sequences
+pub mod Runs
+pub mod Clients
+pub mod Ended

@@ -1,0 +1,118 @@
+-- A client that has run one more line.
+use Rattle.std.proofs.Common.{◌≡◌, ◌∙◌, inl, inr, ℕ, ◌+◌, ◌<◌, ◌≤◌, Bool, true, false, List, [], ◌∷◌, ◌++◌, length, refl, sym, ap, subst, arith}
+use Rattle.std.specs.Prelude.{min, ◌-◌, ◌^◌, take, slice_index_or}
+use Rattle.std.proofs.lemmas.Grind.{flat_map-append}
+use Rattle.std.proofs.lemmas.List.{length-append, append-nil, take_more, take_all}
+use Rattle.std.proofs.lemmas.Bool.{cases_Bool, eq-eqb}
+use Rattle.fleet_book.specs.declared.order.Order.{Order}
+use Rattle.fleet_book.specs.declared.event.Event.{Event}
+use Rattle.fleet_book.specs.declared.event.Event.TheVariants.{Post, Collect}
+use Rattle.fleet_lanes.specs.Ends.{ClientView, has_close}
+use Rattle.fleet_serve.specs.Posted.{posts, post_by, until_close, IsSubsequence, IsNew, HasRun, KeepsSent}
+use Rattle.fleet_serve.proofs.Sequences.{more-kept, more-left, no-items, until-closed, until-open}
+
+posts-more : (c : ℕ) (events : List Event) (event : Event) → posts c (events ++ event ∷ []) ≡ posts c events ++ post_by c event
+posts-more c events event = flat_map-append (post_by c) events (event ∷ []) ∙ ap (λ os. posts c events ++ os) (append-nil (post_by c event))
+
+-- before its first line
+pub run-none : {A : Type 0} (most : ℕ) (x : ClientView A) → IsNew x most → HasRun [] most x 0
+run-none most x n = record {
+  part = subst (λ xs. IsSubsequence xs []) (sym n.sent) no-items;
+  few = subst (λ xs. length xs ≤ 0) (sym n.sent) (omega arith);
+  orders = n.orders;
+  whole = λ z l. n.sent;
+}
+
+module _ {A : Type 0} (events : List Event) (most : ℕ) (x y : ClientView A) (event : Event) (full : ℕ) (run : HasRun events most x full)
+    (number : y.number ≡ x.number) (orders : y.orders ≡ x.orders) where
+  posted : posts y.number (events ++ event ∷ []) ≡ posts x.number events ++ post_by x.number event
+  posted = ap (λ n. posts n (events ++ event ∷ [])) number ∙ posts-more x.number events event
+
+  -- the line posts nothing for it
+  pub run-other : post_by x.number event ≡ [] → y.sent ≡ x.sent → HasRun (events ++ event ∷ []) most y full
+  run-other none sent =
+      let same : posts y.number (events ++ event ∷ []) ≡ posts x.number events = posted ∙ ap (λ os. posts x.number events ++ os) none ∙ append-nil (posts x.number events) in
+      record {
+        part = subst (λ xs. IsSubsequence xs (posts y.number (events ++ event ∷ []))) (sym sent) (subst (IsSubsequence x.sent) (sym same) run.part);
+        few = omega (arith, length-append events (event ∷ []), ap length sent, run.few);
+        orders = orders ∙ run.orders;
+        whole = λ z l. sent ∙ run.whole z (omega (arith, l, length-append events (event ∷ []))) ∙ sym (ap until_close same);
+      }
+
+  module _ (order : Order) (one : post_by x.number event ≡ order ∷ []) where
+    more : posts y.number (events ++ event ∷ []) ≡ posts x.number events ++ order ∷ []
+    more = posted ∙ ap (λ os. posts x.number events ++ os) one
+
+    -- the line's order is sent
+    pub run-sent : y.sent ≡ x.sent ++ order ∷ [] → has_close x.sent ≡ false → HasRun (events ++ event ∷ []) most y full
+    run-sent sent still = record {
+      part = subst (λ xs. IsSubsequence xs (posts y.number (events ++ event ∷ []))) (sym sent)
+          (subst (IsSubsequence (x.sent ++ order ∷ [])) (sym more) (more-kept x.sent (posts x.number events) order run.part));
+      few = omega (arith, length-append events (event ∷ []), ap length sent, length-append x.sent (order ∷ []), run.few);
+      orders = orders ∙ run.orders;
+      whole = λ z l.
+          let before = run.whole z (omega (arith, l, length-append events (event ∷ []))) in
+          sent ∙ ap (λ xs. xs ++ order ∷ []) before
+          ∙ sym (until-open (posts x.number events) order (subst (λ xs. has_close xs ≡ false) before still))
+          ∙ sym (ap until_close more);
+    }
+
+    -- it is not
+    pub run-unsent : (full' : ℕ) → y.sent ≡ x.sent → (full' ≡ 0 → full ≡ 0) → (full' ≡ 0 → length events + 1 < most → has_close x.sent ≡ true) →
+        HasRun (events ++ event ∷ []) most y full'
+    run-unsent full' sent fewer why = record {
+      part = subst (λ xs. IsSubsequence xs (posts y.number (events ++ event ∷ []))) (sym sent)
+          (subst (IsSubsequence x.sent) (sym more) (more-left x.sent (posts x.number events) order run.part));
+      few = omega (arith, length-append events (event ∷ []), ap length sent, run.few);
+      orders = orders ∙ run.orders;
+      whole = λ z l.
+          let room : length events + 1 < most = omega (arith, l, length-append events (event ∷ [])) in
+          let before = run.whole (fewer z) (omega (arith, room)) in
+          sent ∙ before
+          ∙ sym (until-closed (posts x.number events) order (subst (λ xs. has_close xs ≡ true) before (why z room)))
+          ∙ sym (ap until_close more);
+    }
+
+-- ---- a line, by what the client's call came to
+
+pub post-of : (event : Event) (client c : ℕ) (order : Order) → event ≡ Post client order → client ≡ c → post_by c event ≡ order ∷ []
+post-of event client c order is same = subst (λ e. post_by c e ≡ order ∷ []) (sym is) (rw (eq-eqb client c same) refl)
+
+not_true : (b : Bool) → (b ≡ true → ⊥) → b ≡ false
+not_true b other = elim (cases_Bool b) [ inl t ↦ absurd (other t) | inr f ↦ f ]
+
+pub some_full : (n m : ℕ) → m ≡ min (n + 1) (2 ^ 32 - 1) → m ≡ 0 → ⊥
+some_full n m e z = omega (arith, e, z)
+
+module _ {A : Type 0} (events : List Event) (most : ℕ) (x y : ClientView A) (event : Event) (full : ℕ) (run : HasRun events most x full) where
+  pub run-ok : (order : Order) (free : ℕ) → post_by x.number event ≡ order ∷ [] → y ≡ record x { sent = x.sent ++ order ∷ []; free = free } →
+      (has_close x.sent ≡ true → ⊥) → HasRun (events ++ event ∷ []) most y full
+  run-ok order free one e still =
+      run-sent events most x y event full run (ap (λ v. v.number) e) (ap (λ v. v.orders) e) order one (ap (λ v. v.sent) e) (not_true (has_close x.sent) still)
+
+  pub run-full : (order : Order) (full' : ℕ) → post_by x.number event ≡ order ∷ [] → y ≡ x → (full' ≡ 0 → ⊥) → HasRun (events ++ event ∷ []) most y full'
+  run-full order full' one e met =
+      run-unsent events most x y event full run (ap (λ v. v.number) e) (ap (λ v. v.orders) e) order one full' (ap (λ v. v.sent) e)
+      (λ z. absurd (met z)) (λ z room. absurd (met z))
+
+  pub run-closed : (order : Order) → post_by x.number event ≡ order ∷ [] → y ≡ x → has_close x.sent ≡ true → HasRun (events ++ event ∷ []) most y full
+  run-closed order one e closed =
+      run-unsent events most x y event full run (ap (λ v. v.number) e) (ap (λ v. v.orders) e) order one full (ap (λ v. v.sent) e)
+      (λ z. z) (λ z room. closed)
+
+  pub run-spent : (order : Order) → post_by x.number event ≡ order ∷ [] → y ≡ x → length x.sent + 1 ≡ x.orders → HasRun (events ++ event ∷ []) most y full
+  run-spent order one e spent =
+      run-unsent events most x y event full run (ap (λ v. v.number) e) (ap (λ v. v.orders) e) order one full (ap (λ v. v.sent) e)
+      (λ z. z) (λ z room. absurd (omega (arith, spent, run.few, run.orders, room)))
+
+pub keeps-all : {A : Type 0} (x : ClientView A) → KeepsSent x x
+keeps-all x = record { number = refl; orders = refl; sent = refl }
+
+-- the line at this place is run, and then all have been
+pub run-next : {A : Type 0} (events : List Event) (most : ℕ) (y : ClientView A) (at : ℕ) (event : Event) (full : ℕ) → at < length events → event ≡ slice_index_or events at event →
+    HasRun (take at events ++ event ∷ []) most y full → HasRun (take (at + 1) events) most y full
+run-next events most y at event full inside is run = subst (λ es. HasRun es most y full) (sym (take_more events at event inside ∙ ap (λ e. take at events ++ e ∷ []) (sym is))) run
+
+pub run-all : {A : Type 0} (events all : List Event) (most : ℕ) (y : ClientView A) (at : ℕ) (full : ℕ) → length events ≤ at → events ≡ all →
+    HasRun (take at events) most y full → HasRun all most y full
+run-all events all most y at full past same run = subst (λ es. HasRun es most y full) (take_all at events past ∙ same) run

@@ -1,0 +1,10 @@
+use Rattle.std.proofs.Common.{length}
+use Rattle.fleet_office.specs.Views.{AreOn, cores}
+use Rattle.fleet_serve.specs.Posted.{AllHaveRun}
+use Rattle.fleet_serve.proofs.ran.clients_of.Given as goal
+
+abbrev pub invariant-loop-ran : goal.invariant-loop-ran
+invariant-loop-ran g l = AreOn g.N.OfficeName.rings (cores l.clients.items) × AllHaveRun g.N.ScriptName.events g.N.ScriptName.orders l.clients.items l.lane_full
+
+abbrev pub decreases-loop-ran : goal.decreases-loop-ran
+decreases-loop-ran g l = length l.ran.items

@@ -1,0 +1,106 @@
+-- What the lines of a script post for a client, and what the office takes of it.
+use Rattle.std.specs.Prelude.{ℕ, Bool, true, false, ◌≡◌, ◌<◌, ◌≤◌, List, [], ◌∷◌, ◌==◌, if◌then◌else◌, length, Some, slice_get, slice_index_or, Vec}
+use Rattle.std.specs.List.{flat_map}
+use Rattle.fleet_book.specs.declared.order.Order.{Order}
+use Rattle.fleet_book.specs.declared.notice.Notice.{Notice}
+use Rattle.fleet_book.specs.declared.event.Event.{Event}
+use Rattle.fleet_book.specs.declared.event.Event.TheVariants.{Post, Take, Tick, Give, Collect, Shut}
+use Rattle.fleet_history.specs.History.{History}
+use Rattle.fleet_history.specs.Laws.{orders}
+use Rattle.fleet_history.specs.Notices.{notices}
+use Rattle.fleet_history.specs.Rings.{IsEndOf}
+use Rattle.fleet_lanes.specs.Names.{LaneName}
+use Rattle.fleet_lanes.specs.Ends.{ClientView, is_close}
+
+-- ---- what a script posts
+
+-- a line that a client's thread can run: a post or a collect of one of so many clients
+abbrev pub IsLine : ℕ → Event → Type 0
+IsLine clients (Post client order) = client < clients
+IsLine clients (Collect client) = client < clients
+IsLine clients (Take client) = ⊥
+IsLine clients Tick = ⊥
+IsLine clients (Give client) = ⊥
+IsLine clients (Shut robot) = ⊥
+
+-- the first event at this place that is no such line
+pub record IsFirstOther (clients : ℕ) (events : List Event) (at : ℕ) : Type 0 where
+  pub inside : at < length events
+  pub other : (d : Event) → IsLine clients (slice_index_or events at d) → ⊥
+  pub before : (k : ℕ) (d : Event) → k < at → IsLine clients (slice_index_or events k d)
+
+-- the order that a line posts for the client
+abbrev pub post_by : ℕ → Event → List Order
+post_by c (Post client order) = if client == c then order ∷ [] else []
+post_by c (Collect client) = []
+post_by c (Take client) = []
+post_by c Tick = []
+post_by c (Give client) = []
+post_by c (Shut robot) = []
+
+-- the orders that the client's lines post, in order
+abbrev pub posts : ℕ → List Event → List Order
+posts c events = flat_map (post_by c) events
+
+-- the orders up to the first Close, with it
+abbrev pub until_close : List Order → List Order
+until_close [] = []
+until_close (order ∷ orders) = order ∷ (if is_close order then [] else until_close orders)
+
+-- the items that are kept
+abbrev pub kept : {X : Type 0} → List Bool → List X → List X
+kept [] xs = []
+kept (keep ∷ keeps) [] = []
+kept (keep ∷ keeps) (x ∷ xs) = if keep then x ∷ kept keeps xs else kept keeps xs
+
+-- xs is ys without some of its items
+pub record IsSubsequence {X : Type 0} (xs ys : List X) : Type 0 where
+  pub keeps : List Bool
+  pub count : length keeps ≡ length ys
+  pub same : kept keeps ys ≡ xs
+
+-- ---- what is taken
+
+-- the orders of each client's takes are posts of its lines, in their order
+abbrev pub TakesPosted : {A : Type 0} → History A → List Event → ℕ → Type 0
+TakesPosted h events clients = (c : ℕ) → c < clients → IsSubsequence (orders h c) (posts c events)
+
+-- they are all of them, up to its first Close
+abbrev pub TakesAll : {A : Type 0} → History A → List Event → ℕ → Type 0
+TakesAll h events clients = (c : ℕ) → c < clients → orders h c ≡ until_close (posts c events)
+
+-- the rest of each client is the end of what it was told
+abbrev pub AreLastNotices : {A : Type 0} → History A → List (Vec Notice A) → ℕ → Type 0
+AreLastNotices {A} h rests clients = (c : ℕ) → c < clients → (v : Vec Notice A) × (slice_get rests c ≡ Some v) × IsEndOf v.items (notices h c)
+
+-- ---- the clients
+
+-- a client that runs its lines, and how many of its posts met a full lane
+pub record RanView (A : Type 0) : Type 0 where
+  pub client : ClientView A
+  pub lane_full : ℕ
+
+-- the client has sent nothing, and may send so many orders
+pub record IsNew {A : Type 0} (client : ClientView A) (most : ℕ) : Type 0 where
+  pub sent : client.sent ≡ []
+  pub orders : client.orders ≡ most
+
+abbrev pub AreNew : {A : Type 0} → ℕ → List (ClientView A) → Type 0
+AreNew {A} most cs = (k : ℕ) (x : ClientView A) → slice_get cs k ≡ Some x → IsNew x most
+
+-- the client, which may send so many orders, has run its lines among these events: it sent posts of its lines, and where
+-- none met a full lane and it has numbers for all, all of them up to its first Close
+pub record HasRun {A : Type 0} (events : List Event) (most : ℕ) (client : ClientView A) (lane_full : ℕ) : Type 0 where
+  pub part : IsSubsequence client.sent (posts client.number events)
+  pub few : length client.sent ≤ length events
+  pub orders : client.orders ≡ most
+  pub whole : lane_full ≡ 0 → length events < most → client.sent ≡ until_close (posts client.number events)
+
+abbrev pub AllHaveRun : {A : Type 0} → List Event → ℕ → List (ClientView A) → ℕ → Type 0
+AllHaveRun {A} events most cs lane_full = (k : ℕ) (x : ClientView A) → slice_get cs k ≡ Some x → HasRun events most x lane_full
+
+-- the client is the same but for what it collected and knows of its outlet
+pub record KeepsSent {A : Type 0} (old new : ClientView A) : Type 0 where
+  pub number : new.number ≡ old.number
+  pub orders : new.orders ≡ old.orders
+  pub sent : new.sent ≡ old.sent

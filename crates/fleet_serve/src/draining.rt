@@ -1,0 +1,72 @@
+//! The turns that a serve makes when its threads have ended.
+
+use crate::names::ScriptName;
+use crate::ran::Ran;
+use crate::served::ServeFault;
+use fleet_office::{Office, Ticker, TurnCause, TurnFault, TurnReport};
+use std::alloc::{Alloc, Global};
+use std::sync::Wait;
+
+/// How many turns may be made until the lanes are empty.
+const MOST_TURNS: u32 = 1_000_000;
+
+/// Why a serve ends with this fault of a turn.
+pub(crate) fn fault_of(cause: TurnCause) -> ServeFault {
+    match cause {
+        TurnCause::ClockSpent => ServeFault::ClockSpent,
+        TurnCause::ChapterFull => ServeFault::ChapterFull,
+        TurnCause::NoMemory => ServeFault::NoMemory,
+    }
+}
+
+/// A turn, and all clients collect behind it.
+fn turn<N: ScriptName, R: Alloc<A = Global> + Wait>(
+    rt: &R,
+    office: &Office<N>,
+    ticker: &mut Ticker<N>,
+    ran: &mut [Ran<N>],
+) -> Result<TurnReport, ServeFault> {
+    let report = match office.turn(rt, ticker) {
+        Ok(report) => report,
+        Err(TurnFault { cause, .. }) => return Err(fault_of(cause)),
+    };
+    for at in 0..ran.len() {
+        ran[at].collect_all();
+    }
+    Ok(report)
+}
+
+/// Turns until one takes nothing and holds nobody, which empties the lanes.
+pub(crate) fn drain<N: ScriptName, R: Alloc<A = Global> + Wait>(
+    rt: &R,
+    office: &Office<N>,
+    ticker: &mut Ticker<N>,
+    ran: &mut [Ran<N>],
+) -> Result<(), ServeFault> {
+    for _ in 0..MOST_TURNS {
+        let report = turn(rt, office, ticker, ran)?;
+        if report.taken == 0 && report.held == 0 {
+            return Ok(());
+        }
+    }
+    Err(ServeFault::Drain)
+}
+
+/// On a bridgeless map, turns until nobody has an errand: as many as that may take at most.
+pub(crate) fn idle<N: ScriptName, R: Alloc<A = Global> + Wait>(
+    rt: &R,
+    office: &Office<N>,
+    ticker: &mut Ticker<N>,
+    ran: &mut [Ran<N>],
+) -> Result<(), ServeFault> {
+    let Some(ticks) = office.look(rt, ticker)?.idle_within else {
+        return Ok(());
+    };
+    for _ in 0..ticks {
+        if office.look(rt, ticker)?.idle {
+            return Ok(());
+        }
+        turn(rt, office, ticker, ran)?;
+    }
+    Ok(())
+}

@@ -1,0 +1,31 @@
+//! Lines that no client's thread can run.
+
+ghost use Rattle.std.specs.Prelude.{◌≡◌, ◌↔◌, IsTrue, IfNone, IfSome, length, slice_get, Some};
+ghost use Rattle.std.specs.List.{All};
+ghost use Rattle.fleet_serve.specs.Posted.{IsLine, IsFirstOther};
+
+use fleet_book::Event;
+use fleet_script::Script;
+
+/// Whether the event is a post or a collect of one of so many clients.
+fn is_line(event: Event, clients: u32) -> bool
+    ensures { IsTrue result ↔ IsLine clients event }
+{
+    match event {
+        Event::Post(client, _) | Event::Collect(client) => client < clients,
+        Event::Take(_) | Event::Tick | Event::Give(_) | Event::Shut(_) => false,
+    }
+}
+
+/// The first event that is no post or collect of a client in range, by its place. None where all are.
+pub fn first_other(script: &Script) -> Option<usize>
+    ensures none { IfNone result (All (IsLine script.now.clients) script.now.events.items) }
+    ensures some { IfSome result (λ at. IsFirstOther script.now.clients script.now.events.items at) }
+{
+    for at in 0..script.events.len() {
+        if !is_line(script.events[at], script.clients) {
+            return Some(at);
+        }
+    }
+    None
+}

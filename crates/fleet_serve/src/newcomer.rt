@@ -1,0 +1,67 @@
+//! A client of an office before its first line.
+
+ghost use Rattle.std.specs.Prelude.{◌≡◌, []};
+ghost use Rattle.fleet_office.specs.Views.{AreOn, cores};
+ghost use Rattle.fleet_serve.specs.Posted.{AreNew};
+
+use crate::names::ScriptName;
+use fleet_lanes::Client;
+use fleet_office::Guest;
+use std::alloc::{AllocError, Global};
+use std::marker::Model;
+
+/// A client of an office that has sent nothing.
+#[derive(Drop)]
+pub struct Newcomer<N: ScriptName> {
+    guest: Guest<N>,
+}
+
+impl<N: ScriptName> Model for Newcomer<N> {
+    ghost use Rattle.std.specs.Prelude.{◌≡◌, []};
+    ghost use Rattle.std.specs.declared.alloc.Global.{Global};
+    ghost use Rattle.fleet_lanes.specs.Ends.{ClientView};
+
+    ghost Value = { ClientView Global };
+
+    ghost view = { λ n. n.guest };
+
+    ghost invariant = { λ n. (n.guest.sent ≡ []) × (n.guest.orders ≡ N.orders) };
+}
+
+impl<N: ScriptName> Newcomer<N> {
+    pub fn new(guest: Guest<N>) -> Newcomer<N>
+        requires fresh { guest.sent ≡ [] }
+        requires orders { guest.orders ≡ N.orders }
+        ensures { result ≡ guest }
+    {
+        Newcomer { guest }
+    }
+
+    /// The client, which has sent nothing.
+    pub fn into_guest(self) -> Guest<N>
+        ensures same { result ≡ self }
+        ensures fresh { result.sent ≡ [] }
+        ensures orders { result.orders ≡ N.orders }
+    {
+        self.guest
+    }
+}
+
+/// The clients of an office that was just opened.
+pub(crate) fn newcomers_of<N: ScriptName>(
+    alloc: Global,
+    clients: Vec<Client>,
+) -> Result<Vec<Newcomer<N>>, AllocError>
+    requires on { AreOn N.rings (cores clients.items) }
+    requires fresh { AreNew N.orders clients.items }
+{
+    let mut clients = clients;
+    let mut newcomers = Vec::with_capacity(alloc, clients.len())?;
+    while !clients.is_empty() {
+        let client = clients.remove(0);
+        let guest = Guest::new(client);
+        let newcomer = Newcomer::new(guest);
+        newcomers.push(newcomer)?;
+    }
+    Ok(newcomers)
+}

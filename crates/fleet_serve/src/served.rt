@@ -1,0 +1,40 @@
+//! What a serve comes to, and why it does not.
+
+use fleet_office::Final;
+use fleet_world::OpenFault;
+use std::alloc::AllocError;
+
+/// What a serve came to: how the office ended, and how many posts met a full lane.
+#[derive(Drop)]
+pub struct Served {
+    pub last: Final,
+    pub lane_full: u32,
+}
+
+/// Why a serve came to no end.
+#[derive(Clone, Copy, Debug, PartialEq, Eq)]
+pub enum ServeFault {
+    /// The office was not opened.
+    Opening(OpenFault),
+    /// All the ticks were made that may be made.
+    ClockSpent,
+    /// The chapter has all the entries that it may have.
+    ChapterFull,
+    /// The lanes were not emptied within 1,000,000 further turns.
+    Drain,
+    /// Memory was refused, at the opening too.
+    NoMemory,
+    /// Not every client got its thread.
+    NoThread,
+}
+
+impl From<AllocError> for ServeFault {
+    ghost use Rattle.std.specs.Prelude.{◌≡◌};
+    ghost use Rattle.fleet_serve.specs.declared.served.ServeFault.TheVariants.{NoMemory};
+
+    ghost from_gives = { λ _ e. e ≡ NoMemory };
+
+    fn from(_error: AllocError) -> ServeFault {
+        ServeFault::NoMemory
+    }
+}

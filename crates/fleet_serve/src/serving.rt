@@ -1,0 +1,167 @@
+//! A script is served: its clients and two tickers work at one office, and the office is concluded.
+
+ghost use Rattle.std.specs.Prelude.{◌≡◌, ◌<◌, ◌^◌, length, IfOk};
+ghost use Rattle.std.specs.List.{All};
+ghost use Rattle.fleet_grid.specs.Floor.{IsNeighbour};
+ghost use Rattle.fleet_grid.specs.Walk.{IsBridgeless};
+ghost use Rattle.fleet_history.specs.History.{history_of, clock};
+ghost use Rattle.fleet_history.specs.Legal.{IsLegal};
+ghost use Rattle.fleet_history.specs.Laws.{EachTick};
+ghost use Rattle.fleet_plan.specs.Planned.{IsAdvancingTick};
+ghost use Rattle.fleet_world.specs.Opening.{IsNamed as IsNamedFault};
+ghost use Rattle.fleet_office.specs.Views.{IsNamed};
+ghost use Rattle.fleet_serve.specs.Posted.{IsLine, AreNew, TakesPosted, TakesAll, AreLastNotices};
+
+use crate::draining::{drain, fault_of, idle};
+use crate::gate::Gate;
+use crate::names::ScriptName;
+use crate::newcomer::newcomers_of;
+use crate::ran::clients_of;
+use crate::served::{ServeFault, Served};
+use crate::shift::Shift;
+use crate::threads::{Home, work_all};
+use fleet_grid::Grid;
+use fleet_hooks::Hooks;
+use fleet_office::{ConcludeFault, Desk, Office, Ticker};
+use fleet_script::Script;
+use fleet_world::OpenFault;
+use std::alloc::{Alloc, AllocError, Global};
+use std::marker::Brand;
+use std::sync::Wait;
+use std::thread::Threads;
+
+/// Why a serve ends with this fault of its opening.
+fn opening_fault(fault: OpenFault) -> ServeFault
+    ensures named { IsNamedFault fault → result ≡ ServeFault.Opening fault }
+    ensures memory { fault ≡ OpenFault.NoMemory → result ≡ ServeFault.NoMemory }
+{
+    match fault {
+        OpenFault::NoMemory => ServeFault::NoMemory,
+        named => ServeFault::Opening(named),
+    }
+}
+
+/// Both tickers.
+fn pair_of<N: ScriptName>(
+    alloc: Global,
+    first: Ticker<N>,
+    second: Ticker<N>,
+) -> Result<Vec<Ticker<N>>, AllocError> {
+    let mut tickers = Vec::with_capacity(alloc, 2)?;
+    tickers.push(first)?;
+    tickers.push(second)?;
+    Ok(tickers)
+}
+
+/// The drained office, concluded by the clients and the tickers that came home.
+fn conclude<N: ScriptName, R: Alloc<A = Global> + Wait>(
+    rt: &R,
+    office: Office<N>,
+    home: Home<N>,
+) -> Result<Served, ServeFault>
+    ensures legal { IfOk result (λ s. IsLegal s.last.grid (history_of s.last.chapter)) }
+    ensures advancing { IfOk result (λ s. IsBridgeless (IsNeighbour s.last.grid) → EachTick (IsAdvancingTick s.last.grid) (history_of s.last.chapter)) }
+    ensures tick { IfOk result (λ s. s.last.tick ≡ clock (history_of s.last.chapter)) }
+    ensures posted { IfOk result (λ s. TakesPosted (history_of s.last.chapter) N.events (length N.rings)) }
+    ensures all { IfOk result (λ s. s.lane_full ≡ 0 → length N.events < N.orders → TakesAll (history_of s.last.chapter) N.events (length N.rings)) }
+    ensures rest { IfOk result (λ s. AreLastNotices (history_of s.last.chapter) s.last.rest.items (length N.rings)) }
+{
+    let alloc = rt.alloc();
+    let (mut ran, first, second) = home;
+    if let Some(cause) = first.stopped.or(second.stopped) {
+        return Err(fault_of(cause));
+    }
+    let mut ticker = first.ticker;
+    drain(rt, &office, &mut ticker, ran.as_mut_slice())?;
+    idle(rt, &office, &mut ticker, ran.as_mut_slice())?;
+    let tickers = pair_of(alloc, ticker, second.ticker)?;
+    let (clients, lane_full) = clients_of(alloc, ran)?;
+    match office.conclude(alloc, clients, tickers) {
+        // No serve begins another chapter, so no call ends here.
+        Ok(last) if last.chapter.number != 0 => Err(ServeFault::NoMemory),
+        Ok(last) => Ok(Served { last, lane_full }),
+        Err((ConcludeFault::ChapterFull, _home)) => Err(ServeFault::ChapterFull),
+        // Nobody is away, so what is left is want of memory.
+        Err(_) => Err(ServeFault::NoMemory),
+    }
+}
+
+/// Opens an office over the desk, lets clients and tickers work side by side, and concludes.
+fn serve_at<
+    N: ScriptName + Send + Sync,
+    R: Alloc<A = Global> + Threads + Sync + Wait,
+    G: Gate + Sync,
+>(
+    rt: &R,
+    desk: Desk,
+    grid: Grid,
+    script: &Script,
+    hooks: Hooks,
+    gate: &G,
+) -> Result<Served, ServeFault>
+    requires named { IsNamed desk N.name N.parts N.rings }
+    requires clients { length desk.clients ≡ script.now.clients }
+    requires rings { length N.rings ≡ script.now.clients }
+    requires fresh { AreNew N.orders desk.clients }
+    requires limits { desk.limits ≡ script.now.limits }
+    requires events { script.now.events.items ≡ N.events }
+    requires orders { script.now.limits.orders ≡ N.orders }
+    ensures legal { IfOk result (λ s. IsLegal s.last.grid (history_of s.last.chapter)) }
+    ensures advancing { IfOk result (λ s. IsBridgeless (IsNeighbour s.last.grid) → EachTick (IsAdvancingTick s.last.grid) (history_of s.last.chapter)) }
+    ensures tick { IfOk result (λ s. s.last.tick ≡ clock (history_of s.last.chapter)) }
+    ensures posted { IfOk result (λ s. TakesPosted (history_of s.last.chapter) script.now.events.items script.now.clients) }
+    ensures all { IfOk result (λ s. s.lane_full ≡ 0 → length script.now.events.items < script.now.limits.orders →
+        TakesAll (history_of s.last.chapter) script.now.events.items script.now.clients) }
+    ensures rest { IfOk result (λ s. AreLastNotices (history_of s.last.chapter) s.last.rest.items script.now.clients) }
+{
+    let alloc = rt.alloc();
+    let starts = Vec::from_slice(alloc, &script.starts)?;
+    let (office, clients, mut first) = match Office::<N>::open(alloc, desk, grid, starts, hooks) {
+        Ok(opened) => opened,
+        Err(fault) => return Err(opening_fault(fault)),
+    };
+    // A ticker that was just opened has all parts of the ledger, so no call ends here.
+    let Some(second) = first.split() else {
+        return Err(ServeFault::NoMemory);
+    };
+    let newcomers = newcomers_of::<N>(alloc, clients)?;
+    let shift = Shift::new(&script.events, gate);
+    let home = work_all(
+        rt,
+        &office,
+        newcomers,
+        (first, second),
+        script.turns,
+        &shift,
+    )?;
+    conclude(rt, office, home)
+}
+
+/// Serves a script: a thread for each client runs its lines in order, and two threads with a ticker each make `turns` turns
+/// each. Then one ticker makes turns until the lanes are empty and, on a bridgeless map, until nobody has an errand, while
+/// all clients collect; and the office is concluded.
+///
+/// A post that meets a full lane is counted and not tried again; one of a client that closed, or that spent its numbers, sends
+/// nothing.
+pub fn serve<R: Alloc<A = Global> + Threads + Sync + Wait, G: Gate + Sync>(
+    rt: &R,
+    grid: Grid,
+    script: &Script,
+    hooks: Hooks,
+    gate: &G,
+) -> Result<Served, ServeFault>
+    requires few { length script.now.events.items < 2 ^ 32 }
+    requires lines { All (IsLine script.now.clients) script.now.events.items }
+    ensures legal { IfOk result (λ s. IsLegal s.last.grid (history_of s.last.chapter)) }
+    ensures advancing { IfOk result (λ s. IsBridgeless (IsNeighbour s.last.grid) → EachTick (IsAdvancingTick s.last.grid) (history_of s.last.chapter)) }
+    ensures tick { IfOk result (λ s. s.last.tick ≡ clock (history_of s.last.chapter)) }
+    ensures posted { IfOk result (λ s. TakesPosted (history_of s.last.chapter) script.now.events.items script.now.clients) }
+    ensures all { IfOk result (λ s. s.lane_full ≡ 0 → length script.now.events.items < script.now.limits.orders →
+        TakesAll (history_of s.last.chapter) script.now.events.items script.now.clients) }
+    ensures rest { IfOk result (λ s. AreLastNotices (history_of s.last.chapter) s.last.rest.items script.now.clients) }
+{
+    match Desk::new(rt.alloc(), script.clients, script.limits) {
+        Ok(desk) => serve_at::<Brand, R, G>(rt, desk, grid, script, hooks, gate),
+        Err(fault) => Err(opening_fault(fault)),
+    }
+}

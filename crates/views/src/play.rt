@@ -1,0 +1,202 @@
+//! A row as a run, with closures that note what they are shown.
+
+use crate::note::Shown;
+use crate::row::Row;
+use fleet_grid::{Dir, Grid};
+use fleet_hooks::{
+    ArrivalHook, ArrivalView, Farewell, FarewellView, Hooks, StampLaw, TieHook, TieLaw, TieView,
+};
+use fleet_map::MapText;
+use fleet_world::{Entry, Limits, Played, RunFault, run};
+use std::alloc::{Alloc, AllocError, Global};
+use std::sync::Arc;
+use std::sync::atomic::{AtomicU64, Ordering};
+use std::thread::Threads;
+
+/// Every robot's law: ranks of any kind.
+const RANKS: TieLaw = TieLaw {
+    low: [0, 0, 0, 0],
+    high: [255, 255, 255, 255],
+};
+
+/// Every robot's law: stamps of any kind.
+const STAMPS: StampLaw = StampLaw {
+    low: 0,
+    high: 4_294_967_295,
+};
+
+/// How a row is played otherwise than it says.
+#[derive(Clone, Copy, Debug, PartialEq, Eq)]
+pub enum Finding {
+    AsTheRow,
+    /// The row was not played: its letters do not fill its map, or the run had a fault.
+    NotPlayed,
+    /// Closures were shown something else, more or less often, or in another order.
+    Views,
+    /// A stamp is not its closure's own.
+    Stamps,
+    /// A robot went another way than its own ranks lead.
+    Ways,
+}
+
+/// The rank of a direction by the robot's own closure: even robots go south first, odd ones west.
+fn rank_of(robot: u32, dir: Dir) -> u8 {
+    let first = if robot % 2 == 0 {
+        Dir::South
+    } else {
+        Dir::West
+    };
+    if dir == first { 0 } else { 9 }
+}
+
+/// The stamps of a run, tick by tick, those of arrivals first.
+fn stamps_of(alloc: Global, played: &Played) -> Result<Vec<u32>, AllocError> {
+    let mut stamps = Vec::new(alloc);
+    for entry in &played.world.chapter().entries {
+        match entry {
+            Entry::Take { .. } => {}
+            Entry::Tick {
+                arrived,
+                farewells,
+                ..
+            } => {
+                for arrival in arrived.as_slice() {
+                    stamps.push(arrival.stamp)?;
+                }
+                for farewell in farewells.as_slice() {
+                    stamps.push(farewell.stamp)?;
+                }
+            }
+            Entry::Shut { farewell, .. } => {
+                if let Some(stamp) = farewell {
+                    stamps.push(*stamp)?;
+                }
+            }
+        }
+    }
+    Ok(stamps)
+}
+
+/// The stamps that the row's closures are to answer.
+fn row_stamps(alloc: Global, row: &Row) -> Result<Vec<u32>, AllocError> {
+    let mut stamps = Vec::new(alloc);
+    for shown in row.shown {
+        if !matches!(shown, Shown::Tie(..)) {
+            stamps.push(shown.stamp())?;
+        }
+    }
+    Ok(stamps)
+}
+
+/// Compares a run with the row.
+fn compare(
+    alloc: Global,
+    row: &Row,
+    ended: Result<Played, RunFault>,
+    note: u64,
+) -> Result<Finding, AllocError> {
+    let Ok(played) = ended else {
+        return Ok(Finding::NotPlayed);
+    };
+    if note != row.shown.iter().fold(0, |note, shown| shown.noted(note)) {
+        return Ok(Finding::Views);
+    }
+    if stamps_of(alloc, &played)?.as_slice() != row_stamps(alloc, row)?.as_slice() {
+        return Ok(Finding::Stamps);
+    }
+    if played.world.placement() != row.end {
+        return Ok(Finding::Ways);
+    }
+    Ok(Finding::AsTheRow)
+}
+
+/// The row's grid. None where the letters do not fill the sides.
+fn grid_of(alloc: Global, row: &Row) -> Result<Option<Grid>, AllocError> {
+    let (height, width) = row.sides;
+    if height > 1_024 || width > 1_024 || row.letters.len() != height as usize * width as usize {
+        return Ok(None);
+    }
+    let map = MapText {
+        height,
+        width,
+        cells: Vec::from_slice(alloc, row.letters)?,
+    };
+    Ok(Some(Grid::new(map)?))
+}
+
+/// Adds the closures of one more robot.
+fn add(
+    hooks: &mut Hooks,
+    tie: TieHook,
+    arrival: ArrivalHook,
+    farewell: Farewell,
+) -> Result<(), AllocError> {
+    hooks.ties.push(tie)?;
+    hooks.arrivals.push(arrival)?;
+    hooks.farewells.push(farewell)?;
+    Ok(())
+}
+
+/// Runs a row with these closures, and compares what they noted.
+fn find<R: Alloc<A = Global> + Threads + Sync>(
+    rt: &R,
+    row: &Row,
+    grid: Grid,
+    hooks: Hooks,
+    note: &AtomicU64,
+) -> Result<Finding, AllocError> {
+    let alloc = rt.alloc();
+    let starts = Vec::from_slice(alloc, row.starts)?;
+    let hooks = hooks.cut(starts.len());
+    let ended = run(rt, grid, starts, 2, Limits::DEFAULT, hooks, row.events);
+    compare(alloc, row, ended, note.load(Ordering::SeqCst))
+}
+
+/// Plays a row with closures that note each view, in one note for all robots.
+fn find_noted<R: Alloc<A = Global> + Threads + Sync>(
+    rt: &R,
+    row: &Row,
+    grid: Grid,
+    note: &Arc<AtomicU64>,
+) -> Result<Finding, AllocError> {
+    let alloc = rt.alloc();
+    let mut hooks = Hooks {
+        ties: Vec::new(alloc),
+        arrivals: Vec::new(alloc),
+        farewells: Vec::new(alloc),
+    };
+    for robot in 0..3u32 {
+        let (ties, arrivals) = (Arc::try_clone(note)?, Arc::try_clone(note)?);
+        let farewells = Arc::try_clone(note)?;
+        let tie = move |view: TieView| {
+            keep(&ties, Shown::Tie(robot, view));
+            rank_of(robot, view.dir)
+        };
+        let arrival = move |view: ArrivalView| keep(&arrivals, Shown::Arrival(robot, view));
+        let farewell = move |view: FarewellView| keep(&farewells, Shown::Farewell(robot, view));
+        let tie = TieHook::new(RANKS, Box::new(alloc, tie)?);
+        let arrival = ArrivalHook::new(STAMPS, Box::new(alloc, arrival)?);
+        let farewell = Farewell::new(STAMPS, Box::new(alloc, farewell)?);
+        add(&mut hooks, tie, arrival, farewell)?;
+    }
+    find(rt, row, grid, hooks, note)
+}
+
+/// Plays a row.
+pub fn play<R: Alloc<A = Global> + Threads + Sync>(
+    rt: &R,
+    row: &Row,
+) -> Result<Finding, AllocError> {
+    let alloc = rt.alloc();
+    let Some(grid) = grid_of(alloc, row)? else {
+        return Ok(Finding::NotPlayed);
+    };
+    let note = Arc::new(alloc, AtomicU64::new(0))?;
+    find_noted(rt, row, grid, &note)
+}
+
+/// Notes a view behind those before it. The result is its stamp.
+fn keep(note: &AtomicU64, shown: Shown) -> u32 {
+    note.store(shown.noted(note.load(Ordering::SeqCst)), Ordering::SeqCst);
+    shown.stamp()
+}

@@ -1,0 +1,156 @@
+//! Rows of robots under one law, whose closures tell them apart.
+
+use crate::note::Shown;
+use fleet_grid::Dir;
+use fleet_hooks::{ArrivalView, FarewellView, TieView};
+use fleet_world::{Event, Order};
+
+/// A row of two clients: a map of at most 1,024 a side whose letters fill it, where robots start, the events of a run, and
+/// what the robots' closures are to be shown, in order.
+#[derive(Clone, Copy, Debug)]
+pub struct Row {
+    pub name: &'static str,
+    pub sides: (u32, u32),
+    pub letters: &'static [u8],
+    pub starts: &'static [u32],
+    pub events: &'static [Event],
+    pub shown: &'static [Shown],
+    /// Where the robots stand at the end.
+    pub end: &'static [u32],
+}
+
+/// A tie closure of robot `$robot` on `$cell` is asked for `$neighbour`.
+macro_rules! tie {
+    ($robot:literal on $cell:literal: $dir:ident $neighbour:literal in $tick:literal) => {
+        Shown::Tie(
+            $robot,
+            TieView {
+                robot: $robot,
+                cell: $cell,
+                neighbour: $neighbour,
+                dir: Dir::$dir,
+                tick: $tick,
+            },
+        )
+    };
+}
+
+macro_rules! arrival {
+    ($client:literal, $number:literal: $robot:literal on $cell:literal in $tick:literal) => {
+        Shown::Arrival(
+            $robot,
+            ArrivalView {
+                client: $client,
+                number: $number,
+                robot: $robot,
+                cell: $cell,
+                tick: $tick,
+            },
+        )
+    };
+}
+
+macro_rules! farewell {
+    ($robot:literal on $cell:literal in $tick:literal) => {
+        Shown::Farewell(
+            $robot,
+            FarewellView {
+                robot: $robot,
+                cell: $cell,
+                tick: $tick,
+            },
+        )
+    };
+}
+
+macro_rules! post {
+    ($client:literal: $robot:literal to $cell:literal) => {
+        Event::Post(
+            $client,
+            Order::Go {
+                robot: $robot,
+                cell: $cell,
+            },
+        )
+    };
+}
+
+/// Robot 1 pushes robot 2, which has nowhere to go; robot 0 arrives.
+const FAILED_PUSH: Row = Row {
+    name: "failed_push",
+    sides: (2, 3),
+    letters: b"..@...",
+    starts: &[5, 0, 1],
+    events: &[
+        post!(0: 0 to 4),
+        post!(0: 1 to 4),
+        Event::Take(0),
+        Event::Take(0),
+        Event::Tick,
+    ],
+    shown: &[
+        tie!(0 on 5: West 4 in 1),
+        tie!(1 on 0: East 1 in 1),
+        tie!(1 on 0: South 3 in 1),
+        tie!(2 on 1: South 4 in 1),
+        tie!(2 on 1: West 0 in 1),
+        arrival!(0, 1: 0 on 4 in 1),
+    ],
+    end: &[4, 3, 1],
+};
+
+/// Two robots in corners: robot 0 goes south first, robot 1 west first, by their own ranks.
+const TWO_CORNERS: Row = Row {
+    name: "two_corners",
+    sides: (3, 3),
+    letters: b".........",
+    starts: &[0, 2],
+    events: &[
+        post!(0: 0 to 8),
+        post!(1: 1 to 6),
+        Event::Take(0),
+        Event::Take(1),
+        Event::Tick,
+        Event::Tick,
+    ],
+    shown: &[
+        tie!(0 on 0: East 1 in 1),
+        tie!(0 on 0: South 3 in 1),
+        tie!(1 on 2: South 5 in 1),
+        tie!(1 on 2: West 1 in 1),
+        tie!(0 on 3: North 0 in 2),
+        tie!(0 on 3: East 4 in 2),
+        tie!(0 on 3: South 6 in 2),
+        tie!(1 on 1: East 2 in 2),
+        tie!(1 on 1: South 4 in 2),
+        tie!(1 on 1: West 0 in 2),
+    ],
+    end: &[6, 0],
+};
+
+/// Robot 1 of client 1 arrives and is shut, then robot 0 takes its leave at a shut.
+const TWO_FAREWELLS: Row = Row {
+    name: "two_farewells",
+    sides: (1, 4),
+    letters: b"....",
+    starts: &[0, 2],
+    events: &[
+        post!(1: 1 to 3),
+        Event::Take(1),
+        Event::Shut(1),
+        Event::Tick,
+        Event::Shut(0),
+    ],
+    shown: &[
+        tie!(1 on 2: East 3 in 1),
+        tie!(1 on 2: West 1 in 1),
+        tie!(0 on 0: East 1 in 1),
+        arrival!(1, 1: 1 on 3 in 1),
+        farewell!(1 on 3 in 1),
+        farewell!(0 on 0 in 1),
+    ],
+    end: &[0, 3],
+};
+
+/// All rows.
+pub const ROWS: [Row; 3] = [FAILED_PUSH, TWO_CORNERS, TWO_FAREWELLS];
