@@ -85,7 +85,12 @@ fn output_of(
     if trace {
         return trace_line(alloc, chapter);
     }
-    report(alloc, events, played.replies.as_slice(), chapter.entries.as_slice())
+    report(
+        alloc,
+        events,
+        played.replies.as_slice(),
+        chapter.entries.as_slice(),
+    )
 }
 
 /// What is said of a run with these replies: its output, and whether a limit was met.

@@ -19,7 +19,9 @@ pub enum Job {
     /// To run the script behind a map, both from standard input.
     Bundle,
     /// To say how large a map is, and whether it has a bridge.
-    Map { file: String },
+    Map {
+        file: String,
+    },
     /// To run the script of the second file on the map of the first, and to write its lines, or its trace.
     Run {
         first: String,
@@ -27,7 +29,10 @@ pub enum Job {
         trace: bool,
     },
     /// To judge the trace of the second file on the map of the first.
-    Judge { first: String, second: String },
+    Judge {
+        first: String,
+        second: String,
+    },
 }
 
 /// Why the words name no job.
@@ -103,7 +108,9 @@ fn judge_command<'a>(alloc: Global) -> Result<Command<'a>, AllocError>
     let map = file_argument(alloc, "MAP", "A map");
     let trace = file_argument(alloc, "TRACE", "What `errands run --trace` wrote");
     Command::new(alloc, "judge")
-        .about("Tells whether a trace is legal on a map, or its first illegal entry and the rule broken")
+        .about(
+            "Tells whether a trace is legal on a map, or its first illegal entry and the rule broken",
+        )
         .after_help("Example: errands judge ring.map two_robots.trace")
         .arg(map)?
         .arg(trace)

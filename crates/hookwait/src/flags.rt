@@ -32,7 +32,11 @@ pub(crate) fn stand(hook: &AtomicU64, done: &AtomicU64, clients: u64) {
         return;
     }
     hook.store(BEGUN, Ordering::SeqCst);
-    let end = if wait_for(done, clients) { SEEN } else { MISSED };
+    let end = if wait_for(done, clients) {
+        SEEN
+    } else {
+        MISSED
+    };
     hook.store(end, Ordering::SeqCst);
 }
 

@@ -31,8 +31,7 @@ const BLOCKED: Case = Case {
 
 /// The line of a case.
 fn line_of(alloc: Global, case: &Case, outcome: &Outcome) -> Result<String, AllocError> {
-    format!(
-        in alloc;
+    format!(in alloc;
         "{}: flag {} posted {} collected {} tick {}\n",
         case.name,
         if outcome.seen { "seen" } else { "missed" },

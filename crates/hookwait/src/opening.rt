@@ -93,15 +93,7 @@ fn opened_play<R: Alloc<A = Global> + Threads + Sync + Wait>(
         posts: case.posts,
     };
     match Desk::new(alloc, case.clients, Limits::DEFAULT) {
-        Ok(desk) => Ok(play::<Brand, R>(
-            rt,
-            desk,
-            grid,
-            starts,
-            hooks,
-            &shared,
-            case.turns,
-        )),
+        Ok(desk) => Ok(play::<Brand, R>(rt, desk, grid, starts, hooks, &shared, case.turns)),
         Err(fault) => Ok(Err(PlayFault::Opening(fault))),
     }
 }

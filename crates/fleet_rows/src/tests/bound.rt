@@ -105,6 +105,9 @@ fn full_map_stays_below_the_bound(rt: HostRuntime) -> Result<(), Fail> {
         }
     }
     let ticks = world.clock();
-    assert!(rt; ticks == 10_000 && greatest < 36, "greatest wait {greatest}, bound 36");
+    assert!(rt;
+        ticks == 10_000 && greatest < 36,
+        "greatest wait {greatest}, bound 36"
+    );
     Ok(())
 }

@@ -35,7 +35,7 @@ loop-entry-preserved g c =
                 ∙ room-joined o entries i e w.in-Some.robot r (slice_index c.loop-entry.rooms.items r) c.loop-entry-test.true c.entry-item.is joined (c.loop-entry.invariant.each r l));
           })
       | in_default w ↦ record {
-          count = rw w.rooms-is c.loop-entry.invariant.count;
-          each = λ r l. rw w.rooms-is (c.loop-entry.invariant.each r l ∙ room-kept o entries i e r c.loop-entry-test.true c.entry-item.is (sym c.robot_joined.ensures ∙ w.in_default.is));
-        }
+        count = rw w.rooms-is c.loop-entry.invariant.count;
+        each = λ r l. rw w.rooms-is (c.loop-entry.invariant.each r l ∙ room-kept o entries i e r c.loop-entry-test.true c.entry-item.is (sym c.robot_joined.ensures ∙ w.in_default.is));
+      }
     ]
