@@ -1,4 +1,4 @@
-//! Worked rows of the world: tests that cross the crates below, and nothing else.
+//! A world where memory is refused: tests that cross the crates below, and nothing else.
 #![tactic(auto)]
 
 #[cfg(test)]

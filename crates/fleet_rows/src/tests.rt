@@ -1,234 +1,140 @@
-//! Rows by run: replies in full, placements, arrivals, and how often closures are called.
-mod bound;
-mod calls;
+//! A world's calls where memory is refused.
 mod limited;
-mod seen;
 
-use fleet_world::{
-    Event, Limits, Notice, OpenFault, Order, Reply, RunFault, ShutFault, TakeFault, TickFault,
-    TickReport, Verdict,
+use fleet_grid::Grid;
+use fleet_hooks::{
+    ArrivalHook, ArrivalView, Farewell, FarewellView, Hooks, StampLaw, TieHook, TieLaw, TieView,
 };
-use seen::{go, grid_of, seen_of};
-use std::alloc::{Alloc, Global};
-use std::process::Abort;
+use fleet_map::MapText;
+use fleet_world::{Limits, OpenFault, Order, ShutFault, TakeFault, Verdict, World};
+use limited::Refusing;
+use std::alloc::{AllocError, Allocator};
 use std::test::Fail;
-use std::thread::Threads;
 
-/// A tick's reply.
-fn ticked(tick: u64, arrived: u32, farewells: u32) -> Option<Reply> {
-    Some(Reply::Ticked(TickReport {
-        tick,
-        arrived,
-        farewells,
-    }))
+/// Ranks of any kind.
+const ANY: TieLaw = TieLaw {
+    low: [0; 4],
+    high: [255; 4],
+};
+
+/// Stamps of any kind.
+const STAMPS: StampLaw = StampLaw {
+    low: 0,
+    high: 4_294_967_295,
+};
+
+/// An order to go.
+fn go(robot: u32, cell: u32) -> Order {
+    Order::Go { robot, cell }
 }
 
-/// A take's reply.
-fn took(order_no: u64, verdict: Verdict) -> Option<Reply> {
-    Some(Reply::Took { order_no, verdict })
-}
-
-#[test]
-fn one_cell(rt: HostRuntime) -> Result<(), Fail> {
-    let grid = grid_of(&rt, rt.alloc(), (1, 1), b".")?;
-    let post = Event::Post(0, go(0, 0));
-    let events = [
-        post,
-        post,
-        Event::Take(0),
-        Event::Take(0),
-        Event::Tick,
-        Event::Tick,
-    ];
-    let seen = seen_of(&rt, grid, &[0], 1, Limits::DEFAULT, &events)?;
-    assert!(rt; seen.replies.len() == 6);
-    assert!(rt; seen.reply(0) == Some(Reply::Posted(1)));
-    assert!(rt; seen.reply(1) == Some(Reply::Posted(2)));
-    assert!(rt; seen.reply(2) == took(1, Verdict::Accepted(1)));
-    assert!(rt; seen.reply(3) == took(2, Verdict::Accepted(2)));
-    assert!(rt; seen.reply(4) == ticked(1, 1, 0));
-    assert!(rt; seen.reply(5) == ticked(2, 1, 0));
-    assert!(rt; seen.places.as_slice() == [0, 0].as_slice());
-    assert!(rt; seen.arrival_calls == 2 && seen.farewell_calls == 0);
-    Ok(())
-}
-
-#[test]
-fn shut_robot(rt: HostRuntime) -> Result<(), Fail> {
-    let grid = grid_of(&rt, rt.alloc(), (1, 2), b"..")?;
-    let events = [
-        Event::Post(0, go(0, 1)),
-        Event::Take(0),
-        Event::Post(0, go(0, 0)),
-        Event::Shut(0),
-        Event::Take(0),
-        Event::Tick,
-        Event::Shut(0),
-        Event::Shut(1),
-        Event::Tick,
-    ];
-    let seen = seen_of(&rt, grid, &[0], 1, Limits::DEFAULT, &events)?;
-    assert!(rt; seen.reply(3) == Some(Reply::ShutDone(None)));
-    assert!(rt; seen.reply(4) == took(2, Verdict::RobotShut));
-    assert!(rt; seen.reply(5) == ticked(1, 1, 1));
-    assert!(rt; seen.reply(6) == Some(Reply::ShutRefused(ShutFault::Already)));
-    assert!(rt; seen.reply(7) == Some(Reply::ShutRefused(ShutFault::NoRobot)));
-    assert!(rt; seen.reply(8) == ticked(2, 0, 0));
-    assert!(rt; seen.arrival_calls == 1 && seen.farewell_calls == 1);
-    Ok(())
-}
-
-#[test]
-fn idle_robot_shut(rt: HostRuntime) -> Result<(), Fail> {
-    let grid = grid_of(&rt, rt.alloc(), (1, 2), b"..")?;
-    let events = [Event::Shut(0), Event::Tick, Event::Shut(0)];
-    let seen = seen_of(&rt, grid, &[0], 1, Limits::DEFAULT, &events)?;
-    assert!(rt; seen.reply(0) == Some(Reply::ShutDone(Some(0))));
-    assert!(rt; seen.reply(1) == ticked(1, 0, 0));
-    assert!(rt; seen.reply(2) == Some(Reply::ShutRefused(ShutFault::Already)));
-    assert!(rt; seen.arrival_calls == 0 && seen.farewell_calls == 1);
-    Ok(())
-}
-
-#[test]
-fn back_pressure(rt: HostRuntime) -> Result<(), Fail> {
-    let grid = grid_of(&rt, rt.alloc(), (1, 2), b"..")?;
-    let limits = Limits {
-        mailbox: 2,
-        outlet: 1,
-        ..Limits::DEFAULT
+/// The grid `..`.
+fn pair_over<A: Allocator + Copy>(alloc: A) -> Result<Grid<A>, AllocError> {
+    let map = MapText {
+        height: 1,
+        width: 2,
+        cells: Vec::from_slice(alloc, b"..")?,
     };
-    let events = [
-        Event::Post(0, go(0, 1)),
-        Event::Post(0, go(0, 0)),
-        Event::Take(0),
-        Event::Take(0),
-        Event::Tick,
-        Event::Give(0),
-        Event::Give(0),
-        Event::Take(0),
-        Event::Collect(0),
-        Event::Give(0),
-        Event::Take(0),
-    ];
-    let seen = seen_of(&rt, grid, &[0], 1, limits, &events)?;
-    assert!(rt; seen.reply(2) == took(1, Verdict::Accepted(1)));
-    assert!(rt; seen.reply(3) == Some(Reply::TakeRefused(TakeFault::MailboxFull)));
-    assert!(rt; seen.reply(4) == ticked(1, 1, 0));
-    assert!(rt; seen.reply(5) == Some(Reply::Gave(1)));
-    assert!(rt; seen.reply(6) == Some(Reply::OutletFull));
-    assert!(rt; seen.reply(7) == Some(Reply::TakeRefused(TakeFault::MailboxFull)));
-    let first = Notice::Verdict {
-        seq: 1,
-        order_no: 1,
-        verdict: Verdict::Accepted(1),
-    };
-    assert!(rt; seen.reply(8) == Some(Reply::Collected(first)));
-    assert!(rt; seen.reply(9) == Some(Reply::Gave(2)));
-    assert!(rt; seen.reply(10) == took(2, Verdict::Accepted(2)));
+    Grid::new(map)
+}
+
+/// No closures yet.
+fn no_hooks<A: Allocator + Copy>(lists: A) -> Hooks<A> {
+    Hooks {
+        ties: Vec::new(lists),
+        arrivals: Vec::new(lists),
+        farewells: Vec::new(lists),
+    }
+}
+
+/// Adds the closures of one more robot.
+fn add<A: Allocator + Copy>(
+    hooks: &mut Hooks<A>,
+    tie: TieHook,
+    arrival: ArrivalHook,
+    farewell: Farewell,
+) -> Result<(), AllocError> {
+    hooks.ties.push(tie)?;
+    hooks.arrivals.push(arrival)?;
+    hooks.farewells.push(farewell)?;
     Ok(())
 }
 
+/// A take into a queue that is not empty grows the history at most.
 #[test]
-fn clock_spent(rt: HostRuntime) -> Result<(), Fail> {
-    let grid = grid_of(&rt, rt.alloc(), (1, 1), b".")?;
-    let limits = Limits {
-        clock: 1,
-        ..Limits::DEFAULT
-    };
-    let events = [
-        Event::Post(0, go(0, 0)),
-        Event::Tick,
-        Event::Take(0),
-        Event::Tick,
-    ];
-    let seen = seen_of(&rt, grid, &[0], 1, limits, &events)?;
-    assert!(rt; seen.reply(1) == ticked(1, 0, 0));
-    assert!(rt; seen.reply(2) == took(1, Verdict::Accepted(1)));
-    assert!(rt; seen.reply(3) == Some(Reply::TickRefused(TickFault::ClockSpent)));
-    assert!(rt; seen.arrival_calls == 0);
+fn one_growth(rt: HostRuntime) -> Result<(), Fail> {
+    let alloc = rt.alloc();
+    let heap = Refusing::after(alloc, 1_000);
+    let grid = pair_over(&heap)?;
+    let mut hooks = no_hooks(&heap);
+    let tie = TieHook::new(ANY, Box::new(alloc, |_view: TieView| 0)?);
+    let arrival = ArrivalHook::new(STAMPS, Box::new(alloc, |view: ArrivalView| view.cell)?);
+    let farewell = Farewell::new(STAMPS, Box::new(alloc, |view: FarewellView| view.cell)?);
+    add(&mut hooks, tie, arrival, farewell)?;
+    let starts = Vec::from_slice(&heap, &[0])?;
+    let opened = World::open(&heap, grid, starts, 1, Limits::DEFAULT, hooks);
+    let mut world = opened.ok().ok_or("a world")?;
+    for number in 1..12 {
+        heap.allow(if number == 1 { 1_000 } else { 1 });
+        assert!(rt; world.chapter().opening.clients.len() == 1);
+        assert!(rt; world.take(0, go(0, 1)) == Ok(Verdict::Accepted(number)));
+    }
     Ok(())
 }
 
+/// A refused growth of a take or a shut leaves all as it was.
 #[test]
-fn chapter_full(rt: HostRuntime) -> Result<(), Fail> {
-    let grid = grid_of(&rt, rt.alloc(), (1, 1), b".")?;
-    let limits = Limits {
-        chapter: 1,
-        ..Limits::DEFAULT
-    };
-    let events = [
-        Event::Post(0, go(0, 0)),
-        Event::Tick,
-        Event::Tick,
-        Event::Take(0),
-        Event::Shut(0),
-    ];
-    let seen = seen_of(&rt, grid, &[0], 1, limits, &events)?;
-    assert!(rt; seen.reply(1) == ticked(1, 0, 0));
-    assert!(rt; seen.reply(2) == Some(Reply::TickRefused(TickFault::ChapterFull)));
-    assert!(rt; seen.reply(3) == Some(Reply::TakeRefused(TakeFault::ChapterFull)));
-    assert!(rt; seen.reply(4) == Some(Reply::ShutRefused(ShutFault::ChapterFull)));
-    assert!(rt; seen.farewell_calls == 0);
+fn refused_calls(rt: HostRuntime) -> Result<(), Fail> {
+    let alloc = rt.alloc();
+    let heap = Refusing::after(alloc, 1_000);
+    let grid = pair_over(&heap)?;
+    let mut hooks = no_hooks(&heap);
+    let tie = TieHook::new(ANY, Box::new(alloc, |_view: TieView| 0)?);
+    let arrival = ArrivalHook::new(STAMPS, Box::new(alloc, |view: ArrivalView| view.cell)?);
+    let farewell = Farewell::new(STAMPS, Box::new(alloc, |view: FarewellView| view.cell)?);
+    add(&mut hooks, tie, arrival, farewell)?;
+    let starts = Vec::from_slice(&heap, &[0])?;
+    let opened = World::open(&heap, grid, starts, 1, Limits::DEFAULT, hooks);
+    let mut world = opened.ok().ok_or("a world")?;
+    heap.allow(0);
+    assert!(rt; world.shut(0) == Err(ShutFault::NoMemory));
+    assert!(rt; world.chapter().opening.clients.len() == 1);
+    assert!(rt; world.take(0, go(0, 1)) == Err(TakeFault::NoMemory));
+    assert!(rt; world.chapter().entries.is_empty() && world.is_idle());
+    heap.allow(1_000);
+    assert!(rt; world.chapter().opening.clients.len() == 1);
+    assert!(rt; world.take(0, go(0, 1)) == Ok(Verdict::Accepted(1)));
+    assert!(rt; world.shut(0) == Ok(None));
     Ok(())
 }
 
-/// Two robots on a ring, of which one has a further goal: each in turn has to give way.
+/// An opening that is refused one growth and all behind it, until it needs no more.
 #[test]
-fn ring_of_eight(rt: HostRuntime) -> Result<(), Fail> {
-    let grid = grid_of(&rt, rt.alloc(), (3, 3), b"....@....")?;
-    let events = [
-        Event::Post(0, go(0, 1)),
-        Event::Post(0, go(0, 2)),
-        Event::Post(0, go(1, 0)),
-        Event::Take(0),
-        Event::Take(0),
-        Event::Take(0),
-        Event::Tick,
-        Event::Tick,
-        Event::Tick,
-        Event::Tick,
-        Event::Tick,
-        Event::Tick,
-        Event::Tick,
-    ];
-    let seen = seen_of(&rt, grid, &[0, 8], 2, Limits::DEFAULT, &events)?;
-    let places = [1, 5, 1, 2, 0, 1, 3, 0, 0, 1, 1, 2, 2, 5];
-    assert!(rt; seen.places.as_slice() == places.as_slice());
-    assert!(rt; seen.reply(6) == ticked(1, 1, 0));
-    assert!(rt; seen.reply(9) == ticked(4, 1, 0));
-    assert!(rt; seen.reply(12) == ticked(7, 1, 0));
-    assert!(rt; seen.arrived.as_slice() == [0, 1, 0].as_slice());
-    assert!(rt; seen.arrival_calls == 3);
-    Ok(())
-}
-
-/// Why robots that start so have no run on the map `.@`.
-fn opening_fault(
-    rt: &(impl Abort + Alloc<A = Global> + Threads + Sync),
-    starts: &[u32],
-    hooked: usize,
-    limits: Limits,
-) -> Result<Option<RunFault>, Fail> {
-    let grid = grid_of(rt, rt.alloc(), (1, 2), b".@")?;
-    let seen = seen_of(rt, grid, starts, hooked, limits, &[Event::Tick])?;
-    Ok(seen.fault)
-}
-
-/// That fault of the opening.
-fn opening(fault: OpenFault) -> Option<RunFault> {
-    Some(RunFault::Opening(fault))
-}
-
-#[test]
-fn opening_faults(rt: HostRuntime) -> Result<(), Fail> {
-    let all = Limits::DEFAULT;
-    let narrow = Limits { mailbox: 1, ..all };
-    assert!(rt; opening_fault(&rt, &[], 0, all)? == opening(OpenFault::NoRobots));
-    assert!(rt; opening_fault(&rt, &[1], 1, all)? == opening(OpenFault::Start(0)));
-    assert!(rt; opening_fault(&rt, &[0, 0], 2, all)? == opening(OpenFault::Shared(0, 1)));
-    assert!(rt; opening_fault(&rt, &[0], 1, narrow)? == opening(OpenFault::Limits));
-    assert!(rt; opening_fault(&rt, &[0], 0, all)? == opening(OpenFault::Hooks));
-    assert!(rt; opening_fault(&rt, &[0], 1, all)? == None);
+fn refused_openings(rt: HostRuntime) -> Result<(), Fail> {
+    let alloc = rt.alloc();
+    let heap = Refusing::after(alloc, 1_000);
+    let mut growths = None;
+    for before in 0..64 {
+        heap.allow(1_000);
+        let grid = pair_over(&heap)?;
+        let mut hooks = no_hooks(&heap);
+        let tie = TieHook::new(ANY, Box::new(alloc, |_view: TieView| 0)?);
+        let arrival = ArrivalHook::new(STAMPS, Box::new(alloc, |view: ArrivalView| view.cell)?);
+        let farewell = Farewell::new(STAMPS, Box::new(alloc, |view: FarewellView| view.cell)?);
+        add(&mut hooks, tie, arrival, farewell)?;
+        let starts = Vec::from_slice(&heap, &[0])?;
+        heap.allow(before);
+        match World::open(&heap, grid, starts, 1, Limits::DEFAULT, hooks) {
+            Ok(world) => {
+                assert!(rt; world.placement() == [0].as_slice());
+                growths = Some(before);
+                break;
+            }
+            Err(fault) => {
+                assert!(rt; fault == OpenFault::NoMemory);
+            }
+        }
+    }
+    assert!(rt; growths != Some(0) && growths != None);
     Ok(())
 }

@@ -7,7 +7,7 @@ use fleet_hooks::{
     ArrivalHook, ArrivalView, Farewell, FarewellView, Hooks, StampLaw, TieHook, TieLaw, TieView,
 };
 use fleet_map::MapText;
-use fleet_world::{Entry, Limits, Played, RunFault, run};
+use fleet_world::{Entry, Played, RunFault, run};
 use std::alloc::{Alloc, AllocError, Global};
 use std::sync::Arc;
 use std::sync::atomic::{AtomicU64, Ordering};
@@ -148,7 +148,7 @@ fn find<R: Alloc<A = Global> + Threads + Sync>(
     let alloc = rt.alloc();
     let starts = Vec::from_slice(alloc, row.starts)?;
     let hooks = hooks.cut(starts.len());
-    let ended = run(rt, grid, starts, 2, Limits::DEFAULT, hooks, row.events);
+    let ended = run(rt, grid, starts, 2, row.limits, hooks, row.events);
     compare(alloc, row, ended, note.load(Ordering::SeqCst))
 }
 

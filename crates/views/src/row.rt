@@ -3,7 +3,7 @@
 use crate::note::Shown;
 use fleet_grid::Dir;
 use fleet_hooks::{ArrivalView, FarewellView, TieView};
-use fleet_world::{Event, Order};
+use fleet_world::{Event, Limits, Order};
 
 /// A row of two clients: a map of at most 1,024 a side whose letters fill it, where robots start, the events of a run, and
 /// what the robots' closures are to be shown, in order.
@@ -13,6 +13,7 @@ pub struct Row {
     pub sides: (u32, u32),
     pub letters: &'static [u8],
     pub starts: &'static [u32],
+    pub limits: Limits,
     pub events: &'static [Event],
     pub shown: &'static [Shown],
     /// Where the robots stand at the end.
@@ -81,6 +82,7 @@ const FAILED_PUSH: Row = Row {
     sides: (2, 3),
     letters: b"..@...",
     starts: &[5, 0, 1],
+    limits: Limits::DEFAULT,
     events: &[
         post!(0: 0 to 4),
         post!(0: 1 to 4),
@@ -105,6 +107,7 @@ const TWO_CORNERS: Row = Row {
     sides: (3, 3),
     letters: b".........",
     starts: &[0, 2],
+    limits: Limits::DEFAULT,
     events: &[
         post!(0: 0 to 8),
         post!(1: 1 to 6),
@@ -134,6 +137,7 @@ const TWO_FAREWELLS: Row = Row {
     sides: (1, 4),
     letters: b"....",
     starts: &[0, 2],
+    limits: Limits::DEFAULT,
     events: &[
         post!(1: 1 to 3),
         Event::Take(1),
@@ -152,5 +156,88 @@ const TWO_FAREWELLS: Row = Row {
     end: &[0, 3],
 };
 
+/// A robot with an errand left is shut, and takes its leave where it arrives.
+const SHUT_ROBOT: Row = Row {
+    name: "shut_robot",
+    sides: (1, 2),
+    letters: b"..",
+    starts: &[0],
+    limits: Limits::DEFAULT,
+    events: &[
+        post!(0: 0 to 1),
+        Event::Take(0),
+        post!(0: 0 to 0),
+        Event::Shut(0),
+        Event::Take(0),
+        Event::Tick,
+        Event::Shut(0),
+        Event::Shut(1),
+        Event::Tick,
+    ],
+    shown: &[
+        tie!(0 on 0: East 1 in 1),
+        arrival!(0, 1: 0 on 1 in 1),
+        farewell!(0 on 1 in 1),
+        tie!(0 on 1: West 0 in 2),
+    ],
+    end: &[1],
+};
+
+/// An idle robot takes its leave where it is shut.
+const IDLE_ROBOT_SHUT: Row = Row {
+    name: "idle_robot_shut",
+    sides: (1, 2),
+    letters: b"..",
+    starts: &[0],
+    limits: Limits::DEFAULT,
+    events: &[Event::Shut(0), Event::Tick, Event::Shut(0)],
+    shown: &[farewell!(0 on 0 in 0), tie!(0 on 0: East 1 in 1)],
+    end: &[0],
+};
+
+/// A tick that the clock refuses asks nobody.
+const CLOCK_SPENT: Row = Row {
+    name: "clock_spent",
+    sides: (1, 1),
+    letters: b".",
+    starts: &[0],
+    limits: Limits {
+        clock: 1,
+        ..Limits::DEFAULT
+    },
+    events: &[post!(0: 0 to 0), Event::Tick, Event::Take(0), Event::Tick],
+    shown: &[],
+    end: &[0],
+};
+
+/// Calls that a full chapter refuses ask nobody.
+const CHAPTER_FULL: Row = Row {
+    name: "chapter_full",
+    sides: (1, 1),
+    letters: b".",
+    starts: &[0],
+    limits: Limits {
+        chapter: 1,
+        ..Limits::DEFAULT
+    },
+    events: &[
+        post!(0: 0 to 0),
+        Event::Tick,
+        Event::Tick,
+        Event::Take(0),
+        Event::Shut(0),
+    ],
+    shown: &[],
+    end: &[0],
+};
+
 /// All rows.
-pub const ROWS: [Row; 3] = [FAILED_PUSH, TWO_CORNERS, TWO_FAREWELLS];
+pub const ROWS: [Row; 7] = [
+    FAILED_PUSH,
+    TWO_CORNERS,
+    TWO_FAREWELLS,
+    SHUT_ROBOT,
+    IDLE_ROBOT_SHUT,
+    CLOCK_SPENT,
+    CHAPTER_FULL,
+];

@@ -1,0 +1,124 @@
+//! A row through the calls of a world.
+
+use crate::busy::greatest_wait;
+use crate::row::{Call, Row, go};
+use crate::show::{busy_line, give_line, shut_line, take_line, tick_line, world_line};
+use fleet_grid::Grid;
+use fleet_hooks::{
+    ArrivalHook, ArrivalView, Farewell, FarewellView, Hooks, StampLaw, TieHook, TieLaw, TieView,
+};
+use fleet_map::MapText;
+use fleet_world::World;
+use std::alloc::{Alloc, AllocError, Global};
+
+/// Every robot's law: ranks of any kind.
+const RANKS: TieLaw = TieLaw {
+    low: [0, 0, 0, 0],
+    high: [255, 255, 255, 255],
+};
+
+/// Every robot's law: stamps of any kind.
+const STAMPS: StampLaw = StampLaw {
+    low: 0,
+    high: 4_294_967_295,
+};
+
+/// The row's grid. None where the letters do not fill the sides.
+fn grid_of(alloc: Global, row: &Row) -> Result<Option<Grid>, AllocError> {
+    let (height, width) = row.sides;
+    if height > 1_024 || width > 1_024 || row.letters.len() != height as usize * width as usize {
+        return Ok(None);
+    }
+    let map = MapText {
+        height,
+        width,
+        cells: Vec::from_slice(alloc, row.letters)?,
+    };
+    Ok(Some(Grid::new(map)?))
+}
+
+/// Adds the closures of one more robot.
+fn add(
+    hooks: &mut Hooks,
+    tie: TieHook,
+    arrival: ArrivalHook,
+    farewell: Farewell,
+) -> Result<(), AllocError> {
+    hooks.ties.push(tie)?;
+    hooks.arrivals.push(arrival)?;
+    hooks.farewells.push(farewell)?;
+    Ok(())
+}
+
+/// The lines of so many ticks.
+fn ticks<R: Alloc<A = Global>>(
+    rt: &R,
+    world: &mut World,
+    count: u32,
+) -> Result<String, AllocError> {
+    let mut text = String::new(rt.alloc());
+    for _tick in 0..count {
+        text.push_str(&tick_line(rt.alloc(), world.tick(rt))?)?;
+    }
+    Ok(text)
+}
+
+/// The lines of a call. A world without clients takes and gives nothing.
+fn answer<R: Alloc<A = Global>>(
+    rt: &R,
+    world: &mut World,
+    call: Call,
+) -> Result<String, AllocError> {
+    let alloc = rt.alloc();
+    match call {
+        Call::Go(robot, cell) if world.clients() > 0 => {
+            take_line(alloc, world.take(0, go(robot, cell)))
+        }
+        Call::Give if world.clients() > 0 => give_line(alloc, world.give(0)),
+        Call::Go(..) | Call::Give => Ok(String::new(alloc)),
+        Call::Tick(count) => ticks(rt, world, count),
+        Call::Shut(robot) => shut_line(alloc, world.shut(robot)),
+        Call::Show => world_line(alloc, world),
+        Call::Busy(count, bound) => busy_line(alloc, greatest_wait(rt, world, count), bound),
+    }
+}
+
+/// The lines of calls in turn.
+fn answers<R: Alloc<A = Global>>(
+    rt: &R,
+    world: &mut World,
+    calls: &[Call],
+) -> Result<String, AllocError> {
+    let mut text = String::new(rt.alloc());
+    for call in calls {
+        text.push_str(&answer(rt, world, *call)?)?;
+    }
+    Ok(text)
+}
+
+/// Plays a row: its name, and the lines of its calls.
+pub fn play<R: Alloc<A = Global>>(rt: &R, row: &Row) -> Result<String, AllocError> {
+    let alloc = rt.alloc();
+    let Some(grid) = grid_of(alloc, row)? else {
+        return format!(in alloc; "{}: no map\n", row.name);
+    };
+    let mut hooks = Hooks {
+        ties: Vec::new(alloc),
+        arrivals: Vec::new(alloc),
+        farewells: Vec::new(alloc),
+    };
+    for _robot in 0..row.hooked {
+        let tie = TieHook::new(RANKS, Box::new(alloc, |_view: TieView| 0)?);
+        let arrival = ArrivalHook::new(STAMPS, Box::new(alloc, |view: ArrivalView| view.cell)?);
+        let farewell = Farewell::new(STAMPS, Box::new(alloc, |view: FarewellView| view.cell)?);
+        add(&mut hooks, tie, arrival, farewell)?;
+    }
+    let starts = Vec::from_slice(alloc, row.starts)?;
+    match World::open(alloc, grid, starts, 1, row.limits, hooks) {
+        Ok(mut world) => {
+            let lines = answers(rt, &mut world, row.calls)?;
+            format!(in alloc; "{}\n{lines}", row.name)
+        }
+        Err(fault) => format!(in alloc; "{}: {fault:?}\n", row.name),
+    }
+}
