@@ -267,6 +267,8 @@ impl<A: Allocator + Copy> World<A> {
     ///
     /// Refused in this order: the ticks are spent, the chapter is full, want of memory.
     pub fn tick<R: Alloc<A = A>>(&mut self, rt: &R) -> Result<TickReport, TickFault>
+        // Of each call: only a call with a condition may lend closures to another crate.
+        requires { 0 ≤ self.old.core.number }
         ensures clock_spent { (result ≡ Err TickFault.ClockSpent) ↔ (clock self.old.core.history ≡ self.old.core.limits.clock) }
         ensures chapter_full { (result ≡ Err TickFault.ChapterFull) ↔
             ((clock self.old.core.history < self.old.core.limits.clock) × HasNoEntries self.old.core) }
