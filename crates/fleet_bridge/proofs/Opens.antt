@@ -1,12 +1,11 @@
 -- The sides of cells, written down and read again.
-use Rattle.std.proofs.Common.{◌≡◌, ◌⊎◌, inl, inr, ℕ, zero, suc, ◌+◌, ◌-◌, ◌<◌, ◌≤◌, ◌++◌, ◌∷◌, [], List, length, arith, rules, refl, sym, subst, ap, ◌∙◌, min}
+use Rattle.std.proofs.Common.{◌≡◌, ◌⊎◌, inl, inr, ℕ, zero, suc, ◌+◌, ◌-◌, ◌<◌, ◌++◌, ◌∷◌, [], List, length, arith, rules, refl, sym, subst, ap, ◌∙◌}
 use Rattle.std.specs.Prelude.{slice_get, Option, Some, None, Bool, true, false, MatchBool, unwrap_or}
-use Rattle.std.proofs.lemmas.Option.{slice_get_within, slice_get_cases}
 use Rattle.fleet_grid.specs.Floor.{Floor, HasForm, IsNeighbourIn}
 use Rattle.fleet_grid.specs.declared.dir.Dir.{Dir}
 use Rattle.fleet_grid.specs.declared.dir.Dir.TheVariants.{North, East, South, West}
 use Rattle.fleet_grid.proofs.Forms.{floor_inside, few_cells}
-use Rattle.fleet_bridge.specs.Sides.{is_open, IsOpen, AreSides}
+use Rattle.fleet_bridge.specs.Sides.{is_open, IsOpen}
 use Rattle.fleet_bridge.specs.declared.sides.Open.{Open}
 
 -- what a side says

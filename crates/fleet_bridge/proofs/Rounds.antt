@@ -15,7 +15,7 @@ use Rattle.fleet_grid.specs.Floor.{HasForm, IsNeighbour}
 use Rattle.fleet_bridge.specs.Search.{NearWithout}
 use Rattle.fleet_bridge.specs.Tree.{IsUnder}
 use Rattle.fleet_bridge.specs.Spanning.{IsCrossedIn, IsSpanning}
-use Rattle.fleet_bridge.specs.First.{HasNoneBeside, IsBeside, HasNone, IsFirstFrom}
+use Rattle.fleet_bridge.specs.First.{HasNoneBeside, IsBeside, HasNone, IsFirstFrom, HasNoneBelow}
 use Rattle.fleet_bridge.specs.declared.tree.Tree.{Tree}
 use Rattle.fleet_bridge.proofs.Joins.{joined_back, besides_back}
 use Rattle.fleet_bridge.proofs.Certificate.{off_tree, crossed}
@@ -120,9 +120,6 @@ pub from_none : (m : Floor) (a : ℕ) → HasForm m → HasNoneBeside m a East �
 from_none m a grid east south d less bridge = elim (above m a d bridge.edge less) [ inl e ↦ east d e bridge | inr s ↦ south d s bridge ]
 
 -- the first bridge of all
-
-abbrev pub HasNoneBelow : Floor → ℕ → Type 0
-HasNoneBelow m n = (c : ℕ) → c < n → HasNone m c
 
 pub first_is : (m : Floor) (a b : ℕ) → HasNoneBelow m a → IsFirstFrom m a b → IsFirstBridge (IsNeighbour m) a b
 first_is m a b none it = record { lower = it.lower; bridge = it.bridge; first = λ c d less bridge. at c d less bridge }

@@ -21,3 +21,7 @@ pub record IsFirstFrom (m : Floor) (cell b : ℕ) : Type 0 where
   pub lower : cell < b
   pub bridge : IsBridge (IsNeighbour m) cell b
   pub first : (d : ℕ) → cell < d → IsBridge (IsNeighbour m) cell d → b ≤ d
+
+-- no bridge has one of the first n cells as its lower end
+abbrev pub HasNoneBelow : Floor → ℕ → Type 0
+HasNoneBelow m n = (c : ℕ) → c < n → HasNone m c

@@ -4,3 +4,4 @@ pub mod Search
 pub mod Spanning
 pub mod First
 pub mod Sides
+pub mod Places

@@ -10,7 +10,8 @@ ghost use Rattle.fleet_bridge.specs.First.{HasNoneBeside, IsBeside, HasNone, IsF
 ghost use Rattle.fleet_bridge.specs.Sides.{AreSides};
 ghost use Rattle.fleet_bridge.specs.Spanning.{IsCrossedIn, IsSpanning};
 
-use crate::search::is_bridge;
+use crate::detours::first_doubt;
+use crate::search::{is_bridge, searched_from};
 use crate::sides::{Sides, beside, sides_of};
 use crate::tree::{Tree, read, spanning_tree};
 use fleet_grid::{Dir, Grid};
@@ -178,9 +179,9 @@ fn bridge_from<A: Allocator + Copy, B: Allocator + Copy>(
     Ok(None)
 }
 
-/// The bridge of least lower cell, then least upper cell.
+/// The first bridge, from the tree.
 #[tactic(auto, using(crate::proofs::Rounds::first_is, crate::proofs::Rounds::none_is))]
-pub fn first_bridge<A: Allocator + Copy, B: Allocator + Copy>(
+fn first_by_tree<A: Allocator + Copy, B: Allocator + Copy>(
     alloc: A,
     grid: &Grid<B>,
 ) -> Result<Option<(u32, u32)>, AllocError>
@@ -195,4 +196,22 @@ pub fn first_bridge<A: Allocator + Copy, B: Allocator + Copy>(
         }
     }
     Ok(None)
+}
+
+/// The bridge of least lower cell, then least upper cell. Edges beside squares of floor, or on short rounds, are passed over;
+/// a search tries the first of the others; only where that is no bridge either a tree is grown.
+#[tactic(auto, using(crate::proofs::Rounds::first_is))]
+pub fn first_bridge<A: Allocator + Copy, B: Allocator + Copy>(
+    alloc: A,
+    grid: &Grid<B>,
+) -> Result<Option<(u32, u32)>, AllocError>
+    ensures { IfOk result (λ found. MatchOption found (IsBridgeless (IsNeighbour grid.now)) (λ it. IsFirstBridge (IsNeighbour grid.now) it.0 it.1)) }
+{
+    let Some(cell) = first_doubt(grid) else {
+        return Ok(None);
+    };
+    if let Some(upper) = searched_from(alloc, grid, cell)? {
+        return Ok(Some((cell, upper)));
+    }
+    first_by_tree(alloc, grid)
 }

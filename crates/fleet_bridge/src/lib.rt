@@ -1,8 +1,10 @@
 //! Bridges of a map: edges whose ends no walk joins without crossing them.
 #![tactic(auto)]
 
+mod detours;
 mod first;
 mod next;
+mod places;
 mod search;
 mod sides;
 mod tree;

@@ -1,8 +1,9 @@
 //! A search that leaves one edge out.
 
-ghost use Rattle.std.specs.Prelude.{◌≡◌, ◌⊎◌, ℕ, ◌<◌, ◌≤◌, ◌↔◌, ◌*◌, length, vec_len, IfOk, IsTrue, Some, true, false};
+ghost use Rattle.std.specs.Prelude.{◌≡◌, ◌⊎◌, ℕ, ◌<◌, ◌≤◌, ◌↔◌, ◌*◌, length, vec_len, IfOk, MatchOption, IsTrue, Some, true, false};
 ghost use Rattle.fleet_grid.specs.Floor.{IsNeighbour, IsNeighbourIn};
 ghost use Rattle.fleet_grid.specs.Walk.{AreJoined, IsBridge};
+ghost use Rattle.fleet_bridge.specs.First.{HasNoneBeside, IsBeside, HasNone, IsFirstFrom};
 ghost use Rattle.fleet_bridge.specs.Search.{NearWithout, IsMarked, IsFront, IsLater, IsReach};
 
 use crate::next::next_to;
@@ -35,7 +36,7 @@ fn visit<A: Allocator + Copy, B: Allocator + Copy>(
 }
 
 /// Whether the step crosses the edge of `a` and `b`.
-fn is_across(a: u32, b: u32, cell: u32, next: u32) -> bool
+pub(crate) fn is_across(a: u32, b: u32, cell: u32, next: u32) -> bool
     ensures yes { result ≡ true → ((cell ≡ a) × (next ≡ b)) ⊎ ((cell ≡ b) × (next ≡ a)) }
     ensures no { result ≡ false → (cell ≡ a → next ≡ b → ⊥) × (cell ≡ b → next ≡ a → ⊥) }
 {
@@ -127,4 +128,40 @@ pub fn is_bridge<A: Allocator + Copy, B: Allocator + Copy>(
 {
     let seen = search(alloc, grid, a, b)?;
     Ok(!seen[b as usize])
+}
+
+/// The far end of the edge in a direction, if a search shows that to be a bridge.
+fn searched_beside<A: Allocator + Copy, B: Allocator + Copy>(
+    alloc: A,
+    grid: &Grid<B>,
+    cell: u32,
+    dir: Dir,
+) -> Result<Option<u32>, AllocError>
+    ensures { IfOk result (λ found. MatchOption found (HasNoneBeside grid.now cell dir) (IsBeside grid.now cell dir)) }
+{
+    let Some(next) = next_to(grid, cell, dir) else {
+        return Ok(None);
+    };
+    if is_bridge(alloc, grid, cell, next)? {
+        return Ok(Some(next));
+    }
+    Ok(None)
+}
+
+/// The first bridge whose lower end is the cell, by a search for each of its edges.
+#[tactic(auto, using(crate::proofs::Rounds::from_east, crate::proofs::Rounds::from_south, crate::proofs::Rounds::from_none))]
+pub(crate) fn searched_from<A: Allocator + Copy, B: Allocator + Copy>(
+    alloc: A,
+    grid: &Grid<B>,
+    cell: u32,
+) -> Result<Option<u32>, AllocError>
+    ensures { IfOk result (λ found. MatchOption found (HasNone grid.now cell) (IsFirstFrom grid.now cell)) }
+{
+    if let Some(east) = searched_beside(alloc, grid, cell, Dir::East)? {
+        return Ok(Some(east));
+    }
+    if let Some(south) = searched_beside(alloc, grid, cell, Dir::South)? {
+        return Ok(Some(south));
+    }
+    Ok(None)
 }

@@ -111,12 +111,12 @@ fn large_open_map(rt: HostRuntime) -> Result<(), Fail> {
     Ok(())
 }
 
-/// The letters of a map with 1,024 cells a side, of which the border is floor.
-fn border(alloc: Global) -> Result<Vec<u8>, Fail> {
+/// The letters of a square map of which the border is floor.
+fn border(alloc: Global, side: u32) -> Result<Vec<u8>, Fail> {
     let mut cells = Vec::new(alloc);
-    for row in 0..1024 {
-        for col in 0..1024 {
-            let is_border = row == 0 || row == 1023 || col == 0 || col == 1023;
+    for row in 0..side {
+        for col in 0..side {
+            let is_border = row == 0 || row + 1 == side || col == 0 || col + 1 == side;
             cells.push(if is_border { b'.' } else { b'@' })?;
         }
     }
@@ -125,7 +125,7 @@ fn border(alloc: Global) -> Result<Vec<u8>, Fail> {
 
 #[test]
 fn large_border(rt: HostRuntime) -> Result<(), Fail> {
-    let mut cells = border(rt.alloc())?;
+    let mut cells = border(rt.alloc(), 1024)?;
     let grid = grid_of(&rt, rt.alloc(), 1024, 1024, &cells)?;
     assert!(rt; first_bridge(rt.alloc(), &grid)? == None);
     assert!(rt; cells.len() > 5);
@@ -135,20 +135,45 @@ fn large_border(rt: HostRuntime) -> Result<(), Fail> {
     Ok(())
 }
 
+/// A ring of 76 cells, and beside cell 200 the cell 201, to which no other way leads.
+fn ring_with_tail<R: Alloc + Abort>(rt: &R, alloc: Global) -> Result<Grid, Fail> {
+    let mut cells = border(alloc, 20)?;
+    assert!(rt; cells.len() > 201);
+    cells[201] = b'.';
+    grid_of(rt, alloc, 20, 20, &cells)
+}
+
 #[test]
-fn refused_growths(rt: HostRuntime) -> Result<(), Fail> {
-    let grid = grid_of(&rt, rt.alloc(), 2, 3, b"..@...")?;
+fn bridge_behind_a_long_ring(rt: HostRuntime) -> Result<(), Fail> {
+    let grid = ring_with_tail(&rt, rt.alloc())?;
+    assert!(rt; first_bridge(rt.alloc(), &grid)? == Some((200, 201)));
+    Ok(())
+}
+
+/// Refuses each growth in turn, until none is refused.
+fn refuse_growths<R: Alloc<A = Global> + Abort>(
+    rt: &R,
+    grid: &Grid,
+    first: (u32, u32),
+) -> Result<(), Fail> {
     let mut unrefused = None;
     for before in 0..64 {
         let heap = Refusing::after(rt.alloc(), before);
-        let met = first_bridge(&heap, &grid).is_err();
-        let found = first_bridge(&heap, &grid);
+        let met = first_bridge(&heap, grid).is_err();
+        let found = first_bridge(&heap, grid);
         if !met {
             unrefused = Some(before);
             break;
         }
-        assert!(rt; found? == Some((4, 5)));
+        assert!(rt; found? == Some(first));
     }
     assert!(rt; unrefused.is_some());
     Ok(())
+}
+
+#[test]
+fn refused_growths(rt: HostRuntime) -> Result<(), Fail> {
+    let grid = grid_of(&rt, rt.alloc(), 2, 3, b"..@...")?;
+    refuse_growths(&rt, &grid, (4, 5))?;
+    refuse_growths(&rt, &ring_with_tail(&rt, rt.alloc())?, (200, 201))
 }

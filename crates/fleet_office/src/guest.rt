@@ -100,12 +100,13 @@ impl<N: OfficeName<A>, A: Allocator + Copy> Guest<N, A> {
     }
 }
 
-/// The clients of an office as its guests.
+/// The clients of an office as its guests, each in its place.
 pub fn guests_of<N: OfficeName<A>, A: Allocator + Copy>(
     alloc: A,
     clients: Vec<Client<A>, A>,
 ) -> Result<Vec<Guest<N, A>, A>, AllocError>
-    requires { AreOn N.rings (cores clients.items) }
+    requires on { AreOn N.rings (cores clients.items) }
+    ensures all { IfOk result (λ guests. guests.items ≡ clients.items) }
 {
     let mut clients = clients;
     let mut guests = Vec::with_capacity(alloc, clients.len())?;
@@ -116,12 +117,13 @@ pub fn guests_of<N: OfficeName<A>, A: Allocator + Copy>(
     Ok(guests)
 }
 
-/// The clients that these guests are, as their office knows them.
+/// The clients that these guests are, as their office knows them, each in its place.
 pub fn clients_of<N: OfficeName<A>, A: Allocator + Copy>(
     alloc: A,
     guests: Vec<Guest<N, A>, A>,
 ) -> Result<Vec<Client<A>, A>, AllocError>
-    ensures { IfOk result (λ clients. AreOn N.rings (cores clients.items)) }
+    ensures on { IfOk result (λ clients. AreOn N.rings (cores clients.items)) }
+    ensures all { IfOk result (λ clients. clients.items ≡ guests.items) }
 {
     let mut guests = guests;
     let mut clients = Vec::with_capacity(alloc, guests.len())?;

@@ -1,5 +1,5 @@
 //! The lock's value.
-ghost use Rattle.std.specs.Prelude.{◌≡◌, ◌+◌, ◌<◌, ◌≤◌, ◌↔◌, true, false, ℕ, length, Err, IfOk, IfErr, IfSome, OnOk, OnErr};
+ghost use Rattle.std.specs.Prelude.{◌≡◌, ◌+◌, ◌<◌, ◌≤◌, ◌^◌, ◌↔◌, true, false, ℕ, length, Err, IfOk, IfErr, IfSome, OnOk, OnErr};
 ghost use Rattle.fleet_history.specs.History.{clock, robots, is_shut};
 ghost use Rattle.fleet_core.specs.Hooks.{laws_of};
 ghost use Rattle.fleet_world.specs.Opening.{IsRefused, IsNamed as IsNamedFault};
@@ -45,6 +45,7 @@ impl<N: OfficeName<A>, A: Allocator + Copy> Hall<N, A> {
 
     /// Gives each client's notices, client by client.
     pub fn give_all(&mut self) -> u64
+        requires { 0 ≤ self.old.rest.total }
         ensures gives { GivesAll self.old.rest result self.new.rest }
         ensures counted { given_count self.new.rest ≡ given_count self.old.rest + result }
     {
@@ -53,6 +54,7 @@ impl<N: OfficeName<A>, A: Allocator + Copy> Hall<N, A> {
 
     /// Shuts a robot.
     pub fn shut(&mut self, robot: u32) -> Result<Option<u32>, ShutFault>
+        requires { robot < 2 ^ 32 }
         ensures ok { IfOk result (λ farewell. Shuts self.old.rest.world robot farewell self.new.rest.world
             × (self.new.rest.ends ≡ self.old.rest.ends) × (self.new.rest.total ≡ self.old.rest.total)) }
         ensures no_robot { (result ≡ Err ShutFault.NoRobot) ↔ (robots self.old.rest.world.history ≤ robot) }
@@ -106,6 +108,7 @@ impl<N: OfficeName<A>, A: Allocator + Copy> Hall<N, A> {
         rt: &R,
         ticker: &mut Ticker<N>,
     ) -> Result<TickReport, TickFault>
+        requires { 0 ≤ ticker.old.count }
         ensures ok { IfOk result (λ r. TicksOnce self.old.rest r self.new.rest
             × (ticker.new ≡ record { count = ticker.old.count + 1; parts = ticker.old.parts }) × (ticker.new.count ≤ r.tick)) }
         ensures clock_spent { (result ≡ Err TickFault.ClockSpent) ↔ (clock self.old.rest.world.history ≡ self.old.rest.world.limits.clock) }
@@ -124,6 +127,7 @@ impl<N: OfficeName<A>, A: Allocator + Copy> Hall<N, A> {
         rt: &R,
         ticker: &mut Ticker<N>,
     ) -> Result<TurnReport, TurnFault>
+        requires { 0 ≤ ticker.old.count }
         ensures ok { IfOk result (λ r. Turns self.old.rest r self.new.rest) }
         ensures given { IfOk result (λ r. given_count self.new.rest ≡ given_count self.old.rest + r.given) }
         ensures ticker { IfOk result (λ r. (ticker.new ≡ record { count = ticker.old.count + 1; parts = ticker.old.parts })

@@ -2,3 +2,4 @@ pub mod Sequences
 pub mod Runs
 pub mod Clients
 pub mod Ended
+pub mod Faults

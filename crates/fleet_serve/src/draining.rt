@@ -1,5 +1,8 @@
 //! The turns that a serve makes when its threads have ended.
 
+ghost use Rattle.std.specs.Prelude.{IfErr};
+ghost use Rattle.fleet_serve.specs.Faults.{IsLater};
+
 use crate::names::ScriptName;
 use crate::ran::Ran;
 use crate::served::ServeFault;
@@ -11,7 +14,9 @@ use std::sync::Wait;
 const MOST_TURNS: u32 = 1_000_000;
 
 /// Why a serve ends with this fault of a turn.
-pub(crate) fn fault_of(cause: TurnCause) -> ServeFault {
+pub(crate) fn fault_of(cause: TurnCause) -> ServeFault
+    ensures { IsLater result }
+{
     match cause {
         TurnCause::ClockSpent => ServeFault::ClockSpent,
         TurnCause::ChapterFull => ServeFault::ChapterFull,
@@ -25,7 +30,9 @@ fn turn<N: ScriptName, R: Alloc<A = Global> + Wait>(
     office: &Office<N>,
     ticker: &mut Ticker<N>,
     ran: &mut [Ran<N>],
-) -> Result<TurnReport, ServeFault> {
+) -> Result<TurnReport, ServeFault>
+    ensures { IfErr result (λ fault. IsLater fault) }
+{
     let report = match office.turn(rt, ticker) {
         Ok(report) => report,
         Err(TurnFault { cause, .. }) => return Err(fault_of(cause)),
@@ -42,7 +49,9 @@ pub(crate) fn drain<N: ScriptName, R: Alloc<A = Global> + Wait>(
     office: &Office<N>,
     ticker: &mut Ticker<N>,
     ran: &mut [Ran<N>],
-) -> Result<(), ServeFault> {
+) -> Result<(), ServeFault>
+    ensures { IfErr result (λ fault. IsLater fault) }
+{
     for _ in 0..MOST_TURNS {
         let report = turn(rt, office, ticker, ran)?;
         if report.taken == 0 && report.held == 0 {
@@ -58,7 +67,9 @@ pub(crate) fn idle<N: ScriptName, R: Alloc<A = Global> + Wait>(
     office: &Office<N>,
     ticker: &mut Ticker<N>,
     ran: &mut [Ran<N>],
-) -> Result<(), ServeFault> {
+) -> Result<(), ServeFault>
+    ensures { IfErr result (λ fault. IsLater fault) }
+{
     let Some(ticks) = office.look(rt, ticker)?.idle_within else {
         return Ok(());
     };

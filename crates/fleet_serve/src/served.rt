@@ -12,19 +12,23 @@ pub struct Served {
 }
 
 /// Why a serve came to no end.
+///
+/// The opening comes first. When all threads have ended, `NoThread` comes before a ticker's fault, and the first ticker's
+/// before the second's; then a fault of a further turn, `Drain` among them, and at last one of the conclusion. `NoMemory`
+/// stands where it is met, at the opening too.
 #[derive(Clone, Copy, Debug, PartialEq, Eq)]
 pub enum ServeFault {
-    /// The office was not opened.
+    /// The office was not opened, for a reason other than want of memory.
     Opening(OpenFault),
-    /// All the ticks were made that may be made.
+    /// A turn's tick was refused: all the ticks were made that may be made.
     ClockSpent,
-    /// The chapter has all the entries that it may have.
+    /// A turn, or an order that was left at the end, was refused: the chapter has all the entries that it may have.
     ChapterFull,
     /// The lanes were not emptied within 1,000,000 further turns.
     Drain,
-    /// Memory was refused, at the opening too.
+    /// Memory was refused.
     NoMemory,
-    /// Not every client got its thread.
+    /// Not every client got its thread. Those that got one have ended.
     NoThread,
 }
 

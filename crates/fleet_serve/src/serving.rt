@@ -1,6 +1,6 @@
 //! A script is served: its clients and two tickers work at one office, and the office is concluded.
 
-ghost use Rattle.std.specs.Prelude.{◌≡◌, ◌<◌, ◌^◌, length, IfOk};
+ghost use Rattle.std.specs.Prelude.{◌≡◌, ◌<◌, ◌^◌, ◌⊎◌, length, Err, IfOk, IfErr};
 ghost use Rattle.std.specs.List.{All};
 ghost use Rattle.fleet_grid.specs.Floor.{IsNeighbour};
 ghost use Rattle.fleet_grid.specs.Walk.{IsBridgeless};
@@ -8,8 +8,10 @@ ghost use Rattle.fleet_history.specs.History.{history_of, clock};
 ghost use Rattle.fleet_history.specs.Legal.{IsLegal};
 ghost use Rattle.fleet_history.specs.Laws.{EachTick};
 ghost use Rattle.fleet_plan.specs.Planned.{IsAdvancingTick};
-ghost use Rattle.fleet_world.specs.Opening.{IsNamed as IsNamedFault};
+ghost use Rattle.fleet_core.specs.Hooks.{laws_of};
+ghost use Rattle.fleet_world.specs.Opening.{IsNamed as IsNamedFault, IsRefused};
 ghost use Rattle.fleet_office.specs.Views.{IsNamed};
+ghost use Rattle.fleet_serve.specs.Faults.{IsLater};
 ghost use Rattle.fleet_serve.specs.Posted.{IsLine, AreNew, TakesPosted, TakesAll, AreLastNotices};
 
 use crate::draining::{drain, fault_of, idle};
@@ -34,6 +36,7 @@ use std::thread::Threads;
 fn opening_fault(fault: OpenFault) -> ServeFault
     ensures named { IsNamedFault fault → result ≡ ServeFault.Opening fault }
     ensures memory { fault ≡ OpenFault.NoMemory → result ≡ ServeFault.NoMemory }
+    ensures only { (f : OpenFault) → result ≡ ServeFault.Opening f → (f ≡ fault) × IsNamedFault fault }
 {
     match fault {
         OpenFault::NoMemory => ServeFault::NoMemory,
@@ -59,6 +62,8 @@ fn conclude<N: ScriptName, R: Alloc<A = Global> + Wait>(
     office: Office<N>,
     home: Home<N>,
 ) -> Result<Served, ServeFault>
+    ensures later { IfErr result (λ fault. IsLater fault) }
+    ensures first { IfOk result (λ s. s.last.chapter.number ≡ 0) }
     ensures legal { IfOk result (λ s. IsLegal s.last.grid (history_of s.last.chapter)) }
     ensures advancing { IfOk result (λ s. IsBridgeless (IsNeighbour s.last.grid) → EachTick (IsAdvancingTick s.last.grid) (history_of s.last.chapter)) }
     ensures tick { IfOk result (λ s. s.last.tick ≡ clock (history_of s.last.chapter)) }
@@ -106,6 +111,10 @@ fn serve_at<
     requires limits { desk.limits ≡ script.now.limits }
     requires events { script.now.events.items ≡ N.events }
     requires orders { script.now.limits.orders ≡ N.orders }
+    ensures refused { (f : OpenFault) → result ≡ Err (ServeFault.Opening f) → IsRefused grid script.now.starts.items script.now.clients script.now.limits (laws_of hooks) f }
+    ensures opens { (f : OpenFault) → IsRefused grid script.now.starts.items script.now.clients script.now.limits (laws_of hooks) f →
+        (result ≡ Err (ServeFault.Opening f)) ⊎ (result ≡ Err ServeFault.NoMemory) }
+    ensures first { IfOk result (λ s. s.last.chapter.number ≡ 0) }
     ensures legal { IfOk result (λ s. IsLegal s.last.grid (history_of s.last.chapter)) }
     ensures advancing { IfOk result (λ s. IsBridgeless (IsNeighbour s.last.grid) → EachTick (IsAdvancingTick s.last.grid) (history_of s.last.chapter)) }
     ensures tick { IfOk result (λ s. s.last.tick ≡ clock (history_of s.last.chapter)) }
@@ -142,7 +151,7 @@ fn serve_at<
 /// all clients collect; and the office is concluded.
 ///
 /// A post that meets a full lane is counted and not tried again; one of a client that closed, or that spent its numbers, sends
-/// nothing.
+/// nothing. `ServeFault` says which fault comes before which. What the clients collect is dropped.
 pub fn serve<R: Alloc<A = Global> + Threads + Sync + Wait, G: Gate + Sync>(
     rt: &R,
     grid: Grid,
@@ -152,6 +161,11 @@ pub fn serve<R: Alloc<A = Global> + Threads + Sync + Wait, G: Gate + Sync>(
 ) -> Result<Served, ServeFault>
     requires few { length script.now.events.items < 2 ^ 32 }
     requires lines { All (IsLine script.now.clients) script.now.events.items }
+    // An opening is refused for the reason that stands first, or for want of memory.
+    ensures refused { (f : OpenFault) → result ≡ Err (ServeFault.Opening f) → IsRefused grid script.now.starts.items script.now.clients script.now.limits (laws_of hooks) f }
+    ensures opens { (f : OpenFault) → IsRefused grid script.now.starts.items script.now.clients script.now.limits (laws_of hooks) f →
+        (result ≡ Err (ServeFault.Opening f)) ⊎ (result ≡ Err ServeFault.NoMemory) }
+    ensures first { IfOk result (λ s. s.last.chapter.number ≡ 0) }
     ensures legal { IfOk result (λ s. IsLegal s.last.grid (history_of s.last.chapter)) }
     ensures advancing { IfOk result (λ s. IsBridgeless (IsNeighbour s.last.grid) → EachTick (IsAdvancingTick s.last.grid) (history_of s.last.chapter)) }
     ensures tick { IfOk result (λ s. s.last.tick ≡ clock (history_of s.last.chapter)) }
@@ -162,6 +176,8 @@ pub fn serve<R: Alloc<A = Global> + Threads + Sync + Wait, G: Gate + Sync>(
 {
     match Desk::new(rt.alloc(), script.clients, script.limits) {
         Ok(desk) => serve_at::<Brand, R, G>(rt, desk, grid, script, hooks, gate),
-        Err(fault) => Err(opening_fault(fault)),
+        Err(OpenFault::Limits) => Err(ServeFault::Opening(OpenFault::Limits)),
+        // Apart from its limits a desk is refused for want of memory alone.
+        Err(_) => Err(ServeFault::NoMemory),
     }
 }

@@ -1,5 +1,8 @@
 //! Clients and tickers, each in a thread of its own.
 
+ghost use Rattle.std.specs.Prelude.{IfErr};
+ghost use Rattle.fleet_serve.specs.Faults.{IsLater};
+
 use crate::gate::Gate;
 use crate::names::ScriptName;
 use crate::newcomer::Newcomer;
@@ -73,7 +76,9 @@ pub(crate) fn work_all<
     tickers: (Ticker<N>, Ticker<N>),
     turns: u32,
     shift: &Shift<'_, N, G>,
-) -> Result<Home<N>, ServeFault> {
+) -> Result<Home<N>, ServeFault>
+    ensures { IfErr result (λ fault. IsLater fault) }
+{
     let (first, second) = tickers;
     let (ran, (first, second)) = join(
         rt,

@@ -40,7 +40,7 @@ pub struct Played<A: Allocator + Copy = Global> {
 
 /// The pure core over any list of events, from the opening of a world; lanes and outlets are lists, bounded by `lane` and
 /// `outlet`. A refused event changes nothing and is answered in the replies; only want of memory ends the run, at the index
-/// of its event.
+/// of its event. What was sent, taken, given and collected is told by this chapter alone (`rings`), and as in any (`each_ring`).
 pub fn run<A: Allocator + Copy + Send + Sync, R: Alloc<A = A> + Threads + Sync>(
     rt: &R,
     grid: Grid<A>,
@@ -60,7 +60,6 @@ pub fn run<A: Allocator + Copy + Send + Sync, R: Alloc<A = A> + Threads + Sync>(
     ensures same { IfOk result (λ p. IsSameGround (opened_world grid starts.items clients limits (laws_of hooks)) p.world.core) }
     ensures counts { IfOk result (λ p. (vec_len p.lanes ≡ clients) × (vec_len p.outlets ≡ clients) × (vec_len p.collected ≡ clients)) }
     ensures legal { IfOk result (λ p. IsLegal p.world.core.floor p.world.core.history) }
-    // Sent, taken, given and collected: `rings` by this chapter alone, `each_ring` as in any chapter.
     ensures rings { IfOk result (λ p. KeepsRings (end_of p)) }
     ensures each_ring { IfOk result (λ p. KeepsEachRing (end_of p)) }
     ensures once { IfOk result (λ p. CollectsInOrder p.world.core.history (collected_of p)) }

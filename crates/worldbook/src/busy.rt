@@ -30,7 +30,7 @@ pub fn greatest_wait<R: Alloc<A = Global>>(rt: &R, world: &mut World, ticks: u32
     let mut greatest = 0;
     for tick in 0..ticks {
         for robot in 0..9u32 {
-            keep_busy(world, robot, (tick / 3 * 5 + robot * 7) % 9);
+            keep_busy(world, robot, (tick / 3 % 9 * 5 + robot * 7) % 9);
         }
         let _ = world.tick(rt);
         for robot in 0..9u32 {

@@ -84,7 +84,10 @@ pub fn busy_line(alloc: Global, greatest: u64, bound: u64) -> Result<String, All
 /// Where the robots stand and how long they have waited, a robot a word.
 fn robots_text(alloc: Global, world: &World) -> Result<String, AllocError> {
     let mut text = String::new(alloc);
-    for robot in 0..world.robots() as u32 {
+    for robot in 0..512u32 {
+        if robot as usize >= world.robots() {
+            break;
+        }
         let cell = world.placement().get(robot as usize).copied().unwrap_or(0);
         let wait = number_or_none(alloc, world.wait_of(robot))?;
         text.push_str(&format!(in alloc; " {cell}/{wait}")?)?;

@@ -1,9 +1,9 @@
-use Rattle.std.proofs.Common.{length}
+use Rattle.std.proofs.Common.{◌≡◌, ◌++◌, length}
 use Rattle.fleet_office.specs.Views.{AreOn, cores}
 use Rattle.fleet_office.proofs.guest.guests_of.Given as goal
 
 abbrev pub invariant-loop-clients : goal.invariant-loop-clients
-invariant-loop-clients g l = AreOn g.N.OfficeName.rings (cores l.clients.items)
+invariant-loop-clients g l = AreOn g.N.OfficeName.rings (cores l.clients.items) × (l.guests.items ++ l.clients.items ≡ l.initial.clients.items)
 
 abbrev pub decreases-loop-clients : goal.decreases-loop-clients
 decreases-loop-clients g l = length l.clients.items

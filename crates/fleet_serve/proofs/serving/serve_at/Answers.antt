@@ -1,6 +1,8 @@
-use Rattle.std.proofs.Common.{◌≡◌, ◌<◌, length, sym, subst, IfOk}
+use Rattle.std.proofs.Common.{◌≡◌, ◌<◌, length, sym, subst, IfOk, rules}
+use Rattle.fleet_core.specs.Hooks.{laws_of}
 use Rattle.fleet_history.specs.History.{history_of}
 use Rattle.fleet_serve.specs.Posted.{AreNew, TakesPosted, TakesAll, AreLastNotices}
+use Rattle.fleet_serve.proofs.Faults.{opens-err, opens-ok}
 use Rattle.fleet_serve.proofs.serving.serve_at.Goals as goal
 
 pub newcomers_of-requires-clause-fresh : goal.newcomers_of-requires-clause-fresh
@@ -24,3 +26,24 @@ pub returns-clause-rest : goal.returns-clause-rest
 returns-clause-rest g c =
     let r = c.conclude.result in
     subst (λ n. IfOk r (λ s. AreLastNotices (history_of s.last.chapter) s.last.rest.items n)) c.requires.rings c.conclude.ensures.rest
+
+pub returns-in-Err-clause-opens : goal.returns-in-Err-clause-opens
+returns-in-Err-clause-opens g c =
+    let script = c.args.script.now in
+    let starts : c.in_ok-starts.starts.items ≡ script.starts.items = search rules in
+    opens-err c.args.grid script.starts.items c.in_ok-starts.starts.items script.clients (length c.args.desk.clients) script.limits c.args.desk.limits (laws_of c.args.hooks)
+    starts c.requires.clients c.requires.limits c.in-Err.fault c.opening_fault.result c.in-Err.ensures.refused c.opening_fault.ensures.named
+
+pub returns-in_err-home-clause-opens : goal.returns-in_err-home-clause-opens
+returns-in_err-home-clause-opens g c f why =
+    let script = c.args.script.now in
+    let starts : c.in_ok-starts.starts.items ≡ script.starts.items = search rules in
+    absurd (opens-ok c.args.grid script.starts.items c.in_ok-starts.starts.items script.clients (length c.args.desk.clients) script.limits c.args.desk.limits (laws_of c.args.hooks)
+    starts c.requires.clients c.requires.limits c.in-Ok.opened c.in-Ok.ensures.refused f why)
+
+pub returns-clause-opens : goal.returns-clause-opens
+returns-clause-opens g c f why =
+    let script = c.args.script.now in
+    let starts : c.in_ok-starts.starts.items ≡ script.starts.items = search rules in
+    absurd (opens-ok c.args.grid script.starts.items c.in_ok-starts.starts.items script.clients (length c.args.desk.clients) script.limits c.args.desk.limits (laws_of c.args.hooks)
+    starts c.requires.clients c.requires.limits c.in-Ok.opened c.in-Ok.ensures.refused f why)

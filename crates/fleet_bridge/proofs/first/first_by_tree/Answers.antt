@@ -2,7 +2,7 @@ use Rattle.std.proofs.Common.{ℕ, ◌≤◌, length, Option, MatchOption, below
 use Rattle.fleet_grid.specs.Floor.{Floor}
 use Rattle.fleet_bridge.specs.First.{HasNone, IsFirstFrom}
 use Rattle.fleet_bridge.proofs.Rounds.{none_is, none_left}
-use Rattle.fleet_bridge.proofs.first.first_bridge.Goals as goal
+use Rattle.fleet_bridge.proofs.first.first_by_tree.Goals as goal
 
 pub loop-cell-preserved : goal.loop-cell-preserved
 loop-cell-preserved g c =

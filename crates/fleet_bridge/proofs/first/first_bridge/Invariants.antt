@@ -1,5 +1,0 @@
-use Rattle.fleet_bridge.proofs.Rounds.{HasNoneBelow}
-use Rattle.fleet_bridge.proofs.first.first_bridge.Given as goal
-
-abbrev pub invariant-loop-cell : goal.invariant-loop-cell
-invariant-loop-cell g l = HasNoneBelow l.grid l.cell

@@ -1,0 +1,60 @@
+-- When a serve answers a fault of its opening.
+use Rattle.std.proofs.Common.{◌≡◌, ◌∙◌, ℕ, inl, inr, List, Result, Ok, Err, refl, sym, ap, subst}
+use Rattle.std.specs.Prelude.{◌⊎◌, ◌↔◌, IfErr}
+use Rattle.fleet_grid.specs.Floor.{Floor}
+use Rattle.fleet_book.specs.declared.limits.Limits.{Limits}
+use Rattle.fleet_core.specs.Hooks.{HookLaws}
+use Rattle.fleet_core.specs.Opening.{AreInRange}
+use Rattle.fleet_world.specs.declared.faults.OpenFault.{OpenFault}
+use Rattle.fleet_world.specs.declared.faults.OpenFault.TheVariants as open_fault
+use Rattle.fleet_world.specs.Opening.{IsRefused, IsNamed}
+use Rattle.fleet_serve.specs.declared.served.ServeFault.{ServeFault}
+use Rattle.fleet_serve.specs.declared.served.ServeFault.TheVariants.{Opening, NoMemory}
+use Rattle.fleet_serve.specs.Faults.{IsLater}
+
+-- a fault behind the opening is none of it
+pub later-none : {S : Type 0} (r : Result S ServeFault) (f : OpenFault) → IfErr r (λ x. IsLater x) → r ≡ Err (Opening f) → ⊥
+later-none r f later is = subst (λ x. IfErr x (λ y. IsLater y)) is later
+
+module _ (m : Floor) (starts : List ℕ) (clients : ℕ) (limits : Limits) (laws : HookLaws) where
+  pub refused-named : (f : OpenFault) → IsRefused m starts clients limits laws f → IsNamed f
+  refused-named open_fault.Limits why = tt
+  refused-named open_fault.NoRobots why = tt
+  refused-named (open_fault.Start r) why = tt
+  refused-named (open_fault.Shared i j) why = tt
+  refused-named open_fault.Hooks why = tt
+  refused-named open_fault.NoMemory why = why
+
+  -- any other reason than the limits stands behind them
+  pub out-of-range : (f : OpenFault) → (AreInRange clients limits → ⊥) → IsRefused m starts clients limits laws f → f ≡ open_fault.Limits
+  out-of-range open_fault.Limits bad why = refl
+  out-of-range open_fault.NoRobots bad why = absurd (bad why.0)
+  out-of-range (open_fault.Start r) bad why = absurd (bad why.0)
+  out-of-range (open_fault.Shared i j) bad why = absurd (bad why.0)
+  out-of-range open_fault.Hooks bad why = absurd (bad why.0)
+  out-of-range open_fault.NoMemory bad why = absurd why
+
+-- the reasons by other names of what is opened
+module _ (m : Floor) (starts others : List ℕ) (clients count : ℕ) (limits same : Limits) (laws : HookLaws) (s : others ≡ starts) (c : count ≡ clients) (l : same ≡ limits) where
+  pub by-names : (f : OpenFault) → IsRefused m others count same laws f → IsRefused m starts clients limits laws f
+  by-names f why = subst (λ (x : Limits). IsRefused m starts clients x laws f) l (subst (λ (x : ℕ). IsRefused m starts x same laws f) c (subst (λ (x : List ℕ). IsRefused m x count same laws f) s why))
+
+  pub to-names : (f : OpenFault) → IsRefused m starts clients limits laws f → IsRefused m others count same laws f
+  to-names f why = subst (λ (x : List ℕ). IsRefused m x count same laws f) (sym s) (subst (λ (x : ℕ). IsRefused m starts x same laws f) (sym c) (subst (λ (x : Limits). IsRefused m starts clients x laws f) (sym l) why))
+
+  -- an office that is not opened
+  pub opens-err : {S P : Type 0} (fault : OpenFault) (told : ServeFault) → ((f : OpenFault) → IsNamed f → ((◌≡◌ {A = Result P OpenFault} (Err fault) (Err f)) ↔ IsRefused m others count same laws f))
+      → (IsNamed fault → told ≡ Opening fault) → (f : OpenFault) → IsRefused m starts clients limits laws f
+      → (◌≡◌ {A = Result S ServeFault} (Err told) (Err (Opening f))) ⊎ (◌≡◌ {A = Result S ServeFault} (Err told) (Err NoMemory))
+  opens-err {S} {P} fault told exact is f why =
+      let n : IsNamed f = refused-named m starts clients limits laws f why in
+      let e : ◌≡◌ {A = Result P OpenFault} (Err fault) (Err f) = (exact f n).1 (to-names f why) in
+      let q : fault ≡ f = cc in
+      inl (ap (λ (x : ServeFault). Err x) (is (subst (λ (x : OpenFault). IsNamed x) (sym q) n) ∙ ap (λ (x : OpenFault). Opening x) q))
+
+  -- one that is
+  pub opens-ok : {P : Type 0} (opened : P) → ((f : OpenFault) → IsNamed f → ((◌≡◌ {A = Result P OpenFault} (Ok opened) (Err f)) ↔ IsRefused m others count same laws f))
+      → (f : OpenFault) → IsRefused m starts clients limits laws f → ⊥
+  opens-ok {P} opened exact f why =
+      let e : ◌≡◌ {A = Result P OpenFault} (Ok opened) (Err f) = (exact f (refused-named m starts clients limits laws f why)).1 (to-names f why) in
+      absurd cc
