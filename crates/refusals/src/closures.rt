@@ -1,0 +1,136 @@
+//! The closures of a row, and the world or the run that they are made for.
+
+ghost use Rattle.std.specs.Prelude.{◌≡◌};
+
+use crate::calls::Call;
+use crate::case::Case;
+use crate::play::{Played, play_calls};
+use crate::runs::{Run, end_run};
+use crate::stage::{Stage, read};
+use fleet_hooks::{
+    ArrivalHook, ArrivalView, Farewell, FarewellView, Hooks, StampLaw, TieHook, TieLaw, TieView,
+};
+use fleet_world::{Event, OpenFault, World, run};
+use refusing::Refusing;
+use std::alloc::{Alloc, AllocError, Allocator, Global};
+use std::sync::Arc;
+use std::sync::atomic::{AtomicU64, Ordering};
+use std::thread::Threads;
+
+const ALIKE: TieLaw = TieLaw {
+    low: [0, 0, 0, 0],
+    high: [0, 0, 0, 0],
+};
+
+const NOUGHT: StampLaw = StampLaw { low: 0, high: 0 };
+
+/// No closures yet.
+fn no_hooks<A: Allocator + Copy>(lists: A) -> Hooks<A> {
+    Hooks {
+        ties: Vec::new(lists),
+        arrivals: Vec::new(lists),
+        farewells: Vec::new(lists),
+    }
+}
+
+/// Adds the closures of one more robot.
+fn add<A: Allocator + Copy>(
+    hooks: &mut Hooks<A>,
+    tie: TieHook,
+    arrival: ArrivalHook,
+    farewell: Farewell,
+) -> Result<(), AllocError> {
+    hooks.ties.push(tie)?;
+    hooks.arrivals.push(arrival)?;
+    hooks.farewells.push(farewell)?;
+    Ok(())
+}
+
+/// Plays the first `last` calls of a row, of which the growth behind `before` others is refused.
+pub fn play(
+    alloc: Global,
+    case: Case<'_>,
+    calls: &[Call],
+    before: u64,
+    last: usize,
+) -> Result<Result<Played, Stage>, AllocError> {
+    let heap = Refusing::after(alloc, before);
+    let (grid, script) = match read(&heap, case) {
+        Ok(read) => read,
+        Err(stage) => return Ok(Err(stage)),
+    };
+    let stamped = Arc::new(alloc, AtomicU64::new(0))?;
+    let mut hooks = no_hooks(&heap);
+    for _robot in 0..script.starts.len() {
+        let (arrivals, farewells) = (Arc::try_clone(&stamped)?, Arc::try_clone(&stamped)?);
+        let tie = |_view: TieView| -> u8
+            ensures { result ≡ 0 }
+        { 0 };
+        let arrival = move |_view: ArrivalView| -> u32
+            ensures { result ≡ 0 }
+        { count(&arrivals) };
+        let farewell = move |_view: FarewellView| -> u32
+            ensures { result ≡ 0 }
+        { count(&farewells) };
+        let tie = TieHook::new(ALIKE, Box::new(alloc, tie)?);
+        let arrival = ArrivalHook::new(NOUGHT, Box::new(alloc, arrival)?);
+        let farewell = Farewell::new(NOUGHT, Box::new(alloc, farewell)?);
+        if add(&mut hooks, tie, arrival, farewell).is_err() {
+            return Ok(Err(Stage::Lists));
+        }
+    }
+    let (starts, clients, limits) = (script.starts, script.clients, script.limits);
+    match World::open(&heap, grid, starts, clients, limits, hooks) {
+        Ok(mut world) => {
+            let rt = ((), &heap);
+            let played = play_calls(alloc, &rt, &mut world, calls, last, &stamped)?;
+            Ok(Ok(played))
+        }
+        Err(OpenFault::NoMemory) => Ok(Err(Stage::Open)),
+        Err(_) => Ok(Err(Stage::Faulty)),
+    }
+}
+
+/// Counts the call of a closure. The result is its stamp.
+fn count(stamped: &AtomicU64) -> u32
+    ensures { result ≡ 0 }
+{
+    stamped.fetch_add(1, Ordering::SeqCst);
+    0
+}
+
+/// Runs the events of a row's script, of which the growth behind `before` others is refused.
+pub fn run_row<R: Alloc<A = Global> + Threads + Sync>(
+    rt: &R,
+    case: Case<'_>,
+    events: &[Event],
+    before: u64,
+) -> Result<Result<Run, Stage>, AllocError> {
+    let alloc = rt.alloc();
+    let heap = Refusing::after(alloc, before);
+    let (grid, script) = match read(&heap, case) {
+        Ok(read) => read,
+        Err(stage) => return Ok(Err(stage)),
+    };
+    let mut hooks = no_hooks(&heap);
+    for _robot in 0..script.starts.len() {
+        let tie = |_view: TieView| -> u8
+            ensures { result ≡ 0 }
+        { 0 };
+        let arrival = |_view: ArrivalView| -> u32
+            ensures { result ≡ 0 }
+        { 0 };
+        let farewell = |_view: FarewellView| -> u32
+            ensures { result ≡ 0 }
+        { 0 };
+        let tie = TieHook::new(ALIKE, Box::new(alloc, tie)?);
+        let arrival = ArrivalHook::new(NOUGHT, Box::new(alloc, arrival)?);
+        let farewell = Farewell::new(NOUGHT, Box::new(alloc, farewell)?);
+        if add(&mut hooks, tie, arrival, farewell).is_err() {
+            return Ok(Err(Stage::Lists));
+        }
+    }
+    let (starts, clients, limits) = (script.starts, script.clients, script.limits);
+    let ended = run(&(rt, &heap), grid, starts, clients, limits, hooks, events);
+    Ok(Ok(end_run(alloc, &heap, ended)?))
+}

@@ -1,0 +1,77 @@
+//! A row by its world's own calls.
+
+use crate::calls::Call;
+use crate::clients::Clients;
+use crate::making::make;
+use crate::shown::{held, shown};
+use fleet_trace::write_trace;
+use fleet_world::World;
+use std::alloc::{Alloc, AllocError, Allocator, Global};
+use std::sync::atomic::{AtomicU64, Ordering};
+
+/// A row as far as it was played.
+#[derive(Drop)]
+pub struct Played {
+    /// What each call answered in the end.
+    pub answers: Vec<String>,
+    /// The call that was refused memory.
+    pub refused: Option<usize>,
+    /// Whether that call left all that is shown as it was, and called no closure that makes a stamp.
+    pub same: bool,
+    /// Whether a growth behind the last call is refused.
+    pub spent: bool,
+    /// The trace of the chapter at the end.
+    pub chapter: String,
+    /// What the world held at the end.
+    pub held: String,
+}
+
+impl Played {
+    fn new(alloc: Global) -> Played {
+        Played {
+            answers: Vec::new(alloc),
+            refused: None,
+            same: true,
+            spent: false,
+            chapter: String::new(alloc),
+            held: String::new(alloc),
+        }
+    }
+}
+
+/// Makes the first `last` calls of a row. A call that is refused memory is made again, unless it is the last.
+pub fn play_calls<A: Allocator + Copy, R: Alloc<A = A>>(
+    alloc: Global,
+    rt: &R,
+    world: &mut World<A>,
+    calls: &[Call],
+    last: usize,
+    stamped: &AtomicU64,
+) -> Result<Played, AllocError> {
+    let mut played = Played::new(alloc);
+    let mut clients = Clients::new(alloc);
+    for (at, call) in calls.iter().enumerate() {
+        if at >= last {
+            break;
+        }
+        let (before, stamps) = (shown(alloc, world)?, stamped.load(Ordering::SeqCst));
+        let mut answer = make(alloc, rt, world, &mut clients, *call)?;
+        if answer.is_none() {
+            played.refused = Some(at);
+            played.same = shown(alloc, world)? == before
+                && stamped.load(Ordering::SeqCst) == stamps;
+            if at + 1 >= last {
+                break;
+            }
+            answer = make(alloc, rt, world, &mut clients, *call)?;
+        }
+        match answer {
+            Some(answer) => played.answers.push(answer)?,
+            None => played.same = false,
+        }
+    }
+    played.spent = Vec::from_slice(rt.alloc(), &[0u8]).is_err();
+    played.chapter = write_trace(alloc, world.chapter())?;
+    played.held = held(alloc, world)?;
+    Ok(played)
+}

@@ -1,0 +1,82 @@
+//! A row by its world's calls, again and again, until no growth is refused.
+
+use crate::calls::{Call, calls_of};
+use crate::case::Case;
+use crate::closures::play;
+use crate::play::Played;
+use crate::stage::read;
+use crate::tally::Sheet;
+use std::alloc::{AllocError, Global};
+use std::fmt::Write;
+
+/// More growths than any row has.
+pub const MANY: u64 = 1 << 40;
+
+/// Whether two plays of a row came to the same.
+fn agree(played: &Played, base: &Played) -> bool {
+    played.same && played.answers == base.answers && played.held == base.held
+}
+
+/// Whether a world holds all that it held before the call that was refused.
+fn holds_the_same(
+    alloc: Global,
+    case: Case<'_>,
+    calls: &[Call],
+    growth: u64,
+    call: usize,
+) -> Result<bool, AllocError> {
+    let refused = play(alloc, case, calls, growth, call.saturating_add(1))?;
+    let before = play(alloc, case, calls, MANY, call)?;
+    match (refused, before) {
+        (Ok(refused), Ok(before)) => Ok(refused.held == before.held),
+        _ => Ok(false),
+    }
+}
+
+/// Refuses each growth in turn. The result is whether it ended behind the last growth, with none lost on the way.
+fn refuse_each(
+    alloc: Global,
+    case: Case<'_>,
+    calls: &[Call],
+    base: &Played,
+    sheet: &mut Sheet,
+) -> Result<bool, AllocError> {
+    for growth in 0..100_000 {
+        match play(alloc, case, calls, growth, usize::MAX)? {
+            Err(stage) => sheet.count_stage(stage),
+            Ok(played) => {
+                let is_alike = agree(&played, base);
+                let Some(call) = played.refused else {
+                    return Ok(is_alike && played.spent);
+                };
+                let same = is_alike && holds_the_same(alloc, case, calls, growth, call)?;
+                sheet.count(call, same);
+            }
+        }
+    }
+    Ok(false)
+}
+
+/// Tells what each call of a row answered, and how often it was refused memory.
+pub fn tell_calls(alloc: Global, case: Case<'_>, told: &mut String) -> Result<(), AllocError> {
+    let Ok((_grid, script)) = read(alloc, case) else {
+        return writeln!(told, "no row");
+    };
+    let calls = calls_of(alloc, case.script, &script)?;
+    let Ok(base) = play(alloc, case, &calls, MANY, usize::MAX)? else {
+        return writeln!(told, "not opened");
+    };
+    let mut sheet = Sheet::new(alloc, calls.len())?;
+    let ended = refuse_each(alloc, case, &calls, &base, &mut sheet)?;
+    sheet.tell(told, &base.answers)?;
+    writeln!(told, "{}", base.chapter)?;
+    writeln!(
+        told,
+        "{}",
+        if ended {
+            "no more growths"
+        } else {
+            "NOT ENDED"
+        }
+    )
+}

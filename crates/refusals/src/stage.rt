@@ -1,0 +1,64 @@
+//! What stands before the first call of a world.
+
+use crate::case::Case;
+use fleet_grid::Grid;
+use fleet_map::{MapFault, read_map};
+use fleet_script::{Script, ScriptFault, read_script};
+use std::alloc::Allocator;
+
+/// Where a row ended before its world's first call.
+#[derive(Clone, Copy, Debug, PartialEq, Eq)]
+pub enum Stage {
+    /// `read_map` was refused memory, and so on.
+    Map,
+    Grid,
+    Script,
+    /// The lists of closures.
+    Lists,
+    Open,
+    /// The bundle is refused by name: the row is none.
+    Faulty,
+}
+
+impl Stage {
+    /// The stages that are refused memory, in their order.
+    pub const ALL: [Stage; 5] = [
+        Stage::Map,
+        Stage::Grid,
+        Stage::Script,
+        Stage::Lists,
+        Stage::Open,
+    ];
+
+    /// The stage in words.
+    pub fn name(self) -> &'static str {
+        match self {
+            Stage::Map => "read the map",
+            Stage::Grid => "make the grid",
+            Stage::Script => "read the script",
+            Stage::Lists => "list the closures",
+            Stage::Open => "open",
+            Stage::Faulty => "no row",
+        }
+    }
+}
+
+/// The grid and the script of a row.
+pub fn read<A: Allocator + Copy>(alloc: A, case: Case<'_>) -> Result<(Grid<A>, Script<A>), Stage> {
+    if case.script.len() > 16_777_216 {
+        return Err(Stage::Faulty);
+    }
+    let map = match read_map(alloc, case.map) {
+        Ok(map) => map,
+        Err(MapFault::NoMemory) => return Err(Stage::Map),
+        Err(_) => return Err(Stage::Faulty),
+    };
+    let Ok(grid) = Grid::new(map) else {
+        return Err(Stage::Grid);
+    };
+    match read_script(alloc, case.script) {
+        Ok(script) => Ok((grid, script)),
+        Err(ScriptFault::NoMemory) => Err(Stage::Script),
+        Err(ScriptFault::Line(_)) => Err(Stage::Faulty),
+    }
+}

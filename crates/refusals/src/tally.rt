@@ -1,0 +1,85 @@
+//! How often what a row does was refused memory.
+
+use crate::stage::Stage;
+use std::alloc::{AllocError, Global};
+use std::fmt::Write;
+
+/// How often something was refused memory, and whether nothing came of it.
+#[derive(Clone, Copy, Debug)]
+pub struct Tally {
+    refused: u32,
+    same: bool,
+}
+
+impl Tally {
+    /// Not refused yet.
+    pub const NONE: Tally = Tally {
+        refused: 0,
+        same: true,
+    };
+
+    /// Counts a refusal.
+    pub fn count(&mut self, same: bool) {
+        self.refused = self.refused.saturating_add(1);
+        self.same &= same;
+    }
+
+    /// A line of what was answered in the end, with this tally.
+    pub fn tell(&self, told: &mut String, answer: &str) -> Result<(), AllocError> {
+        match (self.refused, self.same) {
+            (0, true) => writeln!(told, "{answer}; no growth"),
+            (refused, true) => writeln!(told, "{answer}; {refused} refused, same"),
+            (refused, false) => writeln!(told, "{answer}; {refused} refused, DIFFERS"),
+        }
+    }
+}
+
+/// The tallies of a row: of what stands before its calls, and of each call.
+#[derive(Drop)]
+pub struct Sheet {
+    /// By stage, how often it was refused memory.
+    stages: [u32; 5],
+    /// By call.
+    calls: Vec<Tally>,
+}
+
+impl Sheet {
+    /// A sheet of so many calls.
+    pub fn new(alloc: Global, calls: usize) -> Result<Sheet, AllocError> {
+        let mut blank = Vec::new(alloc);
+        for _call in 0..calls {
+            blank.push(Tally::NONE)?;
+        }
+        Ok(Sheet {
+            stages: [0; 5],
+            calls: blank,
+        })
+    }
+
+    /// Counts a refusal before the first call.
+    pub fn count_stage(&mut self, stage: Stage) {
+        for (count, other) in self.stages.iter_mut().zip(Stage::ALL.iter()) {
+            if *other == stage {
+                *count = count.saturating_add(1);
+            }
+        }
+    }
+
+    /// Counts a refusal of the call of this number, from 0.
+    pub fn count(&mut self, call: usize, same: bool) {
+        if let Some(tally) = self.calls.get_mut(call) {
+            tally.count(same);
+        }
+    }
+
+    /// A line for each stage and each call with its answer.
+    pub fn tell(&self, told: &mut String, answers: &[String]) -> Result<(), AllocError> {
+        for (count, stage) in self.stages.iter().zip(Stage::ALL.iter()) {
+            writeln!(told, "{}; {count} refused", stage.name())?;
+        }
+        for (tally, answer) in self.calls.iter().zip(answers.iter()) {
+            tally.tell(told, answer.as_str())?;
+        }
+        Ok(())
+    }
+}
