@@ -1,12 +1,35 @@
 #!/usr/bin/env bash
-# Builds the kernels in C++ and runs them beside `bench`, kernel by kernel. Give the path of the built `bench`.
-set -eu
-bench=$1
+# Measures `bench` beside the same kernels in C++: builds both, runs them in turn for five rounds, takes the least of each, and
+# prints one table, in nanoseconds by thing (cell, or robot and tick). Give the path of the built `bench`, or none to build it.
+set -euo pipefail
 here=$(cd "$(dirname "$0")" && pwd)
+bench=${1:-}
+if [ -z "$bench" ]; then
+  (cd "$here/.." && rt check >&2)
+  bench=$here/../out/bench
+fi
 out=$(mktemp -d)
-g++ -O3 -std=c++17 -pthread -o "$out/search" "$here/search.cpp"
-for kernel in field fields bridge step; do
-  "$bench" $kernel | sed 's/^/rattle /'
-  "$out/search" $kernel | sed 's/^/c++ /'
+trap 'rm -r "$out"' EXIT
+g++ -O3 -march=native -std=c++17 -pthread -o "$out/search" "$here/search.cpp"
+for round in 1 2 3 4 5; do
+  for kernel in ${KERNELS:-field fields bridge step lifelong}; do
+    "$bench" "$kernel" | sed 's/^/ours /' >> "$out/lines"
+    "$out/search" "$kernel" | sed 's/^/peer /' >> "$out/lines"
+  done
 done
-rm -r "$out"
+echo "# peer: compare/search.cpp, $(g++ -dumpfullversion) -O3 -march=native; least of 5 rounds; load $(cut -d' ' -f1 /proc/loadavg)"
+echo "kernel map fleet ours peer ratio"
+awk '
+  {
+    for (i = 3; i <= NF; i++) { split($i, pair, "="); value[pair[1]] = pair[2] }
+    row = $2 " " value["map"] " " value["fleet"]
+    if (!(row in seen)) { seen[row] = 1; rows[++count] = row }
+    key = $1 " " row
+    if (!(key in least) || value["least_ns"] + 0 < least[key]) least[key] = value["least_ns"] + 0
+  }
+  END {
+    for (i = 1; i <= count; i++) {
+      ours = least["ours " rows[i]]; peer = least["peer " rows[i]]
+      if (ours > 0 && peer > 0) printf "%s %.2f %.2f %.2f\n", rows[i], ours, peer, ours / peer
+    }
+  }' "$out/lines"

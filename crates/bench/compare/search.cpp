@@ -1,5 +1,6 @@
-// The kernels of `bench` in plain C++, over the same maps, goals and starts: a search level by level, Tarjan's bridges without
-// recursion, the check of a step, and PIBT's step. It prints the same lines.
+// The kernels of `bench` in plain C++, over the same maps, goals and starts: a search level by level over one u32 a cell, Tarjan's
+// bridges without recursion, PIBT's step (five distances read a robot, each tie closure asked once for each floor neighbour), and
+// long runs in which each robot always has two errands (the fields of stations are kept for ever). It prints the same lines.
 #include <algorithm>
 #include <array>
 #include <chrono>
@@ -40,9 +41,9 @@ struct Measure {
     }
 };
 
-static void line(const char* kernel, const char* map, u64 things, const Measure& m) {
-    printf("%s map=%s things=%llu repeats=%llu least_ns=%.2f mean_ns=%.2f\n", kernel, map, (unsigned long long)things,
-           (unsigned long long)m.repeats, m.least / things, m.all / things / m.repeats);
+static void line(const char* kernel, const char* map, size_t fleet, u64 things, const Measure& m) {
+    printf("%s map=%s fleet=%zu things=%llu repeats=%llu least_ns=%.2f mean_ns=%.2f\n", kernel, map, fleet,
+           (unsigned long long)things, (unsigned long long)m.repeats, m.least / things, m.all / things / m.repeats);
     fflush(stdout);
 }
 
@@ -93,8 +94,15 @@ struct Grid {
     }
 };
 
-static vector<u32> field(const Grid& g, u32 goal) {
-    vector<u32> dist = g.blank, front{goal}, next;
+// rows as long as bench's, which are padded more where they would share cache lines
+static u32 pad_of(const Map& map) {
+    u32 row = (map.width + 1) % 1024;
+    return row < 17 || row > 1007 ? 17 : 1;
+}
+
+static void field_into(const Grid& g, u32 goal, vector<u32>& dist, vector<u32>& front, vector<u32>& next) {
+    dist = g.blank;
+    front.assign(1, goal);
     u32 s = g.stride, level = 0;
     dist[goal] = 0;
     while (!front.empty()) {
@@ -108,6 +116,11 @@ static vector<u32> field(const Grid& g, u32 goal) {
                 }
         front.swap(next);
     }
+}
+
+static vector<u32> field(const Grid& g, u32 goal) {
+    vector<u32> dist, front, next;
+    field_into(g, goal, dist, front, next);
     return dist;
 }
 
@@ -121,7 +134,7 @@ static vector<u32> part_of(const Map& map, const Grid& g) {
     return cells;
 }
 
-static void measure_field(const Map& map, u32 pad, const char* name) {
+static void measure_field(const Map& map, u32 pad) {
     Grid g(map, pad);
     vector<u32> cells = part_of(map, g);
     Random random{7};
@@ -133,7 +146,7 @@ static void measure_field(const Map& map, u32 pad, const char* name) {
         m.with(now() - start);
         if (dist[g.place(goal)] != 0) printf("wrong\n");
     }
-    line(name, map.name, cells.size(), m);
+    line("field", map.name, 0, cells.size(), m);
 }
 
 static void measure_fields(const Map& map) {
@@ -147,7 +160,7 @@ static void measure_fields(const Map& map) {
         vector<vector<u32>> made;
         for (u32 goal : goals) made.push_back(field(g, g.place(goal)));
         m.with(now() - start);
-        line("fields_in_turn", map.name, cells.size() * 3000, m);
+        line("fields_in_turn", map.name, 0, cells.size() * 3000, m);
     }
     Measure m;
     double start = now();
@@ -160,7 +173,7 @@ static void measure_fields(const Map& map) {
         });
     for (auto& t : team) t.join();
     m.with(now() - start);
-    line("fields", map.name, cells.size() * 3000, m);
+    line("fields", map.name, 0, cells.size() * 3000, m);
 }
 
 // ---- the first bridge: Tarjan's low numbers, without recursion, over the whole map
@@ -219,7 +232,7 @@ static void measure_bridge(const Map& map) {
         m.with(now() - start);
     }
     if (sum == 1) printf("odd\n");
-    line("bridge", map.name, map.floor.size(), m);
+    line("bridge", map.name, 0, map.floor.size(), m);
 }
 
 // ---- a fleet and PIBT's step
@@ -340,9 +353,7 @@ struct Stepper {
 };
 
 static void measure_step(const Map& map) {
-    // rows as long as bench's, which are padded more where they would share cache lines
-    u32 row = (map.width + 1) % 1024;
-    Grid g(map, row < 17 || row > 1007 ? 17 : 1);
+    Grid g(map, pad_of(map));
     vector<u32> cells = part_of(map, g);
     Random random{11};
     vector<vector<u32>> fields;
@@ -371,8 +382,80 @@ static void measure_step(const Map& map) {
             }
             m.with(now() - start);
         }
-        line("step", map.name, 20 * f.from.size(), m);
+        line("step", map.name, f.from.size(), 20 * f.from.size(), m);
     }
+}
+
+// ---- long runs
+
+struct Errands {
+    const Grid& grid;
+    const vector<u32>& goals;
+    bool kept;
+    vector<vector<u32>> fields;
+    vector<size_t> front, second;
+    vector<u32> now, next;
+    Errands(const Grid& grid, const vector<u32>& goals, bool kept, size_t robots)
+        : grid(grid), goals(goals), kept(kept), fields(kept ? goals.size() : robots), front(robots), second(robots) {}
+    // the number of the robot's field, which is searched unless it is kept
+    u32 aim(size_t r) {
+        size_t k = kept ? front[r] : r;
+        if (!kept || fields[k].empty()) field_into(grid, grid.place(goals[front[r]]), fields[k], now, next);
+        return k;
+    }
+};
+
+static void run_fleet(const char* name, const Map& map, const Grid& g, const vector<u32>& cells, const vector<u32>& goals, bool kept,
+                      size_t robots, Random& random) {
+    Fleet f = fleet_of(map, cells, robots, 1, random);
+    robots = f.from.size();
+    vector<Tie> ties(robots, plain);
+    Stepper stepper(map, g, robots);
+    Errands errands(g, goals, kept, robots);
+    for (size_t r = 0; r < robots; r++) {
+        errands.front[r] = random.below(goals.size());
+        errands.second[r] = random.below(goals.size());
+        f.aims[r] = errands.aim(r);
+    }
+    for (size_t k = 0; kept && k < goals.size(); k++) field_into(g, g.place(goals[k]), errands.fields[k], errands.now, errands.next);
+    u64 ticks = 256000 / robots, arrivals = 0, greatest = 0;
+    double all = 0, searches = 0;
+    // the first half is not counted
+    for (u64 tick = 0; tick < 2 * ticks; tick++) {
+        if (tick == ticks) arrivals = greatest = all = searches = 0;
+        double start = now();
+        stepper.step(f, errands.fields, ties, tick);
+        for (size_t r = 0; r < robots; r++) {
+            if (goals[errands.front[r]] == f.from[r]) {
+                arrivals++;
+                f.waits[r] = 0;
+                errands.front[r] = errands.second[r];
+                errands.second[r] = random.below(goals.size());
+                double from = now();
+                f.aims[r] = errands.aim(r);
+                searches += now() - from;
+            } else {
+                f.waits[r]++;
+            }
+        }
+        all += now() - start;
+        for (u64 wait : f.waits) greatest = std::max(greatest, wait);
+    }
+    printf("%s map=%s fleet=%zu ticks=%llu arrivals=%llu ticks_a_second=%.0f greatest_wait=%llu searching=%.3f least_ns=%.2f\n", name,
+           map.name, robots, (unsigned long long)ticks, (unsigned long long)arrivals, ticks / all * 1e9, (unsigned long long)greatest,
+           searches / all, all / ticks / robots);
+    fflush(stdout);
+}
+
+static void measure_lifelong(const Map& map) {
+    Grid g(map, pad_of(map));
+    vector<u32> cells = part_of(map, g), stations;
+    Random thrown{13};
+    for (int k = 0; k < 400; k++) stations.push_back(cells[thrown.below(cells.size())]);
+    Random random{11};
+    for (size_t robots : {16, 128, 512}) run_fleet("lifelong_cells", map, g, cells, cells, false, robots, random);
+    random = Random{11};
+    for (size_t robots : {16, 128, 512}) run_fleet("lifelong_stations", map, g, cells, stations, true, robots, random);
 }
 
 int main(int words, char** word) {
@@ -381,12 +464,14 @@ int main(int words, char** word) {
     Map open("open", 1024, 1024), warehouse("warehouse", 164, 340), maze("maze", 512, 512), spiral("spiral", 511, 511);
     if (kernel == "field")
         for (const Map* map : {&open, &warehouse, &maze, &spiral}) {
-            measure_field(*map, 1, "field");
-            measure_field(*map, 17, "field_wide");
+            measure_field(*map, 1);
+            measure_field(*map, 17);
         }
     if (kernel == "fields") measure_fields(warehouse);
     if (kernel == "bridge")
         for (const Map* map : {&open, &warehouse, &maze, &spiral}) measure_bridge(*map);
     if (kernel == "step")
         for (const Map* map : {&warehouse, &open}) measure_step(*map);
+    if (kernel == "lifelong")
+        for (const Map* map : {&warehouse, &open}) measure_lifelong(*map);
 }

@@ -2,7 +2,7 @@
 use Rattle.std.specs.Prelude.{ℕ, List, Option, Some, None, codes, if◌then◌else◌}
 use Rattle.std.specs.Str.{bytes_eq}
 use Rattle.bench.specs.declared.kernel.Kernel.{Kernel}
-use Rattle.bench.specs.declared.kernel.Kernel.TheVariants.{Field, Fields, Bridge, Check, Step, Tick}
+use Rattle.bench.specs.declared.kernel.Kernel.TheVariants.{Field, Fields, Bridge, Check, Step, Tick, Lifelong}
 
 abbrev pub kernel_named : List ℕ → Option Kernel
 kernel_named word =
@@ -12,4 +12,5 @@ kernel_named word =
     else if bytes_eq word (codes "check") then Some Check
     else if bytes_eq word (codes "step") then Some Step
     else if bytes_eq word (codes "tick") then Some Tick
+    else if bytes_eq word (codes "lifelong") then Some Lifelong
     else None

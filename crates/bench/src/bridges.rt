@@ -20,7 +20,7 @@ pub(crate) fn measure_bridge<R: Alloc<A = Global> + Clock + Print>(
         let grid = grid_of(rt.alloc(), *kind)?;
         let found = time_bridges(rt, &grid)?;
         let things = u64::from(grid.cell_count());
-        print_measure(rt, "bridge", kind.name(), things, found)?;
+        print_measure(rt, "bridge", kind.name(), 0, things, found)?;
     }
     Ok(())
 }

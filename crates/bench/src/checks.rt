@@ -39,7 +39,8 @@ fn measure_fleets<R: Alloc<A = Global> + Clock + Print>(
     for robots in FLEETS {
         let starts = site.starts(rt.alloc(), robots, &mut random)?;
         let found = time_checks(rt, &site.grid, &starts)?;
-        print_measure(rt, "check", map, starts.len() as u64, found)?;
+        let count = starts.len();
+        print_measure(rt, "check", map, count, count as u64, found)?;
     }
     Ok(())
 }

@@ -29,7 +29,7 @@ pub(crate) fn measure_field<R: Alloc<A = Global> + Clock + Print>(
         if let Some(site) = Site::new(rt.alloc(), grid_of(rt.alloc(), *kind)?)? {
             let found = time_goals(rt, &site)?;
             let things = site.cells.len() as u64;
-            print_measure(rt, "field", kind.name(), things, found)?;
+            print_measure(rt, "field", kind.name(), 0, things, found)?;
         }
     }
     Ok(())
@@ -67,9 +67,9 @@ pub(crate) fn measure_fields<R: Alloc<A = Global> + Clock + Print + Threads + Sy
     let goals = site.goals(alloc, MANY, &mut Random::from_seed(7))?;
     let things = (site.cells.len() as u64).saturating_mul(MANY as u64);
     let in_turn = Measure::NONE.with(time_in_turn(rt, &site.grid, &goals)?);
-    print_measure(rt, "fields_in_turn", kind.name(), things, in_turn)?;
+    print_measure(rt, "fields_in_turn", kind.name(), 0, things, in_turn)?;
     let together = Measure::NONE.with(time_together(rt, &site.grid, &goals)?);
-    print_measure(rt, "fields", kind.name(), things, together)
+    print_measure(rt, "fields", kind.name(), 0, things, together)
 }
 
 /// The nanoseconds that the fields of all goals take, one after another.

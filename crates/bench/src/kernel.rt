@@ -7,6 +7,7 @@ use crate::bridges::measure_bridge;
 use crate::checks::measure_check;
 use crate::fields::{measure_field, measure_fields};
 use crate::kind::Kind;
+use crate::lifelong::measure_lifelong;
 use crate::steps::measure_step;
 use crate::ticks::measure_tick;
 use std::alloc::{Alloc, Global};
@@ -29,6 +30,8 @@ pub enum Kernel {
     Step,
     /// A tick of a world, by robot.
     Tick,
+    /// Long runs of a world, by tick and robot.
+    Lifelong,
 }
 
 impl Kernel {
@@ -43,6 +46,7 @@ impl Kernel {
             "check" => Some(Kernel::Check),
             "step" => Some(Kernel::Step),
             "tick" => Some(Kernel::Tick),
+            "lifelong" => Some(Kernel::Lifelong),
             _ => None,
         }
     }
@@ -60,5 +64,6 @@ pub(crate) fn run<R: Alloc<A = Global> + Clock + Print + Threads + Sync>(
         Kernel::Check => measure_check(rt, &[Kind::Warehouse, Kind::Open]),
         Kernel::Step => measure_step(rt, &[Kind::Warehouse, Kind::Open]),
         Kernel::Tick => measure_tick(rt, &[Kind::Warehouse, Kind::Open]),
+        Kernel::Lifelong => measure_lifelong(rt, &[Kind::Warehouse, Kind::Open]),
     }
 }

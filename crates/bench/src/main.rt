@@ -9,6 +9,7 @@ mod fields;
 mod fleet;
 mod kernel;
 mod kind;
+mod lifelong;
 mod measure;
 mod random;
 mod site;
@@ -16,6 +17,7 @@ mod steps;
 #[cfg(test)]
 mod tests;
 mod ticks;
+mod worlds;
 
 use kernel::{Kernel, run};
 use std::alloc::Alloc;
@@ -23,7 +25,8 @@ use std::env::Env;
 use std::{env, io};
 
 /// What is printed where no kernel is named.
-const KERNELS: &str = "bench: name a kernel: field, fields, bridge, check, step or tick\n";
+const KERNELS: &str =
+    "bench: name a kernel: field, fields, bridge, check, step, tick or lifelong\n";
 
 /// The kernel that the first word behind the program's name is.
 fn kernel_asked(rt: &(impl Env + Alloc)) -> io::Result<Option<Kernel>> {

@@ -37,12 +37,13 @@ impl Measure {
     }
 }
 
-/// A line of the kernel, the map, how many things one repeat works on, the repeats, and the nanoseconds by thing of the
+/// A line of the kernel, the map, the number of robots, how many things one repeat works on, the repeats, and the nanoseconds by thing of the
 /// fastest repeat and on average.
 pub(crate) fn print_measure(
     rt: &impl Print,
     kernel: &str,
     map: &str,
+    fleet: usize,
     things: u64,
     found: Measure,
 ) -> io::Result<()> {
@@ -50,7 +51,7 @@ pub(crate) fn print_measure(
     let least = hundredths(found.least, things);
     let mean = hundredths(found.all, things.saturating_mul(repeats));
     println!(rt;
-        "{kernel} map={map} things={things} repeats={repeats} least_ns={}.{:02} mean_ns={}.{:02}",
+        "{kernel} map={map} fleet={fleet} things={things} repeats={repeats} least_ns={}.{:02} mean_ns={}.{:02}",
         least / 100,
         least % 100,
         mean / 100,

@@ -80,15 +80,10 @@ fn measure_each<R: Alloc<A = Global> + Clock + Print>(
 {
     for robots in FLEETS {
         let starts = site.starts(rt.alloc(), robots.min(MOST), random)?;
-        let count = starts.len() as u64;
+        let count = starts.len();
         let found = time_fleet(rt, site, fields, starts, ties, random)?;
-        print_measure(
-            rt,
-            "step",
-            map,
-            u64::from(TICKS).saturating_mul(count),
-            found,
-        )?;
+        let things = u64::from(TICKS).saturating_mul(count as u64);
+        print_measure(rt, "step", map, count, things, found)?;
     }
     Ok(())
 }

@@ -43,6 +43,7 @@ fn maps_as_they_are_known(rt: HostRuntime) -> Result<(), Fail> {
 fn words_of_kernels(rt: HostRuntime) {
     assert!(rt; Kernel::named("step") == Some(Kernel::Step));
     assert!(rt; Kernel::named("tick") == Some(Kernel::Tick));
+    assert!(rt; Kernel::named("lifelong") == Some(Kernel::Lifelong));
     assert!(rt; Kernel::named("steps").is_none());
 }
 

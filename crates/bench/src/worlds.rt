@@ -1,0 +1,114 @@
+//! The world that a measure of ticks or of a long run is made on.
+
+ghost use Rattle.std.specs.Prelude.{◌<◌, length};
+
+use crate::kind::{Kind, grid_of};
+use crate::lifelong::{print_run, time_run};
+use crate::measure::print_measure;
+use crate::random::Random;
+use crate::steps::ANY;
+use crate::ticks::time_ticks;
+use fleet_hooks::{
+    ArrivalHook, ArrivalView, Farewell, FarewellView, Hooks, StampLaw, TieHook, TieView,
+};
+use fleet_world::{Limits, Notice, Order, World};
+use std::alloc::{Alloc, Global};
+use std::io::{self, ErrorKind};
+use std::thread::Threads;
+use std::time::Clock;
+
+/// A law that any stamp meets.
+const STAMPS: StampLaw = StampLaw {
+    low: 0,
+    high: 4_294_967_295,
+};
+
+/// The mailbox has room for the notices of two errands of each robot, and for those errands.
+pub const LIMITS: Limits = Limits {
+    mailbox: 4_096,
+    ..Limits::DEFAULT
+};
+
+/// No world has more robots.
+pub const MOST_ROBOTS: u32 = 512;
+
+/// What is measured of a world.
+#[derive(Clone, Copy)]
+pub enum Work {
+    /// Each tick by itself.
+    Ticks,
+    /// A long run, under this name.
+    Run(&'static str),
+}
+
+/// Measures a world with one client. The closures answer 0.
+pub(crate) fn measure_world<R: Alloc<A = Global> + Clock + Print + Threads + Sync>(
+    rt: &R,
+    kind: Kind,
+    work: Work,
+    starts: Vec<u32>,
+    goals: &[u32],
+    random: &mut Random,
+) -> io::Result<()>
+    requires { 0 < length goals.now }
+{
+    let alloc = rt.alloc();
+    let count = starts.len();
+    let mut hooks = Hooks {
+        ties: Vec::with_capacity(alloc, count)?,
+        arrivals: Vec::with_capacity(alloc, count)?,
+        farewells: Vec::with_capacity(alloc, count)?,
+    };
+    for _robot in 0..count {
+        let tie = TieHook::new(ANY, Box::new(alloc, |_view: TieView| 0)?);
+        hooks.ties.push(tie)?;
+        let arrival = ArrivalHook::new(STAMPS, Box::new(alloc, |_view: ArrivalView| 0)?);
+        hooks.arrivals.push(arrival)?;
+        let farewell = Farewell::new(STAMPS, Box::new(alloc, |_view: FarewellView| 0)?);
+        hooks.farewells.push(farewell)?;
+    }
+    let grid = grid_of(alloc, kind)?;
+    let Ok(mut world) = World::open(alloc, grid, starts, 1, LIMITS, hooks) else {
+        return Err(io::Error::from(ErrorKind::OutOfMemory));
+    };
+    work_on(rt, kind, work, &mut world, goals, random)
+}
+
+/// Measures a world, and prints the line.
+fn work_on<R: Alloc<A = Global> + Clock + Print + Threads + Sync>(
+    rt: &R,
+    kind: Kind,
+    work: Work,
+    world: &mut World,
+    goals: &[u32],
+    random: &mut Random,
+) -> io::Result<()>
+    requires { 0 < length goals.now }
+{
+    let count = world.robots();
+    match work {
+        Work::Ticks => {
+            let found = time_ticks(rt, world, goals, random)?;
+            print_measure(rt, "tick", kind.name(), count, count as u64, found)
+        }
+        Work::Run(name) => {
+            let run = time_run(rt, world, goals, random)?;
+            print_run(rt, name, kind.name(), count, run)
+        }
+    }
+}
+
+/// Sends the robot to the cell.
+pub(crate) fn order_one(world: &mut World, robot: u32, cell: u32) {
+    if world.clients() > 0 {
+        let _verdict = world.take(0, Order::Go { robot, cell });
+    }
+}
+
+/// Takes the first notice out of the mailbox.
+pub(crate) fn give_one(world: &mut World) -> Option<Notice> {
+    if world.clients() == 0 {
+        return None;
+    }
+    world.give(0)
+}
