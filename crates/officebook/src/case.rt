@@ -1,0 +1,91 @@
+//! A row: an office, and what is done with it, call by call.
+
+use fleet_book::{Limits, Order};
+
+/// A call on an office, or on one of its clients or tickers.
+#[derive(Clone, Copy, Debug, PartialEq, Eq)]
+pub enum Step {
+    /// A client posts an order.
+    Post(usize, Order),
+    /// A client closes.
+    Close(usize),
+    /// A client collects a notice.
+    Collect(usize),
+    /// A turn with this ticker.
+    Turn(usize),
+    /// A look with this ticker.
+    Look(usize),
+    /// A ticker gives one part to a new one.
+    Split(usize),
+    /// A robot takes no further errands.
+    Shut(u32),
+    NextChapter,
+    /// The end, with the first so many clients and tickers handed in.
+    Conclude(usize, usize),
+}
+
+/// A call on a hall, with its first client.
+#[derive(Clone, Copy, Debug, PartialEq, Eq)]
+pub enum HallStep {
+    /// The client posts an order.
+    Post(Order),
+    /// One order is taken out of its lane.
+    Take,
+    /// One tick.
+    Tick,
+    /// All notices that its outlet has room for are given.
+    Give,
+    /// The client collects a notice.
+    Collect,
+}
+
+/// A row: a floor whose letters fill it, where its robots start, how many clients there are, and what is done: some calls over
+/// and over, then others once.
+#[derive(Clone, Copy, Debug)]
+pub struct Case {
+    pub name: &'static str,
+    pub sides: (u32, u32),
+    pub letters: &'static [u8],
+    pub starts: &'static [u32],
+    pub clients: u32,
+    pub limits: Limits,
+    /// How often the calls of a round are made.
+    pub rounds: u32,
+    pub round: &'static [Step],
+    pub steps: &'static [Step],
+    /// What is done with a hall in the place of an office, where there is anything.
+    pub hall: &'static [HallStep],
+}
+
+/// What is done in a row.
+#[derive(Clone, Copy)]
+pub struct Course<'a> {
+    pub rounds: u32,
+    pub round: &'a [Step],
+    pub steps: &'a [Step],
+    pub hall: &'a [HallStep],
+}
+
+impl Case {
+    /// What is done in the row.
+    pub(crate) fn course(&self) -> Course<'_> {
+        Course {
+            rounds: self.rounds,
+            round: self.round,
+            steps: self.steps,
+            hall: self.hall,
+        }
+    }
+}
+
+impl Step {
+    /// Whether the call may change what an office shows.
+    pub(crate) fn is_seen(&self) -> bool {
+        matches!(self, Step::Turn(_) | Step::Shut(_) | Step::NextChapter)
+    }
+
+    /// Whether the call may want memory.
+    pub(crate) fn grows(&self) -> bool {
+        self.is_seen() || matches!(self, Step::Look(_) | Step::Conclude(_, _))
+    }
+}

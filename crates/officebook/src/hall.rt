@@ -1,0 +1,93 @@
+//! A row in a hall, without its lock: event by event.
+
+ghost use Rattle.std.specs.Prelude.{◌≡◌};
+ghost use Rattle.fleet_office.specs.Views.{IsNamed};
+
+use crate::case::HallStep;
+use crate::stage::Fleet;
+use crate::telling::Telling;
+use fleet_office::{Desk, Guest, Hall, OfficeName, Ticker, guests_of};
+use fleet_world::OpenFault;
+use std::alloc::{Alloc, AllocError, Allocator, Global};
+
+/// What a post or a collect of the first client answers.
+fn guest_text<N: OfficeName<A>, A: Allocator + Copy>(
+    guests: &mut Vec<Guest<N, A>, A>,
+    step: &HallStep,
+    alloc: Global,
+) -> Result<String, AllocError> {
+    if guests.is_empty() {
+        return String::from_str(alloc, "nobody");
+    }
+    let guest = &mut guests[0];
+    if let HallStep::Post(order) = step {
+        let posted = guest.post(*order);
+        format!(in alloc; "{posted:?}")
+    } else {
+        let notice = guest.collect();
+        format!(in alloc; "{notice:?}")
+    }
+}
+
+/// What a call on a hall answers.
+fn hall_text<N: OfficeName<A>, A: Allocator + Copy, R: Alloc<A = A>>(
+    rt: &R,
+    hall: &mut Hall<N, A>,
+    ticker: &mut Ticker<N>,
+    step: &HallStep,
+    alloc: Global,
+) -> Result<String, AllocError> {
+    match step {
+        HallStep::Take if hall.rest.clients() > 0 => {
+            let taken = hall.take_one(0);
+            format!(in alloc; "{taken:?}")
+        }
+        HallStep::Tick => {
+            let ticked = hall.tick_with(rt, ticker);
+            format!(in alloc; "{ticked:?}")
+        }
+        HallStep::Give => {
+            let given = hall.give_all();
+            format!(in alloc; "{given}")
+        }
+        _ => String::from_str(alloc, "nobody"),
+    }
+}
+
+/// Opens a hall over the desk, and makes these calls.
+pub(crate) fn play_hall<N: OfficeName<A>, A: Allocator + Copy, R: Alloc<A = A>>(
+    rt: &R,
+    desk: Desk<A>,
+    fleet: Fleet<A>,
+    steps: &[HallStep],
+    book: &mut Telling,
+) -> Result<Result<(), OpenFault>, AllocError>
+    requires named { IsNamed desk N.name N.parts N.rings }
+{
+    let Fleet {
+        grid,
+        starts,
+        hooks,
+    } = fleet;
+    let (mut hall, clients, mut ticker) = match Hall::<N, A>::open(
+        rt.alloc(),
+        desk,
+        grid,
+        starts,
+        hooks,
+    ) {
+        Ok(opened) => opened,
+        Err(fault) => return Ok(Err(fault)),
+    };
+    let mut guests = guests_of::<N, A>(rt.alloc(), clients)?;
+    for step in steps {
+        let answer = if matches!(step, HallStep::Post(_) | HallStep::Collect) {
+            guest_text(&mut guests, step, book.alloc)?
+        } else {
+            hall_text(rt, &mut hall, &mut ticker, step, book.alloc)?
+        };
+        let line = format!(in book.alloc; "{step:?}: {answer}")?;
+        book.line(&line)?;
+    }
+    Ok(Ok(()))
+}

@@ -1,0 +1,125 @@
+//! A row's opening: its floor, its robots with their closures, and the names of its office.
+
+ghost use Rattle.std.specs.Prelude.{◌≡◌};
+
+use crate::case::Case;
+use crate::meter::Meter;
+use crate::plan::{Call, Plan};
+use crate::play::play;
+use crate::stage::Fleet;
+use crate::telling::Telling;
+use fleet_grid::Grid;
+use fleet_hooks::{
+    ArrivalHook, ArrivalView, Farewell, FarewellView, Hooks, StampLaw, TieHook, TieLaw, TieView,
+};
+use fleet_map::MapText;
+use fleet_office::{Desk, OfficeName};
+use fleet_world::OpenFault;
+use std::alloc::{AllocError, Allocator, Global};
+use std::marker::Brand;
+use std::sync::Wait;
+
+/// What all of an office lies on.
+type Heap<'a> = &'a Meter<Global>;
+
+impl<'a> OfficeName<Heap<'a>> for Brand {
+    ghost use Rattle.std.specs.Prelude.{[]};
+
+    ghost rings = { [] };
+}
+
+/// Ranks of any kind.
+const ANY: TieLaw = TieLaw {
+    low: [0; 4],
+    high: [255; 4],
+};
+
+/// Stamps of any kind.
+const STAMPS: StampLaw = StampLaw {
+    low: 0,
+    high: 4_294_967_295,
+};
+
+/// A row's grid. None where the letters do not fill the sides.
+fn grid_of<A: Allocator + Copy>(heap: A, case: &Case) -> Result<Option<Grid<A>>, AllocError> {
+    let (height, width) = case.sides;
+    if height > 1_024 || width > 1_024 || case.letters.len() != height as usize * width as usize {
+        return Ok(None);
+    }
+    let map = MapText {
+        height,
+        width,
+        cells: Vec::from_slice(heap, case.letters)?,
+    };
+    Ok(Some(Grid::new(map)?))
+}
+
+/// Adds the closures of one more robot.
+fn add<A: Allocator + Copy>(
+    hooks: &mut Hooks<A>,
+    tie: TieHook,
+    arrival: ArrivalHook,
+    farewell: Farewell,
+) -> Result<(), AllocError> {
+    hooks.ties.push(tie)?;
+    hooks.arrivals.push(arrival)?;
+    hooks.farewells.push(farewell)?;
+    Ok(())
+}
+
+/// Plays a row with closures that answer 0, or says why it was not opened.
+fn opened_play<'a, R: Wait>(
+    rt: &'a R,
+    case: &Case,
+    plan: Plan<'a>,
+    book: &mut Telling,
+) -> Result<Result<(), OpenFault>, AllocError> {
+    let (alloc, heap) = (book.alloc, plan.meter);
+    let Some(grid) = grid_of(heap, case)? else {
+        return Ok(Err(OpenFault::NoRobots));
+    };
+    let mut hooks = Hooks {
+        ties: Vec::new(heap),
+        arrivals: Vec::new(heap),
+        farewells: Vec::new(heap),
+    };
+    for _robot in case.starts {
+        let tie = TieHook::new(ANY, Box::new(alloc, |_view: TieView| 0)?);
+        let arrival = ArrivalHook::new(STAMPS, Box::new(alloc, |_view: ArrivalView| 0)?);
+        let farewell = Farewell::new(STAMPS, Box::new(alloc, |_view: FarewellView| 0)?);
+        add(&mut hooks, tie, arrival, farewell)?;
+    }
+    let fleet = Fleet {
+        grid,
+        starts: Vec::from_slice(heap, case.starts)?,
+        hooks,
+    };
+    plan.begin(Call::Desk);
+    let desk = Desk::new(heap, case.clients, case.limits);
+    plan.end();
+    let (lent, course) = ((rt, heap), case.course());
+    match desk {
+        Ok(desk) => play::<Brand, Heap<'_>, (&R, Heap<'_>)>(&lent, desk, fleet, course, plan, book),
+        Err(fault) => Ok(Err(fault)),
+    }
+}
+
+/// Plays a row, and where memory was refused to its opening, once more.
+pub(crate) fn perform<R: Wait>(
+    rt: &R,
+    case: &Case,
+    plan: Plan<'_>,
+    book: &mut Telling,
+) -> Result<(), AllocError> {
+    let played = match opened_play(rt, case, plan, book)? {
+        Err(OpenFault::NoMemory) => opened_play(rt, case, plan, book)?,
+        played => played,
+    };
+    match played {
+        Ok(()) => Ok(()),
+        Err(fault) => {
+            let line = format!(in book.alloc; "not opened: {fault:?}")?;
+            book.line(&line)
+        }
+    }
+}

@@ -1,0 +1,37 @@
+//! Which growth is refused.
+
+use crate::meter::Meter;
+use std::alloc::Global;
+
+/// A call of a row.
+#[derive(Clone, Copy, Debug, PartialEq, Eq)]
+pub enum Call {
+    /// None.
+    None,
+    Desk,
+    Open,
+    /// The step of this number, from 0.
+    Step(usize),
+}
+
+/// The call that meets a refused growth, and how many growths come before that one in it.
+#[derive(Clone, Copy)]
+pub struct Plan<'a> {
+    pub meter: &'a Meter<Global>,
+    pub call: Call,
+    pub before: u64,
+}
+
+impl Plan<'_> {
+    /// Before a call: refuses its growth where it is the one.
+    pub(crate) fn begin(&self, call: Call) {
+        if self.call == call {
+            self.meter.refuse(self.before);
+        }
+    }
+
+    /// After a call.
+    pub(crate) fn end(&self) {
+        self.meter.rest();
+    }
+}

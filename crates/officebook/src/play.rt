@@ -1,0 +1,139 @@
+//! A row, call by call.
+
+ghost use Rattle.std.specs.Prelude.{◌≡◌};
+ghost use Rattle.fleet_office.specs.Views.{IsNamed};
+
+use crate::calls::{answer_text, chapter_text, look_text};
+use crate::case::{Course, Step};
+use crate::hall::play_hall;
+use crate::plan::{Call, Plan};
+use crate::stage::{Fleet, Stage, concluded, opened};
+use crate::telling::Telling;
+use fleet_office::{Desk, Final, OfficeName};
+use fleet_world::OpenFault;
+use std::alloc::{Alloc, AllocError, Allocator};
+use std::sync::Wait;
+
+/// Tells how an office ended: its ticks, its floor cells and its chapter, and by client what it had not collected.
+fn tell_end<A: Allocator + Copy>(
+    step: &Step,
+    end: &Final<A>,
+    book: &mut Telling,
+) -> Result<(), AllocError> {
+    let chapter = chapter_text(&end.chapter, book.alloc)?;
+    let floor = end.grid.floor_count();
+    let line = format!(in book.alloc; "{step:?}: tick {} floor {floor} {chapter}", end.tick)?;
+    book.line(&line)?;
+    for (client, notices) in end.rest.iter().enumerate() {
+        let line = format!(in book.alloc; "rest {client}: {:?}", notices.as_slice())?;
+        book.line(&line)?;
+    }
+    Ok(())
+}
+
+/// Makes a call that is no end, and tells what it answered, and where it may change an office what there is to see then.
+fn play_step<N: OfficeName<A>, A: Allocator + Copy, R: Alloc<A = A> + Wait>(
+    rt: &R,
+    stage: &mut Stage<N, A>,
+    step: &Step,
+    call: Call,
+    plan: Plan<'_>,
+    book: &mut Telling,
+) -> Result<(), AllocError> {
+    plan.begin(call);
+    let answer = answer_text(rt, stage, step, book.alloc);
+    plan.end();
+    let answer = answer?;
+    if step.is_seen() {
+        let look = look_text(rt, stage, 0, book.alloc)?;
+        let line = format!(in book.alloc; "{step:?}: {answer}; {look}")?;
+        book.line(&line)
+    } else {
+        let line = format!(in book.alloc; "{step:?}: {answer}")?;
+        book.line(&line)
+    }
+}
+
+/// Makes a call, and hands the office back where it goes on.
+fn play_on<N: OfficeName<A>, A: Allocator + Copy, R: Alloc<A = A> + Wait>(
+    rt: &R,
+    stage: Stage<N, A>,
+    step: &Step,
+    call: Call,
+    plan: Plan<'_>,
+    book: &mut Telling,
+) -> Result<Option<Stage<N, A>>, AllocError> {
+    let mut stage = stage;
+    let Step::Conclude(clients, tickers) = *step else {
+        play_step(rt, &mut stage, step, call, plan, book)?;
+        return Ok(Some(stage));
+    };
+    match concluded(rt.alloc(), stage, (clients, tickers), call, plan)? {
+        Ok(end) => {
+            tell_end(step, &end, book)?;
+            Ok(None)
+        }
+        Err((fault, stage)) => {
+            let line = format!(in book.alloc; "{step:?}: {fault:?}")?;
+            book.line(&line)?;
+            Ok(Some(stage))
+        }
+    }
+}
+
+/// Makes these calls, to the end of them or of the office.
+fn play_steps<N: OfficeName<A>, A: Allocator + Copy, R: Alloc<A = A> + Wait>(
+    rt: &R,
+    stage: Stage<N, A>,
+    steps: &[Step],
+    plan: Plan<'_>,
+    book: &mut Telling,
+) -> Result<(), AllocError> {
+    let mut stage = stage;
+    for (number, step) in steps.iter().enumerate() {
+        match play_on(rt, stage, step, Call::Step(number), plan, book)? {
+            Some(next) => stage = next,
+            None => return Ok(()),
+        }
+    }
+    Ok(())
+}
+
+/// Makes the calls of a row's rounds.
+fn play_rounds<N: OfficeName<A>, A: Allocator + Copy, R: Alloc<A = A> + Wait>(
+    rt: &R,
+    stage: &mut Stage<N, A>,
+    course: Course<'_>,
+    plan: Plan<'_>,
+    book: &mut Telling,
+) -> Result<(), AllocError> {
+    for _round in 0..course.rounds {
+        for step in course.round {
+            play_step(rt, stage, step, Call::None, plan, book)?;
+        }
+    }
+    Ok(())
+}
+
+/// Opens an office over the desk, or a hall, and makes the calls of a row.
+pub(crate) fn play<N: OfficeName<A>, A: Allocator + Copy, R: Alloc<A = A> + Wait>(
+    rt: &R,
+    desk: Desk<A>,
+    fleet: Fleet<A>,
+    course: Course<'_>,
+    plan: Plan<'_>,
+    book: &mut Telling,
+) -> Result<Result<(), OpenFault>, AllocError>
+    requires named { IsNamed desk N.name N.parts N.rings }
+{
+    if !course.hall.is_empty() {
+        return play_hall::<N, A, R>(rt, desk, fleet, course.hall, book);
+    }
+    let mut stage = match opened::<N, A>(rt.alloc(), desk, fleet, plan)? {
+        Ok(stage) => stage,
+        Err(fault) => return Ok(Err(fault)),
+    };
+    play_rounds(rt, &mut stage, course, plan, book)?;
+    play_steps(rt, stage, course.steps, plan, book)?;
+    Ok(Ok(()))
+}
