@@ -23,11 +23,13 @@ fn words_of_each_job(rt: HostRuntime) -> Result<(), Fail> {
     };
     assert!(rt; file.as_str() == "a.map");
     let run = parse_words(rt.alloc(), &words_of(&rt, &["run", "a.map", "b"])?);
-    let Ok(Job::Run {
-        first,
-        second,
-        trace,
-    }) = &run
+    let Ok(
+        Job::Run {
+            first,
+            second,
+            trace,
+        },
+    ) = &run
     else {
         return Err(Fail::from("a run job"));
     };
@@ -38,15 +40,31 @@ fn words_of_each_job(rt: HostRuntime) -> Result<(), Fail> {
 /// The flag may stand before the files or behind them.
 #[test]
 fn words_of_traces(rt: HostRuntime) -> Result<(), Fail> {
-    let flagged = parse_words(rt.alloc(), &words_of(&rt, &["run", "--trace", "a.map", "b"])?);
+    let flagged = parse_words(
+        rt.alloc(),
+        &words_of(&rt, &["run", "--trace", "a.map", "b"])?,
+    );
     assert!(rt; matches!(&flagged, Ok(Job::Run { trace: true, .. })));
-    let behind = parse_words(rt.alloc(), &words_of(&rt, &["run", "a.map", "b", "--trace"])?);
+    let behind = parse_words(
+        rt.alloc(),
+        &words_of(&rt, &["run", "a.map", "b", "--trace"])?,
+    );
     assert!(rt; matches!(&behind, Ok(Job::Run { trace: true, .. })));
     let judge = parse_words(rt.alloc(), &words_of(&rt, &["judge", "a.map", "t"])?);
     let Ok(Job::Judge { first, second }) = &judge else {
         return Err(Fail::from("a judge job"));
     };
     assert!(rt; first.as_str() == "a.map" && second.as_str() == "t");
+    Ok(())
+}
+
+#[test]
+fn words_of_a_serve(rt: HostRuntime) -> Result<(), Fail> {
+    let serve = parse_words(rt.alloc(), &words_of(&rt, &["serve", "a.map", "s"])?);
+    let Ok(Job::Serve { first, second }) = &serve else {
+        return Err(Fail::from("a serve job"));
+    };
+    assert!(rt; first.as_str() == "a.map" && second.as_str() == "s");
     Ok(())
 }
 
@@ -64,6 +82,9 @@ fn words_refused(rt: HostRuntime) -> Result<(), Fail> {
     assert!(rt; is_refused(&rt, &["map", "a", "b"])?);
     assert!(rt; is_refused(&rt, &["run", "a"])?);
     assert!(rt; is_refused(&rt, &["judge", "a"])?);
+    assert!(rt; is_refused(&rt, &["serve", "a"])?);
+    assert!(rt; is_refused(&rt, &["serve", "--trace", "a", "b"])?);
+    assert!(rt; is_refused(&rt, &["serve", "--help"])?);
     assert!(rt; is_refused(&rt, &["map", "--trace", "a"])?);
     assert!(rt; is_refused(&rt, &["fly"])?);
     assert!(rt; is_refused(&rt, &["--help"])?);
