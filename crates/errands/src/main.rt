@@ -1,6 +1,7 @@
 //! `errands`: moves robots over a map while clients post errands, as a script says. `errands run MAP SCRIPT` runs the script
 //! of one file on the map of another; with `--trace` it writes the trace of the run in place of its lines, and `errands judge
-//! MAP TRACE` tells whether such a trace is legal. Without words it reads a bundle from standard input: the map up to the
+//! MAP TRACE` tells whether such a trace is legal. `errands serve MAP SCRIPT` runs each client's lines in a thread of its own,
+//! beside two tickers, and writes the trace of what came of it. Without words it reads a bundle from standard input: the map up to the
 //! first line that is exactly `script`, and the script behind it. `errands map FILE` tells of a map alone.
 #![tactic(auto)]
 
@@ -13,6 +14,7 @@ use std::env::{self, Env};
 use std::fs::{File, Files};
 use std::io::{self, ErrorKind, Write};
 use std::process::ExitCode;
+use std::sync::Wait;
 use std::thread::Threads;
 
 /// The words that the program was given.
@@ -42,7 +44,7 @@ fn fail_open<E: Write>(fault: &io::Error, error: &mut E) -> u8 {
 
 /// Opens the two files of a job in their order, the second only where the first could be opened, and does the job. The
 /// result is the status.
-fn run_files<R: Files + Alloc<A = Global> + Threads + Sync, W: Write, E: Write>(
+fn run_files<R: Files + Alloc<A = Global> + Threads + Sync + Wait, W: Write, E: Write>(
     rt: &R,
     job: &Job,
     first: &str,
@@ -104,7 +106,7 @@ fn main(rt: HostRuntime) -> ExitCode {
             &mut output,
             &mut error,
         ),
-        Job::Judge { first, second } => run_files(
+        Job::Judge { first, second } | Job::Serve { first, second } => run_files(
             &rt,
             &job,
             first.as_str(),

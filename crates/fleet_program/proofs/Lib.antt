@@ -1,3 +1,4 @@
 pub mod Kits
 pub mod Transfers
 pub mod Outcomes
+pub mod Services

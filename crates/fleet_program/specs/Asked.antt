@@ -4,7 +4,7 @@ use Rattle.std.specs.Option.{option_and_then, option_map, option_map_or}
 use Rattle.std.specs.Str.{bytes_eq}
 use Rattle.clap.specs.Words.{Text, Row, first_of}
 use Rattle.fleet_program.specs.declared.words.Job.{Job}
-use Rattle.fleet_program.specs.declared.words.Job.TheVariants.{Bundle, Map, Run, Judge}
+use Rattle.fleet_program.specs.declared.words.Job.TheVariants.{Bundle, Map, Run, Judge, Serve}
 
 -- a job without where its words lie in memory
 pub data Asked : Type 0 where
@@ -13,12 +13,14 @@ pub data Asked : Type 0 where
   -- a map, a script, and whether its trace is to be written
   run : Text → Text → Bool → Asked
   judge : Text → Text → Asked
+  serve : Text → Text → Asked
 
 abbrev pub asked : Job → Asked
 asked Bundle = bundle
 asked (Map file) = map (string_bytes file)
 asked (Run first second trace) = run (string_bytes first) (string_bytes second) trace
 asked (Judge first second) = judge (string_bytes first) (string_bytes second)
+asked (Serve first second) = serve (string_bytes first) (string_bytes second)
 
 -- whether a flag was given
 abbrev pub has_flag : Text → List Row → Bool
@@ -34,4 +36,5 @@ job_of None = Some bundle
 job_of (Some p) =
     if bytes_eq p.0 (codes "map") then option_map (λ file. map file) (first_of (codes "FILE") p.1)
     else if bytes_eq p.0 (codes "judge") then of_two judge (codes "MAP") (codes "TRACE") p.1
+    else if bytes_eq p.0 (codes "serve") then of_two serve (codes "MAP") (codes "SCRIPT") p.1
     else of_two (λ first second. run first second (has_flag (codes "trace") p.1)) (codes "MAP") (codes "SCRIPT") p.1

@@ -23,9 +23,13 @@ run_app = with_rule (with_rule (with_rule (new_app (codes "run")) trace_rule) (f
 abbrev pub judge_app : App
 judge_app = with_rule (with_rule (new_app (codes "judge")) (file_rule (codes "MAP"))) (file_rule (codes "TRACE"))
 
+-- serve MAP SCRIPT
+abbrev pub serve_app : App
+serve_app = with_rule (with_rule (new_app (codes "serve")) (file_rule (codes "MAP"))) (file_rule (codes "SCRIPT"))
+
 -- errands, which tells its version
 abbrev pub with_version : App → App
 with_version app = record app { top = record app.top { has_version = true } }
 
 abbrev pub errands_app : App
-errands_app = with_subcommand (with_subcommand (with_subcommand (with_version (new_app (codes "errands"))) map_app.top) run_app.top) judge_app.top
+errands_app = with_subcommand (with_subcommand (with_subcommand (with_subcommand (with_version (new_app (codes "errands"))) map_app.top) run_app.top) judge_app.top) serve_app.top

@@ -16,13 +16,22 @@ names_two job.Bundle = false
 names_two (job.Map file) = false
 names_two (job.Run map script trace) = true
 names_two (job.Judge map trace) = true
+names_two (job.Serve map script) = true
+
+-- whether the job is to serve a script
+abbrev pub is_serve : Job → Bool
+is_serve job.Bundle = false
+is_serve (job.Map file) = false
+is_serve (job.Run map script trace) = false
+is_serve (job.Judge map trace) = false
+is_serve (job.Serve map script) = true
 
 -- what a second reader has, and nothing where there is none
 abbrev pub bytes_of : {I : Type 0} → (I → Option (List ℕ)) → Option (MutBor I) → Option (List ℕ)
 bytes_of remaining None = Some []
 bytes_of remaining (Some reader) = remaining reader.now
 
--- a file or memory failed, and the error writer got the front of a line that says so
+-- a file, memory or a thread failed, and the error writer got the front of a line that says so
 pub data Failed (old_err new_err : Option (List ℕ)) (status : ℕ) : Type 0 where
   file : status ≡ status_of complaint.File → AppendsFront old_err new_err (complaint_line complaint.File) → Failed old_err new_err status
   memory : status ≡ status_of complaint.Memory → AppendsFront old_err new_err (complaint_line complaint.Memory) → Failed old_err new_err status
@@ -42,5 +51,5 @@ pub record IsAnswer (kit : KitLaws) (job : Job) (first second : List ℕ) (o : O
 -- what the program left on its writers when it ended with this status, where its job's files hold these bytes
 pub data IsShown (kit : KitLaws) (job : Job) (first second : List ℕ) (old_out new_out old_err new_err : Option (List ℕ)) (status : ℕ) : Type 0 where
   told : (o : Outcome) → IsAnswer kit job first second o → IsTold o old_out new_out old_err new_err status → IsShown kit job first second old_out new_out old_err new_err status
-  -- a read or memory failed, or a file is too long
+  -- a read, memory or the start of a thread failed, or a file is too long
   nothing : new_out ≡ old_out → Failed old_err new_err status → IsShown kit job first second old_out new_out old_err new_err status

@@ -1,16 +1,17 @@
 //! What the program has to say to the texts that it read.
 
-ghost use Rattle.std.specs.Prelude.{◌≡◌, ◌≤◌, ◌++◌, length, IfOk, codes, string_bytes};
+ghost use Rattle.std.specs.Prelude.{◌≡◌, ◌≤◌, ◌++◌, false, length, IfOk, codes, string_bytes};
 ghost use Rattle.std.specs.List.{list_any};
 ghost use Rattle.fleet_map.specs.Form.{HasSides};
 ghost use Rattle.fleet_map.specs.Grammar.{view};
 ghost use Rattle.fleet_world.specs.Opening.{IsNamed};
 ghost use Rattle.fleet_program.specs.Output.{is_limit_met};
-ghost use Rattle.fleet_program.specs.Outcome.{IsBundleOutcome, IsMapOutcome, IsDescribed, IsPartsOutcome, IsScriptOutcome, IsJobOutcome, floor_of_map, run_output, run_outcome};
+ghost use Rattle.fleet_program.specs.Outcome.{IsBundleOutcome, IsMapOutcome, IsDescribed, IsPartsOutcome, IsScriptOutcome, IsJobOutcome, floor_of_map, limited, run_output, run_outcome};
 ghost use Rattle.fleet_trace.specs.Trace.{trace_of};
 ghost use Rattle.fleet_trace.specs.Text.{trace_text};
 ghost use Rattle.fleet_program.specs.Kit.{kit_laws};
 ghost use Rattle.fleet_program.specs.Said.{said};
+ghost use Rattle.fleet_program.specs.Told.{is_serve};
 ghost use Rattle.fleet_script.specs.Shown.{plan};
 ghost use Rattle.fleet_program.specs.declared.said.Complaint.{Complaint};
 
@@ -63,7 +64,7 @@ fn opening_complaint(fault: OpenFault) -> Result<Complaint, AllocError>
 }
 
 /// The trace of a chapter, and a line feed.
-fn trace_line(alloc: Global, chapter: &Chapter) -> Result<String, AllocError>
+pub(crate) fn trace_line(alloc: Global, chapter: &Chapter) -> Result<String, AllocError>
     ensures { IfOk result (λ s. string_bytes s ≡ trace_text (trace_of chapter.now) ++ codes "\n") }
 {
     let mut text = write_trace(alloc, chapter)?;
@@ -93,11 +94,11 @@ fn output_of(
     )
 }
 
-/// What is said of a run with these replies: its output, and whether a limit was met.
-fn ended(alloc: Global, replies: &[Reply], output: String) -> Result<Said, AllocError>
-    ensures { IfOk result (λ s. said s ≡ run_outcome replies.now (string_bytes output)) }
+/// What is said with this output, and whether a limit was met.
+pub(crate) fn ended(alloc: Global, met: bool, output: String) -> Result<Said, AllocError>
+    ensures { IfOk result (λ s. said s ≡ limited met (string_bytes output)) }
 {
-    if meets_limit(replies) {
+    if met {
         return Ok(Said {
             output,
             status: Complaint::Limit.status(),
@@ -122,7 +123,7 @@ fn played_text(
     ensures { IfOk result (λ s. said s ≡ run_outcome played.now.replies.items (run_output trace events.now played.now.replies.items played.now.world.core)) }
 {
     let output = output_of(alloc, trace, events, played)?;
-    ended(alloc, played.replies.as_slice(), output)
+    ended(alloc, meets_limit(played.replies.as_slice()), output)
 }
 
 /// Runs a script on a map.
@@ -214,7 +215,8 @@ fn answer_map(alloc: Global, bytes: &[u8]) -> Result<Said, AllocError>
     }
 }
 
-/// What the program has to say to the texts of a job, the second of which counts only where the job names two files.
+/// What the program has to say to the texts of a job that is not to serve, the second of which counts only where the job
+/// names two files.
 pub fn answer<R: Alloc<A = Global> + Threads + Sync>(
     rt: &R,
     job: &Job,
@@ -224,6 +226,7 @@ pub fn answer<R: Alloc<A = Global> + Threads + Sync>(
 ) -> Result<Said, AllocError>
     requires first { length first.now ≤ 16777216 }
     requires second { length second.now ≤ 16777216 }
+    requires plain { is_serve job.now ≡ false }
     ensures { IfOk result (λ s. IsJobOutcome (kit_laws kit) job.now first.now second.now (said s)) }
 {
     match job {
@@ -235,5 +238,6 @@ pub fn answer<R: Alloc<A = Global> + Threads + Sync>(
             trace,
         } => answer_parts(rt, first, second, kit, *trace),
         Job::Judge { .. } => answer_trace(rt.alloc(), first, second),
+        Job::Serve { .. } => unreachable!(),
     }
 }

@@ -15,6 +15,7 @@ use fleet_hooks::{
 };
 use std::alloc::{Alloc, AllocError, Global};
 use std::io::{Read, Write};
+use std::sync::Wait;
 use std::thread::Threads;
 
 /// How many robots there are closures for.
@@ -62,7 +63,7 @@ fn add(
 }
 
 /// Makes the program's closures and does the job with them.
-fn run_with_closures<R: Alloc<A = Global> + Threads + Sync, I: Read, W: Write, E: Write>(
+fn run_with_closures<R: Alloc<A = Global> + Threads + Sync + Wait, I: Read, W: Write, E: Write>(
     rt: &R,
     job: &Job,
     map: &mut I,
@@ -106,7 +107,7 @@ fn run_with_closures<R: Alloc<A = Global> + Threads + Sync, I: Read, W: Write, E
 }
 
 /// Does the job with the program's closures. The result is the status, 7 where they could not be made.
-pub fn run_with_kit<R: Alloc<A = Global> + Threads + Sync, I: Read, W: Write, E: Write>(
+pub fn run_with_kit<R: Alloc<A = Global> + Threads + Sync + Wait, I: Read, W: Write, E: Write>(
     rt: &R,
     job: &Job,
     map: &mut I,

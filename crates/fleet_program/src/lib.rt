@@ -12,6 +12,7 @@ mod output;
 mod program;
 mod report;
 mod said;
+mod service;
 #[cfg(test)]
 mod tests;
 mod texts;
@@ -21,5 +22,5 @@ pub use closures::run_with_kit;
 pub use input::{InputFault, read_whole};
 pub use kit::HookKit;
 pub use output::write_whole;
-pub use program::{fail, run_program};
+pub use program::{fail, run_plain, run_program};
 pub use words::{Job, WordFault, parse_words};

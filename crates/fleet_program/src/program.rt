@@ -1,7 +1,7 @@
 //! The program over any readers and writers.
 
-ghost use Rattle.std.specs.Prelude.{◌≡◌, IfOk, IfSome, is_some};
-ghost use Rattle.fleet_program.specs.Told.{Failed, IsAnswer, IsTold, IsShown, bytes_of, names_two};
+ghost use Rattle.std.specs.Prelude.{◌≡◌, false, true, IfOk, IfSome, is_some};
+ghost use Rattle.fleet_program.specs.Told.{Failed, IsAnswer, IsTold, IsShown, bytes_of, is_serve, names_two};
 ghost use Rattle.fleet_program.specs.Kit.{kit_laws};
 ghost use Rattle.fleet_program.specs.Said.{said as said_of};
 
@@ -10,9 +10,11 @@ use crate::input::{InputFault, read_other, read_whole};
 use crate::kit::HookKit;
 use crate::output::write_whole;
 use crate::said::{Complaint, Said};
+use crate::service::answer_job;
 use crate::words::Job;
 use std::alloc::{Alloc, Global};
 use std::io::{Read, Write};
+use std::sync::Wait;
 use std::thread::Threads;
 
 /// Says on the error writer that a file or memory failed. The result is the status.
@@ -43,7 +45,7 @@ fn tell<W: Write, E: Write>(said: &Said, output: &mut W, error: &mut E) -> u8
     said.status
 }
 
-/// What there is to say to the files of a job, which are read in their order.
+/// What there is to say to the files of a job that is not to serve, which are read in their order.
 fn answer_files<R: Alloc<A = Global> + Threads + Sync, I: Read>(
     rt: &R,
     job: &Job,
@@ -51,6 +53,7 @@ fn answer_files<R: Alloc<A = Global> + Threads + Sync, I: Read>(
     other: Option<&mut I>,
     kit: HookKit,
 ) -> Result<Said, InputFault>
+    requires { is_serve job.now ≡ false }
     ensures { IfOk result (λ s. IfSome (I.remaining map.old) (λ first. IfSome (bytes_of I.remaining other.entry) (λ second.
         IsAnswer (kit_laws kit) job.now first second (said_of s)))) }
 {
@@ -59,9 +62,48 @@ fn answer_files<R: Alloc<A = Global> + Threads + Sync, I: Read>(
     Ok(answer(rt, job, &first, &second, kit)?)
 }
 
+/// What there is to say to the map and the script that are to be served, which are read in this order.
+fn answer_served<R: Alloc<A = Global> + Threads + Sync + Wait, I: Read>(
+    rt: &R,
+    job: &Job,
+    map: &mut I,
+    other: Option<&mut I>,
+    kit: HookKit,
+) -> Result<Said, InputFault>
+    requires { is_serve job.now ≡ true }
+    ensures { IfOk result (λ s. IfSome (I.remaining map.old) (λ first. IfSome (bytes_of I.remaining other.entry) (λ second.
+        IsAnswer (kit_laws kit) job.now first second (said_of s)))) }
+{
+    let first = read_whole(rt.alloc(), map)?;
+    let second = read_other(rt.alloc(), other)?;
+    Ok(answer_job(rt, job, &first, &second, kit)?)
+}
+
+/// Does a job that is not to serve, and waits for nobody. The result is the status, as for `run_program`.
+pub fn run_plain<R: Alloc<A = Global> + Threads + Sync, I: Read, W: Write, E: Write>(
+    rt: &R,
+    job: &Job,
+    map: &mut I,
+    other: Option<&mut I>,
+    output: &mut W,
+    error: &mut E,
+    kit: HookKit,
+) -> u8
+    requires files { is_some other ≡ names_two job.now }
+    requires plain { is_serve job.now ≡ false }
+    ensures { IfSome (I.remaining map.old) (λ first. IfSome (bytes_of I.remaining other.entry) (λ second.
+        IsShown (kit_laws kit) job.now first second (W.contents output.old) (W.contents output.new) (E.contents error.old) (E.contents error.new) result)) }
+{
+    match answer_files(rt, job, map, other, kit) {
+        Ok(said) => tell(&said, output, error),
+        Err(fault) => fail(fault, error),
+    }
+}
+
 /// Does the job and writes what there is to say. The result is the status: 0 good, 3 a file failed, 4 the map, 5 the
-/// script or the opening or 6 the trace is refused, 6 too where the trace is illegal, 7 memory ran out, 8 a limit was met.
-pub fn run_program<R: Alloc<A = Global> + Threads + Sync, I: Read, W: Write, E: Write>(
+/// script or the opening or 6 the trace is refused, 6 too where the trace is illegal, 7 memory ran out or a thread could not
+/// be started, 8 a limit was met. To serve waits for the threads that it starts.
+pub fn run_program<R: Alloc<A = Global> + Threads + Sync + Wait, I: Read, W: Write, E: Write>(
     rt: &R,
     job: &Job,
     map: &mut I,
@@ -74,7 +116,10 @@ pub fn run_program<R: Alloc<A = Global> + Threads + Sync, I: Read, W: Write, E: 
     ensures { IfSome (I.remaining map.old) (λ first. IfSome (bytes_of I.remaining other.entry) (λ second.
         IsShown (kit_laws kit) job.now first second (W.contents output.old) (W.contents output.new) (E.contents error.old) (E.contents error.new) result)) }
 {
-    match answer_files(rt, job, map, other, kit) {
+    if !job.is_serve() {
+        return run_plain(rt, job, map, other, output, error, kit);
+    }
+    match answer_served(rt, job, map, other, kit) {
         Ok(said) => tell(&said, output, error),
         Err(fault) => fail(fault, error),
     }

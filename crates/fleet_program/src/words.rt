@@ -5,8 +5,9 @@ ghost use Rattle.clap.specs.declared.builder.command.Command.TheViews.{out-Comma
 ghost use Rattle.clap.specs.Words.{fault_of, first_of, found_of, rows_of, app_of, rule_of, subcommand_of, subcommand_rows_of, takes};
 ghost use Rattle.clap.specs.Values.{kind_of};
 ghost use Rattle.clap.specs.declared.error.kind.ErrorKind.TheVariants.{OutOfMemory};
-ghost use Rattle.fleet_program.specs.Command.{errands_app, file_rule, trace_rule, map_app, run_app, judge_app};
+ghost use Rattle.fleet_program.specs.Command.{errands_app, file_rule, trace_rule, map_app, run_app, judge_app, serve_app};
 ghost use Rattle.fleet_program.specs.Asked.{asked, job_of, has_flag};
+ghost use Rattle.fleet_program.specs.Told.{is_serve};
 ghost use Rattle.fleet_program.specs.declared.words.WordFault.TheVariants.{NoMemory};
 
 use clap::error::ErrorKind;
@@ -33,6 +34,20 @@ pub enum Job {
         first: String,
         second: String,
     },
+    /// To serve the script of the second file on the map of the first, and to write its trace.
+    Serve {
+        first: String,
+        second: String,
+    },
+}
+
+impl Job {
+    /// Whether the job is to serve a script, which waits for threads.
+    pub fn is_serve(&self) -> bool
+        ensures { result ≡ is_serve self.now }
+    {
+        matches!(self, Job::Serve { .. })
+    }
 }
 
 /// Why the words name no job.
@@ -106,7 +121,11 @@ fn judge_command<'a>(alloc: Global) -> Result<Command<'a>, AllocError>
     ensures own { IfOk result (λ c. (fields_of c).has_globals ≡ false) }
 {
     let map = file_argument(alloc, "MAP", "A map");
-    let trace = file_argument(alloc, "TRACE", "What `errands run --trace` wrote");
+    let trace = file_argument(
+        alloc,
+        "TRACE",
+        "What `errands serve` or `errands run --trace` wrote",
+    );
     Command::new(alloc, "judge")
         .about(
             "Tells whether a trace is legal on a map, or its first illegal entry and the rule broken",
@@ -114,6 +133,26 @@ fn judge_command<'a>(alloc: Global) -> Result<Command<'a>, AllocError>
         .after_help("Example: errands judge ring.map two_robots.trace")
         .arg(map)?
         .arg(trace)
+}
+
+/// The subcommand `serve`.
+fn serve_command<'a>(alloc: Global) -> Result<Command<'a>, AllocError>
+    ensures app { IfOk result (λ c. app_of c ≡ serve_app) }
+    ensures own { IfOk result (λ c. (fields_of c).has_globals ≡ false) }
+{
+    let map = file_argument(alloc, "MAP", "A map");
+    let script = file_argument(
+        alloc,
+        "SCRIPT",
+        "The robots, the limits and the clients' lines",
+    );
+    Command::new(alloc, "serve")
+        .about(
+            "Serves a script's clients on a map, each in a thread of its own, and writes the trace",
+        )
+        .after_help("Example: errands serve ring.map three_clients.script")
+        .arg(map)?
+        .arg(script)
 }
 
 /// The command `errands` with its subcommands.
@@ -128,7 +167,8 @@ fn errands_command<'a>(alloc: Global) -> Result<Command<'a>, AllocError>
         )
         .subcommand(map_command(alloc)?)?
         .subcommand(run_command(alloc)?)?
-        .subcommand(judge_command(alloc)?)
+        .subcommand(judge_command(alloc)?)?
+        .subcommand(serve_command(alloc)?)
 }
 
 /// The word that stands for a required argument.
@@ -169,6 +209,9 @@ fn job_from(alloc: Global, matches: &ArgMatches<'_>) -> Result<Job, AllocError>
         return Ok(Job::Judge { first, second });
     }
     let second = word_for(alloc, inner, "SCRIPT")?;
+    if name == "serve" {
+        return Ok(Job::Serve { first, second });
+    }
     let trace = has_flag(inner, "trace");
     Ok(Job::Run {
         first,

@@ -4,6 +4,7 @@ use crate::closures::run_with_kit;
 use crate::words::Job;
 use std::alloc::{Alloc, Global};
 use std::io::{self, ErrorKind, Read, Write};
+use std::sync::Wait;
 use std::thread::Threads;
 
 const BUNDLE: &[u8] =
@@ -79,7 +80,7 @@ fn narrow_writer(alloc: Global, good_writes: u32) -> Narrow {
 
 /// The status where so many reads and writes are good, with what stands on the two writers.
 fn runs(
-    rt: &(impl Alloc<A = Global> + Threads + Sync),
+    rt: &(impl Alloc<A = Global> + Threads + Sync + Wait),
     good_reads: u32,
     output: &mut Narrow,
     error: &mut Narrow,

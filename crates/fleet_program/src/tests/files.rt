@@ -3,12 +3,13 @@
 use crate::closures::run_with_kit;
 use crate::words::Job;
 use std::alloc::{Alloc, Global};
+use std::sync::Wait;
 use std::test::Fail;
 use std::thread::Threads;
 
 /// What the program says to a map and a script: its status, its output and its complaint.
 fn answers<'x>(
-    rt: &(impl Alloc<A = Global> + Threads + Sync),
+    rt: &(impl Alloc<A = Global> + Threads + Sync + Wait),
     files: (&'x [u8], &'x [u8]),
     status: u8,
     output: &[u8],

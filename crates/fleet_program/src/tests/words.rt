@@ -58,6 +58,16 @@ fn words_of_traces(rt: HostRuntime) -> Result<(), Fail> {
     Ok(())
 }
 
+#[test]
+fn words_of_a_serve(rt: HostRuntime) -> Result<(), Fail> {
+    let serve = parse_words(rt.alloc(), &words_of(&rt, &["serve", "a.map", "s"])?);
+    let Ok(Job::Serve { first, second }) = &serve else {
+        return Err(Fail::from("a serve job"));
+    };
+    assert!(rt; first.as_str() == "a.map" && second.as_str() == "s");
+    Ok(())
+}
+
 /// Whether the words name no job, and a text says why.
 fn is_refused(rt: &HostRuntime, given: &[&str]) -> Result<bool, Fail> {
     match parse_words(rt.alloc(), &words_of(rt, given)?) {
@@ -72,6 +82,9 @@ fn words_refused(rt: HostRuntime) -> Result<(), Fail> {
     assert!(rt; is_refused(&rt, &["map", "a", "b"])?);
     assert!(rt; is_refused(&rt, &["run", "a"])?);
     assert!(rt; is_refused(&rt, &["judge", "a"])?);
+    assert!(rt; is_refused(&rt, &["serve", "a"])?);
+    assert!(rt; is_refused(&rt, &["serve", "--trace", "a", "b"])?);
+    assert!(rt; is_refused(&rt, &["serve", "--help"])?);
     assert!(rt; is_refused(&rt, &["map", "--trace", "a"])?);
     assert!(rt; is_refused(&rt, &["fly"])?);
     assert!(rt; is_refused(&rt, &["--help"])?);

@@ -1,0 +1,157 @@
+//! What the program has to say to a map and a script that is to be served.
+
+ghost use Rattle.std.specs.Prelude.{◌≡◌, ◌≤◌, ◌++◌, true, length, nat_lt, IfOk, codes};
+ghost use Rattle.std.specs.List.{All};
+ghost use Rattle.fleet_map.specs.Form.{HasSides};
+ghost use Rattle.fleet_map.specs.Grammar.{view};
+ghost use Rattle.fleet_history.specs.History.{history_of};
+ghost use Rattle.fleet_history.specs.Legal.{IsLegal};
+ghost use Rattle.fleet_trace.specs.Trace.{trace_of};
+ghost use Rattle.fleet_trace.specs.Text.{trace_text};
+ghost use Rattle.fleet_serve.specs.Posted.{IsLine};
+ghost use Rattle.fleet_script.specs.Shown.{plan};
+ghost use Rattle.fleet_program.specs.Kit.{kit_laws};
+ghost use Rattle.fleet_program.specs.Outcome.{IsServed, IsServedScript, IsServeOutcome, IsJobOutcome, IsUnserved, floor_of_map, limited};
+ghost use Rattle.fleet_program.specs.Said.{said};
+ghost use Rattle.fleet_program.specs.Told.{is_serve};
+
+use crate::answer::{ended, trace_line};
+use crate::kit::HookKit;
+use crate::said::{Complaint, Said, faulty, map_complaint};
+use crate::words::Job;
+use fleet_grid::Grid;
+use fleet_map::{MapText, read_map};
+use fleet_script::{Script, ScriptFault, read_script};
+use fleet_serve::{Gate, ServeFault, Served, first_other, serve};
+use fleet_trace::{JudgeFault, judge};
+use std::alloc::{Alloc, AllocError, Global};
+use std::sync::Wait;
+use std::thread::Threads;
+
+/// A gate that holds nobody.
+#[derive(Clone, Copy, Debug)]
+struct OpenGate;
+
+impl Gate for OpenGate {
+    fn before(&self, _client: u32, _line: u32) {}
+}
+
+/// The same map.
+fn copy_of(alloc: Global, map: &MapText) -> Result<MapText, AllocError>
+    ensures { IfOk result (λ copy. view copy ≡ view map.now) }
+{
+    Ok(MapText {
+        height: map.height,
+        width: map.width,
+        cells: Vec::from_slice(alloc, &map.cells)?,
+    })
+}
+
+/// What is said of a serve that came to an end: its trace, which is judged on the map first.
+fn served_text(alloc: Global, grid: &Grid, served: &Served) -> Result<Said, AllocError>
+    ensures legal { IfOk result (λ s. IsLegal grid.now (history_of served.now.last.chapter)) }
+    ensures said { IfOk result (λ s. said s ≡ limited (nat_lt 0 served.now.lane_full) (trace_text (trace_of served.now.last.chapter) ++ codes "\n")) }
+{
+    let chapter = &served.last.chapter;
+    match judge(alloc, grid, chapter) {
+        Ok(()) => ended(alloc, served.lane_full > 0, trace_line(alloc, chapter)?),
+        Err(JudgeFault::NoMemory) => Err(AllocError),
+        // The chapter is legal on the office's own map, which is this one, so no call ends here.
+        Err(JudgeFault::Illegal { .. }) => Err(AllocError),
+    }
+}
+
+/// What is said of a serve that came to no end for this reason.
+fn unserved_text(alloc: Global, fault: ServeFault) -> Result<Said, AllocError>
+    ensures { IfOk result (λ s. IsUnserved fault (said s)) }
+{
+    match fault {
+        ServeFault::Opening(fault) => faulty(alloc, Complaint::Opening(fault)),
+        ServeFault::ClockSpent => faulty(alloc, Complaint::Limit),
+        ServeFault::ChapterFull => faulty(alloc, Complaint::Limit),
+        ServeFault::Drain => faulty(alloc, Complaint::Limit),
+        ServeFault::NoMemory | ServeFault::NoThread => Err(AllocError),
+    }
+}
+
+/// Serves a script whose events are all posts and collects of its clients.
+fn serve_lines<R: Alloc<A = Global> + Threads + Sync + Wait>(
+    rt: &R,
+    map: MapText,
+    script: &Script,
+    kit: HookKit,
+) -> Result<Said, AllocError>
+    requires sides { HasSides (view map) }
+    requires lines { All (IsLine script.now.clients) script.now.events.items }
+    ensures { IfOk result (λ s. IsServed (kit_laws kit) (floor_of_map (view map)) (plan script.now) (said s)) }
+{
+    // Each event stands on a line of its own, so no file has so many.
+    if script.events.len() >= 1 << 32 {
+        return Err(AllocError);
+    }
+    let alloc = rt.alloc();
+    let floor = Grid::new(copy_of(alloc, &map)?)?;
+    let grid = Grid::new(map)?;
+    let hooks = kit.choose(script.south).cut(script.starts.len());
+    match serve(rt, grid, script, hooks, &OpenGate) {
+        Ok(served) => served_text(alloc, &floor, &served),
+        Err(fault) => unserved_text(alloc, fault),
+    }
+}
+
+/// Serves a script on a map.
+fn serve_script<R: Alloc<A = Global> + Threads + Sync + Wait>(
+    rt: &R,
+    map: MapText,
+    script: &Script,
+    kit: HookKit,
+) -> Result<Said, AllocError>
+    requires { HasSides (view map) }
+    ensures { IfOk result (λ s. IsServedScript (kit_laws kit) (floor_of_map (view map)) (plan script.now) (said s)) }
+{
+    let Some(at) = first_other(script) else {
+        return serve_lines(rt, map, script, kit);
+    };
+    // Each event has its line, so no call ends here.
+    if at >= script.lines.len() {
+        return Err(AllocError);
+    }
+    faulty(rt.alloc(), Complaint::Script(script.lines[at]))
+}
+
+/// What the program has to say to a map and a script that is to be served.
+fn answer_serve<R: Alloc<A = Global> + Threads + Sync + Wait>(
+    rt: &R,
+    map: &[u8],
+    script: &[u8],
+    kit: HookKit,
+) -> Result<Said, AllocError>
+    requires { length script.now ≤ 16777216 }
+    ensures { IfOk result (λ s. IsServeOutcome (kit_laws kit) map.now script.now (said s)) }
+{
+    let map = match read_map(rt.alloc(), map) {
+        Ok(map) => map,
+        Err(fault) => return faulty(rt.alloc(), map_complaint(fault)?),
+    };
+    match read_script(rt.alloc(), script) {
+        Ok(script) => serve_script(rt, map, &script, kit),
+        Err(ScriptFault::NoMemory) => Err(AllocError),
+        Err(ScriptFault::Line(line)) => faulty(rt.alloc(), Complaint::Script(line)),
+    }
+}
+
+/// What the program has to say to the texts of a job that is to serve.
+pub fn answer_job<R: Alloc<A = Global> + Threads + Sync + Wait>(
+    rt: &R,
+    job: &Job,
+    first: &[u8],
+    second: &[u8],
+    kit: HookKit,
+) -> Result<Said, AllocError>
+    requires second { length second.now ≤ 16777216 }
+    requires serve { is_serve job.now ≡ true }
+    ensures { IfOk result (λ s. IsJobOutcome (kit_laws kit) job.now first.now second.now (said s)) }
+{
+    let _job = job;
+    answer_serve(rt, first, second, kit)
+}
