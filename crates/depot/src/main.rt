@@ -46,8 +46,7 @@ fn pace_of(
 /// The line of what became of all orders.
 fn line_of(alloc: Global, day: &Day) -> Result<String, AllocError> {
     let told = &day.account.told;
-    format!(
-        in alloc;
+    format!(in alloc;
         "accounted: orders {} verdicts {} accepted {} arrived {} queued {}\n",
         told.orders,
         told.verdicts,
@@ -58,12 +57,7 @@ fn line_of(alloc: Global, day: &Day) -> Result<String, AllocError> {
 }
 
 /// Writes what a day came to. The result is the status.
-fn tell<W: Write, E: Write>(
-    lines: (&str, &str),
-    day: &Day,
-    output: &mut W,
-    error: &mut E,
-) -> u8 {
+fn tell<W: Write, E: Write>(lines: (&str, &str), day: &Day, output: &mut W, error: &mut E) -> u8 {
     let _ = error.write_all(lines.0.as_bytes());
     if output.write_all(lines.1.as_bytes()).is_err() {
         return 3;
@@ -88,7 +82,6 @@ fn main(rt: HostRuntime) -> ExitCode {
     let settings = match settings_of(alloc, &words) {
         Ok(settings) => settings,
         Err(SettingsFault::NoMemory) => return ExitCode::from(7),
-        Err(SettingsFault::Number) => return ExitCode::from(2),
         Err(SettingsFault::Words(text)) => {
             let _ = rt.stderr().write_all(text.as_bytes());
             return ExitCode::from(2);

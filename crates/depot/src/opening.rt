@@ -93,15 +93,7 @@ fn opened_day<R: Alloc<A = Global> + Threads + Sync + Wait>(
         return Ok(Err(DayFault::Opening(OpenFault::NoRobots)));
     };
     match Desk::new(alloc, settings.clients, LIMITS) {
-        Ok(desk) => Ok(spend_day::<Brand, R>(
-            rt,
-            desk,
-            grid,
-            starts,
-            hooks,
-            &shift,
-            settings.seed,
-        )),
+        Ok(desk) => Ok(spend_day::<Brand, R>(rt, desk, grid, starts, hooks, &shift, settings.seed)),
         Err(fault) => Ok(Err(DayFault::Opening(fault))),
     }
 }

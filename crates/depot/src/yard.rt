@@ -51,11 +51,7 @@ pub(crate) fn floor_of(alloc: Global, grid: &Grid) -> Result<Vec<u32>, AllocErro
 }
 
 /// Where so many robots start: spread over the cells.
-pub(crate) fn starts_on(
-    alloc: Global,
-    cells: &[u32],
-    robots: u32,
-) -> Result<Vec<u32>, AllocError> {
+pub(crate) fn starts_on(alloc: Global, cells: &[u32], robots: u32) -> Result<Vec<u32>, AllocError> {
     let mut starts = Vec::new(alloc);
     for robot in 0..robots as usize {
         let at = robot.saturating_mul(cells.len()) / (robots as usize).max(1);
