@@ -82,7 +82,6 @@ fn main(rt: HostRuntime) -> ExitCode {
     let settings = match settings_of(alloc, &words) {
         Ok(settings) => settings,
         Err(SettingsFault::NoMemory) => return ExitCode::from(7),
-        Err(SettingsFault::Number) => return ExitCode::from(2),
         Err(SettingsFault::Words(text)) => {
             let _ = rt.stderr().write_all(text.as_bytes());
             return ExitCode::from(2);

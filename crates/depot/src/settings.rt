@@ -22,10 +22,8 @@ pub struct Settings {
 /// Why there are no settings.
 #[derive(Debug, Drop)]
 pub enum SettingsFault {
-    /// What `clap` says of the words. A request for help is among these.
+    /// What is wrong with the words, as `clap` says it. A request for help is among these.
     Words(String),
-    /// A number that is none, or out of range.
-    Number,
     NoMemory,
 }
 
@@ -64,6 +62,7 @@ fn command<'a>(alloc: Global) -> Result<Command<'a>, AllocError> {
 
 /// The number of an option, or another where it is not given.
 fn number_of(
+    alloc: Global,
     matches: &ArgMatches<'_>,
     name: &str,
     other: u64,
@@ -77,8 +76,15 @@ fn number_of(
     };
     match number_up_to(word.as_bytes(), most + 1) {
         Some(number) if number <= most => Ok(number),
-        _ => Err(SettingsFault::Number),
+        _ => Err(SettingsFault::Words(out_of_range(alloc, name, word, most)?)),
     }
+}
+
+/// What is said of a word that is no number up to the most, in the form of `clap`'s own errors.
+fn out_of_range(alloc: Global, name: &str, word: &str, most: u64) -> Result<String, AllocError> {
+    format!(in alloc;
+        "error: invalid value '{word}' for '--{name} <{name}>': no whole number up to {most}\n\nFor more information, try '--help'.\n"
+    )
 }
 
 /// The settings that the words name. The first word is the program's own name.
@@ -86,10 +92,10 @@ pub(crate) fn settings_of(alloc: Global, words: &[String]) -> Result<Settings, S
     let command = command(alloc)?;
     match command.try_get_matches_from(words) {
         Ok(matches) => Ok(Settings {
-            robots: number_of(&matches, "robots", 8, 512)? as u32,
-            clients: number_of(&matches, "clients", 3, 64)? as u32,
-            turns: number_of(&matches, "turns", 20, 1_000_000)?,
-            seed: number_of(&matches, "seed", 1, 4_294_967_295)?,
+            robots: number_of(alloc, &matches, "robots", 8, 512)? as u32,
+            clients: number_of(alloc, &matches, "clients", 3, 64)? as u32,
+            turns: number_of(alloc, &matches, "turns", 20, 1_000_000)?,
+            seed: number_of(alloc, &matches, "seed", 1, 4_294_967_295)?,
         }),
         Err(error) => Err(fault_from(alloc, &error)),
     }
