@@ -1,5 +1,5 @@
 -- How many notices were given.
-use Rattle.std.proofs.Common.{◌≡◌, ℕ, zero, suc, ◌+◌, ◌*◌, ◌^◌, ◌<◌, ◌≤◌, ◌⊎◌, List, [], ◌∷◌, ◌++◌, Bool, true, false, length, set, get_or, Some, refl, ap, sym, ◌∙◌, arith, subst, ⊎_elim, length-append}
+use Rattle.std.proofs.Common.{◌≡◌, ℕ, zero, suc, ◌+◌, ◌*◌, ◌^◌, ◌<◌, ◌≤◌, List, [], ◌∷◌, ◌++◌, Bool, true, false, length, set, get_or, Some, refl, ap, sym, ◌∙◌, arith, subst, ⊎_elim, length-append}
 use Rattle.std.specs.List.{slice_get, sum_by}
 use Rattle.std.proofs.lemmas.List.Sums.{sum_by-cons, sum_by-set}
 use Rattle.std.proofs.lemmas.Option.{get_or_from_slice_get}
@@ -12,7 +12,7 @@ use Rattle.fleet_core.specs.Core.{World, pending}
 use Rattle.fleet_core.specs.declared.faults.TickReport.{TickReport}
 use Rattle.fleet_lanes.specs.Names.{LaneName}
 use Rattle.fleet_lanes.specs.Ends.{EndView}
-use Rattle.fleet_office.specs.Hall.{HallView, IsLawful, Looks, Lists, lists, lists_of, TakesOrder, TakesNone, TakesMany, TakesSome, IsEnough, TakesFirst, GivesOne, GivesFrom, TicksOnce, given_count}
+use Rattle.fleet_office.specs.Hall.{HallView, IsLawful, Looks, Lists, lists, lists_of, TakesOrder, TakesNone, TakesMany, IsEnough, TakesFirst, GivesOne, GivesFrom, TicksOnce, given_count}
 use Rattle.fleet_office.proofs.Places.{within, map_at}
 
 -- a sum whose terms are small is small

@@ -1,5 +1,5 @@
 -- Clients that are on their office's rings, one more and one less.
-use Rattle.std.proofs.Common.{◌≡◌, ℕ, suc, ◌<◌, List, [], ◌∷◌, ◌++◌, length, Some, sym, subst, refl, ap, ◌∙◌, arith, ⊎_elim, slice_index_or}
+use Rattle.std.proofs.Common.{◌≡◌, suc, ◌<◌, List, [], ◌∷◌, ◌++◌, length, Some, sym, subst, refl, ap, ◌∙◌, arith, ⊎_elim, slice_index_or}
 use Rattle.std.specs.List.{slice_get, remove}
 use Rattle.std.proofs.lemmas.List.{map-append, append_assoc, append-nil}
 use Rattle.fleet_lanes.specs.Names.{LaneName}

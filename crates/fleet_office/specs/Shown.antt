@@ -1,5 +1,5 @@
 -- What a look shows of an office.
-use Rattle.std.specs.Prelude.{ℕ, ◌≡◌, ◌↔◌, length, IfSome, IsSome, IsTrue, MatchOption}
+use Rattle.std.specs.Prelude.{◌≡◌, ◌↔◌, length, IfSome, IsSome, IsTrue, MatchOption}
 use Rattle.fleet_bound.specs.Arriving.{IsIdleWithin}
 use Rattle.fleet_bound.specs.Idle.{idle_ticks, longest_after}
 use Rattle.fleet_grid.specs.Counts.{floor_count}

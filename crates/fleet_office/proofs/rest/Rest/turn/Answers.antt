@@ -1,4 +1,4 @@
-use Rattle.std.proofs.Common.{◌≡◌, ◌∙◌, arith, length}
+use Rattle.std.proofs.Common.{◌≡◌, arith, length}
 use Rattle.fleet_office.specs.Hall.{given_count}
 use Rattle.fleet_office.proofs.Counted.{first-given, ticks-given}
 use Rattle.fleet_office.proofs.rest.Rest.turn.Goals as goal
