@@ -1,0 +1,49 @@
+//! The steps of a chapter, one after another.
+
+use crate::placement::is_placement;
+use fleet_check::{StepFault, check_step};
+use fleet_grid::Grid;
+use fleet_history::{Chapter, Entry};
+use std::alloc::{AllocError, Global};
+
+/// What is found of a chapter's steps.
+#[derive(Clone, Copy, Debug, PartialEq, Eq)]
+pub enum Finding {
+    /// Each of so many is conflict-free.
+    ConflictFree { steps: u32 },
+    /// The step of this number, from 1, is not.
+    Refused { step: u32, fault: StepFault },
+    /// The step of this number does not begin with distinct floor cells.
+    Misplaced { step: u32 },
+}
+
+/// Where the robots stand at the opening.
+fn cells_of(alloc: Global, chapter: &Chapter) -> Result<Vec<u32>, AllocError> {
+    let mut cells = Vec::new(alloc);
+    for robot in chapter.opening.robots.as_slice() {
+        cells.push(robot.cell)?;
+    }
+    Ok(cells)
+}
+
+/// Judges each step of a chapter by itself.
+pub fn walk(alloc: Global, grid: &Grid, chapter: &Chapter) -> Result<Finding, AllocError> {
+    let mut from = cells_of(alloc, chapter)?;
+    let mut step = 0u32;
+    for entry in &chapter.entries {
+        let Entry::Tick { to, .. } = entry else {
+            continue;
+        };
+        step = step.saturating_add(1);
+        if !is_placement(grid, &from) {
+            return Ok(Finding::Misplaced { step });
+        }
+        match check_step(alloc, grid, &from, to.as_slice()) {
+            Ok(()) => {}
+            Err(StepFault::NoMemory) => return Err(AllocError),
+            Err(fault) => return Ok(Finding::Refused { step, fault }),
+        }
+        from = Vec::from_slice(alloc, to.as_slice())?;
+    }
+    Ok(Finding::ConflictFree { steps: step })
+}

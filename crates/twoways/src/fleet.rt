@@ -1,0 +1,178 @@
+//! A fleet as the rules see it.
+
+use fleet_book::{Order, Verdict};
+use fleet_history::{ClientState, Entry, Opening, RobotState};
+use fleet_hooks::StampLaw;
+use fleet_queue::Errand;
+use std::alloc::{AllocError, Global};
+
+/// A robot under way.
+#[derive(Drop)]
+pub struct Robot {
+    pub cell: u32,
+    pub shut: bool,
+    pub wait: Option<u64>,
+    /// Its unfinished errands, from the front on.
+    pub errands: Vec<Errand>,
+    pub arrival_law: StampLaw,
+    pub farewell_law: StampLaw,
+}
+
+/// A fleet under way.
+#[derive(Drop)]
+pub struct Fleet {
+    pub tick: u64,
+    pub queue: u32,
+    pub life: u64,
+    pub clients: Vec<ClientState>,
+    pub robots: Vec<Robot>,
+}
+
+impl Robot {
+    /// The robot at an opening.
+    fn of(alloc: Global, state: &RobotState) -> Result<Robot, AllocError> {
+        Ok(Robot {
+            cell: state.cell,
+            shut: state.shut,
+            wait: state.wait,
+            errands: Vec::from_slice(alloc, state.errands.as_slice())?,
+            arrival_law: state.arrival_law,
+            farewell_law: state.farewell_law,
+        })
+    }
+
+    /// The cell that it is to go to.
+    pub fn goal(&self) -> Option<u32> {
+        self.errands.first().map(|errand| errand.cell)
+    }
+
+    /// Adds an errand, whose wait begins where it is the front.
+    fn add(&mut self, errand: Errand) -> Result<(), AllocError> {
+        if self.errands.is_empty() {
+            self.wait = Some(0);
+        }
+        self.errands.push(errand)?;
+        Ok(())
+    }
+
+    /// Drops the client's errand of this number.
+    fn withdraw(&mut self, client: u32, number: u64) {
+        self.errands.retain(|errand| errand.client != client || errand.number != number);
+    }
+
+    /// Moves to a cell. The result is the client of the errand that it arrives with.
+    fn land(&mut self, cell: u32) -> Option<u32> {
+        self.cell = cell;
+        if self.goal() != Some(cell) {
+            self.wait = self.wait.map(|wait| wait.saturating_add(1));
+            return None;
+        }
+        let client = self.errands.first().map(|errand| errand.client);
+        if !self.errands.is_empty() {
+            self.errands.remove(0);
+        }
+        self.wait = if self.errands.is_empty() {
+            None
+        } else {
+            Some(0)
+        };
+        client
+    }
+}
+
+impl Fleet {
+    /// The fleet at an opening.
+    pub fn of(alloc: Global, opening: &Opening) -> Result<Fleet, AllocError> {
+        let mut robots = Vec::new(alloc);
+        for state in opening.robots.as_slice() {
+            robots.push(Robot::of(alloc, state)?)?;
+        }
+        Ok(Fleet {
+            tick: opening.tick,
+            queue: opening.queue,
+            life: opening.life,
+            clients: Vec::from_slice(alloc, opening.clients.as_slice())?,
+            robots,
+        })
+    }
+
+    /// The robot of this number.
+    pub fn robot(&self, robot: u32) -> Option<&Robot> {
+        self.robots.get(robot as usize)
+    }
+
+    /// Tells a client once more.
+    fn tell(&mut self, client: u32) {
+        if let Some(state) = self.clients.get_mut(client as usize) {
+            state.noticed = state.noticed.saturating_add(1);
+        }
+    }
+
+    fn accept(&mut self, client: u32, number: u64, order: Order) -> Result<(), AllocError> {
+        let Order::Go { robot, cell } = order else {
+            return Ok(());
+        };
+        if let Some(state) = self.clients.get_mut(client as usize) {
+            state.accepted = number;
+        }
+        if let Some(robot) = self.robots.get_mut(robot as usize) {
+            robot.add(Errand {
+                client,
+                number,
+                cell,
+            })?;
+        }
+        Ok(())
+    }
+
+    /// What a legal take makes of the fleet.
+    fn take(&mut self, client: u32, order: Order, verdict: Verdict) -> Result<(), AllocError> {
+        self.tell(client);
+        if let Some(state) = self.clients.get_mut(client as usize) {
+            state.taken = state.taken.saturating_add(1);
+            state.closed |= verdict == Verdict::Closed;
+        }
+        if let Verdict::Accepted(number) = verdict {
+            self.accept(client, number, order)?;
+        }
+        if let (Verdict::Withdrawn, Order::Withdraw { number }) = (verdict, order) {
+            for robot in self.robots.iter_mut() {
+                robot.withdraw(client, number);
+            }
+        }
+        Ok(())
+    }
+
+    /// What a legal tick makes of the fleet.
+    fn land(&mut self, to: &[u32]) {
+        self.tick = self.tick.saturating_add(1);
+        for at in 0..to.len() {
+            let cell = to[at];
+            let arrived = match self.robots.get_mut(at) {
+                Some(robot) => robot.land(cell),
+                None => None,
+            };
+            if let Some(client) = arrived {
+                self.tell(client);
+            }
+        }
+    }
+
+    /// What a legal entry makes of the fleet.
+    pub fn enter(&mut self, entry: &Entry) -> Result<(), AllocError> {
+        match entry {
+            Entry::Take {
+                client,
+                order,
+                verdict,
+            } => self.take(*client, *order, *verdict)?,
+            Entry::Tick { to, .. } => self.land(to.as_slice()),
+            Entry::Shut { robot, .. } => {
+                if let Some(robot) = self.robots.get_mut(*robot as usize) {
+                    robot.shut = true;
+                }
+            }
+        }
+        Ok(())
+    }
+}

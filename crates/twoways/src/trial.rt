@@ -1,0 +1,115 @@
+//! The trials of a seed.
+
+use crate::compare::compare;
+use crate::count::Count;
+use crate::damage::{numbers_in, with_other_bytes, with_other_number};
+use crate::later::later_chapter;
+use crate::random::Random;
+use crate::script::{Texts, texts_of};
+use crate::site::Site;
+use fleet_grid::Grid;
+use fleet_map::read_map;
+use fleet_program::{Job, run_with_kit};
+use fleet_trace::{read_trace, write_trace};
+use std::alloc::{Alloc, AllocError, Global};
+use std::sync::Wait;
+use std::thread::Threads;
+
+/// How often the bytes of each trace are damaged.
+const BYTE_DAMAGES: u32 = 10;
+
+/// The trace that the program writes of a world.
+fn trace_of<R: Alloc<A = Global> + Threads + Sync + Wait>(
+    rt: &R,
+    texts: &Texts,
+) -> Result<Vec<u8>, AllocError> {
+    let alloc = rt.alloc();
+    let job = Job::Run {
+        first: String::from_str(alloc, "map")?,
+        second: String::from_str(alloc, "script")?,
+        trace: true,
+    };
+    let (mut map, mut script) = (texts.map.as_bytes(), texts.script.as_bytes());
+    let mut output = Vec::new(alloc);
+    let mut complaint = Vec::new(alloc);
+    run_with_kit(
+        rt,
+        &job,
+        &mut map,
+        Some(&mut script),
+        &mut output,
+        &mut complaint,
+    );
+    Ok(output)
+}
+
+/// Damages each number of a trace once, and its bytes several times.
+fn damage(
+    alloc: Global,
+    grid: &Grid,
+    site: &Site,
+    random: &mut Random,
+    text: &[u8],
+    count: &mut Count,
+) -> Result<(), AllocError> {
+    for place in &numbers_in(alloc, text)? {
+        let damaged = with_other_number(alloc, random, text, *place)?;
+        count.add_number(compare(alloc, grid, site, &damaged)?);
+    }
+    for _time in 0..BYTE_DAMAGES {
+        let damaged = with_other_bytes(alloc, random, text)?;
+        count.add_bytes(compare(alloc, grid, site, &damaged)?);
+    }
+    Ok(())
+}
+
+/// The text of a later chapter of a trace. None where it is no trace.
+fn later_text(
+    alloc: Global,
+    random: &mut Random,
+    text: &[u8],
+) -> Result<Option<String>, AllocError> {
+    let Ok(chapter) = read_trace(alloc, text) else {
+        return Ok(None);
+    };
+    let behind = random.below(chapter.entries.len() as u64) as usize;
+    let later = later_chapter(alloc, chapter, behind)?;
+    Ok(Some(write_trace(alloc, &later)?))
+}
+
+/// Judges a world's trace and a later chapter of it, and their damages.
+fn try_trace(
+    alloc: Global,
+    grid: &Grid,
+    site: &Site,
+    random: &mut Random,
+    text: &[u8],
+    count: &mut Count,
+) -> Result<(), AllocError> {
+    count.add_world(compare(alloc, grid, site, text)?);
+    damage(alloc, grid, site, random, text, count)?;
+    if let Some(later) = later_text(alloc, random, text)? {
+        let later = later.as_bytes();
+        count.add_later(compare(alloc, grid, site, later)?);
+        damage(alloc, grid, site, random, later, count)?;
+    }
+    Ok(())
+}
+
+/// The trials of one seed.
+pub fn try_seed<R: Alloc<A = Global> + Threads + Sync + Wait>(
+    rt: &R,
+    seed: u64,
+    count: &mut Count,
+) -> Result<(), AllocError> {
+    let alloc = rt.alloc();
+    let mut random = Random::from_seed(seed);
+    let texts = texts_of(alloc, &mut random)?;
+    let text = trace_of(rt, &texts)?;
+    let Ok(map) = read_map(alloc, texts.map.as_bytes()) else {
+        return Ok(());
+    };
+    let site = Site::new(alloc, &map)?;
+    let grid = Grid::new(map)?;
+    try_trace(alloc, &grid, &site, &mut random, &text, count)
+}
