@@ -1,0 +1,161 @@
+//! What a serve came to.
+
+use fleet_book::{Event, Notice, Verdict};
+use fleet_grid::Grid;
+use fleet_history::{Chapter, Entry};
+use fleet_serve::Served;
+use fleet_trace::{JudgeFault, TraceFault, judge, read_trace, write_trace};
+use std::alloc::{AllocError, Global};
+
+/// What a serve came to.
+#[derive(Clone, Copy, Debug, PartialEq, Eq)]
+pub struct Came {
+    /// Posts that met a full lane.
+    pub lane_full: u64,
+    /// Orders taken, errands accepted and withdrawn, and arrivals.
+    pub takes: u64,
+    pub accepted: u64,
+    pub withdrawn: u64,
+    pub arrivals: u64,
+    /// Whether the office handed out a map with the sides and the floor of the one that it was given.
+    pub same_map: bool,
+    /// Whether the trace, as it is printed, reads and is legal.
+    pub legal: bool,
+    /// Whether what each client was left with is the end of its notices.
+    pub told: bool,
+}
+
+/// Whether the maps have the same sides and floor.
+fn is_same_map(one: &Grid, other: &Grid) -> bool {
+    if one.height() != other.height() || one.width() != other.width() {
+        return false;
+    }
+    for cell in 0..one.cell_count() {
+        if one.is_floor(cell) != other.is_floor(cell) {
+            return false;
+        }
+    }
+    true
+}
+
+/// Whether the trace of the chapter, as it is printed, reads and is legal on the map.
+fn is_legal(alloc: Global, grid: &Grid, chapter: &Chapter) -> Result<bool, AllocError> {
+    let text = write_trace(alloc, chapter)?;
+    let chapter = match read_trace(alloc, text.as_bytes()) {
+        Ok(chapter) => chapter,
+        Err(TraceFault::NoMemory) => return Err(AllocError),
+        Err(_) => return Ok(false),
+    };
+    match judge(alloc, grid, &chapter) {
+        Ok(()) => Ok(true),
+        Err(JudgeFault::NoMemory) => Err(AllocError),
+        Err(JudgeFault::Illegal { .. }) => Ok(false),
+    }
+}
+
+/// How many notices the chapter makes for the client.
+fn notices_of(chapter: &Chapter, own: u32) -> u64 {
+    let mut count = 0u64;
+    for entry in &chapter.entries {
+        match entry {
+            Entry::Take { client, .. } if *client == own => count = count.saturating_add(1),
+            Entry::Tick { arrived, .. } => {
+                for arrival in arrived.as_slice() {
+                    if arrival.client == own {
+                        count = count.saturating_add(1);
+                    }
+                }
+            }
+            _ => {}
+        }
+    }
+    count
+}
+
+fn number_of(notice: Notice) -> u64 {
+    match notice {
+        Notice::Verdict { seq, .. } | Notice::Arrived { seq, .. } => seq,
+    }
+}
+
+/// Whether these are the last of so many notices, each once and in order.
+fn are_last(rest: &[Notice], count: u64) -> bool {
+    let mut last = count;
+    for notice in rest.iter().rev() {
+        if last == 0 || number_of(*notice) != last {
+            return false;
+        }
+        last -= 1;
+    }
+    true
+}
+
+/// Whether what each client was left with is the end of its notices.
+fn are_told(chapter: &Chapter, rest: &[Vec<Notice>]) -> bool {
+    if rest.len() != chapter.opening.clients.len() {
+        return false;
+    }
+    let mut client = 0u32;
+    for notices in rest {
+        if !are_last(notices, notices_of(chapter, client)) {
+            return false;
+        }
+        client = client.saturating_add(1);
+    }
+    true
+}
+
+impl Came {
+    /// What a serve on that map came to.
+    pub(crate) fn of(alloc: Global, grid: &Grid, served: &Served) -> Result<Came, AllocError> {
+        let last = &served.last;
+        let mut came = Came {
+            lane_full: u64::from(served.lane_full),
+            takes: 0,
+            accepted: 0,
+            withdrawn: 0,
+            arrivals: 0,
+            same_map: is_same_map(grid, &last.grid),
+            legal: is_legal(alloc, grid, &last.chapter)?,
+            told: are_told(&last.chapter, &last.rest),
+        };
+        for entry in &last.chapter.entries {
+            came.count(entry);
+        }
+        Ok(came)
+    }
+
+    /// Counts one more entry.
+    fn count(&mut self, entry: &Entry) {
+        match entry {
+            Entry::Take { verdict, .. } => {
+                self.takes = self.takes.saturating_add(1);
+                match verdict {
+                    Verdict::Accepted(_) => self.accepted = self.accepted.saturating_add(1),
+                    Verdict::Withdrawn => self.withdrawn = self.withdrawn.saturating_add(1),
+                    _ => {}
+                }
+            }
+            Entry::Tick { arrived, .. } => {
+                self.arrivals = self.arrivals.saturating_add(arrived.len() as u64);
+            }
+            Entry::Shut { .. } => {}
+        }
+    }
+
+    /// Errands that have neither arrived nor been withdrawn.
+    pub(crate) fn unfinished(&self) -> u64 {
+        self.accepted
+            .saturating_sub(self.arrivals)
+            .saturating_sub(self.withdrawn)
+    }
+
+    /// Whether each of the script's posts, none of which stands behind a close of its client, is accounted for.
+    pub(crate) fn accounts_for(&self, events: &[Event]) -> bool {
+        let posts = events
+            .iter()
+            .filter(|event| matches!(event, Event::Post(..)))
+            .count() as u64;
+        self.told && self.takes.saturating_add(self.lane_full) == posts
+    }
+}

@@ -1,0 +1,82 @@
+//! What holds the clients' threads of a row, and the closure that holds a tick.
+
+use fleet_serve::Gate;
+use std::sync::atomic::{AtomicU64, Ordering};
+use std::thread;
+
+/// How often a thread looks for a flag at most.
+const MOST_TRIES: u64 = 200_000_000;
+
+/// Who is held.
+#[derive(Clone, Copy, Debug, PartialEq, Eq)]
+pub enum Hold {
+    Nobody,
+    /// Each of two clients at its first line, until the other's is reached.
+    FirstLines,
+    /// The client at its first line until the first tick has called a tie closure, and that closure until the third line.
+    LineAndTick,
+}
+
+/// The flags of those who are held.
+#[derive(Debug, Drop)]
+pub struct Flags {
+    hold: Hold,
+    /// The first lines that were reached.
+    first: AtomicU64,
+    /// The third lines that were reached.
+    third: AtomicU64,
+    /// Whether a tie closure was called.
+    called: AtomicU64,
+    /// Those who were let go by no flag.
+    missed: AtomicU64,
+}
+
+impl Flags {
+    pub(crate) fn new(hold: Hold) -> Flags {
+        Flags {
+            hold,
+            first: AtomicU64::new(0),
+            third: AtomicU64::new(0),
+            called: AtomicU64::new(0),
+            missed: AtomicU64::new(0),
+        }
+    }
+
+    /// Waits until the flag is at least so much.
+    fn wait_for(&self, flag: &AtomicU64, least: u64) {
+        for _ in 0..MOST_TRIES {
+            if flag.load(Ordering::SeqCst) >= least {
+                return;
+            }
+            thread::yield_now();
+        }
+        self.missed.fetch_add(1, Ordering::SeqCst);
+    }
+
+    /// What a tie closure does: where a tick is held, its first call waits.
+    pub(crate) fn stand(&self) {
+        if self.hold != Hold::LineAndTick || self.called.swap(1, Ordering::SeqCst) == 1 {
+            return;
+        }
+        self.wait_for(&self.third, 1);
+    }
+
+    /// Whether all that were held were let go by a flag.
+    pub(crate) fn is_met(&self) -> bool {
+        self.missed.load(Ordering::SeqCst) == 0
+    }
+}
+
+impl Gate for Flags {
+    fn before(&self, _client: u32, line: u32) {
+        match (self.hold, line) {
+            (Hold::FirstLines, 1) => {
+                self.first.fetch_add(1, Ordering::SeqCst);
+                self.wait_for(&self.first, 2);
+            }
+            (Hold::LineAndTick, 1) => self.wait_for(&self.called, 1),
+            (Hold::LineAndTick, 3) => self.third.store(1, Ordering::SeqCst),
+            _ => {}
+        }
+    }
+}
