@@ -1,0 +1,40 @@
+//! The rows of a text.
+
+use fleet_map::text::first_line;
+
+/// A row: its name, and a bundle of a map and a script.
+#[derive(Clone, Copy, Debug)]
+pub struct Case<'a> {
+    pub name: &'a str,
+    pub map: &'a [u8],
+    pub script: &'a [u8],
+}
+
+/// The text before the first line that begins so, that line behind its beginning, and the text behind the line.
+fn split_at<'a>(text: &'a [u8], start: &[u8]) -> Option<(&'a [u8], &'a [u8], &'a [u8])> {
+    let mut rest = text;
+    for _line in 0..text.len() {
+        let (line, after) = first_line(rest)?;
+        if let Some(tail) = line.strip_prefix(start) {
+            let before = text.len().saturating_sub(rest.len());
+            return Some((&text[..before.min(text.len())], tail, after));
+        }
+        rest = after;
+    }
+    None
+}
+
+/// The first row of the text, and the text behind it.
+pub fn next_case(text: &[u8]) -> Option<(Case<'_>, &[u8])> {
+    let (_, name, behind) = split_at(text, b"= ")?;
+    let (map, _, rest) = split_at(behind, b"script")?;
+    let script = match split_at(rest, b"= ") {
+        Some((script, _, _)) => script,
+        None => rest,
+    };
+    let name = str::from_utf8(name).ok()?;
+    Some((
+        Case { name, map, script },
+        &rest[script.len().min(rest.len())..],
+    ))
+}
