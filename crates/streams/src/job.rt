@@ -4,6 +4,7 @@ use crate::sink::Sink;
 use crate::source::Source;
 use fleet_program::{Job, run_with_kit};
 use std::alloc::{Alloc, AllocError, Global};
+use std::sync::Wait;
 use std::thread::Threads;
 
 /// What the program wrote, and its status.
@@ -15,7 +16,7 @@ pub struct Outcome {
 }
 
 /// What a run of the script on the map comes to with these readers and writers, by lines or by its trace.
-pub fn run_job<'x, R: Alloc<A = Global> + Threads + Sync>(
+pub fn run_job<'x, R: Alloc<A = Global> + Threads + Sync + Wait>(
     rt: &R,
     trace: bool,
     readers: (Source<'x>, Source<'x>),

@@ -14,11 +14,12 @@ use case::next_case;
 use fleet_program::{InputFault, read_whole, write_whole};
 use std::alloc::{Alloc, AllocError, Global};
 use std::process::ExitCode;
+use std::sync::Wait;
 use std::thread::Threads;
 use trial::tell;
 
 /// What is told of each row of the text.
-fn tell_all<R: Alloc<A = Global> + Threads + Sync>(
+fn tell_all<R: Alloc<A = Global> + Threads + Sync + Wait>(
     rt: &R,
     text: &[u8],
 ) -> Result<String, AllocError> {

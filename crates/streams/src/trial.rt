@@ -6,6 +6,7 @@ use crate::sink::Sink;
 use crate::source::Source;
 use std::alloc::{Alloc, AllocError, Global};
 use std::fmt::Write;
+use std::sync::Wait;
 use std::thread::Threads;
 
 /// More bytes than anything writes.
@@ -30,7 +31,7 @@ fn open_sink(alloc: Global) -> Sink {
 }
 
 /// The row with other readers.
-fn read_by<'x, R: Alloc<A = Global> + Threads + Sync>(
+fn read_by<'x, R: Alloc<A = Global> + Threads + Sync + Wait>(
     rt: &R,
     good: Good<'_>,
     map: Source<'x>,
@@ -56,7 +57,7 @@ fn is_same(met: &Outcome, wanted: &Outcome) -> bool {
 }
 
 /// Reads of one byte: the same comes out.
-fn byte_by_byte<R: Alloc<A = Global> + Threads + Sync>(
+fn byte_by_byte<R: Alloc<A = Global> + Threads + Sync + Wait>(
     rt: &R,
     good: Good<'_>,
 ) -> Result<bool, AllocError> {
@@ -72,7 +73,7 @@ fn byte_by_byte<R: Alloc<A = Global> + Threads + Sync>(
 }
 
 /// Each read of a byte fails in turn, the one that finds the end of the file too.
-fn each_read<R: Alloc<A = Global> + Threads + Sync>(
+fn each_read<R: Alloc<A = Global> + Threads + Sync + Wait>(
     rt: &R,
     good: Good<'_>,
 ) -> Result<bool, AllocError> {
@@ -98,7 +99,7 @@ fn each_read<R: Alloc<A = Global> + Threads + Sync>(
 }
 
 /// Each write fails in turn, or takes no byte: a front of the output is written, and a file failed.
-fn each_write<R: Alloc<A = Global> + Threads + Sync>(
+fn each_write<R: Alloc<A = Global> + Threads + Sync + Wait>(
     rt: &R,
     good: Good<'_>,
     fails: bool,
@@ -118,7 +119,7 @@ fn each_write<R: Alloc<A = Global> + Threads + Sync>(
 }
 
 /// Each write of the complaint fails in turn: the status stays, and so does a front of the complaint.
-fn each_complaint<R: Alloc<A = Global> + Threads + Sync>(
+fn each_complaint<R: Alloc<A = Global> + Threads + Sync + Wait>(
     rt: &R,
     good: Good<'_>,
 ) -> Result<bool, AllocError> {
@@ -139,7 +140,7 @@ fn each_complaint<R: Alloc<A = Global> + Threads + Sync>(
 
 /// A script that goes on with line feeds: to the greatest length of a file the same comes out, with one byte more a file
 /// failed, and so it does where it never ends.
-fn long_files<R: Alloc<A = Global> + Threads + Sync>(
+fn long_files<R: Alloc<A = Global> + Threads + Sync + Wait>(
     rt: &R,
     good: Good<'_>,
 ) -> Result<bool, AllocError> {
@@ -178,7 +179,7 @@ fn write_found(
 }
 
 /// Tells of one job on a row. Long files are read for the lines alone, since they take long.
-fn tell_job<R: Alloc<A = Global> + Threads + Sync>(
+fn tell_job<R: Alloc<A = Global> + Threads + Sync + Wait>(
     rt: &R,
     good: Good<'_>,
     told: &mut String,
@@ -197,7 +198,7 @@ fn tell_job<R: Alloc<A = Global> + Threads + Sync>(
 }
 
 /// Tells of a row, by its lines and by its trace.
-pub fn tell<R: Alloc<A = Global> + Threads + Sync>(
+pub fn tell<R: Alloc<A = Global> + Threads + Sync + Wait>(
     rt: &R,
     case: Case<'_>,
     told: &mut String,
