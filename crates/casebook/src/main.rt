@@ -13,10 +13,11 @@ use fleet_program::{InputFault, read_whole, write_whole};
 use outcome::tell;
 use std::alloc::{Alloc, AllocError, Global};
 use std::process::ExitCode;
+use std::sync::Wait;
 use std::thread::Threads;
 
 /// What came out of each case of the text.
-fn tell_all<R: Alloc<A = Global> + Threads + Sync>(
+fn tell_all<R: Alloc<A = Global> + Threads + Sync + Wait>(
     rt: &R,
     text: &[u8],
 ) -> Result<Vec<u8>, AllocError> {

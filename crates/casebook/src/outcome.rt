@@ -6,6 +6,7 @@ ghost use Rattle.fleet_program.specs.Told.{names_two};
 use crate::case::Case;
 use fleet_program::{InputFault, Job, WordFault, fail, parse_words, run_with_kit};
 use std::alloc::{Alloc, AllocError, Global};
+use std::sync::Wait;
 use std::thread::Threads;
 
 /// What the program wrote, and its status.
@@ -17,7 +18,7 @@ struct Outcome {
 }
 
 /// Does a job on the files of these names. The result is the status.
-fn run_on<R: Alloc<A = Global> + Threads + Sync>(
+fn run_on<R: Alloc<A = Global> + Threads + Sync + Wait>(
     rt: &R,
     case: &Case,
     job: &Job,
@@ -34,7 +35,7 @@ fn run_on<R: Alloc<A = Global> + Threads + Sync>(
 }
 
 /// Does the job of a case. The result is the status.
-fn run_job<R: Alloc<A = Global> + Threads + Sync>(
+fn run_job<R: Alloc<A = Global> + Threads + Sync + Wait>(
     rt: &R,
     case: &Case,
     job: &Job,
@@ -58,7 +59,7 @@ fn run_job<R: Alloc<A = Global> + Threads + Sync>(
             let names = (first.as_str(), second.as_str());
             run_on(rt, case, job, names, output, complaint)
         }
-        Job::Judge { first, second } => {
+        Job::Judge { first, second } | Job::Serve { first, second } => {
             let names = (first.as_str(), second.as_str());
             run_on(rt, case, job, names, output, complaint)
         }
@@ -66,7 +67,7 @@ fn run_job<R: Alloc<A = Global> + Threads + Sync>(
 }
 
 /// What comes out of a case. The text of words that are refused is `clap`'s own, and left out.
-fn outcome_of<R: Alloc<A = Global> + Threads + Sync>(
+fn outcome_of<R: Alloc<A = Global> + Threads + Sync + Wait>(
     rt: &R,
     case: &Case,
 ) -> Result<Outcome, AllocError> {
@@ -102,7 +103,7 @@ fn write_marked(told: &mut Vec<u8>, mark: u8, text: &[u8]) -> Result<(), AllocEr
 }
 
 /// Tells what came out of a case, where it is one.
-pub(crate) fn tell<R: Alloc<A = Global> + Threads + Sync>(
+pub(crate) fn tell<R: Alloc<A = Global> + Threads + Sync + Wait>(
     rt: &R,
     case: &Case,
     told: &mut Vec<u8>,
