@@ -6,7 +6,7 @@ use fleet_book::Limits;
 
 /// A client that is not handed in.
 pub const MISSING_CLIENT: Case = Case {
-    name: "missing_client",
+    name: "conclude_faults_missing",
     steps: &[
         Step::Post(0, TO_1),
         Step::Conclude(0, 1),
@@ -17,14 +17,14 @@ pub const MISSING_CLIENT: Case = Case {
 
 /// A ticker that made no tick may stay away.
 pub const IDLE_TICKER: Case = Case {
-    name: "idle_ticker",
+    name: "conclude_faults_idle_ticker",
     steps: &[Step::Post(0, TO_1), Step::Conclude(1, 0)],
     ..TWO_CELLS
 };
 
 /// Two tickers make turns, and one of them is not handed in.
 pub const TWO_TICKERS: Case = Case {
-    name: "two_tickers",
+    name: "conclude_faults_tickers",
     steps: &[
         Step::Post(0, TO_1),
         Step::Split(0),
@@ -40,7 +40,7 @@ pub const TWO_TICKERS: Case = Case {
 
 /// The clock is spent after one tick: later turns take and give.
 pub const SPENT_CLOCK: Case = Case {
-    name: "spent_clock",
+    name: "office_spent_clock",
     limits: Limits {
         clock: 1,
         ..Limits::DEFAULT
@@ -58,7 +58,7 @@ pub const SPENT_CLOCK: Case = Case {
 
 /// An outlet of one notice.
 pub const SMALL_OUTLET: Case = Case {
-    name: "small_outlet",
+    name: "office_small_outlet",
     limits: Limits {
         outlet: 1,
         ..Limits::DEFAULT
@@ -78,7 +78,7 @@ pub const SMALL_OUTLET: Case = Case {
 
 /// A full chapter at the end, and a next one.
 pub const NEXT_CHAPTER: Case = Case {
-    name: "next_chapter",
+    name: "office_next_chapter",
     limits: Limits {
         chapter: 1,
         chapters: 2,
@@ -96,7 +96,7 @@ pub const NEXT_CHAPTER: Case = Case {
 
 /// One of two clients is handed in, then both.
 pub const SECOND_CLIENT: Case = Case {
-    name: "second_client",
+    name: "office_second_client",
     clients: 2,
     steps: &[Step::Conclude(1, 1), Step::Conclude(2, 1)],
     ..TWO_CELLS
@@ -104,7 +104,7 @@ pub const SECOND_CLIENT: Case = Case {
 
 /// A chapter that is full before the tick.
 pub const FULL_CHAPTER: Case = Case {
-    name: "full_chapter",
+    name: "office_full_chapter",
     limits: Limits {
         chapter: 1,
         chapters: 1,
@@ -116,7 +116,7 @@ pub const FULL_CHAPTER: Case = Case {
 
 /// A mailbox that has room for one order at a time.
 pub const SMALL_MAILBOX: Case = Case {
-    name: "small_mailbox",
+    name: "office_small_mailbox",
     limits: Limits {
         mailbox: 2,
         ..Limits::DEFAULT

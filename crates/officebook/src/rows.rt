@@ -75,7 +75,7 @@ const BACK_PRESSURE_IN_HALL: Case = Case {
 
 /// A full lane has room again after a turn.
 const LANE_OF_TWO: Case = Case {
-    name: "lane_of_two",
+    name: "lane_and_numbers_full_lane",
     limits: Limits {
         lane: 2,
         ..Limits::DEFAULT
@@ -92,7 +92,7 @@ const LANE_OF_TWO: Case = Case {
 
 /// The last number is kept for Close.
 const SPENT_NUMBERS: Case = Case {
-    name: "spent_numbers",
+    name: "lane_and_numbers_spent",
     limits: Limits {
         orders: 2,
         ..Limits::DEFAULT
@@ -103,7 +103,7 @@ const SPENT_NUMBERS: Case = Case {
 
 /// The smallest rings, over and over.
 const THOUSAND_ROUNDS: Case = Case {
-    name: "thousand_rounds",
+    name: "lane_and_numbers_rounds",
     limits: Limits {
         lane: 1,
         outlet: 2,
@@ -122,7 +122,7 @@ const THOUSAND_ROUNDS: Case = Case {
 
 /// Nothing is sent behind Close.
 const CLOSED_CLIENT: Case = Case {
-    name: "closed_client",
+    name: "close_and_shut_client",
     steps: &[
         Step::Post(0, TO_1),
         Step::Close(0),
@@ -139,7 +139,7 @@ const CLOSED_CLIENT: Case = Case {
 
 /// An idle robot's farewell is called at its shut, and it takes no further errands.
 pub const SHUT_ROBOT: Case = Case {
-    name: "shut_robot",
+    name: "close_and_shut_robot",
     steps: &[
         Step::Shut(0),
         Step::Shut(0),
@@ -154,7 +154,7 @@ pub const SHUT_ROBOT: Case = Case {
 
 /// Two chapters of one entry each.
 const TWO_CHAPTERS: Case = Case {
-    name: "two_chapters",
+    name: "clock_and_chapter",
     limits: Limits {
         chapter: 1,
         chapters: 2,
