@@ -5,7 +5,7 @@ set -euo pipefail
 here=$(cd "$(dirname "$0")" && pwd)
 bench=${1:-}
 if [ -z "$bench" ]; then
-  (cd "$here/.." && rt check >&2)
+  (cd "$here/.." && rt run >&2)
   bench=$here/../out/bench
 fi
 out=$(mktemp -d)
