@@ -1,23 +1,25 @@
 #!/usr/bin/env bash
 # Measures `bench` beside the same kernels in C++: builds both, runs them in turn for five rounds, takes the least of each, and
 # prints one table, in nanoseconds by thing (cell, or robot and tick). Give the path of the built `bench`, or none to build it.
+# KERNELS and ROUNDS may stand in the environment.
 set -euo pipefail
 here=$(cd "$(dirname "$0")" && pwd)
 bench=${1:-}
 if [ -z "$bench" ]; then
-  (cd "$here/.." && rt check >&2)
+  (cd "$here/.." && rt run >&2)
   bench=$here/../out/bench
 fi
 out=$(mktemp -d)
 trap 'rm -r "$out"' EXIT
 g++ -O3 -march=native -std=c++17 -pthread -o "$out/search" "$here/search.cpp"
-for round in 1 2 3 4 5; do
+rounds=${ROUNDS:-5}
+for _ in $(seq "$rounds"); do
   for kernel in ${KERNELS:-field fields bridge step lifelong}; do
     "$bench" "$kernel" | sed 's/^/ours /' >> "$out/lines"
     "$out/search" "$kernel" | sed 's/^/peer /' >> "$out/lines"
   done
 done
-echo "# peer: compare/search.cpp, $(g++ -dumpfullversion) -O3 -march=native; least of 5 rounds; load $(cut -d' ' -f1 /proc/loadavg)"
+echo "# peer: compare/search.cpp, $(g++ -dumpfullversion) -O3 -march=native; least of $rounds rounds; load $(cut -d' ' -f1 /proc/loadavg)"
 echo "kernel map fleet ours peer ratio"
 awk '
   {

@@ -1,7 +1,8 @@
 -- An edge beside a square of floor lies on a ring of four cells, and so is no bridge.
-use Rattle.std.proofs.Common.{◌≡◌, ◌≢◌, ℕ, ◌+◌, ◌*◌, ◌/◌, ◌<◌, ◌≤◌, List, length, sym, ap, subst, ◌∙◌, arith}
+use Rattle.std.proofs.Common.{◌≡◌, ◌≢◌, ℕ, ◌+◌, ◌*◌, ◌/◌, ◌<◌, ◌≤◌, ◌⊎◌, inl, inr, List, length, sym, ap, subst, ◌∙◌, arith}
 use Rattle.std.specs.Prelude.{slice_index}
 use Rattle.std.proofs.lemmas.Nat.{mod_below, div_below, mul-le}
+use Rattle.fleet_grid.specs.declared.dir.Dir.{Dir}
 use Rattle.fleet_grid.specs.declared.dir.Dir.TheVariants.{East, South}
 use Rattle.fleet_grid.specs.Floor.{Floor, HasForm, IsFloor, IsNeighbour, IsNeighbourIn}
 use Rattle.fleet_grid.specs.Padded.{IsOpen, IsPadded, place}
@@ -114,30 +115,43 @@ module _ (m : Floor) (s : ℕ) (list : List ℕ) (form : HasForm m) (p : IsPadde
       (omega (arith, at_b, pos, apart)) (omega (arith, e, at_c)) (omega (arith, e, at_b, at_c)) (omega (arith, e, at_d, pos, apart))
 
   -- where no floor is no edge ends
-  pub none_east_wall : (v : ℕ) → slice_index list (v + 1) ≢ 4294967295 → HasNoneBesideAt m s v East
+  none_east_wall : (v : ℕ) → slice_index list (v + 1) ≢ 4294967295 → HasNoneBesideAt m s v East
   none_east_wall v wall c at b n bridge =
       let on = east_place c b n in
       wall (ap (slice_index list) (omega (arith, at, on)) ∙ p.each b n.to)
 
-  pub none_south_wall : (v : ℕ) → slice_index list (v + s) ≢ 4294967295 → HasNoneBesideAt m s v South
+  none_south_wall : (v : ℕ) → slice_index list (v + s) ≢ 4294967295 → HasNoneBesideAt m s v South
   none_south_wall v wall c at b n bridge =
       let on = south_place c b n in
       wall (ap (slice_index list) (omega (arith, at, on)) ∙ p.each b n.to)
 
-  pub none_east_below : (v : ℕ) → IsSquare list s v → HasNoneBesideAt m s v East
+  none_east_below : (v : ℕ) → IsSquare list s v → HasNoneBesideAt m s v East
   none_east_below v q c at b n = east_below c b n (subst (IsSquare list s) at q)
 
-  pub none_east_above : (v u : ℕ) → v ≡ u + s → IsSquare list s u → HasNoneBesideAt m s v East
+  none_east_above : (v u : ℕ) → v ≡ u + s → IsSquare list s u → HasNoneBesideAt m s v East
   none_east_above v u e q c at b n = east_above c b u (sym at ∙ e) n q
 
-  pub none_south_right : (v : ℕ) → IsSquare list s v → HasNoneBesideAt m s v South
+  none_south_right : (v : ℕ) → IsSquare list s v → HasNoneBesideAt m s v South
   none_south_right v q c at b n = south_right c b n (subst (IsSquare list s) at q)
 
-  pub none_south_left : (v u : ℕ) → v ≡ u + 1 → IsSquare list s u → HasNoneBesideAt m s v South
+  none_south_left : (v u : ℕ) → v ≡ u + 1 → IsSquare list s u → HasNoneBesideAt m s v South
   none_south_left v u e q c at b n = south_left c b u (sym at ∙ e) n q
 
-  pub none_at_wall : (v : ℕ) → slice_index list v ≢ 4294967295 → HasNoneAt m s v
-  none_at_wall v wall c at d less bridge = wall (ap (slice_index list) at ∙ p.each c bridge.edge.1.from)
+  none_beside_wall : (v : ℕ) (dir : Dir) → slice_index list v ≢ 4294967295 → HasNoneBesideAt m s v dir
+  none_beside_wall v dir wall c at b n bridge = wall (ap (slice_index list) at ∙ p.each c n.from)
+
+  -- what is left of an edge that is not bare
+  pub none_east : (v u : ℕ) → v ≡ u + s → ((slice_index list v ≢ 4294967295) ⊎ (slice_index list (v + 1) ≢ 4294967295)) ⊎ (IsSquare list s v ⊎ IsSquare list s u) → HasNoneBesideAt m s v East
+  none_east v u e (inl (inl wall)) = none_beside_wall v East wall
+  none_east v u e (inl (inr wall)) = none_east_wall v wall
+  none_east v u e (inr (inl q)) = none_east_below v q
+  none_east v u e (inr (inr q)) = none_east_above v u e q
+
+  pub none_south : (v u : ℕ) → v ≡ u + 1 → ((slice_index list v ≢ 4294967295) ⊎ (slice_index list (v + s) ≢ 4294967295)) ⊎ (IsSquare list s v ⊎ IsSquare list s u) → HasNoneBesideAt m s v South
+  none_south v u e (inl (inl wall)) = none_beside_wall v South wall
+  none_south v u e (inl (inr wall)) = none_south_wall v wall
+  none_south v u e (inr (inl q)) = none_south_right v q
+  none_south v u e (inr (inr q)) = none_south_left v u e q
 
   pub none_at : (v : ℕ) → HasNoneBesideAt m s v East → HasNoneBesideAt m s v South → HasNoneAt m s v
   none_at v east south c at = from_none m c form (east c at) (south c at)

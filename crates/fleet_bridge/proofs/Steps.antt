@@ -124,11 +124,15 @@ module _ (m : Floor) (s : ℕ) (list : List ℕ) (form : HasForm m) (p : IsPadde
       let before = place_before m.width s c spot.cell (wide m spot.cell form here.floor) p.apart less in
       none (place m.width s c) (omega (arith, before, here.at, e)) c refl d lt bridge
 
-  pub none_in_list : (n : ℕ) → length list ≤ n → ((v : ℕ) → v < n → HasNoneAt m s v) → IsBridgeless (IsNeighbour m)
+  pub none_in_list : (n : ℕ) → length list ≤ n + s + 1 → ((v : ℕ) → v < n → HasNoneAt m s v) → IsBridgeless (IsNeighbour m)
   none_in_list n all none =
       none_is m (length m.letters) form (omega arith)
-      (λ c less d lt bridge. (let o = spot_open c (place m.width s c) bridge.edge.1.from refl in
-      none (place m.width s c) (omega (arith, o.0, all)) c refl d lt bridge))
+      (λ c less d lt bridge. (let i = spot_inside c (place m.width s c) bridge.edge.1.from refl in
+      none (place m.width s c) (omega (arith, i.2, all)) c refl d lt bridge))
+
+  -- no cell lies before the first row
+  pub none_above : (v : ℕ) → v < s → HasNoneAt m s v
+  none_above v less c at d lt bridge = (let i = spot_inside c v bridge.edge.1.from at in absurd (omega (arith, i.0, less)))
 
   -- the spot of a place
   pub spot_of : (width v : ℕ) → width ≡ m.width → IsOpen list v → (c : ℕ) × IsFloor m c × (v ≡ place m.width s c) × (0 < s) × (v / s ≡ c / width + 1) × (v % s ≡ c % width) × (c / width * width + c % width ≡ c) × (c < 1048577)

@@ -1,5 +1,5 @@
 -- A map's padded form beside its cells: what lies at a place, and which edges squares of floor clear.
-use Rattle.std.specs.Prelude.{◌≡◌, ℕ, ◌+◌, ◌-◌, List}
+use Rattle.std.specs.Prelude.{◌≡◌, ℕ, ◌+◌, ◌-◌, ◌<◌, ◌≤◌, List, length}
 use Rattle.fleet_grid.specs.Floor.{Floor, HasForm, IsFloor, IsNeighbourIn}
 use Rattle.fleet_grid.specs.declared.dir.Dir.{Dir}
 use Rattle.fleet_grid.specs.declared.dir.Dir.TheVariants.{North, East, South, West}
@@ -45,6 +45,12 @@ pub record IsSquare (list : List ℕ) (stride v : ℕ) : Type 0 where
   pub east : IsOpen list (v + 1)
   pub south : IsOpen list (v + stride)
   pub last : IsOpen list (v + stride + 1)
+
+-- the places around it, and a row and one more behind it, are in the list
+pub record IsInside (list : List ℕ) (stride v : ℕ) : Type 0 where
+  pub row : stride ≤ v
+  pub before : 1 ≤ v
+  pub behind : v + stride + 1 < length list
 
 -- no bridge leads in that direction from the cell at that place
 abbrev pub HasNoneBesideAt : Floor → ℕ → ℕ → Dir → Type 0

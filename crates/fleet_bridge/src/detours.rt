@@ -1,13 +1,13 @@
 //! Short walks around an edge, found by following its walls.
 
-ghost use Rattle.std.specs.Prelude.{◌≡◌, ℕ, IfSome, OnSome, MatchOption};
+ghost use Rattle.std.specs.Prelude.{◌≡◌, ℕ, ◌<◌, ◌≤◌, IfSome, OnSome, MatchOption};
 ghost use Rattle.fleet_grid.specs.Floor.{IsNeighbour, IsNeighbourIn};
 ghost use Rattle.fleet_grid.specs.Walk.{AreJoined, IsBridgeless};
 ghost use Rattle.fleet_bridge.specs.First.{HasNone, HasNoneBeside, HasNoneBelow};
 ghost use Rattle.fleet_bridge.specs.Search.{NearWithout};
-ghost use Rattle.fleet_bridge.specs.Places.{IsLaidOut, IsSpot, IsStep, IsOnWay};
+ghost use Rattle.fleet_bridge.specs.Places.{IsLaidOut, IsSpot, IsStep, IsOnWay, IsInside, HasNoneAt};
 
-use crate::places::{Places, Spot, is_clear, places_of, spot_at, spot_beside};
+use crate::places::{Places, Spot, has_bare, have_bare, places_of, spot_at, spot_beside};
 use crate::search::is_across;
 use fleet_grid::{Dir, Grid};
 use std::alloc::Allocator;
@@ -17,6 +17,9 @@ const LONGEST: u32 = 64;
 
 /// How many steps are looked at in all, by cell of the map.
 const STEPS_BY_CELL: u32 = 8;
+
+/// How many places are looked at together.
+const TOGETHER: usize = 1024;
 
 /// The hand that is kept at the wall.
 #[derive(Clone, Copy)]
@@ -149,26 +152,80 @@ fn steps_around<B: Allocator + Copy>(places: &Places<'_, B>, spot: Spot) -> Opti
     Some(east.saturating_add(south))
 }
 
+/// The first of the places, or one before it, from which an edge leads that is in doubt: `looked` counts the steps that were
+/// looked at, `most` at most.
+fn doubt_among<B: Allocator + Copy>(
+    places: &Places<'_, B>,
+    from: usize,
+    to: usize,
+    looked: &mut u32,
+    most: u32,
+) -> Option<u32>
+    requires laid_out { IsLaidOut places.now.grid.now places.now.width places.now.stride places.now.list.now }
+    requires inside { (v : ℕ) → from ≤ v → v < to → IsInside places.now.list.now places.now.stride v }
+    requires before { (v : ℕ) → v < from → HasNoneAt places.now.grid.now places.now.stride v }
+    requires order { from ≤ to }
+    ensures { MatchOption result ((v : ℕ) → v < to → HasNoneAt places.now.grid.now places.now.stride v) (HasNoneBelow places.now.grid.now) }
+{
+    for at in from..to {
+        if !has_bare(places, at) {
+            continue;
+        }
+        let spot = spot_at(places, at);
+        let Some(steps) = steps_around(places, spot) else {
+            return Some(spot.cell);
+        };
+        *looked = looked.saturating_add(steps);
+        if *looked > most {
+            return Some(spot.cell);
+        }
+    }
+    None
+}
+
+/// The same, where at first all places are looked at together.
+fn doubt_within<B: Allocator + Copy>(
+    places: &Places<'_, B>,
+    from: usize,
+    to: usize,
+    looked: &mut u32,
+    most: u32,
+) -> Option<u32>
+    requires laid_out { IsLaidOut places.now.grid.now places.now.width places.now.stride places.now.list.now }
+    requires inside { (v : ℕ) → from ≤ v → v < to → IsInside places.now.list.now places.now.stride v }
+    requires before { (v : ℕ) → v < from → HasNoneAt places.now.grid.now places.now.stride v }
+    requires order { from ≤ to }
+    ensures { MatchOption result ((v : ℕ) → v < to → HasNoneAt places.now.grid.now places.now.stride v) (HasNoneBelow places.now.grid.now) }
+{
+    if have_bare(places, from, to) {
+        return doubt_among(places, from, to, looked, most);
+    }
+    None
+}
+
+/// The first place from which an edge leads that is in doubt.
+fn doubt_in<B: Allocator + Copy>(places: &Places<'_, B>, most: u32) -> Option<u32>
+    requires laid_out { IsLaidOut places.now.grid.now places.now.width places.now.stride places.now.list.now }
+    ensures { MatchOption result (IsBridgeless (IsNeighbour places.now.grid.now)) (HasNoneBelow places.now.grid.now) }
+{
+    let end = places.list.len().saturating_sub(places.stride + 1);
+    let mut looked = 0u32;
+    let mut from = places.stride;
+    while from < end {
+        let to = (from + TOGETHER).min(end);
+        if let Some(cell) = doubt_within(places, from, to, &mut looked, most) {
+            return Some(cell);
+        }
+        from = to;
+    }
+    None
+}
+
 /// The first cell from which an edge leads that neither a square of floor nor a short walk shows to be no bridge. So many
 /// steps are looked at in all that this takes a time in proportion to the map, and no memory.
 pub(crate) fn first_doubt<B: Allocator + Copy>(grid: &Grid<B>) -> Option<u32>
     ensures { MatchOption result (IsBridgeless (IsNeighbour grid.now)) (HasNoneBelow grid.now) }
 {
-    let places = places_of(grid);
     let most = grid.cell_count().saturating_mul(STEPS_BY_CELL);
-    let mut looked = 0u32;
-    for at in 0..places.list.len() {
-        if is_clear(&places, at) {
-            continue;
-        }
-        let spot = spot_at(&places, at);
-        let Some(steps) = steps_around(&places, spot) else {
-            return Some(spot.cell);
-        };
-        looked = looked.saturating_add(steps);
-        if looked > most {
-            return Some(spot.cell);
-        }
-    }
-    None
+    doubt_in(&places_of(grid), most)
 }

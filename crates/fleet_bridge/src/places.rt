@@ -1,10 +1,10 @@
 //! The padded form of a map, in which a step takes no division.
 
-ghost use Rattle.std.specs.Prelude.{◌≡◌, ℕ, ◌+◌, ◌<◌, length, MatchOption, true, false};
+ghost use Rattle.std.specs.Prelude.{◌≡◌, ◌≢◌, ◌⊎◌, ℕ, ◌+◌, ◌<◌, ◌≤◌, length, slice_index, MatchOption, true, false};
 ghost use Rattle.fleet_grid.specs.Floor.{IsNeighbourIn};
 ghost use Rattle.fleet_grid.specs.Padded.{IsOpen};
 ghost use Rattle.fleet_grid.specs.declared.dir.Dir.TheVariants.{East, South};
-ghost use Rattle.fleet_bridge.specs.Places.{IsLaidOut, IsSpot, IsStep, IsSquare, HasNoneAt, HasNoneBesideAt, cell_across, place_across};
+ghost use Rattle.fleet_bridge.specs.Places.{IsLaidOut, IsSpot, IsStep, IsSquare, IsInside, HasNoneAt, HasNoneBesideAt, cell_across, place_across};
 
 use fleet_grid::{Dir, FAR, Grid};
 use std::alloc::Allocator;
@@ -14,7 +14,7 @@ use std::alloc::Allocator;
 pub(crate) struct Places<'a, B: Allocator + Copy> {
     pub(crate) grid: &'a Grid<B>,
     width: u32,
-    stride: usize,
+    pub(crate) stride: usize,
     pub(crate) list: &'a [u32],
 }
 
@@ -104,71 +104,85 @@ pub(crate) fn spot_beside<B: Allocator + Copy>(
     }
 }
 
-/// Whether four cells of floor lie there side by side.
+/// Whether the place is floor.
+#[inline(always)]
+fn is_floor(list: &[u32], at: usize) -> bool
+    requires { at < length list.now }
+    ensures floor { result ≡ true → IsOpen list.now at }
+    ensures wall { result ≡ false → slice_index list.now at ≢ 4294967295 }
+{
+    list[at] == FAR
+}
+
+/// Whether four cells of floor lie there side by side. All four are read, so that the squares of several places are looked at
+/// together.
 #[inline(always)]
 fn is_square(list: &[u32], stride: usize, at: usize) -> bool
     requires { at + stride + 1 < length list.now }
     ensures { result ≡ true → IsSquare list.now stride at }
 {
-    if list[at] != FAR {
-        return false;
-    }
-    if list[at + 1] != FAR {
-        return false;
-    }
-    if list[at + stride] != FAR {
-        return false;
-    }
-    list[at + stride + 1] == FAR
+    let upper = is_floor(list, at) & is_floor(list, at + 1);
+    let lower = is_floor(list, at + stride) & is_floor(list, at + stride + 1);
+    upper & lower
 }
 
-/// Whether the edge to the east of a place, if there is one, has a square of floor beside it, and so is no bridge.
+/// Whether an edge is there, without a square of floor on either side.
 #[inline(always)]
-fn is_east_clear<B: Allocator + Copy>(places: &Places<'_, B>, at: usize) -> bool
+fn is_bare(from: bool, to: bool, one: bool, other: bool) -> bool
+    ensures from { result ≡ true → from ≡ true }
+    ensures none { result ≡ false → ((from ≡ false) ⊎ (to ≡ false)) ⊎ ((one ≡ true) ⊎ (other ≡ true)) }
+{
+    (from & to) & !(one | other)
+}
+
+/// Whether an edge leads to the east of the place that has no square of floor beside it.
+#[inline(always)]
+fn is_bare_east<B: Allocator + Copy>(places: &Places<'_, B>, at: usize) -> bool
     requires laid_out { IsLaidOut places.now.grid.now places.now.width places.now.stride places.now.list.now }
-    requires open { IsOpen places.now.list.now at }
-    ensures { result ≡ true → HasNoneBesideAt places.now.grid.now places.now.stride at East }
+    requires inside { IsInside places.now.list.now places.now.stride at }
+    ensures none { result ≡ false → HasNoneBesideAt places.now.grid.now places.now.stride at East }
+    ensures open { result ≡ true → IsOpen places.now.list.now at }
 {
     let (list, stride) = (places.list, places.stride);
-    if list[at + 1] != FAR {
-        return true;
-    }
-    if is_square(list, stride, at) {
-        return true;
-    }
-    is_square(list, stride, at - stride)
+    let below = is_square(list, stride, at);
+    let above = is_square(list, stride, at - stride);
+    is_bare(is_floor(list, at), is_floor(list, at + 1), below, above)
 }
 
-/// Whether the edge to the south of a place, if there is one, has a square of floor beside it, and so is no bridge.
+/// Whether an edge leads to the south of the place that has no square of floor beside it.
 #[inline(always)]
-fn is_south_clear<B: Allocator + Copy>(places: &Places<'_, B>, at: usize) -> bool
+fn is_bare_south<B: Allocator + Copy>(places: &Places<'_, B>, at: usize) -> bool
     requires laid_out { IsLaidOut places.now.grid.now places.now.width places.now.stride places.now.list.now }
-    requires open { IsOpen places.now.list.now at }
-    ensures { result ≡ true → HasNoneBesideAt places.now.grid.now places.now.stride at South }
+    requires inside { IsInside places.now.list.now places.now.stride at }
+    ensures none { result ≡ false → HasNoneBesideAt places.now.grid.now places.now.stride at South }
+    ensures open { result ≡ true → IsOpen places.now.list.now at }
 {
     let (list, stride) = (places.list, places.stride);
-    if list[at + stride] != FAR {
-        return true;
-    }
-    if is_square(list, stride, at) {
-        return true;
-    }
-    is_square(list, stride, at - 1)
+    let right = is_square(list, stride, at);
+    let left = is_square(list, stride, at - 1);
+    is_bare(is_floor(list, at), is_floor(list, at + stride), right, left)
 }
 
-/// Whether each edge to the east or the south of a place has a square of floor beside it, and so is no bridge.
+/// Whether an edge leads to the east or the south of the place that has no square of floor beside it.
 #[inline(always)]
-pub(crate) fn is_clear<B: Allocator + Copy>(places: &Places<'_, B>, at: usize) -> bool
+pub(crate) fn has_bare<B: Allocator + Copy>(places: &Places<'_, B>, at: usize) -> bool
     requires laid_out { IsLaidOut places.now.grid.now places.now.width places.now.stride places.now.list.now }
-    requires inside { at < length places.now.list.now }
-    ensures none { result ≡ true → HasNoneAt places.now.grid.now places.now.stride at }
-    ensures open { result ≡ false → IsOpen places.now.list.now at }
+    requires inside { IsInside places.now.list.now places.now.stride at }
+    ensures none { result ≡ false → HasNoneAt places.now.grid.now places.now.stride at }
+    ensures open { result ≡ true → IsOpen places.now.list.now at }
 {
-    if places.list[at] != FAR {
-        return true;
+    is_bare_east(places, at) | is_bare_south(places, at)
+}
+
+/// Whether such an edge leads from one of the places.
+pub(crate) fn have_bare<B: Allocator + Copy>(places: &Places<'_, B>, from: usize, to: usize) -> bool
+    requires laid_out { IsLaidOut places.now.grid.now places.now.width places.now.stride places.now.list.now }
+    requires inside { (v : ℕ) → from ≤ v → v < to → IsInside places.now.list.now places.now.stride v }
+    ensures { result ≡ false → (v : ℕ) → from ≤ v → v < to → HasNoneAt places.now.grid.now places.now.stride v }
+{
+    let mut any = false;
+    for at in from..to {
+        any |= has_bare(places, at);
     }
-    if !is_east_clear(places, at) {
-        return false;
-    }
-    is_south_clear(places, at)
+    any
 }

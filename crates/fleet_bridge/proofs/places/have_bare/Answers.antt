@@ -1,0 +1,16 @@
+use Rattle.std.proofs.Common.{◌≡◌, ℕ, ◌≤◌, Bool, true, false, ◌||◌, below_more, refl, arith}
+use Rattle.fleet_bridge.specs.Places.{HasNoneAt}
+use Rattle.fleet_bridge.proofs.places.have_bare.Goals as goal
+
+neither : (a b : Bool) → (a || b) ≡ false → (a ≡ false) × (b ≡ false)
+neither true b e = absurd (cc e)
+neither false b e = (refl, e)
+
+pub loop-at-preserved : goal.loop-at-preserved
+loop-at-preserved g c = λ no v ge lt.
+    let p = c.args.places.now in
+    let both = neither c.loop-at.any c.has_bare-any.result no in
+    below_more (λ (u : ℕ). c.args.from ≤ u → HasNoneAt p.grid.now p.stride u) c.loop-at.at (λ u less from. c.loop-at.invariant both.0 u from less) (λ from. c.has_bare-any.ensures.none both.1) v lt ge
+
+pub returns : goal.returns
+returns g c = λ no v ge lt. c.loop-at.invariant no v ge (omega (arith, c.loop-at-test.false, lt))
