@@ -40,7 +40,11 @@ fn add_events(calls: &mut Vec<Call>, script: &Script, number: usize) -> Result<(
 }
 
 /// The calls of a script, line by line.
-pub fn calls_of(alloc: Global, text: &[u8], script: &Script) -> Result<Vec<Call>, AllocError> {
+pub(crate) fn calls_of(
+    alloc: Global,
+    text: &[u8],
+    script: &Script,
+) -> Result<Vec<Call>, AllocError> {
     let mut calls = Vec::new(alloc);
     let mut number = 0usize;
     for line in text.split(|byte| *byte == b'\n') {

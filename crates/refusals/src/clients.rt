@@ -12,20 +12,20 @@ pub struct Clients {
 
 impl Clients {
     /// Clients that did nothing yet.
-    pub fn new(alloc: Global) -> Clients {
+    pub(crate) fn new(alloc: Global) -> Clients {
         Clients {
             posted: Vec::new(alloc),
             given: Vec::new(alloc),
         }
     }
 
-    pub fn post(&mut self, client: u32, order: Order) -> Result<(), AllocError> {
+    pub(crate) fn post(&mut self, client: u32, order: Order) -> Result<(), AllocError> {
         self.posted.push((client, order))?;
         Ok(())
     }
 
     /// The client's first order that was not taken.
-    pub fn next_order(&self, client: u32) -> Option<Order> {
+    pub(crate) fn next_order(&self, client: u32) -> Option<Order> {
         for (poster, order) in self.posted.iter() {
             if *poster == client {
                 return Some(*order);
@@ -35,7 +35,7 @@ impl Clients {
     }
 
     /// Takes that order out.
-    pub fn take(&mut self, client: u32) {
+    pub(crate) fn take(&mut self, client: u32) {
         let first = self.posted.iter().position(|posted| posted.0 == client);
         if let Some(at) = first
             && at < self.posted.len()
@@ -45,17 +45,17 @@ impl Clients {
     }
 
     /// How many notices the client was given and did not collect.
-    pub fn outlet_len(&self, client: u32) -> usize {
+    pub(crate) fn outlet_len(&self, client: u32) -> usize {
         self.given.iter().filter(|given| given.0 == client).count()
     }
 
-    pub fn give(&mut self, client: u32, notice: Notice) -> Result<(), AllocError> {
+    pub(crate) fn give(&mut self, client: u32, notice: Notice) -> Result<(), AllocError> {
         self.given.push((client, notice))?;
         Ok(())
     }
 
     /// Takes out the client's first notice that it did not collect.
-    pub fn collect(&mut self, client: u32) -> Option<Notice> {
+    pub(crate) fn collect(&mut self, client: u32) -> Option<Notice> {
         let at = self.given.iter().position(|given| given.0 == client)?;
         if at >= self.given.len() {
             return None;

@@ -47,7 +47,7 @@ fn add<A: Allocator + Copy>(
 }
 
 /// Plays the first `last` calls of a row, of which the growth behind `before` others is refused.
-pub fn play(
+pub(crate) fn play(
     alloc: Global,
     case: Case<'_>,
     calls: &[Call],
@@ -100,7 +100,7 @@ fn count(stamped: &AtomicU64) -> u32
 }
 
 /// Runs the events of a row's script, of which the growth behind `before` others is refused.
-pub fn run_row<R: Alloc<A = Global> + Threads + Sync>(
+pub(crate) fn run_row<R: Alloc<A = Global> + Threads + Sync>(
     rt: &R,
     case: Case<'_>,
     events: &[Event],

@@ -109,7 +109,7 @@ fn next_chapter<A: Allocator + Copy>(
 }
 
 /// The answer to a call; none where it wanted for memory.
-pub fn make<A: Allocator + Copy, R: Alloc<A = A>>(
+pub(crate) fn make<A: Allocator + Copy, R: Alloc<A = A>>(
     alloc: Global,
     rt: &R,
     world: &mut World<A>,

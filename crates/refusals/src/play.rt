@@ -40,7 +40,7 @@ impl Played {
 }
 
 /// Makes the first `last` calls of a row. A call that is refused memory is made again, unless it is the last.
-pub fn play_calls<A: Allocator + Copy, R: Alloc<A = A>>(
+pub(crate) fn play_calls<A: Allocator + Copy, R: Alloc<A = A>>(
     alloc: Global,
     rt: &R,
     world: &mut World<A>,

@@ -47,7 +47,7 @@ fn refuse_each<R: Alloc<A = Global> + Threads + Sync>(
 }
 
 /// Tells what a run of a row replied to each event, its trace, and how often each was refused memory.
-pub fn tell_runs<R: Alloc<A = Global> + Threads + Sync>(
+pub(crate) fn tell_runs<R: Alloc<A = Global> + Threads + Sync>(
     rt: &R,
     case: Case<'_>,
     told: &mut String,

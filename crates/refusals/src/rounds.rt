@@ -58,7 +58,11 @@ fn refuse_each(
 }
 
 /// Tells what each call of a row answered, and how often it was refused memory.
-pub fn tell_calls(alloc: Global, case: Case<'_>, told: &mut String) -> Result<(), AllocError> {
+pub(crate) fn tell_calls(
+    alloc: Global,
+    case: Case<'_>,
+    told: &mut String,
+) -> Result<(), AllocError> {
     let Ok((_grid, script)) = read(alloc, case) else {
         return writeln!(told, "no row");
     };

@@ -60,7 +60,7 @@ fn judge_run<A: Allocator + Copy>(
 }
 
 /// What became of a run.
-pub fn end_run<A: Allocator + Copy>(
+pub(crate) fn end_run<A: Allocator + Copy>(
     alloc: Global,
     heap: A,
     ended: Result<Played<A>, RunFault>,

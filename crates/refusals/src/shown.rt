@@ -30,7 +30,10 @@ fn write_notices<A: Allocator + Copy>(
 }
 
 /// All that a world shows: its chapter as a trace, and the answers of its other calls.
-pub fn shown<A: Allocator + Copy>(alloc: Global, world: &World<A>) -> Result<String, AllocError> {
+pub(crate) fn shown<A: Allocator + Copy>(
+    alloc: Global,
+    world: &World<A>,
+) -> Result<String, AllocError> {
     let mut text = write_trace(alloc, world.chapter())?;
     write!(
         text,
@@ -89,7 +92,7 @@ fn end_chapter<A: Allocator + Copy>(
 }
 
 /// All that a world holds: what it shows, each of its notices, and the opening of its next chapter with every errand.
-pub fn held<A: Allocator + Copy>(
+pub(crate) fn held<A: Allocator + Copy>(
     alloc: Global,
     world: &mut World<A>,
 ) -> Result<String, AllocError> {

@@ -31,7 +31,7 @@ impl Stage {
     ];
 
     /// The stage in words.
-    pub fn name(self) -> &'static str {
+    pub(crate) fn name(self) -> &'static str {
         match self {
             Stage::Map => "read the map",
             Stage::Grid => "make the grid",
@@ -44,7 +44,10 @@ impl Stage {
 }
 
 /// The grid and the script of a row.
-pub fn read<A: Allocator + Copy>(alloc: A, case: Case<'_>) -> Result<(Grid<A>, Script<A>), Stage> {
+pub(crate) fn read<A: Allocator + Copy>(
+    alloc: A,
+    case: Case<'_>,
+) -> Result<(Grid<A>, Script<A>), Stage> {
     if case.script.len() > 16_777_216 {
         return Err(Stage::Faulty);
     }

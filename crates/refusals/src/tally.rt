@@ -19,13 +19,13 @@ impl Tally {
     };
 
     /// Counts a refusal.
-    pub fn count(&mut self, same: bool) {
+    pub(crate) fn count(&mut self, same: bool) {
         self.refused = self.refused.saturating_add(1);
         self.same &= same;
     }
 
     /// A line of what was answered in the end, with this tally.
-    pub fn tell(&self, told: &mut String, answer: &str) -> Result<(), AllocError> {
+    pub(crate) fn tell(&self, told: &mut String, answer: &str) -> Result<(), AllocError> {
         match (self.refused, self.same) {
             (0, true) => writeln!(told, "{answer}; no growth"),
             (refused, true) => writeln!(told, "{answer}; {refused} refused, same"),
@@ -45,7 +45,7 @@ pub struct Sheet {
 
 impl Sheet {
     /// A sheet of so many calls.
-    pub fn new(alloc: Global, calls: usize) -> Result<Sheet, AllocError> {
+    pub(crate) fn new(alloc: Global, calls: usize) -> Result<Sheet, AllocError> {
         let mut blank = Vec::new(alloc);
         for _call in 0..calls {
             blank.push(Tally::NONE)?;
@@ -57,7 +57,7 @@ impl Sheet {
     }
 
     /// Counts a refusal before the first call.
-    pub fn count_stage(&mut self, stage: Stage) {
+    pub(crate) fn count_stage(&mut self, stage: Stage) {
         for (count, other) in self.stages.iter_mut().zip(Stage::ALL.iter()) {
             if *other == stage {
                 *count = count.saturating_add(1);
@@ -66,14 +66,14 @@ impl Sheet {
     }
 
     /// Counts a refusal of the call of this number, from 0.
-    pub fn count(&mut self, call: usize, same: bool) {
+    pub(crate) fn count(&mut self, call: usize, same: bool) {
         if let Some(tally) = self.calls.get_mut(call) {
             tally.count(same);
         }
     }
 
     /// A line for each stage and each call with its answer.
-    pub fn tell(&self, told: &mut String, answers: &[String]) -> Result<(), AllocError> {
+    pub(crate) fn tell(&self, told: &mut String, answers: &[String]) -> Result<(), AllocError> {
         for (count, stage) in self.stages.iter().zip(Stage::ALL.iter()) {
             writeln!(told, "{}; {count} refused", stage.name())?;
         }

@@ -48,7 +48,7 @@ fn grid_of(alloc: Global, case: Case<'_>) -> Result<Option<Grid>, AllocError> {
 }
 
 /// Tells of the steps of a row.
-pub fn tell<R: Alloc<A = Global> + Threads + Sync + Wait>(
+pub(crate) fn tell<R: Alloc<A = Global> + Threads + Sync + Wait>(
     rt: &R,
     case: Case<'_>,
     told: &mut String,

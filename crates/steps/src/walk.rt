@@ -27,7 +27,7 @@ fn cells_of(alloc: Global, chapter: &Chapter) -> Result<Vec<u32>, AllocError> {
 }
 
 /// Judges each step of a chapter by itself.
-pub fn walk(alloc: Global, grid: &Grid, chapter: &Chapter) -> Result<Finding, AllocError> {
+pub(crate) fn walk(alloc: Global, grid: &Grid, chapter: &Chapter) -> Result<Finding, AllocError> {
     let mut from = cells_of(alloc, chapter)?;
     let mut step = 0u32;
     for entry in &chapter.entries {

@@ -25,7 +25,7 @@ fn split_at<'a>(text: &'a [u8], start: &[u8]) -> Option<(&'a [u8], &'a [u8], &'a
 }
 
 /// The first row of the text, and the text behind it.
-pub fn next_case(text: &[u8]) -> Option<(Case<'_>, &[u8])> {
+pub(crate) fn next_case(text: &[u8]) -> Option<(Case<'_>, &[u8])> {
     let (_, name, behind) = split_at(text, b"= ")?;
     let (map, _, rest) = split_at(behind, b"script")?;
     let script = match split_at(rest, b"= ") {

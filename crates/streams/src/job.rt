@@ -16,7 +16,7 @@ pub struct Outcome {
 }
 
 /// What a run of the script on the map comes to with these readers and writers, by lines or by its trace.
-pub fn run_job<'x, R: Alloc<A = Global> + Threads + Sync + Wait>(
+pub(crate) fn run_job<'x, R: Alloc<A = Global> + Threads + Sync + Wait>(
     rt: &R,
     trace: bool,
     readers: (Source<'x>, Source<'x>),

@@ -13,7 +13,7 @@ pub struct Sink {
 
 impl Sink {
     /// A writer without bytes.
-    pub fn new(alloc: Global, good_writes: u64, fails: bool) -> Sink {
+    pub(crate) fn new(alloc: Global, good_writes: u64, fails: bool) -> Sink {
         Sink {
             bytes: Vec::new(alloc),
             good_writes,

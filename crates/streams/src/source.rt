@@ -13,7 +13,7 @@ pub struct Source<'a> {
 
 impl<'a> Source<'a> {
     /// A reader of the text that does not fail.
-    pub fn of(bytes: &'a [u8]) -> Source<'a> {
+    pub(crate) fn of(bytes: &'a [u8]) -> Source<'a> {
         Source {
             bytes,
             line_feeds: 0,

@@ -198,7 +198,7 @@ fn tell_job<R: Alloc<A = Global> + Threads + Sync + Wait>(
 }
 
 /// Tells of a row, by its lines and by its trace.
-pub fn tell<R: Alloc<A = Global> + Threads + Sync + Wait>(
+pub(crate) fn tell<R: Alloc<A = Global> + Threads + Sync + Wait>(
     rt: &R,
     case: Case<'_>,
     told: &mut String,

@@ -21,7 +21,12 @@ pub enum Answer {
 }
 
 /// What both ways say of a text.
-pub fn compare(alloc: Global, grid: &Grid, site: &Site, text: &[u8]) -> Result<Answer, AllocError> {
+pub(crate) fn compare(
+    alloc: Global,
+    grid: &Grid,
+    site: &Site,
+    text: &[u8],
+) -> Result<Answer, AllocError> {
     let chapter = match read_trace(alloc, text) {
         Ok(chapter) => chapter,
         Err(TraceFault::NoMemory) => return Err(AllocError),

@@ -34,7 +34,7 @@ impl Count {
     };
 
     /// Counts a world's chapter.
-    pub fn add_world(&mut self, answer: Answer) {
+    pub(crate) fn add_world(&mut self, answer: Answer) {
         match answer {
             Answer::Legal => self.worlds = self.worlds.saturating_add(1),
             _ => self.unlike = self.unlike.saturating_add(1),
@@ -42,7 +42,7 @@ impl Count {
     }
 
     /// Counts a later chapter.
-    pub fn add_later(&mut self, answer: Answer) {
+    pub(crate) fn add_later(&mut self, answer: Answer) {
         match answer {
             Answer::Legal => self.later = self.later.saturating_add(1),
             _ => self.unlike = self.unlike.saturating_add(1),
@@ -50,7 +50,7 @@ impl Count {
     }
 
     /// Counts a trace with a damaged number.
-    pub fn add_number(&mut self, answer: Answer) {
+    pub(crate) fn add_number(&mut self, answer: Answer) {
         if answer == Answer::NotJson {
             self.not_json = self.not_json.saturating_add(1);
         } else {
@@ -59,7 +59,7 @@ impl Count {
     }
 
     /// Counts a trace with damaged bytes.
-    pub fn add_bytes(&mut self, answer: Answer) {
+    pub(crate) fn add_bytes(&mut self, answer: Answer) {
         match answer {
             Answer::Legal => self.legal = self.legal.saturating_add(1),
             Answer::Broken { rule, .. } => {
@@ -78,7 +78,7 @@ impl Count {
     }
 
     /// Whether the two ways came to one answer everywhere, on so many worlds and each kind of fault.
-    pub fn is_good(&self, worlds: u64) -> bool {
+    pub(crate) fn is_good(&self, worlds: u64) -> bool {
         self.worlds == worlds
             && self.later == worlds
             && self.unlike == 0
@@ -89,7 +89,7 @@ impl Count {
     }
 
     /// What is told of it.
-    pub fn text(&self) -> &'static str {
+    pub(crate) fn text(&self) -> &'static str {
         if self.unlike > 0 || self.not_json > 0 {
             return "the two ways differ\n";
         }

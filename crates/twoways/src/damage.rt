@@ -12,7 +12,7 @@ pub struct Stretch {
 }
 
 /// The stretches of a text that are numbers.
-pub fn numbers_in(alloc: Global, text: &[u8]) -> Result<Vec<Stretch>, AllocError> {
+pub(crate) fn numbers_in(alloc: Global, text: &[u8]) -> Result<Vec<Stretch>, AllocError> {
     let mut numbers = Vec::new(alloc);
     let mut begun = None;
     for (at, byte) in text.iter().enumerate() {
@@ -61,7 +61,7 @@ fn with_bytes(
 }
 
 /// The text with another number in place of one.
-pub fn with_other_number(
+pub(crate) fn with_other_number(
     alloc: Global,
     random: &mut Random,
     text: &[u8],
@@ -77,7 +77,7 @@ pub fn with_other_number(
 const BYTES: &[u8] = b"0123456789[]{},:\"-. etaklu\\\x00\xff";
 
 /// The text with some bytes gone, changed or put in, or with its end cut off.
-pub fn with_other_bytes(
+pub(crate) fn with_other_bytes(
     alloc: Global,
     random: &mut Random,
     text: &[u8],

@@ -42,7 +42,7 @@ impl Robot {
     }
 
     /// The cell that it is to go to.
-    pub fn goal(&self) -> Option<u32> {
+    pub(crate) fn goal(&self) -> Option<u32> {
         self.errands.first().map(|errand| errand.cell)
     }
 
@@ -82,7 +82,7 @@ impl Robot {
 
 impl Fleet {
     /// The fleet at an opening.
-    pub fn of(alloc: Global, opening: &Opening) -> Result<Fleet, AllocError> {
+    pub(crate) fn of(alloc: Global, opening: &Opening) -> Result<Fleet, AllocError> {
         let mut robots = Vec::new(alloc);
         for state in opening.robots.as_slice() {
             robots.push(Robot::of(alloc, state)?)?;
@@ -97,7 +97,7 @@ impl Fleet {
     }
 
     /// The robot of this number.
-    pub fn robot(&self, robot: u32) -> Option<&Robot> {
+    pub(crate) fn robot(&self, robot: u32) -> Option<&Robot> {
         self.robots.get(robot as usize)
     }
 
@@ -159,7 +159,7 @@ impl Fleet {
     }
 
     /// What a legal entry makes of the fleet.
-    pub fn enter(&mut self, entry: &Entry) -> Result<(), AllocError> {
+    pub(crate) fn enter(&mut self, entry: &Entry) -> Result<(), AllocError> {
         match entry {
             Entry::Take {
                 client,

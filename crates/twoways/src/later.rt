@@ -27,7 +27,7 @@ fn opening_of(alloc: Global, fleet: &Fleet) -> Result<Opening, AllocError> {
 }
 
 /// The chapter that begins behind so many entries of a legal one.
-pub fn later_chapter(
+pub(crate) fn later_chapter(
     alloc: Global,
     chapter: Chapter,
     behind: usize,

@@ -106,7 +106,7 @@ fn are_robots(site: &Site, opening: &Opening) -> bool {
 }
 
 /// Whether an opening is in order on a map.
-pub fn is_in_order(site: &Site, opening: &Opening) -> bool {
+pub(crate) fn is_in_order(site: &Site, opening: &Opening) -> bool {
     let (robots, clients) = (opening.robots.len(), opening.clients.len());
     robots >= 1
         && robots <= 512

@@ -8,12 +8,12 @@ pub struct Random {
 
 impl Random {
     /// The sequence from a seed on.
-    pub fn from_seed(seed: u64) -> Random {
+    pub(crate) fn from_seed(seed: u64) -> Random {
         Random { seed }
     }
 
     /// The next number, below a bound; 0 where the bound is.
-    pub fn below(&mut self, bound: u64) -> u64 {
+    pub(crate) fn below(&mut self, bound: u64) -> u64 {
         self.seed = self
             .seed
             .wrapping_mul(6364136223846793005)
@@ -22,7 +22,7 @@ impl Random {
     }
 
     /// The next number from a least one on, one of so many.
-    pub fn between(&mut self, least: u64, count: u64) -> u64 {
+    pub(crate) fn between(&mut self, least: u64, count: u64) -> u64 {
         least.saturating_add(self.below(count))
     }
 }

@@ -168,7 +168,7 @@ fn entry_rule(
 }
 
 /// The entry, from 1, and the rule that a chapter breaks first; 0 and 1 where it is its opening.
-pub fn first_fault(
+pub(crate) fn first_fault(
     alloc: Global,
     site: &Site,
     chapter: &Chapter,

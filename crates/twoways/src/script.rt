@@ -84,7 +84,7 @@ fn write_event(
 }
 
 /// The map and the script of a seed.
-pub fn texts_of(alloc: Global, random: &mut Random) -> Result<Texts, AllocError> {
+pub(crate) fn texts_of(alloc: Global, random: &mut Random) -> Result<Texts, AllocError> {
     let sides = (random.between(1, 4), random.between(1, 4));
     let (map, mut floor) = map_of(alloc, random, sides)?;
     let mut script = String::new(alloc);

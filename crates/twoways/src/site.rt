@@ -13,7 +13,7 @@ pub struct Site {
 
 impl Site {
     /// The site of a map.
-    pub fn new(alloc: Global, map: &MapText) -> Result<Site, AllocError> {
+    pub(crate) fn new(alloc: Global, map: &MapText) -> Result<Site, AllocError> {
         let mut least = Vec::new(alloc);
         let mut cell = 0u32;
         for _letter in &map.cells {
@@ -57,23 +57,23 @@ impl Site {
         self.least.get(cell as usize).copied().unwrap_or(cell)
     }
 
-    pub fn is_cell(&self, cell: u32) -> bool {
+    pub(crate) fn is_cell(&self, cell: u32) -> bool {
         (cell as usize) < self.letters.len()
     }
 
-    pub fn is_floor(&self, cell: u32) -> bool {
+    pub(crate) fn is_floor(&self, cell: u32) -> bool {
         matches!(self.letters.get(cell as usize), Some(b'.' | b'G' | b'S'))
     }
 
     /// Whether two cells share a side.
-    pub fn is_beside(&self, a: u32, b: u32) -> bool {
+    pub(crate) fn is_beside(&self, a: u32, b: u32) -> bool {
         let (low, high, width) = (a.min(b), a.max(b), self.width.max(1));
         let gap = high - low;
         gap == width || (gap == 1 && low / width == high / width)
     }
 
     /// Whether a walk joins two floor cells.
-    pub fn is_joined(&self, a: u32, b: u32) -> bool {
+    pub(crate) fn is_joined(&self, a: u32, b: u32) -> bool {
         self.is_floor(a) && self.is_floor(b) && self.least_of(a) == self.least_of(b)
     }
 }

@@ -45,7 +45,7 @@ fn withdraw(fleet: &Fleet, client: u32, number: u64) -> Verdict {
 }
 
 /// The verdict on an order of a client that is there.
-pub fn verdict_on(site: &Site, fleet: &Fleet, client: u32, order: Order) -> Option<Verdict> {
+pub(crate) fn verdict_on(site: &Site, fleet: &Fleet, client: u32, order: Order) -> Option<Verdict> {
     let state = fleet.clients.get(client as usize)?;
     if state.closed {
         return Some(Verdict::ClientClosed);

@@ -97,7 +97,7 @@ fn try_trace(
 }
 
 /// The trials of one seed.
-pub fn try_seed<R: Alloc<A = Global> + Threads + Sync + Wait>(
+pub(crate) fn try_seed<R: Alloc<A = Global> + Threads + Sync + Wait>(
     rt: &R,
     seed: u64,
     count: &mut Count,

@@ -24,7 +24,7 @@ fn with_parts(note: u64, parts: &[u64]) -> u64 {
 
 impl Shown {
     /// The note of all that was shown before, with this view: each field of it, and whose closure was shown it.
-    pub fn noted(self, note: u64) -> u64 {
+    pub(crate) fn noted(self, note: u64) -> u64 {
         match self {
             Shown::Tie(own, view) => with_parts(
                 note,
@@ -61,7 +61,7 @@ impl Shown {
     }
 
     /// The stamp of all its fields.
-    pub fn stamp(self) -> u32 {
+    pub(crate) fn stamp(self) -> u32 {
         (self.noted(0) % 4_294_967_291) as u32
     }
 }

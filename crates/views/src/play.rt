@@ -183,7 +183,7 @@ fn find_noted<R: Alloc<A = Global> + Threads + Sync>(
 }
 
 /// Plays a row.
-pub fn play<R: Alloc<A = Global> + Threads + Sync>(
+pub(crate) fn play<R: Alloc<A = Global> + Threads + Sync>(
     rt: &R,
     row: &Row,
 ) -> Result<Finding, AllocError> {

@@ -26,7 +26,7 @@ fn wait_of(world: &World, robot: u32) -> u64 {
 }
 
 /// So many ticks of nine robots that get a new errand whenever they have none. The result is the greatest wait that was seen.
-pub fn greatest_wait<R: Alloc<A = Global>>(rt: &R, world: &mut World, ticks: u32) -> u64 {
+pub(crate) fn greatest_wait<R: Alloc<A = Global>>(rt: &R, world: &mut World, ticks: u32) -> u64 {
     let mut greatest = 0;
     for tick in 0..ticks {
         for robot in 0..9u32 {

@@ -97,7 +97,7 @@ fn answers<R: Alloc<A = Global>>(
 }
 
 /// Plays a row: its name, and the lines of its calls.
-pub fn play<R: Alloc<A = Global>>(rt: &R, row: &Row) -> Result<String, AllocError> {
+pub(crate) fn play<R: Alloc<A = Global>>(rt: &R, row: &Row) -> Result<String, AllocError> {
     let alloc = rt.alloc();
     let Some(grid) = grid_of(alloc, row)? else {
         return format!(in alloc; "{}: no map\n", row.name);

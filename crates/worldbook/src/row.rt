@@ -31,7 +31,7 @@ pub struct Row {
 }
 
 /// The order to send a robot to a cell.
-pub fn go(robot: u32, cell: u32) -> Order {
+pub(crate) fn go(robot: u32, cell: u32) -> Order {
     Order::Go { robot, cell }
 }
 

@@ -12,7 +12,10 @@ fn number_or_none(alloc: Global, number: Option<u64>) -> Result<String, AllocErr
 }
 
 /// The line of a take.
-pub fn take_line(alloc: Global, answer: Result<Verdict, TakeFault>) -> Result<String, AllocError> {
+pub(crate) fn take_line(
+    alloc: Global,
+    answer: Result<Verdict, TakeFault>,
+) -> Result<String, AllocError> {
     match answer {
         Ok(verdict) => format!(in alloc; "take: {verdict:?}\n"),
         Err(fault) => format!(in alloc; "take refused: {fault:?}\n"),
@@ -20,7 +23,7 @@ pub fn take_line(alloc: Global, answer: Result<Verdict, TakeFault>) -> Result<St
 }
 
 /// The line of a tick.
-pub fn tick_line(
+pub(crate) fn tick_line(
     alloc: Global,
     answer: Result<TickReport, TickFault>,
 ) -> Result<String, AllocError> {
@@ -34,7 +37,7 @@ pub fn tick_line(
 }
 
 /// The line of a shut.
-pub fn shut_line(
+pub(crate) fn shut_line(
     alloc: Global,
     answer: Result<Option<u32>, ShutFault>,
 ) -> Result<String, AllocError> {
@@ -46,7 +49,7 @@ pub fn shut_line(
 }
 
 /// The line of a gift.
-pub fn give_line(alloc: Global, answer: Option<Notice>) -> Result<String, AllocError> {
+pub(crate) fn give_line(alloc: Global, answer: Option<Notice>) -> Result<String, AllocError> {
     match answer {
         Some(
             Notice::Verdict {
@@ -72,7 +75,7 @@ pub fn give_line(alloc: Global, answer: Option<Notice>) -> Result<String, AllocE
 }
 
 /// The line of a greatest wait beside a bound.
-pub fn busy_line(alloc: Global, greatest: u64, bound: u64) -> Result<String, AllocError> {
+pub(crate) fn busy_line(alloc: Global, greatest: u64, bound: u64) -> Result<String, AllocError> {
     let kept = if greatest < bound {
         "below"
     } else {
@@ -96,7 +99,7 @@ fn robots_text(alloc: Global, world: &World) -> Result<String, AllocError> {
 }
 
 /// The line of all that a world shows: each robot's cell and wait, the eldest, and how soon the fleet is idle.
-pub fn world_line(alloc: Global, world: &World) -> Result<String, AllocError> {
+pub(crate) fn world_line(alloc: Global, world: &World) -> Result<String, AllocError> {
     let robots = robots_text(alloc, world)?;
     let eldest = number_or_none(alloc, world.eldest().map(u64::from))?;
     let within = number_or_none(alloc, world.idle_within())?;
