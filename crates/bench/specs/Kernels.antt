@@ -2,7 +2,7 @@
 use Rattle.std.specs.Prelude.{ℕ, List, Option, Some, None, codes, if◌then◌else◌}
 use Rattle.std.specs.Str.{bytes_eq}
 use Rattle.bench.specs.declared.kernel.Kernel.{Kernel}
-use Rattle.bench.specs.declared.kernel.Kernel.TheVariants.{Field, Fields, Bridge, Check, Step, Tick, Lifelong}
+use Rattle.bench.specs.declared.kernel.Kernel.TheVariants.{Field, Fields, Bridge, Check, Step, Tick, Lifelong, Hostile}
 
 abbrev pub kernel_named : List ℕ → Option Kernel
 kernel_named word =
@@ -13,4 +13,5 @@ kernel_named word =
     else if bytes_eq word (codes "step") then Some Step
     else if bytes_eq word (codes "tick") then Some Tick
     else if bytes_eq word (codes "lifelong") then Some Lifelong
+    else if bytes_eq word (codes "hostile") then Some Hostile
     else None

@@ -1,3 +1,4 @@
 pub mod Kinds
 pub mod Fleet
 pub mod Kernels
+pub mod Shapes

@@ -6,8 +6,10 @@ ghost use Rattle.bench.specs.Kernels.{kernel_named};
 use crate::bridges::measure_bridge;
 use crate::checks::measure_check;
 use crate::fields::{measure_field, measure_fields};
+use crate::hostile::measure_hostile;
 use crate::kind::Kind;
 use crate::lifelong::measure_lifelong;
+use crate::shape::Shape;
 use crate::steps::measure_step;
 use crate::ticks::measure_tick;
 use std::alloc::{Alloc, Global};
@@ -32,6 +34,8 @@ pub enum Kernel {
     Tick,
     /// Long runs of a world, by tick and robot.
     Lifelong,
+    /// Whole maps of a hostile shape, in milliseconds.
+    Hostile,
 }
 
 impl Kernel {
@@ -47,6 +51,7 @@ impl Kernel {
             "step" => Some(Kernel::Step),
             "tick" => Some(Kernel::Tick),
             "lifelong" => Some(Kernel::Lifelong),
+            "hostile" => Some(Kernel::Hostile),
             _ => None,
         }
     }
@@ -65,5 +70,6 @@ pub(crate) fn run<R: Alloc<A = Global> + Clock + Print + Threads + Sync>(
         Kernel::Step => measure_step(rt, &[Kind::Warehouse, Kind::Open]),
         Kernel::Tick => measure_tick(rt, &[Kind::Warehouse, Kind::Open]),
         Kernel::Lifelong => measure_lifelong(rt, &[Kind::Warehouse, Kind::Open]),
+        Kernel::Hostile => measure_hostile(rt, &Shape::ALL),
     }
 }

@@ -71,7 +71,7 @@ impl Kind {
             Kind::Open => true,
             Kind::Warehouse => !is_outer_wall(row, col) && !is_shelf(row, col),
             Kind::Maze => is_passage(row, col),
-            Kind::Spiral => is_corridor(row, col),
+            Kind::Spiral => is_corridor(511, row, col),
         }
     }
 }
@@ -117,14 +117,18 @@ fn joins_north(row: u32, col: u32) -> bool {
     col == 0 || (mixed ^ (mixed >> 15)).wrapping_mul(3266489917) >> 31 == 1
 }
 
-/// Whether the corridor of a spiral of 511 by 511 comes there. It is made of rings, each cut before its first cell, and joined
-/// there to the next one.
-fn is_corridor(row: u32, col: u32) -> bool {
+/// Whether the corridor of a spiral of so many rows and columns comes there. It is made of rings, each cut before its first
+/// cell, and joined there to the next one, if there is one.
+pub(crate) fn is_corridor(side: u32, row: u32, col: u32) -> bool
+    requires low { row < 1024 }
+    requires slim { col < 1024 }
+{
+    let last = side.saturating_sub(1);
     let ring = row
         .min(col)
-        .min(510u32.saturating_sub(row))
-        .min(510u32.saturating_sub(col));
-    let is_turn = row == ring + 1 && col == ring;
+        .min(last.saturating_sub(row))
+        .min(last.saturating_sub(col));
+    let is_turn = row == ring + 1 && col == ring && ring < last / 2;
     (ring % 2 == 0) != is_turn
 }
 

@@ -7,11 +7,13 @@ mod checks;
 mod course;
 mod fields;
 mod fleet;
+mod hostile;
 mod kernel;
 mod kind;
 mod lifelong;
 mod measure;
 mod random;
+mod shape;
 mod site;
 mod steps;
 #[cfg(test)]
@@ -26,7 +28,7 @@ use std::{env, io};
 
 /// What is printed where no kernel is named.
 const KERNELS: &str =
-    "bench: name a kernel: field, fields, bridge, check, step, tick or lifelong\n";
+    "bench: name a kernel: field, fields, bridge, check, step, tick, lifelong or hostile\n";
 
 /// The kernel that the first word behind the program's name is.
 fn kernel_asked(rt: &(impl Env + Alloc)) -> io::Result<Option<Kernel>> {

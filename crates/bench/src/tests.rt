@@ -8,12 +8,13 @@ use crate::kernel::Kernel;
 use crate::kind::{Kind, grid_of};
 use crate::measure::Measure;
 use crate::random::Random;
+use crate::shape::Shape;
 use crate::site::Site;
 use fleet_check::check_step;
 use fleet_field::Field;
 use fleet_grid::Grid;
 use fleet_hooks::{TieHook, TieLaw, TieView};
-use fleet_map::MapText;
+use fleet_map::{MapText, read_map};
 use fleet_pibt::Stepper;
 use std::alloc::Global;
 use std::process::Abort;
@@ -39,11 +40,35 @@ fn maps_as_they_are_known(rt: HostRuntime) -> Result<(), Fail> {
     Ok(())
 }
 
+/// A corridor and a comb have one edge fewer than cells, a chessboard none, and a border as many.
+#[test]
+fn shapes_as_they_are_known(rt: HostRuntime) -> Result<(), Fail> {
+    let known = [
+        (524_800, 524_799),
+        (525_311, 525_310),
+        (524_800, 524_799),
+        (524_288, 0),
+        (1_048_576, 2_095_104),
+        (4_092, 4_092),
+    ];
+    for (at, shape) in Shape::ALL.iter().enumerate() {
+        let text = shape.text(rt.alloc())?;
+        let Ok(map) = read_map(rt.alloc(), &text) else {
+            return Err(Fail::from("a map"));
+        };
+        let grid = Grid::new(map)?;
+        let counts = (grid.floor_count(), grid.edge_count());
+        assert!(rt; known.get(at) == Some(&counts), "{at}: {counts:?}");
+    }
+    Ok(())
+}
+
 #[test]
 fn words_of_kernels(rt: HostRuntime) {
     assert!(rt; Kernel::named("step") == Some(Kernel::Step));
     assert!(rt; Kernel::named("tick") == Some(Kernel::Tick));
     assert!(rt; Kernel::named("lifelong") == Some(Kernel::Lifelong));
+    assert!(rt; Kernel::named("hostile") == Some(Kernel::Hostile));
     assert!(rt; Kernel::named("steps").is_none());
 }
 

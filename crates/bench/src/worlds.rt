@@ -18,7 +18,7 @@ use std::thread::Threads;
 use std::time::Clock;
 
 /// A law that any stamp meets.
-const STAMPS: StampLaw = StampLaw {
+pub const STAMPS: StampLaw = StampLaw {
     low: 0,
     high: 4_294_967_295,
 };

@@ -13,8 +13,6 @@ mod program;
 mod report;
 mod said;
 mod service;
-#[cfg(test)]
-mod tests;
 mod texts;
 mod words;
 

@@ -7,13 +7,14 @@ use crate::shown::{held, shown};
 use fleet_trace::write_trace;
 use fleet_world::World;
 use std::alloc::{Alloc, AllocError, Allocator, Global};
+use std::fmt::Write;
 use std::sync::atomic::{AtomicU64, Ordering};
 
 /// A row as far as it was played.
 #[derive(Drop)]
 pub struct Played {
-    /// What each call answered in the end.
-    pub answers: Vec<String>,
+    /// What each call answered in the end, a line each.
+    pub answers: String,
     /// The call that was refused memory.
     pub refused: Option<usize>,
     /// Whether that call left all that is shown as it was, and called no closure that makes a stamp.
@@ -29,7 +30,7 @@ pub struct Played {
 impl Played {
     fn new(alloc: Global) -> Played {
         Played {
-            answers: Vec::new(alloc),
+            answers: String::new(alloc),
             refused: None,
             same: true,
             spent: false,
@@ -66,7 +67,7 @@ pub(crate) fn play_calls<A: Allocator + Copy, R: Alloc<A = A>>(
             answer = make(alloc, rt, world, &mut clients, *call)?;
         }
         match answer {
-            Some(answer) => played.answers.push(answer)?,
+            Some(answer) => writeln!(played.answers, "{answer}")?,
             None => played.same = false,
         }
     }

@@ -3,20 +3,13 @@
 use crate::case::Case;
 use crate::closures::run_row;
 use crate::rounds::MANY;
-use crate::runs::Run;
+use crate::runs::{Ending, Run, end_alike};
 use crate::stage::{Stage, read};
 use crate::tally::{Sheet, Tally};
 use fleet_world::Event;
 use std::alloc::{Alloc, AllocError, Global};
 use std::fmt::Write;
 use std::thread::Threads;
-
-/// What a run that is not refused comes to.
-#[derive(Drop)]
-struct Ending {
-    replies: Vec<String>,
-    trace: String,
-}
 
 /// Refuses each growth in turn. The result is whether it ended behind the last growth, with the same replies and trace.
 fn refuse_each<R: Alloc<A = Global> + Threads + Sync>(
@@ -34,13 +27,7 @@ fn refuse_each<R: Alloc<A = Global> + Threads + Sync>(
             Ok(Run::Event(event)) => sheet.count(event, true),
             Ok(Run::Judge { again }) => judged.count(again),
             Ok(Run::Faulty) => return Ok(false),
-            Ok(
-                Run::Ended {
-                    replies,
-                    trace,
-                    spent,
-                },
-            ) => return Ok(spent && replies == base.replies && trace == base.trace),
+            Ok(Run::Ended { ending, spent }) => return Ok(spent && end_alike(&ending, base)),
         }
     }
     Ok(false)
@@ -57,10 +44,9 @@ pub(crate) fn tell_runs<R: Alloc<A = Global> + Threads + Sync>(
         return writeln!(told, "no row");
     };
     let events = script.events.as_slice();
-    let Ok(Run::Ended { replies, trace, .. }) = run_row(rt, case, events, MANY)? else {
+    let Ok(Run::Ended { ending: base, .. }) = run_row(rt, case, events, MANY)? else {
         return writeln!(told, "not run");
     };
-    let base = Ending { replies, trace };
     let mut sheet = Sheet::new(alloc, events.len())?;
     let mut judged = Tally::NONE;
     let ended = refuse_each(rt, case, events, &base, &mut sheet, &mut judged)?;

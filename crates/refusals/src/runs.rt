@@ -1,8 +1,29 @@
 //! How a run ends, and what its judge says.
 
+ghost use Rattle.std.specs.Prelude.{◌≡◌, ◌↔◌, IsTrue, string_bytes};
+
 use fleet_trace::{JudgeFault, judge, write_trace};
 use fleet_world::{OpenFault, Played, RunFault};
 use std::alloc::{AllocError, Allocator, Global};
+use std::fmt::Write;
+
+/// What a run that was not refused came to.
+#[derive(Drop)]
+pub struct Ending {
+    /// A line for each reply.
+    pub replies: String,
+    pub trace: String,
+}
+
+/// Whether two runs came to the same.
+pub(crate) fn end_alike(one: &Ending, other: &Ending) -> bool
+    ensures { IsTrue result ↔
+        (string_bytes one.now.replies ≡ string_bytes other.now.replies)
+        × (string_bytes one.now.trace ≡ string_bytes other.now.trace) }
+{
+    one.replies.as_bytes() == other.replies.as_bytes()
+        && one.trace.as_bytes() == other.trace.as_bytes()
+}
 
 /// How a run of a row ended.
 #[derive(Drop)]
@@ -12,27 +33,21 @@ pub enum Run {
     /// The event of this number was.
     Event(usize),
     /// The judge was, and judged alike when it was asked again.
-    Judge {
-        again: bool,
-    },
+    Judge { again: bool },
     /// The run did not end as a row does.
     Faulty,
-    /// Nothing was refused: the replies, the trace, and whether a growth behind them is refused.
-    Ended {
-        replies: Vec<String>,
-        trace: String,
-        spent: bool,
-    },
+    /// Nothing was refused; whether a growth behind the end is.
+    Ended { ending: Ending, spent: bool },
 }
 
-/// Each reply as text.
+/// A line for each reply.
 fn replies_of<A: Allocator + Copy>(
     alloc: Global,
     played: &Played<A>,
-) -> Result<Vec<String>, AllocError> {
-    let mut replies = Vec::new(alloc);
+) -> Result<String, AllocError> {
+    let mut replies = String::new(alloc);
     for reply in played.replies.as_slice() {
-        replies.push(format!(in alloc; "{reply:?}")?)?;
+        writeln!(replies, "{reply:?}")?;
     }
     Ok(replies)
 }
@@ -51,11 +66,13 @@ fn judge_run<A: Allocator + Copy>(
             Ok(Run::Judge { again })
         }
         Err(JudgeFault::Illegal { .. }) => Ok(Run::Faulty),
-        Ok(()) => Ok(Run::Ended {
-            replies,
-            trace: write_trace(alloc, &chapter)?,
-            spent: Vec::from_slice(heap, &[0u8]).is_err(),
-        }),
+        Ok(()) => {
+            let trace = write_trace(alloc, &chapter)?;
+            Ok(Run::Ended {
+                ending: Ending { replies, trace },
+                spent: Vec::from_slice(heap, &[0u8]).is_err(),
+            })
+        }
     }
 }
 

@@ -73,12 +73,12 @@ impl Sheet {
     }
 
     /// A line for each stage and each call with its answer.
-    pub(crate) fn tell(&self, told: &mut String, answers: &[String]) -> Result<(), AllocError> {
+    pub(crate) fn tell(&self, told: &mut String, answers: &str) -> Result<(), AllocError> {
         for (count, stage) in self.stages.iter().zip(Stage::ALL.iter()) {
             writeln!(told, "{}; {count} refused", stage.name())?;
         }
-        for (tally, answer) in self.calls.iter().zip(answers.iter()) {
-            tally.tell(told, answer.as_str())?;
+        for (tally, answer) in self.calls.iter().zip(answers.lines()) {
+            tally.tell(told, answer)?;
         }
         Ok(())
     }

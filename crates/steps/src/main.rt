@@ -1,6 +1,6 @@
 //! `steps` lets `check_step` judge each tick of the rows that it reads from standard input, as the program `errands` writes
 //! them down. A line `= NAME` begins a row, and a bundle of a map and a script stands behind it. A line tells how many steps
-//! the row has and that each of them is conflict-free, or which is not.
+//! the row has, that each of them is conflict-free, or which is not, and how many arrivals they bring.
 #![tactic(auto)]
 
 mod case;

@@ -59,8 +59,11 @@ pub(crate) fn tell<R: Alloc<A = Global> + Threads + Sync + Wait>(
         return writeln!(told, "{name}: no chapter");
     };
     match walk(alloc, &grid, &chapter)? {
-        Finding::ConflictFree { steps } => {
-            writeln!(told, "{name}: ticks {steps}, each conflict-free")
+        Finding::ConflictFree { steps, arrivals } => {
+            writeln!(
+                told,
+                "{name}: ticks {steps}, each conflict-free, arrivals {arrivals}"
+            )
         }
         finding => writeln!(told, "{name}: {finding:?}"),
     }

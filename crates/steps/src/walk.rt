@@ -9,8 +9,8 @@ use std::alloc::{AllocError, Global};
 /// What is found of a chapter's steps.
 #[derive(Clone, Copy, Debug, PartialEq, Eq)]
 pub enum Finding {
-    /// Each of so many is conflict-free.
-    ConflictFree { steps: u32 },
+    /// Each of so many is conflict-free, and they bring so many arrivals.
+    ConflictFree { steps: u32, arrivals: u64 },
     /// The step of this number, from 1, is not.
     Refused { step: u32, fault: StepFault },
     /// The step of this number does not begin with distinct floor cells.
@@ -30,8 +30,9 @@ fn cells_of(alloc: Global, chapter: &Chapter) -> Result<Vec<u32>, AllocError> {
 pub(crate) fn walk(alloc: Global, grid: &Grid, chapter: &Chapter) -> Result<Finding, AllocError> {
     let mut from = cells_of(alloc, chapter)?;
     let mut step = 0u32;
+    let mut arrivals = 0u64;
     for entry in &chapter.entries {
-        let Entry::Tick { to, .. } = entry else {
+        let Entry::Tick { to, arrived, .. } = entry else {
             continue;
         };
         step = step.saturating_add(1);
@@ -44,6 +45,10 @@ pub(crate) fn walk(alloc: Global, grid: &Grid, chapter: &Chapter) -> Result<Find
             Err(fault) => return Ok(Finding::Refused { step, fault }),
         }
         from = Vec::from_slice(alloc, to.as_slice())?;
+        arrivals = arrivals.saturating_add(arrived.len() as u64);
     }
-    Ok(Finding::ConflictFree { steps: step })
+    Ok(Finding::ConflictFree {
+        steps: step,
+        arrivals,
+    })
 }

@@ -1,5 +1,7 @@
 //! Readers and writers that fail, each in turn.
 
+ghost use Rattle.std.specs.Prelude.{◌≡◌, IsTrue, [], codes};
+
 use crate::case::Case;
 use crate::job::{Outcome, run_job};
 use crate::sink::Sink;
@@ -48,11 +50,20 @@ fn read_by<'x, R: Alloc<A = Global> + Threads + Sync + Wait>(
 }
 
 /// Whether a file failed before anything was written.
-fn is_file_fault(met: &Outcome) -> bool {
+fn is_file_fault(met: &Outcome) -> bool
+    ensures status { IsTrue result → met.now.status ≡ 3 }
+    ensures output { IsTrue result → met.now.output.items ≡ [] }
+    ensures complaint { IsTrue result → met.now.complaint.items ≡ codes "errands: file\n" }
+{
     met.status == 3 && met.output.is_empty() && met.complaint.as_slice() == COMPLAINT
 }
 
-fn is_same(met: &Outcome, wanted: &Outcome) -> bool {
+/// Whether the same came out.
+fn is_same(met: &Outcome, wanted: &Outcome) -> bool
+    ensures status { IsTrue result → met.now.status ≡ wanted.now.status }
+    ensures output { IsTrue result → met.now.output.items ≡ wanted.now.output.items }
+    ensures complaint { IsTrue result → met.now.complaint.items ≡ wanted.now.complaint.items }
+{
     met.status == wanted.status && met.output == wanted.output && met.complaint == wanted.complaint
 }
 

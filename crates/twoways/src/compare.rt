@@ -1,5 +1,9 @@
 //! One trace, judged in two ways.
 
+ghost use Rattle.std.specs.Prelude.{◌≡◌, ℕ, None, Some, Ok, Err};
+ghost use Rattle.twoways.specs.declared.compare.Answer.TheVariants.{Legal, Broken};
+ghost use Rattle.fleet_trace.specs.declared.fault.JudgeFault.TheVariants.{Illegal};
+
 use crate::rules::first_fault;
 use crate::site::Site;
 use fleet_grid::Grid;
@@ -20,6 +24,21 @@ pub enum Answer {
     Unlike,
 }
 
+/// What the judge and a reading of the rules of its own say together. None where the judge had no memory.
+fn said_by_both(said: Result<(), JudgeFault>, told: Option<(u64, u8)>) -> Option<Answer>
+    ensures legal { result ≡ Some Legal → (said ≡ Ok tt) × (told ≡ None) }
+    ensures broken { (at rule : ℕ) → result ≡ Some (Broken at rule) → (said ≡ Err (Illegal at rule)) × (told ≡ Some (at, rule)) }
+{
+    match (said, told) {
+        (Err(JudgeFault::NoMemory), _) => None,
+        (Ok(()), None) => Some(Answer::Legal),
+        (Err(JudgeFault::Illegal { at, rule }), Some(first)) if first == (at, rule) => {
+            Some(Answer::Broken { at, rule })
+        }
+        _ => Some(Answer::Unlike),
+    }
+}
+
 /// What both ways say of a text.
 pub(crate) fn compare(
     alloc: Global,
@@ -34,12 +53,5 @@ pub(crate) fn compare(
         Err(TraceFault::Shape | TraceFault::Version) => return Ok(Answer::Refused),
     };
     let told = first_fault(alloc, site, &chapter)?;
-    match judge(alloc, grid, &chapter) {
-        Err(JudgeFault::NoMemory) => Err(AllocError),
-        Ok(()) if told.is_none() => Ok(Answer::Legal),
-        Err(JudgeFault::Illegal { at, rule }) if told == Some((at, rule)) => {
-            Ok(Answer::Broken { at, rule })
-        }
-        _ => Ok(Answer::Unlike),
-    }
+    said_by_both(judge(alloc, grid, &chapter), told).ok_or(AllocError)
 }

@@ -1,5 +1,8 @@
 //! A row as a run, with closures that note what they are shown.
 
+ghost use Rattle.std.specs.Prelude.{◌≡◌};
+ghost use Rattle.views.specs.declared.play.Finding.TheVariants.{AsTheRow};
+
 use crate::note::Shown;
 use crate::row::Row;
 use fleet_grid::{Dir, Grid};
@@ -88,6 +91,32 @@ fn row_stamps(alloc: Global, row: &Row) -> Result<Vec<u32>, AllocError> {
     Ok(stamps)
 }
 
+/// What is compared of a run: what its closures noted, its stamps, and its robots' cells at the end.
+#[derive(Clone, Copy, Debug)]
+pub(crate) struct Noted<'a> {
+    note: u64,
+    stamps: &'a [u32],
+    cells: &'a [u32],
+}
+
+/// Compares what a run came to with what it was to come to.
+fn compare_noted(met: Noted<'_>, wanted: Noted<'_>) -> Finding
+    ensures views { result ≡ AsTheRow → met.entry.note ≡ wanted.entry.note }
+    ensures stamps { result ≡ AsTheRow → met.entry.stamps.now ≡ wanted.entry.stamps.now }
+    ensures ways { result ≡ AsTheRow → met.entry.cells.now ≡ wanted.entry.cells.now }
+{
+    if met.note != wanted.note {
+        return Finding::Views;
+    }
+    if met.stamps != wanted.stamps {
+        return Finding::Stamps;
+    }
+    if met.cells != wanted.cells {
+        return Finding::Ways;
+    }
+    Finding::AsTheRow
+}
+
 /// Compares a run with the row.
 fn compare(
     alloc: Global,
@@ -98,16 +127,18 @@ fn compare(
     let Ok(played) = ended else {
         return Ok(Finding::NotPlayed);
     };
-    if note != row.shown.iter().fold(0, |note, shown| shown.noted(note)) {
-        return Ok(Finding::Views);
-    }
-    if stamps_of(alloc, &played)?.as_slice() != row_stamps(alloc, row)?.as_slice() {
-        return Ok(Finding::Stamps);
-    }
-    if played.world.placement() != row.end {
-        return Ok(Finding::Ways);
-    }
-    Ok(Finding::AsTheRow)
+    let (stamps, wanted_stamps) = (stamps_of(alloc, &played)?, row_stamps(alloc, row)?);
+    let met = Noted {
+        note,
+        stamps: &stamps,
+        cells: played.world.placement(),
+    };
+    let wanted = Noted {
+        note: row.shown.iter().fold(0, |note, shown| shown.noted(note)),
+        stamps: &wanted_stamps,
+        cells: row.end,
+    };
+    Ok(compare_noted(met, wanted))
 }
 
 /// The row's grid. None where the letters do not fill the sides.

@@ -1,5 +1,7 @@
 //! What a world answers and shows, in words.
 
+ghost use Rattle.std.specs.Prelude.{◌≡◌, ◌<◌, codes};
+
 use fleet_world::{Notice, ShutFault, TakeFault, TickFault, TickReport, Verdict, World};
 use std::alloc::{AllocError, Global};
 
@@ -74,13 +76,16 @@ pub(crate) fn give_line(alloc: Global, answer: Option<Notice>) -> Result<String,
     }
 }
 
+/// How a wait lies beside a bound.
+fn beside_bound(wait: u64, bound: u64) -> &'static str
+    ensures below { result.now ≡ codes "below" → wait < bound }
+{
+    if wait < bound { "below" } else { "not below" }
+}
+
 /// The line of a greatest wait beside a bound.
 pub(crate) fn busy_line(alloc: Global, greatest: u64, bound: u64) -> Result<String, AllocError> {
-    let kept = if greatest < bound {
-        "below"
-    } else {
-        "not below"
-    };
+    let kept = beside_bound(greatest, bound);
     format!(in alloc; "greatest wait: {kept} {bound}\n")
 }
 
