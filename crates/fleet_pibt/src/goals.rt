@@ -1,6 +1,11 @@
 //! What a step asks about the robots' goals.
 
 ghost use Rattle.std.specs.Prelude.{◌≡◌, ℕ, Option};
+ghost use Rattle.fleet_pibt.specs.Ways.{IsWays};
+
+use crate::ways::Ways;
+use fleet_grid::Grid;
+use std::alloc::Allocator;
 
 /// Where each robot goes, and how far that is.
 pub trait Goals {
@@ -15,4 +20,9 @@ pub trait Goals {
     /// The number of edges from the cell to the robot's goal; none where no walk leads there.
     fn at(&self, robot: u32, cell: u32) -> Option<u32>
         ensures { result ≡ distance self.now robot cell };
+
+    /// Which ways out of the cell lead nearer to the robot's goal: those to a floor neighbour with a lesser distance. An idle
+    /// robot has none.
+    fn ways<A: Allocator + Copy>(&self, grid: &Grid<A>, robot: u32, cell: u32) -> Ways
+        ensures { IsWays grid.now (goal_of self.now robot) (distance self.now robot) cell result };
 }

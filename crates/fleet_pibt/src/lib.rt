@@ -13,10 +13,12 @@ mod sight;
 mod stepper;
 mod table;
 mod tables;
+mod ways;
 
 pub use goals::Goals;
 pub use priority::order;
 pub use stepper::Stepper;
+pub use ways::{Ways, ways_by_distance};
 
 #[cfg(test)]
 mod tests;

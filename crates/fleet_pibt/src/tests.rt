@@ -3,12 +3,12 @@
 
 ghost use Rattle.std.specs.Prelude.{◌≡◌, ℕ, Option, Some, None, cond, ◌==◌};
 
-use crate::{Goals, Stepper, order};
+use crate::{Goals, Stepper, Ways, order, ways_by_distance};
 use fleet_grid::Grid;
 use fleet_hooks::{TieHook, TieLaw, TieView};
 use fleet_map::MapText;
 use refusing::Refusing;
-use std::alloc::AllocError;
+use std::alloc::{AllocError, Allocator};
 use std::sync::Arc;
 use std::sync::atomic::{AtomicU64, Ordering};
 use std::test::Fail;
@@ -33,6 +33,10 @@ impl Goals for NoGoals {
     fn at(&self, _robot: u32, _cell: u32) -> Option<u32> {
         None
     }
+
+    fn ways<A: Allocator + Copy>(&self, grid: &Grid<A>, robot: u32, cell: u32) -> Ways {
+        ways_by_distance(self, grid, robot, cell)
+    }
 }
 
 /// Each robot goes to cell 1, on the map `..`.
@@ -49,6 +53,10 @@ impl Goals for ToTheEast {
 
     fn at(&self, _robot: u32, cell: u32) -> Option<u32> {
         Some(if cell == 1 { 0 } else { 1 })
+    }
+
+    fn ways<A: Allocator + Copy>(&self, grid: &Grid<A>, robot: u32, cell: u32) -> Ways {
+        ways_by_distance(self, grid, robot, cell)
     }
 }
 
