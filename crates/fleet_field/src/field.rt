@@ -1,12 +1,14 @@
 //! The distances of all cells to one goal.
 
-ghost use Rattle.std.specs.Prelude.{◌≡◌, ℕ, IfOk, slice_index_or};
-ghost use Rattle.fleet_grid.specs.Floor.{IsFloor};
+ghost use Rattle.std.specs.Prelude.{◌≡◌, ℕ, ◌↔◌, IfOk, IsTrue, slice_index_or};
+ghost use Rattle.fleet_grid.specs.Floor.{IsFloor, IsNeighbourIn};
+ghost use Rattle.fleet_grid.specs.Ways.{AreNearer, IsLess};
 ghost use Rattle.fleet_field.specs.Field.{IsField};
 
 use crate::columns::Columns;
 use crate::flood::flood;
-use fleet_grid::{Grid, WALL};
+use crate::ways::{is_less, ways_of};
+use fleet_grid::{Dir, Grid, WALL};
 use std::alloc::{AllocError, Allocator, Global};
 use std::marker::Model;
 
@@ -64,6 +66,28 @@ impl<A: Allocator + Copy> Field<A> {
         }
         let dist = self.dist[self.columns.place(self.stride, cell)];
         if dist < WALL { Some(dist) } else { None }
+    }
+
+    /// Whether the neighbour in a direction is nearer to the goal than the cell.
+    fn is_nearer<B: Allocator + Copy>(&self, grid: &Grid<B>, cell: u32, dir: Dir) -> bool
+        ensures { (w : ℕ) → IsNeighbourIn grid.now dir cell w → IsTrue result ↔ IsLess (slice_index_or self.now.away w None) (slice_index_or self.now.away cell None) }
+    {
+        match grid.neighbour(cell, dir) {
+            Some(next) => is_less(self.at(next), self.at(cell)),
+            None => false,
+        }
+    }
+
+    /// The ways from a cell of the map that lead nearer to the goal: bit `dir.number()` stands for the way in that direction.
+    pub fn ways<B: Allocator + Copy>(&self, grid: &Grid<B>, cell: u32) -> u8
+        ensures { AreNearer grid.now (λ c. slice_index_or self.now.away c None) cell result }
+    {
+        ways_of(
+            self.is_nearer(grid, cell, Dir::North),
+            self.is_nearer(grid, cell, Dir::East),
+            self.is_nearer(grid, cell, Dir::South),
+            self.is_nearer(grid, cell, Dir::West),
+        )
     }
 
     /// The goal.

@@ -6,6 +6,7 @@ mod field;
 mod flood;
 mod several;
 mod store;
+mod ways;
 
 pub use field::Field;
 pub use several::fields;

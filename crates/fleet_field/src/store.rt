@@ -2,6 +2,7 @@
 
 ghost use Rattle.std.specs.Prelude.{◌≡◌, ◌≢◌, ◌≤◌, ◌⊎◌, ℕ, ◌+◌, ◌<◌, ◌^◌, [], ◌∷◌, None, Some, true, false, length, vec_len, vec_capacity, slice_index, ◌↔◌, IfOk, OnOk, OnErr, IsSome, IsTrue, MatchOption, slice_index_or};
 ghost use Rattle.fleet_grid.specs.Floor.{IsFloor};
+ghost use Rattle.fleet_grid.specs.Ways.{AreNearer};
 ghost use Rattle.fleet_field.specs.Field.{IsField, Aim};
 ghost use Rattle.fleet_field.specs.Store.{shown, Serves, IsOnce, IsHold, IsRelease, HasUsesLeft};
 ghost use Rattle.fleet_field.specs.Several.{AreHeld};
@@ -252,6 +253,15 @@ impl<A: Allocator + Copy> FieldStore<A> {
         ensures { (held : HeldView Aim) → shown self.now key ≡ Some held → result ≡ slice_index_or held.field.away cell None }
     {
         self.held[key].field.at(cell)
+    }
+
+    /// The ways from a cell of the map that lead nearer to the goal of the key: bit `dir.number()` stands for the way in
+    /// that direction.
+    pub fn ways<B: Allocator + Copy>(&self, grid: &Grid<B>, key: usize, cell: u32) -> u8
+        requires { IsSome (shown self.now key) }
+        ensures { (held : HeldView Aim) → shown self.now key ≡ Some held → AreNearer grid.now (λ c. slice_index_or held.field.away c None) cell result }
+    {
+        self.held[key].field.ways(grid, cell)
     }
 
     /// The goal of the key.

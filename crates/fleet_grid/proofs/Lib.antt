@@ -9,3 +9,4 @@ pub mod CountLemmas
 pub mod Neighbours
 pub mod Least
 pub mod Shortest
+pub mod Colours

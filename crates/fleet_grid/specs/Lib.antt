@@ -7,3 +7,4 @@ pub mod Step
 pub mod Parts
 pub mod Padded
 pub mod Kept
+pub mod Ways

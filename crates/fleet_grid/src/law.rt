@@ -1,7 +1,7 @@
 //! Laws of the floor graph, for the proofs of the crates above. No call does anything.
 
-ghost use Rattle.std.specs.Prelude.{◌≡◌, ℕ, ◌+◌, ◌<◌, ◌≤◌, ◌↔◌, true, List, length, Some, None};
-ghost use Rattle.fleet_grid.specs.Floor.{Floor, IsFloor, IsNeighbour, IsNeighbourIn};
+ghost use Rattle.std.specs.Prelude.{◌≡◌, ℕ, ◌+◌, ◌<◌, ◌≤◌, ◌↔◌, ◌⊎◌, true, List, length, Some, None};
+ghost use Rattle.fleet_grid.specs.Floor.{Floor, HasForm, IsFloor, IsNeighbour, IsNeighbourIn};
 ghost use Rattle.fleet_grid.specs.declared.dir.Dir.TheVariants.{East, South};
 ghost use Rattle.fleet_grid.specs.Counts.{has_east, has_south};
 ghost use Rattle.fleet_grid.specs.Walk.{Walks, AreJoined, AreApart, IsDistance};
@@ -37,4 +37,9 @@ pub fn distance_is_least_walk()
 /// The distances of two neighbours to one cell differ by one at most.
 pub fn distances_across_an_edge()
     ensures { (m : Floor) (a b g d e : ℕ) → IsNeighbour m a b → IsDistance (IsNeighbour m) a g d → IsDistance (IsNeighbour m) b g e → d ≤ e + 1 }
+{}
+
+/// The distances of two neighbours to one cell differ by exactly one.
+pub fn neighbours_differ_by_one()
+    ensures { (m : Floor) (a b g d e : ℕ) → HasForm m → IsNeighbour m a b → IsDistance (IsNeighbour m) a g d → IsDistance (IsNeighbour m) b g e → (d ≡ e + 1) ⊎ (e ≡ d + 1) }
 {}

@@ -14,7 +14,7 @@ pub use dir::Dir;
 pub use grid::Grid;
 pub use law::{
     distance_is_least_walk, distances_across_an_edge, edges_are_counted_once, edges_lead_both_ways,
-    walks_join_and_turn,
+    neighbours_differ_by_one, walks_join_and_turn,
 };
 pub use padded::{FAR, WALL, place_of};
 
