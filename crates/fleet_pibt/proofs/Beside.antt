@@ -1,14 +1,14 @@
 -- From what a robot sees to its candidates.
-use Rattle.std.proofs.Common.{◌≡◌, ◌≢◌, ℕ, zero, suc, ◌+◌, ◌<◌, inl, inr, Bool, true, false, cond, Option, Some, List, [], ◌∷◌, map, length, get_or, slice_get, slice_index, arith, refl, sym, subst, ap, ◌∙◌}
+use Rattle.std.proofs.Common.{◌≡◌, ◌≢◌, ℕ, zero, suc, ◌+◌, ◌<◌, inl, inr, Bool, true, false, IsTrue, ◌↔◌, cond, Option, Some, List, [], ◌∷◌, map, length, get_or, slice_get, slice_index, arith, refl, sym, subst, ap, ◌∙◌}
 use Rattle.fleet_grid.specs.Direction.{dir_number}
 use Rattle.fleet_grid.specs.Floor.{Floor, IsNeighbourIn}
+use Rattle.fleet_grid.specs.Ways.{IsWay}
 use Rattle.fleet_grid.specs.declared.dir.Dir.{Dir}
 use Rattle.fleet_hooks.specs.Law.{IsRank}
 use Rattle.fleet_hooks.specs.declared.law.TieLaw.{TieLaw}
 use Rattle.fleet_pibt.specs.Around.{IsAround, AreArounds, AreRated, IsRated, cell_in}
 use Rattle.fleet_pibt.specs.Candidate.{IsCandidate}
 use Rattle.fleet_pibt.specs.Setting.{Setting, cell_of, cost}
-use Rattle.fleet_pibt.specs.Ways.{leads}
 use Rattle.fleet_pibt.specs.declared.around.Around.{Around}
 
 got-at : {X : Type 0} (xs : List X) (i : ℕ) (d : X) → i < length xs → slice_get xs i ≡ Some (get_or xs i d)
@@ -27,7 +27,7 @@ pub around-at : (m : Floor) (goals : ℕ → Option ℕ) (distance : ℕ → ℕ
 around-at m goals distance from arounds are r d l = are.each r (get_or arounds r d) (got-at arounds r d (omega (arith, are.same_length)))
 
 pub rated-at : (s : Setting) (arounds : List Around) → length arounds ≡ length s.from → AreRated s arounds → (r : ℕ) (d : Around) → r < length s.from →
-    (dir : Dir) (w : ℕ) → IsNeighbourIn s.floor dir (cell_of s r) w → IsRated (leads (get_or arounds r d).nearer dir) (cost s r w) (cost s r (cell_of s r))
+    (dir : Dir) (w : ℕ) → IsNeighbourIn s.floor dir (cell_of s r) w → IsRated (get_or arounds r d).nearer dir (cost s r w) (cost s r (cell_of s r))
 rated-at s arounds same are r d l = are r (get_or arounds r d) (got-at arounds r d (omega (arith, same)))
 
 module _ (m : Floor) (own : ℕ) (dir : Dir) (around : Around) (cell : ℕ) (seen : IsAround m own around) (is : cell ≡ cell_in around dir) where
@@ -44,18 +44,18 @@ module _ (m : Floor) (own : ℕ) (dir : Dir) (around : Around) (cell : ℕ) (see
       subst (λ (x : ℕ). IsNeighbourIn m dir own x) (sym is)
       ((seen.beside dir).beside (λ e. ne (is ∙ e ∙ sym seen.here)))
 
-rated-cost : (b : Bool) (c w own : ℕ) → IsRated b w own → c ≡ cond b 0 2 → c + own ≡ w + 1
-rated-cost true c w own p e = omega arith
-rated-cost false c w own p e = omega arith
+rated-cost : (b : Bool) (nearer : ℕ) (dir : Dir) (c w own : ℕ) → IsTrue b ↔ IsWay nearer dir → IsRated nearer dir w own → c ≡ cond b 0 2 → c + own ≡ w + 1
+rated-cost true nearer dir c w own tells p e = let q = p.near (tells.0 refl) in omega (arith, q, e)
+rated-cost false nearer dir c w own tells p e = let q = p.far (λ way. cc (tells.1 way)) in omega (arith, q, e)
 
-pub candidate-from : (s : Setting) (robot : ℕ) (dir : Dir) (around : Around) (cell price rank rank' side : ℕ) (law : TieLaw) → IsAround s.floor (cell_of s robot) around → cell ≡ cell_in around dir →
-    cell ≢ around.own → ((w : ℕ) → IsNeighbourIn s.floor dir (cell_of s robot) w → IsRated (leads around.nearer dir) (cost s robot w) (cost s robot (cell_of s robot))) → price ≡ cond (leads around.nearer dir) 0 2 →
+pub candidate-from : (s : Setting) (robot : ℕ) (dir : Dir) (around : Around) (cell price rank rank' side : ℕ) (is_near : Bool) (law : TieLaw) → IsAround s.floor (cell_of s robot) around → cell ≡ cell_in around dir →
+    cell ≢ around.own → ((w : ℕ) → IsNeighbourIn s.floor dir (cell_of s robot) w → IsRated around.nearer dir (cost s robot w) (cost s robot (cell_of s robot))) → IsTrue is_near ↔ IsWay around.nearer dir → price ≡ cond is_near 0 2 →
     rank' ≡ rank → side ≡ dir_number dir → IsRank law dir rank → ((l : TieLaw) → slice_get s.laws robot ≡ Some l → law ≡ l) →
     IsCandidate s robot (record { cost = price; rank = rank' + 1; side = side; cell = cell })
-candidate-from s robot dir around cell price rank rank' side law seen is ne rated low same place within tied =
+candidate-from s robot dir around cell price rank rank' side is_near law seen is ne rated tells low same place within tied =
     let step = spot-beside s.floor (cell_of s robot) dir around cell seen is ne in
     record {
-      cost_is = rated-cost (leads around.nearer dir) price (cost s robot cell) (cost s robot (cell_of s robot)) (rated cell step) low;
+      cost_is = rated-cost is_near around.nearer dir price (cost s robot cell) (cost s robot (cell_of s robot)) tells (rated cell step) low;
       kind = inr (record {
         dir = dir;
         step = step;

@@ -2,13 +2,13 @@
 use Rattle.std.proofs.Common.{◌≡◌, ◌≢◌, ℕ, suc, ◌<◌, ◌≤◌, inl, inr, Bool, true, false, Option, Some, None, MatchOption, ◌↔◌, List, [], ◌∷◌, length, sym, subst, refl, ap, ◌∙◌, arith, ◌==◌, unwrap_or}
 use Rattle.std.proofs.lemmas.Bool.Decides.{eqb_tells}
 use Rattle.fleet_grid.specs.Floor.{Floor, IsFloor, IsBeside, IsNeighbourIn, IsNeighbour}
+use Rattle.fleet_grid.specs.Ways.{IsLess}
 use Rattle.fleet_grid.specs.Walk.{Walks, AreJoined, AreApart, IsDistance}
 use Rattle.fleet_grid.specs.declared.dir.Dir.{Dir}
 use Rattle.fleet_grid.specs.declared.dir.Dir.TheVariants.{North, East, South, West}
 use Rattle.fleet_grid.proofs.Forms.{wide}
 use Rattle.fleet_pibt.specs.Goals.{aim, AreGoals}
 use Rattle.fleet_pibt.specs.Setting.{Setting, robots, cell_of, near, cost, cost_with, IsScene}
-use Rattle.fleet_pibt.specs.Ways.{IsCloser}
 use Rattle.fleet_pibt.proofs.Reserve.{none_or_some}
 
 near-sym : (m : Floor) (a b : ℕ) (dir : Dir) → IsNeighbourIn m dir a b → IsNeighbour m b a
@@ -67,14 +67,10 @@ pub near-apart : (s : Setting) → IsScene s → (a b : ℕ) → near s a b → 
 near-apart s scene a b n e =
     beside-apart s.floor.width a (wide s.floor a scene.form n.1.from) n.0 (subst (λ (x : ℕ). IsBeside s.floor.width n.0 a x) (sym e) n.1.beside)
 
-closer-is : (goal a b : Option ℕ) (g x y : ℕ) → goal ≡ Some g → a ≡ Some x → b ≡ Some y → IsCloser goal a b ↔ (x < y)
-closer-is goal a b g x y e f h =
-    let same : IsCloser goal a b ≡ IsCloser (Some g) (Some x) (Some y) = ap (λ (o : Option ℕ). IsCloser o a b) e ∙ (ap (λ (o : Option ℕ). IsCloser (Some g) o b) f ∙ ap (λ (o : Option ℕ). IsCloser (Some g) (Some x) o) h) in
+less-is : (a b : Option ℕ) (x y : ℕ) → a ≡ Some x → b ≡ Some y → IsLess a b ↔ (x < y)
+less-is a b x y e f =
+    let same : IsLess a b ≡ IsLess (Some x) (Some y) = ap (λ (o : Option ℕ). IsLess o b) e ∙ ap (λ (o : Option ℕ). IsLess (Some x) o) f in
     (λ c. subst (λ (T : Type 0). T) same c, λ c. subst (λ (T : Type 0). T) (sym same) c)
-
-not-closer : (goal a b : Option ℕ) → goal ≡ None → IsCloser goal a b → ⊥
-not-closer None a b e c = c
-not-closer (Some g) a b e c = absurd (cc e)
 
 -- the cost of a cell is its distance to the aim, at a robot's own cell and beside it
 module _ (s : Setting) (scene : IsScene s) (waits : List (Option ℕ)) (are : AreGoals s.floor s.from waits s.goals s.distance) (r : ℕ) (l : r < robots s) where
@@ -102,7 +98,7 @@ module _ (s : Setting) (scene : IsScene s) (waits : List (Option ℕ)) (are : Ar
   idle-cost : (c : ℕ) (b : Bool) → s.goals r ≡ None → (c == cell_of s r) ≡ b → cost s r c ≡ cost_with None (s.distance r c) b
   idle-cost c b none e = ap (λ (o : Option ℕ). cost_with o (s.distance r c) (c == cell_of s r)) none ∙ ap (cost_with None (s.distance r c)) e
 
-  idle-own : s.goals r ≡ None → 0 ≡ cost s r (cell_of s r)
+  pub idle-own : s.goals r ≡ None → 0 ≡ cost s r (cell_of s r)
   idle-own none = sym (elim (eqb_tells (cell_of s r) (cell_of s r)) [ inl p ↦ idle-cost (cell_of s r) true none p.0 | inr p ↦ absurd (p.1 refl) ])
 
   pub cost-own : IsDistance (near s) (cell_of s r) (aim s.from s.goals r) (cost s r (cell_of s r))
@@ -131,14 +127,11 @@ module _ (s : Setting) (scene : IsScene s) (waits : List (Option ℕ)) (are : Ar
     | inr some ↦ (some.0, some.1, cost-some g c some.0 is some.1)
   ]
 
-  -- a neighbour is closer by the distances where it costs less
-  pub closer-less : (w : ℕ) → near s (cell_of s r) w → IsCloser (s.goals r) (s.distance r w) (s.distance r (cell_of s r)) ↔ (cost s r w < cost s r (cell_of s r))
-  closer-less w n = elim (none_or_some (s.goals r)) [
-    | inl none ↦ (let e = idle-own none in (λ c. absurd (not-closer (s.goals r) (s.distance r w) (s.distance r (cell_of s r)) none c), λ less. absurd (omega (arith, less, e))))
-    | inr some ↦ (
-        let joined = are.reached r some.0 l some.1 in
-        let own = known-at some.0 (cell_of s r) some.1 (scene.placed.on_floor r l) joined in
-        let other = known-at some.0 w some.1 n.1.to (record { steps = cell_of s r ∷ joined.steps; walk = (near-back s _ _ n, joined.walk) }) in
-        let is = closer-is (s.goals r) (s.distance r w) (s.distance r (cell_of s r)) some.0 other.0 own.0 some.1 other.1 own.1 in
-        (λ c. (let less = is.0 c in omega (arith, less, other.2, own.2)), λ less. is.1 (omega (arith, less, other.2, own.2))))
-  ]
+  -- a neighbour is nearer by the distances where it costs less
+  pub closer-less : (g : ℕ) → s.goals r ≡ Some g → (w : ℕ) → near s (cell_of s r) w → IsLess (s.distance r w) (s.distance r (cell_of s r)) ↔ (cost s r w < cost s r (cell_of s r))
+  closer-less g is w n =
+      let joined = are.reached r g l is in
+      let own = known-at g (cell_of s r) is (scene.placed.on_floor r l) joined in
+      let other = known-at g w is n.1.to (record { steps = cell_of s r ∷ joined.steps; walk = (near-back s _ _ n, joined.walk) }) in
+      let tells = less-is (s.distance r w) (s.distance r (cell_of s r)) other.0 own.0 other.1 own.1 in
+      (λ c. (let less = tells.0 c in omega (arith, less, other.2, own.2)), λ less. tells.1 (omega (arith, less, other.2, own.2)))

@@ -1,10 +1,10 @@
 -- What a robot sees from its cell: the cells beside it, and which of them are nearer to its goal.
-use Rattle.std.specs.Prelude.{◌≡◌, ◌≢◌, ℕ, ◌+◌, Bool, true, false, List, length, slice_get, slice_index, Option, Some}
+use Rattle.std.specs.Prelude.{◌≡◌, ◌≢◌, ℕ, ◌+◌, List, length, slice_get, slice_index, Option, Some, None}
 use Rattle.fleet_grid.specs.Floor.{Floor, IsNeighbourIn}
+use Rattle.fleet_grid.specs.Ways.{IsWay, AreNearer}
 use Rattle.fleet_grid.specs.declared.dir.Dir.{Dir}
 use Rattle.fleet_grid.specs.declared.dir.Dir.TheVariants.{North, East, South, West}
 use Rattle.fleet_pibt.specs.Setting.{Setting, cell_of, cost, IsScene, IsStanding}
-use Rattle.fleet_pibt.specs.Ways.{leads, IsWays}
 use Rattle.fleet_pibt.specs.declared.around.Around.{Around}
 
 -- the floor neighbour of the cell `own` in a direction, or where there is none `own` itself
@@ -26,18 +26,19 @@ pub record IsAround (m : Floor) (own : ℕ) (around : Around) : Type 0 where
 pub record AreArounds (m : Floor) (goals : ℕ → Option ℕ) (distance : ℕ → ℕ → Option ℕ) (from : List ℕ) (arounds : List Around) : Type 0 where
   pub same_length : length arounds ≡ length from
   pub each : (r : ℕ) (around : Around) → slice_get arounds r ≡ Some around → IsAround m (slice_index from r) around
-  pub nearer : (r : ℕ) (around : Around) → slice_get arounds r ≡ Some around → IsWays m (goals r) (distance r) (slice_index from r) around.nearer
+  pub nearer : (r : ℕ) (around : Around) → slice_get arounds r ≡ Some around → AreNearer m (distance r) (slice_index from r) around.nearer
+  pub idle : (r : ℕ) (around : Around) → slice_get arounds r ≡ Some around → goals r ≡ None → around.nearer ≡ 0
 
--- a neighbour costs one less than the own cell where its way leads nearer, and one more where not
-abbrev pub IsRated : Bool → (cost own : ℕ) → Type 0
-IsRated true cost own = cost + 1 ≡ own
-IsRated false cost own = cost ≡ own + 1
+-- what a neighbour in that direction costs, beside the own cell
+pub record IsRated (nearer : ℕ) (dir : Dir) (cost own : ℕ) : Type 0 where
+  pub near : IsWay nearer dir → cost + 1 ≡ own
+  pub far : (IsWay nearer dir → ⊥) → cost ≡ own + 1
 
 -- the ways that each robot sees tell what its neighbours cost
 abbrev pub AreRated : Setting → List Around → Type 0
 AreRated s arounds =
     (r : ℕ) (around : Around) → slice_get arounds r ≡ Some around →
-    (dir : Dir) (w : ℕ) → IsNeighbourIn s.floor dir (cell_of s r) w → IsRated (leads around.nearer dir) (cost s r w) (cost s r (cell_of s r))
+    (dir : Dir) (w : ℕ) → IsNeighbourIn s.floor dir (cell_of s r) w → IsRated around.nearer dir (cost s r w) (cost s r (cell_of s r))
 
 -- a step's setting, with its tables
 pub record IsWhole (s : Setting) (standing : List (Option ℕ)) (arounds : List Around) : Type 0 where

@@ -12,7 +12,6 @@ pub mod Turn
 pub mod Entry
 pub mod Plan
 pub mod Setting
-pub mod Ways
 pub mod Around
 pub mod Candidate
 pub mod Tables

@@ -1,11 +1,10 @@
 //! What each robot sees from its cell, gathered in one pass before the planning.
 
-ghost use Rattle.std.specs.Prelude.{◌≡◌, ◌≤◌, length};
+ghost use Rattle.std.specs.Prelude.{◌≡◌, ◌≤◌, None, length};
+ghost use Rattle.fleet_grid.specs.Ways.{AreNearer};
 ghost use Rattle.fleet_pibt.specs.Around.{IsSpot, IsAround, AreArounds, cell_in};
-ghost use Rattle.fleet_pibt.specs.Ways.{IsWays};
 
 use crate::goals::Goals;
-use crate::ways::Ways;
 use fleet_grid::{Dir, Grid};
 use std::alloc::Allocator;
 
@@ -18,7 +17,8 @@ pub struct Around {
     pub east: u32,
     pub south: u32,
     pub west: u32,
-    pub nearer: Ways,
+    /// The ways to them, bit by bit.
+    pub nearer: u8,
 }
 
 impl Around {
@@ -29,7 +29,7 @@ impl Around {
         east: 0,
         south: 0,
         west: 0,
-        nearer: Ways::NONE,
+        nearer: 0,
     };
 
     /// The cell in a direction.
@@ -55,7 +55,8 @@ fn spot<A: Allocator + Copy>(grid: &Grid<A>, own: u32, dir: Dir) -> u32
 /// What the robot sees from the cell `own`.
 fn look<G: Goals, A: Allocator + Copy>(grid: &Grid<A>, goals: &G, robot: u32, own: u32) -> Around
     ensures cells { IsAround grid.now own result }
-    ensures nearer { IsWays grid.now (G.goal_of goals.now robot) (G.distance goals.now robot) own result.nearer }
+    ensures nearer { AreNearer grid.now (G.distance goals.now robot) own result.nearer }
+    ensures idle { G.goal_of goals.now robot ≡ None → result.nearer ≡ 0 }
 {
     Around {
         own,

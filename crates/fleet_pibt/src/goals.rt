@@ -1,9 +1,8 @@
 //! What a step asks about the robots' goals.
 
-ghost use Rattle.std.specs.Prelude.{◌≡◌, ℕ, Option};
-ghost use Rattle.fleet_pibt.specs.Ways.{IsWays};
+ghost use Rattle.std.specs.Prelude.{◌≡◌, ℕ, Option, None};
+ghost use Rattle.fleet_grid.specs.Ways.{AreNearer};
 
-use crate::ways::Ways;
 use fleet_grid::Grid;
 use std::alloc::Allocator;
 
@@ -21,8 +20,9 @@ pub trait Goals {
     fn at(&self, robot: u32, cell: u32) -> Option<u32>
         ensures { result ≡ distance self.now robot cell };
 
-    /// Which ways out of the cell lead nearer to the robot's goal: those to a floor neighbour with a lesser distance. An idle
-    /// robot has none.
-    fn ways<A: Allocator + Copy>(&self, grid: &Grid<A>, robot: u32, cell: u32) -> Ways
-        ensures { IsWays grid.now (goal_of self.now robot) (distance self.now robot) cell result };
+    /// The ways out of the cell that lead nearer to the robot's goal: bit `dir.number()` stands for the way in that direction,
+    /// and tells of a floor neighbour whether it has a lesser distance. An idle robot has none.
+    fn ways<A: Allocator + Copy>(&self, grid: &Grid<A>, robot: u32, cell: u32) -> u8
+        ensures nearer { AreNearer grid.now (distance self.now robot) cell result }
+        ensures idle { goal_of self.now robot ≡ None → result ≡ 0 };
 }

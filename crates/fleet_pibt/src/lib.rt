@@ -18,7 +18,6 @@ mod ways;
 pub use goals::Goals;
 pub use priority::order;
 pub use stepper::Stepper;
-pub use ways::{Ways, ways_by_distance};
 
 #[cfg(test)]
 mod tests;

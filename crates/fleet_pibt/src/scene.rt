@@ -11,6 +11,7 @@ use crate::choice::{Candidate, cells};
 use crate::goals::Goals;
 use crate::sight::Sight;
 use crate::table::Table;
+use crate::ways::is_way;
 use fleet_grid::{Dir, Grid};
 use fleet_hooks::{TieHook, TieView};
 use std::alloc::Allocator;
@@ -131,7 +132,7 @@ impl<'a, G: Goals, A: Allocator + Copy> Scene<'a, G, A> {
         };
         let rank = u16::from(self.ties[robot as usize].rank(view)) + 1;
         Candidate {
-            cost: cost_beside(around.nearer.lead(dir)),
+            cost: cost_beside(is_way(around.nearer, dir)),
             rank,
             side: dir.number(),
             cell,

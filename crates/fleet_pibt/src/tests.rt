@@ -1,10 +1,12 @@
 //! Worked orders, the smallest steps, how often a tie closure is asked, and each growth refused in turn. Whole runs are
 //! tested above, over proved distances.
 
-ghost use Rattle.std.specs.Prelude.{◌≡◌, ℕ, Option, Some, None, cond, ◌==◌};
+ghost use Rattle.std.specs.Prelude.{◌≡◌, ℕ, ◌↔◌, IsTrue, Option, Some, None, cond, ◌==◌};
+ghost use Rattle.fleet_grid.specs.Floor.{IsNeighbourIn};
+ghost use Rattle.fleet_grid.specs.Ways.{IsLess};
 
-use crate::{Goals, Stepper, Ways, order, ways_by_distance};
-use fleet_grid::Grid;
+use crate::{Goals, Stepper, order};
+use fleet_grid::{Dir, Grid};
 use fleet_hooks::{TieHook, TieLaw, TieView};
 use fleet_map::MapText;
 use refusing::Refusing;
@@ -34,8 +36,22 @@ impl Goals for NoGoals {
         None
     }
 
-    fn ways<A: Allocator + Copy>(&self, grid: &Grid<A>, robot: u32, cell: u32) -> Ways {
-        ways_by_distance(self, grid, robot, cell)
+    fn ways<A: Allocator + Copy>(&self, _grid: &Grid<A>, _robot: u32, _cell: u32) -> u8 {
+        0
+    }
+}
+
+/// Whether a way leads to cell 1 from another cell.
+#[tactic(auto, using(crate::proofs::Rated::beside_once))]
+fn leads_east<A: Allocator + Copy>(grid: &Grid<A>, cell: u32, dir: Dir) -> bool
+    ensures { (w : ℕ) → IsNeighbourIn grid.now dir cell w → IsTrue result ↔ IsLess (Some (cond (w == 1) 0 1)) (Some (cond (cell == 1) 0 1)) }
+{
+    if cell == 1 {
+        return false;
+    }
+    match grid.neighbour(cell, dir) {
+        Some(other) => other == 1,
+        None => false,
     }
 }
 
@@ -55,8 +71,14 @@ impl Goals for ToTheEast {
         Some(if cell == 1 { 0 } else { 1 })
     }
 
-    fn ways<A: Allocator + Copy>(&self, grid: &Grid<A>, robot: u32, cell: u32) -> Ways {
-        ways_by_distance(self, grid, robot, cell)
+    fn ways<A: Allocator + Copy>(&self, grid: &Grid<A>, _robot: u32, cell: u32) -> u8 {
+        let [north, east, south, west] = [
+            leads_east(grid, cell, Dir::North),
+            leads_east(grid, cell, Dir::East),
+            leads_east(grid, cell, Dir::South),
+            leads_east(grid, cell, Dir::West),
+        ];
+        u8::from(north) + 2 * u8::from(east) + 4 * u8::from(south) + 8 * u8::from(west)
     }
 }
 

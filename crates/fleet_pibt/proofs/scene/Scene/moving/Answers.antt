@@ -1,4 +1,4 @@
-use Rattle.std.proofs.Common.{Bool, cond, map, ap, ◌∙◌}
+use Rattle.std.proofs.Common.{map}
 use Rattle.fleet_pibt.specs.Setting.{Setting, setting}
 use Rattle.fleet_pibt.proofs.Beside.{mapped-at, around-at, rated-at, spot-covers, stay-covers, candidate-from}
 use Rattle.fleet_pibt.proofs.scene.Scene.moving.Goals as goal
@@ -13,9 +13,9 @@ returns-clause-candidate g c =
     let seen = around-at _ _ _ _ _ c.requires.whole.gathered c.args.robot _ c.requires.known in
     let self = c.args.self.now in
     let s : Setting = setting self.grid.now self.from.now (g.G.Goals.goal_of self.goals.now) (g.G.Goals.distance self.goals.now) (map (λ h. h.law) self.ties.now) in
-    candidate-from s c.args.robot c.args.dir _ c.beside-cell.result c.cost_beside.result c.rank.result c.from-rank.result c.number.result _ seen c.beside-cell.ensures c.if-cell-around.false
+    candidate-from s c.args.robot c.args.dir _ c.beside-cell.result c.cost_beside.result c.rank.result c.from-rank.result c.number.result c.is_way.result _ seen c.beside-cell.ensures c.if-cell-around.false
     (rated-at s _ c.requires.whole.gathered.same_length c.requires.whole.rated c.args.robot _ c.requires.known c.args.dir)
-    (c.cost_beside.ensures ∙ ap (λ (b : Bool). cond b 0 2) c.lead.ensures)
+    c.is_way.ensures c.cost_beside.ensures
     c.from-rank.ensures c.number.ensures c.rank.ensures
     (λ l e. mapped-at (λ h. h.law) c.args.self.now.ties.now c.args.robot l c.index-self-robot.result e)
 
