@@ -1,8 +1,11 @@
 -- What the robots aim at, by their keys.
-use Rattle.std.proofs.Common.{◌≡◌, ℕ, ◌+◌, ◌<◌, inl, inr, List, length, set, get_or, Option, Some, None, IsSome, MatchOption, refl, sym, ap, subst, ◌∙◌, arith, rules, slice_index_or}
+use Rattle.std.proofs.Common.{◌≡◌, ℕ, ◌+◌, ◌<◌, inl, inr, List, length, set, get_or, Option, Some, None, IsSome, MatchOption, ◌↔◌, refl, sym, ap, subst, ◌∙◌, arith, rules, slice_index_or}
 use Rattle.std.proofs.lemmas.Bool.{cases_eq, cases_lt}
 use Rattle.std.proofs.lemmas.List.{get_or-map, get_or_past, length-map, get_or-set_same, get_or-set_other}
 use Rattle.fleet_grid.specs.Floor.{Floor, IsFloor, IsNeighbour}
+use Rattle.std.proofs.lemmas.Nat.Bits.{bit_at-zero}
+use Rattle.fleet_grid.specs.Direction.{dir_number}
+use Rattle.fleet_grid.specs.Ways.{IsWay, IsLess, AreNearer}
 use Rattle.fleet_grid.specs.Walk.{IsDistance, AreApart}
 use Rattle.fleet_field.specs.Field.{Aim, IsField}
 use Rattle.fleet_field.specs.declared.store.Held.{Held}
@@ -127,3 +130,24 @@ pub distance_shown : (store : List (Option (Held Aim))) (own : Option ℕ) (key 
 distance_shown store own key cell found e some says =
     let h = some_of (shown store key) some in
     says h.0 h.1 ∙ sym (ap (λ (k : Option ℕ). distance_in (field_at store k) cell) e ∙ ap (λ (o : Option (Held Aim)). distance_in (field_in o) cell) h.1)
+
+pub ways_shown : (store : List (Option (Held Aim))) (own : Option ℕ) (key : ℕ) (m : Floor) (cell ways : ℕ) → own ≡ Some key → IsSome (shown store key) → ((held : Held Aim) → shown store key ≡ Some held → AreNearer m (λ c. slice_index_or held.field.away c None) cell ways) →
+    AreNearer m (distance_in (field_at store own)) cell ways
+ways_shown store own key m cell ways e some says dir w n =
+    let h = some_of (shown store key) some in
+    let at : (c : ℕ) → slice_index_or h.0.field.away c None ≡ distance_in (field_at store own) c = λ c. sym (ap (λ (k : Option ℕ). distance_in (field_at store k) c) e ∙ ap (λ (o : Option (Held Aim)). distance_in (field_in o) c) h.1) in
+    subst (λ (x : Option ℕ). IsWay ways dir ↔ IsLess x (distance_in (field_at store own) cell)) (at w)
+    (subst (λ (x : Option ℕ). IsWay ways dir ↔ IsLess (slice_index_or h.0.field.away w None) x) (at cell) (says h.0 h.1 dir w n))
+
+pub goal_there : (store : List (Option (Held Aim))) (own : Option ℕ) (key : ℕ) → own ≡ Some key → IsSome (shown store key) → goal_in (field_at store own) ≡ None → ⊥
+goal_there store own key e some none =
+    let h = some_of (shown store key) some in
+    let at : goal_in (field_at store own) ≡ Some h.0.field.goal = ap (λ (k : Option ℕ). goal_in (field_at store k)) e ∙ ap (λ (o : Option (Held Aim)). goal_in (field_in o)) h.1 in
+    cc (at, none)
+
+-- a robot without a key has no distances, so no way leads nearer
+pub ways_none : (store : List (Option (Held Aim))) (own : Option ℕ) (m : Floor) (cell : ℕ) → own ≡ None → AreNearer m (distance_in (field_at store own)) cell 0
+ways_none store own m cell e dir w n = (
+  λ way. (let zero = bit_at-zero (dir_number dir) in cc (zero, way)),
+  λ less. absurd (subst (λ (k : Option ℕ). IsLess (distance_in (field_at store k) w) (distance_in (field_at store k) cell)) e less),
+)

@@ -4,7 +4,7 @@ ghost use Rattle.std.specs.Prelude.{◌≡◌, ℕ, ◌<◌, ◌≤◌, Some, No
 ghost use Rattle.fleet_grid.specs.Floor.{Floor, IsFloor};
 ghost use Rattle.fleet_goals.specs.Aims.{goals_of, goal, distance, AreOn, AreFloor};
 
-use crate::keys::{distance_of, exchange, goal_of};
+use crate::keys::{distance_of, exchange, goal_of, ways_of};
 use crate::turns::turn_to;
 use fleet_field::FieldStore;
 use fleet_grid::Grid;
@@ -112,5 +112,9 @@ impl<A: Allocator + Copy> Goals for Aims<A> {
 
     fn at(&self, robot: u32, cell: u32) -> Option<u32> {
         distance_of(&self.store, &self.keys, robot, cell)
+    }
+
+    fn ways<B: Allocator + Copy>(&self, grid: &Grid<B>, robot: u32, cell: u32) -> u8 {
+        ways_of(&self.store, &self.keys, grid, robot, cell)
     }
 }

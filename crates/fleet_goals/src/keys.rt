@@ -1,10 +1,12 @@
 //! The robots' keys in the store of fields.
 
-ghost use Rattle.std.specs.Prelude.{◌≡◌, ℕ, ◌<◌, length, slice_set};
+ghost use Rattle.std.specs.Prelude.{◌≡◌, ℕ, ◌<◌, None, length, slice_set};
+ghost use Rattle.fleet_grid.specs.Ways.{AreNearer};
 ghost use Rattle.fleet_goals.specs.Aims.{goal_in, distance_in};
 ghost use Rattle.fleet_goals.specs.Keys.{key_at, field_at, AreShowing, IsGivenBack};
 
 use fleet_field::FieldStore;
+use fleet_grid::Grid;
 use std::alloc::Allocator;
 
 /// The robot's key; none past the last robot.
@@ -42,6 +44,24 @@ pub(crate) fn distance_of<A: Allocator + Copy>(
 {
     let key = key_of(keys, robot)?;
     store.at(key, cell)
+}
+
+/// The ways out of the cell that lead nearer to the robot's goal, a bit for each direction; none without a goal.
+pub(crate) fn ways_of<A: Allocator + Copy, B: Allocator + Copy>(
+    store: &FieldStore<A>,
+    keys: &[Option<usize>],
+    grid: &Grid<B>,
+    robot: u32,
+    cell: u32,
+) -> u8
+    requires { AreShowing store.now keys.now }
+    ensures nearer { AreNearer grid.now (distance_in (field_at store.now (key_at keys.now robot))) cell result }
+    ensures idle { goal_in (field_at store.now (key_at keys.now robot)) ≡ None → result ≡ 0 }
+{
+    match key_of(keys, robot) {
+        Some(key) => store.ways(grid, key, cell),
+        None => 0,
+    }
 }
 
 /// Gives a robot another key, or none, and gives its old one back.

@@ -1,15 +1,15 @@
 -- From what a robot sees to its candidates.
-use Rattle.std.proofs.Common.{◌≡◌, ◌≢◌, ℕ, zero, suc, ◌+◌, ◌<◌, inr, Option, Some, List, [], ◌∷◌, map, length, get_or, slice_get, slice_index, arith, refl, sym, subst, ap, ◌∙◌}
+use Rattle.std.proofs.Common.{◌≡◌, ◌≢◌, ℕ, zero, suc, ◌+◌, ◌<◌, inl, inr, Bool, true, false, IsTrue, ◌↔◌, cond, Option, Some, List, [], ◌∷◌, map, length, get_or, slice_get, slice_index, arith, refl, sym, subst, ap, ◌∙◌}
 use Rattle.fleet_grid.specs.Direction.{dir_number}
 use Rattle.fleet_grid.specs.Floor.{Floor, IsNeighbourIn}
+use Rattle.fleet_grid.specs.Ways.{IsWay}
 use Rattle.fleet_grid.specs.declared.dir.Dir.{Dir}
 use Rattle.fleet_hooks.specs.Law.{IsRank}
 use Rattle.fleet_hooks.specs.declared.law.TieLaw.{TieLaw}
-use Rattle.fleet_pibt.specs.Around.{IsAround, AreArounds, spot_in}
+use Rattle.fleet_pibt.specs.Around.{IsAround, AreArounds, AreRated, IsRated, cell_in}
 use Rattle.fleet_pibt.specs.Candidate.{IsCandidate}
-use Rattle.fleet_pibt.specs.Setting.{Setting, cell_of, cost, cost_of}
+use Rattle.fleet_pibt.specs.Setting.{Setting, cell_of, cost}
 use Rattle.fleet_pibt.specs.declared.around.Around.{Around}
-use Rattle.fleet_pibt.specs.declared.around.Spot.{Spot}
 
 got-at : {X : Type 0} (xs : List X) (i : ℕ) (d : X) → i < length xs → slice_get xs i ≡ Some (get_or xs i d)
 got-at [] i d l = absurd (omega arith)
@@ -23,36 +23,50 @@ mapped-at f (x ∷ xs) zero y d e = cc (e)
 mapped-at f (x ∷ xs) (suc i) y d e = mapped-at f xs i y d e
 
 pub around-at : (m : Floor) (goals : ℕ → Option ℕ) (distance : ℕ → ℕ → Option ℕ) (from : List ℕ) (arounds : List Around) → AreArounds m goals distance from arounds → (r : ℕ) (d : Around) → r < length from →
-    IsAround m (cost_of (goals r) (distance r) (slice_index from r)) (slice_index from r) (get_or arounds r d)
+    IsAround m (slice_index from r) (get_or arounds r d)
 around-at m goals distance from arounds are r d l = are.each r (get_or arounds r d) (got-at arounds r d (omega (arith, are.same_length)))
 
-module _ (m : Floor) (costs : ℕ → ℕ) (own : ℕ) (dir : Dir) (around : Around) (spot : Spot) (seen : IsAround m costs own around) (is : spot ≡ spot_in around dir) where
-  -- the spot in a direction is the neighbour there
-  pub spot-covers : (w : ℕ) → IsNeighbourIn m dir own w → spot.cell ≡ w
-  spot-covers w n = ap (λ (x : Spot). x.cell) is ∙ (seen.beside dir).there w n
+pub rated-at : (s : Setting) (arounds : List Around) → length arounds ≡ length s.from → AreRated s arounds → (r : ℕ) (d : Around) → r < length s.from →
+    (dir : Dir) (w : ℕ) → IsNeighbourIn s.floor dir (cell_of s r) w → IsRated (get_or arounds r d).nearer dir (cost s r w) (cost s r (cell_of s r))
+rated-at s arounds same are r d l = are r (get_or arounds r d) (got-at arounds r d (omega (arith, same)))
+
+module _ (m : Floor) (own : ℕ) (dir : Dir) (around : Around) (cell : ℕ) (seen : IsAround m own around) (is : cell ≡ cell_in around dir) where
+  -- the cell in a direction is the neighbour there
+  pub spot-covers : (w : ℕ) → IsNeighbourIn m dir own w → cell ≡ w
+  spot-covers w n = is ∙ (seen.beside dir).there w n
 
   -- where the own cell stands in there is no neighbour
-  pub stay-covers : (cell : ℕ) → spot.cell ≡ around.own.cell → cell ≡ own → (w : ℕ) → IsNeighbourIn m dir own w → cell ≡ w
-  stay-covers cell same e w n = e ∙ sym seen.here ∙ sym same ∙ spot-covers w n
+  pub stay-covers : (stay : ℕ) → cell ≡ around.own → stay ≡ own → (w : ℕ) → IsNeighbourIn m dir own w → stay ≡ w
+  stay-covers stay same e w n = e ∙ sym seen.here ∙ sym same ∙ spot-covers w n
 
-  pub spot-cost : spot.cost ≡ costs spot.cell
-  spot-cost = ap (λ (x : Spot). x.cost) is ∙ (seen.beside dir).cost_is ∙ ap (λ (x : Spot). costs x.cell) (sym is)
-
-  pub spot-beside : spot.cell ≢ around.own.cell → IsNeighbourIn m dir own spot.cell
+  pub spot-beside : cell ≢ around.own → IsNeighbourIn m dir own cell
   spot-beside ne =
-      subst (λ (x : Spot). IsNeighbourIn m dir own x.cell) (sym is)
-      ((seen.beside dir).beside (λ e. ne (ap (λ (x : Spot). x.cell) is ∙ e ∙ sym seen.here)))
+      subst (λ (x : ℕ). IsNeighbourIn m dir own x) (sym is)
+      ((seen.beside dir).beside (λ e. ne (is ∙ e ∙ sym seen.here)))
 
-pub candidate-from : (s : Setting) (robot : ℕ) (dir : Dir) (around : Around) (spot : Spot) (rank rank' side : ℕ) (law : TieLaw) → IsAround s.floor (cost s robot) (cell_of s robot) around → spot ≡ spot_in around dir →
-    spot.cell ≢ around.own.cell → rank' ≡ rank → side ≡ dir_number dir → IsRank law dir rank → ((l : TieLaw) → slice_get s.laws robot ≡ Some l → law ≡ l) →
-    IsCandidate s robot (record { cost = spot.cost; rank = rank' + 1; side = side; cell = spot.cell })
-candidate-from s robot dir around spot rank rank' side law seen is ne same place within tied = record {
-  cost_is = spot-cost s.floor (cost s robot) (cell_of s robot) dir around spot seen is;
-  kind = inr (record {
-    dir = dir;
-    step = spot-beside s.floor (cost s robot) (cell_of s robot) dir around spot seen is ne;
-    side = place;
-    ranked = omega arith;
-    within = λ l e. (let it = subst (λ (x : TieLaw). IsRank x dir rank) (tied l e) within in (omega (arith, it.low, same), omega (arith, it.high, same)));
-  });
+rated-cost : (b : Bool) (nearer : ℕ) (dir : Dir) (c w own : ℕ) → IsTrue b ↔ IsWay nearer dir → IsRated nearer dir w own → c ≡ cond b 0 2 → c + own ≡ w + 1
+rated-cost true nearer dir c w own tells p e = let q = p.near (tells.0 refl) in omega (arith, q, e)
+rated-cost false nearer dir c w own tells p e = let q = p.far (λ way. cc (tells.1 way)) in omega (arith, q, e)
+
+pub candidate-from : (s : Setting) (robot : ℕ) (dir : Dir) (around : Around) (cell price rank rank' side : ℕ) (is_near : Bool) (law : TieLaw) → IsAround s.floor (cell_of s robot) around → cell ≡ cell_in around dir →
+    cell ≢ around.own → ((w : ℕ) → IsNeighbourIn s.floor dir (cell_of s robot) w → IsRated around.nearer dir (cost s robot w) (cost s robot (cell_of s robot))) → IsTrue is_near ↔ IsWay around.nearer dir → price ≡ cond is_near 0 2 →
+    rank' ≡ rank → side ≡ dir_number dir → IsRank law dir rank → ((l : TieLaw) → slice_get s.laws robot ≡ Some l → law ≡ l) →
+    IsCandidate s robot (record { cost = price; rank = rank' + 1; side = side; cell = cell })
+candidate-from s robot dir around cell price rank rank' side is_near law seen is ne rated tells low same place within tied =
+    let step = spot-beside s.floor (cell_of s robot) dir around cell seen is ne in
+    record {
+      cost_is = rated-cost is_near around.nearer dir price (cost s robot cell) (cost s robot (cell_of s robot)) tells (rated cell step) low;
+      kind = inr (record {
+        dir = dir;
+        step = step;
+        side = place;
+        ranked = omega arith;
+        within = λ l e. (let it = subst (λ (x : TieLaw). IsRank x dir rank) (tied l e) within in (omega (arith, it.low, same), omega (arith, it.high, same)));
+      });
+    }
+
+pub stay-from : (s : Setting) (robot : ℕ) (around : Around) → IsAround s.floor (cell_of s robot) around → IsCandidate s robot (record { cost = 1; rank = 0; side = 0; cell = around.own })
+stay-from s robot around seen = record {
+  cost_is = (let e : cost s robot around.own ≡ cost s robot (cell_of s robot) = ap (cost s robot) seen.here in omega (arith, e));
+  kind = inl (seen.here, refl);
 }

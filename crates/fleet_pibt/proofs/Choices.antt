@@ -126,8 +126,11 @@ module _ (s : Setting) (wide : 0 < s.floor.width) (robot : ℕ) (old new : List 
       let e : j + suc n ≡ k = omega arith in
       subst (λ (x : ℕ). Upto (get_or new j own) (get_or new x own)) e (Upto-far new own (λ i. up i own) j n (omega arith))
 
-  at-cost : (k : ℕ) → k < length new → (at k).cost ≡ cost s robot (slice_index tries k)
-  at-cost k l = (at-is k l).cost_is ∙ ap (cost s robot) (sym (at-cell k l))
+  abbrev base : ℕ
+  base = cost s robot (cell_of s robot)
+
+  at-cost : (k : ℕ) → k < length new → (at k).cost + base ≡ cost s robot (slice_index tries k) + 1
+  at-cost k l = (at-is k l).cost_is ∙ ap (λ (x : ℕ). cost s robot x + 1) (sym (at-cell k l))
 
   tries-each : (k : ℕ) → k < length tries → (slice_index tries k ≡ cell_of s robot) ⊎ near s (cell_of s robot) (slice_index tries k)
   tries-each k l =
@@ -167,7 +170,7 @@ module _ (s : Setting) (wide : 0 < s.floor.width) (robot : ℕ) (old new : List 
         | inr above ↦ elim (cases_eq q.0 k) [
           | inl same ↦ absurd (ne (cc (q.2, ap (slice_index tries) same)))
           | inr apart ↦ (
-              let cost_q : (at q.0).cost ≡ cost s robot (cell_of s robot) = at-cost q.0 lq ∙ ap (cost s robot) q.2 in
+              let cost_q : (at q.0).cost + base ≡ base + 1 = at-cost q.0 lq ∙ ap (λ (x : ℕ). cost s robot x + 1) q.2 in
               let rank_q : (at q.0).rank ≡ 0 = ap (λ (x : Candidate). x.rank) m.2 ∙ own-rank in
               elim (at-upto k q.0 (omega arith) lq) [
                 | inl less ↦ absurd (omega (arith, less, at-cost k lk, cost_q))
@@ -195,7 +198,7 @@ module _ (s : Setting) (wide : 0 < s.floor.width) (robot : ℕ) (old new : List 
       let step' : IsNeighbourIn s.floor d (cell_of s robot) (at 0).cell = subst (λ (x : ℕ). IsNeighbourIn s.floor d (cell_of s robot) x) (at-cell 0 l0) step in
       let cell_m : (at m.0).cell ≡ b = ap (λ (x : Candidate). x.cell) m.2 ∙ c.2 in
       let other' : IsNeighbourIn s.floor e (cell_of s robot) (at m.0).cell = subst (λ (x : ℕ). IsNeighbourIn s.floor e (cell_of s robot) x) (sym cell_m) other in
-      let cost_m : (at m.0).cost ≡ cost s robot b = (at-is m.0 m.1).cost_is ∙ ap (cost s robot) cell_m in
+      let cost_m : (at m.0).cost + base ≡ cost s robot b + 1 = (at-is m.0 m.1).cost_is ∙ ap (λ (x : ℕ). cost s robot x + 1) cell_m in
       let upto = at-first m.0 m.1 in
       elim ((at-is 0 l0).kind) [
         | inl it ↦ beside-apart s.floor.width (cell_of s robot) wide d (subst (λ (x : ℕ). IsBeside s.floor.width d (cell_of s robot) x) it.0 step'.beside)

@@ -1,7 +1,8 @@
 -- Distances of neighbouring cells, and how the costs that a plan goes by stand for distances.
-use Rattle.std.proofs.Common.{◌≡◌, ◌≢◌, ℕ, suc, ◌<◌, ◌≤◌, inl, inr, Bool, true, false, Option, Some, None, MatchOption, List, [], ◌∷◌, length, sym, subst, refl, ap, ◌∙◌, arith, ◌==◌, unwrap_or}
+use Rattle.std.proofs.Common.{◌≡◌, ◌≢◌, ℕ, suc, ◌<◌, ◌≤◌, inl, inr, Bool, true, false, Option, Some, None, MatchOption, ◌↔◌, List, [], ◌∷◌, length, sym, subst, refl, ap, ◌∙◌, arith, ◌==◌, unwrap_or}
 use Rattle.std.proofs.lemmas.Bool.Decides.{eqb_tells}
 use Rattle.fleet_grid.specs.Floor.{Floor, IsFloor, IsBeside, IsNeighbourIn, IsNeighbour}
+use Rattle.fleet_grid.specs.Ways.{IsLess}
 use Rattle.fleet_grid.specs.Walk.{Walks, AreJoined, AreApart, IsDistance}
 use Rattle.fleet_grid.specs.declared.dir.Dir.{Dir}
 use Rattle.fleet_grid.specs.declared.dir.Dir.TheVariants.{North, East, South, West}
@@ -66,6 +67,11 @@ pub near-apart : (s : Setting) → IsScene s → (a b : ℕ) → near s a b → 
 near-apart s scene a b n e =
     beside-apart s.floor.width a (wide s.floor a scene.form n.1.from) n.0 (subst (λ (x : ℕ). IsBeside s.floor.width n.0 a x) (sym e) n.1.beside)
 
+less-is : (a b : Option ℕ) (x y : ℕ) → a ≡ Some x → b ≡ Some y → IsLess a b ↔ (x < y)
+less-is a b x y e f =
+    let same : IsLess a b ≡ IsLess (Some x) (Some y) = ap (λ (o : Option ℕ). IsLess o b) e ∙ ap (λ (o : Option ℕ). IsLess (Some x) o) f in
+    (λ c. subst (λ (T : Type 0). T) same c, λ c. subst (λ (T : Type 0). T) (sym same) c)
+
 -- the cost of a cell is its distance to the aim, at a robot's own cell and beside it
 module _ (s : Setting) (scene : IsScene s) (waits : List (Option ℕ)) (are : AreGoals s.floor s.from waits s.goals s.distance) (r : ℕ) (l : r < robots s) where
   cost-some : (g c d : ℕ) → s.goals r ≡ Some g → s.distance r c ≡ Some d → cost s r c ≡ d
@@ -92,11 +98,14 @@ module _ (s : Setting) (scene : IsScene s) (waits : List (Option ℕ)) (are : Ar
   idle-cost : (c : ℕ) (b : Bool) → s.goals r ≡ None → (c == cell_of s r) ≡ b → cost s r c ≡ cost_with None (s.distance r c) b
   idle-cost c b none e = ap (λ (o : Option ℕ). cost_with o (s.distance r c) (c == cell_of s r)) none ∙ ap (cost_with None (s.distance r c)) e
 
+  pub idle-own : s.goals r ≡ None → 0 ≡ cost s r (cell_of s r)
+  idle-own none = sym (elim (eqb_tells (cell_of s r) (cell_of s r)) [ inl p ↦ idle-cost (cell_of s r) true none p.0 | inr p ↦ absurd (p.1 refl) ])
+
   pub cost-own : IsDistance (near s) (cell_of s r) (aim s.from s.goals r) (cost s r (cell_of s r))
   cost-own = elim (none_or_some (s.goals r)) [
     | inr some ↦ cost-goal some.0 (cell_of s r) some.1 (scene.placed.on_floor r l) (are.reached r some.0 l some.1)
     | inl none ↦ (
-        let e : 0 ≡ cost s r (cell_of s r) = sym (elim (eqb_tells (cell_of s r) (cell_of s r)) [ inl p ↦ idle-cost (cell_of s r) true none p.0 | inr p ↦ absurd (p.1 refl) ]) in
+        let e : 0 ≡ cost s r (cell_of s r) = idle-own none in
         subst (λ (x : ℕ). IsDistance (near s) (cell_of s r) (aim s.from s.goals r) x) e (subst (λ (x : ℕ). IsDistance (near s) (cell_of s r) x 0) (idle-aim none) (distance-self (near s) (cell_of s r))))
   ]
 
@@ -110,3 +119,19 @@ module _ (s : Setting) (scene : IsScene s) (waits : List (Option ℕ)) (are : Ar
         let e : 1 ≡ cost s r c = sym (elim (eqb_tells c (cell_of s r)) [ inl p ↦ absurd (ne p.1) | inr p ↦ idle-cost c false none p.0 ]) in
         subst (λ (x : ℕ). IsDistance (near s) c (aim s.from s.goals r) x) e (subst (λ (x : ℕ). IsDistance (near s) c x 1) (idle-aim none) (distance-next (near s) c (cell_of s r) (near-back s _ _ n) ne)))
   ]
+
+  -- a cell from which a walk leads to the goal has a distance, which it costs
+  known-at : (g c : ℕ) → s.goals r ≡ Some g → IsFloor s.floor c → AreJoined (near s) c g → (d : ℕ) × (s.distance r c ≡ Some d) × (cost s r c ≡ d)
+  known-at g c is floor joined = elim (none_or_some (s.distance r c)) [
+    | inl none ↦ (let no : AreApart (near s) c g = measured-at g c is floor None none in absurd (no joined.steps joined.walk))
+    | inr some ↦ (some.0, some.1, cost-some g c some.0 is some.1)
+  ]
+
+  -- a neighbour is nearer by the distances where it costs less
+  pub closer-less : (g : ℕ) → s.goals r ≡ Some g → (w : ℕ) → near s (cell_of s r) w → IsLess (s.distance r w) (s.distance r (cell_of s r)) ↔ (cost s r w < cost s r (cell_of s r))
+  closer-less g is w n =
+      let joined = are.reached r g l is in
+      let own = known-at g (cell_of s r) is (scene.placed.on_floor r l) joined in
+      let other = known-at g w is n.1.to (record { steps = cell_of s r ∷ joined.steps; walk = (near-back s _ _ n, joined.walk) }) in
+      let tells = less-is (s.distance r w) (s.distance r (cell_of s r)) other.0 own.0 other.1 own.1 in
+      (λ c. (let less = tells.0 c in omega (arith, less, other.2, own.2)), λ less. tells.1 (omega (arith, less, other.2, own.2)))

@@ -15,4 +15,4 @@ pub mod TwoCells
 pub mod Stepped
 pub mod Beside
 pub mod Seen
-pub mod Priced
+pub mod Rated

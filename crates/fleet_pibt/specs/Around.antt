@@ -1,38 +1,44 @@
--- What a robot sees from its cell: the cells beside it, with their distances to its goal.
-use Rattle.std.specs.Prelude.{◌≡◌, ◌≢◌, ℕ, List, length, slice_get, slice_index, Option, Some}
+-- What a robot sees from its cell: the cells beside it, and which of them are nearer to its goal.
+use Rattle.std.specs.Prelude.{◌≡◌, ◌≢◌, ℕ, ◌+◌, List, length, slice_get, slice_index, Option, Some, None}
 use Rattle.fleet_grid.specs.Floor.{Floor, IsNeighbourIn}
+use Rattle.fleet_grid.specs.Ways.{IsWay, AreNearer}
 use Rattle.fleet_grid.specs.declared.dir.Dir.{Dir}
 use Rattle.fleet_grid.specs.declared.dir.Dir.TheVariants.{North, East, South, West}
-use Rattle.fleet_pibt.specs.Setting.{Setting, cost_of, IsScene, IsStanding}
-use Rattle.fleet_pibt.specs.declared.around.Spot.{Spot}
+use Rattle.fleet_pibt.specs.Setting.{Setting, cell_of, cost, IsScene, IsStanding}
 use Rattle.fleet_pibt.specs.declared.around.Around.{Around}
 
 -- the floor neighbour of the cell `own` in a direction, or where there is none `own` itself
-pub record IsSpot (m : Floor) (costs : ℕ → ℕ) (own : ℕ) (dir : Dir) (spot : Spot) : Type 0 where
-  pub cost_is : spot.cost ≡ costs spot.cell
-  pub there : (w : ℕ) → IsNeighbourIn m dir own w → spot.cell ≡ w
-  pub beside : spot.cell ≢ own → IsNeighbourIn m dir own spot.cell
+pub record IsSpot (m : Floor) (own : ℕ) (dir : Dir) (cell : ℕ) : Type 0 where
+  pub there : (w : ℕ) → IsNeighbourIn m dir own w → cell ≡ w
+  pub beside : cell ≢ own → IsNeighbourIn m dir own cell
 
-abbrev pub spot_in : Around → Dir → Spot
-spot_in around North = around.north
-spot_in around East = around.east
-spot_in around South = around.south
-spot_in around West = around.west
+abbrev pub cell_in : Around → Dir → ℕ
+cell_in around North = around.north
+cell_in around East = around.east
+cell_in around South = around.south
+cell_in around West = around.west
 
-pub record IsAround (m : Floor) (costs : ℕ → ℕ) (own : ℕ) (around : Around) : Type 0 where
-  pub here : around.own.cell ≡ own
-  pub own_cost : around.own.cost ≡ costs own
-  pub beside : (dir : Dir) → IsSpot m costs own dir (spot_in around dir)
-
--- the list has for each robot the cells that it sees, and no costs
-abbrev pub AreUnpriced : Floor → List ℕ → List Around → Type 0
-AreUnpriced m from arounds = (r : ℕ) (around : Around) → slice_get arounds r ≡ Some around → IsAround m (λ c. 0) (slice_index from r) around
+pub record IsAround (m : Floor) (own : ℕ) (around : Around) : Type 0 where
+  pub here : around.own ≡ own
+  pub beside : (dir : Dir) → IsSpot m own dir (cell_in around dir)
 
 -- the list has for each robot what it sees
 pub record AreArounds (m : Floor) (goals : ℕ → Option ℕ) (distance : ℕ → ℕ → Option ℕ) (from : List ℕ) (arounds : List Around) : Type 0 where
   pub same_length : length arounds ≡ length from
-  pub each : (r : ℕ) (around : Around) → slice_get arounds r ≡ Some around →
-      IsAround m (cost_of (goals r) (distance r) (slice_index from r)) (slice_index from r) around
+  pub each : (r : ℕ) (around : Around) → slice_get arounds r ≡ Some around → IsAround m (slice_index from r) around
+  pub nearer : (r : ℕ) (around : Around) → slice_get arounds r ≡ Some around → AreNearer m (distance r) (slice_index from r) around.nearer
+  pub idle : (r : ℕ) (around : Around) → slice_get arounds r ≡ Some around → goals r ≡ None → around.nearer ≡ 0
+
+-- what a neighbour in that direction costs, beside the own cell
+pub record IsRated (nearer : ℕ) (dir : Dir) (cost own : ℕ) : Type 0 where
+  pub near : IsWay nearer dir → cost + 1 ≡ own
+  pub far : (IsWay nearer dir → ⊥) → cost ≡ own + 1
+
+-- the ways that each robot sees tell what its neighbours cost
+abbrev pub AreRated : Setting → List Around → Type 0
+AreRated s arounds =
+    (r : ℕ) (around : Around) → slice_get arounds r ≡ Some around →
+    (dir : Dir) (w : ℕ) → IsNeighbourIn s.floor dir (cell_of s r) w → IsRated around.nearer dir (cost s r w) (cost s r (cell_of s r))
 
 -- a step's setting, with its tables
 pub record IsWhole (s : Setting) (standing : List (Option ℕ)) (arounds : List Around) : Type 0 where
@@ -40,3 +46,4 @@ pub record IsWhole (s : Setting) (standing : List (Option ℕ)) (arounds : List 
   pub tied : length s.laws ≡ length s.from
   pub stands : IsStanding s.from (length s.floor.letters) standing
   pub gathered : AreArounds s.floor s.goals s.distance s.from arounds
+  pub rated : AreRated s arounds

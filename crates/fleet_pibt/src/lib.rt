@@ -13,6 +13,7 @@ mod sight;
 mod stepper;
 mod table;
 mod tables;
+mod ways;
 
 pub use goals::Goals;
 pub use priority::order;

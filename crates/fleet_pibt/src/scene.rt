@@ -1,6 +1,6 @@
 //! The sight of a step over a map, a placement, goals and tie closures.
 
-ghost use Rattle.std.specs.Prelude.{◌≡◌, ℕ, ◌<◌, length, map, slice_index};
+ghost use Rattle.std.specs.Prelude.{◌≡◌, ℕ, ◌<◌, cond, length, map, slice_index};
 ghost use Rattle.fleet_grid.specs.Floor.{IsNeighbourIn};
 ghost use Rattle.fleet_pibt.specs.Setting.{setting};
 ghost use Rattle.fleet_pibt.specs.Around.{IsWhole};
@@ -11,9 +11,17 @@ use crate::choice::{Candidate, cells};
 use crate::goals::Goals;
 use crate::sight::Sight;
 use crate::table::Table;
+use crate::ways::is_way;
 use fleet_grid::{Dir, Grid};
 use fleet_hooks::{TieHook, TieView};
 use std::alloc::Allocator;
+
+/// The cost of a neighbour, beside 1 for the own cell.
+fn cost_beside(is_nearer: bool) -> u8
+    ensures { result ≡ cond is_nearer 0 2 }
+{
+    if is_nearer { 0 } else { 2 }
+}
 
 /// What the plan of one step is made from.
 #[derive(Drop)]
@@ -83,12 +91,11 @@ impl<'a, G: Goals, A: Allocator + Copy> Scene<'a, G, A> {
         ensures own { result.cell ≡ slice_index self.now.from.now robot }
         ensures rank { result.rank ≡ 0 }
     {
-        let own = self.arounds[robot as usize].own;
         Candidate {
-            cost: own.cost,
+            cost: 1,
             rank: 0,
             side: 0,
-            cell: own.cell,
+            cell: self.arounds[robot as usize].own,
         }
     }
 
@@ -112,23 +119,23 @@ impl<'a, G: Goals, A: Allocator + Copy> Scene<'a, G, A> {
         ensures covers { (w : ℕ) → IsNeighbourIn self.now.grid.now dir (slice_index self.now.from.now robot) w → result.cell ≡ w }
     {
         let around = self.arounds[robot as usize];
-        let spot = around.beside(dir);
-        if spot.cell == around.own.cell {
+        let cell = around.beside(dir);
+        if cell == around.own {
             return self.staying(robot);
         }
         let view = TieView {
             robot,
-            cell: around.own.cell,
-            neighbour: spot.cell,
+            cell: around.own,
+            neighbour: cell,
             dir,
             tick: self.tick,
         };
         let rank = u16::from(self.ties[robot as usize].rank(view)) + 1;
         Candidate {
-            cost: spot.cost,
+            cost: cost_beside(is_way(around.nearer, dir)),
             rank,
             side: dir.number(),
-            cell: spot.cell,
+            cell,
         }
     }
 }

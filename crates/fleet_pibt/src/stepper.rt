@@ -10,7 +10,7 @@ ghost use Rattle.fleet_pibt.specs.Goals.{AreGoals};
 ghost use Rattle.fleet_pibt.specs.Purposeful.{IsPurposeful};
 ghost use Rattle.fleet_pibt.specs.Ties.{IsByLaw};
 
-use crate::around::{Around, Spot, gather};
+use crate::around::{Around, gather};
 use crate::board::Board;
 use crate::goals::Goals;
 use crate::plan::plan_all;
@@ -54,21 +54,11 @@ impl<A: Allocator + Copy> Model for Stepper<A> {
         × IsRoll s.queue.items };
 }
 
-/// What no robot has seen yet.
-const NOWHERE: Spot = Spot { cell: 0, cost: 0 };
-
 impl<A: Allocator + Copy> Stepper<A> {
     /// The tables for so many cells and robots.
     pub fn new(alloc: A, cells: u32, robots: u32) -> Result<Stepper<A>, AllocError>
         ensures { IfOk result (λ stepper. stepper ≡ record { cells = cells; robots = robots }) }
     {
-        let nothing = Around {
-            own: NOWHERE,
-            north: NOWHERE,
-            east: NOWHERE,
-            south: NOWHERE,
-            west: NOWHERE,
-        };
         let mut queue = vec![in alloc; 0; robots as usize]?;
         number(&mut queue);
         Ok(Stepper {
@@ -78,7 +68,7 @@ impl<A: Allocator + Copy> Stepper<A> {
                 holder: Table::new(alloc, cells)?,
             },
             queue,
-            arounds: vec![in alloc; nothing; robots as usize]?,
+            arounds: vec![in alloc; Around::NOWHERE; robots as usize]?,
         })
     }
 

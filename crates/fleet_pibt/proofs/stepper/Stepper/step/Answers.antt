@@ -1,11 +1,13 @@
 use Rattle.std.proofs.Common.{arith, length, map, ◌≡◌, ℕ, List, ap, subst, take, ◌++◌, ◌∙◌}
 use Rattle.std.proofs.lemmas.List.{take-append-le, length-map}
 use Rattle.std.proofs.Math.Seq.{take-length}
+use Rattle.fleet_pibt.specs.Around.{AreArounds}
 use Rattle.fleet_pibt.specs.Order.{IsOrder}
 use Rattle.fleet_pibt.specs.Setting.{Setting, setting, IsScene}
 use Rattle.fleet_pibt.specs.Size.{Size}
 use Rattle.fleet_pibt.proofs.Entries.{standing-from}
 use Rattle.fleet_pibt.proofs.Ordered.{order-names}
+use Rattle.fleet_pibt.proofs.Rated.{rated-from}
 use Rattle.fleet_pibt.proofs.Stepped.{stepped-decided, stepped-conflict_free, stepped-purposeful, stepped-advances, stepped-bridgeless, stepped-by_law}
 use Rattle.fleet_pibt.proofs.stepper.Stepper.step.Goals as goal
 
@@ -16,11 +18,15 @@ pub plan_all-requires-clause-whole : goal.plan_all-requires-clause-whole
 plan_all-requires-clause-whole g c =
     let long : length c.gather.new.arounds ≡ c.self.inside.arounds.len = omega (arith, c.gather.auto.arounds, c.deref_mut-2.ensures.len) in
     let same : c.deref.result.now ≡ c.gather.new.arounds = c.deref.ensures.value ∙ whole _ c.gather.new.arounds _ long in
+    let s : Setting = setting c.args.grid.now c.args.from.now (g.G.Goals.goal_of c.args.goals.now) (g.G.Goals.distance c.args.goals.now) (map (λ h. h.law) c.args.ties.now) in
+    let scene : IsScene s = record { form = c.cell_count-cells.ensures.form; few = c.requires.few; placed = c.requires.placed } in
+    let gathered : AreArounds c.args.grid.now (g.G.Goals.goal_of c.args.goals.now) (g.G.Goals.distance c.args.goals.now) c.args.from.now c.deref.result.now = rw same c.gather.ensures in
     record {
-      scene = record { form = c.cell_count-cells.ensures.form; few = c.requires.few; placed = c.requires.placed };
+      scene = scene;
       tied = length-map c.args.ties.now (λ h. h.law) ∙ c.requires.tied;
       stands = standing-from c.args.from.now (length c.args.grid.now.letters) c.place.new.standing (c.place.ensures.same_length ∙ ap (λ (z : Size). z.cells) (c.self.view_is ∙ c.requires.made)) c.place.ensures.placed;
-      gathered = rw same c.gather.ensures;
+      gathered = gathered;
+      rated = rated-from s scene c.args.waits.now c.requires.goals c.deref.result.now gathered;
     }
 
 pub plan_all-requires-clause-queue : goal.plan_all-requires-clause-queue

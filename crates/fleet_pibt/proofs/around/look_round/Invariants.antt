@@ -1,7 +1,0 @@
-use Rattle.std.proofs.Common.{◌≡◌, ℕ, ◌<◌, Some, slice_get, slice_index}
-use Rattle.fleet_pibt.specs.Around.{IsAround}
-use Rattle.fleet_pibt.specs.declared.around.Around.{Around}
-use Rattle.fleet_pibt.proofs.around.look_round.Given as goal
-
-abbrev pub invariant-loop-robot : goal.invariant-loop-robot
-invariant-loop-robot g l = (r : ℕ) (around : Around) → r < l.robot → slice_get l.arounds r ≡ Some around → IsAround l.grid (λ c. 0) (slice_index l.from r) around
