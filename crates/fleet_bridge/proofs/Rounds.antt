@@ -49,15 +49,15 @@ near_other m x form e = at e.0 e.1.beside
 
 -- the tree's certificate
 
-pub crossed_at : {A : Type 0} (m : Floor) (t : Tree A) (v inner outer : ℕ) (dir : Dir) → HasForm m → IsUnder (slice_index t.up.items) v inner → IsNeighbourIn m dir inner outer
+pub crossed_at : {A : Type 0} (m : Floor) (t : Tree A) (v inner outer : ℕ) (dir : Dir) → IsUnder (slice_index t.up.items) v inner → IsNeighbourIn m dir inner outer
     → (inner ≡ v → outer ≡ slice_index t.up.items v → ⊥)
     → (slice_index t.number.items outer < slice_index t.number.items v) ⊎ (slice_index t.end.items v ≤ slice_index t.number.items outer)
     → IsCrossedIn m t v
-crossed_at m t v inner outer dir grid under e other out = record { inner = inner; outer = outer; under = under; near = (dir, e); out = out; other = other }
+crossed_at m t v inner outer dir under e other out = record { inner = inner; outer = outer; under = under; near = (dir, e); out = out; other = other }
 
-pub round_up : {A : Type 0} (m : Floor) (t : Tree A) (a b : ℕ) → HasForm m → IsSpanning m t → IsNeighbour m a b → slice_index t.up.items a ≡ b → IsCrossedIn m t a → AreJoined (NearWithout m a b) a b
-round_up m t a b grid tree edge e it =
-    let child : slice_index t.up.items a ≢ a = λ same. near_other m a grid (subst (IsNeighbour m a) (sym e ∙ same) edge) in
+pub round_up : {A : Type 0} (m : Floor) (t : Tree A) (a b : ℕ) → IsSpanning m t → IsNeighbour m a b → slice_index t.up.items a ≡ b → IsCrossedIn m t a → AreJoined (NearWithout m a b) a b
+round_up m t a b tree edge e it =
+    let child : slice_index t.up.items a ≢ a = λ same. near_other m a tree.form (subst (IsNeighbour m a) (sym e ∙ same) edge) in
     subst (λ (p : ℕ). AreJoined (NearWithout m a p) a p) e
     (crossed (IsNeighbour m) (length m.letters) (slice_index t.up.items) (slice_index t.number.items) (slice_index t.end.items) (slice_index t.top.items)
     (near_turn m) (near_bound m) tree.fits a (floor_inside m a edge.1.from) child it)
@@ -74,8 +74,8 @@ joined_turned m a b j =
     joined_back (NearWithout m a b) (besides_back (IsNeighbour m) (near_turn m) a b) b a
     (record { steps = j.steps; walk = walks_map (NearWithout m b a) (NearWithout m a b) (walks_turned (IsNeighbour m) a b) b a j.steps j.walk })
 
-pub round_down : {A : Type 0} (m : Floor) (t : Tree A) (a b : ℕ) → HasForm m → IsSpanning m t → IsNeighbour m a b → slice_index t.up.items b ≡ a → IsCrossedIn m t b → AreJoined (NearWithout m a b) a b
-round_down m t a b grid tree edge e it = joined_turned m a b (round_up m t b a grid tree (near_turn m a b edge) e it)
+pub round_down : {A : Type 0} (m : Floor) (t : Tree A) (a b : ℕ) → IsSpanning m t → IsNeighbour m a b → slice_index t.up.items b ≡ a → IsCrossedIn m t b → AreJoined (NearWithout m a b) a b
+round_down m t a b tree edge e it = joined_turned m a b (round_up m t b a tree (near_turn m a b edge) e it)
 
 pub round_off : {A : Type 0} (m : Floor) (t : Tree A) (a b : ℕ) → IsSpanning m t → IsNeighbour m a b → slice_index t.up.items a ≢ b → slice_index t.up.items b ≢ a → AreJoined (NearWithout m a b) a b
 round_off m t a b tree edge up down =

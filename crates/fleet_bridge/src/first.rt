@@ -7,13 +7,13 @@ ghost use Rattle.fleet_bridge.specs.Search.{NearWithout};
 ghost use Rattle.fleet_grid.specs.Floor.{HasForm, IsNeighbour};
 ghost use Rattle.fleet_bridge.specs.Tree.{IsUnder};
 ghost use Rattle.fleet_bridge.specs.First.{HasNoneBeside, IsBeside, HasNone, IsFirstFrom};
-ghost use Rattle.fleet_bridge.specs.Sides.{AreSides};
 ghost use Rattle.fleet_bridge.specs.Spanning.{IsCrossedIn, IsSpanning};
 
 use crate::detours::first_doubt;
+use crate::numbers::read;
 use crate::search::{is_bridge, searched_from};
-use crate::sides::{Sides, beside, sides_of};
-use crate::tree::{Tree, read, spanning_tree};
+use crate::sides::Sides;
+use crate::tree::{Tree, spanning_tree};
 use fleet_grid::{Dir, Grid};
 use std::alloc::{AllocError, Allocator, Global};
 
@@ -44,11 +44,10 @@ fn leaves<A: Allocator + Copy, B: Allocator + Copy>(
     inner: u32,
     dir: Dir,
 ) -> bool
-    requires sides { AreSides sides.now.grid.now sides.now.width sides.now.opens.items }
     requires under { IsUnder (slice_index tree.now.up.items) cell inner }
-    ensures { result ≡ true → IsCrossedIn sides.now.grid.now tree.now cell }
+    ensures { result ≡ true → IsCrossedIn sides.now tree.now cell }
 {
-    let Some(outer) = beside(sides, inner, dir) else {
+    let Some(outer) = sides.beside(inner, dir) else {
         return false;
     };
     if is_step_up(tree, cell, inner, outer) {
@@ -63,9 +62,8 @@ fn leaves_from<A: Allocator + Copy, B: Allocator + Copy>(
     cell: u32,
     inner: u32,
 ) -> bool
-    requires sides { AreSides sides.now.grid.now sides.now.width sides.now.opens.items }
     requires under { IsUnder (slice_index tree.now.up.items) cell inner }
-    ensures { result ≡ true → IsCrossedIn sides.now.grid.now tree.now cell }
+    ensures { result ≡ true → IsCrossedIn sides.now tree.now cell }
 {
     if leaves(sides, tree, cell, inner, Dir::North) {
         return true;
@@ -85,10 +83,9 @@ fn is_crossed<A: Allocator + Copy, B: Allocator + Copy>(
     tree: &Tree<A>,
     cell: u32,
 ) -> bool
-    requires sides { AreSides sides.now.grid.now sides.now.width sides.now.opens.items }
-    requires inside { cell < length sides.now.grid.now.letters }
-    requires tree { IsSpanning sides.now.grid.now tree.now }
-    ensures { result ≡ true → IsCrossedIn sides.now.grid.now tree.now cell }
+    requires inside { cell < length sides.now.letters }
+    requires tree { IsSpanning sides.now tree.now }
+    ensures { result ≡ true → IsCrossedIn sides.now tree.now cell }
 {
     leaves_from(sides, tree, cell, read(&tree.low, cell))
 }
@@ -101,10 +98,9 @@ fn is_round<A: Allocator + Copy, B: Allocator + Copy>(
     a: u32,
     b: u32,
 ) -> bool
-    requires sides { AreSides sides.now.grid.now sides.now.width sides.now.opens.items }
-    requires tree { IsSpanning sides.now.grid.now tree.now }
-    requires edge { IsNeighbour sides.now.grid.now a b }
-    ensures { result ≡ true → AreJoined (NearWithout sides.now.grid.now a b) a b }
+    requires tree { IsSpanning sides.now tree.now }
+    requires edge { IsNeighbour sides.now a b }
+    ensures { result ≡ true → AreJoined (NearWithout sides.now a b) a b }
 {
     if read(&tree.up, a) == b {
         return is_crossed(sides, tree, a);
@@ -124,15 +120,14 @@ fn is_bridge_by<A: Allocator + Copy, B: Allocator + Copy>(
     a: u32,
     b: u32,
 ) -> Result<bool, AllocError>
-    requires sides { AreSides sides.now.grid.now sides.now.width sides.now.opens.items }
-    requires tree { is_sound ≡ true → IsSpanning sides.now.grid.now tree.now }
-    requires edge { IsNeighbour sides.now.grid.now a b }
-    ensures { IfOk result (λ yes. IsTrue yes ↔ IsBridge (IsNeighbour sides.now.grid.now) a b) }
+    requires tree { is_sound ≡ true → IsSpanning sides.now tree.now }
+    requires edge { IsNeighbour sides.now a b }
+    ensures { IfOk result (λ yes. IsTrue yes ↔ IsBridge (IsNeighbour sides.now) a b) }
 {
     if is_sound && is_round(sides, tree, a, b) {
         return Ok(false);
     }
-    is_bridge(alloc, sides.grid, a, b)
+    is_bridge(alloc, sides.grid(), a, b)
 }
 
 /// The far end of the edge in a direction, if that is a bridge.
@@ -144,11 +139,10 @@ fn bridge_beside<A: Allocator + Copy, B: Allocator + Copy>(
     cell: u32,
     dir: Dir,
 ) -> Result<Option<u32>, AllocError>
-    requires sides { AreSides sides.now.grid.now sides.now.width sides.now.opens.items }
-    requires tree { is_sound ≡ true → IsSpanning sides.now.grid.now tree.now }
-    ensures { IfOk result (λ found. MatchOption found (HasNoneBeside sides.now.grid.now cell dir) (IsBeside sides.now.grid.now cell dir)) }
+    requires tree { is_sound ≡ true → IsSpanning sides.now tree.now }
+    ensures { IfOk result (λ found. MatchOption found (HasNoneBeside sides.now cell dir) (IsBeside sides.now cell dir)) }
 {
-    let Some(next) = beside(sides, cell, dir) else {
+    let Some(next) = sides.beside(cell, dir) else {
         return Ok(None);
     };
     if is_bridge_by(alloc, sides, tree, is_sound, cell, next)? {
@@ -166,9 +160,8 @@ fn bridge_from<A: Allocator + Copy, B: Allocator + Copy>(
     is_sound: bool,
     cell: u32,
 ) -> Result<Option<u32>, AllocError>
-    requires sides { AreSides sides.now.grid.now sides.now.width sides.now.opens.items }
-    requires tree { is_sound ≡ true → IsSpanning sides.now.grid.now tree.now }
-    ensures { IfOk result (λ found. MatchOption found (HasNone sides.now.grid.now cell) (IsFirstFrom sides.now.grid.now cell)) }
+    requires tree { is_sound ≡ true → IsSpanning sides.now tree.now }
+    ensures { IfOk result (λ found. MatchOption found (HasNone sides.now cell) (IsFirstFrom sides.now cell)) }
 {
     if let Some(east) = bridge_beside(alloc, sides, tree, is_sound, cell, Dir::East)? {
         return Ok(Some(east));
@@ -188,8 +181,8 @@ fn first_by_tree<A: Allocator + Copy, B: Allocator + Copy>(
     ensures { IfOk result (λ found. MatchOption found (IsBridgeless (IsNeighbour grid.now)) (λ it. IsFirstBridge (IsNeighbour grid.now) it.0 it.1)) }
 {
     let count = grid.cell_count();
-    let sides = sides_of(alloc, grid)?;
-    let (tree, is_sound) = spanning_tree(alloc, &sides, count)?;
+    let sides = Sides::new(alloc, grid)?;
+    let (tree, is_sound) = spanning_tree(alloc, &sides)?;
     for cell in 0..count {
         if let Some(upper) = bridge_from(alloc, &sides, &tree, is_sound, cell)? {
             return Ok(Some((cell, upper)));

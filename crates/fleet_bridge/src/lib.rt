@@ -3,8 +3,10 @@
 
 mod detours;
 mod first;
-mod next;
+mod growth;
+mod numbers;
 mod places;
+mod reach;
 mod search;
 mod sides;
 mod tree;

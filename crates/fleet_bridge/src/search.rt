@@ -6,7 +6,6 @@ ghost use Rattle.fleet_grid.specs.Walk.{AreJoined, IsBridge};
 ghost use Rattle.fleet_bridge.specs.First.{HasNoneBeside, IsBeside, HasNone, IsFirstFrom};
 ghost use Rattle.fleet_bridge.specs.Search.{NearWithout, IsMarked, IsFront, IsLater, IsReach};
 
-use crate::next::next_to;
 use fleet_grid::{Dir, Grid};
 use std::alloc::{AllocError, Allocator, Global};
 
@@ -59,7 +58,7 @@ fn visit_beside<A: Allocator + Copy, B: Allocator + Copy>(
     ensures later { IfOk result (λ u. IsLater seen.old.items queue.old.items seen.new.items queue.new.items) }
     ensures marked { IfOk result (λ u. (d : ℕ) → IsNeighbourIn grid.now dir cell d → NearWithout grid.now from to cell d → IsMarked seen.new.items d) }
 {
-    let Some(next) = next_to(grid, cell, dir) else {
+    let Some(next) = grid.neighbour(cell, dir) else {
         return Ok(());
     };
     if is_across(from, to, cell, next) {
@@ -139,7 +138,7 @@ fn searched_beside<A: Allocator + Copy, B: Allocator + Copy>(
 ) -> Result<Option<u32>, AllocError>
     ensures { IfOk result (λ found. MatchOption found (HasNoneBeside grid.now cell dir) (IsBeside grid.now cell dir)) }
 {
-    let Some(next) = next_to(grid, cell, dir) else {
+    let Some(next) = grid.neighbour(cell, dir) else {
         return Ok(None);
     };
     if is_bridge(alloc, grid, cell, next)? {

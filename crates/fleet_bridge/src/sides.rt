@@ -1,12 +1,12 @@
 //! In which directions the cells of a map have neighbours, written down once, so that no later look-up divides.
 
-ghost use Rattle.std.specs.Prelude.{◌≡◌, ℕ, length, vec_len, IfOk, Some, true, false};
+ghost use Rattle.std.specs.Prelude.{◌≡◌, ℕ, length, vec_len, IfOk, MatchOption, true, false};
 ghost use Rattle.fleet_grid.specs.Floor.{Floor, HasForm, IsNeighbourIn};
-ghost use Rattle.fleet_bridge.specs.Sides.{IsOpen, AreSides, is_open};
+ghost use Rattle.fleet_bridge.specs.Sides.{IsOpen, is_open};
 
-use crate::next::next_to;
 use fleet_grid::{Dir, Grid};
 use std::alloc::{AllocError, Allocator};
+use std::marker::Model;
 
 /// In which directions a cell has a neighbour.
 #[derive(Clone, Copy)]
@@ -32,12 +32,23 @@ impl Open {
     }
 }
 
-/// A map with the sides of its cells.
+/// A map with the sides of its cells. Contracts see the map.
 #[derive(Drop)]
 pub(crate) struct Sides<'a, A: Allocator + Copy, B: Allocator + Copy> {
-    pub(crate) grid: &'a Grid<B>,
+    grid: &'a Grid<B>,
     width: u32,
     opens: Vec<Open, A>,
+}
+
+impl<'a, A: Allocator + Copy, B: Allocator + Copy> Model for Sides<'a, A, B> {
+    ghost use Rattle.fleet_grid.specs.Floor.{Floor};
+    ghost use Rattle.fleet_bridge.specs.Sides.{AreSides};
+
+    ghost Value = { Floor };
+
+    ghost view = { λ s. s.grid.now };
+
+    ghost invariant = { λ s. AreSides s.grid.now s.width s.opens.items };
 }
 
 /// Whether the cell has a neighbour in the direction.
@@ -63,24 +74,6 @@ fn open_of<B: Allocator + Copy>(grid: &Grid<B>, cell: u32) -> Open
     }
 }
 
-/// The sides of all cells.
-#[tactic(auto, using(crate::proofs::Opens::open_more))]
-pub(crate) fn sides_of<A: Allocator + Copy, B: Allocator + Copy>(
-    alloc: A,
-    grid: &Grid<B>,
-) -> Result<Sides<'_, A, B>, AllocError>
-    ensures grid { IfOk result (λ sides. sides.grid.now ≡ grid.now) }
-    ensures sides { IfOk result (λ sides. AreSides grid.now sides.width sides.opens.items) }
-{
-    let count = grid.cell_count();
-    let mut opens = Vec::with_capacity(alloc, count as usize)?;
-    for cell in 0..count {
-        opens.push(open_of(grid, cell))?;
-    }
-    let width = grid.width();
-    Ok(Sides { grid, width, opens })
-}
-
 /// The cell on that side.
 #[tactic(auto, using(crate::proofs::Opens::north_of, crate::proofs::Opens::east_of, crate::proofs::Opens::south_of, crate::proofs::Opens::west_of, crate::proofs::Opens::small_cell))]
 #[inline(always)]
@@ -95,20 +88,38 @@ fn across(width: u32, cell: u32, dir: Dir) -> u32
     }
 }
 
-/// The floor cell beside a floor cell in a direction.
-#[inline(always)]
-pub(crate) fn beside<A: Allocator + Copy, B: Allocator + Copy>(
-    sides: &Sides<'_, A, B>,
-    cell: u32,
-    dir: Dir,
-) -> Option<u32>
-    ensures found { AreSides sides.now.grid.now sides.now.width sides.now.opens.items → (b : ℕ) → IsNeighbourIn sides.now.grid.now dir cell b → result ≡ Some b }
-    ensures only { AreSides sides.now.grid.now sides.now.width sides.now.opens.items → (b : ℕ) → result ≡ Some b → IsNeighbourIn sides.now.grid.now dir cell b }
-{
-    let at = cell as usize;
-    if at < sides.opens.len() && sides.opens[at].is_open(dir) {
-        Some(across(sides.width, cell, dir))
-    } else {
-        None
+impl<'a, A: Allocator + Copy, B: Allocator + Copy> Sides<'a, A, B> {
+    /// The sides of all cells of a map.
+    #[tactic(auto, using(crate::proofs::Opens::open_more))]
+    pub(crate) fn new(alloc: A, grid: &'a Grid<B>) -> Result<Sides<'a, A, B>, AllocError>
+        ensures { IfOk result (λ sides. sides ≡ grid.now) }
+    {
+        let count = grid.cell_count();
+        let mut opens = Vec::with_capacity(alloc, count as usize)?;
+        for cell in 0..count {
+            opens.push(open_of(grid, cell))?;
+        }
+        let width = grid.width();
+        Ok(Sides { grid, width, opens })
+    }
+
+    /// The map.
+    pub(crate) fn grid(&self) -> &Grid<B>
+        ensures { result.now ≡ self.now }
+    {
+        self.grid
+    }
+
+    /// The floor cell beside a cell in a direction; none where either of the two is not floor.
+    #[inline(always)]
+    pub(crate) fn beside(&self, cell: u32, dir: Dir) -> Option<u32>
+        ensures { MatchOption result ((b : ℕ) → IsNeighbourIn self.now dir cell b → ⊥) (λ b. IsNeighbourIn self.now dir cell b) }
+    {
+        let at = cell as usize;
+        if at < self.opens.len() && self.opens[at].is_open(dir) {
+            Some(across(self.width, cell, dir))
+        } else {
+            None
+        }
     }
 }

@@ -1,11 +1,11 @@
 -- The test for neighbours, and walks of a given length.
-use Rattle.std.proofs.Common.{◌≡◌, ◌≢◌, ℕ, zero, suc, ◌+◌, ◌-◌, ◌*◌, ◌%◌, ◌<◌, ◌≤◌, ◌⊎◌, inl, inr, Bool, true, false, not, ◌&&◌, ◌||◌, eqb, eq-eqb, List, [], ◌∷◌, length, get_or, refl, sym, ap, subst, ◌∙◌, arith}
+use Rattle.std.proofs.Common.{◌≡◌, ◌≢◌, ℕ, zero, suc, ◌+◌, ◌%◌, ◌<◌, ◌⊎◌, inl, inr, Bool, true, false, not, ◌&&◌, ◌||◌, eqb, eq-eqb, List, [], ◌∷◌, length, get_or, refl, sym, ap, subst, ◌∙◌, arith}
 use Rattle.std.specs.List.{list_any, range_with_len}
-use Rattle.std.proofs.lemmas.Bool.{cases_Bool, eqb-true, eqb-false, and_parts, and_from, false≢true}
+use Rattle.std.proofs.lemmas.Bool.{cases_Bool, eqb-true, and_parts, and_from, false≢true}
 use Rattle.std.proofs.lemmas.List.FromFn.{length-range_with_len, get_or-range_with_len}
 use Rattle.fleet_grid.specs.declared.dir.Dir.{Dir}
 use Rattle.fleet_grid.specs.declared.dir.Dir.TheVariants.{North, East, South, West}
-use Rattle.fleet_grid.specs.Floor.{Floor, is_floor, IsFloor, IsBeside, IsNeighbourIn, IsNeighbour}
+use Rattle.fleet_grid.specs.Floor.{Floor, is_floor, IsBeside, IsNeighbourIn, IsNeighbour}
 use Rattle.fleet_grid.specs.Walk.{Walks}
 use Rattle.fleet_grid.specs.Counts.{has_east, has_south}
 use Rattle.fleet_grid.specs.Distance.{is_next, is_neighbour, is_walk_long}
@@ -114,3 +114,22 @@ counted_south m cell e =
 
 pub south_is_counted : (m : Floor) (cell : ℕ) → IsNeighbourIn m South cell (cell + m.width) → has_south m cell ≡ true
 south_is_counted m cell n = and_from (is_floor m cell) (is_floor m (cell + m.width)) n.from n.to
+
+-- so it is counted exactly where there is a neighbour on that side
+pub east_some : (m : Floor) (cell b : ℕ) → IsNeighbourIn m East cell b → true ≡ has_east m cell
+east_some m cell b n = sym (east_is_counted m cell (subst (IsNeighbourIn m East cell) (sym n.beside.0) n))
+
+pub east_none : (m : Floor) (cell : ℕ) → ((b : ℕ) → IsNeighbourIn m East cell b → ⊥) → false ≡ has_east m cell
+east_none m cell none = elim (cases_Bool (has_east m cell)) [
+  | inl is ↦ absurd (none (cell + 1) (counted_east m cell is))
+  | inr other ↦ sym other
+]
+
+pub south_some : (m : Floor) (cell b : ℕ) → IsNeighbourIn m South cell b → true ≡ has_south m cell
+south_some m cell b n = sym (south_is_counted m cell (subst (IsNeighbourIn m South cell) (sym n.beside) n))
+
+pub south_none : (m : Floor) (cell : ℕ) → ((b : ℕ) → IsNeighbourIn m South cell b → ⊥) → false ≡ has_south m cell
+south_none m cell none = elim (cases_Bool (has_south m cell)) [
+  | inl is ↦ absurd (none (cell + m.width) (counted_south m cell is))
+  | inr other ↦ sym other
+]

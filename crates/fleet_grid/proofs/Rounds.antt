@@ -1,5 +1,5 @@
 -- A cell of the queue is done once its four sides were visited; a queue that is done leaves all labels alike along edges.
-use Rattle.std.proofs.Common.{◌≡◌, ℕ, zero, suc, ◌+◌, ◌<◌, ◌≤◌, ◌⊎◌, inl, inr, List, [], ◌∷◌, length, set, refl, sym, ap, subst, ◌∙◌, arith}
+use Rattle.std.proofs.Common.{◌≡◌, ℕ, zero, suc, ◌+◌, ◌<◌, ◌≤◌, ◌⊎◌, inl, inr, List, [], ◌∷◌, length, get_or, set, refl, sym, ap, subst, ◌∙◌, arith}
 use Rattle.std.specs.Prelude.{slice_index, replicate}
 use Rattle.std.proofs.lemmas.Bool.{cases_eq}
 use Rattle.std.proofs.lemmas.List.{length-set, get_or-replicate, length-replicate}
@@ -14,6 +14,8 @@ use Rattle.fleet_grid.proofs.Walks.{joined_same, joined_on, joined_back, same_al
 use Rattle.std.proofs.Common.{eqb, true, eq-eqb, ◌↔◌}
 use Rattle.std.proofs.lemmas.Bool.{eqb-true}
 use Rattle.fleet_grid.proofs.Made.{read}
+use Rattle.fleet_grid.proofs.Spread.{still}
+use Rattle.fleet_grid.specs.Direction.{dir_number}
 
 has_still : (m : Floor) (label head : ℕ) (old queue new queue' : List ℕ) → IsSpread m label head old queue → Spreads m label head old queue new queue' → (c : ℕ) → HasLabel old c → HasLabel new c
 has_still m label head old queue new queue' o s c h = (omega (arith, h.0, o.len, s.spread.len), λ e. h.1 (sym (s.kept c h) ∙ e))
@@ -144,32 +146,57 @@ all_labelled m labels d has = record {
   same = λ a b nb. sym (d.closed a b nb (has a (floor_inside m a nb.1.from) nb.1.from));
 }
 
--- four visits, one to each side
-pub four_sides : (m : Floor) (label head cell : ℕ) (l0 q0 l1 q1 l2 q2 l3 q3 l4 q4 : List ℕ) → label < 4294967295 → IsSpread m label head l0 q0 → head < length q0 → slice_index q0 head ≡ cell
-    → Spreads m label head l0 q0 l1 q1 → Spreads m label head l1 q1 l2 q2 → Spreads m label head l2 q2 l3 q3 → Spreads m label head l3 q3 l4 q4
-    → ((b : ℕ) → IsNeighbourIn m North cell b → slice_index l1 b ≡ label) → ((b : ℕ) → IsNeighbourIn m East cell b → slice_index l2 b ≡ label)
-    → ((b : ℕ) → IsNeighbourIn m South cell b → slice_index l3 b ≡ label) → ((b : ℕ) → IsNeighbourIn m West cell b → slice_index l4 b ≡ label)
-    → Spreads m label (head + 1) l0 q0 l4 q4
-four_sides m label head cell l0 q0 l1 q1 l2 q2 l3 q3 l4 q4 less o short at s1 s2 s3 s4 north east south west =
-    next_head m label head cell l0 q0 l4 q4 less o short at (spreads_on m label head l0 q0 l3 q3 l4 q4 o (spreads_on m label head l0 q0 l2 q2 l3 q3 o (spreads_on m label head l0 q0 l1 q1 l2 q2 o s1 s2) s3) s4) sides
+-- the directions below a number were visited
+pub record HasTurned (m : Floor) (label head count : ℕ) (l0 q0 l1 q1 : List ℕ) : Type 0 where
+  pub spreads : Spreads m label head l0 q0 l1 q1
+  pub sides : (dir : Dir) (b : ℕ) → dir_number dir < count → IsNeighbourIn m dir (slice_index q0 head) b → slice_index l1 b ≡ label
+
+pub unturned : (m : Floor) (label head : ℕ) (labels queue : List ℕ) → IsSpread m label head labels queue → HasTurned m label head 0 labels queue labels queue
+unturned m label head labels queue s = record { spreads = still m label head labels queue s; sides = λ dir b few n. absurd (omega (arith, few)) }
+
+dir_of : ℕ → Dir
+dir_of zero = North
+dir_of (suc zero) = East
+dir_of (suc (suc zero)) = South
+dir_of (suc (suc (suc k))) = West
+
+dir_is : (dir : Dir) → dir_of (dir_number dir) ≡ dir
+unfolding dir_of
+dir_is North = refl
+dir_is East = refl
+dir_is South = refl
+dir_is West = refl
+
+-- one more direction was visited
+pub turned_on : (m : Floor) (label head count : ℕ) (dir : Dir) (l0 q0 l1 q1 l2 q2 : List ℕ) → label < 4294967295 → IsSpread m label head l0 q0 → head < length q0
+    → dir_number dir ≡ count → HasTurned m label head count l0 q0 l1 q1 → Spreads m label head l1 q1 l2 q2
+    → ((b : ℕ) → IsNeighbourIn m dir (slice_index q1 head) b → slice_index l2 b ≡ label) → HasTurned m label head (count + 1) l0 q0 l2 q2
+turned_on m label head count dir l0 q0 l1 q1 l2 q2 less o short is t s new = record {
+  spreads = spreads_on m label head l0 q0 l1 q1 l2 q2 o t.spreads s;
+  sides = λ d b few n. elim (cases_eq (dir_number d) (dir_number dir)) [
+    | inl e ↦ new b (subst (λ (x : ℕ). IsNeighbourIn m dir x b) (sym (t.spreads.older head short)) (subst (λ (x : Dir). IsNeighbourIn m x (slice_index q0 head) b) (sym (dir_is d) ∙ (ap dir_of e ∙ dir_is dir)) n))
+    | inr ne ↦ stays m label head l1 q1 l2 q2 less t.spreads.spread s b n.to (t.sides d b (omega (arith, few, ne, is)) n)
+  ];
+}
+
+-- the directions in their order
+pub dir_at : (i : ℕ) → i < 4 → dir_number (get_or (North ∷ East ∷ South ∷ West ∷ []) i North) ≡ i
+dir_at zero less = refl
+dir_at (suc zero) less = refl
+dir_at (suc (suc zero)) less = refl
+dir_at (suc (suc (suc zero))) less = refl
+dir_at (suc (suc (suc (suc i)))) less = absurd (omega (arith, less))
+
+-- all four were
+pub turned_round : (m : Floor) (label head : ℕ) (l0 q0 l1 q1 : List ℕ) → label < 4294967295 → IsSpread m label head l0 q0 → head < length q0 → HasTurned m label head 4 l0 q0 l1 q1 → Spreads m label (head + 1) l0 q0 l1 q1
+turned_round m label head l0 q0 l1 q1 less o short t =
+    next_head m label head (slice_index q0 head) l0 q0 l1 q1 less o short refl t.spreads (λ b n. t.sides n.0 b (all n.0) n.1)
   where
-    to_four : (b : ℕ) → IsFloor m b → slice_index l3 b ≡ label → slice_index l4 b ≡ label
-    to_four b f e = stays m label head l3 q3 l4 q4 less s3.spread s4 b f e
-
-    to_three : (b : ℕ) → IsFloor m b → slice_index l2 b ≡ label → slice_index l4 b ≡ label
-    to_three b f e = to_four b f (stays m label head l2 q2 l3 q3 less s2.spread s3 b f e)
-
-    to_two : (b : ℕ) → IsFloor m b → slice_index l1 b ≡ label → slice_index l4 b ≡ label
-    to_two b f e = to_three b f (stays m label head l1 q1 l2 q2 less s1.spread s2 b f e)
-
-    side : (dir : Dir) (b : ℕ) → IsNeighbourIn m dir cell b → slice_index l4 b ≡ label
-    side North b n = to_two b n.to (north b n)
-    side East b n = to_three b n.to (east b n)
-    side South b n = to_four b n.to (south b n)
-    side West b n = west b n
-
-    sides : (b : ℕ) → IsNeighbour m cell b → slice_index l4 b ≡ label
-    sides b n = side n.0 b n.1
+    all : (dir : Dir) → dir_number dir < 4
+    all North = omega arith
+    all East = omega arith
+    all South = omega arith
+    all West = omega arith
 
 -- the search for a part so far: it began from labels that are kept, and its first cell has its label
 pub record HasKept (m : Floor) (start head : ℕ) (old new queue : List ℕ) : Type 0 where

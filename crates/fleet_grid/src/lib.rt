@@ -2,6 +2,7 @@
 //! conflict-free steps in which the crates above speak.
 #![tactic(auto)]
 
+mod cells;
 mod counts;
 mod dir;
 mod grid;

@@ -1,10 +1,9 @@
 //! The padded form of a map, in which a search needs no test for the edges of the map.
 
-ghost use Rattle.std.specs.Prelude.{◌≡◌, ℕ, ◌+◌, ◌*◌, ◌<◌, ◌≤◌, length, IfOk};
-ghost use Rattle.fleet_grid.specs.Floor.{floor_of};
+ghost use Rattle.std.specs.Prelude.{◌≡◌, ◌+◌, ◌<◌, ◌≤◌, IfOk};
 ghost use Rattle.fleet_grid.specs.Padded.{IsPadded, place};
 
-use crate::letters::is_floor_byte;
+use crate::cells::Cells;
 use std::alloc::{AllocError, Allocator, Global};
 
 /// A place that is not reached.
@@ -39,22 +38,18 @@ pub(crate) fn stride_of(width: u32) -> u32
 /// The padded form: walls, but for the floor cells.
 pub(crate) fn blank_of<A: Allocator + Copy>(
     alloc: A,
-    height: u32,
-    width: u32,
+    cells: &Cells<A>,
     stride: u32,
-    letters: &[u8],
 ) -> Result<Vec<u32, A>, AllocError>
-    requires low { height ≤ 1024 }
-    requires slim { width ≤ 1024 }
-    requires stride { (width < stride) × (stride ≤ 1041) }
-    requires covered { length letters.now ≡ height * width }
-    ensures { IfOk result (λ blank. IsPadded (floor_of height width letters.now) stride blank.items) }
+    requires stride { (cells.now.width < stride) × (stride ≤ 1041) }
+    ensures { IfOk result (λ blank. IsPadded cells.now stride blank.items) }
 {
+    let (height, width) = (cells.height(), cells.width());
     let size = (height as usize + 2) * stride as usize;
     let mut blank = vec![in alloc; WALL; size]?;
-    for cell in 0..letters.len() {
-        if is_floor_byte(letters[cell]) {
-            let at = place_of(width, stride, cell as u32);
+    for cell in 0..cells.count() {
+        if cells.is_floor(cell) {
+            let at = place_of(width, stride, cell);
             blank[at] = FAR;
         }
     }

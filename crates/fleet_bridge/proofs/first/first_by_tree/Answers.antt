@@ -6,9 +6,9 @@ use Rattle.fleet_bridge.proofs.first.first_by_tree.Goals as goal
 
 pub loop-cell-preserved : goal.loop-cell-preserved
 loop-cell-preserved g c =
-    let m = c.in_ok-sides.sides.grid.now in
+    let m = c.in_ok-sides.sides in
     let none : HasNone c.args.grid.now c.loop-cell.cell =
-    subst (λ (f : Floor). HasNone f c.loop-cell.cell) c.in_ok-sides.ensures.grid
+    subst (λ (f : Floor). HasNone f c.loop-cell.cell) c.in_ok-sides.ensures
     (subst (λ (o : Option ℕ). MatchOption o (HasNone m c.loop-cell.cell) (IsFirstFrom m c.loop-cell.cell)) (none_left c.in_ok-upper.field-0 c.in_default.not-Some) c.in_ok-upper.ensures) in
     below_more (HasNone c.args.grid.now) c.loop-cell.cell c.loop-cell.invariant none
 

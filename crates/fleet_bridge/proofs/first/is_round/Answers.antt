@@ -3,10 +3,10 @@ use Rattle.fleet_bridge.proofs.Rounds.{round_up, round_down, round_off}
 use Rattle.fleet_bridge.proofs.first.is_round.Goals as goal
 
 pub returns-then-read-b : goal.returns-then-read-b
-returns-then-read-b g c = λ is. round_up c.args.sides.now.grid.now c.args.tree.now c.args.a c.args.b c.requires.sides.form c.requires.tree c.requires.edge (sym c.read.ensures ∙ c.if-read-b.true) (c.is_crossed.ensures is)
+returns-then-read-b g c = λ is. round_up c.args.sides.now c.args.tree.now c.args.a c.args.b c.requires.tree c.requires.edge (sym c.read.ensures ∙ c.if-read-b.true) (c.is_crossed.ensures is)
 
 pub returns-then-read-a : goal.returns-then-read-a
-returns-then-read-a g c = λ is. round_down c.args.sides.now.grid.now c.args.tree.now c.args.a c.args.b c.requires.sides.form c.requires.tree c.requires.edge (sym c.read-2.ensures ∙ c.if-read-a.true) (c.is_crossed-then-read-a.ensures is)
+returns-then-read-a g c = λ is. round_down c.args.sides.now c.args.tree.now c.args.a c.args.b c.requires.tree c.requires.edge (sym c.read-2.ensures ∙ c.if-read-a.true) (c.is_crossed-then-read-a.ensures is)
 
 pub returns : goal.returns
-returns g c = λ is. round_off c.args.sides.now.grid.now c.args.tree.now c.args.a c.args.b c.requires.tree c.requires.edge (λ e. c.if-read-b.false (c.read.ensures ∙ e)) (λ e. c.if-read-a.false (c.read-2.ensures ∙ e))
+returns g c = λ is. round_off c.args.sides.now c.args.tree.now c.args.a c.args.b c.requires.tree c.requires.edge (λ e. c.if-read-b.false (c.read.ensures ∙ e)) (λ e. c.if-read-a.false (c.read-2.ensures ∙ e))

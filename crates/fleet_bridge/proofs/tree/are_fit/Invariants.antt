@@ -3,4 +3,4 @@ use Rattle.fleet_bridge.specs.Spanning.{IsFitIn}
 use Rattle.fleet_bridge.proofs.tree.are_fit.Given as goal
 
 abbrev pub invariant-loop-cell : goal.invariant-loop-cell
-invariant-loop-cell g l = (c : ℕ) → c < l.cell → IsFitIn l.sides.grid.now l.tree c
+invariant-loop-cell g l = (c : ℕ) → c < l.cell → IsFitIn l.sides l.tree c

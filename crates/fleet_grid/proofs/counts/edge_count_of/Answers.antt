@@ -1,13 +1,12 @@
 use Rattle.std.proofs.Common.{◌≡◌, ap, ◌∙◌, arith}
 use Rattle.std.specs.Int.{from_bool}
-use Rattle.fleet_grid.specs.Floor.{floor_of}
 use Rattle.fleet_grid.specs.Counts.{has_east, has_south}
 use Rattle.fleet_grid.proofs.CountLemmas.{count_more, bool_few}
 use Rattle.fleet_grid.proofs.counts.edge_count_of.Goals as goal
 
 pub loop-cell-preserved : goal.loop-cell-preserved
-loop-cell-preserved c =
-    let m = floor_of c.args.height c.args.width c.args.letters.now in
+loop-cell-preserved g c =
+    let m = c.args.cells.now in
     let n = c.loop-cell.cell in
     let e : c.from-east.result ≡ from_bool (has_east m n) = c.from-east.ensures ∙ ap from_bool c.leads_east.ensures in
     let s : c.from-south.result ≡ from_bool (has_south m n) = c.from-south.ensures ∙ ap from_bool c.leads_south.ensures in

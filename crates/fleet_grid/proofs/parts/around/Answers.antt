@@ -1,15 +1,16 @@
-use Rattle.std.proofs.Common.{sym, ◌∙◌}
-use Rattle.std.proofs.lemmas.Grind.{get_or_default_zero}
-use Rattle.fleet_grid.specs.Floor.{floor_of}
-use Rattle.fleet_grid.proofs.Rounds.{four_sides}
+use Rattle.std.proofs.Common.{◌≡◌, ℕ, subst, arith}
+use Rattle.fleet_grid.proofs.Rounds.{HasTurned, dir_at, turned_on, turned_round}
 use Rattle.fleet_grid.proofs.parts.around.Goals as goal
 
+pub loop-dir-preserved : goal.loop-dir-preserved
+loop-dir-preserved g c =
+    turned_on c.args.cells.now c.args.label c.args.head c.loop-dir.dir-index _ c.args.labels.now c.args.queue.now.items c.loop-dir.labels c.loop-dir.queue.items c.visit.new.labels c.visit.new.queue.items
+    c.requires.bare c.requires.spread c.requires.head (dir_at c.loop-dir.dir-index (omega (arith, c.loop-dir-test.true))) c.loop-dir.invariant c.in_ok-visit.ensures.ok c.in_ok-visit.ensures.same
+
 pub returns : goal.returns
-returns g c = record {
-  ok = four_sides (floor_of c.args.height c.args.width c.args.letters.now) c.args.label c.args.head c.index-cell.result.now
-      c.args.labels.now c.args.queue.now.items c.visit.new.labels c.visit.new.queue.items c.visit-2.new.labels c.visit-2.new.queue.items
-      c.visit-3.new.labels c.visit-3.new.queue.items c.visit-4.new.labels c.visit-4.new.queue.items
-      c.requires.bare c.requires.spread c.requires.head (sym (get_or_default_zero c.args.queue.now.items c.args.head c.index-cell.result.now c.requires.head) ∙ sym c.index-cell.ensures)
-      c.in_ok-visit.ensures.ok c.in_ok-visit-2.ensures.ok c.in_ok-visit-3.ensures.ok c.in_ok-visit-4.ensures.ok
-      c.in_ok-visit.ensures.same c.in_ok-visit-2.ensures.same c.in_ok-visit-3.ensures.same c.in_ok-visit-4.ensures.same;
-}
+returns g c =
+    let four : c.loop-dir.dir-index ≡ 4 = omega (arith, c.loop-dir-test.false, c.loop-dir.auto.dir-index-end) in
+    record {
+      ok = turned_round c.args.cells.now c.args.label c.args.head c.args.labels.now c.args.queue.now.items c.loop-dir.labels c.loop-dir.queue.items c.requires.bare c.requires.spread c.requires.head
+          (subst (λ (k : ℕ). HasTurned c.args.cells.now c.args.label c.args.head k c.args.labels.now c.args.queue.now.items c.loop-dir.labels c.loop-dir.queue.items) four c.loop-dir.invariant);
+    }

@@ -1,7 +1,7 @@
 use Rattle.std.proofs.Common.{List, sym, subst, arith}
 use Rattle.fleet_bridge.specs.declared.sides.Open.{Open}
 use Rattle.fleet_bridge.proofs.Opens.{AreOpen, open_more}
-use Rattle.fleet_bridge.proofs.sides.sides_of.Goals as goal
+use Rattle.fleet_bridge.proofs.sides.Sides.new.Goals as goal
 
 pub loop-cell-preserved : goal.loop-cell-preserved
 loop-cell-preserved g c = record {

@@ -3,7 +3,7 @@ use Rattle.std.specs.Prelude.{slice_index}
 use Rattle.std.specs.Vec.{vec_len}
 use Rattle.fleet_bridge.specs.Tree.{AreUnder}
 use Rattle.fleet_bridge.proofs.Inner.{under_set}
-use Rattle.fleet_bridge.proofs.tree.hand_up.Goals as goal
+use Rattle.fleet_bridge.proofs.reach.hand_up.Goals as goal
 
 pub returns-clause-under : goal.returns-clause-under
 returns-clause-under g c =

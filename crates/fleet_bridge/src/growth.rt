@@ -1,0 +1,151 @@
+//! How a spanning tree of each part grows, and the numbers of its cells. Nothing is proved of it but that it is safe: the
+//! tree is checked.
+
+use crate::numbers::{own_numbers, read, write};
+use crate::sides::Sides;
+use fleet_grid::Dir;
+use std::alloc::{AllocError, Allocator, Global};
+
+/// The cells that were placed, their parents and tops, and the order in which they were placed.
+#[derive(Drop)]
+pub(crate) struct Growth<A: Allocator + Copy = Global> {
+    pub(crate) placed: Vec<bool, A>,
+    pub(crate) up: Vec<u32, A>,
+    pub(crate) top: Vec<u32, A>,
+    pub(crate) order: Vec<u32, A>,
+}
+
+/// Places a cell below its parent, unless it is placed.
+#[inline(always)]
+fn place<A: Allocator + Copy>(
+    growth: &mut Growth<A>,
+    cell: u32,
+    parent: u32,
+    root: u32,
+) -> Result<(), AllocError> {
+    let at = cell as usize;
+    if at >= growth.placed.len() || growth.placed[at] {
+        return Ok(());
+    }
+    growth.placed[at] = true;
+    write(&mut growth.up, cell, parent);
+    write(&mut growth.top, cell, root);
+    growth.order.push(cell)?;
+    Ok(())
+}
+
+/// The neighbour in a direction, unless it is placed.
+#[inline(always)]
+fn unplaced_beside<A: Allocator + Copy, B: Allocator + Copy>(
+    sides: &Sides<'_, A, B>,
+    growth: &Growth<A>,
+    cell: u32,
+    dir: Dir,
+) -> Option<u32> {
+    let next = sides.beside(cell, dir)?;
+    let at = next as usize;
+    if at >= growth.placed.len() || growth.placed[at] {
+        return None;
+    }
+    Some(next)
+}
+
+/// The first neighbour that is not placed.
+#[inline(always)]
+fn first_unplaced<A: Allocator + Copy, B: Allocator + Copy>(
+    sides: &Sides<'_, A, B>,
+    growth: &Growth<A>,
+    cell: u32,
+) -> Option<u32> {
+    if let Some(east) = unplaced_beside(sides, growth, cell, Dir::East) {
+        return Some(east);
+    }
+    if let Some(west) = unplaced_beside(sides, growth, cell, Dir::West) {
+        return Some(west);
+    }
+    if let Some(south) = unplaced_beside(sides, growth, cell, Dir::South) {
+        return Some(south);
+    }
+    unplaced_beside(sides, growth, cell, Dir::North)
+}
+
+/// Places the part of the root, each cell below the last one that had a way to it. So an edge off the tree leads from
+/// a cell to one of those above it.
+fn place_part<A: Allocator + Copy, B: Allocator + Copy>(
+    sides: &Sides<'_, A, B>,
+    growth: &mut Growth<A>,
+    count: u32,
+    root: u32,
+) -> Result<(), AllocError> {
+    place(growth, root, root, root)?;
+    let mut cell = root;
+    for _ in 0..2 * u64::from(count) {
+        match first_unplaced(sides, growth, cell) {
+            Some(next) => {
+                place(growth, next, cell, root)?;
+                cell = next;
+            }
+            None if cell == root => return Ok(()),
+            None => cell = read(&growth.up, cell),
+        }
+    }
+    Ok(())
+}
+
+/// All cells placed, each part below its first cell.
+pub(crate) fn place_all<A: Allocator + Copy, B: Allocator + Copy>(
+    alloc: A,
+    sides: &Sides<'_, A, B>,
+    count: u32,
+) -> Result<Growth<A>, AllocError> {
+    let placed = vec![in alloc; false; count as usize]?;
+    let up = own_numbers(alloc, count)?;
+    let top = own_numbers(alloc, count)?;
+    let order = Vec::with_capacity(alloc, count as usize)?;
+    let mut growth = Growth {
+        placed,
+        up,
+        top,
+        order,
+    };
+    for root in 0..count {
+        let is_placed = (root as usize) < growth.placed.len() && growth.placed[root as usize];
+        if sides.grid().is_floor(root) && !is_placed {
+            place_part(sides, &mut growth, count, root)?;
+        }
+    }
+    Ok(growth)
+}
+
+/// For each cell its number, and the number behind those of its subtree.
+#[derive(Drop)]
+pub(crate) struct Numbers<A: Allocator + Copy = Global> {
+    pub(crate) number: Vec<u32, A>,
+    pub(crate) end: Vec<u32, A>,
+}
+
+/// Numbers in the order of placing, in which a subtree's cells stand side by side, and where each subtree ends.
+pub(crate) fn numbers_of<A: Allocator + Copy>(
+    alloc: A,
+    growth: &Growth<A>,
+    count: u32,
+) -> Result<Numbers<A>, AllocError> {
+    let mut number = vec![in alloc; 0u32; count as usize]?;
+    let mut end = vec![in alloc; 1u32; count as usize]?;
+    let mut next = 0u32;
+    for cell in growth.order.iter() {
+        write(&mut number, *cell, next);
+        next = next.saturating_add(1);
+        write(&mut end, *cell, next);
+    }
+    Ok(Numbers { number, end })
+}
+
+/// Lets each subtree end behind its last child: children come behind their parents in the order, so this goes backward.
+pub(crate) fn widen_ends<A: Allocator + Copy>(growth: &Growth<A>, end: &mut Vec<u32, A>) {
+    for cell in growth.order.iter().rev() {
+        let parent = read(&growth.up, *cell);
+        let last = read(end, parent).max(read(end, *cell));
+        write(end, parent, last);
+    }
+}

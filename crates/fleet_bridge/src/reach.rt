@@ -1,0 +1,95 @@
+//! How far the edges off a tree reach, and from which cell of each subtree the furthest one leads.
+
+ghost use Rattle.std.specs.Prelude.{◌≡◌, ◌<◌, vec_len, IfOk};
+ghost use Rattle.fleet_bridge.specs.Tree.{AreUnder};
+
+use crate::growth::Growth;
+use crate::numbers::{own_numbers, read, write};
+use crate::sides::Sides;
+use fleet_grid::Dir;
+use std::alloc::{AllocError, Allocator};
+
+/// The number of the neighbour in a direction, if the edge to it is off the tree.
+#[inline(always)]
+fn reach_beside<A: Allocator + Copy, B: Allocator + Copy>(
+    sides: &Sides<'_, A, B>,
+    up: &Vec<u32, A>,
+    number: &Vec<u32, A>,
+    cell: u32,
+    dir: Dir,
+) -> Option<u32> {
+    let next = sides.beside(cell, dir)?;
+    if read(up, cell) == next || read(up, next) == cell {
+        return None;
+    }
+    Some(read(number, next))
+}
+
+/// The least number that an edge off the tree reaches from the cell, its own counted too.
+fn reach<A: Allocator + Copy, B: Allocator + Copy>(
+    sides: &Sides<'_, A, B>,
+    up: &Vec<u32, A>,
+    number: &Vec<u32, A>,
+    cell: u32,
+) -> u32 {
+    let mut least = read(number, cell);
+    for dir in Dir::ALL {
+        if let Some(far) = reach_beside(sides, up, number, cell, dir) {
+            least = least.min(far);
+        }
+    }
+    least
+}
+
+/// Gives the parent the cell of the child's subtree.
+#[tactic(auto, using(crate::proofs::Inner::under_set))]
+fn hand_up<A: Allocator + Copy>(up: &Vec<u32, A>, inner: &mut Vec<u32, A>, cell: u32)
+    requires inside { cell < vec_len inner.old }
+    requires under { AreUnder up.now.items (vec_len inner.old) inner.old.items }
+    ensures size { vec_len inner.new ≡ vec_len inner.old }
+    ensures under { AreUnder up.now.items (vec_len inner.old) inner.new.items }
+{
+    let parent = read(up, cell);
+    let found = read(inner, cell);
+    write(inner, parent, found);
+}
+
+/// Each cell's own reach.
+fn reaches<A: Allocator + Copy, B: Allocator + Copy>(
+    alloc: A,
+    sides: &Sides<'_, A, B>,
+    up: &Vec<u32, A>,
+    number: &Vec<u32, A>,
+    count: u32,
+) -> Result<Vec<u32, A>, AllocError> {
+    let mut far = Vec::with_capacity(alloc, count as usize)?;
+    for cell in 0..count {
+        far.push(reach(sides, up, number, cell))?;
+    }
+    Ok(far)
+}
+
+/// For each cell one of its subtree that reaches the least number.
+#[tactic(auto, using(crate::proofs::Inner::under_own))]
+pub(crate) fn furthest<A: Allocator + Copy, B: Allocator + Copy>(
+    alloc: A,
+    sides: &Sides<'_, A, B>,
+    growth: &Growth<A>,
+    number: &Vec<u32, A>,
+    count: u32,
+) -> Result<Vec<u32, A>, AllocError>
+    ensures { IfOk result (λ inner. AreUnder growth.now.up.items count inner.items) }
+{
+    let mut far = reaches(alloc, sides, &growth.up, number, count)?;
+    let mut inner = own_numbers(alloc, count)?;
+    for cell in growth.order.iter().rev() {
+        let cell = *cell;
+        let parent = read(&growth.up, cell);
+        let mine = read(&far, cell);
+        if mine < read(&far, parent) && cell < count {
+            write(&mut far, parent, mine);
+            hand_up(&growth.up, &mut inner, cell);
+        }
+    }
+    Ok(inner)
+}
