@@ -1,5 +1,5 @@
 //! The verdict rule on the history.
-ghost use Rattle.std.specs.Prelude.{◌≡◌, ◌<◌, true};
+ghost use Rattle.std.specs.Prelude.{◌≡◌, ◌<◌, ℕ, true, false};
 ghost use Rattle.fleet_grid.specs.Step.{IsPlacement};
 ghost use Rattle.fleet_history.specs.History.{History};
 ghost use Rattle.fleet_history.specs.Verdicts.{AreFacts, IsVerdict};
@@ -56,7 +56,8 @@ impl<A: Allocator + Copy> FleetState<A> {
 
     /// Whether the robot of an order has memory for one more errand.
     pub fn has_room(&self, order: Order) -> bool
-        ensures { result ≡ true → (verdict : Verdict) → HasPlace self.now.queues order verdict }
+        ensures room { result ≡ true → (verdict : Verdict) → HasPlace self.now.queues order verdict }
+        ensures full { result ≡ false → (number : ℕ) → HasPlace self.now.queues order (Verdict.Accepted number) → ⊥ }
     {
         let Order::Go { robot, cell: _ } = order else {
             return true;
