@@ -7,3 +7,6 @@ pub mod Shares
 pub mod Uses
 pub mod Made
 pub mod Inverse
+pub mod Marks
+pub mod Descent
+pub mod Nearer

@@ -4,3 +4,4 @@ pub mod Kept
 pub mod Store
 pub mod Several
 pub mod Uses
+pub mod Compass

@@ -1,7 +1,10 @@
 //! Distances to a goal on the floor of a map: one field, several at once, and a store of fields that are shared.
 #![tactic(auto)]
 
+mod bits;
 mod columns;
+mod compass;
+mod compasses;
 mod field;
 mod flood;
 mod several;

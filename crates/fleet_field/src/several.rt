@@ -17,8 +17,14 @@ const LARGE: u64 = 1_048_576;
 /// From so many goals on, threads search them whatever the map.
 const MANY: usize = 2_048;
 
+/// Whether the searches of so many goals are worth several threads.
+pub(crate) fn is_large(cell_count: u32, goal_count: usize) -> bool {
+    let searched = u64::from(cell_count).saturating_mul(goal_count as u64);
+    goal_count >= MANY || goal_count >= 2 && searched >= LARGE
+}
+
 /// The fields of several goals, one after another.
-pub(crate) fn fields_in_turn<A: Allocator + Copy, B: Allocator + Copy>(
+fn fields_in_turn<A: Allocator + Copy, B: Allocator + Copy>(
     alloc: A,
     grid: &Grid<B>,
     goals: &[u32],
@@ -81,8 +87,7 @@ pub fn fields<A: Allocator + Copy + Send + Sync, B: Allocator + Copy + Send + Sy
     requires { (i : ℕ) → i < length goals.now → IsFloor grid.now (slice_index goals.now i) }
     ensures { IfOk result (λ fields. AreFields grid.now goals.now fields.items) }
 {
-    let searched = u64::from(grid.cell_count()).saturating_mul(goals.len() as u64);
-    if goals.len() < 2 || goals.len() < MANY && searched < LARGE {
+    if !is_large(grid.cell_count(), goals.len()) {
         return fields_in_turn(alloc, grid, goals);
     }
     fields_side_by_side(rt, alloc, grid, goals)

@@ -11,8 +11,8 @@ ghost use Rattle.slab.specs.Slab.{get, slab_len, HasRoomFor};
 ghost use Rattle.std.specs.List.{Contains};
 ghost use Rattle.fleet_field.specs.declared.store.Held.{Held as HeldView};
 
-use crate::field::Field;
-use crate::several::{fields, fields_in_turn};
+use crate::compass::Compass;
+use crate::compasses::{compasses, compasses_in_turn};
 use fleet_grid::Grid;
 use slab::Slab;
 use std::alloc::{AllocError, Allocator, Global};
@@ -30,7 +30,7 @@ pub struct Held<F> {
 #[derive(Drop)]
 pub struct FieldStore<A: Allocator + Copy = Global> {
     alloc: A,
-    held: Slab<Held<Field<A>>, A>,
+    held: Slab<Held<Compass<A>>, A>,
 }
 
 impl<A: Allocator + Copy> Model for FieldStore<A> {
@@ -48,7 +48,7 @@ impl<A: Allocator + Copy> Model for FieldStore<A> {
 }
 
 /// The key that shows the field of a goal.
-fn key_of<A: Allocator + Copy>(held: &Slab<Held<Field<A>>, A>, goal: u32) -> Option<usize>
+fn key_of<A: Allocator + Copy>(held: &Slab<Held<Compass<A>>, A>, goal: u32) -> Option<usize>
     ensures { MatchOption result ((key : ℕ) → (at : HeldView Aim) → get held.now key ≡ Some at → at.field.goal ≡ goal → ⊥) (λ key. (at : HeldView Aim) × (get held.now key ≡ Some at) × (at.field.goal ≡ goal)) }
 {
     for key in 0..held.capacity() {
@@ -62,7 +62,7 @@ fn key_of<A: Allocator + Copy>(held: &Slab<Held<Field<A>>, A>, goal: u32) -> Opt
 }
 
 /// Counts one use more of the field at a key.
-fn use_again<A: Allocator + Copy>(held: &mut Slab<Held<Field<A>>, A>, key: usize)
+fn use_again<A: Allocator + Copy>(held: &mut Slab<Held<Compass<A>>, A>, key: usize)
     requires held { IsSome (get held.old key) }
     requires fewer { (at : HeldView Aim) → get held.old key ≡ Some at → at.uses + 1 < 2 ^ 32 }
     ensures more { (at : HeldView Aim) → get held.old key ≡ Some at → get held.new key ≡ Some record at { uses = at.uses + 1 } }
@@ -89,7 +89,7 @@ fn is_one_of(goals: &[u32], goal: u32) -> bool
 
 /// Whether the goal needs a field: no key shows it, and it is not among the missing.
 fn is_missing<A: Allocator + Copy>(
-    held: &Slab<Held<Field<A>>, A>,
+    held: &Slab<Held<Compass<A>>, A>,
     missing: &[u32],
     goal: u32,
 ) -> bool
@@ -104,7 +104,7 @@ fn is_missing<A: Allocator + Copy>(
 /// The goals that no key shows, each once.
 fn missing_of<A: Allocator + Copy>(
     alloc: A,
-    held: &Slab<Held<Field<A>>, A>,
+    held: &Slab<Held<Compass<A>>, A>,
     goals: &[u32],
 ) -> Result<Vec<u32, A>, AllocError>
     ensures each { IfOk result (λ missing. (i : ℕ) → i < length goals.now → HasGoal held.now.slots (slice_index goals.now i) ⊎ IsOneOf missing.items (slice_index goals.now i)) }
@@ -120,7 +120,7 @@ fn missing_of<A: Allocator + Copy>(
 }
 
 /// Puts a field in without a use, unless its goal is there.
-fn put<A: Allocator + Copy>(held: &mut Slab<Held<Field<A>>, A>, field: Field<A>)
+fn put<A: Allocator + Copy>(held: &mut Slab<Held<Compass<A>>, A>, field: Compass<A>)
     requires room { HasRoomFor held.old 1 }
     requires once { IsOnce held.old.slots }
     ensures filled { IsFilled (field ∷ []) held.old.slots held.new.slots }
@@ -137,7 +137,10 @@ fn put<A: Allocator + Copy>(held: &mut Slab<Held<Field<A>>, A>, field: Field<A>)
 }
 
 /// Puts fields in without a use, but for those whose goals are there.
-fn put_all<A: Allocator + Copy>(held: &mut Slab<Held<Field<A>>, A>, mut fields: Vec<Field<A>, A>)
+fn put_all<A: Allocator + Copy>(
+    held: &mut Slab<Held<Compass<A>>, A>,
+    mut fields: Vec<Compass<A>, A>,
+)
     requires room { HasRoomFor held.old (vec_len fields) }
     requires once { IsOnce held.old.slots }
     ensures filled { IsFilled fields.items held.old.slots held.new.slots }
@@ -149,7 +152,7 @@ fn put_all<A: Allocator + Copy>(held: &mut Slab<Held<Field<A>>, A>, mut fields: 
 }
 
 /// Counts one use more of the goal's field, and gives its key.
-fn use_goal<A: Allocator + Copy>(held: &mut Slab<Held<Field<A>>, A>, goal: u32) -> usize
+fn use_goal<A: Allocator + Copy>(held: &mut Slab<Held<Compass<A>>, A>, goal: u32) -> usize
     requires once { IsOnce held.old.slots }
     requires there { HasGoal held.old.slots goal }
     requires fewer { (key : ℕ) → (at : HeldView Aim) → get held.old key ≡ Some at → at.uses + 1 < 2 ^ 32 }
@@ -167,7 +170,7 @@ fn use_goal<A: Allocator + Copy>(held: &mut Slab<Held<Field<A>>, A>, goal: u32) 
 
 /// Counts one use more for each goal, and appends the keys.
 fn use_all<A: Allocator + Copy>(
-    held: &mut Slab<Held<Field<A>>, A>,
+    held: &mut Slab<Held<Compass<A>>, A>,
     goals: &[u32],
     keys: &mut Vec<usize, A>,
 )
@@ -212,7 +215,7 @@ impl<A: Allocator + Copy> FieldStore<A> {
             return Ok(key);
         }
         self.held.reserve(1)?;
-        let field = Field::from(self.alloc, grid, goal)?;
+        let field = Compass::from(self.alloc, grid, goal)?;
         Ok(self.held.insert_reserved(Held { field, uses: 1 }))
     }
 
@@ -292,7 +295,7 @@ impl<A: Allocator + Copy + Send + Sync> FieldStore<A> {
         ensures refused { OnErr result (self.new ≡ self.old) }
     {
         let missing = missing_of(self.alloc, &self.held, goals)?;
-        let fresh = fields(rt, self.alloc, grid, &missing)?;
+        let fresh = compasses(rt, self.alloc, grid, &missing)?;
         let mut keys = Vec::with_capacity(self.alloc, goals.len())?;
         self.held.reserve(fresh.len())?;
         put_all(&mut self.held, fresh);
@@ -319,7 +322,7 @@ impl<A: Allocator + Copy> FieldStore<A> {
         ensures refused { OnErr result (self.new ≡ self.old) }
     {
         let missing = missing_of(self.alloc, &self.held, goals)?;
-        let fresh = fields_in_turn(self.alloc, grid, &missing)?;
+        let fresh = compasses_in_turn(self.alloc, grid, &missing)?;
         let mut keys = Vec::with_capacity(self.alloc, goals.len())?;
         self.held.reserve(fresh.len())?;
         put_all(&mut self.held, fresh);

@@ -8,8 +8,8 @@ use Rattle.fleet_field.specs.declared.store.Held.{Held}
 use Rattle.fleet_field.proofs.Uses.{floor_missing, there_all, few_filled, are_held, all_served}
 use Rattle.fleet_field.proofs.store.FieldStore.hold_all.Goals as goal
 
-pub fields-requires-after_bounds : goal.fields-requires-after_bounds
-fields-requires-after_bounds g c κs bounds =
+pub compasses-requires-after_bounds : goal.compasses-requires-after_bounds
+compasses-requires-after_bounds g c κs bounds =
     subst (λ (xs : List ℕ). (i : ℕ) → i < length xs → IsFloor c.args.grid.now (slice_index xs i)) (sym c.deref.ensures.value)
     (floor_missing c.args.grid.now c.args.goals.now c.in_ok-missing.missing.items c.requires.floor c.in_ok-missing.ensures.only)
 

@@ -8,8 +8,8 @@ use Rattle.fleet_field.specs.declared.store.Held.{Held}
 use Rattle.fleet_field.proofs.Uses.{floor_missing, there_all, few_filled, are_held, all_served}
 use Rattle.fleet_field.proofs.store.FieldStore.hold_each.Goals as goal
 
-pub fields_in_turn-requires : goal.fields_in_turn-requires
-fields_in_turn-requires g c =
+pub compasses_in_turn-requires : goal.compasses_in_turn-requires
+compasses_in_turn-requires g c =
     subst (λ (xs : List ℕ). (i : ℕ) → i < length xs → IsFloor c.args.grid.now (slice_index xs i)) (sym c.deref.ensures.value)
     (floor_missing c.args.grid.now c.args.goals.now c.in_ok-missing.missing.items c.requires.floor c.in_ok-missing.ensures.only)
 

@@ -1,0 +1,172 @@
+//! One byte a cell: which ways lead nearer to a goal.
+
+ghost use Rattle.std.specs.Prelude.{◌≡◌, ℕ, ◌<◌, ◌≤◌, ◌==◌, ◌↔◌, IsTrue, length, IfOk, None, slice_index, slice_index_or};
+ghost use Rattle.std.specs.Int.{bit_at};
+ghost use Rattle.fleet_grid.specs.Floor.{IsFloor, IsNeighbourIn};
+ghost use Rattle.fleet_grid.specs.Ways.{AreNearer, IsLess};
+ghost use Rattle.fleet_field.specs.Field.{IsField};
+ghost use Rattle.fleet_field.specs.Compass.{next_cell, steps_down};
+
+use crate::bits::ways_of_cells;
+use crate::columns::Columns;
+use crate::flood::flood;
+use crate::ways::{is_less, ways_of};
+use fleet_grid::{Dir, Grid};
+use std::alloc::{AllocError, Allocator, Global};
+use std::marker::Model;
+
+/// The ways of a map's cells that lead nearer to a goal. Contracts see the goal and the distances, cell by cell.
+#[derive(Drop)]
+pub(crate) struct Compass<A: Allocator + Copy = Global> {
+    height: u32,
+    width: u32,
+    goal: u32,
+    ways: Vec<u8, A>,
+}
+
+impl<A: Allocator + Copy> Model for Compass<A> {
+    ghost use Rattle.fleet_field.specs.Field.{Aim, aim_of};
+    ghost use Rattle.fleet_field.specs.Compass.{IsCompass, aways_down};
+
+    ghost Value = { Aim };
+
+    ghost view = { λ c. aim_of c.goal (aways_down c.height c.width c.goal c.ways.items) };
+
+    ghost invariant = { λ c. IsCompass c.height c.width c.goal c.ways.items };
+}
+
+/// Whether a way is among these.
+fn is_way(ways: u8, number: u8) -> bool
+    requires { number < 8 }
+    ensures { result ≡ (bit_at ways number == 1) }
+{
+    ways >> number & 1 == 1
+}
+
+/// The cell that the first of a cell's ways leads to.
+fn next_cell(width: u32, ways: u8, cell: u32) -> Option<u32>
+    requires slim { width ≤ 1048576 }
+    requires few { cell < 1048576 }
+    ensures { result ≡ next_cell width ways cell }
+{
+    if is_way(ways, 0) {
+        return Some(cell.saturating_sub(width));
+    }
+    if is_way(ways, 1) {
+        return Some(cell + 1);
+    }
+    if is_way(ways, 2) {
+        return Some(cell + width);
+    }
+    if is_way(ways, 3) {
+        return Some(cell.saturating_sub(1));
+    }
+    None
+}
+
+/// The ways of a cell; past the last cell there are none.
+fn ways_in(ways: &[u8], cell: u32) -> u8
+    ensures { result ≡ slice_index ways.now cell }
+{
+    if (cell as usize) < ways.len() {
+        ways[cell as usize]
+    } else {
+        0
+    }
+}
+
+/// The number of steps down to the goal.
+fn steps_down(width: u32, ways: &[u8], goal: u32, cell: u32) -> Option<u32>
+    requires slim { width ≤ 1024 }
+    requires few { length ways.now ≤ 1048576 }
+    ensures { result ≡ steps_down width ways.now goal (length ways.now) 0 cell }
+{
+    let mut cell = cell;
+    for taken in 0..ways.len() as u32 {
+        if cell == goal {
+            return Some(taken);
+        }
+        if cell as usize >= ways.len() {
+            return None;
+        }
+        match next_cell(width, ways[cell as usize], cell) {
+            Some(next) => cell = next,
+            None => return None,
+        }
+    }
+    None
+}
+
+impl<A: Allocator + Copy> Compass<A> {
+    /// Searches the map from a goal, a floor cell.
+    pub(crate) fn from<B: Allocator + Copy>(
+        alloc: A,
+        grid: &Grid<B>,
+        goal: u32,
+    ) -> Result<Compass<A>, AllocError>
+        requires { IsFloor grid.now goal }
+        ensures { IfOk result (λ compass. IsField grid.now goal compass) }
+    {
+        let height = grid.height();
+        let columns = Columns::new(grid.width());
+        let (stride, blank) = grid.padded();
+        let start = columns.place(stride, goal) as u32;
+        let dist = flood(alloc, blank, stride as usize, start)?;
+        let ways = ways_of_cells(alloc, height, columns, stride, &dist)?;
+        Ok(Compass {
+            height,
+            width: columns.width,
+            goal,
+            ways,
+        })
+    }
+
+    /// The least number of edges of a walk from the cell to the goal, counted by steps; none where no walk leads there.
+    pub(crate) fn at(&self, cell: u32) -> Option<u32>
+        ensures { result ≡ slice_index_or self.now.away cell None }
+    {
+        if cell >= self.height * self.width {
+            return None;
+        }
+        steps_down(self.width, &self.ways, self.goal, cell)
+    }
+
+    /// Whether the neighbour in a direction is nearer to the goal than the cell.
+    fn is_nearer<B: Allocator + Copy>(&self, grid: &Grid<B>, cell: u32, dir: Dir) -> bool
+        ensures { (w : ℕ) → IsNeighbourIn grid.now dir cell w → IsTrue result ↔ IsLess (slice_index_or self.now.away w None) (slice_index_or self.now.away cell None) }
+    {
+        match grid.neighbour(cell, dir) {
+            Some(next) => is_less(self.at(next), self.at(cell)),
+            None => false,
+        }
+    }
+
+    /// The ways from a cell of a map that is not this one's.
+    fn ways_elsewhere<B: Allocator + Copy>(&self, grid: &Grid<B>, cell: u32) -> u8
+        ensures { AreNearer grid.now (λ c. slice_index_or self.now.away c None) cell result }
+    {
+        ways_of(
+            self.is_nearer(grid, cell, Dir::North),
+            self.is_nearer(grid, cell, Dir::East),
+            self.is_nearer(grid, cell, Dir::South),
+            self.is_nearer(grid, cell, Dir::West),
+        )
+    }
+
+    /// The ways from a cell of the map that lead nearer to the goal.
+    pub(crate) fn ways<B: Allocator + Copy>(&self, grid: &Grid<B>, cell: u32) -> u8
+        ensures { AreNearer grid.now (λ c. slice_index_or self.now.away c None) cell result }
+    {
+        if grid.width() != self.width {
+            return self.ways_elsewhere(grid, cell);
+        }
+        ways_in(&self.ways, cell)
+    }
+
+    /// The goal.
+    pub(crate) fn goal(&self) -> u32
+        ensures { result ≡ self.now.goal }
+    {
+        self.goal
+    }
+}
