@@ -3,7 +3,9 @@
 ghost use Rattle.bench.specs.Fleet.{goal_of, distance_of};
 
 use fleet_field::Field;
+use fleet_grid::Grid;
 use fleet_pibt::Goals;
+use std::alloc::Allocator;
 
 /// Robots and their fields.
 #[derive(Drop)]
@@ -29,5 +31,15 @@ impl<'a> Goals for Course<'a> {
         let aim = self.aims.get(robot as usize)?;
         let field = self.fields.get(*aim)?;
         field.at(cell)
+    }
+
+    fn ways<A: Allocator + Copy>(&self, grid: &Grid<A>, robot: u32, cell: u32) -> u8 {
+        let Some(aim) = self.aims.get(robot as usize) else {
+            return 0;
+        };
+        match self.fields.get(*aim) {
+            Some(field) => field.ways(grid, cell),
+            None => 0,
+        }
     }
 }

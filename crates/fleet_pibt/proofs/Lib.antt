@@ -16,3 +16,4 @@ pub mod Stepped
 pub mod Beside
 pub mod Seen
 pub mod Rated
+pub mod Spots

@@ -16,7 +16,7 @@ use Rattle.fleet_pibt.proofs.Distances.{cost-own, cost-beside, closer-less, idle
 use Rattle.fleet_pibt.proofs.Reserve.{none_or_some}
 use Rattle.fleet_pibt.proofs.Seen.{seen-below}
 
-beside-same : (w a b c : ℕ) (dir : Dir) → IsBeside w dir a b → IsBeside w dir a c → b ≡ c
+pub beside-same : (w a b c : ℕ) (dir : Dir) → IsBeside w dir a b → IsBeside w dir a c → b ≡ c
 beside-same w a b c North p q = omega arith
 beside-same w a b c East p q = omega (arith, p.0, q.0)
 beside-same w a b c South p q = omega arith

@@ -1,8 +1,10 @@
 //! What each robot sees from its cell, gathered in one pass before the planning.
 
-ghost use Rattle.std.specs.Prelude.{◌≡◌, ◌≤◌, None, length};
+ghost use Rattle.std.specs.Prelude.{◌≡◌, ℕ, ◌%◌, ◌<◌, ◌≤◌, None, length, slice_index};
+ghost use Rattle.fleet_grid.specs.Floor.{IsFloor};
 ghost use Rattle.fleet_grid.specs.Ways.{AreNearer};
-ghost use Rattle.fleet_pibt.specs.Around.{IsSpot, IsAround, AreArounds, cell_in};
+ghost use Rattle.fleet_grid.specs.declared.dir.Dir.TheVariants.{East, West};
+ghost use Rattle.fleet_pibt.specs.Around.{IsSide, IsSpot, IsAround, AreArounds, cell_in};
 
 use crate::goals::Goals;
 use fleet_grid::{Dir, Grid};
@@ -45,25 +47,58 @@ impl Around {
     }
 }
 
-/// The floor cell in a direction, or where there is none the own cell.
-fn spot<A: Allocator + Copy>(grid: &Grid<A>, own: u32, dir: Dir) -> u32
+/// The cell where it is floor, and else the own cell.
+#[tactic(auto, using(crate::proofs::Spots::spot_none, crate::proofs::Spots::spot_floor, crate::proofs::Spots::spot_wall))]
+fn floor_or_own<A: Allocator + Copy>(grid: &Grid<A>, own: u32, dir: Dir, beside: Option<u32>) -> u32
+    requires floor { IsFloor grid.now own }
+    requires beside { IsSide grid.now.width dir own beside }
     ensures { IsSpot grid.now own dir result }
 {
-    grid.neighbour(own, dir).unwrap_or(own)
+    let Some(cell) = beside else {
+        return own;
+    };
+    if grid.is_floor(cell) { cell } else { own }
 }
 
-/// What the robot sees from the cell `own`.
+/// The cell behind a cell of that column in its row.
+#[tactic(auto, using(crate::proofs::Spots::east_there, crate::proofs::Spots::east_none))]
+fn east_of(width: u32, own: u32, column: u32) -> Option<u32>
+    requires wide { 0 < width }
+    requires small { own < 1048576 }
+    requires column { column ≡ own % width }
+    ensures { IsSide width East own result }
+{
+    if column + 1 < width {
+        Some(own + 1)
+    } else {
+        None
+    }
+}
+
+/// The cell before a cell of that column in its row.
+fn west_of(width: u32, own: u32, column: u32) -> Option<u32>
+    requires column { column ≡ own % width }
+    ensures { IsSide width West own result }
+{
+    if column > 0 { Some(own - 1) } else { None }
+}
+
+/// What the robot sees from the floor cell `own`.
 fn look<G: Goals, A: Allocator + Copy>(grid: &Grid<A>, goals: &G, robot: u32, own: u32) -> Around
+    requires { IsFloor grid.now own }
     ensures cells { IsAround grid.now own result }
     ensures nearer { AreNearer grid.now (G.distance goals.now robot) own result.nearer }
     ensures idle { G.goal_of goals.now robot ≡ None → result.nearer ≡ 0 }
 {
+    let width = grid.width();
+    // Divided once, for both neighbours in the row.
+    let column = own % width;
     Around {
         own,
-        north: spot(grid, own, Dir::North),
-        east: spot(grid, own, Dir::East),
-        south: spot(grid, own, Dir::South),
-        west: spot(grid, own, Dir::West),
+        north: floor_or_own(grid, own, Dir::North, own.checked_sub(width)),
+        east: floor_or_own(grid, own, Dir::East, east_of(width, own, column)),
+        south: floor_or_own(grid, own, Dir::South, Some(own + width)),
+        west: floor_or_own(grid, own, Dir::West, west_of(width, own, column)),
         nearer: goals.ways(grid, robot, own),
     }
 }
@@ -77,6 +112,7 @@ pub fn gather<G: Goals, A: Allocator + Copy>(
 )
     requires same_length { length arounds.old ≡ length from.now }
     requires few { length from.now ≤ 512 }
+    requires floor { (r : ℕ) → r < length from.now → IsFloor grid.now (slice_index from.now r) }
     ensures { AreArounds grid.now (G.goal_of goals.now) (G.distance goals.now) from.now arounds.new }
 {
     for (robot, seen) in arounds.iter_mut().enumerate() {
