@@ -65,6 +65,34 @@ fn ring_distances(rt: HostRuntime) -> Result<(), Fail> {
     Ok(())
 }
 
+/// The ways of the ring's cells that lead nearer to cell 0: 1 leads north, 8 west.
+const WAYS: [(u32, u8); 8] = [
+    (0, 0),
+    (1, 8),
+    (2, 8),
+    (3, 1),
+    (5, 1),
+    (6, 1),
+    (7, 8),
+    (8, 9),
+];
+
+#[test]
+fn ring_ways(rt: HostRuntime) -> Result<(), Fail> {
+    let grid = ring(&rt, rt.alloc())?;
+    assert!(rt; grid.is_floor(0));
+    let field = Field::from(rt.alloc(), &grid, 0)?;
+    let mut store = FieldStore::new(rt.alloc())?;
+    assert!(rt; store.can_hold(0));
+    let key = store.hold(&grid, 0)?;
+    assert!(rt; store.is_held(key));
+    for (cell, ways) in WAYS {
+        assert!(rt; field.ways(&grid, cell) == ways, "at {cell}");
+        assert!(rt; store.ways(&grid, key, cell) == ways, "at {cell}");
+    }
+    Ok(())
+}
+
 #[test]
 fn held_and_released(rt: HostRuntime) -> Result<(), Fail> {
     let grid = ring(&rt, rt.alloc())?;
