@@ -1,7 +1,7 @@
 -- The cells beside a floor cell.
-use Rattle.std.proofs.Common.{◌≡◌, ◌≢◌, ℕ, ◌+◌, ◌*◌, ◌/◌, ◌%◌, ◌<◌, ◌≤◌, refl, sym, ap, ◌∙◌, subst, arith}
+use Rattle.std.proofs.Common.{◌≡◌, ℕ, ◌+◌, ◌*◌, ◌/◌, ◌%◌, ◌<◌, ◌≤◌, refl, sym, ap, ◌∙◌, subst, arith}
 use Rattle.std.proofs.lemmas.Nat.{mod-mul-add, div-add-mod', mod_below}
-use Rattle.fleet_grid.specs.Floor.{Floor, IsFloor, IsBeside, IsNeighbourIn}
+use Rattle.fleet_grid.specs.Floor.{Floor, IsFloor, IsBeside}
 use Rattle.fleet_grid.specs.declared.dir.Dir.{Dir}
 use Rattle.fleet_grid.specs.declared.dir.Dir.TheVariants.{East}
 use Rattle.fleet_pibt.specs.Around.{IsSpot}

@@ -1,4 +1,4 @@
-use Rattle.std.proofs.Common.{◌≡◌, ◌<◌, None, slice_index, arith}
+use Rattle.std.proofs.Common.{◌≡◌, None, slice_index, arith}
 use Rattle.fleet_grid.specs.Ways.{AreNearer}
 use Rattle.fleet_pibt.specs.Around.{IsAround}
 use Rattle.fleet_pibt.proofs.Seen.{seen-more, seen-below}
