@@ -1,11 +1,11 @@
 //! All closures of a fleet.
 
-ghost use Rattle.std.specs.Prelude.{◌≡◌, take};
+ghost use Rattle.std.specs.Prelude.{◌≡◌, ◌≤◌, [], ◌∷◌, ◌++◌, take, vec_len, OnOk, OnErr};
 
 use crate::arrival::ArrivalHook;
 use crate::farewell::Farewell;
 use crate::tie::TieHook;
-use std::alloc::{Allocator, Global};
+use std::alloc::{AllocError, Allocator, Global};
 
 /// The closures of a fleet: three lists, with one entry for each robot.
 #[derive(Drop)]
@@ -16,6 +16,43 @@ pub struct Hooks<A: Allocator + Copy = Global> {
 }
 
 impl<A: Allocator + Copy> Hooks<A> {
+    /// The closures of no robot. It takes no memory.
+    pub fn new(alloc: A) -> Hooks<A>
+        ensures ties { result.ties.items ≡ [] }
+        ensures arrivals { result.arrivals.items ≡ [] }
+        ensures farewells { result.farewells.items ≡ [] }
+    {
+        Hooks {
+            ties: Vec::new(alloc),
+            arrivals: Vec::new(alloc),
+            farewells: Vec::new(alloc),
+        }
+    }
+
+    /// Adds the closures of one more robot, each behind its list. Where memory is refused all lists are left as they were.
+    pub fn push(
+        &mut self,
+        tie: TieHook,
+        arrival: ArrivalHook,
+        farewell: Farewell,
+    ) -> Result<(), AllocError>
+        requires { 0 ≤ vec_len self.old.ties }
+        ensures ties { OnOk result (self.new.ties.items ≡ self.old.ties.items ++ tie ∷ []) }
+        ensures arrivals { OnOk result (self.new.arrivals.items ≡ self.old.arrivals.items ++ arrival ∷ []) }
+        ensures farewells { OnOk result (self.new.farewells.items ≡ self.old.farewells.items ++ farewell ∷ []) }
+        ensures same_ties { OnErr result (self.new.ties.items ≡ self.old.ties.items) }
+        ensures same_arrivals { OnErr result (self.new.arrivals.items ≡ self.old.arrivals.items) }
+        ensures same_farewells { OnErr result (self.new.farewells.items ≡ self.old.farewells.items) }
+    {
+        self.ties.reserve(1)?;
+        self.arrivals.reserve(1)?;
+        self.farewells.reserve(1)?;
+        self.ties.push_reserved(tie);
+        self.arrivals.push_reserved(arrival);
+        self.farewells.push_reserved(farewell);
+        Ok(())
+    }
+
     /// Keeps the first entries of each list, and all where there are fewer.
     pub fn cut(self, robots: usize) -> Hooks<A>
         ensures ties { result.ties.items ≡ take robots self.ties.items }

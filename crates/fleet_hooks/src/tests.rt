@@ -104,23 +104,16 @@ fn farewell_is_the_closure_s_answer_of_its_one_call(rt: HostRuntime) -> Result<(
 #[test]
 fn cut_keeps_the_first_hooks(rt: HostRuntime) -> Result<(), AllocError> {
     let alloc = rt.alloc();
-    let mut hooks = Hooks {
-        ties: Vec::new(alloc),
-        arrivals: Vec::new(alloc),
-        farewells: Vec::new(alloc),
-    };
+    let mut hooks = Hooks::new(alloc);
     for high in 7..10u32 {
         let law = StampLaw { low: 0, high };
-        hooks.arrivals.push(ArrivalHook::new(law, Box::new(alloc, |_view: ArrivalView| 0)?))?;
-        hooks.farewells.push(Farewell::new(law, Box::new(alloc, |_view: FarewellView| 0)?))?;
+        let tie = |view: TieView| if view.dir == Dir::South { 0 } else { 1 };
+        let tie = TieHook::new(SOUTH_FIRST, Box::new(alloc, tie)?);
+        let arrival = ArrivalHook::new(law, Box::new(alloc, |_view: ArrivalView| 0)?);
+        let farewell = Farewell::new(law, Box::new(alloc, |_view: FarewellView| 0)?);
+        hooks.push(tie, arrival, farewell)?;
     }
-    hooks.ties.push(TieHook::new(
-        SOUTH_FIRST,
-        Box::new(
-            alloc,
-            |view: TieView| if view.dir == Dir::South { 0 } else { 1 },
-        )?,
-    ))?;
+    hooks.ties.truncate(1);
     let kept = hooks.cut(2);
     assert_eq!(rt;
         (kept.ties.len(), kept.arrivals.len(), kept.farewells.len()),
