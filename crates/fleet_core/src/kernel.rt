@@ -1,12 +1,11 @@
 //! The core of a world: its map, limits, history and what follows from them. No closure lies inside.
-ghost use Rattle.std.specs.Prelude.{IsTrue, MatchOption, IsSome, IfSome, All, ◌≡◌, ◌+◌, ◌≤◌, ◌<◌, ◌^◌, ◌↔◌, ℕ, true, false, length, IfOk};
+ghost use Rattle.std.specs.Prelude.{IsTrue, MatchOption, IsSome, IfSome, ◌≡◌, ◌+◌, ◌≤◌, ◌<◌, ◌^◌, ◌↔◌, ℕ, true, false, length, IfOk};
 ghost use Rattle.fleet_bound.specs.Arriving.{IsIdleWithin};
 ghost use Rattle.fleet_bound.specs.Bound.{KeepsBound, WaitsAreBounded, wait_bound};
 ghost use Rattle.fleet_bound.specs.Idle.{idle_ticks, longest_after};
 ghost use Rattle.fleet_grid.specs.Counts.{floor_count};
 ghost use Rattle.fleet_grid.specs.Floor.{IsNeighbour};
 ghost use Rattle.fleet_grid.specs.Walk.{IsBridgeless};
-ghost use Rattle.fleet_hooks.specs.Law.{IsStampLaw};
 ghost use Rattle.fleet_history.specs.History.{history_of, owed, clients, robots, clock, place, unfinished, is_shut};
 ghost use Rattle.fleet_history.specs.Laws.{EachTick};
 ghost use Rattle.fleet_history.specs.Legal.{IsLegal, is_done, is_none_left};
@@ -18,6 +17,7 @@ ghost use Rattle.fleet_core.specs.Aimed.{IsIdle};
 ghost use Rattle.fleet_core.specs.Opening.{CanOpen};
 ghost use Rattle.fleet_core.specs.Core.{opened_world, pending, HasEntries, HasNoEntries};
 
+use crate::hook_laws::HookLaws;
 use crate::mailbox::Mailboxes;
 use crate::opening::{nobodies, robots_at};
 use crate::planner::{Planner, is_nobody};
@@ -25,7 +25,7 @@ use fleet_book::Limits;
 use fleet_bound::{idle_within, longest_queue};
 use fleet_grid::Grid;
 use fleet_history::{Chapter, Opening, Row};
-use fleet_hooks::{StampLaw, TieLaw};
+use fleet_hooks::TieLaw;
 use fleet_plan::eldest;
 use fleet_state::FleetState;
 use std::alloc::{AllocError, Allocator, Global};
@@ -71,16 +71,17 @@ impl<A: Allocator + Copy> Core<A> {
         starts: Vec<u32, A>,
         clients: u32,
         limits: Limits,
-        ties: Vec<TieLaw, A>,
-        arrivals: &[StampLaw],
-        farewells: &[StampLaw],
+        laws: HookLaws<A>,
     ) -> Result<Core<A>, AllocError>
-        requires can { CanOpen grid starts.items clients limits (record { ties = ties.items; arrivals = arrivals.now; farewells = farewells.now }) }
-        requires arrivals { All IsStampLaw arrivals.now }
-        requires farewells { All IsStampLaw farewells.now }
-        ensures { IfOk result (λ w. w ≡ opened_world grid starts.items clients limits (record { ties = ties.items; arrivals = arrivals.now; farewells = farewells.now })) }
+        requires { CanOpen grid starts.items clients limits laws }
+        ensures { IfOk result (λ w. w ≡ opened_world grid starts.items clients limits laws) }
     {
-        let robots = robots_at(alloc, starts.as_slice(), arrivals, farewells)?;
+        let robots = robots_at(
+            alloc,
+            starts.as_slice(),
+            laws.arrivals.as_slice(),
+            laws.farewells.as_slice(),
+        )?;
         let opening = Opening {
             tick: 0,
             queue: limits.queue,
@@ -94,7 +95,7 @@ impl<A: Allocator + Copy> Core<A> {
         Ok(Core {
             grid,
             limits,
-            ties,
+            ties: laws.ties,
             chapter: Chapter {
                 number: 0,
                 opening,

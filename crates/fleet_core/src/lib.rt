@@ -6,6 +6,7 @@ mod chapters;
 mod entries;
 mod faults;
 mod gifts;
+mod hook_laws;
 mod kernel;
 mod mailbox;
 mod opening;
@@ -14,5 +15,6 @@ mod robots;
 mod stamps;
 
 pub use crate::faults::{ChapterFault, ShutFault, TakeFault, TickFault, TickReport};
+pub use crate::hook_laws::HookLaws;
 pub use crate::kernel::Core;
 pub use crate::robots::Robots;

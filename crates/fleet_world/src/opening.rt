@@ -1,18 +1,13 @@
 //! The opening of a world: why it may be refused, and what it is made of.
-ghost use Rattle.std.specs.List.{range_with_len};
-ghost use Rattle.fleet_hooks.specs.Law.{IsStampLaw};
-ghost use Rattle.std.specs.Prelude.{Some, All, ◌≡◌, ◌≤◌, ◌<◌, ◌≢◌, [], List, ℕ, length, IfOk, IfSome, MatchOption, map, replicate, slice_index, IsTrue, ◌↔◌};
-ghost use Rattle.fleet_grid.specs.Floor.{IsFloor};
-ghost use Rattle.fleet_history.specs.History.{unknown_client};
-ghost use Rattle.fleet_core.specs.Opening.{AreInRange, AreRobots, AreOnFloor, CanOpen};
+ghost use Rattle.std.specs.Prelude.{Some, ◌≡◌, ◌≤◌, ◌<◌, ℕ, length, IfOk, MatchOption, map, IsTrue, ◌↔◌};
+ghost use Rattle.fleet_core.specs.Opening.{AreOnFloor, CanOpen};
 ghost use Rattle.fleet_world.specs.Opening.{IsFirstOffFloor, AreShared, IsFirstShared, IsRefused};
 ghost use Rattle.fleet_core.specs.Hooks.{laws_of, spare_laws, HaveCount};
-ghost use Rattle.fleet_core.specs.Core.{robot_at};
 
 use crate::faults::OpenFault;
 use fleet_book::Limits;
 use fleet_grid::Grid;
-use fleet_hooks::{ArrivalHook, Farewell, Hooks, StampLaw, TieHook, TieLaw};
+use fleet_hooks::{Farewell, Hooks};
 use std::alloc::{AllocError, Allocator};
 
 /// The first robot that does not start on floor.
@@ -88,50 +83,6 @@ pub(crate) fn opening_fault<A: Allocator + Copy>(
         return Some(OpenFault::Hooks);
     }
     None
-}
-
-/// The laws of tie closures.
-pub(crate) fn tie_laws<A: Allocator + Copy>(
-    alloc: A,
-    hooks: &[TieHook],
-) -> Result<Vec<TieLaw, A>, AllocError>
-    ensures { IfOk result (λ laws. laws.items ≡ map (λ h. h.law) hooks.now) }
-{
-    let mut laws = Vec::new(alloc);
-    for hook in hooks {
-        laws.push(hook.law())?;
-    }
-    Ok(laws)
-}
-
-/// The laws of arrival closures.
-pub(crate) fn arrival_laws<A: Allocator + Copy>(
-    alloc: A,
-    hooks: &[ArrivalHook],
-) -> Result<Vec<StampLaw, A>, AllocError>
-    ensures laws { IfOk result (λ laws. laws.items ≡ map (λ h. h.law) hooks.now) }
-    ensures orderly { IfOk result (λ laws. All IsStampLaw laws.items) }
-{
-    let mut laws = Vec::new(alloc);
-    for hook in hooks {
-        laws.push(hook.law())?;
-    }
-    Ok(laws)
-}
-
-/// The laws of farewell closures.
-pub(crate) fn farewell_laws<A: Allocator + Copy>(
-    alloc: A,
-    hooks: &[Farewell],
-) -> Result<Vec<StampLaw, A>, AllocError>
-    ensures laws { IfOk result (λ laws. laws.items ≡ map (λ h. h.law) hooks.now) }
-    ensures orderly { IfOk result (λ laws. All IsStampLaw laws.items) }
-{
-    let mut laws = Vec::new(alloc);
-    for hook in hooks {
-        laws.push(hook.law())?;
-    }
-    Ok(laws)
 }
 
 /// The farewells, of which none was called yet.

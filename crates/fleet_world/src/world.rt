@@ -15,9 +15,11 @@ ghost use Rattle.fleet_world.specs.Opening.{IsRefused, IsNamed};
 ghost use Rattle.fleet_core.specs.Core.{Takes, Ticks, Shuts, pending, without_first, widened, next_world, opened_world, HasRoom, HasNoRoom, HasEntries, HasNoEntries};
 
 use crate::faults::OpenFault;
-use crate::opening::{arrival_laws, farewell_laws, opening_fault, spare, tie_laws};
+use crate::opening::{opening_fault, spare};
 use fleet_book::{Limits, Notice, Order, Verdict};
-use fleet_core::{ChapterFault, Core, Robots, ShutFault, TakeFault, TickFault, TickReport};
+use fleet_core::{
+    ChapterFault, Core, HookLaws, Robots, ShutFault, TakeFault, TickFault, TickReport,
+};
 use fleet_grid::Grid;
 use fleet_history::Chapter;
 use fleet_hooks::Hooks;
@@ -76,24 +78,13 @@ impl<A: Allocator + Copy> World<A> {
         ensures orderly { OnOk result (AreOrderly (laws_of hooks)) }
         ensures ok { IfOk result (λ w. w.core ≡ opened_world grid starts.items clients limits (laws_of hooks)) }
     {
+        let laws = HookLaws::of(alloc, &hooks)?;
+        let core = Core::open(alloc, grid, starts, clients, limits, laws)?;
         let Hooks {
             ties,
             arrivals,
             farewells,
         } = hooks;
-        let tied = tie_laws(alloc, ties.as_slice())?;
-        let arriving = arrival_laws(alloc, arrivals.as_slice())?;
-        let leaving = farewell_laws(alloc, farewells.as_slice())?;
-        let core = Core::open(
-            alloc,
-            grid,
-            starts,
-            clients,
-            limits,
-            tied,
-            arriving.as_slice(),
-            leaving.as_slice(),
-        )?;
         let farewells = spare(alloc, farewells)?;
         let robots = Robots {
             ties,

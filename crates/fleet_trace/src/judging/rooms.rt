@@ -1,6 +1,6 @@
 //! For how many errands the queues of a trace need memory.
 
-ghost use Rattle.std.specs.Prelude.{◌≡◌, ◌≤◌, ◌<◌, ◌+◌, ◌==◌, ℕ, All, IfOk, if◌then◌else◌, length, map, min, slice_index, true};
+ghost use Rattle.std.specs.Prelude.{◌≡◌, ◌≤◌, ◌<◌, ◌+◌, ◌==◌, ℕ, All, IfOk, if◌then◌else◌, length, map, min, slice_index, true, false};
 ghost use Rattle.fleet_state.specs.Follows.{IsPlaced};
 ghost use Rattle.fleet_trace.specs.Rooms.{robot_joined, room_for};
 
@@ -72,7 +72,8 @@ pub fn rooms_of<A: Allocator + Copy>(
 
 /// Whether an errand that the entry accepts finds room.
 pub fn has_place<A: Allocator + Copy>(state: &FleetState<A>, entry: &Entry<A>) -> bool
-    ensures { result ≡ true → IsPlaced state.now.queues entry.now }
+    ensures placed { result ≡ true → IsPlaced state.now.queues entry.now }
+    ensures full { result ≡ false → IsPlaced state.now.queues entry.now → ⊥ }
 {
     match entry {
         Entry::Take {

@@ -1,7 +1,7 @@
 use Rattle.std.proofs.Common.{◌≡◌, map, take}
 use Rattle.std.specs.Prelude.{All}
 use Rattle.fleet_hooks.specs.Law.{IsStampLaw}
-use Rattle.fleet_world.proofs.opening.arrival_laws.Given as goal
+use Rattle.fleet_core.proofs.hook_laws.arrival_laws.Given as goal
 
 abbrev pub invariant-loop-hook : goal.invariant-loop-hook
 invariant-loop-hook g l = record {
