@@ -2,7 +2,7 @@
 
 ghost use Rattle.bench.specs.Fleet.{goal_of, distance_of};
 
-use fleet_field::Field;
+use fleet_field::Compass;
 use fleet_grid::Grid;
 use fleet_pibt::Goals;
 use std::alloc::Allocator;
@@ -11,7 +11,7 @@ use std::alloc::Allocator;
 #[derive(Drop)]
 pub struct Course<'a> {
     /// The fields that there are.
-    pub fields: &'a [Field],
+    pub fields: &'a [Compass],
     /// For each robot the number of its field.
     pub aims: &'a [usize],
 }

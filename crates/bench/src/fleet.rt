@@ -8,7 +8,7 @@ ghost use Rattle.bench.specs.Fleet.{AreWithin, Serves, IsUnderWay};
 use crate::course::Course;
 use crate::random::Random;
 use crate::site::Site;
-use fleet_field::Field;
+use fleet_field::Compass;
 use fleet_hooks::TieHook;
 use fleet_pibt::Stepper;
 use std::alloc::{AllocError, Global};
@@ -62,7 +62,7 @@ impl Fleet {
     pub(crate) fn step(
         &mut self,
         site: &Site,
-        fields: &[Field],
+        fields: &[Compass],
         stepper: &mut Stepper,
         ties: &[TieHook],
         tick: u64,
@@ -94,7 +94,7 @@ impl Fleet {
     }
 
     /// Gives each robot that is on its goal a new one, and counts the wait of the others.
-    pub(crate) fn arrive(&mut self, site: &Site, fields: &[Field], random: &mut Random)
+    pub(crate) fn arrive(&mut self, site: &Site, fields: &[Compass], random: &mut Random)
         requires some { 0 < length fields.now }
         requires way { IsUnderWay site.now.grid site.now.home (length fields.now) self.old.from.items self.old.to.items self.old.waits.items self.old.aims.items }
         ensures way { IsUnderWay site.now.grid site.now.home (length fields.now) self.new.from.items self.new.to.items self.new.waits.items self.new.aims.items }
@@ -120,7 +120,7 @@ struct Turn {
 }
 
 /// A new field for a robot on its goal; the same one, and a tick more, for another robot.
-fn next_turn(fields: &[Field], cell: u32, turn: Turn, random: &mut Random) -> Turn
+fn next_turn(fields: &[Compass], cell: u32, turn: Turn, random: &mut Random) -> Turn
     requires { turn.aim < length fields.now }
     ensures aim { result.aim < length fields.now }
     ensures wait { IsSome result.wait }

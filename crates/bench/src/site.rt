@@ -7,7 +7,7 @@ ghost use Rattle.fleet_field.specs.Field.{IsField};
 ghost use Rattle.bench.specs.Fleet.{IsWithin, AreWithin, AreStarts, Serves};
 
 use crate::random::Random;
-use fleet_field::Field;
+use fleet_field::Compass;
 use fleet_grid::Grid;
 use std::alloc::{AllocError, Global};
 
@@ -68,14 +68,14 @@ impl Site {
         alloc: Global,
         count: usize,
         random: &mut Random,
-    ) -> Result<Vec<Field>, AllocError>
+    ) -> Result<Vec<Compass>, AllocError>
         ensures count { IfOk result (λ fields. vec_len fields ≡ count) }
         ensures serves { IfOk result (λ fields. Serves self.now.grid self.now.home fields.items) }
     {
         let mut fields = Vec::with_capacity(alloc, count)?;
         for _ in 0..count {
             let goal = self.cell(random);
-            fields.push(Field::from(alloc, &self.grid, goal)?)?;
+            fields.push(Compass::from(alloc, &self.grid, goal)?)?;
         }
         Ok(fields)
     }

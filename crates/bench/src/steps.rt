@@ -9,7 +9,7 @@ use crate::kind::{Kind, grid_of};
 use crate::measure::{Measure, print_measure};
 use crate::random::Random;
 use crate::site::Site;
-use fleet_field::Field;
+use fleet_field::Compass;
 use fleet_hooks::{TieHook, TieLaw, TieView};
 use fleet_pibt::Stepper;
 use std::alloc::{Alloc, Global};
@@ -70,7 +70,7 @@ fn measure_each<R: Alloc<A = Global> + Clock + Print>(
     rt: &R,
     map: &str,
     site: &Site,
-    fields: &[Field],
+    fields: &[Compass],
     ties: &[TieHook],
     random: &mut Random,
 ) -> io::Result<()>
@@ -92,7 +92,7 @@ fn measure_each<R: Alloc<A = Global> + Clock + Print>(
 fn time_fleet<R: Alloc<A = Global> + Clock>(
     rt: &R,
     site: &Site,
-    fields: &[Field],
+    fields: &[Compass],
     starts: Vec<u32>,
     ties: &[TieHook],
     random: &mut Random,
@@ -120,7 +120,7 @@ fn time_fleet<R: Alloc<A = Global> + Clock>(
 fn time_ticks<R: Alloc<A = Global> + Clock>(
     rt: &R,
     site: &Site,
-    fields: &[Field],
+    fields: &[Compass],
     fleet: &mut Fleet,
     stepper: &mut Stepper,
     ties: &[TieHook],

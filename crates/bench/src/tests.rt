@@ -11,7 +11,7 @@ use crate::random::Random;
 use crate::shape::Shape;
 use crate::site::Site;
 use fleet_check::check_step;
-use fleet_field::Field;
+use fleet_field::Compass;
 use fleet_grid::Grid;
 use fleet_hooks::{TieHook, TieLaw, TieView};
 use fleet_map::{MapText, read_map};
@@ -94,7 +94,7 @@ fn count_moves(
     rt: &impl Abort,
     alloc: Global,
     site: &Site,
-    fields: &[Field],
+    fields: &[Compass],
     fleet: &mut Fleet,
     stepper: &mut Stepper,
     ties: &[TieHook],

@@ -17,7 +17,7 @@ use std::marker::Model;
 
 /// The ways of a map's cells that lead nearer to a goal. Contracts see the goal and the distances, cell by cell.
 #[derive(Drop)]
-pub(crate) struct Compass<A: Allocator + Copy = Global> {
+pub struct Compass<A: Allocator + Copy = Global> {
     height: u32,
     width: u32,
     goal: u32,
@@ -99,7 +99,7 @@ fn steps_down(width: u32, ways: &[u8], goal: u32, cell: u32) -> Option<u32>
 
 impl<A: Allocator + Copy> Compass<A> {
     /// Searches the map from a goal, a floor cell.
-    pub(crate) fn from<B: Allocator + Copy>(
+    pub fn from<B: Allocator + Copy>(
         alloc: A,
         grid: &Grid<B>,
         goal: u32,
@@ -122,7 +122,7 @@ impl<A: Allocator + Copy> Compass<A> {
     }
 
     /// The least number of edges of a walk from the cell to the goal, counted by steps; none where no walk leads there.
-    pub(crate) fn at(&self, cell: u32) -> Option<u32>
+    pub fn at(&self, cell: u32) -> Option<u32>
         ensures { result ≡ slice_index_or self.now.away cell None }
     {
         if cell >= self.height * self.width {
@@ -154,7 +154,7 @@ impl<A: Allocator + Copy> Compass<A> {
     }
 
     /// The ways from a cell of the map that lead nearer to the goal.
-    pub(crate) fn ways<B: Allocator + Copy>(&self, grid: &Grid<B>, cell: u32) -> u8
+    pub fn ways<B: Allocator + Copy>(&self, grid: &Grid<B>, cell: u32) -> u8
         ensures { AreNearer grid.now (λ c. slice_index_or self.now.away c None) cell result }
     {
         if grid.width() != self.width {
@@ -164,7 +164,7 @@ impl<A: Allocator + Copy> Compass<A> {
     }
 
     /// The goal.
-    pub(crate) fn goal(&self) -> u32
+    pub fn goal(&self) -> u32
         ensures { result ≡ self.now.goal }
     {
         self.goal

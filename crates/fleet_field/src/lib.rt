@@ -11,6 +11,7 @@ mod several;
 mod store;
 mod ways;
 
+pub use compass::Compass;
 pub use field::Field;
 pub use several::fields;
 pub use store::FieldStore;
