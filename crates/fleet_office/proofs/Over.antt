@@ -1,6 +1,6 @@
 -- A refusal of one call is that of the call around it.
 use Rattle.std.proofs.Common.{◌≡◌, ◌↔◌, ap, sym, ◌∙◌}
-use Rattle.std.specs.Prelude.{Ok, Err, Result, IfErr}
+use Rattle.std.specs.Prelude.{Ok, Err, Result, IfOk, IfErr}
 
 abbrev err_of : (X : Type 0) {E : Type 0} → E → Result X E
 err_of X e = Err e
@@ -28,3 +28,8 @@ module _ {X Y E : Type 0} where
 pub some-world : {W X E : Type 0} (P : W → E → Type 0) (r : Result X E) (w : W) → IfErr r (λ e. P w e) → IfErr r (λ e. (v : W) × P v e)
 some-world P (Ok x) w h = tt
 some-world P (Err e) w h = (w, h)
+
+-- what an answer says of the world that it leaves, it says of some world
+pub some-outcome : {W X E : Type 0} {R : X → Type 0} (P : W → X → Type 0) (w : W) (r : Result X E) → ((x : X) → R x → P w x) → IfOk r R → IfOk r (λ x. (v : W) × P v x)
+some-outcome P w (Ok x) says h = (w, says x h)
+some-outcome P w (Err e) says h = tt

@@ -7,3 +7,4 @@ pub mod Draining
 pub mod Rests
 pub mod Shown
 pub mod Concluded
+pub mod Shut

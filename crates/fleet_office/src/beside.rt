@@ -15,6 +15,8 @@ pub fn side_by_side<
     F: Fn(&OfficeOf<X, Y>, T) -> O + Sync,
 >(rt: &R, office: &OfficeOf<X, Y>, first: T, second: T, work: &F) -> (O, O)
     requires { F.IsAlwaysCallable work.now }
+    ensures first { F.post work.now office.entry first result.0 }
+    ensures second { F.post work.now office.entry second result.1 }
 {
     join(rt, || work(office, first), || work(office, second))
 }

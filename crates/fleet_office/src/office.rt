@@ -12,6 +12,7 @@ ghost use Rattle.fleet_world.specs.Opening.{IsRefused, IsNamed as IsNamedFault};
 ghost use Rattle.fleet_office.specs.Views.{IsNamed, AreOn, cores};
 ghost use Rattle.fleet_office.specs.Concluded.{AreTold, HasAll, IsUnconcluded};
 ghost use Rattle.fleet_office.specs.Shown.{Shows};
+ghost use Rattle.fleet_office.specs.Shut.{AnswersShut};
 ghost use Rattle.fleet_core.specs.Core.{World};
 
 use crate::conclude::{ConcludeFault, Final, Home};
@@ -95,11 +96,15 @@ impl<N: OfficeName<A>, A: Allocator + Copy> Office<N, A> {
         hall.into_inner().conclude(alloc, clients, tickers)
     }
 
-    /// Shuts a robot.
+    /// Shuts a robot, in the world as it stands when the lock is held.
     pub fn shut<R: Wait>(&self, rt: &R, robot: u32) -> Result<Option<u32>, ShutFault>
         requires { robot < 2 ^ 32 }
+        ensures { (w : World A) × AnswersShut w robot result }
     {
-        self.hall.lock(rt).shut(robot)
+        let mut held = self.hall.lock(rt);
+        let hall = &mut *held;
+        hall.rest.lawful();
+        hall.shut(robot)
     }
 
     /// Hands the chapter out and begins the next, whose opening is the state now.
