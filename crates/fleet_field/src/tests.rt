@@ -1,7 +1,7 @@
 //! The worked map, shared fields, many goals, a large map, and each growth refused in turn.
 mod floor;
 
-use crate::{Field, FieldStore, fields};
+use crate::{Compass, Field, FieldStore, fields};
 use fleet_grid::Grid;
 use fleet_map::MapText;
 use floor::are_floor;
@@ -82,12 +82,16 @@ fn ring_ways(rt: HostRuntime) -> Result<(), Fail> {
     let grid = ring(&rt, rt.alloc())?;
     assert!(rt; grid.is_floor(0));
     let field = Field::from(rt.alloc(), &grid, 0)?;
+    let compass = Compass::from(rt.alloc(), &grid, 0)?;
+    assert!(rt; compass.goal() == 0);
     let mut store = FieldStore::new(rt.alloc())?;
     assert!(rt; store.can_hold(0));
     let key = store.hold(&grid, 0)?;
     assert!(rt; store.is_held(key));
     for (cell, ways) in WAYS {
         assert!(rt; field.ways(&grid, cell) == ways, "at {cell}");
+        assert!(rt; compass.ways(&grid, cell) == ways, "at {cell}");
+        assert!(rt; compass.at(cell) == field.at(cell), "at {cell}");
         assert!(rt; store.ways(&grid, key, cell) == ways, "at {cell}");
     }
     Ok(())
