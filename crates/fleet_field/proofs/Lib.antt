@@ -10,3 +10,4 @@ pub mod Inverse
 pub mod Marks
 pub mod Descent
 pub mod Nearer
+pub mod Rows

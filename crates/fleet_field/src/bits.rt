@@ -1,11 +1,10 @@
 //! The ways of a map's cells, read off the distances that a search left.
 
-ghost use Rattle.std.specs.Prelude.{◌≡◌, ℕ, ◌+◌, ◌*◌, ◌<◌, ◌≤◌, length, slice_index, IfOk};
+ghost use Rattle.std.specs.Prelude.{◌≡◌, ℕ, ◌+◌, ◌*◌, ◌<◌, ◌≤◌, length, slice_index, vec_len, vec_capacity, IfOk};
 ghost use Rattle.fleet_grid.specs.Padded.{place};
-ghost use Rattle.fleet_field.specs.Compass.{AreWaysAt};
+ghost use Rattle.fleet_field.specs.Compass.{AreWaysAt, HasRow};
 ghost use Rattle.fleet_field.specs.Kept.{IsLaidOut};
 
-use crate::columns::Columns;
 use crate::ways::ways_of;
 use fleet_grid::WALL;
 use std::alloc::{AllocError, Allocator};
@@ -30,23 +29,43 @@ fn ways_at(dist: &[u32], stride: usize, place: usize) -> u8
     )
 }
 
-/// The ways of each cell.
+/// Adds the ways of the cells of a row, whose places begin at `start`.
+fn add_row<A: Allocator + Copy>(
+    ways: &mut Vec<u8, A>,
+    dist: &[u32],
+    stride: usize,
+    start: usize,
+    width: usize,
+)
+    requires step { 0 < stride }
+    requires above { stride ≤ start }
+    requires below { start + width + stride ≤ length dist.now }
+    requires small { length dist.now < 1073741824 }
+    requires room { vec_len ways.old + width ≤ vec_capacity ways.old }
+    ensures capacity { vec_capacity ways.new ≡ vec_capacity ways.old }
+    ensures row { HasRow dist.now stride start width ways.old.items ways.new.items }
+{
+    for column in 0..width {
+        ways.push_reserved(ways_at(dist, stride, start + column));
+    }
+}
+
+/// The ways of each cell, row by row.
 pub(crate) fn ways_of_cells<A: Allocator + Copy>(
     alloc: A,
     height: u32,
-    columns: Columns,
+    width: u32,
     stride: u32,
     dist: &[u32],
 ) -> Result<Vec<u8, A>, AllocError>
-    requires { IsLaidOut height columns.width stride dist.now }
-    ensures len { IfOk result (λ ways. length ways.items ≡ height * columns.width) }
-    ensures each { IfOk result (λ ways. (cell : ℕ) → cell < height * columns.width → AreWaysAt dist.now stride (place columns.width stride cell) (slice_index ways.items cell)) }
+    requires { IsLaidOut height width stride dist.now }
+    ensures len { IfOk result (λ ways. length ways.items ≡ height * width) }
+    ensures each { IfOk result (λ ways. (cell : ℕ) → cell < height * width → AreWaysAt dist.now stride (place width stride cell) (slice_index ways.items cell)) }
 {
-    let count = height * columns.width;
-    let mut ways = Vec::with_capacity(alloc, count as usize)?;
-    for cell in 0..count {
-        let place = columns.place(stride, cell);
-        ways.push_reserved(ways_at(dist, stride as usize, place));
+    let (columns, stride) = (width as usize, stride as usize);
+    let mut ways = Vec::with_capacity(alloc, height as usize * columns)?;
+    for row in 0..height as usize {
+        add_row(&mut ways, dist, stride, (row + 1) * stride, columns);
     }
     Ok(ways)
 }

@@ -112,7 +112,7 @@ impl<A: Allocator + Copy> Compass<A> {
         let (stride, blank) = grid.padded();
         let start = columns.place(stride, goal) as u32;
         let dist = flood(alloc, blank, stride as usize, start)?;
-        let ways = ways_of_cells(alloc, height, columns, stride, &dist)?;
+        let ways = ways_of_cells(alloc, height, columns.width, stride, &dist)?;
         Ok(Compass {
             height,
             width: columns.width,
