@@ -80,14 +80,19 @@ pub(crate) fn play(
         }
     }
     let (starts, clients, limits) = (script.starts, script.clients, script.limits);
-    match World::open(&heap, grid, starts, clients, limits, hooks) {
-        Ok(mut world) => {
-            let rt = ((), &heap);
-            let played = play_calls(alloc, &rt, &mut world, calls, last, &stamped)?;
-            Ok(Ok(played))
-        }
-        Err(OpenFault::NoMemory) => Ok(Err(Stage::Open)),
-        Err(_) => Ok(Err(Stage::Faulty)),
+    let mut world = match World::open(&heap, grid, starts, clients, limits, hooks) {
+        Ok(world) => world,
+        Err(fault) => return Ok(Err(stage_of(fault))),
+    };
+    let rt = ((), &heap);
+    Ok(Ok(play_calls(alloc, &rt, &mut world, calls, last, &stamped)?))
+}
+
+/// Where a row ends whose world is not opened.
+fn stage_of(fault: OpenFault) -> Stage {
+    match fault {
+        OpenFault::NoMemory => Stage::Open,
+        _ => Stage::Faulty,
     }
 }
 
