@@ -1,4 +1,5 @@
 //! The book: what each client has had accepted and is owed, who is closed, and which robots are shut.
+
 ghost use Rattle.std.specs.Prelude.{◌≡◌, ◌<◌, ◌≤◌, ◌+◌, ◌-◌, ◌^◌, length, replicate, slice_set, slice_index_or, true, false, IfOk};
 ghost use Rattle.fleet_book.specs.Limits.{AreValid};
 ghost use Rattle.fleet_book.specs.Rule.{verdict_of, go_verdict};

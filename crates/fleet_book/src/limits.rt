@@ -1,4 +1,5 @@
 //! The limits of a fleet.
+
 ghost use Rattle.std.specs.Prelude.{◌↔◌, IsTrue};
 ghost use Rattle.fleet_book.specs.Limits.{AreValid, IsBetween};
 

@@ -1,4 +1,5 @@
 //! The verdict rule's order of refusals, the counts, the ranges of the limits, and refused memory.
+
 use crate::{Account, Book, Facts, Limits, Order, Place, Verdict};
 use linked_list_allocator::LocalHeap;
 use std::test::Fail;

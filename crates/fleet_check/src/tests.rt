@@ -1,4 +1,5 @@
 //! The worked steps, a whole fleet, and each growth refused in turn.
+
 mod placement;
 
 use crate::{StepFault, check_step};

@@ -1,4 +1,5 @@
 //! How a core goes from one chapter of its history to the next.
+
 ghost use Rattle.std.specs.Prelude.{◌≡◌, ◌+◌, ◌↔◌, OnOk, OnErr, IfOk};
 ghost use Rattle.fleet_bound.specs.Bound.{WaitsAreBounded};
 ghost use Rattle.fleet_grid.specs.Floor.{IsNeighbour};

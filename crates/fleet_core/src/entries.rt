@@ -1,4 +1,5 @@
 //! What is entered in a core's history: takes, ticks and shuts.
+
 ghost use Rattle.std.specs.Prelude.{◌≡◌, ◌≤◌, ◌<◌, ◌++◌, ◌∷◌, ◌↔◌, [], true, false, OnOk, OnErr, IfOk, map, vec_len, vec_capacity};
 ghost use Rattle.fleet_bound.specs.Arriving.{ArrivesInTurn};
 ghost use Rattle.fleet_history.specs.History.{clients, robots, clock, is_shut};

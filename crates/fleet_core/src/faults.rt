@@ -1,4 +1,5 @@
 //! What the calls of a world's core refuse, and what a tick reports.
+
 ghost use Rattle.std.specs.Prelude.{◌≡◌, ◌<◌, ◌^◌};
 
 use std::alloc::AllocError;

@@ -1,4 +1,5 @@
 //! What a core's clients are given, and how much they may have pending.
+
 ghost use Rattle.std.specs.Prelude.{◌≡◌, ◌+◌, ◌<◌, ◌≤◌, ◌^◌, OnOk, OnErr, length, slice_get};
 ghost use Rattle.fleet_history.specs.History.{clients, owed};
 ghost use Rattle.fleet_core.specs.Core.{pending, without_first, widened};

@@ -1,4 +1,5 @@
 //! The laws of a fleet's closures, apart from the closures.
+
 ghost use Rattle.std.specs.Prelude.{All, ◌≡◌, IfOk, OnOk, map};
 ghost use Rattle.fleet_hooks.specs.Law.{IsStampLaw};
 ghost use Rattle.fleet_core.specs.Hooks.{laws_of, AreOrderly};

@@ -1,4 +1,5 @@
 //! The core of a world: its map, limits, history and what follows from them. No closure lies inside.
+
 ghost use Rattle.std.specs.Prelude.{IsTrue, MatchOption, IsSome, IfSome, ◌≡◌, ◌+◌, ◌≤◌, ◌<◌, ◌^◌, ◌↔◌, ℕ, true, false, length, IfOk};
 ghost use Rattle.fleet_bound.specs.Arriving.{IsIdleWithin};
 ghost use Rattle.fleet_bound.specs.Bound.{KeepsBound, WaitsAreBounded, wait_bound};

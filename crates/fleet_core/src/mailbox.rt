@@ -1,4 +1,5 @@
 //! The clients' mailboxes: for each the notices that it was not given yet, in a ring of fixed room.
+
 ghost use Rattle.std.specs.Prelude.{◌≡◌, ◌+◌, ◌<◌, ◌≤◌, ◌^◌, ◌==◌, [], ◌∷◌, ◌++◌, ℕ, All, count_by, length, drop, replicate, slice_get, slice_index, IfOk, OnOk, OnErr};
 ghost use Rattle.fleet_core.specs.Mailboxes.{box_at, with_notice, with_box, AreDelivered};
 

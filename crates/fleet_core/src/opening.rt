@@ -1,4 +1,5 @@
 //! What the core of a world begins with.
+
 ghost use Rattle.std.specs.List.{range_with_len};
 ghost use Rattle.std.specs.Prelude.{◌≡◌, length, IfOk, map, replicate};
 ghost use Rattle.fleet_hooks.specs.Law.{IsStampLaw};

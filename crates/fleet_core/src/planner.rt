@@ -1,4 +1,5 @@
 //! What the robots go by from tick to tick: their goals, and the step by priority inheritance with backtracking.
+
 ghost use Rattle.std.specs.Prelude.{◌≡◌, ◌<◌, ◌≤◌, ◌^◌, ◌↔◌, ℕ, IsTrue, None, slice_get, length, map, replicate, IfOk, OnOk, OnErr};
 ghost use Rattle.fleet_grid.specs.Floor.{IsNeighbour};
 ghost use Rattle.fleet_grid.specs.Step.{IsConflictFree};

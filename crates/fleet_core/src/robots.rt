@@ -1,4 +1,5 @@
 //! The closures of a world's robots, apart from its core.
+
 ghost use Rattle.std.specs.Prelude.{Some, slice_get, ◌≡◌, ◌≤◌, ◌<◌, ◌↔◌, ℕ, List, true, false, length, OnOk, OnErr, IfOk, map};
 ghost use Rattle.fleet_history.specs.History.{robots, clock, is_shut};
 ghost use Rattle.fleet_history.specs.Legal.{is_done};

@@ -1,4 +1,5 @@
 //! What the robots' closures answer to a tick's arrivals and farewells.
+
 ghost use Rattle.std.specs.Prelude.{◌≡◌, ◌<◌, ℕ, true, All, IfSome, is_some, length, map, slice_index, slice_set, vec_len, None};
 ghost use Rattle.fleet_hooks.specs.Law.{IsStamp};
 ghost use Rattle.fleet_history.specs.Legal.{due_of};

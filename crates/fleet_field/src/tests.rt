@@ -1,4 +1,5 @@
 //! The worked map, shared fields, many goals, a large map, and each growth refused in turn.
+
 mod floor;
 
 use crate::{Compass, Field, FieldStore, fields};

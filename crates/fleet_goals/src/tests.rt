@@ -1,4 +1,5 @@
 //! Goals given and turned, robots that share a goal, and each growth refused in turn.
+
 mod fleet;
 mod placement;
 mod rows;

@@ -1,4 +1,5 @@
 //! A client's ends of its two rings.
+
 ghost use Rattle.std.specs.Prelude.{◌≡◌};
 ghost use Rattle.fleet_lanes.specs.Ends.{is_close};
 

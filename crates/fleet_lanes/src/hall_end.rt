@@ -1,4 +1,5 @@
 //! The hall's ends of a client's two rings.
+
 use crate::client::Client;
 use fleet_book::{Notice, Order};
 use rtrb::{Consumer, Producer, PushError};

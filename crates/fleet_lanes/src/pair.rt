@@ -1,4 +1,5 @@
 //! Making a client's rings.
+
 ghost use Rattle.std.specs.Prelude.{◌≡◌, [], IfOk};
 ghost use Rattle.fleet_book.specs.Limits.{AreValid};
 

@@ -1,4 +1,5 @@
 //! The rings in one thread and in two, full and empty, and refused memory.
+
 ghost use Rattle.std.specs.Prelude.{◌≤◌};
 ghost use Rattle.fleet_book.specs.Limits.{AreValid, IsBetween};
 

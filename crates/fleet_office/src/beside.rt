@@ -1,4 +1,5 @@
 //! Two threads at one office.
+
 use crate::office::OfficeOf;
 use std::thread::{Threads, join};
 

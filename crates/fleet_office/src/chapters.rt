@@ -1,4 +1,5 @@
 //! How an office goes from one chapter of its history to the next.
+
 ghost use Rattle.std.specs.Prelude.{◌≡◌, ◌+◌, ◌≤◌, ◌↔◌, OnOk, OnErr, IfOk};
 ghost use Rattle.fleet_grid.specs.Floor.{Floor, IsNeighbour};
 ghost use Rattle.fleet_grid.specs.Walk.{IsBridgeless};

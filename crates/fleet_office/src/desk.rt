@@ -1,4 +1,5 @@
 //! New lanes and a new ledger.
+
 ghost use Rattle.std.specs.Prelude.{◌≡◌, ◌↔◌, length, IfOk, OnOk, Err};
 ghost use Rattle.fleet_book.specs.Limits.{AreValid, IsBetween};
 ghost use Rattle.fleet_core.specs.Opening.{AreInRange};

@@ -1,4 +1,5 @@
-// The orders that are left in the lanes go into the world.
+//! The orders that are left in the lanes go into the world.
+
 ghost use Rattle.std.specs.Prelude.{◌≡◌, ◌+◌, ◌<◌, ◌≤◌, ◌++◌, ℕ, length, Some, Err, OnOk, OnErr, slice_get};
 ghost use Rattle.fleet_core.specs.Core.{HasNoEntries};
 ghost use Rattle.fleet_lanes.specs.Ends.{EndView};
@@ -14,7 +15,7 @@ use fleet_lanes::Client;
 use std::alloc::Allocator;
 
 impl<N: OfficeName<A>, A: Allocator + Copy> Rest<N, A> {
-    // Looks at the client's rings beside the hall's own ends. Answers how many orders are left in the lane.
+    /// Looks at the client's rings beside the hall's own ends. Answers how many orders are left in the lane.
     fn beside(&mut self, client: &mut Client<A>) -> usize
         requires { slice_get N.rings client.old.number ≡ Some client.old.lane }
         ensures client { core client.new ≡ core client.old }
@@ -30,7 +31,7 @@ impl<N: OfficeName<A>, A: Allocator + Copy> Rest<N, A> {
         end.known()
     }
 
-    // Takes the next of so many orders that are known to be in the client's lane.
+    /// Takes the next of so many orders that are known to be in the client's lane.
     fn take_left(&mut self, client: u32, left: usize) -> Result<(), TakeFault>
         requires client { client < length self.old.ends }
         requires known { (e : EndView A) → slice_get self.old.ends client ≡ Some e → 0 < length e.known }
@@ -53,7 +54,7 @@ impl<N: OfficeName<A>, A: Allocator + Copy> Rest<N, A> {
         )
     }
 
-    // Takes every order that is left in the client's lane.
+    /// Takes every order that is left in the client's lane.
     fn drain(&mut self, client: &mut Client<A>) -> Result<(), TakeFault>
         requires { slice_get N.rings client.old.number ≡ Some client.old.lane }
         ensures client { core client.new ≡ core client.old }
@@ -71,7 +72,7 @@ impl<N: OfficeName<A>, A: Allocator + Copy> Rest<N, A> {
         Ok(())
     }
 
-    // Takes every order that is left in the lane of the client of this number.
+    /// Takes every order that is left in the lane of the client of this number.
     fn drain_number(&mut self, clients: &mut [Client<A>], number: u32) -> Result<(), TakeFault>
         requires on { AreOn N.rings (cores clients.old) }
         requires distinct { AreDistinct (cores clients.old) }

@@ -1,4 +1,5 @@
-// Notices from a mailbox to an outlet.
+//! Notices from a mailbox to an outlet.
+
 ghost use Rattle.std.specs.Prelude.{◌≡◌, ◌<◌, ◌⊎◌, [], length};
 ghost use Rattle.fleet_history.specs.History.{clients};
 ghost use Rattle.fleet_core.specs.Core.{pending};
@@ -8,7 +9,7 @@ use fleet_core::Core;
 use fleet_lanes::HallEnd;
 use std::alloc::Allocator;
 
-// Gives until the mailbox is empty or the outlet is full.
+/// Gives until the mailbox is empty or the outlet is full.
 pub(crate) fn give_from<A: Allocator + Copy>(
     core: &mut Core<A>,
     end: &mut HallEnd<A>,

@@ -1,4 +1,5 @@
 //! A client that its office knows again, whatever thread it went through.
+
 ghost use Rattle.std.specs.Prelude.{◌≡◌, ◌+◌, ◌<◌, ◌≤◌, ◌↔◌, ◌⊎◌, ◌++◌, ◌∷◌, [], true, length, Some, slice_get, Err, IfOk, IfErr, IfSome, IfNone, IsSome};
 ghost use Rattle.fleet_lanes.specs.Ends.{has_close};
 ghost use Rattle.fleet_lanes.specs.Posts.{AreSpent, HandsBack};

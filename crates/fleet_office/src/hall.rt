@@ -1,4 +1,5 @@
 //! The lock's value.
+
 ghost use Rattle.std.specs.Prelude.{◌≡◌, ◌+◌, ◌<◌, ◌≤◌, ◌^◌, ◌↔◌, true, false, ℕ, length, Err, IfOk, IfErr, IfSome, OnOk, OnErr};
 ghost use Rattle.fleet_history.specs.History.{clock, robots, is_shut};
 ghost use Rattle.fleet_core.specs.Hooks.{laws_of};

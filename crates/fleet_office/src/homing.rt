@@ -1,4 +1,5 @@
-// Which clients came home.
+//! Which clients came home.
+
 ghost use Rattle.std.specs.Prelude.{◌≡◌, ◌≢◌, ◌<◌, ◌≤◌, ℕ, length, Some, IfSome, IfNone, slice_get};
 ghost use Rattle.fleet_lanes.specs.Ends.{ClientView};
 ghost use Rattle.fleet_office.specs.Concluded.{IsMissing, AreTwice};
@@ -7,7 +8,7 @@ ghost use Rattle.fleet_office.specs.Views.{AreDistinct, cores};
 use fleet_lanes::Client;
 use std::alloc::Allocator;
 
-// The first of these numbers that no client has.
+/// The first of these numbers that no client has.
 pub(crate) fn missing<A: Allocator>(clients: &[Client<A>], count: u32) -> Option<u32>
     ensures some { IfSome result (λ c. (c < count) × IsMissing clients.now c) }
     ensures none { IfNone result ((c : ℕ) → c < count → (k : ℕ) × (x : ClientView A) × (slice_get clients.now k ≡ Some x) × (x.number ≡ c)) }
@@ -20,7 +21,7 @@ pub(crate) fn missing<A: Allocator>(clients: &[Client<A>], count: u32) -> Option
     None
 }
 
-// The first place from `from` on with this number.
+/// The first place from `from` on with this number.
 pub(crate) fn place_of<A: Allocator>(
     clients: &[Client<A>],
     number: u32,
@@ -37,7 +38,7 @@ pub(crate) fn place_of<A: Allocator>(
     None
 }
 
-// A number that two clients have.
+/// A number that two clients have.
 pub(crate) fn twice<A: Allocator>(clients: &[Client<A>]) -> Option<u32>
     ensures some { IfSome result (λ c. AreTwice clients.now c) }
     ensures none { IfNone result (AreDistinct (cores clients.now)) }

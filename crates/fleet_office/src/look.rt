@@ -1,4 +1,5 @@
 //! What a look at an office shows.
+
 ghost use Rattle.std.specs.Prelude.{◌≡◌, ◌↔◌, length, IfOk, IfSome, IsSome, IsTrue, MatchOption};
 ghost use Rattle.fleet_bound.specs.Arriving.{IsIdleWithin};
 ghost use Rattle.fleet_bound.specs.Idle.{idle_ticks, longest_after};

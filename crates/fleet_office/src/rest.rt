@@ -1,4 +1,5 @@
 //! What lies under the lock beside the closures.
+
 ghost use Rattle.std.specs.Prelude.{◌≡◌, ◌+◌, ◌<◌, ◌≤◌, ◌^◌, ◌↔◌, true, false, ℕ, length, Some, None, Err, IfOk, IfErr, IfSome, OnOk, OnErr, slice_get};
 ghost use Rattle.fleet_history.specs.History.{clock, place, robots, is_shut, history_of};
 ghost use Rattle.std.specs.List.{sum_by};

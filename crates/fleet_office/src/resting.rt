@@ -1,4 +1,5 @@
-// What the clients had not collected.
+//! What the clients had not collected.
+
 ghost use Rattle.std.specs.Prelude.{◌≡◌, ◌+◌, ◌<◌, ◌≤◌, ◌++◌, [], ℕ, Some, length, slice_get, vec_len, vec_capacity, IfOk};
 ghost use Rattle.fleet_history.specs.History.{clients as client_count};
 ghost use Rattle.fleet_core.specs.Core.{World, pending};
@@ -15,7 +16,7 @@ use fleet_core::Core;
 use fleet_lanes::Client;
 use std::alloc::{AllocError, Allocator};
 
-// An empty list with room for so many notices.
+/// An empty list with room for so many notices.
 fn room_for<A: Allocator + Copy>(alloc: A, count: usize) -> Result<Vec<Notice, A>, AllocError>
     ensures items { IfOk result (λ v. v.items ≡ []) }
     ensures room { IfOk result (λ v. count ≤ vec_capacity v) }
@@ -25,7 +26,7 @@ fn room_for<A: Allocator + Copy>(alloc: A, count: usize) -> Result<Vec<Notice, A
     Ok(room)
 }
 
-// The notices that are known on the outlet. The room is there.
+/// The notices that are known on the outlet. The room is there.
 fn move_outlet<A: Allocator + Copy>(client: &mut Client<A>, out: &mut Vec<Notice, A>)
     requires { vec_len out.old + length client.old.known ≤ vec_capacity out.old }
     ensures items { out.new.items ≡ out.old.items ++ client.old.known }
@@ -36,7 +37,7 @@ fn move_outlet<A: Allocator + Copy>(client: &mut Client<A>, out: &mut Vec<Notice
     }
 }
 
-// The notices in the mailbox. The room is there.
+/// The notices in the mailbox. The room is there.
 fn move_mailbox<A: Allocator + Copy>(core: &mut Core<A>, number: u32, out: &mut Vec<Notice, A>)
     requires known { number < client_count core.old.history }
     requires there { number < length core.old.mailboxes }
@@ -49,7 +50,7 @@ fn move_mailbox<A: Allocator + Copy>(core: &mut Core<A>, number: u32, out: &mut 
     }
 }
 
-// All that the client had not collected. The room is there.
+/// All that the client had not collected. The room is there.
 fn move_all<A: Allocator + Copy>(
     core: &mut Core<A>,
     client: &mut Client<A>,
@@ -88,7 +89,7 @@ pub(crate) fn fill<A: Allocator + Copy>(
 }
 
 impl<N: OfficeName<A>, A: Allocator + Copy> Rest<N, A> {
-    // How many notices the client of this number had not collected.
+    /// How many notices the client of this number had not collected.
     fn uncollected(&self, clients: &[Client<A>], number: u32) -> Result<usize, AllocError>
         requires known { number < length N.rings }
         requires distinct { AreDistinct (cores clients.now) }

@@ -1,4 +1,5 @@
-// One order from a lane into the world.
+//! One order from a lane into the world.
+
 ghost use Rattle.std.specs.Prelude.{◌≤◌, ◌^◌, ◌≡◌, ◌<◌, ◌+◌, ◌++◌, ◌∷◌, ◌↔◌, [], ℕ, length, IfOk, OnOk, OnErr, Err, MatchOption};
 ghost use Rattle.fleet_history.specs.History.{clients, owed};
 ghost use Rattle.fleet_core.specs.Core.{Takes, HasRoom, HasNoRoom, HasEntries, HasNoEntries};
@@ -30,7 +31,7 @@ pub(crate) fn take_from<A: Allocator + Copy>(
     Ok(Some(verdict))
 }
 
-// Room in the client's mailbox for one order more; where there is none, for so many.
+/// Room in the client's mailbox for one order more; where there is none, for so many.
 fn make_room<A: Allocator + Copy>(
     core: &mut Core<A>,
     client: u32,
@@ -52,7 +53,7 @@ fn make_room<A: Allocator + Copy>(
     core.widen(client, used + 2 * orders - limit)
 }
 
-// The next of so many orders that are known to be in the lane, into a mailbox with room for it.
+/// The next of so many orders that are known to be in the lane, into a mailbox with room for it.
 pub(crate) fn take_left_from<A: Allocator + Copy>(
     core: &mut Core<A>,
     end: &mut HallEnd<A>,

@@ -1,4 +1,5 @@
 //! The queue of a robot's unfinished errands, in the order of their acceptance.
+
 ghost use Rattle.std.specs.Prelude.{◌≡◌, ◌↔◌, ◌==◌, ◌<◌, ◌≤◌, [], ◌∷◌, ◌++◌, length, drop, slice_get, position, take, ◌-◌, true, false, IsTrue, IfOk, IsOk, OnOk, IfErr};
 ghost use Rattle.std.specs.List.{list_any};
 ghost use Rattle.fleet_queue.specs.Queue.{is_of, without_behind_front};

@@ -1,4 +1,5 @@
 //! The queue on its happy path, at its room, and where its memory is refused.
+
 use crate::{Errand, ErrandQueue};
 use linked_list_allocator::LocalHeap;
 use std::test::Fail;

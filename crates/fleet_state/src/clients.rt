@@ -1,4 +1,5 @@
 //! The clients of a state: the book, and how many orders were taken and notices made.
+
 ghost use Rattle.std.specs.Prelude.{◌≡◌, ◌+◌, ◌<◌, ◌≤◌, ◌^◌, ◌==◌, ℕ, IfOk, true, length, map, slice_set, count_by};
 ghost use Rattle.std.specs.List.{range_with_len};
 ghost use Rattle.fleet_book.specs.Counts.{account_of, is_shut, standing, MayEnter};

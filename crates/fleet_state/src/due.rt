@@ -1,4 +1,5 @@
 //! Whose arrivals and whose farewells a step brings.
+
 ghost use Rattle.std.specs.Prelude.{◌≡◌, List, length, map, IfOk};
 ghost use Rattle.fleet_history.specs.History.{after};
 ghost use Rattle.fleet_history.specs.Legal.{due_of, due, leaving};

@@ -1,4 +1,5 @@
 //! The state behind one more entry.
+
 ghost use Rattle.std.specs.Prelude.{◌≡◌};
 ghost use Rattle.fleet_state.specs.Robots.{HasPlace};
 ghost use Rattle.fleet_state.specs.Follows.{Follows, MayFollow, FollowsTick, MayTick, FollowsShut, MayShut, IsPlaced};

@@ -1,4 +1,5 @@
 //! The state at an opening, and the opening of the chapter that follows.
+
 ghost use Rattle.std.specs.Prelude.{◌≡◌, ◌≤◌, All, IfOk, length, map, replicate};
 ghost use Rattle.std.specs.List.{range_with_len};
 ghost use Rattle.fleet_grid.specs.Floor.{Floor};

@@ -1,4 +1,5 @@
 //! The robots of a state: their cells, errands and waits.
+
 ghost use Rattle.std.specs.Prelude.{◌≡◌, ◌≢◌, ◌+◌, ◌<◌, ◌≤◌, ◌^◌, ◌++◌, ℕ, None, Some, IfOk, true, length, map, slice_index, slice_index_or};
 ghost use Rattle.std.specs.List.{list_any, range_with_len};
 ghost use Rattle.fleet_queue.specs.Queue.{is_of};

@@ -1,4 +1,5 @@
 //! The state that a history comes to.
+
 ghost use Rattle.std.specs.Prelude.{◌≡◌, ◌<◌, ◌+◌, List, ℕ, map, length, slice_get};
 ghost use Rattle.std.specs.List.{range_with_len};
 ghost use Rattle.fleet_history.specs.History.{place, clock, robots, clients, front, unfinished, owed, is_shut, taken_count, accepted_count};

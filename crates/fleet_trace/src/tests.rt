@@ -1,3 +1,4 @@
 //! Traces as texts, and judged.
+
 mod judged;
 mod texts;

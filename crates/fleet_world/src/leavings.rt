@@ -1,4 +1,5 @@
 //! What all clients' lists leave at the end of a run.
+
 ghost use Rattle.std.specs.Prelude.{◌≡◌, IfOk, map, vec_len};
 ghost use Rattle.fleet_world.specs.Leavings.{HasRoomFor};
 ghost use Rattle.fleet_world.specs.Run.{lane, outlet};

@@ -1,4 +1,5 @@
 //! The lists of one client in a run.
+
 ghost use Rattle.std.specs.Prelude.{◌≡◌, ◌≤◌, ◌<◌, ◌+◌, [], length, drop, slice_get, vec_len, IfOk, OnOk, OnErr, MatchOption, Some};
 ghost use Rattle.fleet_book.specs.declared.order.Order.{Order};
 ghost use Rattle.fleet_world.specs.Run.{lane, outlet, with_sent, with_taken, with_given, with_collected, no_lists};

@@ -1,4 +1,5 @@
 //! The opening of a world: why it may be refused, and what it is made of.
+
 ghost use Rattle.std.specs.Prelude.{Some, ◌≡◌, ◌≤◌, ◌<◌, ℕ, length, IfOk, MatchOption, map, IsTrue, ◌↔◌};
 ghost use Rattle.fleet_core.specs.Opening.{AreOnFloor, CanOpen};
 ghost use Rattle.fleet_world.specs.Opening.{IsFirstOffFloor, AreShared, IsFirstShared, IsRefused};

@@ -1,4 +1,5 @@
 //! The pure core over a list of events.
+
 ghost use Rattle.std.specs.Prelude.{◌≡◌, ◌<◌, ◌^◌, ◌↔◌, ℕ, Err, IfOk, length, vec_len};
 ghost use Rattle.fleet_bound.specs.Bound.{WaitsAreBounded};
 ghost use Rattle.fleet_grid.specs.Floor.{IsNeighbour};

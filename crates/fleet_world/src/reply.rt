@@ -1,4 +1,5 @@
 //! What is answered to an event of a run.
+
 use fleet_book::{Notice, Verdict};
 use fleet_core::{ShutFault, TakeFault, TickFault, TickReport};
 

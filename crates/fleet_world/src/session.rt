@@ -1,4 +1,5 @@
 //! A run under way: a world, and the lists of its clients.
+
 ghost use Rattle.std.specs.Prelude.{◌≡◌, ◌↔◌, IfOk, OnOk, Err, map, replicate, vec_len};
 ghost use Rattle.fleet_history.specs.History.{clients as client_count};
 ghost use Rattle.fleet_core.specs.Hooks.{laws_of, AreOrderly};

@@ -1,4 +1,5 @@
 //! The events of a run, and what each makes of it.
+
 ghost use Rattle.std.specs.Prelude.{◌≡◌, IfOk, IfErr, OnErr, length};
 ghost use Rattle.fleet_history.specs.Notices.{seq_of as seq_of_notice};
 ghost use Rattle.fleet_world.specs.Run.{Step, Run, IsAtEvent};

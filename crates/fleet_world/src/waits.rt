@@ -1,4 +1,5 @@
 //! How long a world's robots wait.
+
 ghost use Rattle.std.specs.Prelude.{◌≡◌, ◌<◌, ◌↔◌, IsTrue, IsSome, IfSome, MatchOption};
 ghost use Rattle.fleet_bound.specs.Arriving.{IsIdleWithin};
 ghost use Rattle.fleet_bound.specs.Bound.{wait_bound};

@@ -1,4 +1,5 @@
 //! The world, as its callers see it.
+
 ghost use Rattle.std.specs.Prelude.{◌≡◌, ◌+◌, ◌≤◌, ◌<◌, ◌^◌, ◌↔◌, ℕ, true, false, OnOk, OnErr, IfOk, IsTrue, map, slice_get, length};
 ghost use Rattle.fleet_bound.specs.Arriving.{ArrivesInTurn};
 ghost use Rattle.fleet_bound.specs.Bound.{KeepsBound, WaitsAreBounded};

@@ -1,4 +1,5 @@
 //! Traces judged on small maps.
+
 ghost use Rattle.std.specs.Prelude.{◌≤◌};
 
 use crate::{JudgeFault, judge, read_trace};

@@ -1,4 +1,5 @@
 //! Chapters written and read, and hostile traces.
+
 use crate::{TraceFault, read_trace, write_and_read, write_trace};
 use fleet_book::{Order, Verdict};
 use fleet_history::{Arrival, Chapter, ClientState, Entry, Opening, RobotState, Row};
