@@ -82,7 +82,7 @@ impl<A: Allocator> Book<A> {
         }
     }
 
-    // An errand of a client that is not closed, by the order of refusals.
+    /// An errand of a client that is not closed, by the order of refusals.
     fn judge_go(&self, account: Account, robot: u32, facts: Facts) -> Verdict
         requires open { account.closed ≡ false }
         requires within { (account.accepted ≤ self.now.life) × (self.now.life ≤ 2 ^ 40) }
@@ -238,7 +238,7 @@ impl<A: Allocator> Book<A> {
         }
     }
 
-    // The client's counts from now on.
+    /// The client's counts from now on.
     fn put(&mut self, client: u32, account: Account)
         requires client { client < length self.old.accounts }
         requires within { IsWithin self.old.life account }
@@ -249,7 +249,7 @@ impl<A: Allocator> Book<A> {
     }
 }
 
-// So many copies of the item.
+/// So many copies of the item.
 fn filled<T: Copy, A: Allocator>(alloc: A, item: T, count: u32) -> Result<Vec<T, A>, AllocError>
     ensures { IfOk result (λ v. v.items ≡ replicate count item) }
 {

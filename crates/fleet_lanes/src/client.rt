@@ -173,7 +173,7 @@ impl<A: Allocator> Client<A> {
         self.closed
     }
 
-    // Looks at both rings beside their other ends.
+    /// Looks at both rings beside their other ends.
     pub(crate) fn beside(
         &mut self,
         orders: &mut Consumer<Order, A>,

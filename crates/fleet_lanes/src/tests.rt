@@ -145,7 +145,7 @@ const ROUNDS: u64 = 2_000;
 
 const TRIES: u32 = 200_000_000;
 
-// Sends so many orders and collects as many notices, and answers whether the notices came in their order.
+/// Sends so many orders and collects as many notices, and answers whether the notices came in their order.
 fn send_all(mut client: Client) -> bool {
     let mut seen = 0;
     for _ in 0..TRIES {
@@ -164,7 +164,7 @@ fn send_all(mut client: Client) -> bool {
     false
 }
 
-// Takes so many orders and gives a notice for each.
+/// Takes so many orders and gives a notice for each.
 fn serve_all(mut hall: HallEnd) -> bool {
     let mut given = 0;
     let mut taken = 0;

@@ -104,7 +104,7 @@ impl<N: OfficeName<A>, A: Allocator + Copy> Rest<N, A> {
         count
     }
 
-    // All notices that were ever given are few enough to be counted.
+    /// All notices that were ever given are few enough to be counted.
     fn is_countable(&self)
         ensures { given_count self.now ≤ 2 ^ 63 }
     {

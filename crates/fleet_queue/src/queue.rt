@@ -114,7 +114,7 @@ impl<A: Allocator> ErrandQueue<A> {
     }
 }
 
-// Moves the client's first errand of this number behind the front to the end, and answers whether there is one.
+/// Moves the client's first errand of this number behind the front to the end, and answers whether there is one.
 fn move_to_end(errands: &mut [Errand], client: u32, number: u64) -> bool
     ensures found { result ≡ list_any (is_of client number) (drop 1 errands.old) }
     ensures moved { result ≡ true
@@ -134,7 +134,7 @@ fn move_to_end(errands: &mut [Errand], client: u32, number: u64) -> bool
     true
 }
 
-// The place of the client's first errand of this number.
+/// The place of the client's first errand of this number.
 fn place_of(errands: &[Errand], client: u32, number: u64) -> Option<usize>
     ensures { result ≡ position (is_of client number) errands.now }
 {
@@ -143,7 +143,7 @@ fn place_of(errands: &[Errand], client: u32, number: u64) -> Option<usize>
         .position(|errand| is_of(client, number, errand))
 }
 
-// Whether it is the client's errand of this number.
+/// Whether it is the client's errand of this number.
 fn is_of(client: u32, number: u64, errand: &Errand) -> bool
     ensures { result ≡ is_of client number errand.now }
 {
