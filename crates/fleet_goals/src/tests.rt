@@ -1,29 +1,31 @@
 //! Goals given and turned, robots that share a goal, and each growth refused in turn.
 
-mod fleet;
-mod placement;
-mod rows;
-mod step_goals;
+mod floor;
 
 use crate::Aims;
-use fleet::grid_of;
 use fleet_grid::Grid;
+use fleet_map::MapText;
 use fleet_pibt::Goals;
+use floor::are_floor;
 use refusing::Refusing;
 use std::alloc::Global;
 use std::process::Abort;
 use std::test::Fail;
 use std::thread::Threads;
-use step_goals::are_floor;
 
 /// The map `.../.@./...`.
-fn ring(rt: &impl Abort, alloc: Global) -> Result<Grid, Fail> {
-    grid_of(rt, alloc, 3, 3, b"....@....")
+fn ring(alloc: Global) -> Result<Grid, Fail> {
+    let map = MapText {
+        height: 3,
+        width: 3,
+        cells: Vec::from_slice(alloc, b"....@....")?,
+    };
+    Ok(Grid::new(map)?)
 }
 
 #[test]
 fn aimed_and_turned(rt: HostRuntime) -> Result<(), Fail> {
-    let grid = ring(&rt, rt.alloc())?;
+    let grid = ring(rt.alloc())?;
     let mut aims = Aims::new(rt.alloc(), 2)?;
     assert_eq!(rt; aims.goal(0), None);
     assert_eq!(rt; aims.at(0, 8), None);
@@ -34,6 +36,8 @@ fn aimed_and_turned(rt: HostRuntime) -> Result<(), Fail> {
         (aims.at(0, 0), aims.at(0, 5), aims.at(0, 4)),
         (Some(4), Some(1), None)
     );
+    // East and south.
+    assert_eq!(rt; (aims.ways(&grid, 0, 0), aims.ways(&grid, 1, 0)), (6, 0));
     aims.aim(&grid, 1, 8)?;
     let next = [Some(1), Some(8)];
     assert!(rt; are_floor(&grid, &next));
@@ -67,7 +71,7 @@ fn is_refused(
 
 #[test]
 fn refused_growths(rt: HostRuntime) -> Result<(), Fail> {
-    let grid = ring(&rt, rt.alloc())?;
+    let grid = ring(rt.alloc())?;
     let mut unrefused = None;
     for before in 0..32 {
         let heap = Refusing::after(rt.alloc(), before);
@@ -83,7 +87,7 @@ fn refused_growths(rt: HostRuntime) -> Result<(), Fail> {
 /// Robots that keep their goals, share one, or lose them, take no memory.
 #[test]
 fn turned_without_memory(rt: HostRuntime) -> Result<(), Fail> {
-    let grid = ring(&rt, rt.alloc())?;
+    let grid = ring(rt.alloc())?;
     for before in 0..8 {
         let heap = Refusing::after(rt.alloc(), before);
         let Ok(mut aims) = Aims::new(&heap, 2) else {
