@@ -4,7 +4,7 @@ use Rattle.std.specs.Ordering.{nat_cmp, is_eq}
 use Rattle.std.specs.declared.cmp.Ordering.TheVariants.{Less, Equal, Greater}
 use Rattle.std.proofs.lemmas.Bool.{cases_eq, cases_lt, ne_eqb}
 use Rattle.fleet_check.specs.Fault.{ShareCell, Exchange, IsFirstPair}
-use Rattle.fleet_check.specs.Seats.{AreSeats, IsSeat, IsShared, IsPartner}
+use Rattle.fleet_check.specs.inside.Seats.{AreSeats, IsSeat, IsShared, IsPartner}
 
 -- another key is not equal
 pub is_other : (k q : ℕ) → (k ≡ q → ⊥) → is_eq (nat_cmp k q) ≡ false

@@ -4,7 +4,7 @@ ghost use Rattle.std.specs.Prelude.{◌≡◌, ◌≢◌, ◌≤◌, ◌<◌, �
 ghost use Rattle.fleet_grid.specs.Floor.{IsFloor, IsNeighbour, IsNeighbourIn};
 ghost use Rattle.fleet_grid.specs.Step.{IsPlacement, IsConflictFree};
 ghost use Rattle.fleet_check.specs.Fault.{IsFirst, IsFirstPair, IsFirstFault, Moves, ShareCell, Exchange};
-ghost use Rattle.fleet_check.specs.Seats.{AreSeats, IsPartner, IsSeatFault};
+ghost use Rattle.fleet_check.specs.inside.Seats.{AreSeats, IsPartner, IsSeatFault};
 ghost use Rattle.std.specs.Ordering.{nat_cmp};
 ghost use Rattle.std.specs.BTreeMap.{get};
 

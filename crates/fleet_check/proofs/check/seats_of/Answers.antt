@@ -1,7 +1,7 @@
 use Rattle.std.proofs.Common.{◌≡◌, ◌-◌, ◌+◌, ◌<◌, length, slice_index, Some, None, sym, subst, ◌∙◌, arith}
 use Rattle.std.specs.Ordering.{nat_cmp}
 use Rattle.std.specs.BTreeMap.{get}
-use Rattle.fleet_check.specs.Seats.{IsSeat}
+use Rattle.fleet_check.specs.inside.Seats.{IsSeat}
 use Rattle.fleet_check.proofs.Seating.{is_other, none_left, seat_more, shared_same, shared_new}
 use Rattle.fleet_check.proofs.check.seats_of.Goals as goal
 

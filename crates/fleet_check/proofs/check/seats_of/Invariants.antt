@@ -1,7 +1,7 @@
 use Rattle.std.proofs.Common.{ℕ, ◌≤◌, length}
 use Rattle.std.specs.Ordering.{nat_cmp}
 use Rattle.std.specs.BTreeMap.{get}
-use Rattle.fleet_check.specs.Seats.{IsSeat, IsShared}
+use Rattle.fleet_check.specs.inside.Seats.{IsSeat, IsShared}
 use Rattle.fleet_check.proofs.check.seats_of.Given as goal
 
 abbrev pub invariant-loop-robot : goal.invariant-loop-robot
