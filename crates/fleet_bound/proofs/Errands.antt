@@ -14,7 +14,7 @@ use Rattle.fleet_history.specs.declared.history.Bye.{Bye}
 use Rattle.fleet_history.specs.declared.history.Entry.{Entry}
 use Rattle.fleet_history.specs.declared.history.Entry.TheVariants.{Take, Tick, Shut}
 use Rattle.fleet_history.specs.History.{History, after, is_tick, robots, front, unfinished, arrivals, arrivals_by, gives_up, withdraws, is_withdrawn, errand_for}
-use Rattle.fleet_history.specs.Landing.{landed}
+use Rattle.fleet_history.specs.inside.Landing.{landed}
 use Rattle.fleet_history.specs.Legal.{IsLegal, Fits, IsTickAfter}
 use Rattle.fleet_history.specs.Verdicts.{IsVerdict}
 use Rattle.fleet_history.proofs.After.{arrivals-after, withdrawn-after}

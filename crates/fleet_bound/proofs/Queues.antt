@@ -11,7 +11,7 @@ use Rattle.fleet_history.specs.declared.history.Bye.{Bye}
 use Rattle.fleet_history.specs.declared.history.Entry.{Entry}
 use Rattle.fleet_history.specs.declared.history.Entry.TheVariants.{Take, Tick, Shut}
 use Rattle.fleet_history.specs.History.{History, after, is_tick, robots, front, unfinished}
-use Rattle.fleet_history.specs.Landing.{landed}
+use Rattle.fleet_history.specs.inside.Landing.{landed}
 use Rattle.fleet_history.specs.Legal.{IsLegal, Fits, IsTickAfter}
 use Rattle.fleet_history.proofs.Arrivals.{unfinished-after_tick, unfinished-after_shut}
 use Rattle.fleet_waits.specs.Waiting.{IsAdvance, IsPause}

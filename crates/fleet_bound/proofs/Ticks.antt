@@ -12,7 +12,7 @@ use Rattle.fleet_history.specs.declared.history.Bye.{Bye}
 use Rattle.fleet_history.specs.declared.history.Entry.TheVariants.{Tick}
 use Rattle.fleet_history.specs.History.{History, robots, after, place, front, unfinished}
 use Rattle.fleet_history.specs.Legal.{IsLegal, IsTickAfter}
-use Rattle.fleet_history.specs.Landing.{landed}
+use Rattle.fleet_history.specs.inside.Landing.{landed}
 use Rattle.fleet_history.specs.Waits.{wait}
 use Rattle.fleet_history.specs.Waited.{wait_ticked, wait_anew}
 use Rattle.fleet_history.proofs.After.{place-after}

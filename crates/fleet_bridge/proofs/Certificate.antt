@@ -2,7 +2,7 @@
 use Rattle.std.proofs.Common.{◌≡◌, ◌≢◌, ℕ, zero, suc, ◌<◌, ◌≤◌, inl, inr, refl, sym, ap, subst, ◌∙◌, arith}
 use Rattle.std.proofs.lemmas.Bool.{cases_eq}
 use Rattle.fleet_grid.specs.Walk.{Besides, AreJoined}
-use Rattle.fleet_bridge.specs.Tree.{climb, IsUnder, IsTree, IsCrossed}
+use Rattle.fleet_bridge.specs.inside.Tree.{climb, IsUnder, IsTree, IsCrossed}
 use Rattle.fleet_bridge.proofs.Joins.{joined_same, joined_on, joined_by, joined_back, besides_back}
 
 pub under_same : (up : ℕ → ℕ) (v x : ℕ) → x ≡ v → IsUnder up v x

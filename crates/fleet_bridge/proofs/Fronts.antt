@@ -14,7 +14,7 @@ use Rattle.fleet_grid.specs.declared.dir.Dir.TheVariants.{North, East, South, We
 use Rattle.fleet_grid.specs.Floor.{IsNeighbourIn}
 use Rattle.fleet_grid.specs.Walk.{AreJoined, IsBridge}
 use Rattle.fleet_grid.specs.Floor.{IsNeighbour}
-use Rattle.fleet_bridge.specs.Search.{NearWithout, IsMarked, IsFront, IsLater, IsReach}
+use Rattle.fleet_bridge.specs.inside.Search.{NearWithout, IsMarked, IsFront, IsLater, IsReach}
 use Rattle.fleet_bridge.proofs.Joins.{joined_on, joined_by, joined_inside}
 
 count_more : (seen : List Bool) (cell : ℕ) → cell < length seen → get_or seen cell false ≡ false → count_by (λ s. s) (set seen cell true) ≡ count_by (λ s. s) seen + 1

@@ -10,7 +10,7 @@ use Rattle.fleet_grid.specs.declared.dir.Dir.{Dir}
 use Rattle.fleet_grid.specs.declared.dir.Dir.TheVariants.{North, East, South, West}
 use Rattle.fleet_grid.specs.Floor.{IsNeighbourIn}
 use Rattle.fleet_grid.specs.Floor.{IsNeighbour}
-use Rattle.fleet_bridge.specs.Tree.{IsUnder, AreUnder}
+use Rattle.fleet_bridge.specs.inside.Tree.{IsUnder, AreUnder}
 use Rattle.fleet_bridge.proofs.Certificate.{under_same, under_parent}
 
 pub under_own : (up : List ℕ) (n : ℕ) (inner : List ℕ) → length inner ≡ n → ((k : ℕ) → k < n → slice_index inner k ≡ k) → AreUnder up n inner

@@ -5,7 +5,7 @@ use Rattle.fleet_grid.specs.Floor.{Floor, HasForm, IsNeighbourIn}
 use Rattle.fleet_grid.specs.declared.dir.Dir.{Dir}
 use Rattle.fleet_grid.specs.declared.dir.Dir.TheVariants.{North, East, South, West}
 use Rattle.fleet_grid.proofs.Forms.{floor_inside, few_cells}
-use Rattle.fleet_bridge.specs.Sides.{is_open, IsOpen}
+use Rattle.fleet_bridge.specs.inside.Sides.{is_open, IsOpen}
 use Rattle.fleet_bridge.specs.declared.sides.Open.{Open}
 
 -- what a side says

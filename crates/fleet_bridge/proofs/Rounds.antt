@@ -12,10 +12,10 @@ use Rattle.fleet_grid.proofs.Forms.{floor_inside, wide}
 use Rattle.fleet_grid.specs.Walk.{Walks, Besides, AreJoined, IsBridge, IsBridgeless}
 use Rattle.fleet_bridge.specs.Bridge.{IsNoLater, IsFirstBridge}
 use Rattle.fleet_grid.specs.Floor.{HasForm, IsNeighbour}
-use Rattle.fleet_bridge.specs.Search.{NearWithout}
-use Rattle.fleet_bridge.specs.Tree.{IsUnder}
-use Rattle.fleet_bridge.specs.Spanning.{IsCrossedIn, IsSpanning}
-use Rattle.fleet_bridge.specs.First.{HasNoneBeside, IsBeside, HasNone, IsFirstFrom, HasNoneBelow}
+use Rattle.fleet_bridge.specs.inside.Search.{NearWithout}
+use Rattle.fleet_bridge.specs.inside.Tree.{IsUnder}
+use Rattle.fleet_bridge.specs.inside.Spanning.{IsCrossedIn, IsSpanning}
+use Rattle.fleet_bridge.specs.inside.First.{HasNoneBeside, IsBeside, HasNone, IsFirstFrom, HasNoneBelow}
 use Rattle.fleet_bridge.specs.declared.tree.Tree.{Tree}
 use Rattle.fleet_bridge.proofs.Joins.{joined_back, besides_back}
 use Rattle.fleet_bridge.proofs.Certificate.{off_tree, crossed}

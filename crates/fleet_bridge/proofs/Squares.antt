@@ -10,7 +10,7 @@ use Rattle.fleet_grid.specs.Walk.{Besides, AreJoined, IsBridge}
 use Rattle.fleet_grid.proofs.Edges.{neighbour_back}
 use Rattle.fleet_grid.proofs.Forms.{floor_inside, wide}
 use Rattle.fleet_grid.proofs.Places.{place_inside, east_on, south_on, east_back, south_back}
-use Rattle.fleet_bridge.specs.Places.{IsSquare, HasNoneAt, HasNoneBesideAt}
+use Rattle.fleet_bridge.specs.inside.Places.{IsSquare, HasNoneAt, HasNoneBesideAt}
 use Rattle.fleet_bridge.proofs.Joins.{joined_on, joined_by}
 use Rattle.fleet_bridge.proofs.Rounds.{from_none}
 

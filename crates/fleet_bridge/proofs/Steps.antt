@@ -11,9 +11,9 @@ use Rattle.fleet_grid.specs.Walk.{AreJoined, IsBridgeless}
 use Rattle.fleet_grid.proofs.Edges.{beside_once}
 use Rattle.fleet_grid.proofs.Forms.{floor_inside, wide, few_cells}
 use Rattle.fleet_grid.proofs.Places.{place_inside, place_once, east_on, south_on, east_back, south_back}
-use Rattle.fleet_bridge.specs.First.{HasNoneBeside, HasNone, HasNoneBelow}
-use Rattle.fleet_bridge.specs.Search.{NearWithout}
-use Rattle.fleet_bridge.specs.Places.{IsSpot, IsStep, IsOnWay, HasNoneAt, cell_across, place_across}
+use Rattle.fleet_bridge.specs.inside.First.{HasNoneBeside, HasNone, HasNoneBelow}
+use Rattle.fleet_bridge.specs.inside.Search.{NearWithout}
+use Rattle.fleet_bridge.specs.inside.Places.{IsSpot, IsStep, IsOnWay, HasNoneAt, cell_across, place_across}
 use Rattle.fleet_bridge.specs.declared.places.Spot.{Spot}
 use Rattle.fleet_bridge.proofs.Joins.{joined_on, joined_by, joined_same, joined_back, besides_back}
 use Rattle.fleet_bridge.proofs.Rounds.{none_is, near_turn}

@@ -1,7 +1,2 @@
 pub mod Bridge
-pub mod Tree
-pub mod Search
-pub mod Spanning
-pub mod First
-pub mod Sides
-pub mod Places
+pub mod inside

@@ -3,9 +3,9 @@
 ghost use Rattle.std.specs.Prelude.{◌≡◌, ℕ, ◌<◌, ◌≤◌, IfSome, OnSome, MatchOption};
 ghost use Rattle.fleet_grid.specs.Floor.{IsNeighbour, IsNeighbourIn};
 ghost use Rattle.fleet_grid.specs.Walk.{AreJoined, IsBridgeless};
-ghost use Rattle.fleet_bridge.specs.First.{HasNone, HasNoneBeside, HasNoneBelow};
-ghost use Rattle.fleet_bridge.specs.Search.{NearWithout};
-ghost use Rattle.fleet_bridge.specs.Places.{IsLaidOut, IsSpot, IsStep, IsOnWay, IsInside, HasNoneAt};
+ghost use Rattle.fleet_bridge.specs.inside.First.{HasNone, HasNoneBeside, HasNoneBelow};
+ghost use Rattle.fleet_bridge.specs.inside.Search.{NearWithout};
+ghost use Rattle.fleet_bridge.specs.inside.Places.{IsLaidOut, IsSpot, IsStep, IsOnWay, IsInside, HasNoneAt};
 
 use crate::places::{Places, Spot, has_bare, have_bare, places_of, spot_at, spot_beside};
 use crate::search::is_across;

@@ -3,11 +3,11 @@
 ghost use Rattle.std.specs.Prelude.{◌≡◌, ◌⊎◌, ℕ, ◌+◌, ◌*◌, ◌<◌, ◌≤◌, ◌≢◌, ◌↔◌, length, vec_len, slice_index, IfOk, MatchOption, IsTrue, Some, true, false};
 ghost use Rattle.fleet_grid.specs.Walk.{AreJoined, IsBridge, IsBridgeless};
 ghost use Rattle.fleet_bridge.specs.Bridge.{IsFirstBridge};
-ghost use Rattle.fleet_bridge.specs.Search.{NearWithout};
+ghost use Rattle.fleet_bridge.specs.inside.Search.{NearWithout};
 ghost use Rattle.fleet_grid.specs.Floor.{HasForm, IsNeighbour};
-ghost use Rattle.fleet_bridge.specs.Tree.{IsUnder};
-ghost use Rattle.fleet_bridge.specs.First.{HasNoneBeside, IsBeside, HasNone, IsFirstFrom};
-ghost use Rattle.fleet_bridge.specs.Spanning.{IsCrossedIn, IsSpanning};
+ghost use Rattle.fleet_bridge.specs.inside.Tree.{IsUnder};
+ghost use Rattle.fleet_bridge.specs.inside.First.{HasNoneBeside, IsBeside, HasNone, IsFirstFrom};
+ghost use Rattle.fleet_bridge.specs.inside.Spanning.{IsCrossedIn, IsSpanning};
 
 use crate::detours::first_doubt;
 use crate::numbers::read;

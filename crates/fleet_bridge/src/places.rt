@@ -4,7 +4,7 @@ ghost use Rattle.std.specs.Prelude.{◌≡◌, ◌≢◌, ◌⊎◌, ℕ, ◌+�
 ghost use Rattle.fleet_grid.specs.Floor.{IsNeighbourIn};
 ghost use Rattle.fleet_grid.specs.Padded.{IsOpen};
 ghost use Rattle.fleet_grid.specs.declared.dir.Dir.TheVariants.{East, South};
-ghost use Rattle.fleet_bridge.specs.Places.{IsLaidOut, IsSpot, IsStep, IsSquare, IsInside, HasNoneAt, HasNoneBesideAt, cell_across, place_across};
+ghost use Rattle.fleet_bridge.specs.inside.Places.{IsLaidOut, IsSpot, IsStep, IsSquare, IsInside, HasNoneAt, HasNoneBesideAt, cell_across, place_across};
 
 use fleet_grid::{Dir, FAR, Grid};
 use std::alloc::Allocator;

@@ -1,7 +1,7 @@
 //! How far the edges off a tree reach, and from which cell of each subtree the furthest one leads.
 
 ghost use Rattle.std.specs.Prelude.{◌≡◌, ◌<◌, vec_len, IfOk};
-ghost use Rattle.fleet_bridge.specs.Tree.{AreUnder};
+ghost use Rattle.fleet_bridge.specs.inside.Tree.{AreUnder};
 
 use crate::growth::Growth;
 use crate::numbers::{own_numbers, read, write};

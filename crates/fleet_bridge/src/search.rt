@@ -3,8 +3,8 @@
 ghost use Rattle.std.specs.Prelude.{◌≡◌, ◌⊎◌, ℕ, ◌<◌, ◌≤◌, ◌↔◌, ◌*◌, length, vec_len, IfOk, MatchOption, IsTrue, Some, true, false};
 ghost use Rattle.fleet_grid.specs.Floor.{IsNeighbour, IsNeighbourIn};
 ghost use Rattle.fleet_grid.specs.Walk.{AreJoined, IsBridge};
-ghost use Rattle.fleet_bridge.specs.First.{HasNoneBeside, IsBeside, HasNone, IsFirstFrom};
-ghost use Rattle.fleet_bridge.specs.Search.{NearWithout, IsMarked, IsFront, IsLater, IsReach};
+ghost use Rattle.fleet_bridge.specs.inside.First.{HasNoneBeside, IsBeside, HasNone, IsFirstFrom};
+ghost use Rattle.fleet_bridge.specs.inside.Search.{NearWithout, IsMarked, IsFront, IsLater, IsReach};
 
 use fleet_grid::{Dir, Grid};
 use std::alloc::{AllocError, Allocator, Global};

@@ -2,7 +2,7 @@
 
 ghost use Rattle.std.specs.Prelude.{◌≡◌, ℕ, length, vec_len, IfOk, MatchOption, true, false};
 ghost use Rattle.fleet_grid.specs.Floor.{Floor, HasForm, IsNeighbourIn};
-ghost use Rattle.fleet_bridge.specs.Sides.{IsOpen, is_open};
+ghost use Rattle.fleet_bridge.specs.inside.Sides.{IsOpen, is_open};
 
 use fleet_grid::{Dir, Grid};
 use std::alloc::{AllocError, Allocator};
@@ -42,7 +42,7 @@ pub(crate) struct Sides<'a, A: Allocator + Copy, B: Allocator + Copy> {
 
 impl<'a, A: Allocator + Copy, B: Allocator + Copy> Model for Sides<'a, A, B> {
     ghost use Rattle.fleet_grid.specs.Floor.{Floor};
-    ghost use Rattle.fleet_bridge.specs.Sides.{AreSides};
+    ghost use Rattle.fleet_bridge.specs.inside.Sides.{AreSides};
 
     ghost Value = { Floor };
 

@@ -5,7 +5,7 @@
 
 ghost use Rattle.std.specs.Prelude.{◌≡◌, ℕ, ◌<◌, length, slice_index, IfOk, true};
 ghost use Rattle.fleet_grid.specs.Floor.{IsNeighbour, IsNeighbourIn};
-ghost use Rattle.fleet_bridge.specs.Spanning.{IsFitIn, IsSpanning};
+ghost use Rattle.fleet_bridge.specs.inside.Spanning.{IsFitIn, IsSpanning};
 
 use crate::growth::{Growth, Numbers, numbers_of, place_all, widen_ends};
 use crate::numbers::read;

@@ -14,7 +14,7 @@ use Rattle.fleet_history.specs.declared.history.Bye.{Bye}
 use Rattle.fleet_history.specs.declared.history.Entry.{Entry}
 use Rattle.fleet_history.specs.declared.history.Entry.TheVariants as entry
 use Rattle.fleet_history.specs.History.{History, after, robots, clients, unfinished, front, owed, is_shut}
-use Rattle.fleet_history.specs.Landing.{landed}
+use Rattle.fleet_history.specs.inside.Landing.{landed}
 use Rattle.fleet_history.specs.Legal.{IsLegal, Due, due_of, due_at, due, leaving, is_leaving, is_done, is_none_left, robot_if}
 use Rattle.fleet_history.proofs.After.{shut-after}
 use Rattle.fleet_history.proofs.Arrivals.{unfinished-after_tick}

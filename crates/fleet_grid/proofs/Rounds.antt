@@ -7,7 +7,7 @@ use Rattle.fleet_grid.specs.declared.dir.Dir.{Dir}
 use Rattle.fleet_grid.specs.declared.dir.Dir.TheVariants.{North, East, South, West}
 use Rattle.fleet_grid.specs.Floor.{Floor, IsFloor, IsNeighbour, IsNeighbourIn}
 use Rattle.fleet_grid.specs.Walk.{AreJoined}
-use Rattle.fleet_grid.specs.Parts.{AreParts, AreDone, HasLabel, Awaits, IsSpread, Spreads}
+use Rattle.fleet_grid.specs.inside.Parts.{AreParts, AreDone, HasLabel, Awaits, IsSpread, Spreads}
 use Rattle.fleet_grid.proofs.Forms.{floor_inside}
 use Rattle.fleet_grid.proofs.Edges.{neighbour_back}
 use Rattle.fleet_grid.proofs.Walks.{joined_same, joined_on, joined_back, same_along}

@@ -6,7 +6,7 @@ use Rattle.std.proofs.lemmas.List.{length-set, length-append, get_or_append_left
 use Rattle.std.proofs.lemmas.List.Sums.{sum_by-set}
 use Rattle.fleet_grid.specs.Floor.{Floor, IsFloor, IsNeighbour}
 use Rattle.fleet_grid.specs.Walk.{AreJoined}
-use Rattle.fleet_grid.specs.Parts.{HasLabel, Awaits, IsSpread, Spreads, is_bare, bare_count}
+use Rattle.fleet_grid.specs.inside.Parts.{HasLabel, Awaits, IsSpread, Spreads, is_bare, bare_count}
 use Rattle.fleet_grid.proofs.Forms.{floor_inside}
 use Rattle.fleet_grid.proofs.Edges.{neighbour_back}
 use Rattle.fleet_grid.proofs.Walks.{joined_by_edge}

@@ -4,7 +4,6 @@ pub mod Walk
 pub mod Distance
 pub mod Counts
 pub mod Step
-pub mod Parts
 pub mod Padded
-pub mod Kept
 pub mod Ways
+pub mod inside

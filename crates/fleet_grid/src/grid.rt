@@ -27,7 +27,7 @@ pub struct Grid<A: Allocator + Copy = Global> {
 
 impl<A: Allocator + Copy> Model for Grid<A> {
     ghost use Rattle.fleet_grid.specs.Floor.{Floor};
-    ghost use Rattle.fleet_grid.specs.Kept.{IsKept};
+    ghost use Rattle.fleet_grid.specs.inside.Kept.{IsKept};
 
     ghost Value = { Floor };
 

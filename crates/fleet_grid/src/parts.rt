@@ -3,7 +3,7 @@
 ghost use Rattle.std.specs.Prelude.{◌≡◌, ℕ, ◌+◌, ◌<◌, length, slice_index, IfOk, OnOk, IsTrue, ◌↔◌};
 ghost use Rattle.fleet_grid.specs.Floor.{IsFloor, IsNeighbour, IsNeighbourIn};
 ghost use Rattle.fleet_grid.specs.Walk.{AreJoined};
-ghost use Rattle.fleet_grid.specs.Parts.{AreParts, AreDone, HasLabel, IsSpread, Spreads};
+ghost use Rattle.fleet_grid.specs.inside.Parts.{AreParts, AreDone, HasLabel, IsSpread, Spreads};
 
 use crate::cells::Cells;
 use crate::dir::Dir;

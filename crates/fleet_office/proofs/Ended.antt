@@ -17,7 +17,7 @@ use Rattle.fleet_lanes.specs.Names.{LaneName}
 use Rattle.fleet_lanes.specs.Ends.{EndView, ClientView}
 use Rattle.fleet_office.specs.Hall.{IsLawful}
 use Rattle.fleet_office.specs.Views.{AreOn, AreSettled, core, cores}
-use Rattle.fleet_office.specs.Rests.{SameBut, RestsAre}
+use Rattle.fleet_office.specs.inside.Rests.{SameBut, RestsAre}
 use Rattle.fleet_office.specs.Concluded.{IsTold, AreTold}
 use Rattle.fleet_office.proofs.Places.{at_map, map_at, there_is}
 

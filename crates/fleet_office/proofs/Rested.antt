@@ -12,7 +12,7 @@ use Rattle.fleet_lanes.specs.Names.{LaneName}
 use Rattle.fleet_lanes.specs.Ends.{ClientView}
 use Rattle.fleet_office.specs.Hall.{handed}
 use Rattle.fleet_office.specs.Views.{core, cores, AreDistinct, AreOn}
-use Rattle.fleet_office.specs.Rests.{HasRoomFor, HasAtMost, AreRooms, RestsAre, SameBut}
+use Rattle.fleet_office.specs.inside.Rests.{HasRoomFor, HasAtMost, AreRooms, RestsAre, SameBut}
 use Rattle.fleet_office.proofs.Places.{map_at, within}
 
 set_at : {X : Type 0} (xs : List X) (i : ℕ) (a b : X) → slice_get xs i ≡ Some b → slice_get (set xs i a) i ≡ Some a

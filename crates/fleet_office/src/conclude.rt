@@ -10,7 +10,7 @@ ghost use Rattle.fleet_history.specs.Laws.{EachTick};
 ghost use Rattle.fleet_plan.specs.Planned.{IsPlanned, IsAdvancingTick};
 ghost use Rattle.fleet_office.specs.Views.{AreOn, AreDistinct, AreSettled, cores};
 ghost use Rattle.fleet_office.specs.Draining.{DrainsFirst};
-ghost use Rattle.fleet_office.specs.Rests.{AreRooms};
+ghost use Rattle.fleet_office.specs.inside.Rests.{AreRooms};
 ghost use Rattle.fleet_office.specs.Concluded.{AreHome, HasAll, IsAway, DrainsPart, IsMet, AreTold, IsLast, IsUnconcluded};
 
 use crate::hall::{Hall, HallOf};

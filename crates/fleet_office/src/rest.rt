@@ -11,7 +11,7 @@ ghost use Rattle.fleet_plan.specs.Planned.{IsPlanned, IsAdvancingTick};
 ghost use Rattle.fleet_core.specs.Core.{Shuts, HasRoom, HasNoRoom, HasEntries, HasNoEntries};
 ghost use Rattle.fleet_office.specs.Views.{TickerView};
 ghost use Rattle.fleet_office.specs.Hall.{HallView, IsLawful, ShowsOrder, TakesOne, GivesOne, GivesAll, given_count, TakesSome, TakesUntil, TakesFirst, StopsTaking, TicksOnce, Turns, StopsTurn, Looks};
-ghost use Rattle.fleet_office.specs.Causes.{cause_of};
+ghost use Rattle.fleet_office.specs.inside.Causes.{cause_of};
 
 use crate::giving::give_from;
 use crate::names::OfficeName;

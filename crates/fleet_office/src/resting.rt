@@ -6,7 +6,7 @@ ghost use Rattle.fleet_core.specs.Core.{World, pending};
 ghost use Rattle.fleet_lanes.specs.Ends.{ClientView};
 ghost use Rattle.fleet_office.specs.Hall.{handed};
 ghost use Rattle.fleet_office.specs.Views.{core, cores, AreOn, AreDistinct};
-ghost use Rattle.fleet_office.specs.Rests.{AreRooms, RestsAre, AreWithin, SameBut, HasAtMost};
+ghost use Rattle.fleet_office.specs.inside.Rests.{AreRooms, RestsAre, AreWithin, SameBut, HasAtMost};
 
 use crate::homing::place_of;
 use crate::names::OfficeName;

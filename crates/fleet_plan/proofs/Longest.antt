@@ -5,7 +5,7 @@ use Rattle.std.proofs.lemmas.List.{get_or_past}
 use Rattle.std.proofs.lemmas.Bool.{cases_lt}
 use Rattle.fleet_pibt.specs.Order.{wait_of}
 use Rattle.fleet_pibt.specs.Eldest.{IsEldest}
-use Rattle.fleet_plan.specs.Longest.{IsLongest}
+use Rattle.fleet_plan.specs.inside.Longest.{IsLongest}
 
 -- who waits is a robot of the list
 waiting_known : (ws : List (Option ℕ)) (r v : ℕ) → wait_of ws r ≡ Some v → r < length ws

@@ -12,7 +12,7 @@ use Rattle.fleet_history.specs.declared.history.Entry.TheVariants.{Take, Tick, S
 use Rattle.fleet_history.specs.History.{History, after, robots, unfinished, front, errand_for}
 use Rattle.fleet_history.specs.Legal.{due_of, due, IsLegal}
 use Rattle.fleet_history.specs.Verdicts.{IsVerdict}
-use Rattle.fleet_history.specs.Landing.{landed}
+use Rattle.fleet_history.specs.inside.Landing.{landed}
 use Rattle.fleet_history.proofs.Arrivals.{unfinished-after_tick, unfinished-after_shut}
 use Rattle.fleet_history.proofs.Places.{front-after_take}
 use Rattle.fleet_plan.specs.Planned.{cell_of}

@@ -5,4 +5,4 @@ pub use Rattle.fleet_pibt.specs.Advancing
 pub use Rattle.fleet_pibt.specs.Ties
 pub mod Planned
 pub mod Counted
-pub mod Longest
+pub mod inside

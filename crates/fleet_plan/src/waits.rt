@@ -5,7 +5,7 @@ ghost use Rattle.fleet_queue.specs.Queue.{Queue};
 ghost use Rattle.fleet_history.specs.Waited.{wait_ticked};
 ghost use Rattle.fleet_pibt.specs.Order.{wait_of};
 ghost use Rattle.fleet_pibt.specs.Eldest.{IsEldest};
-ghost use Rattle.fleet_plan.specs.Longest.{IsLongest};
+ghost use Rattle.fleet_plan.specs.inside.Longest.{IsLongest};
 
 use fleet_queue::ErrandQueue;
 use std::alloc::Allocator;

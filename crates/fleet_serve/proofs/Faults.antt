@@ -10,7 +10,7 @@ use Rattle.fleet_world.specs.declared.faults.OpenFault.TheVariants as open_fault
 use Rattle.fleet_world.specs.Opening.{IsRefused, IsNamed}
 use Rattle.fleet_serve.specs.declared.served.ServeFault.{ServeFault}
 use Rattle.fleet_serve.specs.declared.served.ServeFault.TheVariants.{Opening, NoMemory}
-use Rattle.fleet_serve.specs.Faults.{IsLater}
+use Rattle.fleet_serve.specs.inside.Faults.{IsLater}
 
 -- a fault behind the opening is none of it
 pub later-none : {S : Type 0} (r : Result S ServeFault) (f : OpenFault) → IfErr r (λ x. IsLater x) → r ≡ Err (Opening f) → ⊥

@@ -1,7 +1,7 @@
 //! The turns that a serve makes when its threads have ended.
 
 ghost use Rattle.std.specs.Prelude.{IfErr};
-ghost use Rattle.fleet_serve.specs.Faults.{IsLater};
+ghost use Rattle.fleet_serve.specs.inside.Faults.{IsLater};
 
 use crate::names::ScriptName;
 use crate::ran::Ran;

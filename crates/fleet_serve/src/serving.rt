@@ -11,7 +11,7 @@ ghost use Rattle.fleet_plan.specs.Planned.{IsAdvancingTick};
 ghost use Rattle.fleet_core.specs.Hooks.{laws_of};
 ghost use Rattle.fleet_world.specs.Opening.{IsNamed as IsNamedFault, IsRefused};
 ghost use Rattle.fleet_office.specs.Views.{IsNamed};
-ghost use Rattle.fleet_serve.specs.Faults.{IsLater};
+ghost use Rattle.fleet_serve.specs.inside.Faults.{IsLater};
 ghost use Rattle.fleet_serve.specs.Posted.{IsLine, AreNew, TakesPosted, TakesAll, AreLastNotices};
 
 use crate::draining::{drain, fault_of, idle};

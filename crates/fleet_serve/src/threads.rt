@@ -1,7 +1,7 @@
 //! Clients and tickers, each in a thread of its own.
 
 ghost use Rattle.std.specs.Prelude.{IfErr};
-ghost use Rattle.fleet_serve.specs.Faults.{IsLater};
+ghost use Rattle.fleet_serve.specs.inside.Faults.{IsLater};
 
 use crate::gate::Gate;
 use crate::names::ScriptName;

@@ -16,7 +16,7 @@ use Rattle.fleet_history.specs.declared.history.Bye.{Bye}
 use Rattle.fleet_history.specs.declared.history.Entry.{Entry}
 use Rattle.fleet_history.specs.declared.history.Entry.TheVariants as entry
 use Rattle.fleet_history.specs.History.{History, after, robots, clients, clock, unfinished, front, is_shut}
-use Rattle.fleet_history.specs.Landing.{landed}
+use Rattle.fleet_history.specs.inside.Landing.{landed}
 use Rattle.fleet_history.specs.Legal.{Due, due_of, due_at, due, is_none_left, robot_if, leaving, is_leaving, IsTickAfter}
 use Rattle.fleet_history.specs.Waits.{wait, wait_for}
 use Rattle.fleet_history.specs.Waited.{wait_ticked}
@@ -28,7 +28,7 @@ use Rattle.fleet_history.proofs.Owed.{owed-after_tick}
 use Rattle.fleet_history.proofs.Arrivals.{unfinished-after_tick}
 use Rattle.fleet_state.specs.declared.clients.Tally.{Tally}
 use Rattle.fleet_state.specs.Clients.{tally_at}
-use Rattle.fleet_state.specs.Due.{dues, dues_of, is_leaver, leavers}
+use Rattle.fleet_state.specs.inside.Due.{dues, dues_of, is_leaver, leavers}
 use Rattle.fleet_state.specs.Landed.{landing, wait_on, is_last, rest_on}
 use Rattle.fleet_state.specs.Robots.{queue_at}
 use Rattle.fleet_state.specs.State.{State, IsStateOf}

@@ -25,7 +25,7 @@ use Rattle.fleet_history.proofs.Arrivals.{unfinished-after_take, unfinished-afte
 use Rattle.fleet_history.proofs.WaitLaws.{wait-after_tick, wait-after_take, wait-shut}
 use Rattle.fleet_state.specs.declared.clients.Tally.{Tally}
 use Rattle.fleet_state.specs.Clients.{Clients, tally_at, no_tally, settled, told, one_taken, with_verdict}
-use Rattle.fleet_state.specs.Due.{dues_of}
+use Rattle.fleet_state.specs.inside.Due.{dues_of}
 use Rattle.fleet_state.specs.Landed.{without_landed, wait_on}
 use Rattle.fleet_state.specs.Robots.{Robots, no_queue, queue_taken, AreTaken}
 use Rattle.fleet_state.specs.State.{State, IsStateOf, queue_after, account_after, tally_after, robots_of, clients_of, state_with}

@@ -22,7 +22,7 @@ use Rattle.fleet_state.specs.declared.clients.Tally.{Tally}
 use Rattle.fleet_state.specs.Clients.{no_tally, client_known}
 use Rattle.fleet_state.specs.Robots.{queue_at, no_queue}
 use Rattle.fleet_state.specs.State.{State, IsStateOf, state_after, queue_after, account_after, tally_after, clients_of, state_with}
-use Rattle.fleet_state.specs.Next.{robot_known, opening_in}
+use Rattle.fleet_state.specs.inside.Next.{robot_known, opening_in}
 use Rattle.fleet_state.specs.Opened.{robots_in, clients_in}
 use Rattle.fleet_state.proofs.Accounts.{account_same}
 use Rattle.fleet_state.proofs.Entered.{state-same}

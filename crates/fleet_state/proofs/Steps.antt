@@ -9,7 +9,7 @@ use Rattle.fleet_book.specs.declared.account.Account.{Account}
 use Rattle.fleet_book.specs.Counts.{Counts, account_of, with_account, blank}
 use Rattle.fleet_state.specs.declared.clients.Tally.{Tally}
 use Rattle.fleet_state.specs.Clients.{Clients, tally_at, no_tally, settled, told, with_arrival}
-use Rattle.fleet_state.specs.Due.{dues_of}
+use Rattle.fleet_state.specs.inside.Due.{dues_of}
 use Rattle.fleet_state.specs.Landed.{landing, wait_on, without_landed}
 use Rattle.fleet_state.specs.Robots.{Robots, queue_at, no_queue, stepped}
 use Rattle.fleet_state.proofs.Dues.{dues_of-more, none-more, owed-here}

@@ -5,6 +5,5 @@ pub mod Robots
 pub mod Clients
 pub mod State
 pub mod Opened
-pub mod Due
-pub mod Next
 pub mod Follows
+pub mod inside

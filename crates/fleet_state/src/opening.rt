@@ -9,7 +9,7 @@ ghost use Rattle.fleet_history.specs.Next.{next_opening, HasRoomForCounts};
 ghost use Rattle.fleet_state.specs.State.{IsStateOf, Of, HasFullRooms, state_after, robot_count, clients_of};
 ghost use Rattle.fleet_state.specs.Opened.{HaveRooms};
 ghost use Rattle.fleet_state.specs.Clients.{client_known};
-ghost use Rattle.fleet_state.specs.Next.{robot_known};
+ghost use Rattle.fleet_state.specs.inside.Next.{robot_known};
 
 use crate::clients::Clients;
 use crate::robots::Robots;

@@ -10,7 +10,7 @@ use Rattle.std.specs.Prelude.{String}
 use Rattle.serde_json.specs.declared.value.Value.{Value}
 use Rattle.std.specs.declared.alloc.Global.{Global}
 use Rattle.fleet_trace.specs.Told.{list_of, items_in, all_in, list_in, count_members}
-use Rattle.fleet_trace.specs.Plain.{IsPlain}
+use Rattle.fleet_trace.specs.inside.Plain.{IsPlain}
 use Rattle.fleet_trace.specs.Text.{listed}
 
 pub list_of-items_of : (ds : List Data) → list_of (items_of ds) ≡ ds

@@ -16,7 +16,7 @@ use Rattle.fleet_history.specs.declared.history.Opening.{Opening}
 use Rattle.fleet_history.specs.declared.history.Entry.{Entry}
 use Rattle.fleet_history.specs.declared.history.Entry.TheVariants.{Take, Tick, Shut}
 use Rattle.fleet_trace.specs.Trace.{Trace}
-use Rattle.fleet_trace.specs.Plain.{IsPlain}
+use Rattle.fleet_trace.specs.inside.Plain.{IsPlain}
 use Rattle.fleet_trace.specs.Fits.{Fits32, ClientFits, ErrandFits, LawFits, WaitFits, RobotFits, OpeningFits, OrderFits, VerdictFits, ArrivalFits, ByeFits, EntryFits, TraceFits}
 use Rattle.fleet_trace.specs.Text.{counted, client_data, errand_data, law_data, wait_data, robot_data, opening_data, order_data, verdict_data, arrival_data, bye_data, entry_data, trace_data}
 use Rattle.fleet_trace.proofs.Lists.{list_plain, list_shallow}

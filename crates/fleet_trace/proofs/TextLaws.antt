@@ -13,7 +13,7 @@ use Rattle.serde_json.specs.Read.{read, max_depth, of_json, of_items, of_members
 use Rattle.serde_json.specs.Written.{compact_text, outline, items_outline, members_outline, has_float, items_have_float, members_have_float}
 use Rattle.serde_json.proofs.Numbers.{number_of-decimal}
 use Rattle.serde_json.proofs.Texts.{print-outline}
-use Rattle.fleet_trace.specs.Plain.{IsPlain, ItemsArePlain, MembersArePlain, put_all}
+use Rattle.fleet_trace.specs.inside.Plain.{IsPlain, ItemsArePlain, MembersArePlain, put_all}
 
 -- the data of parsed text that has nothing behind it
 abbrev whole : Option (json.Json × List Token) → Option Data

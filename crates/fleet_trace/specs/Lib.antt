@@ -4,8 +4,8 @@ pub mod Fits
 pub mod Version
 pub mod Told
 pub mod Reads
-pub mod Plain
 pub mod Opened
 pub mod Judged
 pub mod Calm
 pub mod Rooms
+pub mod inside

@@ -5,6 +5,5 @@ pub use Rattle.fleet_core.specs.Hooks
 pub mod Opening
 pub mod Run
 pub mod Laws
-pub mod Leavings
-pub mod Session
 pub mod Played
+pub mod inside

@@ -1,7 +1,7 @@
 //! What all clients' lists leave at the end of a run.
 
 ghost use Rattle.std.specs.Prelude.{◌≡◌, IfOk, map, vec_len};
-ghost use Rattle.fleet_world.specs.Leavings.{HasRoomFor};
+ghost use Rattle.fleet_world.specs.inside.Leavings.{HasRoomFor};
 ghost use Rattle.fleet_world.specs.Run.{lane, outlet};
 
 use crate::lists::ClientLists;

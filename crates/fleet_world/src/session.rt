@@ -5,7 +5,7 @@ ghost use Rattle.fleet_history.specs.History.{clients as client_count};
 ghost use Rattle.fleet_core.specs.Hooks.{laws_of, AreOrderly};
 ghost use Rattle.fleet_core.specs.Opening.{CanOpen};
 ghost use Rattle.fleet_world.specs.Opening.{IsRefused, IsNamed};
-ghost use Rattle.fleet_world.specs.Leavings.{HasRoomFor};
+ghost use Rattle.fleet_world.specs.inside.Leavings.{HasRoomFor};
 ghost use Rattle.fleet_world.specs.Run.{lane, outlet, no_lists, state_of, opened_state};
 
 use crate::faults::OpenFault;

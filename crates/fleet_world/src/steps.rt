@@ -3,7 +3,7 @@
 ghost use Rattle.std.specs.Prelude.{◌≡◌, IfOk, IfErr, OnErr, length};
 ghost use Rattle.fleet_history.specs.Notices.{seq_of as seq_of_notice};
 ghost use Rattle.fleet_world.specs.Run.{Step, Run, IsAtEvent};
-ghost use Rattle.fleet_world.specs.Session.{state};
+ghost use Rattle.fleet_world.specs.inside.Session.{state};
 
 use crate::faults::RunFault;
 use crate::reply::Reply;

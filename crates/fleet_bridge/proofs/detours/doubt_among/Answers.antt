@@ -1,5 +1,5 @@
 use Rattle.std.proofs.Common.{below_more, arith}
-use Rattle.fleet_bridge.specs.Places.{HasNoneAt}
+use Rattle.fleet_bridge.specs.inside.Places.{HasNoneAt}
 use Rattle.fleet_bridge.proofs.Steps.{none_before, none_of_spot}
 use Rattle.fleet_bridge.proofs.detours.doubt_among.Goals as goal
 

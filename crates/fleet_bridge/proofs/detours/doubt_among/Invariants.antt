@@ -1,5 +1,5 @@
 use Rattle.std.proofs.Common.{ℕ, ◌<◌}
-use Rattle.fleet_bridge.specs.Places.{HasNoneAt}
+use Rattle.fleet_bridge.specs.inside.Places.{HasNoneAt}
 use Rattle.fleet_bridge.proofs.detours.doubt_among.Given as goal
 
 abbrev pub invariant-loop-at : goal.invariant-loop-at

@@ -1,4 +1,4 @@
-use Rattle.fleet_bridge.specs.Places.{IsOnWay}
+use Rattle.fleet_bridge.specs.inside.Places.{IsOnWay}
 use Rattle.fleet_bridge.proofs.detours.steps_at_hand.Given as goal
 
 abbrev pub invariant-loop-steps : goal.invariant-loop-steps

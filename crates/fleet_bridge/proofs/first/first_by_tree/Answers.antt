@@ -1,6 +1,6 @@
 use Rattle.std.proofs.Common.{ℕ, ◌≤◌, length, Option, MatchOption, below_more, subst, arith}
 use Rattle.fleet_grid.specs.Floor.{Floor}
-use Rattle.fleet_bridge.specs.First.{HasNone, IsFirstFrom}
+use Rattle.fleet_bridge.specs.inside.First.{HasNone, IsFirstFrom}
 use Rattle.fleet_bridge.proofs.Rounds.{none_is, none_left}
 use Rattle.fleet_bridge.proofs.first.first_by_tree.Goals as goal
 

@@ -1,4 +1,4 @@
-use Rattle.fleet_bridge.specs.First.{HasNoneBelow}
+use Rattle.fleet_bridge.specs.inside.First.{HasNoneBelow}
 use Rattle.fleet_bridge.proofs.first.first_by_tree.Given as goal
 
 abbrev pub invariant-loop-cell : goal.invariant-loop-cell

@@ -1,5 +1,5 @@
 use Rattle.std.proofs.Common.{◌≡◌, ℕ, ◌≤◌, Bool, true, false, ◌||◌, below_more, refl, arith}
-use Rattle.fleet_bridge.specs.Places.{HasNoneAt}
+use Rattle.fleet_bridge.specs.inside.Places.{HasNoneAt}
 use Rattle.fleet_bridge.proofs.places.have_bare.Goals as goal
 
 neither : (a b : Bool) → (a || b) ≡ false → (a ≡ false) × (b ≡ false)

@@ -1,6 +1,6 @@
 use Rattle.std.proofs.Common.{◌≢◌, ℕ, subst, arith}
 use Rattle.std.specs.Prelude.{slice_index}
-use Rattle.fleet_bridge.specs.Places.{place_across}
+use Rattle.fleet_bridge.specs.inside.Places.{place_across}
 use Rattle.fleet_bridge.proofs.Steps.{across_inside, step_found, none_across}
 use Rattle.fleet_bridge.proofs.places.spot_beside.Goals as goal
 

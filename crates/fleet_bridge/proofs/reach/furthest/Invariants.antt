@@ -1,4 +1,4 @@
-use Rattle.fleet_bridge.specs.Tree.{AreUnder}
+use Rattle.fleet_bridge.specs.inside.Tree.{AreUnder}
 use Rattle.fleet_bridge.proofs.reach.furthest.Given as goal
 
 abbrev pub invariant-loop-cell : goal.invariant-loop-cell

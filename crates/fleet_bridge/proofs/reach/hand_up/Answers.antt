@@ -1,7 +1,7 @@
 use Rattle.std.proofs.Common.{◌≡◌, set, sym, subst}
 use Rattle.std.specs.Prelude.{slice_index}
 use Rattle.std.specs.Vec.{vec_len}
-use Rattle.fleet_bridge.specs.Tree.{AreUnder}
+use Rattle.fleet_bridge.specs.inside.Tree.{AreUnder}
 use Rattle.fleet_bridge.proofs.Inner.{under_set}
 use Rattle.fleet_bridge.proofs.reach.hand_up.Goals as goal
 

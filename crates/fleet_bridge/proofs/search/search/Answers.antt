@@ -1,6 +1,6 @@
 use Rattle.std.proofs.Common.{◌≡◌, ◌<◌, length, arith, subst, ℕ, get_or, refl}
 use Rattle.std.proofs.lemmas.List.{get_or_read_under}
-use Rattle.fleet_bridge.specs.Search.{NearWithout, IsMarked}
+use Rattle.fleet_bridge.specs.inside.Search.{NearWithout, IsMarked}
 use Rattle.fleet_bridge.proofs.Fronts.{done_more}
 use Rattle.fleet_bridge.proofs.search.search.Goals as goal
 

@@ -1,5 +1,5 @@
 use Rattle.std.proofs.Common.{◌≡◌, ◌-◌, length}
-use Rattle.fleet_bridge.specs.Search.{NearWithout, IsMarked, IsFront}
+use Rattle.fleet_bridge.specs.inside.Search.{NearWithout, IsMarked, IsFront}
 use Rattle.fleet_bridge.proofs.Fronts.{AreDone}
 use Rattle.fleet_bridge.proofs.search.search.Given as goal
 

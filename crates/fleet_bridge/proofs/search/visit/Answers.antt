@@ -1,6 +1,6 @@
 use Rattle.std.proofs.Common.{◌≡◌, ◌<◌, length, false, get_or, arith, ◌∙◌, sym, refl}
 use Rattle.std.proofs.lemmas.List.{get_or_read_under}
-use Rattle.fleet_bridge.specs.Search.{NearWithout}
+use Rattle.fleet_bridge.specs.inside.Search.{NearWithout}
 use Rattle.fleet_bridge.proofs.Fronts.{front_more}
 use Rattle.fleet_bridge.proofs.search.visit.Goals as goal
 

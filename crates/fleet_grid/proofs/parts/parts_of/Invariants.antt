@@ -1,6 +1,6 @@
 use Rattle.std.proofs.Common.{ℕ, ◌<◌}
 use Rattle.fleet_grid.specs.Floor.{IsFloor}
-use Rattle.fleet_grid.specs.Parts.{AreDone, HasLabel}
+use Rattle.fleet_grid.specs.inside.Parts.{AreDone, HasLabel}
 use Rattle.fleet_grid.proofs.parts.parts_of.Given as goal
 
 abbrev pub invariant-loop-cell : goal.invariant-loop-cell

@@ -1,5 +1,5 @@
 use Rattle.std.proofs.Common.{◌+◌, ◌-◌, length}
-use Rattle.fleet_grid.specs.Parts.{bare_count}
+use Rattle.fleet_grid.specs.inside.Parts.{bare_count}
 use Rattle.fleet_grid.proofs.Rounds.{HasKept}
 use Rattle.fleet_grid.proofs.parts.spread.Given as goal
 

@@ -1,7 +1,7 @@
 use Rattle.std.proofs.Common.{◌≡◌, ◌<◌, ℕ, None}
 use Rattle.std.specs.Prelude.{MatchOption}
 use Rattle.fleet_pibt.specs.Order.{wait_of}
-use Rattle.fleet_plan.specs.Longest.{IsLongest}
+use Rattle.fleet_plan.specs.inside.Longest.{IsLongest}
 use Rattle.fleet_plan.proofs.waits.eldest.Given as goal
 
 abbrev pub invariant-loop-robot : goal.invariant-loop-robot

@@ -4,7 +4,7 @@ use Rattle.fleet_history.specs.Laws.{EachTick}
 use Rattle.fleet_plan.specs.Planned.{IsPlanned}
 use Rattle.fleet_office.specs.Views.{AreOn, AreDistinct, AreSettled, cores}
 use Rattle.fleet_office.specs.Draining.{DrainsFirst}
-use Rattle.fleet_office.specs.Rests.{AreRooms}
+use Rattle.fleet_office.specs.inside.Rests.{AreRooms}
 use Rattle.fleet_office.specs.Concluded.{AreHome, DrainsPart, AreTold}
 use Rattle.fleet_office.proofs.Settling.{first_frame, lent_back}
 use Rattle.fleet_office.proofs.Ended.{told-same}

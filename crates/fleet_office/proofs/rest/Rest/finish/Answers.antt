@@ -3,7 +3,7 @@ use Rattle.std.specs.Prelude.{slice_get}
 use Rattle.std.proofs.lemmas.Option.{slice_get_within}
 use Rattle.fleet_history.specs.History.{history_of}
 use Rattle.fleet_office.specs.Views.{AreDistinct, AreSettled, core, cores}
-use Rattle.fleet_office.specs.Rests.{AreRooms, RestsAre}
+use Rattle.fleet_office.specs.inside.Rests.{AreRooms, RestsAre}
 use Rattle.fleet_office.proofs.Places.{map_at}
 use Rattle.fleet_office.proofs.Ended.{planned-ended, advancing-ended, told-ended}
 use Rattle.fleet_office.proofs.rest.Rest.finish.Goals as goal

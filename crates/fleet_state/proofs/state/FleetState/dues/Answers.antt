@@ -1,6 +1,6 @@
 use Rattle.std.proofs.Common.{arith, ◌≡◌, ◌∙◌, ap, length, refl}
 use Rattle.std.proofs.lemmas.List.{append-nil, map_push}
-use Rattle.fleet_state.specs.Due.{dues}
+use Rattle.fleet_state.specs.inside.Due.{dues}
 use Rattle.fleet_state.proofs.Parts.{inside, robots-few}
 use Rattle.fleet_state.proofs.Dues.{dues-more, dues-are}
 use Rattle.fleet_state.proofs.state.FleetState.dues.Goals as goal

@@ -1,6 +1,6 @@
 use Rattle.std.proofs.Common.{◌≡◌, map}
 use Rattle.fleet_history.specs.Legal.{due_of}
-use Rattle.fleet_state.specs.Due.{dues}
+use Rattle.fleet_state.specs.inside.Due.{dues}
 use Rattle.fleet_state.proofs.state.FleetState.dues.Given as goal
 
 abbrev pub invariant-loop-r : goal.invariant-loop-r

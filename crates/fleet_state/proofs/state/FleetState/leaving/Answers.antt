@@ -1,7 +1,7 @@
 use Rattle.std.proofs.Common.{arith, ◌≡◌, ◌∙◌, ap, length, refl}
 use Rattle.std.proofs.lemmas.List.{append-nil, map_push}
 use Rattle.fleet_history.specs.Legal.{robot_if}
-use Rattle.fleet_state.specs.Due.{leavers, is_leaver}
+use Rattle.fleet_state.specs.inside.Due.{leavers, is_leaver}
 use Rattle.fleet_state.proofs.Parts.{inside, robots-few}
 use Rattle.fleet_state.proofs.Ranges.{flat_map-range_more}
 use Rattle.fleet_state.proofs.Dues.{leavers-are}

@@ -1,5 +1,5 @@
 use Rattle.std.proofs.Common.{◌≡◌, map}
-use Rattle.fleet_state.specs.Due.{leavers}
+use Rattle.fleet_state.specs.inside.Due.{leavers}
 use Rattle.fleet_state.proofs.state.FleetState.leaving.Given as goal
 
 abbrev pub invariant-loop-r : goal.invariant-loop-r

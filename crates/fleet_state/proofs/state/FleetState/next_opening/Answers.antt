@@ -1,7 +1,7 @@
 use Rattle.std.proofs.Common.{◌≡◌, ◌∙◌, sym, subst}
 use Rattle.fleet_history.specs.History.{start}
 use Rattle.fleet_history.specs.Next.{next_opening}
-use Rattle.fleet_state.specs.Next.{opening_in}
+use Rattle.fleet_state.specs.inside.Next.{opening_in}
 use Rattle.fleet_state.specs.State.{IsStateOf}
 use Rattle.fleet_state.proofs.NextOpening.{next-is, opening-made, goes-on}
 use Rattle.fleet_state.proofs.Parts.{tick-in}

@@ -1,6 +1,6 @@
 use Rattle.std.proofs.Common.{◌≡◌, map}
 use Rattle.std.specs.List.{range_with_len}
-use Rattle.fleet_state.specs.Next.{robot_known}
+use Rattle.fleet_state.specs.inside.Next.{robot_known}
 use Rattle.fleet_state.specs.State.{state_with}
 use Rattle.fleet_state.proofs.state.FleetState.robot_states.Given as goal
 

@@ -1,6 +1,6 @@
 use Rattle.std.proofs.Common.{take}
 use Rattle.fleet_world.specs.Run.{Run}
-use Rattle.fleet_world.specs.Session.{state}
+use Rattle.fleet_world.specs.inside.Session.{state}
 use Rattle.fleet_world.proofs.session.Session.play.Given as goal
 
 abbrev pub invariant-loop-i : goal.invariant-loop-i

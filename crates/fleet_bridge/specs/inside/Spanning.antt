@@ -1,7 +1,7 @@
 -- What is known of a tree that passed its check.
 use Rattle.std.specs.Prelude.{ℕ, ◌<◌, length, slice_index}
 use Rattle.fleet_grid.specs.Floor.{Floor, HasForm, IsNeighbour}
-use Rattle.fleet_bridge.specs.Tree.{IsFit, IsCrossed, AreUnder}
+use Rattle.fleet_bridge.specs.inside.Tree.{IsFit, IsCrossed, AreUnder}
 use Rattle.fleet_bridge.specs.declared.tree.Tree.{Tree}
 
 abbrev pub IsFitIn : {A : Type 0} → Floor → Tree A → ℕ → Type 0

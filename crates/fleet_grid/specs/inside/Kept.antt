@@ -2,7 +2,7 @@
 use Rattle.std.specs.Prelude.{◌≡◌, ℕ, List}
 use Rattle.fleet_grid.specs.Floor.{Floor, HasForm}
 use Rattle.fleet_grid.specs.Padded.{IsPadded}
-use Rattle.fleet_grid.specs.Parts.{AreParts}
+use Rattle.fleet_grid.specs.inside.Parts.{AreParts}
 use Rattle.fleet_grid.specs.Counts.{floor_count}
 
 pub record IsKept (m : Floor) (stride : ℕ) (blank labels : List ℕ) (count : ℕ) : Type 0 where

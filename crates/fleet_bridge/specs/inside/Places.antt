@@ -5,8 +5,8 @@ use Rattle.fleet_grid.specs.declared.dir.Dir.{Dir}
 use Rattle.fleet_grid.specs.declared.dir.Dir.TheVariants.{North, East, South, West}
 use Rattle.fleet_grid.specs.Padded.{IsOpen, IsPadded, place}
 use Rattle.fleet_grid.specs.Walk.{AreJoined}
-use Rattle.fleet_bridge.specs.First.{HasNoneBeside, HasNone}
-use Rattle.fleet_bridge.specs.Search.{NearWithout}
+use Rattle.fleet_bridge.specs.inside.First.{HasNoneBeside, HasNone}
+use Rattle.fleet_bridge.specs.inside.Search.{NearWithout}
 use Rattle.fleet_bridge.specs.declared.places.Spot.{Spot}
 
 -- the map's padded form

@@ -1,0 +1,7 @@
+-- What only proofs and private functions use.
+pub mod First
+pub mod Places
+pub mod Search
+pub mod Sides
+pub mod Spanning
+pub mod Tree
