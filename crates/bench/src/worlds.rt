@@ -54,18 +54,12 @@ pub(crate) fn measure_world<R: Alloc<A = Global> + Clock + Print + Threads + Syn
 {
     let alloc = rt.alloc();
     let count = starts.len();
-    let mut hooks = Hooks {
-        ties: Vec::with_capacity(alloc, count)?,
-        arrivals: Vec::with_capacity(alloc, count)?,
-        farewells: Vec::with_capacity(alloc, count)?,
-    };
+    let mut hooks = Hooks::new(alloc);
     for _robot in 0..count {
         let tie = TieHook::new(ANY, Box::new(alloc, |_view: TieView| 0)?);
-        hooks.ties.push(tie)?;
         let arrival = ArrivalHook::new(STAMPS, Box::new(alloc, |_view: ArrivalView| 0)?);
-        hooks.arrivals.push(arrival)?;
         let farewell = Farewell::new(STAMPS, Box::new(alloc, |_view: FarewellView| 0)?);
-        hooks.farewells.push(farewell)?;
+        hooks.push(tie, arrival, farewell)?;
     }
     let grid = grid_of(alloc, kind)?;
     let Ok(mut world) = World::open(alloc, grid, starts, 1, LIMITS, hooks) else {

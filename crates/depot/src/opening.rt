@@ -41,19 +41,6 @@ const LIMITS: Limits = Limits {
     ..Limits::DEFAULT
 };
 
-/// Adds the closures of one more robot.
-fn add(
-    hooks: &mut Hooks,
-    tie: TieHook,
-    arrival: ArrivalHook,
-    farewell: Farewell,
-) -> Result<(), AllocError> {
-    hooks.ties.push(tie)?;
-    hooks.arrivals.push(arrival)?;
-    hooks.farewells.push(farewell)?;
-    Ok(())
-}
-
 /// What the threads share, where there is a robot and a cell to send it to.
 fn shift_of(settings: &Settings, cells: Vec<u32>) -> Option<Shift> {
     if settings.robots == 0 || cells.is_empty() {
@@ -78,16 +65,12 @@ fn opened_day<R: Alloc<A = Global> + Threads + Sync + Wait>(
     let grid = warehouse(alloc)?;
     let cells = floor_of(alloc, &grid)?;
     let starts = starts_on(alloc, &cells, settings.robots)?;
-    let mut hooks = Hooks {
-        ties: Vec::new(alloc),
-        arrivals: Vec::new(alloc),
-        farewells: Vec::new(alloc),
-    };
+    let mut hooks = Hooks::new(alloc);
     for _robot in 0..settings.robots {
         let tie = TieHook::new(ANY, Box::new(alloc, |_view: TieView| 0)?);
         let arrival = ArrivalHook::new(STAMPS, Box::new(alloc, |_view: ArrivalView| 0)?);
         let farewell = Farewell::new(STAMPS, Box::new(alloc, |_view: FarewellView| 0)?);
-        add(&mut hooks, tie, arrival, farewell)?;
+        hooks.push(tie, arrival, farewell)?;
     }
     let Some(shift) = shift_of(settings, cells) else {
         return Ok(Err(DayFault::Opening(OpenFault::NoRobots)));

@@ -40,28 +40,6 @@ const SOUTH_FIRST: TieLaw = TieLaw {
     high: [9, 9, 0, 9],
 };
 
-/// No closures yet.
-fn no_hooks(alloc: Global) -> Hooks {
-    Hooks {
-        ties: Vec::new(alloc),
-        arrivals: Vec::new(alloc),
-        farewells: Vec::new(alloc),
-    }
-}
-
-/// Adds the closures of one more robot.
-fn add(
-    hooks: &mut Hooks,
-    tie: TieHook,
-    arrival: ArrivalHook,
-    farewell: Farewell,
-) -> Result<(), AllocError> {
-    hooks.ties.push(tie)?;
-    hooks.arrivals.push(arrival)?;
-    hooks.farewells.push(farewell)?;
-    Ok(())
-}
-
 /// Makes the program's closures and does the job with them.
 fn run_with_closures<R: Alloc<A = Global> + Threads + Sync + Wait, I: Read, W: Write, E: Write>(
     rt: &R,
@@ -74,8 +52,8 @@ fn run_with_closures<R: Alloc<A = Global> + Threads + Sync + Wait, I: Read, W: W
     requires { is_some other ≡ names_two job.now }
 {
     let alloc = rt.alloc();
-    let mut plain = no_hooks(alloc);
-    let mut south = no_hooks(alloc);
+    let mut plain = Hooks::new(alloc);
+    let mut south = Hooks::new(alloc);
     for _ in 0..ROBOTS {
         let tie = |_view: TieView| -> u8
             ensures { result ≡ 0 }
@@ -89,7 +67,7 @@ fn run_with_closures<R: Alloc<A = Global> + Threads + Sync + Wait, I: Read, W: W
         let tie = TieHook::new(ALIKE, Box::new(alloc, tie)?);
         let arrival = ArrivalHook::new(NOUGHT, Box::new(alloc, arrival)?);
         let farewell = Farewell::new(NOUGHT, Box::new(alloc, farewell)?);
-        add(&mut plain, tie, arrival, farewell)?;
+        plain.push(tie, arrival, farewell)?;
         let tie = |view: TieView| -> u8
             ensures { IsRank SOUTH_FIRST view.dir result }
         { if view.dir == Dir::South { 0 } else { 1 } };
@@ -100,7 +78,7 @@ fn run_with_closures<R: Alloc<A = Global> + Threads + Sync + Wait, I: Read, W: W
         let tie = TieHook::new(SOUTH_FIRST, Box::new(alloc, tie)?);
         let arrival = ArrivalHook::new(BELOW_THOUSAND, Box::new(alloc, arrival)?);
         let farewell = Farewell::new(ANY, Box::new(alloc, farewell)?);
-        add(&mut south, tie, arrival, farewell)?;
+        south.push(tie, arrival, farewell)?;
     }
     let kit = HookKit { plain, south };
     Ok(run_program(rt, job, map, other, output, error, kit))

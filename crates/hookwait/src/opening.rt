@@ -48,19 +48,6 @@ fn two_cells(alloc: Global) -> Result<Grid, AllocError> {
     })
 }
 
-/// The closures of the one robot.
-fn add(
-    hooks: &mut Hooks,
-    tie: TieHook,
-    arrival: ArrivalHook,
-    farewell: Farewell,
-) -> Result<(), AllocError> {
-    hooks.ties.push(tie)?;
-    hooks.arrivals.push(arrival)?;
-    hooks.farewells.push(farewell)?;
-    Ok(())
-}
-
 /// What came out of a case, or no memory to open it. The robot's closure waits for the clients at its first call, and the
 /// closures answer 0.
 fn opened_play<R: Alloc<A = Global> + Threads + Sync + Wait>(
@@ -79,12 +66,8 @@ fn opened_play<R: Alloc<A = Global> + Threads + Sync + Wait>(
     let tie = TieHook::new(ANY, Box::new(alloc, waits)?);
     let arrival = ArrivalHook::new(STAMPS, Box::new(alloc, |_view: ArrivalView| 0)?);
     let farewell = Farewell::new(STAMPS, Box::new(alloc, |_view: FarewellView| 0)?);
-    let mut hooks = Hooks {
-        ties: Vec::new(alloc),
-        arrivals: Vec::new(alloc),
-        farewells: Vec::new(alloc),
-    };
-    add(&mut hooks, tie, arrival, farewell)?;
+    let mut hooks = Hooks::new(alloc);
+    hooks.push(tie, arrival, farewell)?;
     let grid = two_cells(alloc)?;
     let starts = Vec::from_slice(alloc, &[0u32])?;
     let shared = Shared {

@@ -54,19 +54,6 @@ fn grid_of<A: Allocator + Copy>(heap: A, case: &Case) -> Result<Option<Grid<A>>,
     Ok(Some(Grid::new(map)?))
 }
 
-/// Adds the closures of one more robot.
-fn add<A: Allocator + Copy>(
-    hooks: &mut Hooks<A>,
-    tie: TieHook,
-    arrival: ArrivalHook,
-    farewell: Farewell,
-) -> Result<(), AllocError> {
-    hooks.ties.push(tie)?;
-    hooks.arrivals.push(arrival)?;
-    hooks.farewells.push(farewell)?;
-    Ok(())
-}
-
 /// Plays a row with closures that answer 0, or says why it was not opened.
 fn opened_play<'a, R: Wait>(
     rt: &'a R,
@@ -78,16 +65,12 @@ fn opened_play<'a, R: Wait>(
     let Some(grid) = grid_of(heap, case)? else {
         return Ok(Err(OpenFault::NoRobots));
     };
-    let mut hooks = Hooks {
-        ties: Vec::new(heap),
-        arrivals: Vec::new(heap),
-        farewells: Vec::new(heap),
-    };
+    let mut hooks = Hooks::new(heap);
     for _robot in case.starts {
         let tie = TieHook::new(ANY, Box::new(alloc, |_view: TieView| 0)?);
         let arrival = ArrivalHook::new(STAMPS, Box::new(alloc, |_view: ArrivalView| 0)?);
         let farewell = Farewell::new(STAMPS, Box::new(alloc, |_view: FarewellView| 0)?);
-        add(&mut hooks, tie, arrival, farewell)?;
+        hooks.push(tie, arrival, farewell)?;
     }
     let fleet = Fleet {
         grid,

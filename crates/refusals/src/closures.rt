@@ -24,28 +24,6 @@ const ALIKE: TieLaw = TieLaw {
 
 const NOUGHT: StampLaw = StampLaw { low: 0, high: 0 };
 
-/// No closures yet.
-fn no_hooks<A: Allocator + Copy>(lists: A) -> Hooks<A> {
-    Hooks {
-        ties: Vec::new(lists),
-        arrivals: Vec::new(lists),
-        farewells: Vec::new(lists),
-    }
-}
-
-/// Adds the closures of one more robot.
-fn add<A: Allocator + Copy>(
-    hooks: &mut Hooks<A>,
-    tie: TieHook,
-    arrival: ArrivalHook,
-    farewell: Farewell,
-) -> Result<(), AllocError> {
-    hooks.ties.push(tie)?;
-    hooks.arrivals.push(arrival)?;
-    hooks.farewells.push(farewell)?;
-    Ok(())
-}
-
 /// Plays the first `last` calls of a row, of which the growth behind `before` others is refused.
 pub(crate) fn play(
     alloc: Global,
@@ -60,7 +38,7 @@ pub(crate) fn play(
         Err(stage) => return Ok(Err(stage)),
     };
     let stamped = Arc::new(alloc, AtomicU64::new(0))?;
-    let mut hooks = no_hooks(&heap);
+    let mut hooks = Hooks::new(&heap);
     for _robot in 0..script.starts.len() {
         let (arrivals, farewells) = (Arc::try_clone(&stamped)?, Arc::try_clone(&stamped)?);
         let tie = |_view: TieView| -> u8
@@ -75,7 +53,7 @@ pub(crate) fn play(
         let tie = TieHook::new(ALIKE, Box::new(alloc, tie)?);
         let arrival = ArrivalHook::new(NOUGHT, Box::new(alloc, arrival)?);
         let farewell = Farewell::new(NOUGHT, Box::new(alloc, farewell)?);
-        if add(&mut hooks, tie, arrival, farewell).is_err() {
+        if hooks.push(tie, arrival, farewell).is_err() {
             return Ok(Err(Stage::Lists));
         }
     }
@@ -117,7 +95,7 @@ pub(crate) fn run_row<R: Alloc<A = Global> + Threads + Sync>(
         Ok(read) => read,
         Err(stage) => return Ok(Err(stage)),
     };
-    let mut hooks = no_hooks(&heap);
+    let mut hooks = Hooks::new(&heap);
     for _robot in 0..script.starts.len() {
         let tie = |_view: TieView| -> u8
             ensures { result ≡ 0 }
@@ -131,7 +109,7 @@ pub(crate) fn run_row<R: Alloc<A = Global> + Threads + Sync>(
         let tie = TieHook::new(ALIKE, Box::new(alloc, tie)?);
         let arrival = ArrivalHook::new(NOUGHT, Box::new(alloc, arrival)?);
         let farewell = Farewell::new(NOUGHT, Box::new(alloc, farewell)?);
-        if add(&mut hooks, tie, arrival, farewell).is_err() {
+        if hooks.push(tie, arrival, farewell).is_err() {
             return Ok(Err(Stage::Lists));
         }
     }

@@ -44,19 +44,6 @@ impl From<AllocError> for PlayFault {
     }
 }
 
-/// Adds the closures of one more robot.
-fn add(
-    hooks: &mut Hooks,
-    tie: TieHook,
-    arrival: ArrivalHook,
-    farewell: Farewell,
-) -> Result<(), AllocError> {
-    hooks.ties.push(tie)?;
-    hooks.arrivals.push(arrival)?;
-    hooks.farewells.push(farewell)?;
-    Ok(())
-}
-
 /// Serves the script, with closures for its robots that stand where the flags say so.
 fn serve_with<R: Alloc<A = Global> + Threads + Sync + Wait>(
     rt: &R,
@@ -68,11 +55,7 @@ fn serve_with<R: Alloc<A = Global> + Threads + Sync + Wait>(
     requires lines { All (IsLine script.now.clients) script.now.events.items }
 {
     let alloc = rt.alloc();
-    let mut hooks = Hooks {
-        ties: Vec::new(alloc),
-        arrivals: Vec::new(alloc),
-        farewells: Vec::new(alloc),
-    };
+    let mut hooks = Hooks::new(alloc);
     for _robot in &script.starts {
         let own = Arc::try_clone(flags)?;
         let tie = move |_view: TieView| -> u8
@@ -90,7 +73,7 @@ fn serve_with<R: Alloc<A = Global> + Threads + Sync + Wait>(
         let tie = TieHook::new(RANKS, Box::new(alloc, tie)?);
         let arrival = ArrivalHook::new(STAMPS, Box::new(alloc, arrival)?);
         let farewell = Farewell::new(STAMPS, Box::new(alloc, farewell)?);
-        add(&mut hooks, tie, arrival, farewell)?;
+        hooks.push(tie, arrival, farewell)?;
     }
     Ok(serve(rt, grid, script, hooks, flags.as_ref()))
 }

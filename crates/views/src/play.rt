@@ -155,19 +155,6 @@ fn grid_of(alloc: Global, row: &Row) -> Result<Option<Grid>, AllocError> {
     Ok(Some(Grid::new(map)?))
 }
 
-/// Adds the closures of one more robot.
-fn add(
-    hooks: &mut Hooks,
-    tie: TieHook,
-    arrival: ArrivalHook,
-    farewell: Farewell,
-) -> Result<(), AllocError> {
-    hooks.ties.push(tie)?;
-    hooks.arrivals.push(arrival)?;
-    hooks.farewells.push(farewell)?;
-    Ok(())
-}
-
 /// Runs a row with these closures, and compares what they noted.
 fn find<R: Alloc<A = Global> + Threads + Sync>(
     rt: &R,
@@ -191,11 +178,7 @@ fn find_noted<R: Alloc<A = Global> + Threads + Sync>(
     note: &Arc<AtomicU64>,
 ) -> Result<Finding, AllocError> {
     let alloc = rt.alloc();
-    let mut hooks = Hooks {
-        ties: Vec::new(alloc),
-        arrivals: Vec::new(alloc),
-        farewells: Vec::new(alloc),
-    };
+    let mut hooks = Hooks::new(alloc);
     for robot in 0..3u32 {
         let (ties, arrivals) = (Arc::try_clone(note)?, Arc::try_clone(note)?);
         let farewells = Arc::try_clone(note)?;
@@ -208,7 +191,7 @@ fn find_noted<R: Alloc<A = Global> + Threads + Sync>(
         let tie = TieHook::new(RANKS, Box::new(alloc, tie)?);
         let arrival = ArrivalHook::new(STAMPS, Box::new(alloc, arrival)?);
         let farewell = Farewell::new(STAMPS, Box::new(alloc, farewell)?);
-        add(&mut hooks, tie, arrival, farewell)?;
+        hooks.push(tie, arrival, farewell)?;
     }
     find(rt, row, grid, hooks, note)
 }

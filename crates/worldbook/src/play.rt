@@ -37,19 +37,6 @@ fn grid_of(alloc: Global, row: &Row) -> Result<Option<Grid>, AllocError> {
     Ok(Some(Grid::new(map)?))
 }
 
-/// Adds the closures of one more robot.
-fn add(
-    hooks: &mut Hooks,
-    tie: TieHook,
-    arrival: ArrivalHook,
-    farewell: Farewell,
-) -> Result<(), AllocError> {
-    hooks.ties.push(tie)?;
-    hooks.arrivals.push(arrival)?;
-    hooks.farewells.push(farewell)?;
-    Ok(())
-}
-
 /// The lines of so many ticks.
 fn ticks<R: Alloc<A = Global>>(
     rt: &R,
@@ -102,16 +89,12 @@ pub(crate) fn play<R: Alloc<A = Global>>(rt: &R, row: &Row) -> Result<String, Al
     let Some(grid) = grid_of(alloc, row)? else {
         return format!(in alloc; "{}: no map\n", row.name);
     };
-    let mut hooks = Hooks {
-        ties: Vec::new(alloc),
-        arrivals: Vec::new(alloc),
-        farewells: Vec::new(alloc),
-    };
+    let mut hooks = Hooks::new(alloc);
     for _robot in 0..row.hooked {
         let tie = TieHook::new(RANKS, Box::new(alloc, |_view: TieView| 0)?);
         let arrival = ArrivalHook::new(STAMPS, Box::new(alloc, |view: ArrivalView| view.cell)?);
         let farewell = Farewell::new(STAMPS, Box::new(alloc, |view: FarewellView| view.cell)?);
-        add(&mut hooks, tie, arrival, farewell)?;
+        hooks.push(tie, arrival, farewell)?;
     }
     let starts = Vec::from_slice(alloc, row.starts)?;
     match World::open(alloc, grid, starts, 1, row.limits, hooks) {
