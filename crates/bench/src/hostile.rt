@@ -34,7 +34,7 @@ pub(crate) fn measure_hostile<R: Alloc<A = Global> + Clock + Print>(
 }
 
 /// The grid of a map's text.
-fn read_grid(alloc: Global, text: &[u8]) -> io::Result<Grid> {
+pub(crate) fn read_grid(alloc: Global, text: &[u8]) -> io::Result<Grid> {
     match read_map(alloc, text) {
         Ok(map) => Ok(Grid::new(map)?),
         Err(_) => Err(io::Error::from(ErrorKind::InvalidData)),
@@ -68,11 +68,8 @@ fn time_run<R: Alloc<A = Global> + Clock>(rt: &R, grid: Grid) -> io::Result<u128
     let tie = TieHook::new(ANY, Box::new(alloc, |_view: TieView| 0)?);
     let arrival = ArrivalHook::new(STAMPS, Box::new(alloc, |_view: ArrivalView| 0)?);
     let farewell = Farewell::new(STAMPS, Box::new(alloc, |_view: FarewellView| 0)?);
-    let hooks = Hooks {
-        ties: vec![in alloc; tie]?,
-        arrivals: vec![in alloc; arrival]?,
-        farewells: vec![in alloc; farewell]?,
-    };
+    let mut hooks = Hooks::new(alloc);
+    hooks.push(tie, arrival, farewell)?;
     let starts = Vec::from_slice(alloc, &[first])?;
     let Ok(mut world) = World::open(alloc, grid, starts, 1, LIMITS, hooks) else {
         return Err(io::Error::from(ErrorKind::OutOfMemory));

@@ -5,10 +5,12 @@ ghost use Rattle.bench.specs.Kernels.{kernel_named};
 
 use crate::bridges::measure_bridge;
 use crate::checks::measure_check;
+use crate::crowd::tell_crowd;
 use crate::fields::{measure_field, measure_fields};
 use crate::hostile::measure_hostile;
 use crate::kind::Kind;
 use crate::lifelong::measure_lifelong;
+use crate::maps::tell_maps;
 use crate::shape::Shape;
 use crate::steps::measure_step;
 use crate::ticks::measure_tick;
@@ -36,6 +38,8 @@ pub enum Kernel {
     Lifelong,
     /// Whole maps of a hostile shape, in milliseconds.
     Hostile,
+    /// The maps themselves, and the steps of a full one: nothing is timed.
+    Maps,
 }
 
 impl Kernel {
@@ -52,6 +56,7 @@ impl Kernel {
             "tick" => Some(Kernel::Tick),
             "lifelong" => Some(Kernel::Lifelong),
             "hostile" => Some(Kernel::Hostile),
+            "maps" => Some(Kernel::Maps),
             _ => None,
         }
     }
@@ -71,5 +76,9 @@ pub(crate) fn run<R: Alloc<A = Global> + Clock + Print + Threads + Sync>(
         Kernel::Tick => measure_tick(rt, &[Kind::Warehouse, Kind::Open]),
         Kernel::Lifelong => measure_lifelong(rt, &[Kind::Warehouse, Kind::Open]),
         Kernel::Hostile => measure_hostile(rt, &Shape::ALL),
+        Kernel::Maps => {
+            tell_maps(rt, &Kind::ALL, &Shape::ALL)?;
+            tell_crowd(rt)
+        }
     }
 }

@@ -1,6 +1,6 @@
 use Rattle.std.proofs.Common.{◌≡◌, length, vec_len}
 use Rattle.bench.specs.Fleet.{IsUnderWay}
-use Rattle.bench.proofs.tests.count_moves.Given as goal
+use Rattle.bench.proofs.crowd.count_steps.Given as goal
 
 abbrev pub invariant-loop-tick : goal.invariant-loop-tick
 invariant-loop-tick g l = record {

@@ -1,0 +1,103 @@
+//! A full map, each of whose steps is checked.
+
+ghost use Rattle.std.specs.Prelude.{◌≡◌, ◌<◌, ◌≤◌, length, vec_len};
+ghost use Rattle.bench.specs.Fleet.{Serves, IsUnderWay};
+
+use crate::fleet::Fleet;
+use crate::random::Random;
+use crate::site::Site;
+use crate::steps::ANY;
+use fleet_check::check_step;
+use fleet_field::Compass;
+use fleet_grid::Grid;
+use fleet_hooks::{TieHook, TieView};
+use fleet_map::MapText;
+use fleet_pibt::Stepper;
+use std::alloc::{Alloc, AllocError, Global};
+use std::io;
+
+/// How many robots there are: one for each cell.
+const ROBOTS: usize = 512;
+
+/// How many steps are made.
+const STEPS: u32 = 200;
+
+/// What came of the steps.
+#[derive(Clone, Copy, Debug, PartialEq, Eq)]
+struct Steps {
+    /// Those without a conflict.
+    free: u32,
+    /// Those in which somebody moved.
+    moved: u32,
+}
+
+/// A map of 16 by 32 cells, all floor.
+fn hall(alloc: Global) -> Result<Grid, AllocError> {
+    let cells = vec![in alloc; b'.'; ROBOTS]?;
+    Grid::new(MapText {
+        height: 16,
+        width: 32,
+        cells,
+    })
+}
+
+/// Makes the steps, with goals that change where they are reached.
+fn count_steps(
+    alloc: Global,
+    site: &Site,
+    fields: &[Compass],
+    fleet: &mut Fleet,
+    stepper: &mut Stepper,
+    ties: &[TieHook],
+) -> Steps
+    requires some { 0 < length fields.now }
+    requires serves { Serves site.now.grid site.now.home fields.now }
+    requires way { IsUnderWay site.now.grid site.now.home (length fields.now) fleet.old.from.items fleet.old.to.items fleet.old.waits.items fleet.old.aims.items }
+    requires tied { length ties.now ≡ vec_len fleet.old.from }
+    requires made { stepper.old ≡ record { cells = length site.now.grid.letters; robots = vec_len fleet.old.from } }
+{
+    let mut random = Random::from_seed(5);
+    let mut steps = Steps { free: 0, moved: 0 };
+    for tick in 0..STEPS {
+        fleet.step(site, fields, stepper, ties, u64::from(tick));
+        let is_free = check_step(alloc, &site.grid, &fleet.to, &fleet.from) == Ok(());
+        steps.free = steps.free.saturating_add(u32::from(is_free));
+        steps.moved = steps
+            .moved
+            .saturating_add(u32::from(fleet.to != fleet.from));
+        fleet.arrive(site, fields, &mut random);
+    }
+    steps
+}
+
+/// A robot on each cell, each with one of 32 goals; none where the starts do not fill the map.
+fn crowd(alloc: Global) -> Result<Option<Steps>, AllocError> {
+    let Some(site) = Site::new(alloc, hall(alloc)?)? else {
+        return Ok(None);
+    };
+    let mut random = Random::from_seed(3);
+    let fields = site.fields(alloc, 32, &mut random)?;
+    let starts = site.starts(alloc, ROBOTS, &mut random)?;
+    let mut ties = Vec::with_capacity(alloc, ROBOTS)?;
+    for _ in 0..ROBOTS {
+        ties.push(TieHook::new(ANY, Box::new(alloc, |_view: TieView| 0)?))?;
+    }
+    if starts.len() != ROBOTS || ties.len() != ROBOTS {
+        return Ok(None);
+    }
+    let mut fleet = Fleet::new(alloc, &site, starts, 32)?;
+    let mut stepper = Stepper::new(alloc, site.grid.cell_count(), ROBOTS as u32)?;
+    let steps = count_steps(alloc, &site, &fields, &mut fleet, &mut stepper, &ties);
+    Ok(Some(steps))
+}
+
+/// A line of the steps: how many have no conflict, and whether in three of four somebody moved.
+pub(crate) fn tell_crowd<R: Alloc<A = Global> + Print>(rt: &R) -> io::Result<()> {
+    match crowd(rt.alloc())? {
+        Some(Steps { free, moved }) => {
+            let moves = moved >= STEPS / 4 * 3;
+            println!(rt; "crowd fleet={ROBOTS} steps={STEPS} free={free} moves={moves}")
+        }
+        None => println!(rt; "crowd: the map is not full"),
+    }
+}
