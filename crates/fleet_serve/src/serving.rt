@@ -10,7 +10,7 @@ ghost use Rattle.fleet_history.specs.Laws.{EachTick};
 ghost use Rattle.fleet_plan.specs.Planned.{IsAdvancingTick};
 ghost use Rattle.fleet_core.specs.Hooks.{laws_of};
 ghost use Rattle.fleet_world.specs.Opening.{IsNamed as IsNamedFault, IsRefused};
-ghost use Rattle.fleet_office.specs.Views.{IsNamed};
+ghost use Rattle.fleet_office.specs.Views.{AreOn, IsNamed, cores};
 ghost use Rattle.fleet_serve.specs.inside.Faults.{IsLater};
 ghost use Rattle.fleet_serve.specs.Posted.{IsLine, AreNew, TakesPosted, TakesAll, AreLastNotices};
 
@@ -24,6 +24,7 @@ use crate::shift::Shift;
 use crate::threads::{Home, work_all};
 use fleet_grid::Grid;
 use fleet_hooks::Hooks;
+use fleet_lanes::Client;
 use fleet_office::{ConcludeFault, Desk, Office, Ticker};
 use fleet_script::Script;
 use fleet_world::OpenFault;
@@ -91,6 +92,30 @@ fn conclude<N: ScriptName, R: Alloc<A = Global> + Wait>(
     }
 }
 
+/// Lets the clients of an office that was just opened run their lines, beside two tickers.
+fn work<N: ScriptName + Send + Sync, R: Alloc<A = Global> + Threads + Sync + Wait, G: Gate + Sync>(
+    rt: &R,
+    office: &Office<N>,
+    clients: Vec<Client>,
+    ticker: Ticker<N>,
+    script: &Script,
+    gate: &G,
+) -> Result<Home<N>, ServeFault>
+    requires on { AreOn N.rings (cores clients.items) }
+    requires fresh { AreNew N.orders clients.items }
+    requires events { script.now.events.items ≡ N.events }
+    ensures { IfErr result (λ fault. IsLater fault) }
+{
+    let mut first = ticker;
+    // A ticker that was just opened has all parts of the ledger, so no call ends here.
+    let Some(second) = first.split() else {
+        return Err(ServeFault::NoMemory);
+    };
+    let newcomers = newcomers_of::<N>(rt.alloc(), clients)?;
+    let shift = Shift::new(&script.events, gate);
+    work_all(rt, office, newcomers, (first, second), script.turns, &shift)
+}
+
 /// Opens an office over the desk, lets clients and tickers work side by side, and concludes.
 fn serve_at<
     N: ScriptName + Send + Sync,
@@ -125,24 +150,11 @@ fn serve_at<
 {
     let alloc = rt.alloc();
     let starts = Vec::from_slice(alloc, &script.starts)?;
-    let (office, clients, mut first) = match Office::<N>::open(alloc, desk, grid, starts, hooks) {
+    let (office, clients, ticker) = match Office::<N>::open(alloc, desk, grid, starts, hooks) {
         Ok(opened) => opened,
         Err(fault) => return Err(opening_fault(fault)),
     };
-    // A ticker that was just opened has all parts of the ledger, so no call ends here.
-    let Some(second) = first.split() else {
-        return Err(ServeFault::NoMemory);
-    };
-    let newcomers = newcomers_of::<N>(alloc, clients)?;
-    let shift = Shift::new(&script.events, gate);
-    let home = work_all(
-        rt,
-        &office,
-        newcomers,
-        (first, second),
-        script.turns,
-        &shift,
-    )?;
+    let home = work(rt, &office, clients, ticker, script, gate)?;
     conclude(rt, office, home)
 }
 

@@ -5,8 +5,8 @@ use Rattle.fleet_serve.specs.Posted.{AreNew, TakesPosted, TakesAll, AreLastNotic
 use Rattle.fleet_serve.proofs.Faults.{opens-err, opens-ok}
 use Rattle.fleet_serve.proofs.serving.serve_at.Goals as goal
 
-pub newcomers_of-requires-clause-fresh : goal.newcomers_of-requires-clause-fresh
-newcomers_of-requires-clause-fresh g c = subst (AreNew g.N.ScriptName.orders) (sym c.in-Ok.ensures.clients.0) c.requires.fresh
+pub work-requires-clause-fresh : goal.work-requires-clause-fresh
+work-requires-clause-fresh g c κs within = subst (AreNew g.N.ScriptName.orders) (sym c.in-Ok.ensures.clients.0) c.requires.fresh
 
 pub returns-clause-posted : goal.returns-clause-posted
 returns-clause-posted g c =
