@@ -11,6 +11,7 @@ ghost use Rattle.fleet_plan.specs.Planned.{IsAdvancingTick};
 ghost use Rattle.fleet_core.specs.Hooks.{laws_of};
 ghost use Rattle.fleet_world.specs.Opening.{IsRefused, IsNamed as IsNamedFault};
 ghost use Rattle.fleet_office.specs.Views.{IsNamed, AreOn, cores};
+ghost use Rattle.fleet_office.specs.Hall.{HallView, IsLawful, Turns, StopsTurn};
 ghost use Rattle.fleet_office.specs.Concluded.{AreTold, HasAll, IsUnconcluded};
 ghost use Rattle.fleet_office.specs.Shown.{Shows};
 ghost use Rattle.fleet_office.specs.Shut.{AnswersShut};
@@ -111,10 +112,15 @@ impl<N: OfficeName<A>, A: Allocator + Copy> Office<N, A> {
     /// Hands the chapter out and begins the next, whose opening is the state now.
     pub fn next_chapter<R: Wait>(&self, rt: &R) -> Result<Chapter<A>, ChapterFault>
         requires { 0 ≤ 1 }
-        ensures { IfOk result (λ chapter. (m : Floor) × IsLegal m (history_of chapter)
+        ensures handed { IfOk result (λ chapter. (m : Floor) × IsLegal m (history_of chapter)
             × (IsBridgeless (IsNeighbour m) → EachTick (IsAdvancingTick m) (history_of chapter))) }
+        ensures spent { (result ≡ Err ChapterFault.BookSpent) →
+            (h : HallView A) × IsLawful N.rings h.world h.ends h.total × (h.world.number + 1 ≡ h.world.limits.chapters) }
     {
-        self.hall.lock(rt).next_chapter()
+        let mut held = self.hall.lock(rt);
+        let hall = &mut *held;
+        hall.rest.lawful();
+        hall.next_chapter()
     }
 
     /// What the office shows: no fewer ticks than the ticker made.
@@ -139,7 +145,7 @@ impl<N: OfficeName<A>, A: Allocator + Copy> Office<N, A> {
 }
 
 impl<N: OfficeName<A>, A: Allocator + Copy> Office<N, A> {
-    /// A turn.
+    /// A turn, of the hall as it stands when the lock is held.
     pub fn turn<R: Alloc<A = A> + Wait>(
         &self,
         rt: &R,
@@ -149,7 +155,12 @@ impl<N: OfficeName<A>, A: Allocator + Copy> Office<N, A> {
         ensures ticker { IfOk result (λ r. (ticker.new ≡ record { count = ticker.old.count + 1; parts = ticker.old.parts })
             × IfSome r.tick (λ t. ticker.new.count ≤ t)) }
         ensures kept { OnErr result (ticker.new ≡ ticker.old) }
+        ensures turned { IfOk result (λ r. (h g : HallView A) × IsLawful N.rings h.world h.ends h.total × Turns h r g) }
+        ensures stopped { IfErr result (λ e. (h g : HallView A) × IsLawful N.rings h.world h.ends h.total × StopsTurn h e g) }
     {
-        self.hall.lock(rt).turn(rt, ticker)
+        let mut held = self.hall.lock(rt);
+        let hall = &mut *held;
+        hall.rest.lawful();
+        hall.turn(rt, ticker)
     }
 }
