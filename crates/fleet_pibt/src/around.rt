@@ -3,7 +3,7 @@
 ghost use Rattle.std.specs.Prelude.{◌≡◌, ℕ, ◌%◌, ◌<◌, ◌≤◌, length, slice_index};
 ghost use Rattle.fleet_grid.specs.Floor.{IsFloor};
 ghost use Rattle.fleet_grid.specs.declared.dir.Dir.TheVariants.{East, West};
-ghost use Rattle.fleet_pibt.specs.Around.{IsSide, IsSpot, IsAround, AreArounds, AreAsked, cell_in};
+ghost use Rattle.fleet_pibt.specs.Around.{IsSide, IsSpot, IsAround, AreArounds, IsAsked, AreAsked, cell_in};
 
 use crate::goals::Goals;
 use fleet_grid::{Dir, Grid};
@@ -101,6 +101,13 @@ fn look<A: Allocator + Copy>(grid: &Grid<A>, own: u32, nearer: u8) -> Around
     }
 }
 
+/// The ways that lead the robot nearer to its goal.
+fn asked<G: Goals, A: Allocator + Copy>(grid: &Grid<A>, goals: &G, robot: u32, own: u32) -> u8
+    ensures { IsAsked grid.now (G.goal_of goals.now robot) (G.distance goals.now robot) own result }
+{
+    goals.ways(grid, robot, own)
+}
+
 /// Writes down which ways lead each robot nearer to its goal. The robots' fields lie far apart in memory: asked one right
 /// after another, many of them are fetched at once.
 fn ask<G: Goals, A: Allocator + Copy>(
@@ -114,7 +121,7 @@ fn ask<G: Goals, A: Allocator + Copy>(
     ensures { AreAsked grid.now (G.goal_of goals.now) (G.distance goals.now) from.now arounds.new }
 {
     for (robot, seen) in arounds.iter_mut().enumerate() {
-        seen.nearer = goals.ways(grid, robot as u32, from[robot]);
+        seen.nearer = asked(grid, goals, robot as u32, from[robot]);
     }
 }
 
