@@ -50,8 +50,8 @@ rated-cost false nearer dir c w own tells p e = let q = p.far (λ way. cc (tells
 
 pub candidate-from : (s : Setting) (robot : ℕ) (dir : Dir) (around : Around) (cell price rank rank' side : ℕ) (is_near : Bool) (law : TieLaw) → IsAround s.floor (cell_of s robot) around → cell ≡ cell_in around dir →
     cell ≢ around.own → ((w : ℕ) → IsNeighbourIn s.floor dir (cell_of s robot) w → IsRated around.nearer dir (cost s robot w) (cost s robot (cell_of s robot))) → IsTrue is_near ↔ IsWay around.nearer dir → price ≡ cond is_near 0 2 →
-    rank' ≡ rank → side ≡ dir_number dir → IsRank law dir rank → ((l : TieLaw) → slice_get s.laws robot ≡ Some l → law ≡ l) →
-    IsCandidate s robot (record { cost = price; rank = rank' + 1; side = side; cell = cell })
+    rank' ≡ rank + 1 → side ≡ dir_number dir → IsRank law dir rank → ((l : TieLaw) → slice_get s.laws robot ≡ Some l → law ≡ l) →
+    IsCandidate s robot (record { cost = price; rank = rank'; side = side; cell = cell })
 candidate-from s robot dir around cell price rank rank' side is_near law seen is ne rated tells low same place within tied =
     let step = spot-beside s.floor (cell_of s robot) dir around cell seen is ne in
     record {
@@ -60,7 +60,7 @@ candidate-from s robot dir around cell price rank rank' side is_near law seen is
         dir = dir;
         step = step;
         side = place;
-        ranked = omega arith;
+        ranked = omega (arith, same);
         within = λ l e. (let it = subst (λ (x : TieLaw). IsRank x dir rank) (tied l e) within in (omega (arith, it.low, same), omega (arith, it.high, same)));
       });
     }

@@ -1,6 +1,6 @@
 //! The sight of a step over a map, a placement, goals and tie closures.
 
-ghost use Rattle.std.specs.Prelude.{◌≡◌, ℕ, ◌<◌, cond, length, map, slice_get, slice_index, Some};
+ghost use Rattle.std.specs.Prelude.{◌≡◌, ℕ, ◌+◌, ◌<◌, cond, length, map, slice_get, slice_index, Some};
 ghost use Rattle.fleet_grid.specs.Floor.{IsNeighbourIn};
 ghost use Rattle.fleet_pibt.specs.Setting.{setting};
 ghost use Rattle.fleet_pibt.specs.Around.{IsWhole};
@@ -21,6 +21,13 @@ fn cost_beside(is_nearer: bool) -> u8
     ensures { result ≡ cond is_nearer 0 2 }
 {
     if is_nearer { 0 } else { 2 }
+}
+
+/// The rank of a neighbour that the tie closure ranks so, beside 0 for the own cell.
+fn rank_beside(rank: u8) -> u16
+    ensures { result ≡ rank + 1 }
+{
+    u16::from(rank) + 1
 }
 
 /// What the plan of one step is made from.
@@ -131,10 +138,9 @@ impl<'a, G: Goals, A: Allocator + Copy> Scene<'a, G, A> {
             dir,
             tick: self.tick,
         };
-        let rank = u16::from(self.ties[robot as usize].rank(view)) + 1;
         Candidate {
             cost: cost_beside(is_way(around.nearer, dir)),
-            rank,
+            rank: rank_beside(self.ties[robot as usize].rank(view)),
             side: dir.number(),
             cell,
         }

@@ -41,7 +41,7 @@ returns g c =
     let small : 0 < m.width = wide m (slice_index from robot) scene.form (scene.placed.on_floor robot c.requires.known) in
     let old : List Candidate = c.staying.result ∷ c.moving.result ∷ c.moving-2.result ∷ c.moving-3.result ∷ c.moving-4.result ∷ [] in
     let keys : IsPermutation (map key_of old) c.in_order.result =
-        subst (λ (ks : List ℕ). IsPermutation ks c.in_order.result) (keys-same _ _ _ _ _ _ _ _ _ _ c.key.ensures.value c.key-2.ensures.value c.key-3.ensures.value c.key-4.ensures.value c.key-5.ensures.value) c.in_order.ensures.permutation in
+    subst (λ (ks : List ℕ). IsPermutation ks c.in_order.result) (keys-same _ _ _ _ _ _ _ _ _ _ c.key.ensures.value c.key-2.ensures.value c.key-3.ensures.value c.key-4.ensures.value c.key-5.ensures.value) c.in_order.ensures.permutation in
     rw c.cells.ensures (choices-from s small robot old c.in_order.result c.staying.result refl keys c.in_order.ensures.ascending
     (all-five IsSmall _ _ _ _ _ c.key.ensures.small c.key-2.ensures.small c.key-3.ensures.small c.key-4.ensures.small c.key-5.ensures.small)
     (all-five (IsCandidate s robot) _ _ _ _ _ c.staying.ensures.candidate c.moving.ensures.candidate c.moving-2.ensures.candidate c.moving-3.ensures.candidate c.moving-4.ensures.candidate)
