@@ -108,9 +108,10 @@ impl<A: Allocator + Copy> Stepper<A> {
         // The count comes with the form of the map, which the proof reads.
         let _cells = grid.cell_count();
         put_in_order(waits, &mut self.queue);
-        place(from, &mut self.standing);
         gather(grid, from, goals, &mut self.arounds);
+        fetch(&self.arounds, &mut self.standing);
         fetch(&self.arounds, &mut self.board.holder);
+        place(from, &mut self.standing);
         let scene = Scene {
             grid,
             goals,
