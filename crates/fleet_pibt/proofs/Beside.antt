@@ -1,34 +1,21 @@
 -- From what a robot sees to its candidates.
-use Rattle.std.proofs.Common.{◌≡◌, ◌≢◌, ℕ, zero, suc, ◌+◌, ◌<◌, inl, inr, Bool, true, false, IsTrue, ◌↔◌, cond, Option, Some, List, [], ◌∷◌, map, length, get_or, slice_get, slice_index, arith, refl, sym, subst, ap, ◌∙◌}
+use Rattle.std.proofs.Common.{◌≡◌, ◌≢◌, ℕ, zero, suc, ◌+◌, inl, inr, Bool, true, false, IsTrue, ◌↔◌, cond, Some, List, [], ◌∷◌, map, get_or, slice_get, arith, refl, sym, subst, ap, ◌∙◌}
 use Rattle.fleet_grid.specs.Direction.{dir_number}
 use Rattle.fleet_grid.specs.Floor.{Floor, IsNeighbourIn}
 use Rattle.fleet_grid.specs.Ways.{IsWay}
 use Rattle.fleet_grid.specs.declared.dir.Dir.{Dir}
 use Rattle.fleet_hooks.specs.Law.{IsRank}
 use Rattle.fleet_hooks.specs.declared.law.TieLaw.{TieLaw}
-use Rattle.fleet_pibt.specs.Around.{IsAround, AreArounds, AreRated, IsRated, cell_in}
+use Rattle.fleet_pibt.specs.Around.{IsAround, IsRated, cell_in}
 use Rattle.fleet_pibt.specs.Candidate.{IsCandidate}
 use Rattle.fleet_pibt.specs.Setting.{Setting, cell_of, cost}
 use Rattle.fleet_pibt.specs.declared.around.Around.{Around}
-
-got-at : {X : Type 0} (xs : List X) (i : ℕ) (d : X) → i < length xs → slice_get xs i ≡ Some (get_or xs i d)
-got-at [] i d l = absurd (omega arith)
-got-at (x ∷ xs) zero d l = refl
-got-at (x ∷ xs) (suc i) d l = got-at xs i d (omega arith)
 
 -- a mapped entry is that of the entry
 pub mapped-at : {X Y : Type 0} (f : X → Y) (xs : List X) (i : ℕ) (y : Y) (d : X) → slice_get (map f xs) i ≡ Some y → f (get_or xs i d) ≡ y
 mapped-at f [] i y d e = absurd (cc (e))
 mapped-at f (x ∷ xs) zero y d e = cc (e)
 mapped-at f (x ∷ xs) (suc i) y d e = mapped-at f xs i y d e
-
-pub around-at : (m : Floor) (goals : ℕ → Option ℕ) (distance : ℕ → ℕ → Option ℕ) (from : List ℕ) (arounds : List Around) → AreArounds m goals distance from arounds → (r : ℕ) (d : Around) → r < length from →
-    IsAround m (slice_index from r) (get_or arounds r d)
-around-at m goals distance from arounds are r d l = are.each r (get_or arounds r d) (got-at arounds r d (omega (arith, are.same_length)))
-
-pub rated-at : (s : Setting) (arounds : List Around) → length arounds ≡ length s.from → AreRated s arounds → (r : ℕ) (d : Around) → r < length s.from →
-    (dir : Dir) (w : ℕ) → IsNeighbourIn s.floor dir (cell_of s r) w → IsRated (get_or arounds r d).nearer dir (cost s r w) (cost s r (cell_of s r))
-rated-at s arounds same are r d l = are r (get_or arounds r d) (got-at arounds r d (omega (arith, same)))
 
 module _ (m : Floor) (own : ℕ) (dir : Dir) (around : Around) (cell : ℕ) (seen : IsAround m own around) (is : cell ≡ cell_in around dir) where
   -- the cell in a direction is the neighbour there
@@ -50,8 +37,8 @@ rated-cost false nearer dir c w own tells p e = let q = p.far (λ way. cc (tells
 
 pub candidate-from : (s : Setting) (robot : ℕ) (dir : Dir) (around : Around) (cell price rank rank' side : ℕ) (is_near : Bool) (law : TieLaw) → IsAround s.floor (cell_of s robot) around → cell ≡ cell_in around dir →
     cell ≢ around.own → ((w : ℕ) → IsNeighbourIn s.floor dir (cell_of s robot) w → IsRated around.nearer dir (cost s robot w) (cost s robot (cell_of s robot))) → IsTrue is_near ↔ IsWay around.nearer dir → price ≡ cond is_near 0 2 →
-    rank' ≡ rank → side ≡ dir_number dir → IsRank law dir rank → ((l : TieLaw) → slice_get s.laws robot ≡ Some l → law ≡ l) →
-    IsCandidate s robot (record { cost = price; rank = rank' + 1; side = side; cell = cell })
+    rank' ≡ rank + 1 → side ≡ dir_number dir → IsRank law dir rank → ((l : TieLaw) → slice_get s.laws robot ≡ Some l → law ≡ l) →
+    IsCandidate s robot (record { cost = price; rank = rank'; side = side; cell = cell })
 candidate-from s robot dir around cell price rank rank' side is_near law seen is ne rated tells low same place within tied =
     let step = spot-beside s.floor (cell_of s robot) dir around cell seen is ne in
     record {
@@ -60,7 +47,7 @@ candidate-from s robot dir around cell price rank rank' side is_near law seen is
         dir = dir;
         step = step;
         side = place;
-        ranked = omega arith;
+        ranked = omega (arith, same);
         within = λ l e. (let it = subst (λ (x : TieLaw). IsRank x dir rank) (tied l e) within in (omega (arith, it.low, same), omega (arith, it.high, same)));
       });
     }

@@ -1,44 +1,20 @@
-use Rattle.std.proofs.Common.{◌≡◌, ◌≢◌, ℕ, zero, suc, ◌+◌, ◌-◌, ◌<◌, ◌≤◌, ◌⊎◌, inl, inr, false, Some, List, [], ◌∷◌, map, length, get_or, slice_index, slice_get, sym, subst, refl, ap, ◌∙◌, arith, nat_cmp, is_lt, IsPermutation}
-use Rattle.std.specs.Ordering.{MatchOrdering, ordering_then}
+use Rattle.std.proofs.Common.{◌≡◌, ◌≢◌, ℕ, zero, suc, ◌+◌, ◌-◌, ◌<◌, ◌≤◌, ◌⊎◌, inl, inr, Some, List, [], ◌∷◌, map, length, get_or, slice_index, slice_get, sym, subst, refl, ap, ◌∙◌, arith, IsPermutation}
 use Rattle.std.specs.List.{All, Contains}
-use Rattle.std.specs.declared.cmp.Ordering.{Ordering}
-use Rattle.std.specs.declared.cmp.Ordering.TheVariants.{Less, Equal, Greater}
-use Rattle.std.proofs.lemmas.Cmp.{ranked}
 use Rattle.std.proofs.lemmas.Bool.{cases_eq, cases_lt}
-use Rattle.std.proofs.lemmas.List.Sorted.{All-permutation, Contains-permutation}
+use Rattle.std.proofs.lemmas.List.Sorted.{All-permutation, Contains-permutation, length_permutation}
 use Rattle.std.proofs.lemmas.List.Elements.{All-get_or}
-use Rattle.std.proofs.lemmas.List.{get_or_default, length-map}
+use Rattle.std.proofs.lemmas.List.{get_or-map, get_or_default, length-map}
 use Rattle.fleet_grid.specs.Direction.{dir_number}
 use Rattle.fleet_grid.specs.Floor.{IsBeside, IsNeighbourIn}
 use Rattle.fleet_pibt.specs.Setting.{Setting, cell_of, near, cost, IsChoices}
 use Rattle.fleet_pibt.specs.Ties.{Undercuts}
-use Rattle.fleet_pibt.specs.Candidate.{IsCandidate, IsAside}
+use Rattle.fleet_pibt.specs.Candidate.{IsCandidate, IsAside, IsSmall, key_of, cell_in_key}
 use Rattle.fleet_grid.specs.declared.dir.Dir.{Dir}
 use Rattle.fleet_grid.specs.declared.dir.Dir.TheVariants.{North, East, South, West}
 use Rattle.fleet_hooks.specs.declared.law.TieLaw.{TieLaw}
 use Rattle.fleet_pibt.specs.declared.choice.Candidate.{Candidate}
 use Rattle.fleet_pibt.proofs.Distances.{beside-apart}
-
--- the order of candidates, as they are tried
-abbrev pub Upto : Candidate → Candidate → Type 0
-Upto a b = (a.cost < b.cost) ⊎ ((a.cost ≡ b.cost) × ((a.rank < b.rank) ⊎ ((a.rank ≡ b.rank) × (a.side ≤ b.side))))
-
-Upto-from_orders : (a b : Candidate) (o1 o2 o3 o4 : Ordering) → MatchOrdering o1 (b.cost < a.cost) (b.cost ≡ a.cost) (a.cost < b.cost) → MatchOrdering o2 (b.rank < a.rank) (b.rank ≡ a.rank) (a.rank < b.rank) →
-    MatchOrdering o3 (b.side < a.side) (b.side ≡ a.side) (a.side < b.side) → is_lt (ordering_then o1 (ordering_then o2 (ordering_then o3 o4))) ≡ false → Upto a b
-Upto-from_orders a b Less o2 o3 o4 c1 c2 c3 e = absurd (cc e)
-Upto-from_orders a b Greater o2 o3 o4 c1 c2 c3 e = inl c1
-Upto-from_orders a b Equal Less o3 o4 c1 c2 c3 e = absurd (cc e)
-Upto-from_orders a b Equal Greater o3 o4 c1 c2 c3 e = inr (sym c1, inl c2)
-Upto-from_orders a b Equal Equal Less o4 c1 c2 c3 e = absurd (cc e)
-Upto-from_orders a b Equal Equal Greater o4 c1 c2 c3 e = inr (sym c1, inr (sym c2, omega arith))
-Upto-from_orders a b Equal Equal Equal o4 c1 c2 c3 e = inr (sym c1, inr (sym c2, omega arith))
-
-unfoldable pub compare : Candidate → Candidate → Ordering
-compare x y = ordering_then (nat_cmp x.cost y.cost) (ordering_then (nat_cmp x.rank y.rank) (ordering_then (nat_cmp x.side y.side) (nat_cmp x.cell y.cell)))
-
-pub Upto-from_compare : (a b : Candidate) → is_lt (compare b a) ≡ false → Upto a b
-unfolding compare
-Upto-from_compare a b e = Upto-from_orders a b _ _ _ _ (ranked b.cost a.cost _ refl) (ranked b.rank a.rank _ refl) (ranked b.side a.side _ refl) e
+use Rattle.fleet_pibt.proofs.Keys.{Upto, Upto-from_keys, key-cell, unmapped}
 
 Upto-trans : (a b c : Candidate) → Upto a b → Upto b c → Upto a c
 Upto-trans a b c (inl p) (inl q) = inl (omega arith)
@@ -211,5 +187,28 @@ module _ (s : Setting) (wide : 0 < s.floor.width) (robot : ℕ) (old new : List 
         ]
       ]
 
-  pub choices-from : IsChoices s robot tries
-  choices-from = record { five = at-length ∙ five; each = tries-each; own = tries-own; all = tries-all; sorted = tries-sorted; own_first = tries-own_first; tied = tries-tied }
+  pub choices-of : IsChoices s robot tries
+  choices-of = record { five = at-length ∙ five; each = tries-each; own = tries-own; all = tries-all; sorted = tries-sorted; own_first = tries-own_first; tied = tries-tied }
+
+key-cells : (cs : List Candidate) → All IsSmall cs → map cell_in_key (map key_of cs) ≡ map (λ c. c.cell) cs
+key-cells [] small = refl
+key-cells (c ∷ cs) small =
+    ap (λ (x : ℕ). x ∷ map cell_in_key (map key_of cs)) (key-cell c (small 0 c (omega arith))) ∙ ap (λ (xs : List ℕ). c.cell ∷ xs) (key-cells cs (λ k d l. small (suc k) d (omega arith)))
+
+Upto-steps : (cs : List Candidate) → All IsSmall cs → ((k : ℕ) → k + 1 < length (map key_of cs) → slice_index (map key_of cs) k ≤ slice_index (map key_of cs) (k + 1)) →
+    (k : ℕ) (d : Candidate) → k + 1 < length cs → Upto (get_or cs k d) (get_or cs (k + 1) d)
+Upto-steps cs small steps k d l =
+    let le = steps k (omega (arith, length-map cs key_of)) in
+    let here : slice_index (map key_of cs) k ≡ key_of (get_or cs k d) = get_or-map key_of cs k d 0 (omega arith) in
+    let next : slice_index (map key_of cs) (k + 1) ≡ key_of (get_or cs (k + 1) d) = get_or-map key_of cs (k + 1) d 0 l in
+    Upto-from_keys (get_or cs k d) (get_or cs (k + 1) d) (small k d (omega arith)) (small (k + 1) d l) (subst (λ (x : ℕ). x ≤ key_of (get_or cs (k + 1) d)) here (subst (λ (x : ℕ). slice_index (map key_of cs) k ≤ x) next le))
+
+-- from candidates whose keys are put in order
+pub choices-from : (s : Setting) → 0 < s.floor.width → (robot : ℕ) (old : List Candidate) (keys : List ℕ) (own : Candidate) → length old ≡ 5 → IsPermutation (map key_of old) keys → ((k : ℕ) → k + 1 < length keys → slice_index keys k ≤ slice_index keys (k + 1)) →
+    All IsSmall old → All (IsCandidate s robot) old → Contains old own → own.cell ≡ cell_of s robot → own.rank ≡ 0 → ((w : ℕ) → near s (cell_of s robot) w → (c : Candidate) × Contains old c × (c.cell ≡ w)) → IsChoices s robot (map cell_in_key keys)
+choices-from s wide robot old keys own five perm steps small all own-in own-cell own-rank covers =
+    let u = unmapped key_of old keys perm in
+    let small' = All-permutation IsSmall old u.0 u.1 small in
+    let up = Upto-steps u.0 small' (subst (λ (ks : List ℕ). (k : ℕ) → k + 1 < length ks → slice_index ks k ≤ slice_index ks (k + 1)) u.2 steps) in
+    let it = choices-of s wide robot old u.0 own (length_permutation old u.0 u.1 ∙ five) u.1 up all own-in own-cell own-rank covers in
+    subst (λ (cells : List ℕ). IsChoices s robot cells) (sym (ap (map cell_in_key) u.2 ∙ key-cells u.0 small')) it

@@ -21,6 +21,16 @@ table-cleared xs i k v e =
     ]) in
     (ne, cc (get_or-set_other xs i k None None ne))
 
+cleared-empty : (xs : List (Option ℕ)) (i : ℕ) → IsEmpty xs → IsEmpty (slice_set xs i None)
+cleared-empty xs i empty c = elim (none_or_some (table (slice_set xs i None) c)) [
+  | inl none ↦ none
+  | inr some ↦ (let was = table-cleared xs i c some.0 some.1 in absurd (cc (empty c, was.1)))
+]
+
+-- an empty table in which an entry is emptied
+pub cleared-next : (xs ys : List (Option ℕ)) (i long : ℕ) → length xs ≡ long → IsEmpty xs → ys ≡ slice_set xs i None → (length ys ≡ long) × IsEmpty ys
+cleared-next xs ys i long l empty is = (ap length is ∙ length-set xs i None ∙ l, rw is (cleared-empty xs i empty))
+
 module _ (from : List ℕ) (distinct : Distinct (length from) (slice_index from)) (standing : List (Option ℕ)) (k : ℕ) (l : k < length from) (inside : slice_index from k < length standing) (placed : IsPlaced from standing k) where
   place-stands : (c r : ℕ) → table (slice_set standing (slice_index from k) (Some k)) c ≡ Some r → (r < k + 1) × (slice_index from r ≡ c)
   place-stands c r e = elim (cases_eq c (slice_index from k)) [

@@ -9,7 +9,9 @@ pub mod Entries
 pub mod Distances
 pub mod Theorem
 pub mod Ordered
+pub mod Keys
 pub mod Choices
+pub mod Insertion
 pub mod Whole
 pub mod TwoCells
 pub mod Stepped

@@ -36,9 +36,9 @@ no-way nearer dir e way = let z : bit_at nearer (dir_number dir) ≡ 0 = ap (λ 
 module _ (s : Setting) (scene : IsScene s) (waits : List (Option ℕ)) (are : AreGoals s.floor s.from waits s.goals s.distance) (arounds : List Around) (seen : AreArounds s.floor s.goals s.distance s.from arounds) where
   way-tells : (r : ℕ) (around : Around) (l : r < robots s) → slice_get arounds r ≡ Some around → (dir : Dir) (w : ℕ) → IsNeighbourIn s.floor dir (cell_of s r) w → IsWay around.nearer dir ↔ (cost s r w < cost s r (cell_of s r))
   way-tells r around l e dir w n = elim (none_or_some (s.goals r)) [
-    | inl none ↦ (let own = idle-own s scene waits are r l none in (λ way. absurd (no-way around.nearer dir (seen.idle r around e none) way), λ less. absurd (omega (arith, less, own))))
+    | inl none ↦ (let own = idle-own s scene waits are r l none in (λ way. absurd (no-way around.nearer dir ((seen.asked r around e).idle none) way), λ less. absurd (omega (arith, less, own))))
     | inr some ↦ (
-        let tells = seen.nearer r around e dir w n in
+        let tells = (seen.asked r around e).tells dir w n in
         let less = closer-less s scene waits are r l some.0 some.1 w (dir, n) in
         (λ way. less.0 (tells.0 way), λ c. tells.1 (less.1 c)))
   ]

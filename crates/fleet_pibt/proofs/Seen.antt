@@ -1,7 +1,7 @@
 -- Lists of which each entry has a property at its place.
 use Rattle.std.proofs.Common.{◌≡◌, ◌≢◌, ℕ, zero, suc, ◌+◌, ◌<◌, ◌≤◌, inl, inr, Some, List, [], ◌∷◌, length, get_or, slice_get, arith, refl, sym, subst, ap, ◌∙◌}
 use Rattle.std.proofs.Math.ListN.{set}
-use Rattle.std.proofs.lemmas.Bool.{cases_eq}
+use Rattle.std.proofs.lemmas.Bool.{cases_eq, cases_lt}
 
 pub seen-below : {X : Type 0} (xs : List X) (i : ℕ) (x : X) → slice_get xs i ≡ Some x → i < length xs
 seen-below [] i x e = absurd (cc (e))
@@ -35,6 +35,13 @@ seen-more P xs k y before here r x l e = elim (cases_eq r k) [
 pub seen-rest : {X : Type 0} (P : ℕ → X → Type 0) (xs : List X) (k : ℕ) (y : X) → ((r : ℕ) (x : X) → k ≤ r → slice_get xs r ≡ Some x → P r x) →
     (r : ℕ) (x : X) → k + 1 ≤ r → slice_get (set xs k y) r ≡ Some x → P r x
 seen-rest P xs k y rest r x l e = rest r x (omega arith) (sym (seen-set_other xs k r y (λ (same : r ≡ k). omega arith)) ∙ e)
+
+-- an entry is written where all have it
+pub seen-all : {X : Type 0} (P : ℕ → X → Type 0) (xs : List X) (k : ℕ) (y : X) → ((r : ℕ) (x : X) → slice_get xs r ≡ Some x → P r x) → P k y → (r : ℕ) (x : X) → slice_get (set xs k y) r ≡ Some x → P r x
+seen-all P xs k y all here r x e = elim (cases_lt r (k + 1)) [
+  | inl below ↦ seen-more P xs k y (λ i z _ it. all i z it) here r x below e
+  | inr above ↦ seen-rest P xs k y (λ i z _ it. all i z it) r x above e
+]
 
 pub seen-at : {X : Type 0} (xs : List X) (i : ℕ) (d : X) → i < length xs → slice_get xs i ≡ Some (get_or xs i d)
 seen-at [] i d l = absurd (omega arith)

@@ -1,11 +1,16 @@
 -- The cells beside a floor cell.
-use Rattle.std.proofs.Common.{◌≡◌, ℕ, ◌+◌, ◌*◌, ◌/◌, ◌%◌, ◌<◌, ◌≤◌, refl, sym, ap, ◌∙◌, subst, arith}
+use Rattle.std.proofs.Common.{◌≡◌, ℕ, ◌+◌, ◌*◌, ◌/◌, ◌%◌, ◌<◌, ◌≤◌, inl, inr, Option, List, length, slice_index, refl, sym, ap, ◌∙◌, subst, arith}
+use Rattle.std.proofs.lemmas.Bool.{cases_eq}
 use Rattle.std.proofs.lemmas.Nat.{mod-mul-add, div-add-mod', mod_below}
 use Rattle.fleet_grid.specs.Floor.{Floor, IsFloor, IsBeside}
 use Rattle.fleet_grid.specs.declared.dir.Dir.{Dir}
-use Rattle.fleet_grid.specs.declared.dir.Dir.TheVariants.{East}
-use Rattle.fleet_pibt.specs.Around.{IsSpot}
+use Rattle.fleet_grid.specs.declared.dir.Dir.TheVariants.{North, East, South}
+use Rattle.fleet_grid.proofs.Forms.{floor_inside}
+use Rattle.fleet_pibt.specs.Around.{IsSpot, AreArounds}
+use Rattle.fleet_pibt.specs.Tables.{HasSides}
+use Rattle.fleet_pibt.specs.declared.around.Around.{Around}
 use Rattle.fleet_pibt.proofs.Rated.{beside-same}
+use Rattle.fleet_pibt.proofs.Seen.{seen-below}
 
 pub spot_none : (m : Floor) (own : ℕ) (dir : Dir) → ((b : ℕ) → IsBeside m.width dir own b → ⊥) → IsSpot m own dir own
 spot_none m own dir none = record { there = λ w n. absurd (none w n.beside); beside = λ ne. absurd (ne refl) }
@@ -40,3 +45,17 @@ pub east_none : (w own column : ℕ) → 0 < w → column ≡ own % w → w ≤ 
 east_none w own column pos e over b p =
     let x = mod_below own w pos in
     p.1 (ap (λ (y : ℕ). y % w) (sym p.0) ∙ last-column w own pos (omega (arith, e, over, x)))
+
+spot-inside : (m : Floor) (own cell : ℕ) (dir : Dir) → IsFloor m own → IsSpot m own dir cell → cell < length m.letters
+spot-inside m own cell dir floor spot = floor_inside m cell
+    (elim (cases_eq cell own) [
+      | inl same ↦ subst (λ (x : ℕ). IsFloor m x) (sym same) floor
+      | inr ne ↦ (spot.beside ne).to
+    ])
+
+pub sides-inside : (m : Floor) (goals : ℕ → Option ℕ) (distance : ℕ → ℕ → Option ℕ) (from : List ℕ) (arounds : List Around) → AreArounds m goals distance from arounds → ((r : ℕ) → r < length from → IsFloor m (slice_index from r)) →
+    HasSides arounds (length m.letters)
+sides-inside m goals distance from arounds are floor r around e =
+    let own = floor r (let l = seen-below arounds r around e in omega (arith, l, are.same_length)) in
+    let beside = (are.each r around e).beside in
+    (spot-inside m (slice_index from r) around.north North own (beside North), spot-inside m (slice_index from r) around.south South own (beside South))

@@ -26,12 +26,20 @@ pub record IsAround (m : Floor) (own : ℕ) (around : Around) : Type 0 where
   pub here : around.own ≡ own
   pub beside : (dir : Dir) → IsSpot m own dir (cell_in around dir)
 
+-- of the ways that a robot sees from its cell those lead nearer to its goal, and an idle robot has none
+pub record IsAsked (m : Floor) (goal : Option ℕ) (distance : ℕ → Option ℕ) (own nearer : ℕ) : Type 0 where
+  pub tells : AreNearer m distance own nearer
+  pub idle : goal ≡ None → nearer ≡ 0
+
+-- the list has for each robot the ways that lead nearer
+abbrev pub AreAsked : Floor → (ℕ → Option ℕ) → (ℕ → ℕ → Option ℕ) → List ℕ → List Around → Type 0
+AreAsked m goals distance from arounds = (r : ℕ) (around : Around) → slice_get arounds r ≡ Some around → IsAsked m (goals r) (distance r) (slice_index from r) around.nearer
+
 -- the list has for each robot what it sees
 pub record AreArounds (m : Floor) (goals : ℕ → Option ℕ) (distance : ℕ → ℕ → Option ℕ) (from : List ℕ) (arounds : List Around) : Type 0 where
   pub same_length : length arounds ≡ length from
   pub each : (r : ℕ) (around : Around) → slice_get arounds r ≡ Some around → IsAround m (slice_index from r) around
-  pub nearer : (r : ℕ) (around : Around) → slice_get arounds r ≡ Some around → AreNearer m (distance r) (slice_index from r) around.nearer
-  pub idle : (r : ℕ) (around : Around) → slice_get arounds r ≡ Some around → goals r ≡ None → around.nearer ≡ 0
+  pub asked : AreAsked m goals distance from arounds
 
 -- what a neighbour in that direction costs, beside the own cell
 pub record IsRated (nearer : ℕ) (dir : Dir) (cost own : ℕ) : Type 0 where

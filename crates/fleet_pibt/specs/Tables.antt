@@ -1,10 +1,15 @@
 -- The tables of a step, as they are filled and emptied.
-use Rattle.std.specs.Prelude.{◌≡◌, ℕ, ◌<◌, Option, Some, List, length, slice_index}
+use Rattle.std.specs.Prelude.{◌≡◌, ℕ, ◌<◌, Option, Some, List, length, slice_get, slice_index}
 use Rattle.fleet_pibt.specs.Entry.{table}
+use Rattle.fleet_pibt.specs.declared.around.Around.{Around}
 
 -- each cell of the list is below the number of cells
 abbrev pub HasCells : List ℕ → ℕ → Type 0
 HasCells from cells = (r : ℕ) → r < length from → slice_index from r < cells
+
+-- so is each cell north or south of a robot
+abbrev pub HasSides : List Around → ℕ → Type 0
+HasSides arounds cells = (r : ℕ) (around : Around) → slice_get arounds r ≡ Some around → (around.north < cells) × (around.south < cells)
 
 -- the first `k` robots stand in the table, and nobody else
 pub record IsPlaced (from : List ℕ) (standing : List (Option ℕ)) (k : ℕ) : Type 0 where

@@ -1,10 +1,9 @@
 //! What each robot sees from its cell, gathered in one pass before the planning.
 
-ghost use Rattle.std.specs.Prelude.{◌≡◌, ℕ, ◌%◌, ◌<◌, ◌≤◌, None, length, slice_index};
+ghost use Rattle.std.specs.Prelude.{◌≡◌, ℕ, ◌%◌, ◌<◌, ◌≤◌, length, slice_index};
 ghost use Rattle.fleet_grid.specs.Floor.{IsFloor};
-ghost use Rattle.fleet_grid.specs.Ways.{AreNearer};
 ghost use Rattle.fleet_grid.specs.declared.dir.Dir.TheVariants.{East, West};
-ghost use Rattle.fleet_pibt.specs.Around.{IsSide, IsSpot, IsAround, AreArounds, cell_in};
+ghost use Rattle.fleet_pibt.specs.Around.{IsSide, IsSpot, IsAround, AreArounds, IsAsked, AreAsked, cell_in};
 
 use crate::goals::Goals;
 use fleet_grid::{Dir, Grid};
@@ -83,12 +82,11 @@ fn west_of(width: u32, own: u32, column: u32) -> Option<u32>
     if column > 0 { Some(own - 1) } else { None }
 }
 
-/// What the robot sees from the floor cell `own`.
-fn look<G: Goals, A: Allocator + Copy>(grid: &Grid<A>, goals: &G, robot: u32, own: u32) -> Around
+/// What a robot sees from the floor cell `own`, where these ways lead nearer to its goal.
+fn look<A: Allocator + Copy>(grid: &Grid<A>, own: u32, nearer: u8) -> Around
     requires { IsFloor grid.now own }
     ensures cells { IsAround grid.now own result }
-    ensures nearer { AreNearer grid.now (G.distance goals.now robot) own result.nearer }
-    ensures idle { G.goal_of goals.now robot ≡ None → result.nearer ≡ 0 }
+    ensures nearer { result.nearer ≡ nearer }
 {
     let width = grid.width();
     // Divided once, for both neighbours in the row.
@@ -99,7 +97,31 @@ fn look<G: Goals, A: Allocator + Copy>(grid: &Grid<A>, goals: &G, robot: u32, ow
         east: floor_or_own(grid, own, Dir::East, east_of(width, own, column)),
         south: floor_or_own(grid, own, Dir::South, Some(own + width)),
         west: floor_or_own(grid, own, Dir::West, west_of(width, own, column)),
-        nearer: goals.ways(grid, robot, own),
+        nearer,
+    }
+}
+
+/// The ways that lead the robot nearer to its goal.
+fn asked<G: Goals, A: Allocator + Copy>(grid: &Grid<A>, goals: &G, robot: u32, own: u32) -> u8
+    ensures { IsAsked grid.now (G.goal_of goals.now robot) (G.distance goals.now robot) own result }
+{
+    goals.ways(grid, robot, own)
+}
+
+/// Writes down which ways lead each robot nearer to its goal. The robots' fields lie far apart in memory: asked one right
+/// after another, many of them are fetched at once.
+fn ask<G: Goals, A: Allocator + Copy>(
+    grid: &Grid<A>,
+    from: &[u32],
+    goals: &G,
+    arounds: &mut [Around],
+)
+    requires same_length { length arounds.old ≡ length from.now }
+    requires few { length from.now ≤ 512 }
+    ensures { AreAsked grid.now (G.goal_of goals.now) (G.distance goals.now) from.now arounds.new }
+{
+    for (robot, seen) in arounds.iter_mut().enumerate() {
+        seen.nearer = asked(grid, goals, robot as u32, from[robot]);
     }
 }
 
@@ -115,7 +137,8 @@ pub fn gather<G: Goals, A: Allocator + Copy>(
     requires floor { (r : ℕ) → r < length from.now → IsFloor grid.now (slice_index from.now r) }
     ensures { AreArounds grid.now (G.goal_of goals.now) (G.distance goals.now) from.now arounds.new }
 {
+    ask(grid, from, goals, arounds);
     for (robot, seen) in arounds.iter_mut().enumerate() {
-        *seen = look(grid, goals, robot as u32, from[robot]);
+        *seen = look(grid, from[robot], seen.nearer);
     }
 }

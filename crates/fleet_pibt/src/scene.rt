@@ -1,13 +1,13 @@
 //! The sight of a step over a map, a placement, goals and tie closures.
 
-ghost use Rattle.std.specs.Prelude.{◌≡◌, ℕ, ◌<◌, cond, length, map, slice_index};
+ghost use Rattle.std.specs.Prelude.{◌≡◌, ℕ, ◌+◌, ◌<◌, cond, length, map, slice_get, slice_index, Some};
 ghost use Rattle.fleet_grid.specs.Floor.{IsNeighbourIn};
 ghost use Rattle.fleet_pibt.specs.Setting.{setting};
 ghost use Rattle.fleet_pibt.specs.Around.{IsWhole};
 ghost use Rattle.fleet_pibt.specs.Candidate.{IsCandidate};
 
 use crate::around::Around;
-use crate::choice::{Candidate, cells};
+use crate::choice::{Candidate, cells, in_order};
 use crate::goals::Goals;
 use crate::sight::Sight;
 use crate::table::Table;
@@ -21,6 +21,13 @@ fn cost_beside(is_nearer: bool) -> u8
     ensures { result ≡ cond is_nearer 0 2 }
 {
     if is_nearer { 0 } else { 2 }
+}
+
+/// The rank of a neighbour that the tie closure ranks so, beside 0 for the own cell.
+fn rank_beside(rank: u8) -> u16
+    ensures { result ≡ rank + 1 }
+{
+    u16::from(rank) + 1
 }
 
 /// What the plan of one step is made from.
@@ -58,21 +65,21 @@ impl<'a, G: Goals, A: Allocator + Copy> Sight for Scene<'a, G, A> {
     }
 
     fn choices(&self, robot: u32) -> [u32; 5] {
-        let mut list = [
-            self.staying(robot),
-            self.moving(robot, Dir::North),
-            self.moving(robot, Dir::East),
-            self.moving(robot, Dir::South),
-            self.moving(robot, Dir::West),
+        let around = self.arounds[robot as usize];
+        let keys = [
+            self.staying(robot, around).key(),
+            self.moving(robot, around, Dir::North).key(),
+            self.moving(robot, around, Dir::East).key(),
+            self.moving(robot, around, Dir::South).key(),
+            self.moving(robot, around, Dir::West).key(),
         ];
-        list.sort_unstable();
-        cells(&list)
+        cells(in_order(keys))
     }
 }
 
 impl<'a, G: Goals, A: Allocator + Copy> Scene<'a, G, A> {
-    /// The candidate of the robot's own cell.
-    fn staying(&self, robot: u32) -> Candidate
+    /// The candidate of the own cell of a robot that sees this.
+    fn staying(&self, robot: u32, around: Around) -> Candidate
         requires whole { let s = setting
             self.now.grid.now
             self.now.from.now
@@ -81,6 +88,7 @@ impl<'a, G: Goals, A: Allocator + Copy> Scene<'a, G, A> {
             (map (λ h. h.law) self.now.ties.now)
             in IsWhole s self.now.standing.now self.now.arounds.now }
         requires known { robot < length self.now.from.now }
+        requires seen { slice_get self.now.arounds.now robot ≡ Some around }
         ensures candidate { let s = setting
             self.now.grid.now
             self.now.from.now
@@ -95,12 +103,12 @@ impl<'a, G: Goals, A: Allocator + Copy> Scene<'a, G, A> {
             cost: 1,
             rank: 0,
             side: 0,
-            cell: self.arounds[robot as usize].own,
+            cell: around.own,
         }
     }
 
-    /// The candidate in a direction, or that of the own cell where there is no floor.
-    fn moving(&self, robot: u32, dir: Dir) -> Candidate
+    /// The candidate in a direction of a robot that sees this, or that of the own cell where there is no floor.
+    fn moving(&self, robot: u32, around: Around, dir: Dir) -> Candidate
         requires whole { let s = setting
             self.now.grid.now
             self.now.from.now
@@ -109,6 +117,7 @@ impl<'a, G: Goals, A: Allocator + Copy> Scene<'a, G, A> {
             (map (λ h. h.law) self.now.ties.now)
             in IsWhole s self.now.standing.now self.now.arounds.now }
         requires known { robot < length self.now.from.now }
+        requires seen { slice_get self.now.arounds.now robot ≡ Some around }
         ensures candidate { let s = setting
             self.now.grid.now
             self.now.from.now
@@ -118,10 +127,9 @@ impl<'a, G: Goals, A: Allocator + Copy> Scene<'a, G, A> {
             in IsCandidate s robot result }
         ensures covers { (w : ℕ) → IsNeighbourIn self.now.grid.now dir (slice_index self.now.from.now robot) w → result.cell ≡ w }
     {
-        let around = self.arounds[robot as usize];
         let cell = around.beside(dir);
         if cell == around.own {
-            return self.staying(robot);
+            return self.staying(robot, around);
         }
         let view = TieView {
             robot,
@@ -130,10 +138,9 @@ impl<'a, G: Goals, A: Allocator + Copy> Scene<'a, G, A> {
             dir,
             tick: self.tick,
         };
-        let rank = u16::from(self.ties[robot as usize].rank(view)) + 1;
         Candidate {
             cost: cost_beside(is_way(around.nearer, dir)),
-            rank,
+            rank: rank_beside(self.ties[robot as usize].rank(view)),
             side: dir.number(),
             cell,
         }

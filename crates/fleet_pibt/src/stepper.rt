@@ -17,7 +17,7 @@ use crate::plan::plan_all;
 use crate::priority::{number, put_in_order};
 use crate::scene::Scene;
 use crate::table::Table;
-use crate::tables::{lift, place, settle};
+use crate::tables::{fetch, lift, place, settle};
 use fleet_grid::Grid;
 use fleet_hooks::TieHook;
 use std::alloc::{AllocError, Allocator, Global};
@@ -108,8 +108,10 @@ impl<A: Allocator + Copy> Stepper<A> {
         // The count comes with the form of the map, which the proof reads.
         let _cells = grid.cell_count();
         put_in_order(waits, &mut self.queue);
-        place(from, &mut self.standing);
         gather(grid, from, goals, &mut self.arounds);
+        fetch(&self.arounds, &mut self.standing);
+        fetch(&self.arounds, &mut self.board.holder);
+        place(from, &mut self.standing);
         let scene = Scene {
             grid,
             goals,

@@ -34,6 +34,13 @@ impl<A: Allocator + Copy> Table<A> {
         })
     }
 
+    /// How many entries there are.
+    pub fn len(&self) -> usize
+        ensures { result ≡ length self.now }
+    {
+        self.entries.len()
+    }
+
     /// The entry at a place.
     pub fn get(&self, at: u32) -> Option<u32>
         requires { at < length self.now }

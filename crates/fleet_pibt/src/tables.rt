@@ -3,11 +3,32 @@
 ghost use Rattle.std.specs.Prelude.{◌≡◌, ◌≢◌, ℕ, ◌<◌, ◌≤◌, length, slice_index, None};
 ghost use Rattle.fleet_pibt.specs.Entry.{table, IsEmpty};
 ghost use Rattle.fleet_pibt.specs.Plan.{Distinct};
-ghost use Rattle.fleet_pibt.specs.Tables.{IsPlaced, HasCells, IsTaken, IsMatched};
+ghost use Rattle.fleet_pibt.specs.Tables.{IsPlaced, HasCells, HasSides, IsTaken, IsMatched};
 
+use crate::around::Around;
 use crate::board::Board;
 use crate::table::Table;
 use std::alloc::Allocator;
+
+/// A table of more entries does not lie near the processor as a whole.
+const NEAR: usize = 262144;
+
+/// Empties the entries of the cells north and south of the robots, where they are empty. It changes nothing: the processor
+/// fetches all these entries of a large table at once, and not one after another when the robots are planned.
+pub fn fetch<A: Allocator + Copy>(arounds: &[Around], table: &mut Table<A>)
+    requires inside { HasSides arounds.now (length table.old) }
+    requires empty { IsEmpty table.old }
+    ensures same_length { length table.new ≡ length table.old }
+    ensures empty { IsEmpty table.new }
+{
+    if table.len() <= NEAR {
+        return;
+    }
+    for around in arounds {
+        table.clear(around.north);
+        table.clear(around.south);
+    }
+}
 
 /// Enters each robot at its cell.
 pub fn place<A: Allocator + Copy>(from: &[u32], standing: &mut Table<A>)

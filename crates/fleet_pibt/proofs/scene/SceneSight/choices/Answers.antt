@@ -1,13 +1,14 @@
-use Rattle.std.proofs.Common.{◌≡◌, ℕ, ◌<◌, [], ◌∷◌, slice_index, refl, arith, zero, suc, get_or, ◌+◌}
+use Rattle.std.proofs.Common.{◌≡◌, ℕ, ◌<◌, List, [], ◌∷◌, map, slice_index, refl, subst, arith, zero, suc}
 use Rattle.std.specs.List.{All, Contains}
-use Rattle.fleet_pibt.specs.Candidate.{IsCandidate}
+use Rattle.std.specs.List.Sorted.{IsPermutation}
+use Rattle.fleet_pibt.specs.Candidate.{IsCandidate, IsSmall, key_of}
 use Rattle.fleet_grid.specs.Floor.{Floor, IsNeighbourIn}
-use Rattle.fleet_pibt.specs.Setting.{setting}
+use Rattle.fleet_pibt.specs.Setting.{Setting, setting}
 use Rattle.fleet_grid.specs.declared.dir.Dir.{Dir}
 use Rattle.fleet_grid.specs.declared.dir.Dir.TheVariants.{North, East, South, West}
 use Rattle.fleet_pibt.specs.declared.choice.Candidate.{Candidate}
 use Rattle.fleet_grid.proofs.Forms.{wide}
-use Rattle.fleet_pibt.proofs.Choices.{choices-from, compare, Upto-from_compare}
+use Rattle.fleet_pibt.proofs.Choices.{choices-from}
 use Rattle.fleet_pibt.proofs.scene.SceneSight.choices.Goals as goal
 
 covers-from : (m : Floor) (from : ℕ) (own a b c d : Candidate) → ((w : ℕ) → IsNeighbourIn m North from w → a.cell ≡ w) → ((w : ℕ) → IsNeighbourIn m East from w → b.cell ≡ w) →
@@ -26,15 +27,23 @@ all-five P a b c d e pa pb pc pd pe (suc (suc (suc zero))) x l = pd
 all-five P a b c d e pa pb pc pd pe (suc (suc (suc (suc zero)))) x l = pe
 all-five P a b c d e pa pb pc pd pe (suc (suc (suc (suc (suc k))))) x l = absurd (omega arith)
 
+keys-same : (a b c d e : Candidate) (u v x y z : ℕ) → u ≡ key_of a → v ≡ key_of b → x ≡ key_of c → y ≡ key_of d → z ≡ key_of e → u ∷ v ∷ x ∷ y ∷ z ∷ [] ≡ key_of a ∷ key_of b ∷ key_of c ∷ key_of d ∷ key_of e ∷ []
+keys-same a b c d e u v x y z p q r s t = rw (p, q, r, s, t) refl
+
 pub returns : goal.returns
-unfolding compare
 returns g c =
     let robot = c.args.robot in
     let self = c.args.self.now in
     let m = self.grid.now in
+    let from = self.from.now in
+    let s : Setting = setting m from (g.G.Goals.goal_of self.goals.now) (g.G.Goals.distance self.goals.now) (map (λ h. h.law) self.ties.now) in
     let scene = c.requires.whole.scene in
-    let small : 0 < m.width = wide m (slice_index self.from.now robot) scene.form (scene.placed.on_floor robot c.requires.known) in
-    rw c.cells.ensures (choices-from _ small robot _ c.sort_unstable.new.self c.staying.result c.sort_unstable.ensures.len c.sort_unstable.ensures.permutation
-    (λ k d l. Upto-from_compare (get_or c.sort_unstable.new.self k d) (get_or c.sort_unstable.new.self (k + 1) d) (c.sort_unstable.ensures.sorted k d (omega arith) l))
-    (all-five (IsCandidate (setting m self.from.now (g.G.Goals.goal_of self.goals.now) (g.G.Goals.distance self.goals.now) _) robot) _ _ _ _ _ c.staying.ensures.candidate c.moving.ensures.candidate c.moving-2.ensures.candidate c.moving-3.ensures.candidate c.moving-4.ensures.candidate) (0, omega arith, refl) c.staying.ensures.own c.staying.ensures.rank
-    (λ w n. covers-from m (slice_index self.from.now robot) c.staying.result c.moving.result c.moving-2.result c.moving-3.result c.moving-4.result c.moving.ensures.covers c.moving-2.ensures.covers c.moving-3.ensures.covers c.moving-4.ensures.covers w n.0 n.1))
+    let small : 0 < m.width = wide m (slice_index from robot) scene.form (scene.placed.on_floor robot c.requires.known) in
+    let old : List Candidate = c.staying.result ∷ c.moving.result ∷ c.moving-2.result ∷ c.moving-3.result ∷ c.moving-4.result ∷ [] in
+    let keys : IsPermutation (map key_of old) c.in_order.result =
+    subst (λ (ks : List ℕ). IsPermutation ks c.in_order.result) (keys-same _ _ _ _ _ _ _ _ _ _ c.key.ensures.value c.key-2.ensures.value c.key-3.ensures.value c.key-4.ensures.value c.key-5.ensures.value) c.in_order.ensures.permutation in
+    rw c.cells.ensures (choices-from s small robot old c.in_order.result c.staying.result refl keys c.in_order.ensures.ascending
+    (all-five IsSmall _ _ _ _ _ c.key.ensures.small c.key-2.ensures.small c.key-3.ensures.small c.key-4.ensures.small c.key-5.ensures.small)
+    (all-five (IsCandidate s robot) _ _ _ _ _ c.staying.ensures.candidate c.moving.ensures.candidate c.moving-2.ensures.candidate c.moving-3.ensures.candidate c.moving-4.ensures.candidate)
+    (0, omega arith, refl) c.staying.ensures.own c.staying.ensures.rank
+    (λ w n. covers-from m (slice_index from robot) c.staying.result c.moving.result c.moving-2.result c.moving-3.result c.moving-4.result c.moving.ensures.covers c.moving-2.ensures.covers c.moving-3.ensures.covers c.moving-4.ensures.covers w n.0 n.1))

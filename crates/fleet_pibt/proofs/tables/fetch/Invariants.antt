@@ -1,0 +1,6 @@
+use Rattle.std.proofs.Common.{◌≡◌, length}
+use Rattle.fleet_pibt.specs.Entry.{IsEmpty}
+use Rattle.fleet_pibt.proofs.tables.fetch.Given as goal
+
+abbrev pub invariant-loop-around : goal.invariant-loop-around
+invariant-loop-around g l = record { same_length : length l.table ≡ length l.initial.table; blank : IsEmpty l.table }
