@@ -5,7 +5,7 @@ use Rattle.std.proofs.lemmas.List.Elements.{Contains-push, Contains-append_left,
 use Rattle.fleet_field.specs.Field.{Aim}
 use Rattle.fleet_field.specs.Uses.{HasGoal}
 use Rattle.fleet_field.proofs.Uses.{filled_step, still_there, at_none}
-use Rattle.fleet_field.proofs.store.put_all.Goals as goal
+use Rattle.fleet_field.proofs.holds.put_all.Goals as goal
 
 pub loop-field-preserved : goal.loop-field-preserved
 loop-field-preserved g c =

@@ -1,6 +1,6 @@
 use Rattle.std.proofs.Common.{ℕ, ◌<◌, ◌⊎◌, length, slice_index}
 use Rattle.fleet_field.specs.Uses.{HasGoal, IsOneOf}
-use Rattle.fleet_field.proofs.store.missing_of.Given as goal
+use Rattle.fleet_field.proofs.holds.missing_of.Given as goal
 
 abbrev pub invariant-loop-goal : goal.invariant-loop-goal
 invariant-loop-goal g l = record {

@@ -1,6 +1,6 @@
 use Rattle.std.proofs.Common.{sym, ◌∙◌}
 use Rattle.fleet_field.proofs.Uses.{filled_new}
-use Rattle.fleet_field.proofs.store.put.Goals as goal
+use Rattle.fleet_field.proofs.holds.put.Goals as goal
 
 pub returns-in-None-clause-filled : goal.returns-in-None-clause-filled
 returns-in-None-clause-filled g c =

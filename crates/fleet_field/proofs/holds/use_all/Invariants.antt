@@ -2,7 +2,7 @@ use Rattle.std.proofs.Common.{◌≡◌, take}
 use Rattle.std.specs.Vec.{vec_capacity}
 use Rattle.fleet_field.specs.Uses.{IsUsed}
 use Rattle.fleet_field.proofs.Uses.{AreShownTo}
-use Rattle.fleet_field.proofs.store.use_all.Given as goal
+use Rattle.fleet_field.proofs.holds.use_all.Given as goal
 
 abbrev pub invariant-loop-goal : goal.invariant-loop-goal
 invariant-loop-goal g l = record {

@@ -1,7 +1,8 @@
-use Rattle.std.proofs.Common.{◌≡◌, ◌≢◌, ℕ, refl, sym, ap, ◌∙◌}
+use Rattle.std.proofs.Common.{◌≡◌, ◌≢◌, ℕ, Some, refl, sym, ap, ◌∙◌}
 use Rattle.fleet_field.specs.Store.{shown}
 use Rattle.fleet_field.proofs.Shares.{once_same, once_less}
-use Rattle.fleet_field.proofs.store.FieldStore.release.Goals as goal
+use Rattle.fleet_field.proofs.Shelved.{keeps_put}
+use Rattle.fleet_field.proofs.store.FieldStore.release_to.Goals as goal
 
 pub invariant_of-self : goal.invariant_of-self
 invariant_of-self g c =
@@ -14,3 +15,8 @@ invariant_of-self g c =
 pub invariant_of-self-else-uses-gt1 : goal.invariant_of-self-else-uses-gt1
 invariant_of-self-else-uses-gt1 g c =
     once_less c.self.inside.held.slots c.remove-field.new.self.slots c.args.key c.remove-field.ensures.updates.others c.self.invariant c.remove-field.ensures.updates.changed
+
+pub returns-else-uses-gt1-clause-keeps : goal.returns-else-uses-gt1-clause-keeps
+returns-else-uses-gt1-clause-keeps g c = λ m serves keeps.
+    let was : shown c.args.self.now c.args.key ≡ Some _ = sym (ap (λ s. shown s c.args.key) c.self.view_is) ∙ c.remove-field.ensures.value in
+    keeps_put m c.remove-field.result.field c.args.shelf.now c.put.new.self c.put.ensures (serves c.args.key _ was) keeps

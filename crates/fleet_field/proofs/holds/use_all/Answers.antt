@@ -1,6 +1,6 @@
 use Rattle.std.proofs.Common.{◌+◌, slice_index, sym, subst, ◌∙◌, arith}
 use Rattle.fleet_field.proofs.Uses.{AreShownTo, used_there, used_more, shown_more, uses_few}
-use Rattle.fleet_field.proofs.store.use_all.Goals as goal
+use Rattle.fleet_field.proofs.holds.use_all.Goals as goal
 
 pub use_goal-requires-clause-there : goal.use_goal-requires-clause-there
 use_goal-requires-clause-there g c =

@@ -3,7 +3,7 @@ use Rattle.fleet_field.specs.Field.{Aim, IsField}
 use Rattle.fleet_field.specs.declared.store.Held.{Held}
 use Rattle.fleet_field.specs.Store.{shown, Serves, IsHold}
 use Rattle.fleet_field.proofs.Shares.{hold_more, hold_new, once_new, serves_by}
-use Rattle.fleet_field.proofs.store.FieldStore.hold.Goals as goal
+use Rattle.fleet_field.proofs.store.FieldStore.hold_from.Goals as goal
 
 pub returns-in-Some-clause-held : goal.returns-in-Some-clause-held
 returns-in-Some-clause-held g c =
@@ -22,7 +22,7 @@ invariant_of-self-2 g c =
     let same : c.reserve.new.self.slots ≡ c.self.inside.held.slots = ap (λ s. s.slots) c.reserve.ensures.rest_kept in
     let others : (other : ℕ) → other ≢ c.insert_reserved.result → shown c.insert_reserved.new.self.slots other ≡ shown c.self.inside.held.slots other = λ other ne. c.insert_reserved.ensures.updates.others other ne ∙ ap (λ s. shown s other) same in
     once_new c.self.inside.held.slots c.insert_reserved.new.self.slots c.insert_reserved.result others c.self.invariant (record { field = c.in_ok-field.field; uses = 1 }) c.insert_reserved.ensures.updates.changed
-    (λ k at e same. c.in_default.ensures k at e (same ∙ c.in_ok-field.ensures.goal))
+    (λ k at e same. c.in_default.ensures k at e (same ∙ c.in_ok-field.ensures.field.goal))
 
 pub returns-clause-held : goal.returns-clause-held
 returns-clause-held g c =
@@ -30,11 +30,11 @@ returns-clause-held g c =
     let others : (other : ℕ) → other ≢ c.insert_reserved.result → shown c.insert_reserved.new.self.slots other ≡ shown c.self.inside.held.slots other = λ other ne. c.insert_reserved.ensures.updates.others other ne ∙ ap (λ s. shown s other) same in
     subst (λ (s : List (Option (Held Aim))). IsHold c.args.grid.now c.args.goal s c.insert_reserved.new.self.slots c.insert_reserved.result) c.self.view_is
     (hold_new c.self.inside.held.slots c.insert_reserved.new.self.slots c.insert_reserved.result others c.args.grid.now c.args.goal c.in_default.ensures (sym (ap (λ s. shown s c.insert_reserved.result) same) ∙ c.insert_reserved.ensures.was_vacant)
-    (record { field = c.in_ok-field.field; uses = 1 }) c.insert_reserved.ensures.updates.changed c.in_ok-field.ensures refl)
+    (record { field = c.in_ok-field.field; uses = 1 }) c.insert_reserved.ensures.updates.changed c.in_ok-field.ensures.field refl)
 
 pub returns-clause-serves : goal.returns-clause-serves
 returns-clause-serves g c =
     let same : c.reserve.new.self.slots ≡ c.self.inside.held.slots = ap (λ s. s.slots) c.reserve.ensures.rest_kept in
     let others : (other : ℕ) → other ≢ c.insert_reserved.result → shown c.insert_reserved.new.self.slots other ≡ shown c.self.inside.held.slots other = λ other ne. c.insert_reserved.ensures.updates.others other ne ∙ ap (λ s. shown s other) same in
     serves_by c.self.inside.held.slots c.insert_reserved.new.self.slots c.insert_reserved.result others c.args.grid.now (subst (Serves c.args.grid.now) (sym c.self.view_is) c.requires.serves)
-    (record { field = c.in_ok-field.field; uses = 1 }) c.insert_reserved.ensures.updates.changed (subst (λ (x : ℕ). IsField c.args.grid.now x c.in_ok-field.field) (sym c.in_ok-field.ensures.goal) c.in_ok-field.ensures)
+    (record { field = c.in_ok-field.field; uses = 1 }) c.insert_reserved.ensures.updates.changed (subst (λ (x : ℕ). IsField c.args.grid.now x c.in_ok-field.field) (sym c.in_ok-field.ensures.field.goal) c.in_ok-field.ensures.field)

@@ -3,7 +3,7 @@ use Rattle.std.specs.List.{Contains}
 use Rattle.slab.specs.Slab.{HasRoomFor}
 use Rattle.fleet_field.specs.Field.{Aim}
 use Rattle.fleet_field.specs.Uses.{HasGoal, IsFilled}
-use Rattle.fleet_field.proofs.store.put_all.Given as goal
+use Rattle.fleet_field.proofs.holds.put_all.Given as goal
 
 abbrev pub invariant-loop-field : goal.invariant-loop-field
 invariant-loop-field g l = record {
