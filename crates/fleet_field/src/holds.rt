@@ -14,7 +14,10 @@ use slab::Slab;
 use std::alloc::{AllocError, Allocator};
 
 /// The key that shows the field of a goal.
-pub(crate) fn key_of<A: Allocator + Copy>(held: &Slab<Held<Compass<A>>, A>, goal: u32) -> Option<usize>
+pub(crate) fn key_of<A: Allocator + Copy>(
+    held: &Slab<Held<Compass<A>>, A>,
+    goal: u32,
+) -> Option<usize>
     ensures { MatchOption result ((key : ℕ) → (at : HeldView Aim) → get held.now key ≡ Some at → at.field.goal ≡ goal → ⊥) (λ key. (at : HeldView Aim) × (get held.now key ≡ Some at) × (at.field.goal ≡ goal)) }
 {
     for key in 0..held.capacity() {

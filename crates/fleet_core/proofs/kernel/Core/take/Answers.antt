@@ -56,7 +56,7 @@ invariant_of-self-2 g c =
       room = room-kept k.is next refl c.enter_take.ensures.rooms k.room;
       within = within-take k.within c.args.client c.args.order c.judge-verdict.result few;
       boxed = rw c.push.ensures (boxes-take k.is.legal k.boxed c.args.client c.args.order c.judge-verdict.result known is c.next_number.result c.taken.result c.next_number.ensures.next (c.taken.ensures c.self.inside.grid _ next) room);
-      aimed = aimed-take k.is k.aimed c.args.client c.args.order c.judge-verdict.result is c.in_ok-begin.ensures.goals c.begin.ensures.on c.begin.ensures.size c.begin.ensures.bridge;
+      aimed = aimed-take k.is k.aimed c.args.client c.args.order c.judge-verdict.result is c.in_ok-begin.ensures.goals c.begin.ensures.on c.begin.ensures.size c.begin.ensures.bridge c.begin.ensures.keeps;
       tied = record { count = k.tied.count; planned = each_tick-take (IsPlanned c.self.inside.grid c.self.inside.ties.items) h c.args.client c.args.order c.judge-verdict.result k.tied.planned };
       bounded = k.bounded;
     }
