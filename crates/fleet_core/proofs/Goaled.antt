@@ -39,6 +39,7 @@ use Rattle.fleet_state.specs.Robots.{queue_at}
 use Rattle.fleet_state.specs.State.{State, IsStateOf}
 use Rattle.fleet_state.proofs.Judged.{items-of}
 use Rattle.fleet_state.proofs.Parts.{queue-count}
+use Rattle.fleet_book.specs.declared.limits.Limits.{Limits}
 use Rattle.fleet_core.specs.Kept.{IsKept}
 use Rattle.fleet_core.specs.Mailboxes.{Mailboxes}
 use Rattle.fleet_core.specs.Aimed.{Planner, IsAimed, IsIdle, begun, begun_goals, goal_on, goals_ticked}
