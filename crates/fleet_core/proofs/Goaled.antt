@@ -8,6 +8,7 @@ use Rattle.std.proofs.lemmas.Bool.{cases_eq, cases_lt, cases_Bool, eq-eqb, ne_eq
 use Rattle.fleet_grid.specs.Floor.{Floor, IsFloor, IsNeighbour}
 use Rattle.fleet_grid.specs.Walk.{IsBridgeless}
 use Rattle.fleet_field.specs.Field.{Aim}
+use Rattle.fleet_field.specs.Store.{Keeps}
 use Rattle.fleet_goals.specs.Aims.{goals_of, goal_in, AreOn, AreFloor}
 use Rattle.fleet_hooks.specs.declared.law.TieLaw.{TieLaw}
 use Rattle.fleet_queue.specs.declared.errand.Errand.{Errand}
@@ -38,6 +39,9 @@ use Rattle.fleet_state.specs.Robots.{queue_at}
 use Rattle.fleet_state.specs.State.{State, IsStateOf}
 use Rattle.fleet_state.proofs.Judged.{items-of}
 use Rattle.fleet_state.proofs.Parts.{queue-count}
+use Rattle.fleet_book.specs.declared.limits.Limits.{Limits}
+use Rattle.fleet_core.specs.Kept.{IsKept}
+use Rattle.fleet_core.specs.Mailboxes.{Mailboxes}
 use Rattle.fleet_core.specs.Aimed.{Planner, IsAimed, IsIdle, begun, begun_goals, goal_on, goals_ticked}
 
 -- ---- lists by robot
@@ -146,12 +150,13 @@ ticked_floor m at to r (f ∷ u) cell all e = by_case (eqb f.cell (slice_index t
 
 module _ {A : Type 0} {m : Floor} {h : History A} {s : State A} {p : Planner} (k : IsStateOf m h s) (a : IsAimed m h p) where
   pub aimed-take : {q : Planner} (c : ℕ) (order : Order) (v : Verdict) → IsVerdict m h c order v → goals_of q.aims ≡ begun_goals (begun s.queues order v) (goals_of p.aims) → AreOn m q.aims →
-      q.size ≡ p.size → q.bridgeless ≡ p.bridgeless → IsAimed m (after h (entry.Take c order v)) q
-  aimed-take c order v is same on size bridge = record {
+      q.size ≡ p.size → q.bridgeless ≡ p.bridgeless → Keeps m q.kept → IsAimed m (after h (entry.Take c order v)) q
+  aimed-take c order v is same on size bridge kept = record {
     aimed = same ∙ ap (begun_goals (begun s.queues order v)) a.aimed ∙ begins-take m h s.queues c order v k.legal is (items-of k);
     on = on;
     sized = size ∙ a.sized;
     bridge = subst (λ b. IsTrue b ↔ IsBridgeless (IsNeighbour m)) (sym bridge) a.bridge;
+    kept = kept;
   }
 
   pub aimed-shut : (robot : ℕ) (farewell : Option ℕ) → IsAimed m (after h (entry.Shut robot farewell)) p
@@ -160,11 +165,22 @@ module _ {A : Type 0} {m : Floor} {h : History A} {s : State A} {p : Planner} (k
     on = a.on;
     sized = a.sized;
     bridge = a.bridge;
+    kept = a.kept;
+  }
+
+  -- other fields may be kept
+  pub aimed-kept : {q : Planner} → q.aims ≡ p.aims → q.size ≡ p.size → q.bridgeless ≡ p.bridgeless → Keeps m q.kept → IsAimed m h q
+  aimed-kept same size bridge kept = record {
+    aimed = ap goals_of same ∙ a.aimed;
+    on = subst (AreOn m) (sym same) a.on;
+    sized = size ∙ a.sized;
+    bridge = subst (λ b. IsTrue b ↔ IsBridgeless (IsNeighbour m)) (sym bridge) a.bridge;
+    kept = kept;
   }
 
   pub aimed-tick : {q : Planner} (to : List ℕ) (arrived : List Arrival) (farewells : List Bye) → map due_of arrived ≡ due h to → goals_of q.aims ≡ goals_ticked s.queues to → AreOn m q.aims →
-      q.size ≡ p.size → q.bridgeless ≡ p.bridgeless → IsAimed m (after h (entry.Tick to arrived farewells)) q
-  aimed-tick to arrived farewells shows same on size bridge =
+      q.size ≡ p.size → q.bridgeless ≡ p.bridgeless → Keeps m q.kept → IsAimed m (after h (entry.Tick to arrived farewells)) q
+  aimed-tick to arrived farewells shows same on size bridge kept =
       let g : History A = after h (entry.Tick to arrived farewells) in
       record {
         aimed = same ∙ ap (λ n. map (λ r. goal_on (slice_index to r) (queue_at s.queues r).items) (range_with_len 0 n)) (queue-count k)
@@ -173,6 +189,7 @@ module _ {A : Type 0} {m : Floor} {h : History A} {s : State A} {p : Planner} (k
         on = on;
         sized = size ∙ a.sized;
         bridge = subst (λ b. IsTrue b ↔ IsBridgeless (IsNeighbour m)) (sym bridge) a.bridge;
+        kept = kept;
       }
 
   -- the goals behind a tick are floor
@@ -193,6 +210,7 @@ module _ {A : Type 0} {m : Floor} {h : History A} {s : State A} {p : Planner} (k
     on = a.on;
     sized = a.sized ∙ ap (λ (n : ℕ). record { cells = length m.letters; robots = n }) (sym (next-robots h));
     bridge = a.bridge;
+    kept = a.kept;
   }
 
 replicate_none : (n r : ℕ) → slice_index_or (replicate {A = Option ℕ} n None) r None ≡ None
@@ -205,8 +223,8 @@ goals_none zero = refl
 goals_none (suc n) = ap (λ (t : List (Option ℕ)). None ∷ t) (goals_none n)
 
 pub aimed-start : {A : Type 0} (m : Floor) (o : Opening A) (n : ℕ) (p : Planner) → length o.robots ≡ n → ((r : ℕ) → unfinished (start o) r ≡ []) → p.aims ≡ replicate n None → AreOn m p.aims →
-    p.size ≡ record { cells = length m.letters; robots = n } → (IsTrue p.bridgeless ↔ IsBridgeless (IsNeighbour m)) → IsAimed m (start o) p
-aimed-start {A = A} m o n p count none idle on sized bridge =
+    p.size ≡ record { cells = length m.letters; robots = n } → (IsTrue p.bridgeless ↔ IsBridgeless (IsNeighbour m)) → Keeps m p.kept → IsAimed m (start o) p
+aimed-start {A = A} m o n p count none idle on sized bridge kept =
     let h : History A = start o in
     record {
       aimed = ap goals_of idle ∙ goals_none n ∙ listed (robots h) (λ r. cell_of (front h r)) (replicate n None) (length-replicate n None ∙ sym count)
@@ -214,6 +232,7 @@ aimed-start {A = A} m o n p count none idle on sized bridge =
       on = on;
       sized = sized ∙ ap (λ (k : ℕ). record { cells = length m.letters; robots = k }) (sym count);
       bridge = bridge;
+      kept = kept;
     }
 
 -- ---- what is told
@@ -238,3 +257,16 @@ idle-is h ws same = (
 -- there is an aim for each robot
 pub aims-count : {A : Type 0} (h : History A) (a : List (Option Aim)) → goals_of a ≡ goals h → length a ≡ robots h
 aims-count h a same = sym (length-map a goal_in) ∙ ap length same ∙ length-by_robot (robots h) (λ r. cell_of (front h r))
+
+-- what a core keeps, with other fields in its planner
+pub kept-fields : {A : Type 0} {m : Floor} {limits : Limits} {ties : List TieLaw} {n : ℕ} {h : History A} {s : State A} {p q : Planner} {x : Mailboxes} → IsKept m limits ties n h s p x →
+    q.aims ≡ p.aims → q.size ≡ p.size → q.bridgeless ≡ p.bridgeless → Keeps m q.kept → IsKept m limits ties n h s q x
+kept-fields k same size bridge kept = record {
+  is = k.is;
+  room = k.room;
+  within = k.within;
+  boxed = k.boxed;
+  aimed = aimed-kept k.is k.aimed same size bridge kept;
+  tied = k.tied;
+  bounded = k.bounded;
+}

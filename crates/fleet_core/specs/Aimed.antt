@@ -4,6 +4,7 @@ use Rattle.std.specs.List.{range_with_len}
 use Rattle.fleet_grid.specs.Floor.{Floor, IsNeighbour}
 use Rattle.fleet_grid.specs.Walk.{IsBridgeless}
 use Rattle.fleet_field.specs.Field.{Aim}
+use Rattle.fleet_field.specs.Store.{Keeps}
 use Rattle.fleet_goals.specs.Aims.{goals_of, AreOn}
 use Rattle.fleet_pibt.specs.Size.{Size}
 use Rattle.fleet_queue.specs.declared.errand.Errand.{Errand}
@@ -19,11 +20,13 @@ use Rattle.fleet_plan.specs.Planned.{goals, cell_of}
 use Rattle.fleet_state.specs.Robots.{queue_at}
 use Rattle.fleet_state.specs.State.{State, IsStateOf}
 
--- what each robot aims at, the size of the fleet and its map, and whether the map has no bridge
+-- what each robot aims at, the size of the fleet and its map, whether the map has no bridge, and the fields of goals that
+-- no robot has any more
 pub record Planner : Type 0 where
   pub aims : List (Option Aim)
   pub size : Size
   pub bridgeless : Bool
+  pub kept : List Aim
 
 -- the planner goes by the goals after the history
 pub record IsAimed {A : Type 0} (m : Floor) (h : History A) (p : Planner) : Type 0 where
@@ -31,6 +34,7 @@ pub record IsAimed {A : Type 0} (m : Floor) (h : History A) (p : Planner) : Type
   pub on : AreOn m p.aims
   pub sized : p.size ≡ record { cells = length m.letters; robots = robots h }
   pub bridge : IsTrue p.bridgeless ↔ IsBridgeless (IsNeighbour m)
+  pub kept : Keeps m p.kept
 
 -- it goes by those of a history of which this is the state
 pub record MayPlan {A : Type 0} (m : Floor) (s : State A) (p : Planner) : Type 0 where

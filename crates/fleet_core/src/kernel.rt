@@ -176,6 +176,14 @@ impl<A: Allocator + Copy> Core<A> {
         self.planner.is_bridgeless()
     }
 
+    /// Keeps the fields of goals that no robot has any more, up to so many bytes; 256 MiB where nothing is said. What is
+    /// kept shows in nothing but the time and the memory that a take or a tick needs.
+    pub fn keep(&mut self, bytes: usize)
+        ensures { self.new ≡ self.old }
+    {
+        self.planner.keep(bytes);
+    }
+
     pub fn limits(&self) -> &Limits
         ensures { result.now ≡ self.now.limits }
     {

@@ -1,7 +1,8 @@
 //! What the robots go by from tick to tick: their goals, and the step by priority inheritance with backtracking.
 
 ghost use Rattle.std.specs.Prelude.{◌≡◌, ◌<◌, ◌≤◌, ◌^◌, ◌↔◌, ℕ, IsTrue, None, slice_get, length, map, replicate, IfOk, OnOk, OnErr};
-ghost use Rattle.fleet_grid.specs.Floor.{IsNeighbour};
+ghost use Rattle.fleet_field.specs.Store.{Keeps};
+ghost use Rattle.fleet_grid.specs.Floor.{Floor, IsNeighbour};
 ghost use Rattle.fleet_grid.specs.Step.{IsConflictFree};
 ghost use Rattle.fleet_grid.specs.Walk.{IsBridgeless};
 ghost use Rattle.fleet_goals.specs.Aims.{goals_of, AreOn};
@@ -13,6 +14,7 @@ ghost use Rattle.fleet_core.specs.Aimed.{MayPlan, MayBegin, begun, begun_goals, 
 
 use fleet_book::{Order, Verdict};
 use fleet_bridge::first_bridge;
+use fleet_field::Shelf;
 use fleet_goals::Aims;
 use fleet_grid::Grid;
 use fleet_hooks::TieHook;
@@ -22,12 +24,16 @@ use fleet_state::FleetState;
 use std::alloc::{AllocError, Allocator, Global};
 use std::marker::Model;
 
-/// What each robot aims at, and the means to plan a step.
+/// The bytes of fields that are kept where nothing else is said: 256 MiB.
+const KEPT_BYTES: usize = 268435456;
+
+/// What each robot aims at, the means to plan a step, and the fields of goals that no robot has any more.
 #[derive(Drop)]
 pub(crate) struct Planner<A: Allocator + Copy = Global> {
     aims: Aims<A>,
     stepper: Stepper<A>,
     bridgeless: bool,
+    shelf: Shelf<A>,
 }
 
 impl<A: Allocator + Copy> Model for Planner<A> {
@@ -35,7 +41,7 @@ impl<A: Allocator + Copy> Model for Planner<A> {
 
     ghost Value = { Planner };
 
-    ghost view = { λ p. record { aims = p.aims; size = p.stepper; bridgeless = p.bridgeless } };
+    ghost view = { λ p. record { aims = p.aims; size = p.stepper; bridgeless = p.bridgeless; kept = p.shelf } };
 }
 
 impl<A: Allocator + Copy> Planner<A> {
@@ -46,12 +52,24 @@ impl<A: Allocator + Copy> Planner<A> {
         ensures on { IfOk result (λ p. AreOn grid.now p.aims) }
         ensures size { IfOk result (λ p. p.size ≡ record { cells = length grid.now.letters; robots = robots }) }
         ensures bridge { IfOk result (λ p. IsTrue p.bridgeless ↔ IsBridgeless (IsNeighbour grid.now)) }
+        ensures keeps { IfOk result (λ p. Keeps grid.now p.kept) }
     {
         Ok(Planner {
             aims: Aims::new(alloc, robots)?,
             stepper: Stepper::new(alloc, grid.cell_count(), robots as u32)?,
             bridgeless: has_no_bridge(alloc, grid)?,
+            shelf: Shelf::new(alloc, KEPT_BYTES),
         })
+    }
+
+    /// Keeps the fields of goals that no robot has any more, up to so many bytes.
+    pub(crate) fn keep(&mut self, bytes: usize)
+        ensures aims { self.new.aims ≡ self.old.aims }
+        ensures size { self.new.size ≡ self.old.size }
+        ensures bridge { self.new.bridgeless ≡ self.old.bridgeless }
+        ensures keeps { (m : Floor) → Keeps m self.old.kept → Keeps m self.new.kept }
+    {
+        self.shelf.keep(bytes);
     }
 
     /// Whether the map has no bridge.
@@ -102,7 +120,8 @@ impl<A: Allocator + Copy> Planner<A> {
         ensures on { AreOn grid.now self.new.aims }
         ensures size { self.new.size ≡ self.old.size }
         ensures bridge { self.new.bridgeless ≡ self.old.bridgeless }
-        ensures refused { OnErr result (self.new ≡ self.old) }
+        ensures keeps { Keeps grid.now self.new.kept }
+        ensures refused { OnErr result (self.new.aims ≡ self.old.aims) }
     {
         let Order::Go { robot, cell } = order else {
             return Ok(());
@@ -112,7 +131,7 @@ impl<A: Allocator + Copy> Planner<A> {
         };
         match state.front(robot) {
             Some(_front) => Ok(()),
-            None => self.aims.aim(grid, robot, cell),
+            None => self.aims.aim(&mut self.shelf, grid, robot, cell),
         }
     }
 }
@@ -133,10 +152,11 @@ impl<A: Allocator + Copy> Planner<A> {
         ensures on { AreOn grid.now self.new.aims }
         ensures size { self.new.size ≡ self.old.size }
         ensures bridge { self.new.bridgeless ≡ self.old.bridgeless }
-        ensures refused { OnErr result (self.new ≡ self.old) }
+        ensures keeps { Keeps grid.now self.new.kept }
+        ensures refused { OnErr result (self.new.aims ≡ self.old.aims) }
     {
         let next = next_goals(alloc, state, to)?;
-        self.aims.turn(grid, next.as_slice())
+        self.aims.turn(&mut self.shelf, grid, next.as_slice())
     }
 }
 

@@ -11,3 +11,4 @@ pub mod Marks
 pub mod Descent
 pub mod Nearer
 pub mod Rows
+pub mod Shelved

@@ -1,5 +1,6 @@
 -- A store of shared fields: at each key the field that is held, with the number of its holds, or nothing.
 use Rattle.std.specs.Prelude.{◌≡◌, ◌≢◌, ℕ, ◌+◌, ◌-◌, ◌^◌, ◌<◌, List, Option, Some, None, slice_index_or, cond, nat_le}
+use Rattle.std.specs.List.{All}
 use Rattle.fleet_grid.specs.Floor.{Floor}
 use Rattle.fleet_field.specs.Field.{Aim, IsField}
 use Rattle.fleet_field.specs.declared.store.Held.{Held}
@@ -11,6 +12,10 @@ shown store key = slice_index_or store key None
 -- each held field is one of this map: the store serves it
 abbrev pub Serves : Floor → List (Option (Held Aim)) → Type 0
 Serves m store = (key : ℕ) (held : Held Aim) → shown store key ≡ Some held → IsField m held.field.goal held.field
+
+-- each kept field is one of this map
+abbrev pub Keeps : Floor → List Aim → Type 0
+Keeps m kept = All (λ field. IsField m field.goal field) kept
 
 -- a goal can be held so many times more
 abbrev pub HasUsesLeft : List (Option (Held Aim)) → ℕ → ℕ → Type 0

@@ -163,6 +163,13 @@ impl<A: Allocator + Copy> Compass<A> {
         ways_in(&self.ways, cell)
     }
 
+    /// How many cells the map has: as many bytes are taken.
+    pub(crate) fn cells(&self) -> usize
+        ensures { result ≡ length self.now.away }
+    {
+        self.ways.len()
+    }
+
     /// The goal.
     pub fn goal(&self) -> u32
         ensures { result ≡ self.now.goal }

@@ -7,13 +7,14 @@ ghost use Rattle.fleet_field.specs.Several.{AreFields};
 
 use crate::compass::Compass;
 use crate::several::is_large;
+use crate::shelf::Shelf;
 use fleet_grid::Grid;
 use rayon::prelude::*;
 use std::alloc::{AllocError, Allocator};
 use std::thread::Threads;
 
 /// The compasses of several goals, one after another.
-pub(crate) fn compasses_in_turn<A: Allocator + Copy, B: Allocator + Copy>(
+fn compasses_in_turn<A: Allocator + Copy, B: Allocator + Copy>(
     alloc: A,
     grid: &Grid<B>,
     goals: &[u32],
@@ -21,12 +22,7 @@ pub(crate) fn compasses_in_turn<A: Allocator + Copy, B: Allocator + Copy>(
     requires { (i : ℕ) → i < length goals.now → IsFloor grid.now (slice_index goals.now i) }
     ensures { IfOk result (λ compasses. AreFields grid.now goals.now compasses.items) }
 {
-    let mut compasses = Vec::with_capacity(alloc, goals.len())?;
-    for goal in goals {
-        let compass = Compass::from(alloc, grid, *goal)?;
-        compasses.push(compass)?;
-    }
-    Ok(compasses)
+    Shelf::new(alloc, 0).fields(grid, goals, 0)
 }
 
 /// The compass of a goal, where that is a floor cell, as each goal is that is asked for.

@@ -7,13 +7,16 @@ mod compass;
 mod compasses;
 mod field;
 mod flood;
+mod holds;
 mod several;
+mod shelf;
 mod store;
 mod ways;
 
 pub use compass::Compass;
 pub use field::Field;
 pub use several::fields;
+pub use shelf::Shelf;
 pub use store::FieldStore;
 
 #[cfg(test)]

@@ -1,6 +1,7 @@
 //! The worked map, shared fields, many goals, a large map, and each growth refused in turn.
 
 mod floor;
+mod kept;
 
 use crate::{Compass, Field, FieldStore, fields};
 use fleet_grid::Grid;

@@ -1,12 +1,13 @@
 //! What the robots aim at.
 
 ghost use Rattle.std.specs.Prelude.{◌≡◌, ℕ, ◌<◌, ◌≤◌, Some, None, length, replicate, slice_set, IfOk, OnOk, OnErr};
+ghost use Rattle.fleet_field.specs.Store.{Keeps};
 ghost use Rattle.fleet_grid.specs.Floor.{Floor, IsFloor};
 ghost use Rattle.fleet_goals.specs.Aims.{goals_of, goal, distance, AreOn, AreFloor};
 
 use crate::keys::{distance_of, exchange, goal_of, ways_of};
 use crate::turns::turn_to;
-use fleet_field::FieldStore;
+use fleet_field::{FieldStore, Shelf};
 use fleet_grid::Grid;
 use fleet_pibt::Goals;
 use std::alloc::{AllocError, Allocator, Global};
@@ -60,9 +61,11 @@ impl<A: Allocator + Copy> Aims<A> {
         Ok(Aims { alloc, store, keys })
     }
 
-    /// From now on the robot aims at the goal, a floor cell, in place of what it aimed at. All aims are on one map.
+    /// From now on the robot aims at the goal, a floor cell, in place of what it aimed at. All aims are on one map, and
+    /// what nobody aims at any more goes to what is kept of it.
     pub fn aim<B: Allocator + Copy>(
         &mut self,
+        shelf: &mut Shelf<A>,
         grid: &Grid<B>,
         robot: u32,
         goal: u32,
@@ -70,34 +73,46 @@ impl<A: Allocator + Copy> Aims<A> {
         requires known { robot < length self.old }
         requires floor { IsFloor grid.now goal }
         requires on { AreOn grid.now self.old }
+        requires keeps { Keeps grid.now shelf.old }
         ensures count { length self.new ≡ length self.old }
         ensures on { AreOn grid.now self.new }
+        ensures keeps { Keeps grid.now shelf.new }
         ensures goals { OnOk result (goals_of self.new ≡ slice_set (goals_of self.old) robot (Some goal)) }
         ensures refused { OnErr result (self.new ≡ self.old) }
     {
-        let key = self.store.hold(grid, goal)?;
-        exchange(&mut self.store, &mut self.keys, robot, Some(key));
+        let key = self.store.hold_from(shelf, grid, goal)?;
+        exchange(shelf, &mut self.store, &mut self.keys, robot, Some(key));
         Ok(())
     }
 }
 
 impl<A: Allocator + Copy> Aims<A> {
     /// From now on each robot aims at its next goal, a floor cell, or at nothing. Distances to new goals are searched
-    /// together; where no robot turns to a new goal, nothing is allocated.
+    /// together, where they are not kept; where no robot turns to a new goal, nothing is allocated.
     pub fn turn<B: Allocator + Copy>(
         &mut self,
+        shelf: &mut Shelf<A>,
         grid: &Grid<B>,
         next: &[Option<u32>],
     ) -> Result<(), AllocError>
         requires same_length { length next.now ≡ length self.old }
         requires floor { AreFloor grid.now next.now }
         requires on { AreOn grid.now self.old }
+        requires keeps { Keeps grid.now shelf.old }
         ensures count { length self.new ≡ length self.old }
         ensures on { AreOn grid.now self.new }
+        ensures keeps { Keeps grid.now shelf.new }
         ensures goals { OnOk result (goals_of self.new ≡ next.now) }
         ensures refused { OnErr result (self.new ≡ self.old) }
     {
-        turn_to(self.alloc, grid, &mut self.store, &mut self.keys, next)
+        turn_to(
+            self.alloc,
+            shelf,
+            grid,
+            &mut self.store,
+            &mut self.keys,
+            next,
+        )
     }
 }
 

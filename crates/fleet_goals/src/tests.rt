@@ -3,6 +3,7 @@
 mod floor;
 
 use crate::Aims;
+use fleet_field::Shelf;
 use fleet_grid::Grid;
 use fleet_map::MapText;
 use fleet_pibt::Goals;
@@ -27,10 +28,11 @@ fn ring(alloc: Global) -> Result<Grid, Fail> {
 fn aimed_and_turned(rt: HostRuntime) -> Result<(), Fail> {
     let grid = ring(rt.alloc())?;
     let mut aims = Aims::new(rt.alloc(), 2)?;
+    let mut shelf = Shelf::new(rt.alloc(), 4096);
     assert_eq!(rt; aims.goal(0), None);
     assert_eq!(rt; aims.at(0, 8), None);
     assert!(rt; grid.is_floor(8));
-    aims.aim(&grid, 0, 8)?;
+    aims.aim(&mut shelf, &grid, 0, 8)?;
     assert_eq!(rt; (aims.goal(0), aims.goal(1)), (Some(8), None));
     assert_eq!(rt;
         (aims.at(0, 0), aims.at(0, 5), aims.at(0, 4)),
@@ -38,10 +40,10 @@ fn aimed_and_turned(rt: HostRuntime) -> Result<(), Fail> {
     );
     // East and south.
     assert_eq!(rt; (aims.ways(&grid, 0, 0), aims.ways(&grid, 1, 0)), (6, 0));
-    aims.aim(&grid, 1, 8)?;
+    aims.aim(&mut shelf, &grid, 1, 8)?;
     let next = [Some(1), Some(8)];
     assert!(rt; are_floor(&grid, &next));
-    aims.turn(&grid, &next)?;
+    aims.turn(&mut shelf, &grid, &next)?;
     assert_eq!(rt; (aims.goal(0), aims.goal(1)), (Some(1), Some(8)));
     assert_eq!(rt; (aims.at(0, 8), aims.at(1, 1)), (Some(3), Some(3)));
     Ok(())
@@ -56,15 +58,16 @@ fn is_refused(
     let Ok(mut aims) = Aims::new(heap, 2) else {
         return Ok(true);
     };
+    let mut shelf = Shelf::new(heap, 4096);
     assert!(rt; grid.is_floor(8));
-    let first = aims.aim(grid, 0, 8).is_err();
+    let first = aims.aim(&mut shelf, grid, 0, 8).is_err();
     assert!(rt; aims.goal(0).is_none() == first);
-    aims.aim(grid, 0, 8)?;
+    aims.aim(&mut shelf, grid, 0, 8)?;
     let next = [Some(1), Some(5)];
     assert!(rt; are_floor(grid, &next));
-    let second = aims.turn(grid, &next).is_err();
+    let second = aims.turn(&mut shelf, grid, &next).is_err();
     assert!(rt; aims.goal(0) == Some(if second { 8 } else { 1 }));
-    aims.turn(grid, &next)?;
+    aims.turn(&mut shelf, grid, &next)?;
     assert!(rt; aims.at(0, 0) == Some(1) && aims.at(1, 8) == Some(1));
     Ok(first || second)
 }
@@ -93,14 +96,15 @@ fn turned_without_memory(rt: HostRuntime) -> Result<(), Fail> {
         let Ok(mut aims) = Aims::new(&heap, 2) else {
             continue;
         };
+        let mut shelf = Shelf::new(&heap, 4096);
         assert!(rt; grid.is_floor(8));
-        if aims.aim(&grid, 0, 8).is_err() {
+        if aims.aim(&mut shelf, &grid, 0, 8).is_err() {
             continue;
         }
         // Where no growth was left behind the goal's own, one here would be refused.
         assert!(rt; are_floor(&grid, &[Some(8), None]) && are_floor(&grid, &[None, None]));
-        assert!(rt; aims.turn(&grid, &[Some(8), None]).is_ok());
-        assert!(rt; aims.turn(&grid, &[None, None]).is_ok());
+        assert!(rt; aims.turn(&mut shelf, &grid, &[Some(8), None]).is_ok());
+        assert!(rt; aims.turn(&mut shelf, &grid, &[None, None]).is_ok());
     }
     Ok(())
 }

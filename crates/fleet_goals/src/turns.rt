@@ -1,12 +1,14 @@
 //! Turning several robots to other goals.
 
 ghost use Rattle.std.specs.Prelude.{◌≡◌, ℕ, ◌<◌, ◌≤◌, [], Some, length, slice_index, IfOk, OnOk, OnErr, MatchOption};
+ghost use Rattle.fleet_field.specs.Store.{Keeps, Serves};
+ghost use Rattle.fleet_grid.specs.Floor.{Floor};
 ghost use Rattle.fleet_goals.specs.Aims.{goal_in, goals_of, AreOn, AreFloor};
 ghost use Rattle.fleet_goals.specs.Keys.{key_at, field_at, fields_of, AreShowing, AreCounted, AreOwn, AreKept};
 ghost use Rattle.fleet_goals.specs.Turns.{AreTurning, AreDealt, AreIdled};
 
 use crate::keys::{exchange, goal_of};
-use fleet_field::FieldStore;
+use fleet_field::{FieldStore, Shelf};
 use fleet_grid::Grid;
 use std::alloc::{AllocError, Allocator};
 
@@ -64,6 +66,7 @@ fn turning_of<A: Allocator + Copy>(
 
 /// Deals each of these robots its new key, and gives its old one back.
 fn deal<A: Allocator + Copy>(
+    shelf: &mut Shelf<A>,
     store: &mut FieldStore<A>,
     keys: &mut [Option<usize>],
     robots: &[u32],
@@ -75,14 +78,16 @@ fn deal<A: Allocator + Copy>(
     ensures counted { AreCounted store.new keys.new [] }
     ensures kept { AreKept store.old store.new }
     ensures dealt { AreDealt robots.now fresh.now (length robots.now) keys.old keys.new }
+    ensures keeps { (m : Floor) → Serves m store.old → Keeps m shelf.old → Keeps m shelf.new }
 {
     for at in 0..robots.len() {
-        exchange(store, keys, robots[at], Some(fresh[at]));
+        exchange(shelf, store, keys, robots[at], Some(fresh[at]));
     }
 }
 
 /// Takes the keys from the robots without a next goal, and gives them back.
 fn idle<A: Allocator + Copy>(
+    shelf: &mut Shelf<A>,
     store: &mut FieldStore<A>,
     keys: &mut [Option<usize>],
     next: &[Option<u32>],
@@ -93,10 +98,11 @@ fn idle<A: Allocator + Copy>(
     ensures counted { AreCounted store.new keys.new [] }
     ensures kept { AreKept store.old store.new }
     ensures idled { AreIdled next.now (length next.now) keys.old keys.new }
+    ensures keeps { (m : Floor) → Serves m store.old → Keeps m shelf.old → Keeps m shelf.new }
 {
     for (robot, goal) in next.iter().enumerate() {
         if goal.is_none() {
-            exchange(store, keys, robot as u32, None);
+            exchange(shelf, store, keys, robot as u32, None);
         }
     }
 }
@@ -104,6 +110,7 @@ fn idle<A: Allocator + Copy>(
 /// Turns each robot to its next goal, or to none. New goals are held together, and then what the robots had is given back.
 pub(crate) fn turn_to<A: Allocator + Copy, B: Allocator + Copy>(
     alloc: A,
+    shelf: &mut Shelf<A>,
     grid: &Grid<B>,
     store: &mut FieldStore<A>,
     keys: &mut [Option<usize>],
@@ -113,16 +120,18 @@ pub(crate) fn turn_to<A: Allocator + Copy, B: Allocator + Copy>(
     requires floor { AreFloor grid.now next.now }
     requires own { AreOwn store.old keys.old }
     requires on { AreOn grid.now (fields_of store.old keys.old) }
+    requires keeps { Keeps grid.now shelf.old }
     ensures own { AreOwn store.new keys.new }
     ensures on { AreOn grid.now (fields_of store.new keys.new) }
+    ensures keeps { Keeps grid.now shelf.new }
     ensures count { length keys.new ≡ length keys.old }
     ensures goals { OnOk result (goals_of (fields_of store.new keys.new) ≡ next.now) }
     ensures store { OnErr result (store.new ≡ store.old) }
     ensures keys { OnErr result (keys.new ≡ keys.old) }
 {
     let turning = turning_of(alloc, store, keys, next)?;
-    let fresh = store.hold_each(grid, &turning.goals)?;
-    deal(store, keys, &turning.robots, &fresh);
-    idle(store, keys, next);
+    let fresh = store.hold_each_from(shelf, grid, &turning.goals)?;
+    deal(shelf, store, keys, &turning.robots, &fresh);
+    idle(shelf, store, keys, next);
     Ok(())
 }

@@ -246,6 +246,14 @@ impl<A: Allocator + Copy> World<A> {
         self.core.widen(client, extra)
     }
 
+    /// Keeps the fields of goals that no robot has any more, up to so many bytes; 256 MiB where nothing is said. What is
+    /// kept shows in nothing but the time and the memory that a take or a tick needs.
+    pub fn keep(&mut self, bytes: usize)
+        ensures { self.new.core ≡ self.old.core }
+    {
+        self.core.keep(bytes);
+    }
+
     /// Takes out the first notice that a client was not given yet.
     pub fn give(&mut self, client: u32) -> Option<Notice>
         requires { client < clients self.old.core.history }

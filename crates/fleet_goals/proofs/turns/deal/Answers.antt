@@ -2,6 +2,7 @@ use Rattle.std.proofs.Common.{ℕ, ◌+◌, ◌<◌, List, Option, Some, length,
 use Rattle.fleet_goals.specs.Keys.{key_at, AreCounted}
 use Rattle.fleet_goals.specs.Turns.{AreDealt}
 use Rattle.fleet_goals.proofs.Counts.{given, kept_on}
+use Rattle.fleet_goals.proofs.Fields.{serves_kept}
 use Rattle.fleet_goals.proofs.Turned.{spare_less, dealt_more}
 use Rattle.fleet_goals.proofs.turns.deal.Goals as goal
 
@@ -21,5 +22,6 @@ loop-at-preserved g c =
     record {
       counted = subst (λ (keys : List (Option ℕ)). AreCounted c.exchange.new.store keys (drop (n + 1) fresh)) (sym c.exchange.ensures.keys) r.0;
       kept = kept_on c.args.store.now c.loop-at.store c.exchange.new.store i.kept r.1;
+      keeps = λ m serves keeps. c.exchange.ensures.keeps m (serves_kept m c.args.store.now c.loop-at.store i.kept serves) (i.keeps m serves keeps);
       dealt = subst (AreDealt robots fresh (n + 1) c.args.keys.now) (sym c.exchange.ensures.keys) (dealt_more robots fresh n c.args.keys.now c.loop-at.keys known i.dealt);
     }

@@ -58,7 +58,7 @@ invariant_of-result g c =
       boxed = rw c.in_ok-mailboxes.ensures (boxes-opened c.args.grid c.args.starts.items c.args.clients c.args.limits laws can);
       aimed = aimed-start c.args.grid o n c.in_ok-planner.planner many (unfinished-opened g.row.A.Denot c.args.starts.items c.args.clients c.args.limits laws)
           (c.in_ok-planner.ensures.none ∙ ap (λ k. replicate k none) size) c.in_ok-planner.ensures.on
-          (c.in_ok-planner.ensures.size ∙ ap (λ (k : ℕ). record { cells = length c.args.grid.letters; robots = k }) size) c.in_ok-planner.ensures.bridge;
+          (c.in_ok-planner.ensures.size ∙ ap (λ (k : ℕ). record { cells = length c.args.grid.letters; robots = k }) size) c.in_ok-planner.ensures.bridge c.in_ok-planner.ensures.keeps;
       tied = record { count = can.hooks.ties ∙ sym many; planned = each_tick-start (IsPlanned c.args.grid laws.ties) o };
       bounded = λ none. bound-opened c.args.grid c.args.starts.items c.args.clients c.args.limits laws can orderly;
     }

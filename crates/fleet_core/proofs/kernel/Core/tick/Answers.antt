@@ -15,7 +15,7 @@ use Rattle.fleet_core.specs.Aimed.{Planner}
 use Rattle.fleet_core.specs.Core.{HasEntries}
 use Rattle.fleet_core.specs.Mailboxes.{AreDelivered}
 use Rattle.fleet_core.specs.Hooks.{AreArrivals, AreFarewells, spare_laws}
-use Rattle.fleet_core.proofs.Goaled.{aimed-tick}
+use Rattle.fleet_core.proofs.Goaled.{aimed-tick, kept-fields}
 use Rattle.fleet_core.proofs.Hooked.{stamps-are, last_stamps-are}
 use Rattle.fleet_core.proofs.Kept.{noticed-of, noticed-small, room-kept, boxes-tick, ticked-boxes, within-tick}
 use Rattle.fleet_core.proofs.Ticked.{arrived-clients, arrived-robots, arrived-few, arrived-owed, leaving-few, leaving-rise, leaving-robots, leaving-has, farewells-tick}
@@ -204,6 +204,12 @@ delivered_is g c p =
     subst (λ xs. AreDelivered xs c.in_ok-to.to.items c.of-report.result.tick c.self.inside.mailboxes c.deliver.new.self) c.as_slice-6.ensures.value
     (subst (λ to. AreDelivered c.as_slice-6.result.now to c.of-report.result.tick c.self.inside.mailboxes c.deliver.new.self) c.as_slice-7.ensures.value c.deliver.ensures)
 
+pub invariant_of-self : goal.invariant_of-self
+invariant_of-self g c =
+    rw (c.reserve.ensures.items)
+    (kept-fields c.self.invariant (c.in_err-turn.ensures.refused ∙ ap (λ (x : Planner). x.aims) c.plan.ensures.same) (c.turn.ensures.size ∙ ap (λ (x : Planner). x.size) c.plan.ensures.same)
+    (c.turn.ensures.bridge ∙ ap (λ (x : Planner). x.bridgeless) c.plan.ensures.same) c.turn.ensures.keeps)
+
 pub invariant_of-self-2 : goal.invariant_of-self-2
 invariant_of-self-2 g c =
     let k = c.self.invariant in
@@ -224,7 +230,7 @@ invariant_of-self-2 g c =
       within = within-tick k.within c.in_ok-to.to.items c.arrive.new.arrived.items c.take_leave.new.leaving.items few early;
       boxed = boxes-tick k.is.legal k.boxed c.in_ok-to.to.items c.arrive.new.arrived.items c.take_leave.new.leaving.items c.of-report.result.tick tick (delivered_is g a p) shows;
       aimed = aimed-tick k.is k.aimed c.in_ok-to.to.items c.arrive.new.arrived.items c.take_leave.new.leaving.items shows (rw c.as_slice-3.ensures.value at c.in_ok-turn.ensures.goals ∙ refl) c.turn.ensures.on
-          (c.turn.ensures.size ∙ ap (λ (x : Planner). x.size) c.plan.ensures.same) (c.turn.ensures.bridge ∙ ap (λ (x : Planner). x.bridgeless) c.plan.ensures.same);
+          (c.turn.ensures.size ∙ ap (λ (x : Planner). x.size) c.plan.ensures.same) (c.turn.ensures.bridge ∙ ap (λ (x : Planner). x.bridgeless) c.plan.ensures.same) c.turn.ensures.keeps;
       tied = record { count = k.tied.count; planned = each_tick-tick (IsPlanned c.self.inside.grid c.self.inside.ties.items) h c.in_ok-to.to.items c.arrive.new.arrived.items c.take_leave.new.leaving.items k.tied.planned (planned_is g a) };
       bounded = k.bounded;
     }

@@ -20,3 +20,8 @@ pub aim-requires-clause-on : goal.aim-requires-clause-on
 aim-requires-clause-on g c =
     let may = c.requires.may in
     let a = subst (IsAimed c.args.grid.now may.history) (sym c.self.view_is) may.aimed in a.on
+
+pub aim-requires-clause-keeps : goal.aim-requires-clause-keeps
+aim-requires-clause-keeps g c =
+    let may = c.requires.may in
+    let a = subst (IsAimed c.args.grid.now may.history) (sym c.self.view_is) may.aimed in a.kept

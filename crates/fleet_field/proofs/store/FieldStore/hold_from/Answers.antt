@@ -1,0 +1,40 @@
+use Rattle.std.proofs.Common.{◌≡◌, ◌≢◌, ℕ, ◌+◌, List, Option, refl, sym, ap, subst, ◌∙◌}
+use Rattle.fleet_field.specs.Field.{Aim, IsField}
+use Rattle.fleet_field.specs.declared.store.Held.{Held}
+use Rattle.fleet_field.specs.Store.{shown, Serves, IsHold}
+use Rattle.fleet_field.proofs.Shares.{hold_more, hold_new, once_new, serves_by}
+use Rattle.fleet_field.proofs.store.FieldStore.hold_from.Goals as goal
+
+pub returns-in-Some-clause-held : goal.returns-in-Some-clause-held
+returns-in-Some-clause-held g c =
+    let at = c.in-Some.ensures in
+    subst (λ (s : List (Option (Held Aim))). IsHold c.args.grid.now c.args.goal s c.use_again.new.held.slots c.in-Some.key) c.self.view_is
+    (hold_more c.self.inside.held.slots c.use_again.new.held.slots c.in-Some.key c.use_again.ensures.others c.args.grid.now c.args.goal c.self.invariant at.0 at.1 at.2 (c.use_again.ensures.more at.0 at.1))
+
+pub returns-in-Some-clause-serves : goal.returns-in-Some-clause-serves
+returns-in-Some-clause-serves g c =
+    let at = c.in-Some.ensures in
+    let serves : Serves c.args.grid.now c.self.inside.held.slots = subst (Serves c.args.grid.now) (sym c.self.view_is) c.requires.serves in
+    serves_by c.self.inside.held.slots c.use_again.new.held.slots c.in-Some.key c.use_again.ensures.others c.args.grid.now serves (record at.0 { uses = at.0.uses + 1 }) (c.use_again.ensures.more at.0 at.1) (serves c.in-Some.key at.0 at.1)
+
+pub invariant_of-self-2 : goal.invariant_of-self-2
+invariant_of-self-2 g c =
+    let same : c.reserve.new.self.slots ≡ c.self.inside.held.slots = ap (λ s. s.slots) c.reserve.ensures.rest_kept in
+    let others : (other : ℕ) → other ≢ c.insert_reserved.result → shown c.insert_reserved.new.self.slots other ≡ shown c.self.inside.held.slots other = λ other ne. c.insert_reserved.ensures.updates.others other ne ∙ ap (λ s. shown s other) same in
+    once_new c.self.inside.held.slots c.insert_reserved.new.self.slots c.insert_reserved.result others c.self.invariant (record { field = c.in_ok-field.field; uses = 1 }) c.insert_reserved.ensures.updates.changed
+    (λ k at e same. c.in_default.ensures k at e (same ∙ c.in_ok-field.ensures.field.goal))
+
+pub returns-clause-held : goal.returns-clause-held
+returns-clause-held g c =
+    let same : c.reserve.new.self.slots ≡ c.self.inside.held.slots = ap (λ s. s.slots) c.reserve.ensures.rest_kept in
+    let others : (other : ℕ) → other ≢ c.insert_reserved.result → shown c.insert_reserved.new.self.slots other ≡ shown c.self.inside.held.slots other = λ other ne. c.insert_reserved.ensures.updates.others other ne ∙ ap (λ s. shown s other) same in
+    subst (λ (s : List (Option (Held Aim))). IsHold c.args.grid.now c.args.goal s c.insert_reserved.new.self.slots c.insert_reserved.result) c.self.view_is
+    (hold_new c.self.inside.held.slots c.insert_reserved.new.self.slots c.insert_reserved.result others c.args.grid.now c.args.goal c.in_default.ensures (sym (ap (λ s. shown s c.insert_reserved.result) same) ∙ c.insert_reserved.ensures.was_vacant)
+    (record { field = c.in_ok-field.field; uses = 1 }) c.insert_reserved.ensures.updates.changed c.in_ok-field.ensures.field refl)
+
+pub returns-clause-serves : goal.returns-clause-serves
+returns-clause-serves g c =
+    let same : c.reserve.new.self.slots ≡ c.self.inside.held.slots = ap (λ s. s.slots) c.reserve.ensures.rest_kept in
+    let others : (other : ℕ) → other ≢ c.insert_reserved.result → shown c.insert_reserved.new.self.slots other ≡ shown c.self.inside.held.slots other = λ other ne. c.insert_reserved.ensures.updates.others other ne ∙ ap (λ s. shown s other) same in
+    serves_by c.self.inside.held.slots c.insert_reserved.new.self.slots c.insert_reserved.result others c.args.grid.now (subst (Serves c.args.grid.now) (sym c.self.view_is) c.requires.serves)
+    (record { field = c.in_ok-field.field; uses = 1 }) c.insert_reserved.ensures.updates.changed (subst (λ (x : ℕ). IsField c.args.grid.now x c.in_ok-field.field) (sym c.in_ok-field.ensures.field.goal) c.in_ok-field.ensures.field)

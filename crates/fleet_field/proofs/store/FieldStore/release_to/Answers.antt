@@ -1,0 +1,22 @@
+use Rattle.std.proofs.Common.{◌≡◌, ◌≢◌, ℕ, Some, refl, sym, ap, ◌∙◌}
+use Rattle.fleet_field.specs.Store.{shown}
+use Rattle.fleet_field.proofs.Shares.{once_same, once_less}
+use Rattle.fleet_field.proofs.Shelved.{keeps_put}
+use Rattle.fleet_field.proofs.store.FieldStore.release_to.Goals as goal
+
+pub invariant_of-self : goal.invariant_of-self
+invariant_of-self g c =
+    let same : c.insert_reserved-same.result ≡ c.args.key = c.insert_reserved-same.ensures.key ∙ c.remove-field.ensures.key_is_next in
+    let others : (other : ℕ) → other ≢ c.args.key → shown c.insert_reserved-same.new.self.slots other ≡ shown c.self.inside.held.slots other =
+    λ other ne. c.insert_reserved-same.ensures.updates.others other (λ e. ne (e ∙ same)) ∙ c.remove-field.ensures.updates.others other ne in
+    once_same c.self.inside.held.slots c.insert_reserved-same.new.self.slots c.args.key others c.self.invariant _ _ c.remove-field.ensures.value
+    (ap (shown c.insert_reserved-same.new.self.slots) (sym same) ∙ c.insert_reserved-same.ensures.updates.changed) refl
+
+pub invariant_of-self-else-uses-gt1 : goal.invariant_of-self-else-uses-gt1
+invariant_of-self-else-uses-gt1 g c =
+    once_less c.self.inside.held.slots c.remove-field.new.self.slots c.args.key c.remove-field.ensures.updates.others c.self.invariant c.remove-field.ensures.updates.changed
+
+pub returns-else-uses-gt1-clause-keeps : goal.returns-else-uses-gt1-clause-keeps
+returns-else-uses-gt1-clause-keeps g c = λ m serves keeps.
+    let was : shown c.args.self.now c.args.key ≡ Some _ = sym (ap (λ s. shown s c.args.key) c.self.view_is) ∙ c.remove-field.ensures.value in
+    keeps_put m c.remove-field.result.field c.args.shelf.now c.put.new.self c.put.ensures (serves c.args.key _ was) keeps
