@@ -29,6 +29,9 @@ pub const LIMITS: Limits = Limits {
     ..Limits::DEFAULT
 };
 
+/// How many bytes of fields are kept: those of all stations of the largest map.
+const KEPT: usize = 1 << 29;
+
 /// No world has more robots.
 pub const MOST_ROBOTS: u32 = 512;
 
@@ -65,6 +68,7 @@ pub(crate) fn measure_world<R: Alloc<A = Global> + Clock + Print + Threads + Syn
     let Ok(mut world) = World::open(alloc, grid, starts, 1, LIMITS, hooks) else {
         return Err(io::Error::from(ErrorKind::OutOfMemory));
     };
+    world.keep(KEPT);
     work_on(rt, kind, work, &mut world, goals, random)
 }
 

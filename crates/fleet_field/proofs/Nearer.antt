@@ -15,7 +15,7 @@ use Rattle.fleet_grid.proofs.Forms.{floor_inside, wide, few_cells}
 use Rattle.fleet_grid.proofs.Shortest.{distance_below}
 use Rattle.fleet_grid.proofs.Colours.{differ_by_one}
 use Rattle.fleet_field.specs.Field.{IsField, aim_of}
-use Rattle.fleet_field.specs.Search.{SameWalls, AreLevels}
+use Rattle.fleet_field.specs.inside.Search.{SameWalls, AreLevels}
 use Rattle.fleet_field.specs.Kept.{aways}
 use Rattle.fleet_field.specs.Compass.{next_cell, steps_down, aways_down, AreWaysAt, IsRight, IsCompass}
 use Rattle.fleet_field.proofs.Transfer as transfer

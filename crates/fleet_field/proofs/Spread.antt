@@ -5,7 +5,7 @@ use Rattle.std.proofs.lemmas.List.{get_or-set_same, get_or-set_other, length-set
 use Rattle.std.proofs.lemmas.List.Sums.{sum_by-set, count_by-le-length}
 use Rattle.std.proofs.lemmas.List.Elements.{Contains-get_or}
 use Rattle.fleet_grid.specs.Padded.{IsOpen}
-use Rattle.fleet_field.specs.Search.{IsBeside, IsLink, is_far, far_count, IsVisit, Search, Keeps, Extends}
+use Rattle.fleet_field.specs.inside.Search.{IsBeside, IsLink, is_far, far_count, IsVisit, Search, Keeps, Extends}
 use Rattle.fleet_field.proofs.Visit.{searched}
 
 -- what one write does to the count

@@ -12,7 +12,7 @@ use Rattle.fleet_grid.specs.Padded.{IsOpen, IsPadded, place}
 use Rattle.fleet_grid.specs.Walk.{IsDistance, AreApart}
 use Rattle.fleet_grid.proofs.Forms.{floor_inside, wide, few_cells}
 use Rattle.fleet_grid.proofs.Places.{place_inside, place_once, east_on, south_on, east_back, south_back}
-use Rattle.fleet_field.specs.Search.{IsBeside, IsWalled, AreLevels, SameWalls}
+use Rattle.fleet_field.specs.inside.Search.{IsBeside, IsWalled, AreLevels, SameWalls}
 use Rattle.fleet_field.specs.Field.{IsField, aim_of}
 use Rattle.fleet_field.specs.Kept.{IsLaidOut, away_at, aways}
 use Rattle.fleet_field.proofs.Distance.{is_distance, is_apart}

@@ -12,7 +12,7 @@ use Rattle.fleet_field.specs.Field.{Aim, aim_of, IsField}
 use Rattle.fleet_field.specs.declared.store.Held.{Held}
 use Rattle.fleet_field.specs.Store.{shown, Serves, IsOnce}
 use Rattle.fleet_field.specs.Several.{AreFields, AreHeld, times}
-use Rattle.fleet_field.specs.Uses.{HasGoal, IsOneOf, IsFilled, IsUsed, IsUsedOnce, AreShown}
+use Rattle.fleet_field.specs.inside.Uses.{HasGoal, IsOneOf, IsFilled, IsUsed, IsUsedOnce, AreShown}
 use Rattle.fleet_field.proofs.Shares.{some_once, none_some, once_new, once_same}
 
 abbrev one_if : Bool → ℕ

@@ -5,7 +5,7 @@ use Rattle.std.proofs.lemmas.List.{get_or-set_same, get_or-set_other, length-set
 use Rattle.std.proofs.lemmas.List.Elements.{Contains-append_left, Contains-push, Contains-push_cases}
 use Rattle.std.specs.List.{Contains}
 use Rattle.fleet_grid.specs.Padded.{IsOpen}
-use Rattle.fleet_field.specs.Search.{IsBeside, IsLink, Search}
+use Rattle.fleet_field.specs.inside.Search.{IsBeside, IsLink, Search}
 
 -- a place after the write is the one that was written, or is as it was
 pub read : (xs : List ℕ) (c y v : ℕ) → c < length xs → ((v ≡ c) × (get_or (set xs c y) v 0 ≡ y)) ⊎ ((v ≡ c → ⊥) × (get_or (set xs c y) v 0 ≡ get_or xs v 0))

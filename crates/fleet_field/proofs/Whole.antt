@@ -5,7 +5,7 @@ use Rattle.std.proofs.lemmas.Grind.{common_steps}
 use Rattle.std.proofs.lemmas.List.Elements.{Contains-push, Contains-push_cases}
 use Rattle.std.specs.List.{Contains}
 use Rattle.fleet_grid.specs.Padded.{IsOpen}
-use Rattle.fleet_field.specs.Search.{IsLink, IsWalled, far_count, Search, Keeps, AreLevels, SameWalls}
+use Rattle.fleet_field.specs.inside.Search.{IsLink, IsWalled, far_count, Search, Keeps, AreLevels, SameWalls}
 use Rattle.fleet_field.proofs.Visit.{read}
 use Rattle.fleet_field.proofs.Spread.{kept, was_open, stays_open, far_count-set, far_count-le}
 

@@ -2,7 +2,7 @@
 
 ghost use Rattle.std.specs.Prelude.{◌≡◌, ℕ, ◌+◌, ◌<◌, ◌≤◌, [], length, slice_index, OnOk, IfOk};
 ghost use Rattle.fleet_grid.specs.Padded.{IsOpen};
-ghost use Rattle.fleet_field.specs.Search.{IsVisit, IsLink, IsWalled, Search, Keeps, Extends, far_count, AreLevels, SameWalls};
+ghost use Rattle.fleet_field.specs.inside.Search.{IsVisit, IsLink, IsWalled, Search, Keeps, Extends, far_count, AreLevels, SameWalls};
 
 use fleet_grid::FAR;
 use std::alloc::{AllocError, Allocator};

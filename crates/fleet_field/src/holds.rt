@@ -3,7 +3,7 @@
 ghost use Rattle.std.specs.Prelude.{◌≡◌, ◌≢◌, ◌≤◌, ◌⊎◌, ℕ, ◌+◌, ◌<◌, ◌^◌, [], ◌∷◌, None, Some, true, false, length, vec_len, vec_capacity, slice_index, IfOk, IsSome, MatchOption};
 ghost use Rattle.fleet_field.specs.Field.{Aim};
 ghost use Rattle.fleet_field.specs.Store.{IsOnce};
-ghost use Rattle.fleet_field.specs.Uses.{HasGoal, IsOneOf, IsFilled, IsUsed, IsUsedOnce, AreShown};
+ghost use Rattle.fleet_field.specs.inside.Uses.{HasGoal, IsOneOf, IsFilled, IsUsed, IsUsedOnce, AreShown};
 ghost use Rattle.slab.specs.Slab.{get, slab_len, HasRoomFor};
 ghost use Rattle.std.specs.List.{Contains};
 ghost use Rattle.fleet_field.specs.declared.store.Held.{Held as HeldView};

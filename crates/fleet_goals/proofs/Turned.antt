@@ -12,7 +12,7 @@ use Rattle.fleet_field.specs.Store.{shown, Serves, IsHold}
 use Rattle.fleet_field.specs.Several.{AreHeld, times}
 use Rattle.fleet_goals.specs.Aims.{goal_in, goals_of, aim_at, AreOn, AreFloor}
 use Rattle.fleet_goals.specs.Keys.{field_in, field_at, fields_of, key_at, one_at, holders, AreCounted, AreOwn, IsGivenBack, AreKept}
-use Rattle.fleet_goals.specs.Turns.{AreTurning, IsDealt, AreDealt, AreIdled}
+use Rattle.fleet_goals.specs.inside.Turns.{AreTurning, IsDealt, AreDealt, AreIdled}
 use Rattle.fleet_goals.proofs.Counts.{has_key, showing, given, held_now, counted_held, kept_on, uses_own, none_own, holder_of, none_number}
 use Rattle.fleet_goals.proofs.Fields.{goals-fields, length-goals, aim_at-fields, on_serves, floor_on, floor_set, serves_kept, field_kept, field_held, field_all}
 

@@ -5,7 +5,7 @@ ghost use Rattle.fleet_field.specs.Store.{Keeps, Serves};
 ghost use Rattle.fleet_grid.specs.Floor.{Floor};
 ghost use Rattle.fleet_goals.specs.Aims.{goal_in, goals_of, AreOn, AreFloor};
 ghost use Rattle.fleet_goals.specs.Keys.{key_at, field_at, fields_of, AreShowing, AreCounted, AreOwn, AreKept};
-ghost use Rattle.fleet_goals.specs.Turns.{AreTurning, AreDealt, AreIdled};
+ghost use Rattle.fleet_goals.specs.inside.Turns.{AreTurning, AreDealt, AreIdled};
 
 use crate::keys::{exchange, goal_of};
 use fleet_field::{FieldStore, Shelf};

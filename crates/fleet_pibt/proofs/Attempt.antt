@@ -1,9 +1,10 @@
+-- One try of a robot at a cell: what the reservation, the plan behind it and the handing back leave.
 use Rattle.std.proofs.Common.{◌≡◌, ◌≢◌, ℕ, ◌<◌, Option, Some, None, List, length, slice_set, sym, subst, ◌∙◌, arith}
 use Rattle.std.proofs.Math.ListN.{length-set}
-use Rattle.fleet_pibt.specs.Plan.{Edge, Written, Takes}
-use Rattle.fleet_pibt.specs.Entry.{table}
-use Rattle.fleet_pibt.specs.Setting.{Setting, robots, cell_of, near, cost, Stands, IsScene, TidyBoard, IsReady, IsDone, HasFailed, HasGrown, IsShut, Refused, IsChoice}
-use Rattle.fleet_pibt.specs.Setting.Refused.{pushed}
+use Rattle.fleet_pibt.specs.inside.Plan.{Edge, Written, Takes}
+use Rattle.fleet_pibt.specs.inside.Entry.{table}
+use Rattle.fleet_pibt.specs.inside.Setting.{Setting, robots, cell_of, near, cost, Stands, IsScene, TidyBoard, IsReady, IsDone, HasFailed, HasGrown, IsShut, Refused, IsChoice}
+use Rattle.fleet_pibt.specs.inside.Setting.Refused.{pushed}
 use Rattle.fleet_pibt.proofs.Reserve.{reserve-tidy, reserve-edge, reserve-keep}
 use Rattle.fleet_pibt.proofs.Back.{back-grown}
 use Rattle.fleet_pibt.proofs.Planning.{Written-set, scene-distinct}

@@ -1,6 +1,7 @@
+-- A board on which a reservation was handed back.
 use Rattle.std.proofs.Common.{◌≡◌, ◌≢◌, ℕ, ◌<◌, ◌⊎◌, inl, inr, Option, Some, None, sym, subst, ap}
 use Rattle.std.proofs.lemmas.Bool.{cases_eq}
-use Rattle.fleet_pibt.specs.Plan.{Vacant, Pulled, Tidy, Edge, Grown, Failed, Written, Distinct}
+use Rattle.fleet_pibt.specs.inside.Plan.{Vacant, Pulled, Tidy, Edge, Grown, Failed, Written, Distinct}
 use Rattle.fleet_pibt.proofs.Reserve.{none_or_some, Pulled-keep}
 
 -- `i` reserved the cell of `k` (t1, h1), the plan of `k` failed (t2, h2), and `k` now stays (t3, h3)

@@ -6,9 +6,9 @@ use Rattle.fleet_grid.specs.Ways.{IsWay}
 use Rattle.fleet_grid.specs.declared.dir.Dir.{Dir}
 use Rattle.fleet_hooks.specs.Law.{IsRank}
 use Rattle.fleet_hooks.specs.declared.law.TieLaw.{TieLaw}
-use Rattle.fleet_pibt.specs.Around.{IsAround, IsRated, cell_in}
-use Rattle.fleet_pibt.specs.Candidate.{IsCandidate}
-use Rattle.fleet_pibt.specs.Setting.{Setting, cell_of, cost}
+use Rattle.fleet_pibt.specs.inside.Around.{IsAround, IsRated, cell_in}
+use Rattle.fleet_pibt.specs.inside.Candidate.{IsCandidate}
+use Rattle.fleet_pibt.specs.inside.Setting.{Setting, cell_of, cost}
 use Rattle.fleet_pibt.specs.declared.around.Around.{Around}
 
 -- a mapped entry is that of the entry

@@ -1,3 +1,4 @@
+-- The five cells that a robot tries, in their order.
 use Rattle.std.proofs.Common.{◌≡◌, ◌≢◌, ℕ, zero, suc, ◌+◌, ◌-◌, ◌<◌, ◌≤◌, ◌⊎◌, inl, inr, Some, List, [], ◌∷◌, map, length, get_or, slice_index, slice_get, sym, subst, refl, ap, ◌∙◌, arith, IsPermutation}
 use Rattle.std.specs.List.{All, Contains}
 use Rattle.std.proofs.lemmas.Bool.{cases_eq, cases_lt}
@@ -6,9 +7,9 @@ use Rattle.std.proofs.lemmas.List.Elements.{All-get_or}
 use Rattle.std.proofs.lemmas.List.{get_or-map, get_or_default, length-map}
 use Rattle.fleet_grid.specs.Direction.{dir_number}
 use Rattle.fleet_grid.specs.Floor.{IsBeside, IsNeighbourIn}
-use Rattle.fleet_pibt.specs.Setting.{Setting, cell_of, near, cost, IsChoices}
+use Rattle.fleet_pibt.specs.inside.Setting.{Setting, cell_of, near, cost, IsChoices}
 use Rattle.fleet_pibt.specs.Ties.{Undercuts}
-use Rattle.fleet_pibt.specs.Candidate.{IsCandidate, IsAside, IsSmall, key_of, cell_in_key}
+use Rattle.fleet_pibt.specs.inside.Candidate.{IsCandidate, IsAside, IsSmall, key_of, cell_in_key}
 use Rattle.fleet_grid.specs.declared.dir.Dir.{Dir}
 use Rattle.fleet_grid.specs.declared.dir.Dir.TheVariants.{North, East, South, West}
 use Rattle.fleet_hooks.specs.declared.law.TieLaw.{TieLaw}

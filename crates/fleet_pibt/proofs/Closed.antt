@@ -1,6 +1,7 @@
+-- Sets of cells that no walk leaves.
 use Rattle.std.proofs.Common.{◌≡◌, ℕ, ◌<◌, ◌⊎◌, inl, inr, Option, Some, None, List, [], ◌∷◌, sym, subst, refl, ap}
 use Rattle.std.proofs.lemmas.Bool.{cases_eq}
-use Rattle.fleet_pibt.specs.Plan.{Failed, Written, Distinct}
+use Rattle.fleet_pibt.specs.inside.Plan.{Failed, Written, Distinct}
 use Rattle.fleet_grid.specs.Walk.{Walks, Besides, IsBridge}
 use Rattle.fleet_pibt.proofs.Reserve.{none_or_some}
 

@@ -1,3 +1,4 @@
+-- How many robots have not decided yet.
 use Rattle.std.proofs.Common.{◌≡◌, ℕ, zero, suc, ◌<◌, ◌≤◌, Option, Some, None, List, [], ◌∷◌, length, get_or, refl, arith}
 use Rattle.std.proofs.Math.ListN.{set}
 

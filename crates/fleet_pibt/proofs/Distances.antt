@@ -8,7 +8,7 @@ use Rattle.fleet_grid.specs.declared.dir.Dir.{Dir}
 use Rattle.fleet_grid.specs.declared.dir.Dir.TheVariants.{North, East, South, West}
 use Rattle.fleet_grid.proofs.Forms.{wide}
 use Rattle.fleet_pibt.specs.Goals.{aim, AreGoals}
-use Rattle.fleet_pibt.specs.Setting.{Setting, robots, cell_of, near, cost, cost_with, IsScene}
+use Rattle.fleet_pibt.specs.inside.Setting.{Setting, robots, cell_of, near, cost, cost_with, IsScene}
 use Rattle.fleet_pibt.proofs.Reserve.{none_or_some}
 
 near-sym : (m : Floor) (a b : ℕ) (dir : Dir) → IsNeighbourIn m dir a b → IsNeighbour m b a

@@ -1,12 +1,13 @@
+-- Tables most of whose entries are empty.
 use Rattle.std.proofs.Common.{Bool, zero, suc, map, replicate, ◌≡◌, ◌≢◌, ℕ, ◌+◌, ◌<◌, ◌≤◌, inl, inr, Option, Some, None, List, length, get_or, slice_index, slice_set, sym, subst, refl, ap, ◌∙◌, arith}
 use Rattle.std.proofs.lemmas.Bool.{cases_eq, cases_lt}
 use Rattle.std.proofs.lemmas.List.{get_or-set_same, get_or-set_other, get_or_past}
 use Rattle.std.proofs.Math.ListN.{length-set}
-use Rattle.fleet_pibt.specs.Plan.{Distinct}
+use Rattle.fleet_pibt.specs.inside.Plan.{Distinct}
 use Rattle.std.proofs.lemmas.Bool.Decides.{eqb_tells}
-use Rattle.fleet_pibt.specs.Entry.{entry, entry_by, table, IsEmpty}
-use Rattle.fleet_pibt.specs.Setting.{Setting, robots, IsStanding, NamesAll, IsPlanned}
-use Rattle.fleet_pibt.specs.Tables.{IsPlaced, IsTaken, IsMatched}
+use Rattle.fleet_pibt.specs.inside.Entry.{entry, entry_by, table, IsEmpty}
+use Rattle.fleet_pibt.specs.inside.Setting.{Setting, robots, IsStanding, NamesAll, IsPlanned}
+use Rattle.fleet_pibt.specs.inside.Tables.{IsPlaced, IsTaken, IsMatched}
 use Rattle.fleet_pibt.proofs.Reserve.{none_or_some}
 
 pub table-inside : (xs : List (Option ℕ)) (k v : ℕ) → table xs k ≡ Some v → k < length xs

@@ -1,5 +1,6 @@
+-- Boards on which robots were planned that all stay.
 use Rattle.std.proofs.Common.{◌≡◌, ℕ, inl, inr, Option, Some, None}
-use Rattle.fleet_pibt.specs.Plan.{Tidy, Edge, Shut, Grown}
+use Rattle.fleet_pibt.specs.inside.Plan.{Tidy, Edge, Shut, Grown}
 use Rattle.fleet_pibt.proofs.Reserve.{none_or_some}
 
 module _ (Near : ℕ → ℕ → Type 0) (n : ℕ) (from : ℕ → ℕ) (cost : ℕ → ℕ → ℕ) (i : ℕ) (t h : ℕ → Option ℕ) where

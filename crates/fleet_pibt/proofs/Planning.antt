@@ -1,14 +1,15 @@
+-- A plan as it goes from robot to robot, over lists.
 use Rattle.std.proofs.Common.{◌≡◌, ◌≢◌, ℕ, ◌+◌, ◌<◌, ◌≤◌, ◌*◌, ◌⊎◌, inl, inr, Option, Some, None, List, length, slice_index, slice_set, sym, subst, ap, ◌∙◌, arith}
 use Rattle.std.proofs.Math.ListN.{set}
 use Rattle.std.proofs.lemmas.Bool.{cases_eq, cases_lt}
 use Rattle.std.proofs.lemmas.List.{get_or-set_same, get_or-set_other}
 use Rattle.std.proofs.lemmas.Nat.{mul-le}
-use Rattle.fleet_pibt.specs.Plan.{Written, Distinct}
+use Rattle.fleet_pibt.specs.inside.Plan.{Written, Distinct}
 use Rattle.fleet_grid.specs.Floor.{Floor, HasForm, IsFloor}
 use Rattle.fleet_grid.proofs.Forms.{floor_inside}
 use Rattle.fleet_pibt.proofs.Grow.{Grown-trans, Shut-keep}
-use Rattle.fleet_pibt.specs.Entry.{table}
-use Rattle.fleet_pibt.specs.Setting.{Setting, robots, cell_of, near, cost, Unmoved, IsScene, IsReady, HasFailed, HasGrown, IsShut, Refused, IsChoice, IsChoices, HasTried}
+use Rattle.fleet_pibt.specs.inside.Entry.{table}
+use Rattle.fleet_pibt.specs.inside.Setting.{Setting, robots, cell_of, near, cost, Unmoved, IsScene, IsReady, HasFailed, HasGrown, IsShut, Refused, IsChoice, IsChoices, HasTried}
 use Rattle.fleet_pibt.proofs.Reserve.{none_or_some}
 
 -- distinct robots stand on distinct cells

@@ -8,9 +8,9 @@ use Rattle.fleet_grid.specs.Ways.{IsWay}
 use Rattle.fleet_grid.specs.declared.dir.Dir.{Dir}
 use Rattle.fleet_grid.specs.declared.dir.Dir.TheVariants.{North, East, South, West}
 use Rattle.fleet_grid.proofs.Colours.{differ_by_one}
-use Rattle.fleet_pibt.specs.Around.{AreArounds, AreRated, IsRated}
+use Rattle.fleet_pibt.specs.inside.Around.{AreArounds, AreRated, IsRated}
 use Rattle.fleet_pibt.specs.Goals.{AreGoals}
-use Rattle.fleet_pibt.specs.Setting.{Setting, robots, cell_of, near, cost, IsScene}
+use Rattle.fleet_pibt.specs.inside.Setting.{Setting, robots, cell_of, near, cost, IsScene}
 use Rattle.fleet_pibt.specs.declared.around.Around.{Around}
 use Rattle.fleet_pibt.proofs.Distances.{cost-own, cost-beside, closer-less, idle-own}
 use Rattle.fleet_pibt.proofs.Reserve.{none_or_some}

@@ -1,7 +1,8 @@
+-- A board with one reservation more.
 use Rattle.std.proofs.Common.{◌≡◌, ◌≢◌, ℕ, ◌<◌, ◌⊎◌, inl, inr, Option, Some, None, sym, subst, refl, ap}
 use Rattle.std.proofs.lemmas.Bool.{cases_eq}
-use Rattle.fleet_pibt.specs.Plan.{Vacant, Pulled, Tidy, Edge, Written, Distinct, Takes}
-use Rattle.fleet_pibt.specs.Plan.Pulled.{nearer, taken}
+use Rattle.fleet_pibt.specs.inside.Plan.{Vacant, Pulled, Tidy, Edge, Written, Distinct, Takes}
+use Rattle.fleet_pibt.specs.inside.Plan.Pulled.{nearer, taken}
 
 pub none_or_some : (o : Option ℕ) → (o ≡ None) ⊎ ((x : ℕ) × (o ≡ Some x))
 none_or_some None = inl refl

@@ -6,8 +6,8 @@ use Rattle.fleet_grid.specs.Floor.{Floor, IsFloor, IsBeside}
 use Rattle.fleet_grid.specs.declared.dir.Dir.{Dir}
 use Rattle.fleet_grid.specs.declared.dir.Dir.TheVariants.{North, East, South}
 use Rattle.fleet_grid.proofs.Forms.{floor_inside}
-use Rattle.fleet_pibt.specs.Around.{IsSpot, AreArounds}
-use Rattle.fleet_pibt.specs.Tables.{HasSides}
+use Rattle.fleet_pibt.specs.inside.Around.{IsSpot, AreArounds}
+use Rattle.fleet_pibt.specs.inside.Tables.{HasSides}
 use Rattle.fleet_pibt.specs.declared.around.Around.{Around}
 use Rattle.fleet_pibt.proofs.Rated.{beside-same}
 use Rattle.fleet_pibt.proofs.Seen.{seen-below}

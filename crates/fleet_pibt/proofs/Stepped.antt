@@ -6,12 +6,12 @@ use Rattle.fleet_grid.specs.Walk.{IsBridgeless}
 use Rattle.fleet_hooks.specs.declared.law.TieLaw.{TieLaw}
 use Rattle.fleet_pibt.specs.Advancing.{Advances, IsAdvancing, IsOpenAhead}
 use Rattle.fleet_pibt.specs.Eldest.{IsEldest}
-use Rattle.fleet_pibt.specs.Entry.{table, IsEmpty}
+use Rattle.fleet_pibt.specs.inside.Entry.{table, IsEmpty}
 use Rattle.fleet_pibt.specs.Goals.{AreGoals}
 use Rattle.fleet_pibt.specs.Order.{IsOrder}
 use Rattle.fleet_pibt.specs.Purposeful.{IsPurposeful}
-use Rattle.fleet_pibt.specs.Setting.{Setting, robots, IsScene, IsPlanned, IsChosen, NamesAll}
-use Rattle.fleet_pibt.specs.Tables.{IsTaken}
+use Rattle.fleet_pibt.specs.inside.Setting.{Setting, robots, IsScene, IsPlanned, IsChosen, NamesAll}
+use Rattle.fleet_pibt.specs.inside.Tables.{IsTaken}
 use Rattle.fleet_pibt.specs.Ties.{IsByLaw}
 use Rattle.fleet_pibt.proofs.Entries.{planned-decided}
 use Rattle.fleet_pibt.proofs.Ordered.{order-names, eldest-first}

@@ -6,14 +6,14 @@ use Rattle.fleet_grid.specs.Step.{IsConflictFree}
 use Rattle.fleet_grid.specs.Walk.{IsDistance, IsBridge}
 use Rattle.fleet_hooks.specs.declared.law.TieLaw.{TieLaw}
 use Rattle.fleet_pibt.specs.Advancing.{Advances, IsOpenAhead}
-use Rattle.fleet_pibt.specs.Entry.{table}
+use Rattle.fleet_pibt.specs.inside.Entry.{table}
 use Rattle.fleet_pibt.specs.Goals.{aim, IsNearer, AreGoals}
-use Rattle.fleet_pibt.specs.Plan.{Pulled, Tidy, Written}
-use Rattle.fleet_pibt.specs.Plan.Pulled.{nearer as pulled_nearer, taken as pulled_taken}
+use Rattle.fleet_pibt.specs.inside.Plan.{Pulled, Tidy, Written}
+use Rattle.fleet_pibt.specs.inside.Plan.Pulled.{nearer as pulled_nearer, taken as pulled_taken}
 use Rattle.fleet_pibt.specs.Purposeful.{IsDrawn, IsPurposeful}
 use Rattle.fleet_pibt.specs.Purposeful.IsDrawn.{nearer as drawn_nearer, taken as drawn_taken}
-use Rattle.fleet_pibt.specs.Setting.{Setting, robots, cell_of, near, cost, Stands, IsScene, IsChoices, Refused, IsChosen, NamesAll}
-use Rattle.fleet_pibt.specs.Setting.Refused.{was_shut, pushed}
+use Rattle.fleet_pibt.specs.inside.Setting.{Setting, robots, cell_of, near, cost, Stands, IsScene, IsChoices, Refused, IsChosen, NamesAll}
+use Rattle.fleet_pibt.specs.inside.Setting.Refused.{was_shut, pushed}
 use Rattle.fleet_pibt.specs.Ties.{IsByLaw}
 use Rattle.fleet_pibt.proofs.Reserve.{none_or_some}
 use Rattle.fleet_pibt.proofs.Closed.{closed-bridge}

@@ -1,7 +1,8 @@
+-- The board behind the whole plan.
 use Rattle.std.proofs.Common.{Bool, true, false, MatchBool, IsTrue, ◌≡◌, ◌≢◌, ℕ, ◌+◌, ◌<◌, inl, inr, Option, Some, None, List, length, slice_index, sym, subst, refl, ap, ◌∙◌, arith}
 use Rattle.std.proofs.lemmas.Bool.{cases_eq}
-use Rattle.fleet_pibt.specs.Entry.{table, IsEmpty}
-use Rattle.fleet_pibt.specs.Setting.{Setting, robots, cell_of, IsScene, IsReady, IsDone, HasFailed, HasTried, NamesAll, IsPlanned}
+use Rattle.fleet_pibt.specs.inside.Entry.{table, IsEmpty}
+use Rattle.fleet_pibt.specs.inside.Setting.{Setting, robots, cell_of, IsScene, IsReady, IsDone, HasFailed, HasTried, NamesAll, IsPlanned}
 use Rattle.fleet_pibt.proofs.Reserve.{none_or_some}
 
 module _ (s : Setting) (target holder : List (Option ℕ)) (queue : List ℕ) where

@@ -8,10 +8,4 @@ pub mod Purposeful
 pub mod Advancing
 pub mod Ties
 pub mod Size
-pub mod Turn
-pub mod Entry
-pub mod Plan
-pub mod Setting
-pub mod Around
-pub mod Candidate
-pub mod Tables
+pub mod inside

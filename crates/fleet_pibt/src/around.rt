@@ -3,7 +3,7 @@
 ghost use Rattle.std.specs.Prelude.{◌≡◌, ℕ, ◌%◌, ◌<◌, ◌≤◌, length, slice_index};
 ghost use Rattle.fleet_grid.specs.Floor.{IsFloor};
 ghost use Rattle.fleet_grid.specs.declared.dir.Dir.TheVariants.{East, West};
-ghost use Rattle.fleet_pibt.specs.Around.{IsSide, IsSpot, IsAround, AreArounds, IsAsked, AreAsked, cell_in};
+ghost use Rattle.fleet_pibt.specs.inside.Around.{IsSide, IsSpot, IsAround, AreArounds, IsAsked, AreAsked, cell_in};
 
 use crate::goals::Goals;
 use fleet_grid::{Dir, Grid};

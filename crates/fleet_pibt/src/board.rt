@@ -1,7 +1,7 @@
 //! The plan of one step so far.
 
 ghost use Rattle.std.specs.Prelude.{◌≡◌, ◌≢◌, ℕ, ◌+◌, ◌<◌, ◌≤◌, length, slice_set, Option, Some, None};
-ghost use Rattle.fleet_pibt.specs.Entry.{table};
+ghost use Rattle.fleet_pibt.specs.inside.Entry.{table};
 
 use crate::table::Table;
 use std::alloc::{Allocator, Global};

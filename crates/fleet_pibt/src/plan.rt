@@ -1,8 +1,8 @@
 //! Planning one robot, and all of them.
 
 ghost use Rattle.std.specs.Prelude.{◌≡◌, ◌≢◌, ℕ, ◌+◌, ◌<◌, ◌≤◌, ◌↔◌, ◌⊎◌, length, slice_index, IsTrue, MatchBool, Option, Some, None};
-ghost use Rattle.fleet_pibt.specs.Entry.{table, IsEmpty};
-ghost use Rattle.fleet_pibt.specs.Setting.{robots, Stands, cell_of, IsReady, IsDone, HasFailed, HasGrown, IsShut, Refused, IsChoice, HasTried, NamesAll, IsPlanned};
+ghost use Rattle.fleet_pibt.specs.inside.Entry.{table, IsEmpty};
+ghost use Rattle.fleet_pibt.specs.inside.Setting.{robots, Stands, cell_of, IsReady, IsDone, HasFailed, HasGrown, IsShut, Refused, IsChoice, HasTried, NamesAll, IsPlanned};
 
 use crate::board::Board;
 use crate::sight::Sight;

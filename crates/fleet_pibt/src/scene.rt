@@ -2,9 +2,9 @@
 
 ghost use Rattle.std.specs.Prelude.{◌≡◌, ℕ, ◌+◌, ◌<◌, cond, length, map, slice_get, slice_index, Some};
 ghost use Rattle.fleet_grid.specs.Floor.{IsNeighbourIn};
-ghost use Rattle.fleet_pibt.specs.Setting.{setting};
-ghost use Rattle.fleet_pibt.specs.Around.{IsWhole};
-ghost use Rattle.fleet_pibt.specs.Candidate.{IsCandidate};
+ghost use Rattle.fleet_pibt.specs.inside.Setting.{setting};
+ghost use Rattle.fleet_pibt.specs.inside.Around.{IsWhole};
+ghost use Rattle.fleet_pibt.specs.inside.Candidate.{IsCandidate};
 
 use crate::around::Around;
 use crate::choice::{Candidate, cells, in_order};

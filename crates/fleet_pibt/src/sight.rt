@@ -1,7 +1,7 @@
 //! What the plan of one step sees, without the map, the goals and the closures behind it.
 
 ghost use Rattle.std.specs.Prelude.{◌≡◌, ℕ, ◌<◌, length, MatchOption};
-ghost use Rattle.fleet_pibt.specs.Setting.{Setting, cell_of, robots, Stands, Unmoved, IsScene, IsChoices};
+ghost use Rattle.fleet_pibt.specs.inside.Setting.{Setting, cell_of, robots, Stands, Unmoved, IsScene, IsChoices};
 
 /// What the plan of one step sees.
 pub trait Sight {

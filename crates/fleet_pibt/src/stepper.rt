@@ -36,7 +36,7 @@ pub struct Stepper<A: Allocator + Copy = Global> {
 
 impl<A: Allocator + Copy> Model for Stepper<A> {
     ghost use Rattle.std.specs.Prelude.{◌≡◌, length, vec_len};
-    ghost use Rattle.fleet_pibt.specs.Entry.{IsEmpty};
+    ghost use Rattle.fleet_pibt.specs.inside.Entry.{IsEmpty};
     ghost use Rattle.fleet_pibt.specs.Order.{IsRoll};
     ghost use Rattle.fleet_pibt.specs.Size.{Size};
 

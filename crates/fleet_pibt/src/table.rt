@@ -1,7 +1,7 @@
 //! Tables of numbers most of whose entries are empty.
 
 ghost use Rattle.std.specs.Prelude.{◌≡◌, ℕ, ◌<◌, length, slice_set, IfOk, Some, None};
-ghost use Rattle.fleet_pibt.specs.Entry.{table, IsEmpty};
+ghost use Rattle.fleet_pibt.specs.inside.Entry.{table, IsEmpty};
 
 use std::alloc::{AllocError, Allocator, Global};
 use std::marker::Model;
@@ -17,7 +17,7 @@ pub struct Table<A: Allocator + Copy = Global> {
 
 impl<A: Allocator + Copy> Model for Table<A> {
     ghost use Rattle.std.specs.Prelude.{List, Option, ℕ, map};
-    ghost use Rattle.fleet_pibt.specs.Entry.{entry};
+    ghost use Rattle.fleet_pibt.specs.inside.Entry.{entry};
 
     ghost Value = { List (Option ℕ) };
 

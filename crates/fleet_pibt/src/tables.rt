@@ -1,9 +1,9 @@
 //! Filling and emptying a step's tables, by the robots' cells alone.
 
 ghost use Rattle.std.specs.Prelude.{◌≡◌, ◌≢◌, ℕ, ◌<◌, ◌≤◌, length, slice_index, None};
-ghost use Rattle.fleet_pibt.specs.Entry.{table, IsEmpty};
-ghost use Rattle.fleet_pibt.specs.Plan.{Distinct};
-ghost use Rattle.fleet_pibt.specs.Tables.{IsPlaced, HasCells, HasSides, IsTaken, IsMatched};
+ghost use Rattle.fleet_pibt.specs.inside.Entry.{table, IsEmpty};
+ghost use Rattle.fleet_pibt.specs.inside.Plan.{Distinct};
+ghost use Rattle.fleet_pibt.specs.inside.Tables.{IsPlaced, HasCells, HasSides, IsTaken, IsMatched};
 
 use crate::around::Around;
 use crate::board::Board;

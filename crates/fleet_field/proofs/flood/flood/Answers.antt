@@ -1,6 +1,6 @@
 use Rattle.std.proofs.Common.{◌≡◌, ℕ, ◌+◌, ◌<◌, List, [], ◌∷◌, ◌++◌, length, take, drop, ap, subst, ◌∙◌, arith}
 use Rattle.std.proofs.lemmas.Grind.{common_steps}
-use Rattle.fleet_field.specs.Search.{Keeps, far_count}
+use Rattle.fleet_field.specs.inside.Search.{Keeps, far_count}
 use Rattle.fleet_field.proofs.Whole.{first_walls, first_start, only_goal, first_search, first_count, written_back, walls_on, only_on, start_on}
 use Rattle.fleet_field.proofs.flood.flood.Goals as goal
 

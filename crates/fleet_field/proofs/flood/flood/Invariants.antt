@@ -1,6 +1,6 @@
 use Rattle.std.proofs.Common.{◌≡◌, ℕ, ◌≤◌, ◌<◌, ◌+◌, ◌-◌, [], length, slice_index}
 use Rattle.fleet_grid.specs.Padded.{IsOpen}
-use Rattle.fleet_field.specs.Search.{Search, SameWalls, far_count}
+use Rattle.fleet_field.specs.inside.Search.{Search, SameWalls, far_count}
 use Rattle.fleet_field.proofs.flood.flood.Given as goal
 
 abbrev pub invariant-loop-dist : goal.invariant-loop-dist

@@ -1,5 +1,5 @@
 use Rattle.std.proofs.Common.{ℕ, ◌≤◌, ◌<◌, ◌+◌, [], slice_index}
-use Rattle.fleet_field.specs.Search.{IsLink, Extends}
+use Rattle.fleet_field.specs.inside.Search.{IsLink, Extends}
 use Rattle.fleet_field.proofs.flood.spread.Given as goal
 
 abbrev pub invariant-loop-cell : goal.invariant-loop-cell

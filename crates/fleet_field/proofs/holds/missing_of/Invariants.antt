@@ -1,5 +1,5 @@
 use Rattle.std.proofs.Common.{ℕ, ◌<◌, ◌⊎◌, length, slice_index}
-use Rattle.fleet_field.specs.Uses.{HasGoal, IsOneOf}
+use Rattle.fleet_field.specs.inside.Uses.{HasGoal, IsOneOf}
 use Rattle.fleet_field.proofs.holds.missing_of.Given as goal
 
 abbrev pub invariant-loop-goal : goal.invariant-loop-goal

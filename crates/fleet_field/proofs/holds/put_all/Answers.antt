@@ -3,7 +3,7 @@ use Rattle.std.specs.List.{Contains}
 use Rattle.std.proofs.lemmas.Grind.{common_steps}
 use Rattle.std.proofs.lemmas.List.Elements.{Contains-push, Contains-append_left, Contains-push_cases}
 use Rattle.fleet_field.specs.Field.{Aim}
-use Rattle.fleet_field.specs.Uses.{HasGoal}
+use Rattle.fleet_field.specs.inside.Uses.{HasGoal}
 use Rattle.fleet_field.proofs.Uses.{filled_step, still_there, at_none}
 use Rattle.fleet_field.proofs.holds.put_all.Goals as goal
 

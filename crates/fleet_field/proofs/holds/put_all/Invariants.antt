@@ -2,7 +2,7 @@ use Rattle.std.proofs.Common.{◌⊎◌, vec_len}
 use Rattle.std.specs.List.{Contains}
 use Rattle.slab.specs.Slab.{HasRoomFor}
 use Rattle.fleet_field.specs.Field.{Aim}
-use Rattle.fleet_field.specs.Uses.{HasGoal, IsFilled}
+use Rattle.fleet_field.specs.inside.Uses.{HasGoal, IsFilled}
 use Rattle.fleet_field.proofs.holds.put_all.Given as goal
 
 abbrev pub invariant-loop-field : goal.invariant-loop-field

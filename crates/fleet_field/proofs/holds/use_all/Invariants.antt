@@ -1,6 +1,6 @@
 use Rattle.std.proofs.Common.{◌≡◌, take}
 use Rattle.std.specs.Vec.{vec_capacity}
-use Rattle.fleet_field.specs.Uses.{IsUsed}
+use Rattle.fleet_field.specs.inside.Uses.{IsUsed}
 use Rattle.fleet_field.proofs.Uses.{AreShownTo}
 use Rattle.fleet_field.proofs.holds.use_all.Given as goal
 

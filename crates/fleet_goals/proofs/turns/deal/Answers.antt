@@ -1,6 +1,6 @@
 use Rattle.std.proofs.Common.{ℕ, ◌+◌, ◌<◌, List, Option, Some, length, slice_index, drop, refl, sym, subst, arith}
 use Rattle.fleet_goals.specs.Keys.{key_at, AreCounted}
-use Rattle.fleet_goals.specs.Turns.{AreDealt}
+use Rattle.fleet_goals.specs.inside.Turns.{AreDealt}
 use Rattle.fleet_goals.proofs.Counts.{given, kept_on}
 use Rattle.fleet_goals.proofs.Fields.{serves_kept}
 use Rattle.fleet_goals.proofs.Turned.{spare_less, dealt_more}

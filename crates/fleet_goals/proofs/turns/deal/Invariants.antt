@@ -2,7 +2,7 @@ use Rattle.std.proofs.Common.{drop}
 use Rattle.fleet_grid.specs.Floor.{Floor}
 use Rattle.fleet_field.specs.Store.{Keeps, Serves}
 use Rattle.fleet_goals.specs.Keys.{AreCounted, AreKept}
-use Rattle.fleet_goals.specs.Turns.{AreDealt}
+use Rattle.fleet_goals.specs.inside.Turns.{AreDealt}
 use Rattle.fleet_goals.proofs.turns.deal.Given as goal
 
 abbrev pub invariant-loop-at : goal.invariant-loop-at

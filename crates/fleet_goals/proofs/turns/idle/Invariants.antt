@@ -2,7 +2,7 @@ use Rattle.std.proofs.Common.{[]}
 use Rattle.fleet_grid.specs.Floor.{Floor}
 use Rattle.fleet_field.specs.Store.{Keeps, Serves}
 use Rattle.fleet_goals.specs.Keys.{AreCounted, AreKept}
-use Rattle.fleet_goals.specs.Turns.{AreIdled}
+use Rattle.fleet_goals.specs.inside.Turns.{AreIdled}
 use Rattle.fleet_goals.proofs.turns.idle.Given as goal
 
 abbrev pub invariant-loop-robot : goal.invariant-loop-robot

@@ -5,7 +5,7 @@ use Rattle.fleet_field.specs.Store.{IsOnce}
 use Rattle.fleet_field.specs.declared.store.Held.{Held}
 use Rattle.fleet_goals.specs.Aims.{goals_of, AreOn}
 use Rattle.fleet_goals.specs.Keys.{fields_of, AreCounted}
-use Rattle.fleet_goals.specs.Turns.{AreTurning}
+use Rattle.fleet_goals.specs.inside.Turns.{AreTurning}
 use Rattle.fleet_goals.proofs.Counts.{counted_all}
 use Rattle.fleet_goals.proofs.Fields.{serves_on, serves_kept}
 use Rattle.fleet_goals.proofs.Turned.{goals_turned, on_turned, turning_slices}

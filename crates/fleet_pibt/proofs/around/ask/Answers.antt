@@ -1,5 +1,5 @@
 use Rattle.std.proofs.Common.{slice_index, arith}
-use Rattle.fleet_pibt.specs.Around.{IsAsked}
+use Rattle.fleet_pibt.specs.inside.Around.{IsAsked}
 use Rattle.fleet_pibt.proofs.Seen.{seen-more, seen-below}
 use Rattle.fleet_pibt.proofs.around.ask.Goals as goal
 

@@ -1,5 +1,5 @@
 use Rattle.std.proofs.Common.{slice_index, arith}
-use Rattle.fleet_pibt.specs.Around.{IsAround, IsAsked}
+use Rattle.fleet_pibt.specs.inside.Around.{IsAround, IsAsked}
 use Rattle.fleet_pibt.proofs.Seen.{seen-more, seen-all, seen-at, seen-below}
 use Rattle.fleet_pibt.proofs.around.gather.Goals as goal
 

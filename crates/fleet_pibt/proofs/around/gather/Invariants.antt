@@ -1,5 +1,5 @@
 use Rattle.std.proofs.Common.{◌≡◌, ℕ, ◌<◌, Some, slice_get, slice_index}
-use Rattle.fleet_pibt.specs.Around.{IsAround, AreAsked}
+use Rattle.fleet_pibt.specs.inside.Around.{IsAround, AreAsked}
 use Rattle.fleet_pibt.specs.declared.around.Around.{Around}
 use Rattle.fleet_pibt.proofs.around.gather.Given as goal
 

@@ -1,8 +1,8 @@
 use Rattle.std.proofs.Common.{ap, ◌≡◌, ℕ, ◌+◌, length, Option, Some, None, true, false, List, slice_set, arith, refl, sym}
 use Rattle.std.specs.Option.{is_some}
 use Rattle.std.proofs.Math.ListN.{length-set}
-use Rattle.fleet_pibt.specs.Entry.{table}
-use Rattle.fleet_pibt.specs.Setting.{robots, Stands, cell_of}
+use Rattle.fleet_pibt.specs.inside.Entry.{table}
+use Rattle.fleet_pibt.specs.inside.Setting.{robots, Stands, cell_of}
 use Rattle.fleet_pibt.proofs.Count.{open_count, open_count-set, open_count-keep}
 use Rattle.fleet_pibt.proofs.Planning.{cells-few, scene-distinct, trying-ready, trying-choice, trying-failed, trying-more, trying-tried, choice-inside}
 use Rattle.fleet_pibt.proofs.Attempt.{attempt-done, attempt-ready, attempt-passed, attempt-failed}

@@ -1,6 +1,6 @@
 use Rattle.std.proofs.Common.{◌≡◌, ◌≢◌, ℕ, Option, Some, None, length, slice_index, refl, true, false, arith}
 use Rattle.std.specs.Option.{is_some}
-use Rattle.fleet_pibt.specs.Entry.{table}
+use Rattle.fleet_pibt.specs.inside.Entry.{table}
 use Rattle.fleet_pibt.proofs.Whole.{planned-skip, planned-call}
 use Rattle.fleet_pibt.proofs.plan.plan_all.Goals as goal
 use Rattle.fleet_pibt.proofs.plan.plan_all.Goals.{then-is_none, else-is_none}

@@ -1,4 +1,4 @@
-use Rattle.fleet_pibt.specs.Setting.{IsPlanned}
+use Rattle.fleet_pibt.specs.inside.Setting.{IsPlanned}
 use Rattle.fleet_pibt.proofs.plan.plan_all.Given as goal
 
 abbrev pub invariant-loop-robot : goal.invariant-loop-robot

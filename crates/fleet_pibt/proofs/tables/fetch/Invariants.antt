@@ -1,5 +1,5 @@
 use Rattle.std.proofs.Common.{◌≡◌, length}
-use Rattle.fleet_pibt.specs.Entry.{IsEmpty}
+use Rattle.fleet_pibt.specs.inside.Entry.{IsEmpty}
 use Rattle.fleet_pibt.proofs.tables.fetch.Given as goal
 
 abbrev pub invariant-loop-around : goal.invariant-loop-around

@@ -1,5 +1,5 @@
 use Rattle.std.proofs.Common.{◌≡◌, length}
-use Rattle.fleet_pibt.specs.Tables.{IsPlaced}
+use Rattle.fleet_pibt.specs.inside.Tables.{IsPlaced}
 use Rattle.fleet_pibt.proofs.tables.place.Given as goal
 
 abbrev pub invariant-loop-robot : goal.invariant-loop-robot

@@ -2,7 +2,7 @@ use Rattle.std.proofs.Common.{◌≡◌, ℕ, ◌<◌, List, Option, length, sli
 use Rattle.fleet_grid.specs.Floor.{IsFloor}
 use Rattle.fleet_field.specs.Field.{Aim}
 use Rattle.fleet_field.specs.Several.{AreFields}
-use Rattle.fleet_field.specs.Uses.{IsFilled}
+use Rattle.fleet_field.specs.inside.Uses.{IsFilled}
 use Rattle.fleet_field.specs.Store.{Serves, IsOnce}
 use Rattle.fleet_field.specs.declared.store.Held.{Held}
 use Rattle.fleet_field.proofs.Uses.{floor_missing, there_all, few_filled, are_held, all_served}

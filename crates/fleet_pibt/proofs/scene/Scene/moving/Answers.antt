@@ -1,5 +1,5 @@
 use Rattle.std.proofs.Common.{map}
-use Rattle.fleet_pibt.specs.Setting.{Setting, setting}
+use Rattle.fleet_pibt.specs.inside.Setting.{Setting, setting}
 use Rattle.fleet_pibt.proofs.Beside.{mapped-at, spot-covers, stay-covers, candidate-from}
 use Rattle.fleet_pibt.proofs.scene.Scene.moving.Goals as goal
 

@@ -1,9 +1,9 @@
 use Rattle.std.proofs.Common.{◌≡◌, ℕ, ◌<◌, List, [], ◌∷◌, map, slice_index, refl, subst, arith, zero, suc}
 use Rattle.std.specs.List.{All, Contains}
 use Rattle.std.specs.List.Sorted.{IsPermutation}
-use Rattle.fleet_pibt.specs.Candidate.{IsCandidate, IsSmall, key_of}
+use Rattle.fleet_pibt.specs.inside.Candidate.{IsCandidate, IsSmall, key_of}
 use Rattle.fleet_grid.specs.Floor.{Floor, IsNeighbourIn}
-use Rattle.fleet_pibt.specs.Setting.{Setting, setting}
+use Rattle.fleet_pibt.specs.inside.Setting.{Setting, setting}
 use Rattle.fleet_grid.specs.declared.dir.Dir.{Dir}
 use Rattle.fleet_grid.specs.declared.dir.Dir.TheVariants.{North, East, South, West}
 use Rattle.fleet_pibt.specs.declared.choice.Candidate.{Candidate}

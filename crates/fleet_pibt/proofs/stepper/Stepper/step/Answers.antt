@@ -1,11 +1,11 @@
 use Rattle.std.proofs.Common.{arith, length, map, ◌≡◌, ℕ, List, ap, subst, sym, take, ◌++◌, ◌∙◌}
 use Rattle.std.proofs.lemmas.List.{take-append-le, length-map}
 use Rattle.std.proofs.Math.Seq.{take-length}
-use Rattle.fleet_pibt.specs.Around.{AreArounds}
+use Rattle.fleet_pibt.specs.inside.Around.{AreArounds}
 use Rattle.fleet_pibt.specs.Order.{IsOrder}
-use Rattle.fleet_pibt.specs.Setting.{Setting, setting, IsScene}
+use Rattle.fleet_pibt.specs.inside.Setting.{Setting, setting, IsScene}
 use Rattle.fleet_pibt.specs.Size.{Size}
-use Rattle.fleet_pibt.specs.Tables.{HasSides}
+use Rattle.fleet_pibt.specs.inside.Tables.{HasSides}
 use Rattle.fleet_pibt.proofs.Entries.{standing-from}
 use Rattle.fleet_pibt.proofs.Ordered.{order-names}
 use Rattle.fleet_pibt.proofs.Rated.{rated-from}

@@ -1,7 +1,7 @@
 use Rattle.std.proofs.Common.{ℕ, Option, Some, List, map, ap, ◌∙◌}
 use Rattle.std.proofs.Math.ListN.{set}
 use Rattle.std.proofs.lemmas.List.{map-set}
-use Rattle.fleet_pibt.specs.Entry.{entry}
+use Rattle.fleet_pibt.specs.inside.Entry.{entry}
 use Rattle.fleet_pibt.proofs.Entries.{entry-some}
 use Rattle.fleet_pibt.proofs.table.Table.set.Goals as goal
 

@@ -4,7 +4,7 @@ use Rattle.fleet_grid.specs.Floor.{Floor, IsBeside, IsNeighbourIn}
 use Rattle.fleet_grid.specs.Ways.{IsWay, AreNearer}
 use Rattle.fleet_grid.specs.declared.dir.Dir.{Dir}
 use Rattle.fleet_grid.specs.declared.dir.Dir.TheVariants.{North, East, South, West}
-use Rattle.fleet_pibt.specs.Setting.{Setting, cell_of, cost, IsScene, IsStanding}
+use Rattle.fleet_pibt.specs.inside.Setting.{Setting, cell_of, cost, IsScene, IsStanding}
 use Rattle.fleet_pibt.specs.declared.around.Around.{Around}
 
 -- the cell beside `own` in a direction, if there is one

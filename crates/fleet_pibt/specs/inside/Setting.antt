@@ -4,8 +4,8 @@ use Rattle.fleet_grid.specs.Floor.{Floor, HasForm, IsNeighbour, IsNeighbourIn}
 use Rattle.fleet_grid.specs.Step.{IsPlacement}
 use Rattle.fleet_grid.specs.declared.dir.Dir.{Dir}
 use Rattle.fleet_hooks.specs.declared.law.TieLaw.{TieLaw}
-use Rattle.fleet_pibt.specs.Entry.{table, IsEmpty}
-use Rattle.fleet_pibt.specs.Plan.{Vacant, Tidy, Edge, Shut, Grown, Failed}
+use Rattle.fleet_pibt.specs.inside.Entry.{table, IsEmpty}
+use Rattle.fleet_pibt.specs.inside.Plan.{Vacant, Tidy, Edge, Shut, Grown, Failed}
 use Rattle.fleet_pibt.specs.Ties.{Undercuts}
 
 -- the map, the placement, the goals with the distances to them, and the tie laws of one step

@@ -1,6 +1,6 @@
 -- The tables of a step, as they are filled and emptied.
 use Rattle.std.specs.Prelude.{◌≡◌, ℕ, ◌<◌, Option, Some, List, length, slice_get, slice_index}
-use Rattle.fleet_pibt.specs.Entry.{table}
+use Rattle.fleet_pibt.specs.inside.Entry.{table}
 use Rattle.fleet_pibt.specs.declared.around.Around.{Around}
 
 -- each cell of the list is below the number of cells

@@ -1,0 +1,8 @@
+-- What only proofs and private functions use.
+pub mod Setting
+pub mod Plan
+pub mod Around
+pub mod Candidate
+pub mod Entry
+pub mod Tables
+pub mod Turn
