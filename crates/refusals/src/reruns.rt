@@ -11,7 +11,8 @@ use std::alloc::{Alloc, AllocError, Global};
 use std::fmt::Write;
 use std::thread::Threads;
 
-/// Refuses each growth in turn. The result is whether it ended behind the last growth, with the same replies and trace.
+/// Refuses each growth in turn. The result is whether it ended behind the last growth, always with the same replies and
+/// trace, also where fields that were kept made up for a growth.
 fn refuse_each<R: Alloc<A = Global> + Threads + Sync>(
     rt: &R,
     case: Case<'_>,
@@ -20,6 +21,7 @@ fn refuse_each<R: Alloc<A = Global> + Threads + Sync>(
     sheet: &mut Sheet,
     judged: &mut Tally,
 ) -> Result<bool, AllocError> {
+    let mut alike = true;
     for growth in 0..100_000 {
         match run_row(rt, case, events, growth)? {
             Err(stage) => sheet.count_stage(stage),
@@ -27,7 +29,12 @@ fn refuse_each<R: Alloc<A = Global> + Threads + Sync>(
             Ok(Run::Event(event)) => sheet.count(event, true),
             Ok(Run::Judge { again }) => judged.count(again),
             Ok(Run::Faulty) => return Ok(false),
-            Ok(Run::Ended { ending, spent }) => return Ok(spent && end_alike(&ending, base)),
+            Ok(Run::Ended { ending, spent }) => {
+                alike &= end_alike(&ending, base);
+                if spent {
+                    return Ok(alike);
+                }
+            }
         }
     }
     Ok(false)

@@ -48,7 +48,8 @@ fn holds_the_same(
     }
 }
 
-/// Refuses each growth in turn. The result is whether it ended behind the last growth, with none lost on the way.
+/// Refuses each growth in turn. The result is whether it ended behind the last growth, with none lost on the way: a growth
+/// that no call answers for was made up for by fields that were kept, and all came to the same.
 fn refuse_each(
     alloc: Global,
     case: Case<'_>,
@@ -56,16 +57,20 @@ fn refuse_each(
     base: &Played,
     sheet: &mut Sheet,
 ) -> Result<bool, AllocError> {
+    let mut alike = true;
     for growth in 0..100_000 {
         match play(alloc, case, calls, growth, usize::MAX)? {
             Err(stage) => sheet.count_stage(stage),
             Ok(played) => {
                 let is_alike = agree(&played, base);
-                let Some(call) = played.refused else {
-                    return Ok(is_alike && played.spent);
-                };
-                let same = is_alike && holds_the_same(alloc, case, calls, growth, call)?;
-                sheet.count(call, same);
+                match played.refused {
+                    Some(call) => {
+                        let same = is_alike && holds_the_same(alloc, case, calls, growth, call)?;
+                        sheet.count(call, same);
+                    }
+                    None if played.spent => return Ok(alike && is_alike),
+                    None => alike &= is_alike,
+                }
             }
         }
     }
