@@ -27,7 +27,7 @@ impl Tally {
     /// A line of what was answered in the end, with this tally.
     pub(crate) fn tell(&self, told: &mut String, answer: &str) -> Result<(), AllocError> {
         match (self.refused, self.same) {
-            (0, true) => writeln!(told, "{answer}; no growth"),
+            (0, true) => writeln!(told, "{answer}; none refused"),
             (refused, true) => writeln!(told, "{answer}; {refused} refused, same"),
             (refused, false) => writeln!(told, "{answer}; {refused} refused, DIFFERS"),
         }
