@@ -8,7 +8,7 @@ use Rattle.fleet_state.proofs.Parts.{cells-of, tally-count}
 use Rattle.fleet_bound.proofs.Errands.{accepted-gone}
 use Rattle.fleet_core.specs.Core.{HasRoom, HasEntries}
 use Rattle.fleet_core.specs.Hooks.{AreFarewells}
-use Rattle.fleet_core.proofs.Goaled.{aimed-take, kept-fields}
+use Rattle.fleet_core.proofs.Goaled.{aimed-take}
 use Rattle.fleet_core.proofs.Hooked.{farewells-take}
 use Rattle.fleet_core.proofs.Kept.{noticed-of, noticed-small, room-kept, boxes-take, taken-boxes, within-take}
 use Rattle.fleet_core.proofs.kernel.Core.take.Goals as goal
@@ -40,10 +40,6 @@ taken-requires g c =
     let h = history_of c.self.inside.chapter in
     let known : c.args.client < clients h = subst (λ w. c.args.client < clients w.history) (sym c.self.view_is) c.requires in
     omega (arith, tally-count (c.enter_take.ensures.follows c.self.inside.grid h k.is (known, c.judge-verdict.ensures.verdict h k.is)))
-
-pub invariant_of-self : goal.invariant_of-self
-invariant_of-self g c =
-    rw (c.reserve.ensures.items) (kept-fields c.self.invariant c.in_err-begin.ensures.refused c.begin.ensures.size c.begin.ensures.bridge c.begin.ensures.keeps)
 
 pub invariant_of-self-2 : goal.invariant_of-self-2
 invariant_of-self-2 g c =

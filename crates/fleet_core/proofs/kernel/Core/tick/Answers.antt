@@ -15,7 +15,7 @@ use Rattle.fleet_core.specs.Aimed.{Planner}
 use Rattle.fleet_core.specs.Core.{HasEntries}
 use Rattle.fleet_core.specs.Mailboxes.{AreDelivered}
 use Rattle.fleet_core.specs.Hooks.{AreArrivals, AreFarewells, spare_laws}
-use Rattle.fleet_core.proofs.Goaled.{aimed-tick, kept-fields}
+use Rattle.fleet_core.proofs.Goaled.{aimed-tick}
 use Rattle.fleet_core.proofs.Hooked.{stamps-are, last_stamps-are}
 use Rattle.fleet_core.proofs.Kept.{noticed-of, noticed-small, room-kept, boxes-tick, ticked-boxes, within-tick}
 use Rattle.fleet_core.proofs.Ticked.{arrived-clients, arrived-robots, arrived-few, arrived-owed, leaving-few, leaving-rise, leaving-robots, leaving-has, farewells-tick}
@@ -203,12 +203,6 @@ delivered_is : (g : _) (c : After-add g) (p : After-as_slice-7 g) → AreDeliver
 delivered_is g c p =
     subst (λ xs. AreDelivered xs c.in_ok-to.to.items c.of-report.result.tick c.self.inside.mailboxes c.deliver.new.self) c.as_slice-6.ensures.value
     (subst (λ to. AreDelivered c.as_slice-6.result.now to c.of-report.result.tick c.self.inside.mailboxes c.deliver.new.self) c.as_slice-7.ensures.value c.deliver.ensures)
-
-pub invariant_of-self : goal.invariant_of-self
-invariant_of-self g c =
-    rw (c.reserve.ensures.items)
-    (kept-fields c.self.invariant (c.in_err-turn.ensures.refused ∙ ap (λ (x : Planner). x.aims) c.plan.ensures.same) (c.turn.ensures.size ∙ ap (λ (x : Planner). x.size) c.plan.ensures.same)
-    (c.turn.ensures.bridge ∙ ap (λ (x : Planner). x.bridgeless) c.plan.ensures.same) c.turn.ensures.keeps)
 
 pub invariant_of-self-2 : goal.invariant_of-self-2
 invariant_of-self-2 g c =
