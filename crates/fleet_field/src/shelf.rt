@@ -1,10 +1,11 @@
 //! Fields that nobody holds any more, kept for the next who asks.
 
-ghost use Rattle.std.specs.Prelude.{◌≡◌, ℕ, ◌*◌, ◌<◌, ◌≤◌, [], ◌∷◌, length, slice_index, slice_index_or, IfSome, IfOk};
+ghost use Rattle.std.specs.Prelude.{◌≡◌, ℕ, ◌<◌, [], ◌∷◌, length, slice_index, slice_index_or, take, IfSome, IfOk};
 ghost use Rattle.std.specs.List.{All, Contains};
 ghost use Rattle.fleet_grid.specs.Floor.{Floor, IsFloor};
-ghost use Rattle.fleet_field.specs.Field.{Aim, IsField, aim_of};
+ghost use Rattle.fleet_field.specs.Field.{Aim, IsField};
 ghost use Rattle.fleet_field.specs.Several.{AreFields};
+ghost use Rattle.fleet_field.specs.Shelf.{cells_kept, places};
 ghost use Rattle.fleet_field.specs.Store.{Keeps};
 
 use crate::compass::Compass;
@@ -32,7 +33,7 @@ impl<A: Allocator + Copy> Model for Shelf<A> {
 
 /// How many fields of so many cells have place in so many bytes: a field has a byte a cell.
 fn places(bytes: usize, cells: usize) -> usize
-    ensures { 0 < cells → result * cells ≤ bytes }
+    ensures { result ≡ places bytes cells }
 {
     bytes / cells.max(1)
 }
@@ -50,9 +51,9 @@ impl<A: Allocator + Copy> Shelf<A> {
         }
     }
 
-    /// From now on so many bytes of fields are kept. What is over that goes at once.
+    /// From now on so many bytes of fields are kept. What is over that goes at once, the longest unused first.
     pub fn keep(&mut self, bytes: usize)
-        ensures { All (Contains self.old) self.new }
+        ensures { self.new ≡ take (places bytes (cells_kept self.old)) self.old }
     {
         let left = places(bytes, self.cells());
         self.kept.truncate(left);
@@ -61,7 +62,7 @@ impl<A: Allocator + Copy> Shelf<A> {
 
     /// How many cells the last field has, as each has; none where nothing is kept.
     fn cells(&self) -> usize
-        ensures { result ≡ length (slice_index_or self.now 0 (aim_of 0 [])).away }
+        ensures { result ≡ cells_kept self.now }
     {
         match self.kept.front() {
             Some(field) => field.cells(),
