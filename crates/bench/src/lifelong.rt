@@ -13,11 +13,23 @@ use std::io;
 use std::thread::Threads;
 use std::time::{Clock, Instant};
 
-/// How many ticks times robots a run has. One of the same length goes before it, which is not counted.
+/// How many ticks times robots a run has.
 const ROBOT_TICKS: usize = 256_000;
 
+/// With goals from all cells one run goes before the one that counts.
+const CELLS: Work = Work::Run {
+    name: "lifelong_cells",
+    before: 1,
+};
+
+/// With goals from stations so many go before that each station was a goal: C++ has their fields before its first tick.
+const STATIONS: Work = Work::Run {
+    name: "lifelong_stations",
+    before: 8,
+};
+
 /// How many cells the stations are.
-const STATIONS: usize = 400;
+const STATION_COUNT: usize = 400;
 
 /// What a run came to: its ticks, the nanoseconds of these with all takes and gives, its arrivals, and its greatest wait.
 #[derive(Clone, Copy, Debug)]
@@ -55,9 +67,9 @@ pub(crate) fn measure_lifelong<R: Alloc<A = Global> + Clock + Print + Threads + 
 ) -> io::Result<()> {
     for kind in kinds {
         if let Some(site) = Site::new(rt.alloc(), grid_of(rt.alloc(), *kind)?)? {
-            measure_fleets(rt, *kind, &site, "lifelong_cells", &site.cells)?;
-            let stations = site.goals(rt.alloc(), STATIONS, &mut Random::from_seed(13))?;
-            measure_fleets(rt, *kind, &site, "lifelong_stations", &stations)?;
+            measure_fleets(rt, *kind, &site, CELLS, &site.cells)?;
+            let stations = site.goals(rt.alloc(), STATION_COUNT, &mut Random::from_seed(13))?;
+            measure_fleets(rt, *kind, &site, STATIONS, &stations)?;
         }
     }
     Ok(())
@@ -68,7 +80,7 @@ fn measure_fleets<R: Alloc<A = Global> + Clock + Print + Threads + Sync>(
     rt: &R,
     kind: Kind,
     site: &Site,
-    name: &'static str,
+    work: Work,
     goals: &[u32],
 ) -> io::Result<()>
     requires { 0 < length goals.now }
@@ -76,15 +88,16 @@ fn measure_fleets<R: Alloc<A = Global> + Clock + Print + Threads + Sync>(
     let mut random = Random::from_seed(11);
     for robots in FLEETS {
         let starts = site.starts(rt.alloc(), robots, &mut random)?;
-        measure_world(rt, kind, Work::Run(name), starts, goals, &mut random)?;
+        measure_world(rt, kind, work, starts, goals, &mut random)?;
     }
     Ok(())
 }
 
-/// Runs of a world, of which the second counts.
+/// Runs of a world, of which the last counts, behind so many others.
 pub(crate) fn time_run<R: Alloc<A = Global> + Clock + Threads + Sync>(
     rt: &R,
     world: &mut World,
+    before: u32,
     goals: &[u32],
     random: &mut Random,
 ) -> io::Result<Run>
@@ -98,7 +111,9 @@ pub(crate) fn time_run<R: Alloc<A = Global> + Clock + Threads + Sync>(
             order_one(world, robot, goals[random.below(goals.len())]);
         }
     }
-    let _first = time_turns(rt, world, goals, random)?;
+    for _ in 0..before {
+        let _uncounted = time_turns(rt, world, goals, random)?;
+    }
     time_turns(rt, world, goals, random)
 }
 

@@ -23,9 +23,11 @@ pub const STAMPS: StampLaw = StampLaw {
     high: 4_294_967_295,
 };
 
-/// The mailbox has room for the notices of two errands of each robot, and for those errands.
+/// The mailbox has room for the notices of two errands of each robot, and for those errands. The chapter has room for all ticks
+/// of several long runs.
 pub const LIMITS: Limits = Limits {
     mailbox: 4_096,
+    chapter: 1_048_576,
     ..Limits::DEFAULT
 };
 
@@ -40,8 +42,8 @@ pub const MOST_ROBOTS: u32 = 512;
 pub enum Work {
     /// Each tick by itself.
     Ticks,
-    /// A long run, under this name.
-    Run(&'static str),
+    /// A long run, under this name, after so many of the same length that are not counted.
+    Run { name: &'static str, before: u32 },
 }
 
 /// Measures a world with one client. The closures answer 0.
@@ -89,8 +91,8 @@ fn work_on<R: Alloc<A = Global> + Clock + Print + Threads + Sync>(
             let found = time_ticks(rt, world, goals, random)?;
             print_measure(rt, "tick", kind.name(), count, count as u64, found)
         }
-        Work::Run(name) => {
-            let run = time_run(rt, world, goals, random)?;
+        Work::Run { name, before } => {
+            let run = time_run(rt, world, before, goals, random)?;
             print_run(rt, name, kind.name(), count, run)
         }
     }
