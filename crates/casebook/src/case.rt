@@ -4,19 +4,19 @@ use std::alloc::{AllocError, Global};
 
 /// A file that the words of a case name.
 #[derive(Debug, Drop)]
-pub struct CaseFile {
-    pub name: Vec<u8>,
-    pub bytes: Vec<u8>,
+pub(crate) struct CaseFile {
+    pub(crate) name: Vec<u8>,
+    pub(crate) bytes: Vec<u8>,
 }
 
 /// A case. Without a name it is no case.
 #[derive(Debug, Drop)]
-pub struct Case {
-    pub name: Vec<u8>,
+pub(crate) struct Case {
+    pub(crate) name: Vec<u8>,
     /// The program's words, its own name first.
-    pub words: Vec<String>,
-    pub input: Vec<u8>,
-    pub files: Vec<CaseFile>,
+    pub(crate) words: Vec<String>,
+    pub(crate) input: Vec<u8>,
+    pub(crate) files: Vec<CaseFile>,
 }
 
 impl Case {

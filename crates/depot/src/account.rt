@@ -7,17 +7,17 @@ use std::alloc::{AllocError, Global};
 
 /// What the clients sent and were told, and what the history says of it.
 #[derive(Clone, Copy, Debug, PartialEq, Eq)]
-pub struct Account {
-    pub told: Tally,
+pub(crate) struct Account {
+    pub(crate) told: Tally,
     /// Orders that the history takes, errands that it accepts, and arrivals that it shows.
-    pub taken: u64,
-    pub accepted: u64,
-    pub arrived: u64,
+    pub(crate) taken: u64,
+    pub(crate) accepted: u64,
+    pub(crate) arrived: u64,
 }
 
 impl Account {
     /// Before the first client.
-    pub const NONE: Account = Account {
+    pub(crate) const NONE: Account = Account {
         told: Tally::NONE,
         taken: 0,
         accepted: 0,

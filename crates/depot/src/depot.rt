@@ -21,17 +21,17 @@ use std::thread::Threads;
 
 /// How a day at the depot ended.
 #[derive(Drop)]
-pub struct Day {
-    pub account: Account,
-    pub chapter: Chapter,
-    pub tick: u64,
+pub(crate) struct Day {
+    pub(crate) account: Account,
+    pub(crate) chapter: Chapter,
+    pub(crate) tick: u64,
     /// No two cells are further apart.
-    pub reach: u32,
+    pub(crate) reach: u32,
 }
 
 /// Why a day at the depot had no end.
 #[derive(Clone, Copy, Debug, PartialEq, Eq)]
-pub enum DayFault {
+pub(crate) enum DayFault {
     Opening(OpenFault),
     Turn(TurnCause),
     Conclude(ConcludeFault),

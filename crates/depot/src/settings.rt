@@ -9,19 +9,19 @@ use std::alloc::{AllocError, Global};
 
 /// How large the depot is, and how long it is kept going.
 #[derive(Clone, Copy, Debug, PartialEq, Eq)]
-pub struct Settings {
+pub(crate) struct Settings {
     /// 1 to 512.
-    pub robots: u32,
+    pub(crate) robots: u32,
     /// 1 to 64.
-    pub clients: u32,
+    pub(crate) clients: u32,
     /// Orders of each client, and turns that each ticker makes at least: 1 to 1,000,000.
-    pub turns: u64,
-    pub seed: u64,
+    pub(crate) turns: u64,
+    pub(crate) seed: u64,
 }
 
 /// Why there are no settings.
 #[derive(Debug, Drop)]
-pub enum SettingsFault {
+pub(crate) enum SettingsFault {
     /// What is wrong with the words, as `clap` says it. A request for help is among these.
     Words(String),
     NoMemory,

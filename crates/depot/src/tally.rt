@@ -4,22 +4,22 @@ use fleet_book::{Notice, Verdict};
 
 /// What a client sent and was told so far.
 #[derive(Clone, Copy, Debug, PartialEq, Eq)]
-pub struct Tally {
+pub(crate) struct Tally {
     /// Orders sent.
-    pub orders: u64,
-    pub verdicts: u64,
+    pub(crate) orders: u64,
+    pub(crate) verdicts: u64,
     /// Verdicts that accepted an errand.
-    pub accepted: u64,
-    pub arrived: u64,
+    pub(crate) accepted: u64,
+    pub(crate) arrived: u64,
     /// The number of the last notice.
-    pub last: u64,
+    pub(crate) last: u64,
     /// Whether the notices were numbered through, and the verdicts in the order of the orders.
-    pub in_order: bool,
+    pub(crate) in_order: bool,
 }
 
 impl Tally {
     /// Before the first order.
-    pub const NONE: Tally = Tally {
+    pub(crate) const NONE: Tally = Tally {
         orders: 0,
         verdicts: 0,
         accepted: 0,

@@ -20,22 +20,22 @@ const HANDFUL: u32 = 64;
 
 /// A client with what it sends and what it was told.
 #[derive(Drop)]
-pub struct Worker<N: OfficeName<Global>> {
-    pub guest: Guest<N>,
-    pub random: Random,
-    pub tally: Tally,
+pub(crate) struct Worker<N: OfficeName<Global>> {
+    pub(crate) guest: Guest<N>,
+    pub(crate) random: Random,
+    pub(crate) tally: Tally,
 }
 
 /// What all threads share: how many robots there are, on which cells errands lie, how many orders each client sends, how many
 /// turns each ticker makes at least, and how many clients have done their work.
 #[derive(Drop)]
-pub struct Shift {
-    pub robots: u32,
-    pub cells: Vec<u32>,
-    pub orders: u64,
-    pub turns: u64,
-    pub clients: u64,
-    pub done: AtomicU64,
+pub(crate) struct Shift {
+    pub(crate) robots: u32,
+    pub(crate) cells: Vec<u32>,
+    pub(crate) orders: u64,
+    pub(crate) turns: u64,
+    pub(crate) clients: u64,
+    pub(crate) done: AtomicU64,
     ghost robots_there: { 0 < robots },
     ghost cells_there: { 0 < vec_len cells },
 }
@@ -88,9 +88,9 @@ fn work<N: OfficeName<Global>>(worker: Worker<N>, shift: &Shift) -> Worker<N> {
 
 /// A ticker, and why it stopped early.
 #[derive(Drop)]
-pub struct Shifted<N: OfficeName<Global>> {
-    pub ticker: Ticker<N>,
-    pub stopped: Option<TurnCause>,
+pub(crate) struct Shifted<N: OfficeName<Global>> {
+    pub(crate) ticker: Ticker<N>,
+    pub(crate) stopped: Option<TurnCause>,
 }
 
 /// One ticker's work: its turns, and further ones until all clients have done theirs.

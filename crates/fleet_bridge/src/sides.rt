@@ -10,7 +10,7 @@ use std::marker::Model;
 
 /// In which directions a cell has a neighbour.
 #[derive(Clone, Copy)]
-pub(crate) struct Open {
+struct Open {
     north: bool,
     east: bool,
     south: bool,

@@ -1,5 +1,5 @@
 -- A text cut behind a line feed: its lines are those before the cut and those behind it.
-use Rattle.std.proofs.Common.{◌≡◌, ℕ, zero, suc, ◌+◌, ◌-◌, ◌<◌, ◌≤◌, ◌⊎◌, inl, inr, Bool, true, false, List, [], ◌∷◌, ◌++◌, length, take, drop, map, Some, refl, sym, ap, subst, ◌∙◌, arith, get_or}
+use Rattle.std.proofs.Common.{◌≡◌, ℕ, ◌+◌, ◌-◌, ◌<◌, inl, inr, true, List, [], ◌∷◌, ◌++◌, length, take, drop, map, Some, refl, sym, ap, ◌∙◌, arith, get_or}
 use Rattle.std.specs.List.{onto_first, slice_split, position}
 use Rattle.std.specs.Str.Lines.{strip_carriage_return}
 use Rattle.std.proofs.lemmas.List.{map-append, append_assoc, length-append}
@@ -8,7 +8,7 @@ use Rattle.std.proofs.lemmas.Bool.{cases_Bool, eqb-true}
 use Rattle.std.proofs.lemmas.Grind.{common_steps}
 use Rattle.std.proofs.lemmas.List.{take-append-drop}
 use Rattle.std.proofs.lemmas.List.Quantifiers.{position-Some}
-use Rattle.fleet_map.specs.Text.{is_line_feed, is_empty, without_empty_last, lines_of, IsBehindLine}
+use Rattle.fleet_map.specs.Text.{is_line_feed, without_empty_last, lines_of, IsBehindLine}
 use Rattle.fleet_map.proofs.TextLemmas.{keeps_first, behind}
 
 some_parts : (xs : List ℕ) → 0 < length (slice_split is_line_feed xs)

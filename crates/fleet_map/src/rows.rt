@@ -46,7 +46,7 @@ fn read_row(width: u32, row: u32, text: &[u8]) -> Result<(&[u8], &[u8]), MapFaul
 }
 
 /// The cells of so many rows, and the text behind them.
-pub fn read_rows<A: Allocator + Copy>(
+pub(crate) fn read_rows<A: Allocator + Copy>(
     alloc: A,
     height: u32,
     width: u32,
@@ -67,7 +67,7 @@ pub fn read_rows<A: Allocator + Copy>(
 
 /// Nothing but blank lines is left.
 #[tactic(auto, unfolding(crate::specs::Grammar::end_at))]
-pub fn read_end(number: u64, text: &[u8]) -> Result<(), MapFault>
+pub(crate) fn read_end(number: u64, text: &[u8]) -> Result<(), MapFault>
     requires { number < 2 ^ 32 }
     ensures { Shows (λ x. x) result (end_at number (lines_of text.now)) }
 {

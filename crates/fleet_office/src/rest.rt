@@ -11,11 +11,10 @@ ghost use Rattle.fleet_plan.specs.Planned.{IsPlanned, IsAdvancingTick};
 ghost use Rattle.fleet_core.specs.Core.{Shuts, HasRoom, HasNoRoom, HasEntries, HasNoEntries};
 ghost use Rattle.fleet_office.specs.Views.{TickerView};
 ghost use Rattle.fleet_office.specs.Hall.{HallView, IsLawful, ShowsOrder, TakesOne, GivesOne, GivesAll, given_count, TakesSome, TakesUntil, TakesFirst, StopsTaking, TicksOnce, Turns, StopsTurn, Looks};
-ghost use Rattle.fleet_office.specs.inside.Causes.{cause_of};
 
 use crate::giving::give_from;
 use crate::names::OfficeName;
-use crate::report::{TurnCause, TurnFault, TurnReport};
+use crate::report::{TurnCause, TurnFault, TurnReport, cause_of, so_far};
 use crate::taking::take_from;
 use crate::ticker::{Ticker, ticks_of_all};
 use fleet_book::Verdict;
@@ -276,27 +275,5 @@ impl<N: OfficeName<A>, A: Allocator + Copy> Rest<N, A> {
                 report: so_far(taken, held, given),
             }),
         }
-    }
-}
-
-fn so_far(taken: u32, held: u32, given: u64) -> TurnReport
-    ensures { result ≡ record { taken = taken; held = held; given = given; arrived = 0; tick = None } }
-{
-    TurnReport {
-        taken,
-        held,
-        given,
-        arrived: 0,
-        tick: None,
-    }
-}
-
-fn cause_of(fault: TickFault) -> TurnCause
-    ensures { result ≡ cause_of fault }
-{
-    match fault {
-        TickFault::ClockSpent => TurnCause::ClockSpent,
-        TickFault::ChapterFull => TurnCause::ChapterFull,
-        TickFault::NoMemory => TurnCause::NoMemory,
     }
 }

@@ -12,19 +12,19 @@ use std::alloc::Allocator;
 /// A robot's own cell, the cells beside it, and which of those are nearer to its goal. Where there is no floor the own cell
 /// stands in.
 #[derive(Clone, Copy)]
-pub struct Around {
-    pub own: u32,
-    pub north: u32,
-    pub east: u32,
-    pub south: u32,
-    pub west: u32,
+pub(crate) struct Around {
+    pub(crate) own: u32,
+    pub(crate) north: u32,
+    pub(crate) east: u32,
+    pub(crate) south: u32,
+    pub(crate) west: u32,
     /// The ways to them, bit by bit.
-    pub nearer: u8,
+    pub(crate) nearer: u8,
 }
 
 impl Around {
     /// What no robot has seen yet.
-    pub const NOWHERE: Around = Around {
+    pub(crate) const NOWHERE: Around = Around {
         own: 0,
         north: 0,
         east: 0,
@@ -34,7 +34,7 @@ impl Around {
     };
 
     /// The cell in a direction.
-    pub fn beside(&self, dir: Dir) -> u32
+    pub(crate) fn beside(&self, dir: Dir) -> u32
         ensures { result ≡ cell_in self.now dir }
     {
         match dir {
@@ -126,7 +126,7 @@ fn ask<G: Goals, A: Allocator + Copy>(
 }
 
 /// Writes down what each robot sees.
-pub fn gather<G: Goals, A: Allocator + Copy>(
+pub(crate) fn gather<G: Goals, A: Allocator + Copy>(
     grid: &Grid<A>,
     from: &[u32],
     goals: &G,

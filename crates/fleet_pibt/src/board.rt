@@ -8,14 +8,14 @@ use std::alloc::{Allocator, Global};
 
 /// The cell that each robot has decided on, and the robot that has reserved each cell.
 #[derive(Drop)]
-pub struct Board<A: Allocator + Copy = Global> {
-    pub target: Table<A>,
-    pub holder: Table<A>,
+pub(crate) struct Board<A: Allocator + Copy = Global> {
+    pub(crate) target: Table<A>,
+    pub(crate) holder: Table<A>,
 }
 
 impl<A: Allocator + Copy> Board<A> {
     /// The robot decides on the cell, which nobody has reserved.
-    pub fn reserve(&mut self, robot: u32, cell: u32)
+    pub(crate) fn reserve(&mut self, robot: u32, cell: u32)
         requires known { robot < length self.old.target }
         requires inside { cell < length self.old.holder }
         requires few_robots { robot < 4294967295 }
@@ -28,7 +28,7 @@ impl<A: Allocator + Copy> Board<A> {
     }
 
     /// The other robot stays on its cell, and the robot that had reserved it has not decided.
-    pub fn hand_back(&mut self, robot: u32, other: u32, cell: u32)
+    pub(crate) fn hand_back(&mut self, robot: u32, other: u32, cell: u32)
         requires known { robot < length self.old.target }
         requires other_known { other < length self.old.target }
         requires inside { cell < length self.old.holder }
@@ -42,7 +42,7 @@ impl<A: Allocator + Copy> Board<A> {
     }
 
     /// Takes a robot that has decided, and its cell, off the board, and tells the cell.
-    pub fn release(&mut self, robot: u32) -> u32
+    pub(crate) fn release(&mut self, robot: u32) -> u32
         requires known { robot < length self.old.target }
         requires decided { table self.old.target robot ≢ None }
         requires inside { (c : ℕ) → table self.old.target robot ≡ Some c → c < length self.old.holder }

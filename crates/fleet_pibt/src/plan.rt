@@ -83,7 +83,11 @@ fn plan<S: Sight, A: Allocator + Copy>(scene: &S, board: &mut Board<A>, robot: u
 }
 
 /// Plans each robot of the queue that has not decided yet.
-pub fn plan_all<S: Sight, A: Allocator + Copy>(scene: &S, board: &mut Board<A>, queue: &[u32])
+pub(crate) fn plan_all<S: Sight, A: Allocator + Copy>(
+    scene: &S,
+    board: &mut Board<A>,
+    queue: &[u32],
+)
     requires whole { S.is_whole scene.now }
     requires queue { NamesAll (S.setting scene.now) queue.now }
     requires targets { length board.old.target ≡ robots (S.setting scene.now) }

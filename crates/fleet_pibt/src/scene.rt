@@ -32,17 +32,17 @@ fn rank_beside(rank: u8) -> u16
 
 /// What the plan of one step is made from.
 #[derive(Drop)]
-pub struct Scene<'a, G, A: Allocator + Copy> {
+pub(crate) struct Scene<'a, G, A: Allocator + Copy> {
     /// The map and the goals from which `arounds` was gathered.
-    pub grid: &'a Grid<A>,
-    pub goals: &'a G,
-    pub from: &'a [u32],
-    pub ties: &'a [TieHook],
+    pub(crate) grid: &'a Grid<A>,
+    pub(crate) goals: &'a G,
+    pub(crate) from: &'a [u32],
+    pub(crate) ties: &'a [TieHook],
     /// The robot on each cell.
-    pub standing: &'a Table<A>,
+    pub(crate) standing: &'a Table<A>,
     /// What each robot sees.
-    pub arounds: &'a [Around],
-    pub tick: u64,
+    pub(crate) arounds: &'a [Around],
+    pub(crate) tick: u64,
 }
 
 impl<'a, G: Goals, A: Allocator + Copy> Sight for Scene<'a, G, A> {

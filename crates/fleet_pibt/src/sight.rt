@@ -4,7 +4,7 @@ ghost use Rattle.std.specs.Prelude.{◌≡◌, ℕ, ◌<◌, length, MatchOption
 ghost use Rattle.fleet_pibt.specs.inside.Setting.{Setting, cell_of, robots, Stands, Unmoved, IsScene, IsChoices};
 
 /// What the plan of one step sees.
-pub trait Sight {
+pub(crate) trait Sight {
     ghost setting: { Self → Setting };
 
     ghost is_whole: { Self → Type 0 };

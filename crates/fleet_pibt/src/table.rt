@@ -11,7 +11,7 @@ const NOTHING: u32 = 4294967295;
 
 /// A list of numbers or nothing, each in four bytes.
 #[derive(Drop)]
-pub struct Table<A: Allocator + Copy = Global> {
+pub(crate) struct Table<A: Allocator + Copy = Global> {
     entries: Vec<u32, A>,
 }
 
@@ -26,7 +26,7 @@ impl<A: Allocator + Copy> Model for Table<A> {
 
 impl<A: Allocator + Copy> Table<A> {
     /// So many empty entries.
-    pub fn new(alloc: A, len: u32) -> Result<Table<A>, AllocError>
+    pub(crate) fn new(alloc: A, len: u32) -> Result<Table<A>, AllocError>
         ensures { IfOk result (λ t. (length t ≡ len) × IsEmpty t) }
     {
         Ok(Table {
@@ -35,14 +35,14 @@ impl<A: Allocator + Copy> Table<A> {
     }
 
     /// How many entries there are.
-    pub fn len(&self) -> usize
+    pub(crate) fn len(&self) -> usize
         ensures { result ≡ length self.now }
     {
         self.entries.len()
     }
 
     /// The entry at a place.
-    pub fn get(&self, at: u32) -> Option<u32>
+    pub(crate) fn get(&self, at: u32) -> Option<u32>
         requires { at < length self.now }
         ensures { result ≡ table self.now at }
     {
@@ -55,7 +55,7 @@ impl<A: Allocator + Copy> Table<A> {
     }
 
     /// Enters a number at a place.
-    pub fn set(&mut self, at: u32, number: u32)
+    pub(crate) fn set(&mut self, at: u32, number: u32)
         requires inside { at < length self.old }
         requires small { number < 4294967295 }
         ensures { self.new ≡ slice_set self.old at (Some number) }
@@ -64,7 +64,7 @@ impl<A: Allocator + Copy> Table<A> {
     }
 
     /// Empties the entry at a place.
-    pub fn clear(&mut self, at: u32)
+    pub(crate) fn clear(&mut self, at: u32)
         requires { at < length self.old }
         ensures { self.new ≡ slice_set self.old at None }
     {

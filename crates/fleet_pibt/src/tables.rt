@@ -15,7 +15,7 @@ const NEAR: usize = 262144;
 
 /// Empties the entries of the cells north and south of the robots, where they are empty. It changes nothing: the processor
 /// fetches all these entries of a large table at once, and not one after another when the robots are planned.
-pub fn fetch<A: Allocator + Copy>(arounds: &[Around], table: &mut Table<A>)
+pub(crate) fn fetch<A: Allocator + Copy>(arounds: &[Around], table: &mut Table<A>)
     requires inside { HasSides arounds.now (length table.old) }
     requires empty { IsEmpty table.old }
     ensures same_length { length table.new ≡ length table.old }
@@ -31,7 +31,7 @@ pub fn fetch<A: Allocator + Copy>(arounds: &[Around], table: &mut Table<A>)
 }
 
 /// Enters each robot at its cell.
-pub fn place<A: Allocator + Copy>(from: &[u32], standing: &mut Table<A>)
+pub(crate) fn place<A: Allocator + Copy>(from: &[u32], standing: &mut Table<A>)
     requires few { length from.now ≤ 512 }
     requires inside { HasCells from.now (length standing.old) }
     requires distinct { Distinct (length from.now) (slice_index from.now) }
@@ -45,7 +45,7 @@ pub fn place<A: Allocator + Copy>(from: &[u32], standing: &mut Table<A>)
 }
 
 /// Takes each robot out of the table.
-pub fn lift<A: Allocator + Copy>(from: &[u32], standing: &mut Table<A>)
+pub(crate) fn lift<A: Allocator + Copy>(from: &[u32], standing: &mut Table<A>)
     requires inside { HasCells from.now (length standing.old) }
     requires placed { IsPlaced from.now standing.old (length from.now) }
     ensures same_length { length standing.new ≡ length standing.old }
@@ -57,7 +57,7 @@ pub fn lift<A: Allocator + Copy>(from: &[u32], standing: &mut Table<A>)
 }
 
 /// Writes out where each robot goes, and empties the board.
-pub fn settle<A: Allocator + Copy>(board: &mut Board<A>, to: &mut [u32])
+pub(crate) fn settle<A: Allocator + Copy>(board: &mut Board<A>, to: &mut [u32])
     requires few { length to.old ≤ 512 }
     requires same { length board.old.target ≡ length to.old }
     requires matched { IsMatched board.old.target board.old.holder }

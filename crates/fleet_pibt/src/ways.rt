@@ -6,7 +6,7 @@ ghost use Rattle.fleet_grid.specs.Ways.{IsWay};
 use fleet_grid::Dir;
 
 /// Whether the way in a direction is one of these.
-pub fn is_way(ways: u8, dir: Dir) -> bool
+pub(crate) fn is_way(ways: u8, dir: Dir) -> bool
     ensures { IsTrue result ↔ IsWay ways dir }
 {
     match dir {

@@ -217,7 +217,7 @@ fn answer_map(alloc: Global, bytes: &[u8]) -> Result<Said, AllocError>
 
 /// What the program has to say to the texts of a job that is not to serve, the second of which counts only where the job
 /// names two files.
-pub fn answer<R: Alloc<A = Global> + Threads + Sync>(
+pub(crate) fn answer<R: Alloc<A = Global> + Threads + Sync>(
     rt: &R,
     job: &Job,
     first: &[u8],

@@ -7,7 +7,7 @@ use std::alloc::{AllocError, Allocator};
 use std::io::Read;
 
 /// The greatest length of a file.
-pub const MOST_BYTES: usize = 16_777_216;
+const MOST_BYTES: usize = 16_777_216;
 
 /// Why a file could not be read.
 #[derive(Clone, Copy, Debug, PartialEq, Eq)]
@@ -53,7 +53,7 @@ pub fn read_whole<A: Allocator + Copy, R: Read>(
 }
 
 /// All that a second reader has, which is at most 16,777,216 bytes, and nothing where there is none.
-pub fn read_other<A: Allocator + Copy, R: Read>(
+pub(crate) fn read_other<A: Allocator + Copy, R: Read>(
     alloc: A,
     reader: Option<&mut R>,
 ) -> Result<Vec<u8, A>, InputFault>

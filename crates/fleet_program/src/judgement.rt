@@ -48,7 +48,6 @@ fn legal(alloc: Global) -> Result<Said, AllocError>
     })
 }
 
-/// Judges a chapter on a map.
 fn judge_chapter(alloc: Global, map: MapText, chapter: &Chapter) -> Result<Said, AllocError>
     requires { HasSides (view map) }
     ensures { IfOk result (λ s. IsJudged (floor_of_map (view map)) (history_of chapter.now) (said s)) }
@@ -62,7 +61,7 @@ fn judge_chapter(alloc: Global, map: MapText, chapter: &Chapter) -> Result<Said,
 }
 
 /// What the program has to say to a map and a trace.
-pub fn answer_trace(alloc: Global, map: &[u8], trace: &[u8]) -> Result<Said, AllocError>
+pub(crate) fn answer_trace(alloc: Global, map: &[u8], trace: &[u8]) -> Result<Said, AllocError>
     ensures { IfOk result (λ s. IsJudgeOutcome map.now trace.now (said s)) }
 {
     let map = match read_map(alloc, map) {

@@ -10,7 +10,7 @@ use std::fmt::{self, Write};
 
 /// The ends of a map's first bridge, where it has one.
 #[derive(Clone, Copy, Debug)]
-pub struct BridgeText(pub Option<(u32, u32)>);
+struct BridgeText(Option<(u32, u32)>);
 
 impl fmt::Display for BridgeText {
     ghost output = { λ t. Some (bridge_text t.0) };
@@ -25,15 +25,14 @@ impl fmt::Display for BridgeText {
 
 /// What there is to print of a map: its sides, how many floor cells and edges it has, and its first bridge.
 #[derive(Clone, Copy, Debug)]
-pub struct MapLines {
-    pub height: u32,
-    pub width: u32,
-    pub floor: u32,
-    pub edges: u32,
-    pub bridge: Option<(u32, u32)>,
+struct MapLines {
+    height: u32,
+    width: u32,
+    floor: u32,
+    edges: u32,
+    bridge: Option<(u32, u32)>,
 }
 
-/// The lines of a map.
 fn write_map<A: Allocator + Copy>(out: &mut String<A>, lines: MapLines) -> Result<(), AllocError>
     ensures { OnOk result (string_bytes out.new ≡ string_bytes out.old ++ map_lines lines.height lines.width lines.floor lines.edges lines.bridge) }
 {
@@ -53,7 +52,10 @@ fn write_map<A: Allocator + Copy>(out: &mut String<A>, lines: MapLines) -> Resul
 }
 
 /// What the program prints of a map.
-pub fn map_report<A: Allocator + Copy>(alloc: A, grid: &Grid<A>) -> Result<String<A>, AllocError>
+pub(crate) fn map_report<A: Allocator + Copy>(
+    alloc: A,
+    grid: &Grid<A>,
+) -> Result<String<A>, AllocError>
     ensures { IfOk result (λ text. IsMapReport grid.now (string_bytes text)) }
 {
     let lines = MapLines {

@@ -24,7 +24,6 @@ fn write_place<A: Allocator + Copy>(out: &mut String<A>, cells: &[u32]) -> Resul
     Ok(())
 }
 
-/// The robot's cell.
 fn cell_of(cells: &[u32], robot: u32) -> u32
     ensures { result ≡ slice_index cells.now robot }
 {
@@ -264,7 +263,7 @@ fn behind<A: Allocator + Copy>(entries: &[Entry<A>], reply: Reply) -> &[Entry<A>
 }
 
 /// What the program prints of a run: the lines of its events, by their replies and by the entries that they made.
-pub fn report<A: Allocator + Copy>(
+pub(crate) fn report<A: Allocator + Copy>(
     alloc: A,
     events: &[Event],
     replies: &[Reply],

@@ -14,7 +14,7 @@ use std::fmt;
 
 /// What is wrong, as the error writer is told.
 #[derive(Clone, Copy, Debug, PartialEq, Eq)]
-pub enum Complaint {
+pub(crate) enum Complaint {
     /// A file could not be opened, read or written, or is too long.
     File,
     Map(MapFault),
@@ -29,7 +29,7 @@ pub enum Complaint {
 
 impl Complaint {
     /// The program's status.
-    pub fn status(self) -> u8
+    pub(crate) fn status(self) -> u8
         ensures { result ≡ status_of self }
     {
         match self {
@@ -70,21 +70,20 @@ impl fmt::Display for Complaint {
 
 /// What the program has to say, and its status.
 #[derive(Drop)]
-pub struct Said {
-    pub output: String,
-    pub status: u8,
-    pub complaint: String,
+pub(crate) struct Said {
+    pub(crate) output: String,
+    pub(crate) status: u8,
+    pub(crate) complaint: String,
 }
 
-/// The line of a complaint.
-pub fn line_of(alloc: Global, complaint: Complaint) -> Result<String, AllocError>
+pub(crate) fn line_of(alloc: Global, complaint: Complaint) -> Result<String, AllocError>
     ensures { IfOk result (λ line. string_bytes line ≡ complaint_line complaint) }
 {
     format!(in alloc; "errands: {complaint}\n")
 }
 
 /// What is said where there is nothing but a complaint.
-pub fn faulty(alloc: Global, complaint: Complaint) -> Result<Said, AllocError>
+pub(crate) fn faulty(alloc: Global, complaint: Complaint) -> Result<Said, AllocError>
     ensures { IfOk result (λ s. said s ≡ fault complaint) }
 {
     Ok(Said {
@@ -95,7 +94,7 @@ pub fn faulty(alloc: Global, complaint: Complaint) -> Result<Said, AllocError>
 }
 
 /// The complaint of a map with this fault. Want of memory is none.
-pub fn map_complaint(fault: MapFault) -> Result<Complaint, AllocError>
+pub(crate) fn map_complaint(fault: MapFault) -> Result<Complaint, AllocError>
     ensures named { IfOk result (λ c. IsMapNamed fault) }
     ensures value { IfOk result (λ c. c ≡ Complaint.Map fault) }
 {

@@ -141,7 +141,7 @@ fn answer_serve<R: Alloc<A = Global> + Threads + Sync + Wait>(
 }
 
 /// What the program has to say to the texts of a job that is to serve.
-pub fn answer_job<R: Alloc<A = Global> + Threads + Sync + Wait>(
+pub(crate) fn answer_job<R: Alloc<A = Global> + Threads + Sync + Wait>(
     rt: &R,
     job: &Job,
     first: &[u8],

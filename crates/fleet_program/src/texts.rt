@@ -12,7 +12,7 @@ use std::fmt;
 
 /// A verdict as the program prints it.
 #[derive(Clone, Copy, Debug)]
-pub struct VerdictText(pub Verdict);
+pub(crate) struct VerdictText(pub(crate) Verdict);
 
 impl fmt::Display for VerdictText {
     ghost output = { λ v. Some (verdict_text v.0) };
@@ -38,7 +38,7 @@ impl fmt::Display for VerdictText {
 
 /// Why an order was not taken, as the program prints it.
 #[derive(Clone, Copy, Debug)]
-pub struct TakeFaultText(pub TakeFault);
+pub(crate) struct TakeFaultText(pub(crate) TakeFault);
 
 impl fmt::Display for TakeFaultText {
     ghost output = { λ t. Some (take_fault_text t.0) };
@@ -54,7 +54,7 @@ impl fmt::Display for TakeFaultText {
 
 /// Why no tick was made, as the program prints it.
 #[derive(Clone, Copy, Debug)]
-pub struct TickFaultText(pub TickFault);
+pub(crate) struct TickFaultText(pub(crate) TickFault);
 
 impl fmt::Display for TickFaultText {
     ghost output = { λ t. Some (tick_fault_text t.0) };
@@ -70,7 +70,7 @@ impl fmt::Display for TickFaultText {
 
 /// Why a robot was not shut, as the program prints it.
 #[derive(Clone, Copy, Debug)]
-pub struct ShutFaultText(pub ShutFault);
+pub(crate) struct ShutFaultText(pub(crate) ShutFault);
 
 impl fmt::Display for ShutFaultText {
     ghost output = { λ t. Some (shut_fault_text t.0) };
@@ -87,7 +87,7 @@ impl fmt::Display for ShutFaultText {
 
 /// What a notice tells, as the program prints it.
 #[derive(Clone, Copy, Debug)]
-pub struct NoticeText(pub Notice);
+pub(crate) struct NoticeText(pub(crate) Notice);
 
 impl fmt::Display for NoticeText {
     ghost output = { λ n. Some (notice_text n.0) };
@@ -119,9 +119,9 @@ impl fmt::Display for NoticeText {
 
 /// The line of an arrival at a cell.
 #[derive(Clone, Copy, Debug)]
-pub struct ArrivalLine {
-    pub arrival: Arrival,
-    pub cell: u32,
+pub(crate) struct ArrivalLine {
+    pub(crate) arrival: Arrival,
+    pub(crate) cell: u32,
 }
 
 impl fmt::Display for ArrivalLine {
@@ -142,9 +142,9 @@ impl fmt::Display for ArrivalLine {
 
 /// The line of a farewell.
 #[derive(Clone, Copy, Debug)]
-pub struct FarewellLine {
-    pub robot: u32,
-    pub stamp: u32,
+pub(crate) struct FarewellLine {
+    pub(crate) robot: u32,
+    pub(crate) stamp: u32,
 }
 
 impl fmt::Display for FarewellLine {
@@ -159,7 +159,7 @@ impl fmt::Display for FarewellLine {
 
 /// The fault of a map, as the program names it.
 #[derive(Clone, Copy, Debug)]
-pub struct MapFaultText(pub MapFault);
+pub(crate) struct MapFaultText(pub(crate) MapFault);
 
 impl fmt::Display for MapFaultText {
     ghost output = { λ t. Some (map_fault_text t.0) };
@@ -178,7 +178,7 @@ impl fmt::Display for MapFaultText {
 
 /// Why a world was not opened, as the program names it.
 #[derive(Clone, Copy, Debug)]
-pub struct OpenFaultText(pub OpenFault);
+pub(crate) struct OpenFaultText(pub(crate) OpenFault);
 
 impl fmt::Display for OpenFaultText {
     ghost output = { λ t. Some (open_fault_text t.0) };
@@ -197,7 +197,7 @@ impl fmt::Display for OpenFaultText {
 
 /// Why a file tells no trace, as the program names it.
 #[derive(Clone, Copy, Debug)]
-pub struct TraceFaultText(pub TraceFault);
+pub(crate) struct TraceFaultText(pub(crate) TraceFault);
 
 impl fmt::Display for TraceFaultText {
     ghost output = { λ t. Some (trace_fault_text t.0) };

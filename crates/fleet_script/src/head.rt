@@ -10,7 +10,7 @@ use fleet_map::text::first_word;
 
 /// The name of a limit, as a header line begins with it.
 #[derive(Clone, Copy, Debug, PartialEq, Eq)]
-pub enum LimitName {
+pub(crate) enum LimitName {
     Lane,
     Outlet,
     Queue,
@@ -24,20 +24,20 @@ pub enum LimitName {
 
 /// The limits that header lines gave so far.
 #[derive(Clone, Copy, Debug, PartialEq, Eq)]
-pub struct GivenLimits {
-    pub lane: Option<u32>,
-    pub outlet: Option<u32>,
-    pub queue: Option<u32>,
-    pub mailbox: Option<u32>,
-    pub life: Option<u64>,
-    pub orders: Option<u64>,
-    pub clock: Option<u64>,
-    pub chapter: Option<u32>,
-    pub chapters: Option<u32>,
+pub(crate) struct GivenLimits {
+    pub(crate) lane: Option<u32>,
+    pub(crate) outlet: Option<u32>,
+    pub(crate) queue: Option<u32>,
+    pub(crate) mailbox: Option<u32>,
+    pub(crate) life: Option<u64>,
+    pub(crate) orders: Option<u64>,
+    pub(crate) clock: Option<u64>,
+    pub(crate) chapter: Option<u32>,
+    pub(crate) chapters: Option<u32>,
 }
 
 /// The limit that a header line begins with.
-pub fn limit_name(key: &[u8]) -> Option<LimitName>
+pub(crate) fn limit_name(key: &[u8]) -> Option<LimitName>
     ensures { result ≡ limit_named key.now }
 {
     if key == b"lane".as_slice() {
@@ -64,7 +64,7 @@ pub fn limit_name(key: &[u8]) -> Option<LimitName>
 }
 
 /// Which closures rank the cells, as the words say: whether the southern ones.
-pub fn is_south(words: &[u8]) -> Option<bool>
+pub(crate) fn is_south(words: &[u8]) -> Option<bool>
     ensures { result ≡ ties_in (words_of words.now) }
 {
     let (word, rest) = first_word(words)?;
@@ -81,7 +81,7 @@ pub fn is_south(words: &[u8]) -> Option<bool>
 }
 
 /// How many turns each ticker makes in a serve, as the words say.
-pub fn turn_count(words: &[u8]) -> Option<u32>
+pub(crate) fn turn_count(words: &[u8]) -> Option<u32>
     ensures { result ≡ turns_in (words_of words.now) }
 {
     match one_number(words, 1_000_000) {
@@ -91,7 +91,7 @@ pub fn turn_count(words: &[u8]) -> Option<u32>
 }
 
 /// What a header line says, where none said it before.
-pub fn only_once<T: Copy>(old: Option<T>, said: Option<T>) -> Option<T>
+pub(crate) fn only_once<T: Copy>(old: Option<T>, said: Option<T>) -> Option<T>
     ensures { result ≡ if_new old said }
 {
     match old {
@@ -102,7 +102,7 @@ pub fn only_once<T: Copy>(old: Option<T>, said: Option<T>) -> Option<T>
 
 impl GivenLimits {
     /// No limit is given.
-    pub const NONE: GivenLimits = GivenLimits {
+    pub(crate) const NONE: GivenLimits = GivenLimits {
         lane: None,
         outlet: None,
         queue: None,
@@ -115,7 +115,7 @@ impl GivenLimits {
     };
 
     /// The limits with one more, which these words give.
-    pub fn with(self, name: LimitName, words: &[u8]) -> Option<GivenLimits>
+    pub(crate) fn with(self, name: LimitName, words: &[u8]) -> Option<GivenLimits>
         ensures { result ≡ with_limit self name (words_of words.now) }
     {
         let mut given = self;
@@ -155,7 +155,7 @@ impl GivenLimits {
     }
 
     /// The given limits, and the program's own for the others.
-    pub fn limits(self) -> Limits
+    pub(crate) fn limits(self) -> Limits
         ensures { result ≡ limits_of self }
     {
         Limits {

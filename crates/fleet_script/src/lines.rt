@@ -12,9 +12,9 @@ use fleet_map::text::first_word;
 
 /// The events of a line: one event, and how often.
 #[derive(Clone, Copy, Debug, PartialEq, Eq)]
-pub struct Repeat {
-    pub event: Event,
-    pub times: u32,
+pub(crate) struct Repeat {
+    pub(crate) event: Event,
+    pub(crate) times: u32,
 }
 
 /// An order: `close`, `withdraw` with a number, or `go` with robot and cell.
@@ -76,7 +76,7 @@ fn tick_count(words: &[u8]) -> Option<u32>
 }
 
 /// The events of an event line, by its first word and the others.
-pub fn events_of_line(key: &[u8], words: &[u8]) -> Option<Repeat>
+pub(crate) fn events_of_line(key: &[u8], words: &[u8]) -> Option<Repeat>
     ensures { option_map repeated result ≡ events_of key.now (words_of words.now) }
 {
     let mut times = 1;

@@ -25,7 +25,7 @@ fn wide_number(word: &[u8]) -> Option<u128>
 }
 
 /// The number that a word of at most 20 digits is, where it is at most `most`.
-pub fn number_of_word(word: &[u8], most: u64) -> Option<u64>
+pub(crate) fn number_of_word(word: &[u8], most: u64) -> Option<u64>
     ensures { result ≡ number_in most word.now }
 {
     if word.len() > 20 {
@@ -39,8 +39,7 @@ pub fn number_of_word(word: &[u8], most: u64) -> Option<u64>
     }
 }
 
-/// The one number that the words are.
-pub fn one_number(words: &[u8], most: u64) -> Option<u64>
+pub(crate) fn one_number(words: &[u8], most: u64) -> Option<u64>
     ensures { result ≡ one_in most (words_of words.now) }
 {
     let (word, rest) = first_word(words)?;
@@ -51,7 +50,7 @@ pub fn one_number(words: &[u8], most: u64) -> Option<u64>
 }
 
 /// The number of 32 bits that a word is.
-pub fn small_number(word: &[u8]) -> Option<u32>
+pub(crate) fn small_number(word: &[u8]) -> Option<u32>
     ensures { result ≡ number_in most32 word.now }
 {
     let number = number_of_word(word, u64::from(u32::MAX))?;
@@ -59,7 +58,7 @@ pub fn small_number(word: &[u8]) -> Option<u32>
 }
 
 /// The one number of 32 bits that the words are.
-pub fn one_small_number(words: &[u8]) -> Option<u32>
+pub(crate) fn one_small_number(words: &[u8]) -> Option<u32>
     ensures { result ≡ one_in most32 (words_of words.now) }
 {
     let number = one_number(words, u64::from(u32::MAX))?;

@@ -58,14 +58,14 @@ impl From<AllocError> for ScriptFault {
 
 /// A script as far as it is read.
 #[derive(Drop)]
-pub struct Draft<A: Allocator + Copy = Global> {
-    pub starts: Option<Vec<u32, A>>,
-    pub clients: Option<u32>,
-    pub south: Option<bool>,
-    pub turns: Option<u32>,
-    pub limits: GivenLimits,
-    pub events: Vec<Event, A>,
-    pub lines: Vec<u32, A>,
+struct Draft<A: Allocator + Copy = Global> {
+    starts: Option<Vec<u32, A>>,
+    clients: Option<u32>,
+    south: Option<bool>,
+    turns: Option<u32>,
+    limits: GivenLimits,
+    events: Vec<Event, A>,
+    lines: Vec<u32, A>,
 }
 
 /// Puts an item behind the others, so many times.

@@ -14,7 +14,6 @@ use Rattle.fleet_book.specs.declared.order.Order.TheVariants.{Go, Close, Withdra
 use Rattle.fleet_book.specs.declared.verdict.Verdict.{Verdict}
 use Rattle.fleet_book.specs.declared.verdict.Verdict.TheVariants.{Accepted}
 use Rattle.fleet_book.specs.Counts as book
-use Rattle.fleet_book.specs.Counts.{account_of}
 use Rattle.fleet_book.specs.Rule.{verdict_of}
 use Rattle.fleet_history.specs.History.{History, robots, clients, place, unfinished, is_shut}
 use Rattle.fleet_history.specs.Verdicts.{AreFacts, AreGoFacts, IsPlaceOf, IsVerdict, place_in, standing}

@@ -16,7 +16,7 @@ const SEEN: u64 = 2;
 const MISSED: u64 = 3;
 
 /// Waits until the flag is at least so much. Says whether it is.
-pub(crate) fn wait_for(flag: &AtomicU64, least: u64) -> bool {
+fn wait_for(flag: &AtomicU64, least: u64) -> bool {
     for _ in 0..MOST_TRIES {
         if flag.load(Ordering::SeqCst) >= least {
             return true;

@@ -29,7 +29,6 @@ const BLOCKED: Case = Case {
     turns: 1,
 };
 
-/// The line of a case.
 fn line_of(alloc: Global, case: &Case, outcome: &Outcome) -> Result<String, AllocError> {
     format!(in alloc;
         "{}: flag {} posted {} collected {} tick {}\n",

@@ -20,11 +20,11 @@ use std::thread::Threads;
 
 /// A case: how many clients there are, how often each posts at most, and how many turns the other ticker makes.
 #[derive(Clone, Copy, Debug)]
-pub struct Case {
-    pub name: &'static str,
-    pub clients: u32,
-    pub posts: u64,
-    pub turns: u64,
+pub(crate) struct Case {
+    pub(crate) name: &'static str,
+    pub(crate) clients: u32,
+    pub(crate) posts: u64,
+    pub(crate) turns: u64,
 }
 
 /// Ranks of any kind.

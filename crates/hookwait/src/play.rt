@@ -16,20 +16,20 @@ use std::thread::Threads;
 
 /// What came out of a case.
 #[derive(Clone, Copy, Debug, PartialEq, Eq)]
-pub struct Outcome {
+pub(crate) struct Outcome {
     /// Whether the closure saw the clients' flag.
-    pub seen: bool,
+    pub(crate) seen: bool,
     /// Orders that the lanes took.
-    pub posted: u64,
+    pub(crate) posted: u64,
     /// Notices that were collected while the closure waited.
-    pub collected: u64,
+    pub(crate) collected: u64,
     /// The ticks made.
-    pub tick: u64,
+    pub(crate) tick: u64,
 }
 
 /// Why a case has no outcome.
 #[derive(Clone, Copy, Debug, PartialEq, Eq)]
-pub enum PlayFault {
+pub(crate) enum PlayFault {
     Opening(OpenFault),
     Turn,
     Conclude(ConcludeFault),

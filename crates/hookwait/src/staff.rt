@@ -11,27 +11,27 @@ use std::thread::{Threads, join};
 
 /// What all threads share: the closure's flag, how many clients are done, and how often each posts at most.
 #[derive(Drop)]
-pub struct Shared {
-    pub hook: Arc<AtomicU64>,
-    pub done: Arc<AtomicU64>,
-    pub posts: u64,
+pub(crate) struct Shared {
+    pub(crate) hook: Arc<AtomicU64>,
+    pub(crate) done: Arc<AtomicU64>,
+    pub(crate) posts: u64,
 }
 
 /// A client, with how many orders its lane took and how many notices it collected.
 #[derive(Drop)]
-pub struct Worker<N: OfficeName<Global>> {
-    pub guest: Guest<N>,
-    pub posted: u64,
-    pub collected: u64,
+pub(crate) struct Worker<N: OfficeName<Global>> {
+    pub(crate) guest: Guest<N>,
+    pub(crate) posted: u64,
+    pub(crate) collected: u64,
 }
 
 /// A ticker, how many turns it makes once the closure has begun, and whether one was refused.
 #[derive(Drop)]
-pub struct Turner<N: OfficeName<Global>> {
-    pub ticker: Ticker<N>,
-    pub first: bool,
-    pub turns: u64,
-    pub refused: bool,
+pub(crate) struct Turner<N: OfficeName<Global>> {
+    pub(crate) ticker: Ticker<N>,
+    pub(crate) first: bool,
+    pub(crate) turns: u64,
+    pub(crate) refused: bool,
 }
 
 /// One client's work: once the closure has begun it posts until its lane is full, and collects once.

@@ -4,7 +4,7 @@ use fleet_book::{Limits, Order};
 
 /// A call on an office, or on one of its clients or tickers.
 #[derive(Clone, Copy, Debug, PartialEq, Eq)]
-pub enum Step {
+pub(crate) enum Step {
     /// A client posts an order.
     Post(usize, Order),
     /// A client closes.
@@ -26,7 +26,7 @@ pub enum Step {
 
 /// A call on a hall, with its first client.
 #[derive(Clone, Copy, Debug, PartialEq, Eq)]
-pub enum HallStep {
+pub(crate) enum HallStep {
     /// The client posts an order.
     Post(Order),
     /// One order is taken out of its lane.
@@ -42,28 +42,28 @@ pub enum HallStep {
 /// A row: a floor whose letters fill it, where its robots start, how many clients there are, and what is done: some calls over
 /// and over, then others once.
 #[derive(Clone, Copy, Debug)]
-pub struct Case {
-    pub name: &'static str,
-    pub sides: (u32, u32),
-    pub letters: &'static [u8],
-    pub starts: &'static [u32],
-    pub clients: u32,
-    pub limits: Limits,
+pub(crate) struct Case {
+    pub(crate) name: &'static str,
+    pub(crate) sides: (u32, u32),
+    pub(crate) letters: &'static [u8],
+    pub(crate) starts: &'static [u32],
+    pub(crate) clients: u32,
+    pub(crate) limits: Limits,
     /// How often the calls of a round are made.
-    pub rounds: u32,
-    pub round: &'static [Step],
-    pub steps: &'static [Step],
+    pub(crate) rounds: u32,
+    pub(crate) round: &'static [Step],
+    pub(crate) steps: &'static [Step],
     /// What is done with a hall in the place of an office, where there is anything.
-    pub hall: &'static [HallStep],
+    pub(crate) hall: &'static [HallStep],
 }
 
 /// What is done in a row.
 #[derive(Clone, Copy)]
-pub struct Course<'a> {
-    pub rounds: u32,
-    pub round: &'a [Step],
-    pub steps: &'a [Step],
-    pub hall: &'a [HallStep],
+pub(crate) struct Course<'a> {
+    pub(crate) rounds: u32,
+    pub(crate) round: &'a [Step],
+    pub(crate) steps: &'a [Step],
+    pub(crate) hall: &'a [HallStep],
 }
 
 impl Case {

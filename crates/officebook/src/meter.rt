@@ -7,7 +7,7 @@ use std::sync::atomic::{AtomicU64, Ordering};
 const FAR: u64 = 1 << 62;
 
 /// Passes each call on to `inner`, but for the one allocation that comes after so many others.
-pub struct Meter<B: Allocator> {
+pub(crate) struct Meter<B: Allocator> {
     inner: B,
     left: AtomicU64,
 }

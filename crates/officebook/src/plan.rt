@@ -5,7 +5,7 @@ use std::alloc::Global;
 
 /// A call of a row.
 #[derive(Clone, Copy, Debug, PartialEq, Eq)]
-pub enum Call {
+pub(crate) enum Call {
     /// None.
     None,
     Desk,
@@ -16,10 +16,10 @@ pub enum Call {
 
 /// The call that meets a refused growth, and how many growths come before that one in it.
 #[derive(Clone, Copy)]
-pub struct Plan<'a> {
-    pub meter: &'a Meter<Global>,
-    pub call: Call,
-    pub before: u64,
+pub(crate) struct Plan<'a> {
+    pub(crate) meter: &'a Meter<Global>,
+    pub(crate) call: Call,
+    pub(crate) before: u64,
 }
 
 impl Plan<'_> {

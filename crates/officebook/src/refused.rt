@@ -17,7 +17,7 @@ const MOST: u64 = 1_000;
 
 /// What became of a call whose growths were refused, each in a play of its own.
 #[derive(Clone, Copy, Debug, PartialEq, Eq)]
-pub enum Finding {
+pub(crate) enum Finding {
     /// The call takes no memory there.
     NoGrowth,
     /// Each play ended as the row.

@@ -8,10 +8,10 @@ use crate::faults::{
 use fleet_book::{Limits, Order};
 
 /// Robot 0 to cell 0.
-pub const TO_0: Order = Order::Go { robot: 0, cell: 0 };
+pub(crate) const TO_0: Order = Order::Go { robot: 0, cell: 0 };
 
 /// Robot 0 to cell 1.
-pub const TO_1: Order = Order::Go { robot: 0, cell: 1 };
+pub(crate) const TO_1: Order = Order::Go { robot: 0, cell: 1 };
 
 /// Robot 0 to cell 2.
 const TO_2: Order = Order::Go { robot: 0, cell: 2 };
@@ -20,7 +20,7 @@ const TO_2: Order = Order::Go { robot: 0, cell: 2 };
 const OTHER_TO_0: Order = Order::Go { robot: 1, cell: 0 };
 
 /// One client of an office over two cells, with its robot on the first, and no calls.
-pub const TWO_CELLS: Case = Case {
+pub(crate) const TWO_CELLS: Case = Case {
     name: "",
     sides: (1, 2),
     letters: b"..",
@@ -34,7 +34,7 @@ pub const TWO_CELLS: Case = Case {
 };
 
 /// A turn, a look, and a robot that is shut twice.
-pub const BACK_PRESSURE: Case = Case {
+const BACK_PRESSURE: Case = Case {
     name: "back_pressure",
     steps: &[
         Step::Post(0, TO_1),
@@ -138,7 +138,7 @@ const CLOSED_CLIENT: Case = Case {
 };
 
 /// An idle robot's farewell is called at its shut, and it takes no further errands.
-pub const SHUT_ROBOT: Case = Case {
+const SHUT_ROBOT: Case = Case {
     name: "close_and_shut_robot",
     steps: &[
         Step::Shut(0),
@@ -194,7 +194,7 @@ const RING_OF_EIGHT: Case = Case {
 };
 
 /// The rows, in their order.
-pub const ROWS: [Case; 18] = [
+pub(crate) const ROWS: [Case; 18] = [
     BACK_PRESSURE,
     BACK_PRESSURE_IN_HALL,
     LANE_OF_TWO,
@@ -216,7 +216,7 @@ pub const ROWS: [Case; 18] = [
 ];
 
 /// The rows whose growths are refused.
-pub const REFUSED: [Case; 5] = [
+pub(crate) const REFUSED: [Case; 5] = [
     BACK_PRESSURE,
     SHUT_ROBOT,
     MISSING_CLIENT,

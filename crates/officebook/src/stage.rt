@@ -14,18 +14,18 @@ use std::alloc::{AllocError, Allocator};
 
 /// An office, its clients by number, and its tickers in the order in which they were made.
 #[derive(Drop)]
-pub struct Stage<N: OfficeName<A>, A: Allocator + Copy> {
-    pub office: Office<N, A>,
-    pub guests: Vec<Guest<N, A>, A>,
-    pub tickers: Vec<Ticker<N>, A>,
+pub(crate) struct Stage<N: OfficeName<A>, A: Allocator + Copy> {
+    pub(crate) office: Office<N, A>,
+    pub(crate) guests: Vec<Guest<N, A>, A>,
+    pub(crate) tickers: Vec<Ticker<N>, A>,
 }
 
 /// A map, where robots start, and their closures.
 #[derive(Drop)]
-pub struct Fleet<A: Allocator + Copy> {
-    pub grid: Grid<A>,
-    pub starts: Vec<u32, A>,
-    pub hooks: Hooks<A>,
+pub(crate) struct Fleet<A: Allocator + Copy> {
+    pub(crate) grid: Grid<A>,
+    pub(crate) starts: Vec<u32, A>,
+    pub(crate) hooks: Hooks<A>,
 }
 
 /// Opens an office.

@@ -4,9 +4,9 @@ use std::alloc::{AllocError, Global};
 
 /// Lines of text.
 #[derive(Drop)]
-pub struct Telling {
-    pub alloc: Global,
-    pub text: String,
+pub(crate) struct Telling {
+    pub(crate) alloc: Global,
+    pub(crate) text: String,
 }
 
 impl Telling {

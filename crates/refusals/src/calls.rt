@@ -7,7 +7,7 @@ use std::alloc::{AllocError, Global};
 
 /// A call of a world, or what a client does beside it.
 #[derive(Clone, Copy, Debug)]
-pub enum Call {
+pub(crate) enum Call {
     Event(Event),
     Widen { client: u32, extra: u64 },
     NextChapter,

@@ -5,7 +5,7 @@ use std::alloc::{AllocError, Global};
 
 /// Orders that were posted and not taken, and notices that were given and not collected, each behind its client.
 #[derive(Drop)]
-pub struct Clients {
+pub(crate) struct Clients {
     posted: Vec<(u32, Order)>,
     given: Vec<(u32, Notice)>,
 }

@@ -12,19 +12,19 @@ use std::sync::atomic::{AtomicU64, Ordering};
 
 /// A row as far as it was played.
 #[derive(Drop)]
-pub struct Played {
+pub(crate) struct Played {
     /// What each call answered in the end, a line each.
-    pub answers: String,
+    pub(crate) answers: String,
     /// The call that was refused memory.
-    pub refused: Option<usize>,
+    pub(crate) refused: Option<usize>,
     /// Whether that call left all that is shown as it was, and called no closure that makes a stamp.
-    pub same: bool,
+    pub(crate) same: bool,
     /// Whether a growth behind the last call is refused.
-    pub spent: bool,
+    pub(crate) spent: bool,
     /// The trace of the chapter at the end.
-    pub chapter: String,
+    pub(crate) chapter: String,
     /// What the world held at the end.
-    pub held: String,
+    pub(crate) held: String,
 }
 
 impl Played {

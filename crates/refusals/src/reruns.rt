@@ -5,7 +5,7 @@ use crate::closures::run_row;
 use crate::rounds::MANY;
 use crate::runs::{Ending, Run, end_alike};
 use crate::stage::{Stage, read};
-use crate::tally::{Sheet, Tally};
+use crate::tally::{Sheet, Tally, tell_end};
 use fleet_world::Event;
 use std::alloc::{Alloc, AllocError, Global};
 use std::fmt::Write;
@@ -61,13 +61,5 @@ pub(crate) fn tell_runs<R: Alloc<A = Global> + Threads + Sync>(
     sheet.tell(told, &base.replies)?;
     judged.tell(told, "judge")?;
     writeln!(told, "{}", base.trace)?;
-    writeln!(
-        told,
-        "{}",
-        if ended {
-            "no more growths"
-        } else {
-            "NOT ENDED"
-        }
-    )
+    tell_end(told, ended)
 }

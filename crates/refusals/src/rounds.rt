@@ -7,12 +7,12 @@ use crate::case::Case;
 use crate::closures::play;
 use crate::play::Played;
 use crate::stage::read;
-use crate::tally::Sheet;
+use crate::tally::{Sheet, tell_end};
 use std::alloc::{AllocError, Global};
 use std::fmt::Write;
 
 /// More growths than any row has.
-pub const MANY: u64 = 1 << 40;
+pub(crate) const MANY: u64 = 1 << 40;
 
 /// Whether two plays of a row came to the same.
 fn agree(played: &Played, base: &Played) -> bool
@@ -94,13 +94,5 @@ pub(crate) fn tell_calls(
     let ended = refuse_each(alloc, case, &calls, &base, &mut sheet)?;
     sheet.tell(told, &base.answers)?;
     writeln!(told, "{}", base.chapter)?;
-    writeln!(
-        told,
-        "{}",
-        if ended {
-            "no more growths"
-        } else {
-            "NOT ENDED"
-        }
-    )
+    tell_end(told, ended)
 }

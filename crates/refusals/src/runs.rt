@@ -9,10 +9,10 @@ use std::fmt::Write;
 
 /// What a run that was not refused came to.
 #[derive(Drop)]
-pub struct Ending {
+pub(crate) struct Ending {
     /// A line for each reply.
-    pub replies: String,
-    pub trace: String,
+    pub(crate) replies: String,
+    pub(crate) trace: String,
 }
 
 /// Whether two runs came to the same.
@@ -27,7 +27,7 @@ pub(crate) fn end_alike(one: &Ending, other: &Ending) -> bool
 
 /// How a run of a row ended.
 #[derive(Drop)]
-pub enum Run {
+pub(crate) enum Run {
     /// The opening was refused memory.
     Opening,
     /// The event of this number was.

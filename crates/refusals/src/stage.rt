@@ -8,7 +8,7 @@ use std::alloc::Allocator;
 
 /// Where a row ended before its world's first call.
 #[derive(Clone, Copy, Debug, PartialEq, Eq)]
-pub enum Stage {
+pub(crate) enum Stage {
     /// `read_map` was refused memory, and so on.
     Map,
     Grid,
@@ -22,7 +22,7 @@ pub enum Stage {
 
 impl Stage {
     /// The stages that are refused memory, in their order.
-    pub const ALL: [Stage; 5] = [
+    pub(crate) const ALL: [Stage; 5] = [
         Stage::Map,
         Stage::Grid,
         Stage::Script,

@@ -6,14 +6,14 @@ use std::fmt::Write;
 
 /// How often something was refused memory, and whether nothing came of it.
 #[derive(Clone, Copy, Debug)]
-pub struct Tally {
+pub(crate) struct Tally {
     refused: u32,
     same: bool,
 }
 
 impl Tally {
     /// Not refused yet.
-    pub const NONE: Tally = Tally {
+    pub(crate) const NONE: Tally = Tally {
         refused: 0,
         same: true,
     };
@@ -36,7 +36,7 @@ impl Tally {
 
 /// The tallies of a row: of what stands before its calls, and of each call.
 #[derive(Drop)]
-pub struct Sheet {
+pub(crate) struct Sheet {
     /// By stage, how often it was refused memory.
     stages: [u32; 5],
     /// By call.
@@ -82,4 +82,14 @@ impl Sheet {
         }
         Ok(())
     }
+}
+
+/// The last line of a row: whether it ended behind the last growth.
+pub(crate) fn tell_end(told: &mut String, ended: bool) -> Result<(), AllocError> {
+    let end = if ended {
+        "no more growths"
+    } else {
+        "NOT ENDED"
+    };
+    writeln!(told, "{end}")
 }

@@ -9,20 +9,20 @@ use std::alloc::{AllocError, Global};
 
 /// What a serve came to.
 #[derive(Clone, Copy, Debug, PartialEq, Eq)]
-pub struct Came {
+pub(crate) struct Came {
     /// Posts that met a full lane.
-    pub lane_full: u64,
+    pub(crate) lane_full: u64,
     /// Orders taken, errands accepted and withdrawn, and arrivals.
-    pub takes: u64,
-    pub accepted: u64,
-    pub withdrawn: u64,
-    pub arrivals: u64,
+    pub(crate) takes: u64,
+    pub(crate) accepted: u64,
+    pub(crate) withdrawn: u64,
+    pub(crate) arrivals: u64,
     /// Whether the office handed out a map with the sides and the floor of the one that it was given.
-    pub same_map: bool,
+    pub(crate) same_map: bool,
     /// Whether the trace, as it is printed, reads and is legal.
-    pub legal: bool,
+    pub(crate) legal: bool,
     /// Whether what each client was left with is the end of its notices.
-    pub told: bool,
+    pub(crate) told: bool,
 }
 
 /// Whether the maps have the same sides and floor.

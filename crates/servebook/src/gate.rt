@@ -9,7 +9,7 @@ const MOST_TRIES: u64 = 200_000_000;
 
 /// Who is held.
 #[derive(Clone, Copy, Debug, PartialEq, Eq)]
-pub enum Hold {
+pub(crate) enum Hold {
     Nobody,
     /// Each of two clients at its first line, until the other's is reached.
     FirstLines,
@@ -19,7 +19,7 @@ pub enum Hold {
 
 /// The flags of those who are held.
 #[derive(Debug, Drop)]
-pub struct Flags {
+pub(crate) struct Flags {
     hold: Hold,
     /// The first lines that were reached.
     first: AtomicU64,

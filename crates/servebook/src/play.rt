@@ -26,7 +26,7 @@ const STAMPS: StampLaw = StampLaw { low: 0, high: 0 };
 
 /// Why nothing came of a script.
 #[derive(Clone, Copy, Debug, PartialEq, Eq)]
-pub enum PlayFault {
+pub(crate) enum PlayFault {
     /// The text is no script whose events are posts and collects of its clients, or the letters do not fill the map.
     NoScript,
     Served(ServeFault),
@@ -78,7 +78,6 @@ fn serve_with<R: Alloc<A = Global> + Threads + Sync + Wait>(
     Ok(serve(rt, grid, script, hooks, flags.as_ref()))
 }
 
-/// The script of the text.
 pub(crate) fn script_of(alloc: Global, text: &[u8]) -> Result<Script, PlayFault> {
     if text.len() > 16_777_216 {
         return Err(PlayFault::NoScript);

@@ -5,7 +5,7 @@ use crate::yard::{CORRIDOR, RING, TWO_CELLS, Yard};
 
 /// A fact that a row tells.
 #[derive(Clone, Copy, Debug, PartialEq, Eq)]
-pub enum Fact {
+pub(crate) enum Fact {
     /// Whether those who were held were let go by a flag, none by the number of tries.
     Held,
     LaneFull,
@@ -19,12 +19,12 @@ pub enum Fact {
 
 /// A script on a yard.
 #[derive(Clone, Copy, Debug)]
-pub struct Row {
-    pub name: &'static str,
-    pub yard: Yard,
-    pub script: &'static [u8],
-    pub hold: Hold,
-    pub facts: &'static [Fact],
+pub(crate) struct Row {
+    pub(crate) name: &'static str,
+    pub(crate) yard: Yard,
+    pub(crate) script: &'static [u8],
+    pub(crate) hold: Hold,
+    pub(crate) facts: &'static [Fact],
 }
 
 /// Two clients, whose threads have to run at the same time.
@@ -91,7 +91,7 @@ const CLOCK_SPENT: Row = Row {
 };
 
 /// All rows.
-pub const ROWS: [Row; 6] = [
+pub(crate) const ROWS: [Row; 6] = [
     SIDE_BY_SIDE,
     LANE_OF_ONE,
     IDLE_AT_THE_END,

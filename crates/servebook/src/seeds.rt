@@ -7,12 +7,11 @@ use std::fmt::Write;
 
 /// A script's text, and where it is served.
 #[derive(Drop)]
-pub struct Seeded {
-    pub yard: Yard,
-    pub script: String,
+pub(crate) struct Seeded {
+    pub(crate) yard: Yard,
+    pub(crate) script: String,
 }
 
-/// One of the yards.
 fn yard_of(random: &mut Random) -> Yard {
     match random.below(4) {
         0 => RING,

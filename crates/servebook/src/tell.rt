@@ -13,7 +13,6 @@ use std::thread::Threads;
 /// How many scripts come from seeds.
 const SERVES: u32 = 1_000;
 
-/// The name of a fault.
 fn name_of(fault: ServeFault) -> &'static str {
     match fault {
         ServeFault::Opening(_) => "Opening",

@@ -6,42 +6,42 @@ use std::alloc::{AllocError, Global};
 
 /// A map whose letters fill it.
 #[derive(Clone, Copy, Debug)]
-pub struct Yard {
-    pub height: u32,
-    pub width: u32,
-    pub letters: &'static [u8],
-    pub is_bridgeless: bool,
+pub(crate) struct Yard {
+    pub(crate) height: u32,
+    pub(crate) width: u32,
+    pub(crate) letters: &'static [u8],
+    pub(crate) is_bridgeless: bool,
 }
 
-pub const TWO_CELLS: Yard = Yard {
+pub(crate) const TWO_CELLS: Yard = Yard {
     height: 1,
     width: 2,
     letters: b"..",
     is_bridgeless: false,
 };
 
-pub const CORRIDOR: Yard = Yard {
+pub(crate) const CORRIDOR: Yard = Yard {
     height: 1,
     width: 3,
     letters: b"...",
     is_bridgeless: false,
 };
 
-pub const RING: Yard = Yard {
+pub(crate) const RING: Yard = Yard {
     height: 3,
     width: 3,
     letters: b"....@....",
     is_bridgeless: true,
 };
 
-pub const SQUARE: Yard = Yard {
+pub(crate) const SQUARE: Yard = Yard {
     height: 4,
     width: 4,
     letters: b"................",
     is_bridgeless: true,
 };
 
-pub const SHELVES: Yard = Yard {
+pub(crate) const SHELVES: Yard = Yard {
     height: 5,
     width: 7,
     letters: b"........@@.@@.........@@.@@........",

@@ -8,7 +8,7 @@ use std::alloc::{AllocError, Global};
 
 /// What is found of a chapter's steps.
 #[derive(Clone, Copy, Debug, PartialEq, Eq)]
-pub enum Finding {
+pub(crate) enum Finding {
     /// Each of so many is conflict-free, and they bring so many arrivals.
     ConflictFree { steps: u32, arrivals: u64 },
     /// The step of this number, from 1, is not.

@@ -4,10 +4,10 @@ use fleet_map::text::first_line;
 
 /// A row: its name, and a bundle of a map and a script.
 #[derive(Clone, Copy, Debug)]
-pub struct Case<'a> {
-    pub name: &'a str,
-    pub map: &'a [u8],
-    pub script: &'a [u8],
+pub(crate) struct Case<'a> {
+    pub(crate) name: &'a str,
+    pub(crate) map: &'a [u8],
+    pub(crate) script: &'a [u8],
 }
 
 /// The text before the first line that begins so, that line behind its beginning, and the text behind the line.

@@ -9,10 +9,10 @@ use std::thread::Threads;
 
 /// What the program wrote, and its status.
 #[derive(Drop)]
-pub struct Outcome {
-    pub status: u8,
-    pub output: Vec<u8>,
-    pub complaint: Vec<u8>,
+pub(crate) struct Outcome {
+    pub(crate) status: u8,
+    pub(crate) output: Vec<u8>,
+    pub(crate) complaint: Vec<u8>,
 }
 
 /// What a run of the script on the map comes to with these readers and writers, by lines or by its trace.

@@ -5,10 +5,10 @@ use std::io::{self, ErrorKind, Write};
 
 /// Takes one byte at each write. When so many writes were made it fails, or takes no byte.
 #[derive(Drop)]
-pub struct Sink {
-    pub bytes: Vec<u8>,
-    pub good_writes: u64,
-    pub fails: bool,
+pub(crate) struct Sink {
+    pub(crate) bytes: Vec<u8>,
+    pub(crate) good_writes: u64,
+    pub(crate) fails: bool,
 }
 
 impl Sink {

@@ -4,11 +4,11 @@ use std::io::{self, ErrorKind, Read};
 
 /// Reads a text and then so many line feeds, so many bytes at each read. It fails when so many reads were made.
 #[derive(Clone, Copy, Debug)]
-pub struct Source<'a> {
-    pub bytes: &'a [u8],
-    pub line_feeds: u64,
-    pub step: usize,
-    pub good_reads: u64,
+pub(crate) struct Source<'a> {
+    pub(crate) bytes: &'a [u8],
+    pub(crate) line_feeds: u64,
+    pub(crate) step: usize,
+    pub(crate) good_reads: u64,
 }
 
 impl<'a> Source<'a> {
@@ -22,7 +22,6 @@ impl<'a> Source<'a> {
         }
     }
 
-    /// The next byte.
     fn next_byte(&mut self) -> Option<u8> {
         if let Some((byte, rest)) = self.bytes.split_first() {
             self.bytes = rest;

@@ -21,7 +21,7 @@ const COMPLAINT: &[u8] = b"errands: file\n";
 
 /// A row, and what comes of it with good readers and writers.
 #[derive(Clone, Copy)]
-pub struct Good<'a> {
+struct Good<'a> {
     case: Case<'a>,
     trace: bool,
     wanted: &'a Outcome,

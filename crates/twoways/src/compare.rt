@@ -12,7 +12,7 @@ use std::alloc::{AllocError, Global};
 
 /// What both ways say.
 #[derive(Clone, Copy, Debug, PartialEq, Eq)]
-pub enum Answer {
+pub(crate) enum Answer {
     Legal,
     /// The same entry breaks the same rule first.
     Broken { at: u64, rule: u8 },

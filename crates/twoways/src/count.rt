@@ -4,7 +4,7 @@ use crate::compare::Answer;
 
 /// How many traces had which answer.
 #[derive(Clone, Copy, Debug)]
-pub struct Count {
+pub(crate) struct Count {
     /// Chapters of worlds that both ways judge legal.
     worlds: u64,
     /// Later chapters alike.
@@ -23,7 +23,7 @@ pub struct Count {
 
 impl Count {
     /// Nothing yet.
-    pub const NONE: Count = Count {
+    pub(crate) const NONE: Count = Count {
         worlds: 0,
         later: 0,
         legal: 0,

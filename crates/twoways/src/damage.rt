@@ -6,9 +6,9 @@ use std::alloc::{AllocError, Global};
 
 /// A stretch of a text.
 #[derive(Clone, Copy, Debug)]
-pub struct Stretch {
-    pub from: usize,
-    pub to: usize,
+pub(crate) struct Stretch {
+    pub(crate) from: usize,
+    pub(crate) to: usize,
 }
 
 /// The stretches of a text that are numbers.

@@ -8,24 +8,24 @@ use std::alloc::{AllocError, Global};
 
 /// A robot under way.
 #[derive(Drop)]
-pub struct Robot {
-    pub cell: u32,
-    pub shut: bool,
-    pub wait: Option<u64>,
+pub(crate) struct Robot {
+    pub(crate) cell: u32,
+    pub(crate) shut: bool,
+    pub(crate) wait: Option<u64>,
     /// Its unfinished errands, from the front on.
-    pub errands: Vec<Errand>,
-    pub arrival_law: StampLaw,
-    pub farewell_law: StampLaw,
+    pub(crate) errands: Vec<Errand>,
+    pub(crate) arrival_law: StampLaw,
+    pub(crate) farewell_law: StampLaw,
 }
 
 /// A fleet under way.
 #[derive(Drop)]
-pub struct Fleet {
-    pub tick: u64,
-    pub queue: u32,
-    pub life: u64,
-    pub clients: Vec<ClientState>,
-    pub robots: Vec<Robot>,
+pub(crate) struct Fleet {
+    pub(crate) tick: u64,
+    pub(crate) queue: u32,
+    pub(crate) life: u64,
+    pub(crate) clients: Vec<ClientState>,
+    pub(crate) robots: Vec<Robot>,
 }
 
 impl Robot {

@@ -2,7 +2,7 @@
 
 /// A linear congruential sequence.
 #[derive(Clone, Copy, Debug)]
-pub struct Random {
+pub(crate) struct Random {
     seed: u64,
 }
 

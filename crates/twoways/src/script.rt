@@ -6,9 +6,9 @@ use std::fmt::Write;
 
 /// A map and a script of a seeded world.
 #[derive(Drop)]
-pub struct Texts {
-    pub map: String,
-    pub script: String,
+pub(crate) struct Texts {
+    pub(crate) map: String,
+    pub(crate) script: String,
 }
 
 /// A seeded map of so many rows and columns, three quarters of it floor.

@@ -5,7 +5,7 @@ use std::alloc::{AllocError, Global};
 
 /// A map's letters, and for each cell the least cell that walks from it lead to.
 #[derive(Drop)]
-pub struct Site {
+pub(crate) struct Site {
     width: u32,
     letters: Vec<u8>,
     least: Vec<u32>,

@@ -30,7 +30,7 @@ const STAMPS: StampLaw = StampLaw {
 
 /// How a row is played otherwise than it says.
 #[derive(Clone, Copy, Debug, PartialEq, Eq)]
-pub enum Finding {
+pub(crate) enum Finding {
     AsTheRow,
     /// The row was not played: its letters do not fill its map, or the run had a fault.
     NotPlayed,
@@ -93,7 +93,7 @@ fn row_stamps(alloc: Global, row: &Row) -> Result<Vec<u32>, AllocError> {
 
 /// What is compared of a run: what its closures noted, its stamps, and its robots' cells at the end.
 #[derive(Clone, Copy, Debug)]
-pub(crate) struct Noted<'a> {
+struct Noted<'a> {
     note: u64,
     stamps: &'a [u32],
     cells: &'a [u32],

@@ -8,16 +8,16 @@ use fleet_world::{Event, Limits, Order};
 /// A row of two clients: a map of at most 1,024 a side whose letters fill it, where robots start, the events of a run, and
 /// what the robots' closures are to be shown, in order.
 #[derive(Clone, Copy, Debug)]
-pub struct Row {
-    pub name: &'static str,
-    pub sides: (u32, u32),
-    pub letters: &'static [u8],
-    pub starts: &'static [u32],
-    pub limits: Limits,
-    pub events: &'static [Event],
-    pub shown: &'static [Shown],
+pub(crate) struct Row {
+    pub(crate) name: &'static str,
+    pub(crate) sides: (u32, u32),
+    pub(crate) letters: &'static [u8],
+    pub(crate) starts: &'static [u32],
+    pub(crate) limits: Limits,
+    pub(crate) events: &'static [Event],
+    pub(crate) shown: &'static [Shown],
     /// Where the robots stand at the end.
-    pub end: &'static [u32],
+    pub(crate) end: &'static [u32],
 }
 
 /// A tie closure of robot `$robot` on `$cell` is asked for `$neighbour`.
@@ -232,7 +232,7 @@ const CHAPTER_FULL: Row = Row {
 };
 
 /// All rows.
-pub const ROWS: [Row; 7] = [
+pub(crate) const ROWS: [Row; 7] = [
     FAILED_PUSH,
     TWO_CORNERS,
     TWO_FAREWELLS,

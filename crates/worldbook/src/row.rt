@@ -4,7 +4,7 @@ use fleet_world::{Limits, Order};
 
 /// A call of a world.
 #[derive(Clone, Copy, Debug)]
-pub enum Call {
+pub(crate) enum Call {
     /// Takes an order of the only client to send the robot to the cell.
     Go(u32, u32),
     /// So many ticks.
@@ -20,14 +20,14 @@ pub enum Call {
 
 /// A map of at most 1,024 a side whose letters fill it, where robots start, how many of them have closures, and calls.
 #[derive(Clone, Copy, Debug)]
-pub struct Row {
-    pub name: &'static str,
-    pub sides: (u32, u32),
-    pub letters: &'static [u8],
-    pub starts: &'static [u32],
-    pub hooked: u32,
-    pub limits: Limits,
-    pub calls: &'static [Call],
+pub(crate) struct Row {
+    pub(crate) name: &'static str,
+    pub(crate) sides: (u32, u32),
+    pub(crate) letters: &'static [u8],
+    pub(crate) starts: &'static [u32],
+    pub(crate) hooked: u32,
+    pub(crate) limits: Limits,
+    pub(crate) calls: &'static [Call],
 }
 
 /// The order to send a robot to a cell.
@@ -128,7 +128,7 @@ const NARROW: Limits = Limits {
 };
 
 /// The rows.
-pub const ROWS: [Row; 10] = [
+pub(crate) const ROWS: [Row; 10] = [
     CALLS_IN_TURN,
     RING_OF_EIGHT,
     CORRIDOR_STANDOFF,

@@ -5,7 +5,6 @@ ghost use Rattle.std.specs.Prelude.{◌≡◌, ◌<◌, codes};
 use fleet_world::{Notice, ShutFault, TakeFault, TickFault, TickReport, Verdict, World};
 use std::alloc::{AllocError, Global};
 
-/// A number, or `none`.
 fn number_or_none(alloc: Global, number: Option<u64>) -> Result<String, AllocError> {
     match number {
         Some(number) => format!(in alloc; "{number}"),
@@ -13,7 +12,6 @@ fn number_or_none(alloc: Global, number: Option<u64>) -> Result<String, AllocErr
     }
 }
 
-/// The line of a take.
 pub(crate) fn take_line(
     alloc: Global,
     answer: Result<Verdict, TakeFault>,
@@ -24,7 +22,6 @@ pub(crate) fn take_line(
     }
 }
 
-/// The line of a tick.
 pub(crate) fn tick_line(
     alloc: Global,
     answer: Result<TickReport, TickFault>,
@@ -38,7 +35,6 @@ pub(crate) fn tick_line(
     }
 }
 
-/// The line of a shut.
 pub(crate) fn shut_line(
     alloc: Global,
     answer: Result<Option<u32>, ShutFault>,

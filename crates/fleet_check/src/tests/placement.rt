@@ -42,7 +42,7 @@ fn are_distinct(cells: &[u32]) -> bool
 }
 
 /// Whether robots may stand on these cells.
-pub fn is_placement(grid: &Grid, cells: &[u32]) -> bool
+pub(crate) fn is_placement(grid: &Grid, cells: &[u32]) -> bool
     ensures { OnTrue result (IsPlacement grid.now cells.now) }
 {
     if !are_on_floor(grid, cells) {

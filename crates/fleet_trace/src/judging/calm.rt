@@ -45,7 +45,7 @@ fn calm_robots<A: Allocator + Copy>(
 }
 
 /// The opening with the clock at 0, where whoever has an errand has just begun to wait.
-pub fn calm_opening<A: Allocator + Copy>(
+pub(crate) fn calm_opening<A: Allocator + Copy>(
     alloc: A,
     opening: &Opening<A>,
 ) -> Result<Opening<A>, AllocError>

@@ -22,7 +22,7 @@ fn count_of(errands: &[Errand], client: u32) -> u64
 }
 
 /// How many errands of the robots are the client's.
-pub fn owed_of<A: Allocator + Copy>(robots: &[RobotState<A>], client: u32) -> u64
+pub(crate) fn owed_of<A: Allocator + Copy>(robots: &[RobotState<A>], client: u32) -> u64
     requires { owed_in robots.now client ≤ 2 ^ 41 }
     ensures { result ≡ owed_in robots.now client }
 {
@@ -37,7 +37,7 @@ pub fn owed_of<A: Allocator + Copy>(robots: &[RobotState<A>], client: u32) -> u6
 const MOST: u64 = 1 << 57;
 
 /// Whether what is known of a client with so many unfinished errands is in order.
-pub fn is_client_in_order(life: u64, owed: u64, client: &ClientState) -> bool
+pub(crate) fn is_client_in_order(life: u64, owed: u64, client: &ClientState) -> bool
     requires { owed ≤ 2 ^ 41 }
     ensures { IsTrue result ↔ IsClientInOrder life owed client.now }
 {

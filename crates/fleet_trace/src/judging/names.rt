@@ -59,7 +59,7 @@ fn enter_numbers<A: Allocator + Copy>(
 }
 
 /// Whether the client's errands have different names on different robots, and rising numbers on each.
-pub fn are_names_in_order<A: Allocator + Copy>(
+pub(crate) fn are_names_in_order<A: Allocator + Copy>(
     alloc: A,
     robots: &[RobotState<A>],
     client: u32,

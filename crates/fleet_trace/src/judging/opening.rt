@@ -29,7 +29,7 @@ fn are_sizes_in_order<A: Allocator + Copy>(opening: &Opening<A>) -> bool
 }
 
 /// Whether the opening is in order on the map. The error is want of memory.
-pub fn is_in_order<A: Allocator + Copy, B: Allocator + Copy>(
+pub(crate) fn is_in_order<A: Allocator + Copy, B: Allocator + Copy>(
     alloc: A,
     grid: &Grid<B>,
     opening: &Opening<A>,

@@ -14,7 +14,7 @@ use fleet_queue::Errand;
 use std::alloc::{AllocError, Allocator};
 
 /// Where the robots stand.
-pub fn cells_of<A: Allocator + Copy>(
+pub(crate) fn cells_of<A: Allocator + Copy>(
     alloc: A,
     robots: &[RobotState<A>],
 ) -> Result<Vec<u32, A>, AllocError>
@@ -62,7 +62,7 @@ fn are_distinct(cells: &[u32]) -> bool
 }
 
 /// Whether robots may stand on these cells.
-pub fn is_placement<B: Allocator + Copy>(grid: &Grid<B>, cells: &[u32]) -> bool
+pub(crate) fn is_placement<B: Allocator + Copy>(grid: &Grid<B>, cells: &[u32]) -> bool
     ensures { IsTrue result ↔ IsPlacement grid.now cells.now }
 {
     are_on_floor(grid, cells) && are_distinct(cells)
@@ -143,7 +143,7 @@ fn is_robot_in_order<A: Allocator + Copy, B: Allocator + Copy>(
 }
 
 /// Whether the robots, which stand on a placement, are in order.
-pub fn are_robots_in_order<A: Allocator + Copy, B: Allocator + Copy>(
+pub(crate) fn are_robots_in_order<A: Allocator + Copy, B: Allocator + Copy>(
     grid: &Grid<B>,
     opening: &Opening<A>,
 ) -> bool

@@ -52,7 +52,7 @@ fn widen<A: Allocator + Copy>(rooms: &mut Vec<u32, A>, robot: u32, queue: u32)
 }
 
 /// By robot: room for the errands that the opening has and the entries accept, and for no more than it may have.
-pub fn rooms_of<A: Allocator + Copy>(
+pub(crate) fn rooms_of<A: Allocator + Copy>(
     alloc: A,
     opening: &Opening<A>,
     entries: &[Entry<A>],
@@ -71,7 +71,7 @@ pub fn rooms_of<A: Allocator + Copy>(
 }
 
 /// Whether an errand that the entry accepts finds room.
-pub fn has_place<A: Allocator + Copy>(state: &FleetState<A>, entry: &Entry<A>) -> bool
+pub(crate) fn has_place<A: Allocator + Copy>(state: &FleetState<A>, entry: &Entry<A>) -> bool
     ensures placed { result ≡ true → IsPlaced state.now.queues entry.now }
     ensures full { result ≡ false → IsPlaced state.now.queues entry.now → ⊥ }
 {

@@ -11,7 +11,7 @@ use fleet_state::FleetState;
 use std::alloc::Allocator;
 
 /// The first rule that a shut breaks.
-pub fn broken_shut<A: Allocator + Copy>(
+pub(crate) fn broken_shut<A: Allocator + Copy>(
     robots: &[RobotState<A>],
     state: &FleetState<A>,
     robot: u32,

@@ -40,7 +40,7 @@ fn is_stamp(law: StampLaw, stamp: u32) -> bool
 }
 
 /// Whether the stamps of arrivals lie within the laws of their robots.
-pub fn are_stamps<A: Allocator + Copy>(robots: &[RobotState<A>], arrived: &[Arrival]) -> bool
+pub(crate) fn are_stamps<A: Allocator + Copy>(robots: &[RobotState<A>], arrived: &[Arrival]) -> bool
     ensures { IsTrue result ↔ All (λ a. IsStamp (slice_index_or (map (λ x. x.arrival_law) robots.now) a.robot no_law) a.stamp) arrived.now }
 {
     for arrival in arrived {
@@ -52,14 +52,21 @@ pub fn are_stamps<A: Allocator + Copy>(robots: &[RobotState<A>], arrived: &[Arri
 }
 
 /// Whether the stamp of a farewell lies within its robot's law.
-pub fn is_last_stamp<A: Allocator + Copy>(robots: &[RobotState<A>], robot: u32, stamp: u32) -> bool
+pub(crate) fn is_last_stamp<A: Allocator + Copy>(
+    robots: &[RobotState<A>],
+    robot: u32,
+    stamp: u32,
+) -> bool
     ensures { IsTrue result ↔ IsStamp (slice_index_or (map (λ x. x.farewell_law) robots.now) robot no_law) stamp }
 {
     is_stamp(farewell_law_of(robots, robot), stamp)
 }
 
 /// Whether the stamps of farewells lie within the laws of their robots.
-pub fn are_last_stamps<A: Allocator + Copy>(robots: &[RobotState<A>], farewells: &[Bye]) -> bool
+pub(crate) fn are_last_stamps<A: Allocator + Copy>(
+    robots: &[RobotState<A>],
+    farewells: &[Bye],
+) -> bool
     ensures { IsTrue result ↔ All (λ b. IsStamp (slice_index_or (map (λ x. x.farewell_law) robots.now) b.robot no_law) b.stamp) farewells.now }
 {
     for bye in farewells {

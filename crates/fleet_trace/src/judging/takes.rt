@@ -18,7 +18,7 @@ fn is_same_verdict(verdict: Verdict, other: Verdict) -> bool
 }
 
 /// The first rule that a take breaks.
-pub fn broken_take<A: Allocator + Copy>(
+pub(crate) fn broken_take<A: Allocator + Copy>(
     grid: &Grid<A>,
     state: &FleetState<A>,
     client: u32,

@@ -15,7 +15,7 @@ use fleet_state::FleetState;
 use std::alloc::{AllocError, Allocator};
 
 /// Whether the step from where the robots stand is conflict-free.
-pub fn is_step<A: Allocator + Copy>(
+pub(crate) fn is_step<A: Allocator + Copy>(
     alloc: A,
     grid: &Grid<A>,
     state: &FleetState<A>,
@@ -52,7 +52,6 @@ fn are_same_dues(arrived: &[Arrival], others: &[Arrival]) -> bool
     true
 }
 
-/// Whether the farewells are of the same robots.
 fn are_same_robots(farewells: &[Bye], others: &[Bye]) -> bool
     ensures { IsTrue result ↔ (map (λ b. b.robot) farewells.now ≡ map (λ b. b.robot) others.now) }
 {
@@ -68,7 +67,7 @@ fn are_same_robots(farewells: &[Bye], others: &[Bye]) -> bool
 }
 
 /// The first rule that what a tick shows breaks.
-pub fn broken_shown<A: Allocator + Copy>(
+pub(crate) fn broken_shown<A: Allocator + Copy>(
     alloc: A,
     robots: &[RobotState<A>],
     state: &FleetState<A>,

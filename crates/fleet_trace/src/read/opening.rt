@@ -57,7 +57,11 @@ impl ReadValue for RobotState {
 }
 
 /// The opening that a value tells.
-pub fn read_opening(alloc: Global, version: Version, value: &Value) -> Result<Opening, TraceFault>
+pub(crate) fn read_opening(
+    alloc: Global,
+    version: Version,
+    value: &Value,
+) -> Result<Opening, TraceFault>
     ensures { Gives (λ x. x) result (opening_in (view value.now)) }
 {
     if !has_members(value, 5) {

@@ -16,7 +16,7 @@ use serde_json::Value;
 use std::alloc::Global;
 
 /// What a JSON value in a trace tells.
-pub trait ReadValue: Drop {
+pub(crate) trait ReadValue: Drop {
     ghost told: { Version → Data → Option Self };
 
     fn read_value(alloc: Global, version: Version, value: &Value) -> Result<Self, TraceFault>
@@ -24,7 +24,7 @@ pub trait ReadValue: Drop {
 }
 
 /// The items of an array.
-pub fn values_of(value: &Value) -> Option<&[Value]>
+pub(crate) fn values_of(value: &Value) -> Option<&[Value]>
     ensures { option_map (λ vs. map view vs.now) result ≡ items_in (view value.now) }
 {
     match value.as_array() {
@@ -34,7 +34,7 @@ pub fn values_of(value: &Value) -> Option<&[Value]>
 }
 
 /// A number below 2^32.
-pub fn count_of(value: &Value) -> Option<u32>
+pub(crate) fn count_of(value: &Value) -> Option<u32>
     ensures { result ≡ count_in (view value.now) }
 {
     let number = value.as_u64()?;
@@ -46,7 +46,7 @@ pub fn count_of(value: &Value) -> Option<u32>
 }
 
 /// Whether the value is the word.
-pub fn says(value: &Value, word: &str) -> bool
+pub(crate) fn says(value: &Value, word: &str) -> bool
     ensures { result ≡ is_word word.now (view value.now) }
 {
     match value.as_str() {
@@ -56,7 +56,7 @@ pub fn says(value: &Value, word: &str) -> bool
 }
 
 /// Whether the value is an object of so many members.
-pub fn has_members(value: &Value, count: usize) -> bool
+pub(crate) fn has_members(value: &Value, count: usize) -> bool
     ensures { result ≡ has_members count (view value.now) }
 {
     match value.as_object() {
@@ -66,7 +66,7 @@ pub fn has_members(value: &Value, count: usize) -> bool
 }
 
 /// What the values tell, one after the other.
-pub fn read_all<T: ReadValue>(
+pub(crate) fn read_all<T: ReadValue>(
     alloc: Global,
     version: Version,
     values: &[Value],
@@ -81,7 +81,7 @@ pub fn read_all<T: ReadValue>(
 }
 
 /// What the items of an array tell, as a row.
-pub fn read_row<T: ReadValue>(
+pub(crate) fn read_row<T: ReadValue>(
     alloc: Global,
     version: Version,
     value: &Value,
@@ -95,7 +95,7 @@ pub fn read_row<T: ReadValue>(
 }
 
 /// What is told, or that the value has another form.
-pub fn found<T: Drop>(told: Option<T>) -> Result<T, TraceFault>
+pub(crate) fn found<T: Drop>(told: Option<T>) -> Result<T, TraceFault>
     ensures { Gives (λ x. x) result told }
 {
     told.ok_or(TraceFault::Shape)
@@ -162,7 +162,7 @@ impl ReadValue for Errand {
 }
 
 /// The law of stamps that a value tells.
-pub fn law_of(value: &Value) -> Option<StampLaw>
+pub(crate) fn law_of(value: &Value) -> Option<StampLaw>
     ensures { result ≡ law_in (view value.now) }
 {
     let values = values_of(value)?;
@@ -175,7 +175,7 @@ pub fn law_of(value: &Value) -> Option<StampLaw>
 }
 
 /// The wait that a value tells: none at `null`.
-pub fn wait_of(value: &Value) -> Option<Option<u64>>
+pub(crate) fn wait_of(value: &Value) -> Option<Option<u64>>
     ensures { result ≡ wait_in (view value.now) }
 {
     match value {

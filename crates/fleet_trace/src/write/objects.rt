@@ -9,7 +9,7 @@ use serde_json::{Value, json};
 use std::alloc::{AllocError, Global};
 
 /// The object of an opening, from the values of its clients and robots.
-pub fn opening_object(
+pub(crate) fn opening_object(
     alloc: Global,
     clients: Value,
     life: u64,
@@ -23,7 +23,7 @@ pub fn opening_object(
 }
 
 /// The object of a trace, from the values of its entries and its opening.
-pub fn trace_object(
+pub(crate) fn trace_object(
     alloc: Global,
     number: u32,
     entries: Value,

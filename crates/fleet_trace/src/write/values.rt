@@ -14,7 +14,7 @@ use serde_json::{Value, json};
 use std::alloc::{AllocError, Allocator, Global};
 
 /// What a trace shows as a JSON value.
-pub trait WriteValue {
+pub(crate) trait WriteValue {
     ghost written: { Self → Data };
 
     ghost fits: { Self → Type 0 };
@@ -25,7 +25,7 @@ pub trait WriteValue {
 }
 
 /// The array of the items' values.
-pub fn write_list<T: WriteValue>(alloc: Global, items: &[T]) -> Result<Value, AllocError>
+pub(crate) fn write_list<T: WriteValue>(alloc: Global, items: &[T]) -> Result<Value, AllocError>
     ensures value { IfOk result (λ v. view v ≡ listed (map T.written items.now)) }
     ensures fits { OnOk result (AllByRecursion T.fits items.now) }
 {

@@ -1,9 +1,8 @@
 use Rattle.fleet_history.specs.declared.history.RobotState.{RobotState}
-use Rattle.std.proofs.Common.{◌≡◌, ℕ, get_or, ◌++◌, ◌∷◌, [], ◌∙◌, ◌<◌, List, length, map, slice_index, sym, ap, arith}
+use Rattle.std.proofs.Common.{◌≡◌, ℕ, get_or, ◌++◌, ◌∷◌, [], ◌<◌, List, length, map, slice_index, sym, ap}
 use Rattle.std.specs.List.{range_with_len}
 use Rattle.std.proofs.lemmas.List.{get_or-map}
 use Rattle.fleet_queue.specs.declared.errand.Errand.{Errand}
-use Rattle.fleet_queue.specs.Queue.{Queue}
 use Rattle.fleet_state.specs.Opened.{errands_in, queue_in}
 use Rattle.fleet_state.proofs.Ranges.{map-range_more}
 use Rattle.fleet_state.proofs.robots.queues_of.Goals as goal

@@ -1,14 +1,13 @@
-use Rattle.std.proofs.Common.{◌≡◌, ◌≤◌, ◌<◌, ◌∙◌, ℕ, List, [], Result, Ok, Err, length, map, replicate, slice_index, get_or, sym, ap, arith}
+use Rattle.std.proofs.Common.{◌≡◌, ◌≤◌, ◌<◌, ℕ, List, [], Result, Ok, Err, length, replicate, slice_index, get_or, arith}
 use Rattle.std.specs.Prelude.{IfOk}
 use Rattle.std.specs.declared.alloc.AllocError.{AllocError}
-use Rattle.std.proofs.lemmas.List.{get_or-map, get_or-replicate, length-replicate}
+use Rattle.std.proofs.lemmas.List.{get_or-replicate, length-replicate}
 use Rattle.fleet_grid.specs.Floor.{Floor}
 use Rattle.fleet_history.specs.declared.history.Opening.{Opening}
 use Rattle.fleet_history.specs.declared.history.RobotState.{RobotState}
 use Rattle.fleet_history.specs.History.{start}
 use Rattle.fleet_history.specs.Legal.{IsInOrder}
 use Rattle.fleet_history.proofs.Legal.{unknown_robot}
-use Rattle.fleet_state.specs.Opened.{HaveRooms, errands_in}
 use Rattle.fleet_state.specs.State.{State, IsStateOf, HasFullRooms}
 use Rattle.fleet_state.proofs.Laws.{robot-at}
 use Rattle.fleet_state.proofs.Parts.{queue-count}
