@@ -31,6 +31,7 @@ use fleet_plan::eldest;
 use fleet_state::FleetState;
 use std::alloc::{AllocError, Allocator, Global};
 use std::marker::Model;
+use std::thread::Threads;
 
 /// The map, the limits, the history and what follows from it. Contracts see the map, the limits, the chapter's number,
 /// the history, and each client's mailbox.
@@ -265,5 +266,17 @@ impl<A: Allocator + Copy> Core<A> {
             Some(_front) => false,
             None => true,
         }
+    }
+}
+
+impl<A: Allocator + Copy + Send + Sync> Core<A> {
+    /// Searches the fields of the robots' next errands side by side, where no robot aims at their cells yet, and keeps as
+    /// many as have place. They show in nothing but the time and the memory that a take or a tick needs.
+    pub fn search_ahead(&mut self, rt: &(impl Threads + Sync)) -> Result<(), AllocError>
+        ensures { self.new ≡ self.old }
+    {
+        let alloc = *self.chapter.entries.allocator();
+        self.planner
+            .search_ahead(rt, alloc, &self.grid, &self.state)
     }
 }

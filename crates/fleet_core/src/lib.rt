@@ -2,6 +2,7 @@
 //! robots' closures lie beside it.
 #![tactic(auto)]
 
+mod ahead;
 mod chapters;
 mod entries;
 mod faults;

@@ -12,6 +12,7 @@ ghost use Rattle.fleet_state.specs.Robots.{queue_at};
 ghost use Rattle.fleet_state.specs.State.{robot_count};
 ghost use Rattle.fleet_core.specs.Aimed.{MayPlan, MayBegin, begun, begun_goals, goal_on, goals_ticked};
 
+use crate::ahead::goals_ahead;
 use fleet_book::{Order, Verdict};
 use fleet_bridge::first_bridge;
 use fleet_field::Shelf;
@@ -23,6 +24,7 @@ use fleet_plan::plan;
 use fleet_state::FleetState;
 use std::alloc::{AllocError, Allocator, Global};
 use std::marker::Model;
+use std::thread::Threads;
 
 /// The bytes of fields that are kept where nothing else is said: 256 MiB.
 const KEPT_BYTES: usize = 268435456;
@@ -157,6 +159,28 @@ impl<A: Allocator + Copy> Planner<A> {
     {
         let next = next_goals(alloc, state, to)?;
         self.aims.turn(&mut self.shelf, grid, next.as_slice())
+    }
+}
+
+impl<A: Allocator + Copy + Send + Sync> Planner<A> {
+    /// Searches the fields of the robots' next goals side by side, as many as have place among those that are kept.
+    pub(crate) fn search_ahead(
+        &mut self,
+        rt: &(impl Threads + Sync),
+        alloc: A,
+        grid: &Grid<A>,
+        state: &FleetState<A>,
+    ) -> Result<(), AllocError>
+        requires { Keeps grid.now self.old.kept }
+        ensures aims { self.new.aims ≡ self.old.aims }
+        ensures size { self.new.size ≡ self.old.size }
+        ensures bridge { self.new.bridgeless ≡ self.old.bridgeless }
+        ensures keeps { Keeps grid.now self.new.kept }
+        ensures refused { OnErr result (self.new ≡ self.old) }
+    {
+        let goals = goals_ahead(alloc, grid, state.queues())?;
+        let _have_all_place = self.shelf.search_ahead(rt, grid, &goals)?;
+        Ok(())
     }
 }
 

@@ -12,3 +12,4 @@ pub mod Descent
 pub mod Nearer
 pub mod Rows
 pub mod Shelved
+pub mod Ahead

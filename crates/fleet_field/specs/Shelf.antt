@@ -1,6 +1,8 @@
--- What a shelf has place for.
-use Rattle.std.specs.Prelude.{ℕ, ◌/◌, List, [], length, max, slice_index_or}
-use Rattle.fleet_field.specs.Field.{Aim, aim_of}
+-- What a shelf has place for, and what it keeps.
+use Rattle.std.specs.Prelude.{◌≡◌, ℕ, ◌/◌, ◌<◌, List, [], length, max, slice_index, slice_index_or}
+use Rattle.std.specs.List.{Contains}
+use Rattle.fleet_grid.specs.Floor.{Floor}
+use Rattle.fleet_field.specs.Field.{Aim, IsField, aim_of}
 
 -- how many cells the kept fields have, as the last used one shows
 abbrev pub cells_kept : List Aim → ℕ
@@ -9,3 +11,15 @@ cells_kept kept = length (slice_index_or kept 0 (aim_of 0 [])).away
 -- how many fields of so many cells have place in so many bytes, a byte a cell
 abbrev pub places : ℕ → ℕ → ℕ
 places bytes cells = bytes / max cells 1
+
+-- a field of the goal is kept
+abbrev pub HasKept : List Aim → ℕ → Type 0
+HasKept kept aimed = (field : Aim) × Contains kept field × (field.goal ≡ aimed)
+
+-- a field of each goal is kept
+abbrev pub AreKept : List ℕ → List Aim → Type 0
+AreKept goals kept = (i : ℕ) → i < length goals → HasKept kept (slice_index goals i)
+
+-- it is the field of one of the goals
+abbrev pub IsFieldOf : Floor → List ℕ → Aim → Type 0
+IsFieldOf m goals field = (i : ℕ) × (i < length goals) × IsField m (slice_index goals i) field

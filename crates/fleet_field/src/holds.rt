@@ -45,7 +45,7 @@ pub(crate) fn use_again<A: Allocator + Copy>(held: &mut Slab<Held<Compass<A>>, A
 }
 
 /// Whether the goal is one of these.
-fn is_one_of(goals: &[u32], goal: u32) -> bool
+pub(crate) fn is_one_of(goals: &[u32], goal: u32) -> bool
     ensures { result ≡ true → IsOneOf goals.now goal }
 {
     for at in 0..goals.len() {

@@ -1,18 +1,22 @@
 //! Fields that nobody holds any more, kept for the next who asks.
 
-ghost use Rattle.std.specs.Prelude.{◌≡◌, ℕ, ◌<◌, [], ◌∷◌, length, slice_index, slice_index_or, take, IfSome, IfOk};
+ghost use Rattle.std.specs.Prelude.{◌≡◌, ◌⊎◌, ◌↔◌, ℕ, ◌<◌, ◌≤◌, [], ◌∷◌, length, slice_index, slice_index_or, take, IfSome, IfOk, OnOk, OnErr, IsTrue, MatchOption};
 ghost use Rattle.std.specs.List.{All, Contains};
 ghost use Rattle.fleet_grid.specs.Floor.{Floor, IsFloor};
 ghost use Rattle.fleet_field.specs.Field.{Aim, IsField};
 ghost use Rattle.fleet_field.specs.Several.{AreFields};
-ghost use Rattle.fleet_field.specs.Shelf.{cells_kept, places};
+ghost use Rattle.fleet_field.specs.Shelf.{cells_kept, places, HasKept, AreKept, IsFieldOf};
 ghost use Rattle.fleet_field.specs.Store.{Keeps};
+ghost use Rattle.fleet_field.specs.inside.Uses.{IsOneOf};
 
 use crate::compass::Compass;
+use crate::compasses::compasses;
+use crate::holds::is_one_of;
 use fleet_grid::Grid;
 use std::alloc::{AllocError, Allocator, Global};
 use std::collections::VecDeque;
 use std::marker::Model;
+use std::thread::Threads;
 
 /// Fields of one map that nobody holds, the last used first, up to a number of bytes; the longest unused goes first.
 /// Contracts see the kept fields.
@@ -83,7 +87,7 @@ impl<A: Allocator + Copy> Shelf<A> {
 
     /// The place of the field of a goal.
     fn place_of(&self, goal: u32) -> Option<usize>
-        ensures { IfSome result (λ at. (at < length self.now) × ((field : Aim) → field ≡ slice_index_or self.now at field → field.goal ≡ goal)) }
+        ensures { MatchOption result (HasKept self.now goal → ⊥) (λ at. (at < length self.now) × ((field : Aim) → field ≡ slice_index_or self.now at field → field.goal ≡ goal)) }
     {
         for at in 0..self.kept.len() {
             if self.kept[at].goal() == goal {
@@ -170,5 +174,89 @@ impl<A: Allocator + Copy> Shelf<A> {
             fields.push(field)?;
         }
         Ok(fields)
+    }
+}
+
+impl<A: Allocator + Copy> Shelf<A> {
+    /// Whether each of the goals has a kept field.
+    fn has_all(&self, goals: &[u32]) -> bool
+        ensures { IsTrue result ↔ AreKept goals.now self.now }
+    {
+        for goal in goals {
+            let Some(_at) = self.place_of(*goal) else {
+                return false;
+            };
+        }
+        true
+    }
+
+    /// Those of the first goals, so many, that are not kept, each once.
+    fn missing_of(&self, goals: &[u32], first: usize) -> Result<Vec<u32, A>, AllocError>
+        requires { first ≤ length goals.now }
+        ensures { IfOk result (λ missing. (i : ℕ) → i < length missing.items → IsOneOf goals.now (slice_index missing.items i)) }
+    {
+        let mut missing = Vec::new(*self.kept.allocator());
+        for at in 0..first {
+            if self.place_of(goals[at]).is_none() && !is_one_of(&missing, goals[at]) {
+                missing.push(goals[at])?;
+            }
+        }
+        Ok(missing)
+    }
+
+    /// The field of a goal, if it is kept, becomes the last used one.
+    fn touch(&mut self, goal: u32)
+        ensures { All (Contains self.old) self.new }
+    {
+        if let Some(field) = self.take(goal) {
+            self.put(field);
+        }
+    }
+
+    /// The fields of the first goals, so many, if they are kept, become the last used ones.
+    fn touch_all(&mut self, goals: &[u32], first: usize)
+        requires { first ≤ length goals.now }
+        ensures { All (Contains self.old) self.new }
+    {
+        for at in 0..first {
+            self.touch(goals[at]);
+        }
+    }
+
+    /// Keeps several fields, as `put` keeps each.
+    fn put_all(&mut self, mut fields: Vec<Compass<A>, A>)
+        ensures { All (λ field. Contains fields.items field ⊎ Contains self.old field) self.new }
+    {
+        while let Some(field) = fields.pop() {
+            self.put(field);
+        }
+    }
+}
+
+impl<A: Allocator + Copy + Send + Sync> Shelf<A> {
+    /// Searches fields of goals, floor cells, before anybody holds them, and tells whether each goal has a kept field
+    /// then. Of the first goals, as many as have place in the bytes, those that are not kept are searched together; the
+    /// longest unused of other goals make way. Where memory is refused, all stays as it was.
+    pub fn search_ahead<B: Allocator + Copy + Send + Sync>(
+        &mut self,
+        rt: &(impl Threads + Sync),
+        grid: &Grid<B>,
+        goals: &[u32],
+    ) -> Result<bool, AllocError>
+        requires floor { (i : ℕ) → i < length goals.now → IsFloor grid.now (slice_index goals.now i) }
+        requires keeps { Keeps grid.now self.old }
+        ensures all { IfOk result (λ all. IsTrue all ↔ AreKept goals.now self.new) }
+        ensures only { OnOk result (All (λ field. IsFieldOf grid.now goals.now field ⊎ Contains self.old field) self.new) }
+        ensures keeps { Keeps grid.now self.new }
+        ensures refused { OnErr result (self.new ≡ self.old) }
+    {
+        let cells = grid.cell_count() as usize;
+        let first = places(self.bytes, cells).min(goals.len());
+        let missing = self.missing_of(goals, first)?;
+        let fields = compasses(rt, *self.kept.allocator(), grid, &missing)?;
+        self.reserve(cells, fields.len())?;
+        self.touch_all(goals, first);
+        self.put_all(fields);
+        Ok(self.has_all(goals))
     }
 }

@@ -1,6 +1,7 @@
 //! The world of a fleet: one history of takes, ticks and shuts, and the pure core that runs a list of events.
 #![tactic(auto)]
 
+mod ahead;
 mod faults;
 mod leavings;
 mod lists;

@@ -1,8 +1,10 @@
-//! Fields that are kept: who comes again takes no memory, the longest unused goes first, and all go where memory is refused.
+//! Fields that are kept: who comes again takes no memory, the longest unused goes first, and all go where memory is refused;
+//! and fields that are searched ahead.
 
 ghost use Rattle.fleet_grid.specs.Floor.{IsFloor};
 ghost use Rattle.fleet_field.specs.Store.{Keeps, Serves};
 
+use super::floor::are_floor;
 use super::ring;
 use crate::{FieldStore, Shelf};
 use fleet_grid::Grid;
@@ -67,6 +69,24 @@ fn longest_unused_goes_first(rt: HostRuntime) -> Result<(), Fail> {
     let _again = visit(&mut store, &mut shelf, &grid, 0, 8)?;
     let _third = visit(&mut store, &mut shelf, &grid, 8, 8)?;
     assert!(rt; shelf.take(2).is_none());
+    assert!(rt; shelf.take(0).is_some());
+    assert!(rt; shelf.take(8).is_some());
+    Ok(())
+}
+
+/// Two fields have place. What was searched ahead is found, and the longest unused of other goals made way.
+#[test]
+fn searched_ahead(rt: HostRuntime) -> Result<(), Fail> {
+    let grid = ring(&rt, rt.alloc())?;
+    let mut shelf = Shelf::new(rt.alloc(), 26);
+    assert!(rt; are_floor(&grid, &[0, 2]));
+    assert!(rt; shelf.search_ahead(&rt, &grid, &[0, 2])?);
+    assert!(rt; are_floor(&grid, &[0, 8, 2]));
+    assert!(rt; !shelf.search_ahead(&rt, &grid, &[0, 8, 2])?);
+    assert!(rt; shelf.take(2).is_none());
+    let mut store = FieldStore::new(rt.alloc())?;
+    assert!(rt; grid.is_floor(8));
+    assert!(rt; visit(&mut store, &mut shelf, &grid, 8, 0)? == Some(4));
     assert!(rt; shelf.take(0).is_some());
     assert!(rt; shelf.take(8).is_some());
     Ok(())
