@@ -12,3 +12,9 @@ pub mod Descent
 pub mod Nearer
 pub mod Rows
 pub mod Shelved
+pub mod Halves
+pub mod Looks
+pub mod Around
+pub mod Levels
+pub mod Shades
+pub mod Unsearched

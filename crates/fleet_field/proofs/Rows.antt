@@ -1,17 +1,17 @@
 -- The ways of the cells, row by row.
-use Rattle.std.proofs.Common.{◌≡◌, ℕ, ◌+◌, ◌-◌, ◌*◌, ◌<◌, inl, inr, List, length, set, slice_index, refl, sym, ap, subst, ◌∙◌, arith}
+use Rattle.std.proofs.Common.{◌≡◌, ℕ, ◌+◌, ◌-◌, ◌*◌, ◌<◌, inl, inr, List, length, set, slice_index, refl, ap, ◌∙◌, arith, sym}
 use Rattle.std.proofs.lemmas.Bool.{cases_lt}
 use Rattle.std.proofs.lemmas.List.{length-set}
 use Rattle.std.proofs.lemmas.Nat.{div-mul-add, mod-mul-add}
 use Rattle.fleet_grid.specs.Padded.{place}
-use Rattle.fleet_field.specs.Compass.{AreWaysAt, HasRow}
+use Rattle.fleet_field.specs.inside.Bytes.{low, HasRow}
 use Rattle.fleet_field.proofs.Visit.{read}
 
-pub row_none : (dist : List ℕ) (s p f : ℕ) (xs : List ℕ) → HasRow dist s p f 0 xs xs
-row_none dist s p f xs = record { len = refl; kept = λ c below. refl; each = λ k below. absurd (omega (arith, below)) }
+pub row_none : (bytes : List ℕ) (p f : ℕ) (xs : List ℕ) → HasRow bytes p f 0 xs xs
+row_none bytes p f xs = record { len = refl; kept = λ c below. refl; each = λ k below. absurd (omega (arith, below)) }
 
-pub row_more : (dist : List ℕ) (s p f n : ℕ) (xs ys : List ℕ) (x : ℕ) → HasRow dist s p f n xs ys → f + n < length ys → AreWaysAt dist s (p + n) x → HasRow dist s p f (n + 1) xs (set ys (f + n) x)
-row_more dist s p f n xs ys x h inside last = record {
+pub row_more : (bytes : List ℕ) (p f n : ℕ) (xs ys : List ℕ) (x : ℕ) → HasRow bytes p f n xs ys → f + n < length ys → x ≡ low (slice_index bytes (p + n)) → HasRow bytes p f (n + 1) xs (set ys (f + n) x)
+row_more bytes p f n xs ys x h inside last = record {
   len = length-set ys (f + n) x ∙ h.len;
   kept = λ c below. elim (read ys (f + n) x c inside) [
     | inl e ↦ absurd (omega (arith, e.0, below))
@@ -20,10 +20,10 @@ row_more dist s p f n xs ys x h inside last = record {
   each = λ k below. elim (read ys (f + n) x (f + k) inside) [
     | inl e ↦ (
         let is : k ≡ n = omega (arith, e.0) in
-        subst (AreWaysAt dist s (p + k)) (sym e.1) (subst (λ (i : ℕ). AreWaysAt dist s (p + i) x) (sym is) last))
+        e.1 ∙ (last ∙ ap (λ (i : ℕ). low (slice_index bytes (p + i))) (sym is)))
     | inr e ↦ (
         let ne : k ≡ n → ⊥ = (λ w. e.0 (ap (λ (i : ℕ). f + i) w)) in
-        subst (AreWaysAt dist s (p + k)) (sym e.1) (h.each k (omega (arith, below, ne))))
+        e.1 ∙ h.each k (omega (arith, below, ne)))
   ];
 }
 
@@ -31,16 +31,15 @@ place_at : (w s q r : ℕ) → r < w → place w s (q * w + r) ≡ (q + 1) * s +
 place_at w s q r h = rw (div-mul-add q w r h, mod-mul-add q w r h) refl
 
 -- with one row more each cell's ways are there
-pub rows_more : (w s q : ℕ) (dist xs ys : List ℕ) → ((c : ℕ) → c < q * w → AreWaysAt dist s (place w s c) (slice_index xs c)) → HasRow dist s ((q + 1) * s) (q * w) w xs ys →
-    (c : ℕ) → c < (q + 1) * w → AreWaysAt dist s (place w s c) (slice_index ys c)
-rows_more w s q dist xs ys each h c below = elim (cases_lt c (q * w)) [
-  | inl before ↦ subst (AreWaysAt dist s (place w s c)) (sym (h.kept c before)) (each c before)
+pub rows_more : (w s q : ℕ) (bytes xs ys : List ℕ) → ((c : ℕ) → c < q * w → slice_index xs c ≡ low (slice_index bytes (place w s c))) → HasRow bytes ((q + 1) * s) (q * w) w xs ys →
+    (c : ℕ) → c < (q + 1) * w → slice_index ys c ≡ low (slice_index bytes (place w s c))
+rows_more w s q bytes xs ys each h c below = elim (cases_lt c (q * w)) [
+  | inl before ↦ h.kept c before ∙ each c before
   | inr past ↦ (
       let more : (q + 1) * w ≡ q * w + w = omega arith in
       let k = c - q * w in
       let is : c ≡ q * w + k = omega (arith, past) in
       let small : k < w = omega (arith, below, more, past) in
       let at : place w s c ≡ (q + 1) * s + k = ap (place w s) is ∙ place_at w s q k small in
-      subst (λ (i : ℕ). AreWaysAt dist s (place w s c) (slice_index ys i)) (sym is)
-      (subst (λ (p : ℕ). AreWaysAt dist s p (slice_index ys (q * w + k))) (sym at) (h.each k small)))
+      ap (slice_index ys) is ∙ (h.each k small ∙ ap (λ (v : ℕ). low (slice_index bytes v)) (sym at)))
 ]

@@ -50,9 +50,3 @@ pub record AreWaysAt (dist : List ℕ) (stride at ways : ℕ) : Type 0 where
   pub east : IsWay ways East ↔ IsNear dist at (at + 1)
   pub south : IsWay ways South ↔ IsNear dist at (at + stride)
   pub west : IsWay ways West ↔ IsNear dist at (at - 1)
-
--- the ways of so many places from one on stand in the list from an entry on, and what stood before it is left
-pub record HasRow (dist : List ℕ) (stride start first count : ℕ) (before after : List ℕ) : Type 0 where
-  pub len : length after ≡ length before
-  pub kept : (cell : ℕ) → cell < first → slice_index after cell ≡ slice_index before cell
-  pub each : (k : ℕ) → k < count → AreWaysAt dist stride (start + k) (slice_index after (first + k))

@@ -5,7 +5,7 @@ use Rattle.fleet_field.proofs.bits.write_rows.Goals as goal
 pub loop-row-preserved : goal.loop-row-preserved
 loop-row-preserved c = record {
   len = c.write_row.ensures.len ∙ c.loop-row.invariant.len;
-  each = rows_more c.args.width c.args.stride c.loop-row.row c.args.dist.now c.loop-row.ways c.write_row.new.ways c.loop-row.invariant.each c.write_row.ensures;
+  each = rows_more c.args.width c.args.stride c.loop-row.row c.args.bytes.now c.loop-row.ways c.write_row.new.ways c.loop-row.invariant.each c.write_row.ensures;
 }
 
 pub returns-clause-each : goal.returns-clause-each
