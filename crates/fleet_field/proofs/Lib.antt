@@ -13,3 +13,9 @@ pub mod Nearer
 pub mod Rows
 pub mod Shelved
 pub mod Ahead
+pub mod Halves
+pub mod Looks
+pub mod Around
+pub mod Levels
+pub mod Shades
+pub mod Unsearched

@@ -1,10 +1,8 @@
 -- From the distances of the places to the ways of the cells.
-use Rattle.std.proofs.Common.{◌≡◌, ◌≢◌, ℕ, ◌+◌, ◌-◌, ◌*◌, ◌<◌, ◌≤◌, inl, inr, List, [], ◌∷◌, ◌++◌, length, get_or, slice_index, Option, Some, None, refl, sym, ap, subst, ◌∙◌, arith, rules}
-use Rattle.std.proofs.lemmas.Bool.{cases_lt, cases_eq}
+use Rattle.std.proofs.Common.{◌≡◌, ℕ, ◌+◌, ◌-◌, ◌*◌, ◌<◌, ◌≤◌, inl, inr, List, length, get_or, slice_index, Option, Some, None, refl, sym, subst, ◌∙◌, arith, rules}
+use Rattle.std.proofs.lemmas.Bool.{cases_lt}
 use Rattle.std.proofs.lemmas.List.{get_or_past}
 use Rattle.std.proofs.lemmas.Nat.Bits.{bit_at-zero}
-use Rattle.std.proofs.Math.ListN.{get_or-append}
-use Rattle.std.proofs.Math.Seq.{get_or-append_seam}
 use Rattle.fleet_grid.specs.declared.dir.Dir.{Dir}
 use Rattle.fleet_grid.specs.declared.dir.Dir.TheVariants.{North, East, South, West}
 use Rattle.fleet_grid.specs.Direction.{dir_number}
@@ -30,13 +28,6 @@ less_parts None p l = absurd l
 
 pub less_by : (o p : Option ℕ) (x y : ℕ) → o ≡ Some x → p ≡ Some y → x < y → IsLess o p
 less_by o p x y eo ep l = subst (λ (q : Option ℕ). IsLess q p) (sym eo) (subst (IsLess (Some x)) (sym ep) l)
-
--- a fact of each item, and of one more
-pub each_more : (P : ℕ → ℕ → Type 0) (xs : List ℕ) (x n : ℕ) → length xs ≡ n → ((c : ℕ) → c < n → P c (slice_index xs c)) → P n x → (c : ℕ) → c < n + 1 → P c (slice_index (xs ++ x ∷ []) c)
-each_more P xs x n len each last c below = elim (cases_eq c n) [
-  | inl is ↦ subst (λ (k : ℕ). P k (slice_index (xs ++ x ∷ []) k)) (sym is) (subst (P n) (sym (ap (slice_index (xs ++ x ∷ [])) (sym len) ∙ get_or-append_seam xs x [] 0)) last)
-  | inr ne ↦ (let inside : c < n = omega (arith, below, ne) in subst (P c) (sym (get_or-append xs (x ∷ []) 0 c (omega (arith, inside, len)))) (each c inside))
-]
 
 module _ (h w s : ℕ) (dist : List ℕ) (l : IsLaidOut h w s dist) where
   pub around_inside : (c : ℕ) → c < h * w → (s ≤ place w s c) × (place w s c + s < length dist)

@@ -1,7 +1,7 @@
 -- Steps down the ways that lead nearer are as many as the distance.
 use Rattle.std.proofs.Common.{◌≡◌, ◌≢◌, ℕ, zero, suc, ◌+◌, ◌-◌, ◌*◌, ◌<◌, ◌≤◌, ◌⊎◌, inl, inr, ◌==◌, Bool, true, false, cond, List, [], ◌∷◌, length, get_or, slice_index, Option, Some, None, MatchOption, refl, sym, ap, subst, ◌∙◌, arith}
 use Rattle.std.specs.Int.{bit_at}
-use Rattle.std.proofs.lemmas.Bool.{cases_lt, cases_eq, eqb-true, eq-eqb, false≢true}
+use Rattle.std.proofs.lemmas.Bool.{cases_lt, eqb-true, eq-eqb, false≢true}
 use Rattle.std.proofs.lemmas.List.{get_or_past}
 use Rattle.std.proofs.lemmas.List.FromFn.{get_or-map-range_with_len, length-map-range_with_len}
 use Rattle.fleet_grid.specs.declared.dir.Dir.{Dir}
@@ -16,10 +16,11 @@ use Rattle.fleet_grid.proofs.Shortest.{distance_below}
 use Rattle.fleet_grid.proofs.Colours.{differ_by_one}
 use Rattle.fleet_field.specs.Field.{IsField, aim_of}
 use Rattle.fleet_field.specs.inside.Search.{SameWalls, AreLevels}
-use Rattle.fleet_field.specs.Kept.{aways}
+use Rattle.fleet_field.specs.inside.Bytes.{low, IsSearched}
+use Rattle.fleet_field.specs.Kept.{aways, IsLaidOut}
 use Rattle.fleet_field.specs.Compass.{next_cell, steps_down, aways_down, AreWaysAt, IsRight, IsCompass}
 use Rattle.fleet_field.proofs.Transfer as transfer
-use Rattle.fleet_field.proofs.Marks.{some_is, none_is, less_parts, less_by, is_right}
+use Rattle.fleet_field.proofs.Marks.{some_is, none_is, less_parts, less_by, around_inside, is_right}
 use Rattle.fleet_field.proofs.Descent.{step_found, step_stuck, step_on}
 
 -- the first of four that is there
@@ -219,6 +220,20 @@ pub compass_of : (m : Floor) (h w s goal start : ℕ) (blank dist ways : List �
 compass_of m h w s goal start blank dist ways eh ew form p at walls es levels len each =
     let field = transfer.made m h w s goal start blank dist eh ew form p at walls es levels in
     made m h w goal ways (λ c. get_or (aways h w s dist) c None) eh ew form at field.1.each (is_right h w s dist field.0 ways len (cells_of m h w s blank dist eh ew form p walls) each) len
+
+-- the same, from the bytes that the search left
+pub searched_out : (m : Floor) (h w s goal start : ℕ) (blank bytes : List ℕ) → h ≡ m.height → w ≡ m.width → HasForm m → IsPadded m s blank → IsFloor m goal → start ≡ place w s goal → IsSearched blank s start bytes → IsLaidOut h w s bytes
+searched_out m h w s goal start blank bytes eh ew form p at es r =
+    let l = (transfer.made m h w s goal start blank r.dist eh ew form p at r.walls es r.levels).0 in
+    let same : length bytes ≡ length r.dist = r.len ∙ sym r.walls.len in
+    record { wide = l.wide; apart = l.apart; few = l.few; small = (let x = l.small in omega (arith, x, same)); size = same ∙ l.size }
+
+pub compass_by : (m : Floor) (h w s goal start : ℕ) (blank bytes ways : List ℕ) → h ≡ m.height → w ≡ m.width → HasForm m → IsPadded m s blank → IsFloor m goal → start ≡ place w s goal → IsSearched blank s start bytes
+    → length ways ≡ h * w → ((c : ℕ) → c < h * w → slice_index ways c ≡ low (slice_index bytes (place w s c))) → IsCompass h w goal ways × IsField m goal (aim_of goal (aways_down h w goal ways))
+compass_by m h w s goal start blank bytes ways eh ew form p at es r len each =
+    let l = (transfer.made m h w s goal start blank r.dist eh ew form p at r.walls es r.levels).0 in
+    compass_of m h w s goal start blank r.dist ways eh ew form p at r.walls es r.levels len
+    (λ c below. subst (AreWaysAt r.dist s (place w s c)) (sym (each c below)) (r.each (place w s c) (let i = around_inside h w s r.dist l c below in omega (arith, i.1))))
 
 pub down_in : (h w goal c : ℕ) (ways : List ℕ) → c < h * w → get_or (aways_down h w goal ways) c None ≡ steps_down w ways goal (h * w) 0 c
 down_in h w goal c ways below = get_or-map-range_with_len (λ i. steps_down w ways goal (h * w) 0 i) 0 (h * w) c c None below (omega arith)

@@ -19,10 +19,10 @@ far_count-set xs i y below far less =
 pub far_count-le : (xs : List ℕ) → far_count xs ≤ length xs
 far_count-le xs = count_by-le-length (λ d. nat_eq d 4294967295) xs
 
-keeps_same : (xs : List ℕ) (level : ℕ) → Keeps xs xs level
+pub keeps_same : (xs : List ℕ) (level : ℕ) → Keeps xs xs level
 keeps_same xs level = record { len = refl; each = λ v. inl refl }
 
-keeps_set : (xs : List ℕ) (c level : ℕ) → c < length xs → slice_index xs c ≡ 4294967295 → Keeps xs (set xs c level) level
+pub keeps_set : (xs : List ℕ) (c level : ℕ) → c < length xs → slice_index xs c ≡ 4294967295 → Keeps xs (set xs c level) level
 keeps_set xs c level below far = record {
   len = length-set xs c level;
   each = λ v. elim (cases_eq v c) [
@@ -35,7 +35,7 @@ keeps_set xs c level below far = record {
 pub kept : (old new : List ℕ) (level v : ℕ) → Keeps old new level → slice_index old v ≢ 4294967295 → slice_index new v ≡ slice_index old v
 kept old new level v k near = elim (k.each v) [ inl e ↦ e | inr p ↦ absurd (near p.0) ]
 
-keeps_on : (a b c : List ℕ) (level : ℕ) → level < 4294967295 → Keeps a b level → Keeps b c level → Keeps a c level
+pub keeps_on : (a b c : List ℕ) (level : ℕ) → level < 4294967295 → Keeps a b level → Keeps b c level → Keeps a c level
 keeps_on a b c level small p q = record {
   len = q.len ∙ p.len;
   each = λ v. elim (q.each v) [

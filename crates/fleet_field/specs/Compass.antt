@@ -1,5 +1,5 @@
 -- How a compass tells distances: by the steps down the ways that lead nearer.
-use Rattle.std.specs.Prelude.{◌≡◌, ℕ, zero, suc, ◌+◌, ◌-◌, ◌*◌, ◌<◌, ◌≤◌, ◌==◌, ◌↔◌, Bool, cond, List, ◌++◌, Option, Some, None, length, map, slice_index, slice_index_or}
+use Rattle.std.specs.Prelude.{◌≡◌, ℕ, zero, suc, ◌+◌, ◌-◌, ◌*◌, ◌<◌, ◌≤◌, ◌==◌, ◌↔◌, cond, List, Option, Some, None, length, map, slice_index, slice_index_or}
 use Rattle.std.specs.Int.{bit_at}
 use Rattle.std.specs.List.{range_with_len}
 use Rattle.fleet_grid.specs.declared.dir.Dir.{Dir}
@@ -50,10 +50,3 @@ pub record AreWaysAt (dist : List ℕ) (stride at ways : ℕ) : Type 0 where
   pub east : IsWay ways East ↔ IsNear dist at (at + 1)
   pub south : IsWay ways South ↔ IsNear dist at (at + stride)
   pub west : IsWay ways West ↔ IsNear dist at (at - 1)
-
--- the ways of so many places from one on are added to the list
-pub record HasRow (dist : List ℕ) (stride start count : ℕ) (before after : List ℕ) : Type 0 where
-  pub row : List ℕ
-  pub is : after ≡ before ++ row
-  pub len : length row ≡ count
-  pub each : (k : ℕ) → k < count → AreWaysAt dist stride (start + k) (slice_index row k)

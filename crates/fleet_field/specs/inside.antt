@@ -1,3 +1,4 @@
 -- What only proofs and private functions use.
 pub mod Search
+pub mod Bytes
 pub mod Uses

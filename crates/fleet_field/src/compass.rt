@@ -9,8 +9,8 @@ ghost use Rattle.fleet_field.specs.Compass.{next_cell, steps_down};
 
 use crate::bits::ways_of_cells;
 use crate::columns::Columns;
-use crate::flood::flood;
-use crate::ways::{is_less, ways_of};
+use crate::search::search;
+use crate::ways::{is_less, is_way, ways_of};
 use fleet_grid::{Dir, Grid};
 use std::alloc::{AllocError, Allocator, Global};
 use std::marker::Model;
@@ -33,14 +33,6 @@ impl<A: Allocator + Copy> Model for Compass<A> {
     ghost view = { λ c. aim_of c.goal (aways_down c.height c.width c.goal c.ways.items) };
 
     ghost invariant = { λ c. IsCompass c.height c.width c.goal c.ways.items };
-}
-
-/// Whether a way is among these.
-fn is_way(ways: u8, number: u8) -> bool
-    requires { number < 8 }
-    ensures { result ≡ (bit_at ways number == 1) }
-{
-    ways >> number & 1 == 1
 }
 
 /// The cell that the first of a cell's ways leads to.
@@ -111,8 +103,8 @@ impl<A: Allocator + Copy> Compass<A> {
         let columns = Columns::new(grid.width());
         let (stride, blank) = grid.padded();
         let start = columns.place(stride, goal) as u32;
-        let dist = flood(alloc, blank, stride as usize, start)?;
-        let ways = ways_of_cells(alloc, height, columns.width, stride, &dist)?;
+        let bytes = search(alloc, blank, stride as usize, start)?;
+        let ways = ways_of_cells(alloc, height, columns.width, stride, &bytes)?;
         Ok(Compass {
             height,
             width: columns.width,

@@ -8,6 +8,7 @@ mod compasses;
 mod field;
 mod flood;
 mod holds;
+mod search;
 mod several;
 mod shelf;
 mod store;

@@ -1,6 +1,7 @@
 //! Ways that lead nearer, a bit for each direction.
 
-ghost use Rattle.std.specs.Prelude.{◌≡◌, ℕ, ◌↔◌, IsTrue};
+ghost use Rattle.std.specs.Prelude.{◌≡◌, ℕ, ◌<◌, ◌==◌, ◌↔◌, IsTrue};
+ghost use Rattle.std.specs.Int.{bit_at};
 ghost use Rattle.fleet_grid.specs.Ways.{IsWay, IsLess};
 ghost use Rattle.fleet_grid.specs.declared.dir.Dir.TheVariants.{North, East, South, West};
 
@@ -22,4 +23,12 @@ pub(crate) fn ways_of(north: bool, east: bool, south: bool, west: bool) -> u8
     ensures west { IsWay result West ↔ IsTrue west }
 {
     u8::from(north) + 2 * u8::from(east) + 4 * u8::from(south) + 8 * u8::from(west)
+}
+
+/// Whether a way is among these.
+pub(crate) fn is_way(ways: u8, number: u8) -> bool
+    requires { number < 8 }
+    ensures { result ≡ (bit_at ways number == 1) }
+{
+    ways >> number & 1 == 1
 }

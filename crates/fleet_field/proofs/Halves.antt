@@ -1,0 +1,83 @@
+-- The bits of a byte's low half.
+use Rattle.std.proofs.Common.{◌≡◌, ◌≢◌, ℕ, ◌+◌, ◌<◌, ◌≤◌, ◌^◌, max, min, inl, inr, ◌⊎◌, refl, sym, ap, ◌∙◌, arith}
+use Rattle.std.specs.Int.{bit_at}
+use Rattle.std.specs.Int.Bits.{bit_or}
+use Rattle.std.proofs.lemmas.Nat.Bits.{bit_at_and, bit_at_or, bit_at_ones, bit_at-lt, bit_at-pow_same, bit_at-pow_other, bit_at-zero}
+use Rattle.fleet_grid.specs.declared.dir.Dir.{Dir}
+use Rattle.fleet_grid.specs.declared.dir.Dir.TheVariants.{North, East, South, West}
+use Rattle.fleet_grid.specs.Direction.{dir_number}
+use Rattle.fleet_field.specs.inside.Bytes.{low, toward, back}
+
+least_one : (a b : ℕ) → a < 2 → b ≡ 1 → min a b ≡ a
+least_one a b few one = grind (arith, few, one)
+
+most_one : (a b : ℕ) → a < 2 → b ≡ 1 → max a b ≡ 1
+most_one a b few one = grind (arith, few, one)
+
+one_most : (a b : ℕ) → a ≡ 1 → b < 2 → max a b ≡ 1
+one_most a b one few = grind (arith, few, one)
+
+most_none : (a b : ℕ) → b ≡ 0 → max a b ≡ a
+most_none a b none = grind (arith, none)
+
+pub low_bit : (x k : ℕ) → k < 4 → bit_at (low x) k ≡ bit_at x k
+low_bit x k small = bit_at_and x 15 k ∙ least_one (bit_at x k) (bit_at 15 k) (bit_at-lt x k) (bit_at_ones 4 k small)
+
+pub or_same : (x k : ℕ) → bit_at (bit_or x (2 ^ k)) k ≡ 1
+or_same x k = bit_at_or x (2 ^ k) k ∙ most_one (bit_at x k) (bit_at (2 ^ k) k) (bit_at-lt x k) (bit_at-pow_same k)
+
+pub or_stays : (x m k : ℕ) → bit_at x k ≡ 1 → bit_at (bit_or x m) k ≡ 1
+or_stays x m k one = bit_at_or x m k ∙ one_most (bit_at x k) (bit_at m k) one (bit_at-lt m k)
+
+pub or_other : (x k i : ℕ) → i ≢ k → bit_at (bit_or x (2 ^ k)) i ≡ bit_at x i
+or_other x k i ne = bit_at_or x (2 ^ k) i ∙ most_none (bit_at x i) (bit_at (2 ^ k) i) (bit_at-pow_other k i ne)
+
+-- where the low half is empty there is no way
+pub no_low : (x k : ℕ) → k < 4 → low x ≡ 0 → bit_at x k ≡ 1 → ⊥
+no_low x k small none one =
+    let z : bit_at x k ≡ 0 = sym (low_bit x k small) ∙ (ap (λ (y : ℕ). bit_at y k) none ∙ bit_at-zero k) in
+    omega (arith, z, one)
+
+pub few_ways : (dir : Dir) → dir_number dir < 4
+few_ways North = omega arith
+few_ways East = omega arith
+few_ways South = omega arith
+few_ways West = omega arith
+
+pub back_back : (dir : Dir) → back (back dir) ≡ dir
+back_back North = refl
+back_back East = refl
+back_back South = refl
+back_back West = refl
+
+-- back from the place beside
+pub there_and_back : (s v : ℕ) (dir : Dir) → 0 < s → s ≤ v → toward s (back dir) (toward s dir v) ≡ v
+there_and_back s v North pos low_enough = omega (arith, pos, low_enough)
+there_and_back s v East pos low_enough = omega (arith, pos, low_enough)
+there_and_back s v South pos low_enough = omega (arith, pos, low_enough)
+there_and_back s v West pos low_enough = omega (arith, pos, low_enough)
+
+pub beside_inside : (s v n : ℕ) (dir : Dir) → 0 < s → s ≤ v → v + s < n → toward s dir v < n
+beside_inside s v n North pos low_enough below = omega (arith, pos, low_enough, below)
+beside_inside s v n East pos low_enough below = omega (arith, pos, low_enough, below)
+beside_inside s v n South pos low_enough below = omega (arith, pos, low_enough, below)
+beside_inside s v n West pos low_enough below = omega (arith, pos, low_enough, below)
+
+-- two directions are one, or their numbers differ
+pub one_or_other : (a b : Dir) → (a ≡ b) ⊎ (dir_number a ≢ dir_number b)
+one_or_other North North = inl refl
+one_or_other North East = inr (λ e. omega (arith, e))
+one_or_other North South = inr (λ e. omega (arith, e))
+one_or_other North West = inr (λ e. omega (arith, e))
+one_or_other East North = inr (λ e. omega (arith, e))
+one_or_other East East = inl refl
+one_or_other East South = inr (λ e. omega (arith, e))
+one_or_other East West = inr (λ e. omega (arith, e))
+one_or_other South North = inr (λ e. omega (arith, e))
+one_or_other South East = inr (λ e. omega (arith, e))
+one_or_other South South = inl refl
+one_or_other South West = inr (λ e. omega (arith, e))
+one_or_other West North = inr (λ e. omega (arith, e))
+one_or_other West East = inr (λ e. omega (arith, e))
+one_or_other West South = inr (λ e. omega (arith, e))
+one_or_other West West = inl refl
