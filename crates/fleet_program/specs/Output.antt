@@ -12,7 +12,6 @@ use Rattle.fleet_book.specs.declared.notice.Notice.TheVariants as notice
 use Rattle.fleet_history.specs.declared.history.Entry.{Entry}
 use Rattle.fleet_history.specs.declared.history.Entry.TheVariants as entry
 use Rattle.fleet_history.specs.declared.history.Arrival.{Arrival}
-use Rattle.fleet_history.specs.declared.history.Bye.{Bye}
 use Rattle.fleet_book.specs.declared.event.Event.{Event}
 use Rattle.fleet_book.specs.declared.event.Event.TheVariants.{Post, Take, Tick, Give, Collect, Shut}
 use Rattle.fleet_world.specs.declared.reply.Reply.{Reply}

@@ -1,5 +1,5 @@
 -- Clients one by one, before their lines and behind them.
-use Rattle.std.proofs.Common.{◌≡◌, ◌∙◌, ℕ, suc, ◌+◌, ◌<◌, List, [], ◌∷◌, ◌++◌, length, Some, refl, sym, ap, subst, arith, ⊎_elim, slice_index_or}
+use Rattle.std.proofs.Common.{◌≡◌, ℕ, suc, ◌+◌, ◌<◌, List, [], ◌∷◌, ◌++◌, length, Some, refl, sym, ap, subst, arith, ⊎_elim, slice_index_or}
 use Rattle.std.specs.Prelude.{min, ◌-◌, ◌^◌}
 use Rattle.std.specs.List.{slice_get, remove}
 use Rattle.fleet_book.specs.declared.event.Event.{Event}

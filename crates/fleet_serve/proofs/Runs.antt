@@ -6,7 +6,7 @@ use Rattle.std.proofs.lemmas.List.{length-append, append-nil, take_more, take_al
 use Rattle.std.proofs.lemmas.Bool.{cases_Bool, eq-eqb}
 use Rattle.fleet_book.specs.declared.order.Order.{Order}
 use Rattle.fleet_book.specs.declared.event.Event.{Event}
-use Rattle.fleet_book.specs.declared.event.Event.TheVariants.{Post, Collect}
+use Rattle.fleet_book.specs.declared.event.Event.TheVariants.{Post}
 use Rattle.fleet_lanes.specs.Ends.{ClientView, has_close}
 use Rattle.fleet_serve.specs.Posted.{posts, post_by, until_close, IsSubsequence, IsNew, HasRun, KeepsSent}
 use Rattle.fleet_serve.proofs.Sequences.{more-kept, more-left, no-items, until-closed, until-open}

@@ -1,5 +1,5 @@
 -- What the lines of a script post for a client, and what the office takes of it.
-use Rattle.std.specs.Prelude.{ℕ, Bool, true, false, ◌≡◌, ◌<◌, ◌≤◌, List, [], ◌∷◌, ◌==◌, if◌then◌else◌, length, Some, slice_get, slice_index_or, Vec}
+use Rattle.std.specs.Prelude.{ℕ, Bool, ◌≡◌, ◌<◌, ◌≤◌, List, [], ◌∷◌, ◌==◌, if◌then◌else◌, length, Some, slice_get, slice_index_or, Vec}
 use Rattle.std.specs.List.{flat_map}
 use Rattle.fleet_book.specs.declared.order.Order.{Order}
 use Rattle.fleet_book.specs.declared.notice.Notice.{Notice}
@@ -9,7 +9,6 @@ use Rattle.fleet_history.specs.History.{History}
 use Rattle.fleet_history.specs.Laws.{orders}
 use Rattle.fleet_history.specs.Notices.{notices}
 use Rattle.fleet_history.specs.Rings.{IsEndOf}
-use Rattle.fleet_lanes.specs.Names.{LaneName}
 use Rattle.fleet_lanes.specs.Ends.{ClientView, is_close}
 
 -- ---- what a script posts

@@ -1,4 +1,4 @@
-use Rattle.std.proofs.Common.{◌≡◌, ◌-◌, ◌+◌, ◌≤◌, length, take, vec_len}
+use Rattle.std.proofs.Common.{◌-◌, ◌+◌, vec_len}
 use Rattle.std.specs.Io.KnownBytes.{Consumes}
 use Rattle.fleet_program.specs.declared.input.TheConstants.{MOST_BYTES}
 use Rattle.fleet_program.proofs.input.read_whole.Given as goal

@@ -1,6 +1,5 @@
 use Rattle.std.proofs.Common.{◌≡◌, ◌<◌, [], length, rules, sym, subst, slice_index_or}
 use Rattle.fleet_office.proofs.Guests.{on_first, on_rest}
-use Rattle.fleet_serve.specs.Posted.{IsNew}
 use Rattle.fleet_serve.proofs.Clients.{new-first, new-rest}
 use Rattle.fleet_serve.proofs.newcomer.newcomers_of.Goals as goal
 

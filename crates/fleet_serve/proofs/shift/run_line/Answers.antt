@@ -1,5 +1,4 @@
-use Rattle.std.proofs.Common.{rules, ◌≡◌, ◌∙◌, ◌+◌, ◌∷◌, [], length, refl, sym}
-use Rattle.fleet_serve.specs.Posted.{HasRun, post_by}
+use Rattle.std.proofs.Common.{rules, ◌≡◌}
 use Rattle.fleet_serve.proofs.Runs.{post-of, run-ok, run-full, run-closed, run-spent, some_full}
 use Rattle.fleet_serve.proofs.shift.run_line.Goals as goal
 

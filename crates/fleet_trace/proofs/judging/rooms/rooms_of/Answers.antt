@@ -1,7 +1,6 @@
-use Rattle.std.proofs.Common.{◌≡◌, ◌<◌, ◌∙◌, sym, arith, length, map, take, slice_index}
+use Rattle.std.proofs.Common.{◌≡◌, ◌∙◌, sym, arith, length, map, take, slice_index}
 use Rattle.std.proofs.lemmas.List.{length-map}
-use Rattle.fleet_trace.specs.Rooms.{room_for}
-use Rattle.fleet_trace.proofs.Rooms.{rooms-opened, room-more, room-within, room-joined, room-kept}
+use Rattle.fleet_trace.proofs.Rooms.{rooms-opened, room-within, room-joined, room-kept}
 use Rattle.fleet_trace.proofs.judging.rooms.rooms_of.Goals as goal
 use Rattle.fleet_trace.proofs.judging.rooms.rooms_of.Goals.{in-Some, in_default}
 
