@@ -83,10 +83,10 @@ fn searched_ahead(rt: HostRuntime) -> Result<(), Fail> {
     assert!(rt; shelf.search_ahead(&rt, &grid, &[0, 2])?);
     assert!(rt; are_floor(&grid, &[0, 8, 2]));
     assert!(rt; !shelf.search_ahead(&rt, &grid, &[0, 8, 2])?);
-    assert!(rt; shelf.take(2).is_none());
     let mut store = FieldStore::new(rt.alloc())?;
     assert!(rt; grid.is_floor(8));
     assert!(rt; visit(&mut store, &mut shelf, &grid, 8, 0)? == Some(4));
+    assert!(rt; shelf.take(2).is_none());
     assert!(rt; shelf.take(0).is_some());
     assert!(rt; shelf.take(8).is_some());
     Ok(())
