@@ -1,23 +1,27 @@
 //! The bytes of a map's places before a search, and the ways of its cells after it.
 
-ghost use Rattle.std.specs.Prelude.{◌≡◌, ℕ, ◌+◌, ◌*◌, ◌<◌, ◌≤◌, ◌↔◌, IsTrue, length, slice_index, IfOk};
-ghost use Rattle.std.specs.Int.{bit_at};
+ghost use Rattle.std.specs.Prelude.{◌≡◌, ℕ, ◌+◌, ◌*◌, ◌<◌, ◌≤◌, ◌⊎◌, ◌↔◌, length, slice_index, IfOk};
 ghost use Rattle.fleet_grid.specs.Padded.{place};
 ghost use Rattle.fleet_field.specs.Kept.{IsLaidOut};
-ghost use Rattle.fleet_field.specs.inside.Bytes.{low, AreFree, IsUnsearched, HasRow};
+ghost use Rattle.fleet_field.specs.inside.Bytes.{low, AreFree, IsBlank, IsHighHalf, IsUnsearched, HasRow};
 
-use fleet_grid::FAR;
 use std::alloc::{AllocError, Allocator};
 
-/// These of the four ways, in the high half of a byte.
-fn high_half(north: bool, east: bool, south: bool, west: bool) -> u8
-    ensures north { bit_at result 4 ≡ 1 ↔ IsTrue north }
-    ensures east { bit_at result 5 ≡ 1 ↔ IsTrue east }
-    ensures south { bit_at result 6 ≡ 1 ↔ IsTrue south }
-    ensures west { bit_at result 7 ≡ 1 ↔ IsTrue west }
-    ensures none { low result ≡ 0 }
+/// 1 for an open place, 0 for a wall. This asks for no comparison, whose result would have to be narrowed to a byte.
+fn open_bit(place: u32) -> u32
+    requires { (place ≡ 4294967295) ⊎ (place ≡ 4294967294) }
+    ensures few { result < 2 }
+    ensures open { result ≡ 1 ↔ place ≡ 4294967295 }
 {
-    16 * u8::from(north) + 32 * u8::from(east) + 64 * u8::from(south) + 128 * u8::from(west)
+    place & 1
+}
+
+/// The ways whose number is 1, in the high half of a byte.
+fn high_half(north: u32, east: u32, south: u32, west: u32) -> u8
+    requires { (north < 2) × (east < 2) × (south < 2) × (west < 2) }
+    ensures { IsHighHalf north east south west result }
+{
+    (16 * north + 32 * east + 64 * south + 128 * west) as u8
 }
 
 /// The ways from a place to those of the four beside it that are open.
@@ -26,21 +30,22 @@ fn free_at(blank: &[u32], stride: usize, place: usize) -> u8
     requires above { stride ≤ place }
     requires below { place + stride < length blank.now }
     requires small { length blank.now < 1073741824 }
+    requires blank { IsBlank blank.now }
     ensures { AreFree blank.now stride place result }
 {
     high_half(
-        blank[place - stride] == FAR,
-        blank[place + 1] == FAR,
-        blank[place + stride] == FAR,
-        blank[place - 1] == FAR,
+        open_bit(blank[place - stride]),
+        open_bit(blank[place + 1]),
+        open_bit(blank[place + stride]),
+        open_bit(blank[place - 1]),
     )
 }
 
 /// Writes the free ways of each place that has four beside it.
-#[tactic(auto, using(crate::proofs::Unsearched::free_more, crate::proofs::Unsearched::none_more))]
 fn write_free(ways: &mut [u8], blank: &[u32], stride: usize)
     requires step { 0 < stride }
     requires small { length blank.now < 1073741824 }
+    requires blank { IsBlank blank.now }
     requires room { length ways.old ≡ length blank.now }
     requires none { (v : ℕ) → slice_index ways.old v ≡ 0 }
     ensures { IsUnsearched blank.now stride ways.new }
@@ -58,6 +63,7 @@ pub(crate) fn free_ways<A: Allocator + Copy>(
 ) -> Result<Vec<u8, A>, AllocError>
     requires step { 0 < stride }
     requires small { length blank.now < 1073741824 }
+    requires blank { IsBlank blank.now }
     ensures { IfOk result (λ ways. IsUnsearched blank.now stride ways.items) }
 {
     let mut ways = Vec::new(alloc);

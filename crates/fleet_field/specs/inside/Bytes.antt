@@ -45,6 +45,18 @@ pub record AreFree (blank : List ℕ) (stride at byte : ℕ) : Type 0 where
   pub west : bit_at byte 7 ≡ 1 ↔ slice_index blank (at - 1) ≡ 4294967295
   pub none : low byte ≡ 0
 
+-- each place is open and not reached, or a wall
+abbrev pub IsBlank : List ℕ → Type 0
+IsBlank blank = (v : ℕ) → v < length blank → (slice_index blank v ≡ 4294967295) ⊎ (slice_index blank v ≡ 4294967294)
+
+-- the byte has those of the four ways whose number is 1, in its high half alone
+pub record IsHighHalf (north east south west byte : ℕ) : Type 0 where
+  pub north_bit : bit_at byte 4 ≡ 1 ↔ north ≡ 1
+  pub east_bit : bit_at byte 5 ≡ 1 ↔ east ≡ 1
+  pub south_bit : bit_at byte 6 ≡ 1 ↔ south ≡ 1
+  pub west_bit : bit_at byte 7 ≡ 1 ↔ west ≡ 1
+  pub none : low byte ≡ 0
+
 -- the bytes before the search
 pub record IsUnsearched (blank : List ℕ) (stride : ℕ) (ways : List ℕ) : Type 0 where
   pub len : length ways ≡ length blank

@@ -1,10 +1,14 @@
 use Rattle.std.proofs.Common.{◌≡◌, ℕ, ◌<◌, List, [], ◌∷◌, ◌++◌, length, take, drop, sym, ap, subst, ◌∙◌, arith}
 use Rattle.std.proofs.lemmas.Grind.{common_steps}
 use Rattle.fleet_field.specs.inside.Bytes.{colour, IsSpread, Runs}
+use Rattle.fleet_field.proofs.Unsearched.{is_blank}
 use Rattle.fleet_field.proofs.Whole.{written_back}
 use Rattle.fleet_field.proofs.Levels.{first_runs, no_items, runs_on, runs_inside, runs_small, searched}
 use Rattle.fleet_field.proofs.search.search.Goals.{else-loop-test, then-loop-test+then-is_empty}
 use Rattle.fleet_field.proofs.search.search.Goals as goal
+
+pub free_ways-requires-clause-blank : goal.free_ways-requires-clause-blank
+free_ways-requires-clause-blank g c = is_blank c.args.blank.now c.requires.blank
 
 pub loop-init : goal.loop-init
 loop-init g c =
