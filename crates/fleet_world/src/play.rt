@@ -23,6 +23,7 @@ use fleet_book::{Event, Limits, Notice, Order};
 use fleet_grid::Grid;
 use fleet_hooks::Hooks;
 use std::alloc::{Alloc, Allocator, Global};
+use std::mem;
 use std::thread::Threads;
 
 /// What a run leaves, by client where a list is one of lists.
@@ -79,6 +80,10 @@ pub fn run<A: Allocator + Copy + Send + Sync, R: Alloc<A = A> + Threads + Sync>(
     };
     match session.play(rt, events) {
         Ok(replies) => Ok(session.close(replies)),
-        Err(fault) => Err(fault),
+        Err(fault) => {
+            // By a call: the drop of a type is proved once, and one that is not called anew in each function.
+            mem::drop(session);
+            Err(fault)
+        }
     }
 }

@@ -11,6 +11,7 @@ ghost use Rattle.fleet_world.specs.Run.{lane, outlet, no_lists, state_of, opened
 use crate::faults::OpenFault;
 use crate::leavings::Leavings;
 use crate::lists::ClientLists;
+use crate::opening::opening_fault;
 use crate::play::Played;
 use crate::reply::Reply;
 use crate::world::World;
@@ -46,21 +47,33 @@ impl<A: Allocator + Copy> Session<A> {
         ensures orderly { OnOk result (AreOrderly (laws_of hooks)) }
         ensures ok { IfOk result (λ s. state_of s.world.core s.lists.items ≡ opened_state grid starts.items clients limits (laws_of hooks)) }
     {
-        let world = World::open(alloc, grid, starts, clients, limits, hooks)?;
-        match Session::begin(alloc, world, clients) {
+        if let Some(fault) = opening_fault(&grid, starts.as_slice(), clients, limits, &hooks) {
+            return Err(fault);
+        }
+        match Session::make(alloc, grid, starts, clients, limits, hooks) {
             Ok(session) => Ok(session),
             Err(AllocError) => Err(OpenFault::NoMemory),
         }
     }
 
-    /// The session of a world of so many clients, who did nothing yet.
-    fn begin(alloc: A, world: World<A>, clients: u32) -> Result<Session<A>, AllocError>
-        requires { clients ≡ client_count world.core.history }
-        ensures { IfOk result (λ s. state_of s.world.core s.lists.items ≡ state_of world.core (replicate clients no_lists)) }
+    /// The session at its opening.
+    fn make(
+        alloc: A,
+        grid: Grid<A>,
+        starts: Vec<u32, A>,
+        clients: u32,
+        limits: Limits,
+        hooks: Hooks<A>,
+    ) -> Result<Session<A>, AllocError>
+        requires { CanOpen grid starts.items clients limits (laws_of hooks) }
+        ensures orderly { OnOk result (AreOrderly (laws_of hooks)) }
+        ensures ok { IfOk result (λ s. state_of s.world.core s.lists.items ≡ opened_state grid starts.items clients limits (laws_of hooks)) }
     {
         let count = clients as usize;
         let lists = empty_lists(alloc, count)?;
         let leavings = Leavings::with_room(alloc, count)?;
+        // Last, so that no path lets a world go.
+        let world = World::make(alloc, grid, starts, clients, limits, hooks)?;
         Ok(Session {
             world,
             lists,

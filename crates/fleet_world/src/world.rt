@@ -67,7 +67,7 @@ impl<A: Allocator + Copy> World<A> {
     }
 
     /// The world at its opening.
-    fn make(
+    pub(crate) fn make(
         alloc: A,
         grid: Grid<A>,
         starts: Vec<u32, A>,
@@ -80,13 +80,14 @@ impl<A: Allocator + Copy> World<A> {
         ensures ok { IfOk result (λ w. w.core ≡ opened_world grid starts.items clients limits (laws_of hooks)) }
     {
         let laws = HookLaws::of(alloc, &hooks)?;
-        let core = Core::open(alloc, grid, starts, clients, limits, laws)?;
         let Hooks {
             ties,
             arrivals,
             farewells,
         } = hooks;
         let farewells = spare(alloc, farewells)?;
+        // Last, so that no path lets a core go.
+        let core = Core::open(alloc, grid, starts, clients, limits, laws)?;
         let robots = Robots {
             ties,
             arrivals,
