@@ -1,12 +1,10 @@
 // Preloaded before the C library: the allocation whose number stands in REFUSE gives no memory, as where a machine has none left.
-// With REFUSE_FROM set, so do all that come after it. At the end the number of allocations goes to the file that COUNT names.
+// With REFUSE_FROM set, so do all that come after it.
 #define _GNU_SOURCE
 #include <errno.h>
 #include <stdatomic.h>
 #include <stddef.h>
-#include <stdio.h>
 #include <stdlib.h>
-#include <unistd.h>
 
 extern void *__libc_malloc(size_t);
 extern void *__libc_calloc(size_t, size_t);
@@ -22,19 +20,6 @@ __attribute__((constructor)) static void begin(void) {
     from = getenv("REFUSE_FROM") != NULL;
     atomic_store(&made, 0);
     refused = number ? atol(number) : -1;
-}
-
-__attribute__((destructor)) static void end(void) {
-    const char *name = getenv("COUNT");
-    long count = atomic_load(&made);
-    refused = -1;
-    if (name) {
-        FILE *file = fopen(name, "w");
-        if (file) {
-            fprintf(file, "%ld\n", count);
-            fclose(file);
-        }
-    }
 }
 
 static int is_refused(void) {

@@ -17,7 +17,7 @@ printf 'robots 0\nlane 1\nturns 1\npost 0 go 0 1\npost 0 go 0 1\ncollect 0\n' > 
 
 serve() { # its status; what it wrote lies in the room
   local status=0
-  env LD_PRELOAD="$room/refuse.so" COUNT="$room/count" "$@" timeout 60 "$errands" serve "$room/map" "$room/script" \
+  env LD_PRELOAD="$room/refuse.so" "$@" timeout 60 "$errands" serve "$room/map" "$room/script" \
     > "$room/trace" 2> "$room/said" || status=$?
   echo $status
 }
@@ -32,19 +32,20 @@ is_served() { # whether a run ended as one without refusals does
 
 status=$(serve)
 is_served "$status" || { echo "without refusals it ended with $status"; exit 1; }
-count=$(cat "$room/count")
-memory=0 served=0
 for from in "" REFUSE_FROM=1; do
-  for number in $(seq "$((count + 20))"); do
+  number=0 memory=0 served=0 in_a_row=0
+  # past the last allocation nothing is refused any more
+  while [ "$in_a_row" -lt 100 ]; do
+    number=$((number + 1))
     status=$(serve REFUSE="$number" $from)
     if [ "$status" = 7 ] && [ "$(cat "$room/said")" = "errands: memory" ]; then
-      memory=$((memory + 1))
+      memory=$((memory + 1)) in_a_row=0
     elif is_served "$status"; then
-      served=$((served + 1))
+      served=$((served + 1)) in_a_row=$((in_a_row + 1))
     else
       echo "allocation $number ${from:+and all behind it }refused: status $status, $(cat "$room/said")"
       exit 1
     fi
   done
+  echo "${from:+with all behind it }refused: $number, of which out of memory $memory, served $served"
 done
-echo "allocations $count, refused one by one and from each on: out of memory $memory, served $served"
