@@ -1,0 +1,89 @@
+-- The list of the cells of the queues' first errands, as the queues change.
+use Rattle.std.proofs.Common.{◌≡◌, ℕ, ◌+◌, ◌<◌, ◌≤◌, List, [], ◌∷◌, ◌++◌, length, cond, eqb, Bool, true, false, ◌&&◌, Option, Some, None, sym, refl, ap, ◌∙◌, subst, arith, inl, inr, get_or, ext_get_or}
+use Rattle.std.specs.Prelude.{slice_get, slice_set, slice_index, slice_index_or}
+use Rattle.std.proofs.lemmas.List.{length-set, get_or-set_same, get_or-set_other}
+use Rattle.std.proofs.lemmas.Bool.{cases_eq}
+use Rattle.fleet_queue.specs.declared.errand.Errand.{Errand}
+use Rattle.fleet_queue.specs.Queue.{Queue, without_behind_front}
+use Rattle.fleet_history.specs.Waited.{one_more}
+use Rattle.fleet_state.specs.Landed.{landing, wait_on, is_last, rest_on, without_landed}
+use Rattle.fleet_state.specs.Robots.{Robots, queue_at, no_queue, stepped, without_errand}
+use Rattle.fleet_state.specs.inside.Fronts.{AreFronts}
+
+-- ---- the queues change
+
+pub fronts-set : (queues : List Queue) (fronts : List ℕ) (r : ℕ) (q : Queue) (cell : ℕ) → AreFronts queues fronts → r < length queues →
+    ((f : Errand) → slice_get q.items 0 ≡ Some f → cell ≡ f.cell) → AreFronts (slice_set queues r q) (slice_set fronts r cell)
+fronts-set queues fronts r q cell a l here = record {
+  count = length-set fronts r cell ∙ a.count ∙ sym (length-set queues r q);
+  cells = λ k f e. elim (cases_eq r k) [
+    | inl s ↦ subst (λ k. slice_index (slice_set fronts r cell) k ≡ f.cell) s
+        (get_or-set_same fronts r cell 0 (omega (arith, l, a.count))
+        ∙ here f (ap (λ (q : Queue). slice_get q.items 0) (sym (get_or-set_same queues r q no_queue l)) ∙ subst (λ k. slice_get (queue_at (slice_set queues r q) k).items 0 ≡ Some f) (sym s) e))
+    | inr ne ↦ get_or-set_other fronts r k cell 0 (λ s. ne (sym s))
+        ∙ a.cells k f (ap (λ (q : Queue). slice_get q.items 0) (sym (get_or-set_other queues r k q no_queue (λ s. ne (sym s)))) ∙ e)
+  ];
+}
+
+-- no queue has another front than before
+pub fronts-kept : (queues others : List Queue) (fronts : List ℕ) → AreFronts queues fronts → length others ≡ length queues →
+    ((r : ℕ) (f : Errand) → slice_get (queue_at others r).items 0 ≡ Some f → slice_get (queue_at queues r).items 0 ≡ Some f) → AreFronts others fronts
+fronts-kept queues others fronts a count same = record {
+  count = a.count ∙ sym count;
+  cells = λ r f e. a.cells r f (same r f e);
+}
+
+-- what joins behind a front leaves it
+pub joined-front : (u : List Errand) (e f : Errand) → (u ≡ [] → ⊥) → slice_get (u ++ e ∷ []) 0 ≡ Some f → slice_get u 0 ≡ Some f
+joined-front [] e f ne q = absurd (ne refl)
+joined-front (x ∷ u) e f ne q = q
+
+pub withdrawn-front : (p : Errand → Bool) (u : List Errand) (f : Errand) → slice_get (without_behind_front p u) 0 ≡ Some f → slice_get u 0 ≡ Some f
+withdrawn-front p [] f q = q
+withdrawn-front p (x ∷ u) f q = q
+
+-- ---- who is ruled out
+
+no_landing : (u : List Errand) (g cell : ℕ) → ((f : Errand) → slice_get u 0 ≡ Some f → g ≡ f.cell) → eqb g cell ≡ false → landing cell u ≡ None
+no_landing [] g cell here e = refl
+no_landing (f ∷ u) g cell here e = let s : g ≡ f.cell = here f refl in let t : eqb f.cell cell ≡ false = subst (λ n. eqb n cell ≡ false) s e in rw t refl
+
+pub ruled-out : (queues : List Queue) (fronts : List ℕ) (r cell : ℕ) → AreFronts queues fronts → eqb (slice_index fronts r) cell ≡ false → landing cell (queue_at queues r).items ≡ None
+ruled-out queues fronts r cell a e = no_landing (queue_at queues r).items (slice_index fronts r) cell (a.cells r) e
+
+-- where nobody lands, the queue stays and the wait goes on
+pub rest-none : (cell : ℕ) (u : List Errand) → landing cell u ≡ None → rest_on cell u ≡ u
+rest-none cell [] e = refl
+rest-none cell (f ∷ u) e = by_case (eqb f.cell cell) e
+  where
+    by_case : (b : Bool) → cond b (Some f) None ≡ None → cond b u (f ∷ u) ≡ f ∷ u
+    by_case true q = cc
+    by_case false q = refl
+
+is_false : (f : Errand) (b : Bool) → cond b (Some f) None ≡ None → b ≡ false
+is_false f true q = cc
+is_false f false q = refl
+
+pub wait-none : (cell : ℕ) (u : List Errand) (w : Option ℕ) → landing cell u ≡ None → wait_on cell u w ≡ one_more w
+wait-none cell [] w e = refl
+wait-none cell (f ∷ u) w e = let t : eqb f.cell cell ≡ false = is_false f (eqb f.cell cell) e in rw t refl
+
+pub leaving-none : (shut : Bool) (cell : ℕ) (u : List Errand) → landing cell u ≡ None → false ≡ (shut && is_last cell u)
+leaving-none false cell u e = refl
+leaving-none true cell [] e = refl
+leaving-none true cell (f ∷ u) e = let t : eqb f.cell cell ≡ false = is_false f (eqb f.cell cell) e in rw t refl
+
+same_set : (queues : List Queue) (r : ℕ) (q : Queue) → q ≡ queue_at queues r → r < length queues → slice_set queues r q ≡ queues
+same_set queues r q e l = ext_get_or no_queue (slice_set queues r q) queues (length-set queues r q)
+    (λ k m. elim (cases_eq r k) [
+      | inl s ↦ subst (λ k. queue_at (slice_set queues r q) k ≡ queue_at queues k) s (get_or-set_same queues r q no_queue l ∙ e)
+      | inr ne ↦ get_or-set_other queues r k q no_queue (λ s. ne (sym s))
+    ])
+
+-- a step that does not land is the cell written and the wait counted on
+pub stepped-past : (x : Robots) (r cell : ℕ) → r < length x.queues → landing cell (queue_at x.queues r).items ≡ None →
+    ◌≡◌ {A = Robots} (record { cells = slice_set x.cells r cell; queues = x.queues; waits = slice_set x.waits r (one_more (slice_index_or x.waits r None)) }) (stepped x r cell)
+stepped-past x r cell l e =
+    let items = rest-none cell (queue_at x.queues r).items e in
+    let same : without_landed cell (queue_at x.queues r) ≡ queue_at x.queues r = ap (λ u. record (queue_at x.queues r) { items = u }) items in
+    rw (same_set x.queues r (without_landed cell (queue_at x.queues r)) same l, wait-none cell (queue_at x.queues r).items (slice_index_or x.waits r None) e) refl
