@@ -227,10 +227,8 @@ impl<A: Allocator + Copy> Robots<A> {
         ensures { self.new ≡ joined self.old robot errand }
     {
         let queue = &mut self.queues[robot];
-        if queue.is_empty() {
-            self.fronts[robot] = errand.cell;
-        }
         let _ = queue.try_push(errand);
+        self.fronts[robot] = front_cell(queue);
         if let None = self.waits[robot] {
             self.waits[robot] = Some(0);
         }
