@@ -1,8 +1,8 @@
 -- The list of the cells of the queues' first errands, as the queues change.
 use Rattle.std.proofs.Common.{◌≡◌, ℕ, ◌+◌, ◌<◌, ◌≤◌, List, [], ◌∷◌, ◌++◌, length, cond, eqb, Bool, true, false, ◌&&◌, Option, Some, None, sym, refl, ap, ◌∙◌, subst, arith, inl, inr, get_or, ext_get_or}
 use Rattle.std.specs.Prelude.{slice_get, slice_set, slice_index, slice_index_or}
-use Rattle.std.proofs.lemmas.List.{length-set, get_or-set_same, get_or-set_other}
-use Rattle.std.proofs.lemmas.Bool.{cases_eq}
+use Rattle.std.proofs.lemmas.List.{length-set, get_or-set_same, get_or-set_other, get_or_past}
+use Rattle.std.proofs.lemmas.Bool.{cases_eq, cases_lt}
 use Rattle.fleet_queue.specs.declared.errand.Errand.{Errand}
 use Rattle.fleet_queue.specs.Queue.{Queue, without_behind_front}
 use Rattle.fleet_history.specs.Waited.{one_more}
@@ -25,6 +25,20 @@ fronts-set queues fronts r q cell a l here = record {
   ];
 }
 
+-- where a queue has room there is a robot
+pub has-room : (queues : List Queue) (r : ℕ) → length (queue_at queues r).items < (queue_at queues r).capacity → r < length queues
+has-room queues r l = elim (cases_lt r (length queues)) [
+  | inl k ↦ k
+  | inr k ↦ omega (arith, subst (λ (q : Queue). length q.items < q.capacity) (get_or_past queues r no_queue k) l)
+]
+
+-- where a queue has a first errand there is a robot
+pub has-front : (queues : List Queue) (r : ℕ) (f : Errand) → slice_get (queue_at queues r).items 0 ≡ Some f → r < length queues
+has-front queues r f e = elim (cases_lt r (length queues)) [
+  | inl k ↦ k
+  | inr k ↦ (let q : None ≡ Some f = subst (λ (q : Queue). slice_get q.items 0 ≡ Some f) (get_or_past queues r no_queue k) e in cc)
+]
+
 -- no queue has another front than before
 pub fronts-kept : (queues others : List Queue) (fronts : List ℕ) → AreFronts queues fronts → length others ≡ length queues →
     ((r : ℕ) (f : Errand) → slice_get (queue_at others r).items 0 ≡ Some f → slice_get (queue_at queues r).items 0 ≡ Some f) → AreFronts others fronts
@@ -32,11 +46,6 @@ fronts-kept queues others fronts a count same = record {
   count = a.count ∙ sym count;
   cells = λ r f e. a.cells r f (same r f e);
 }
-
--- what joins behind a front leaves it
-pub joined-front : (u : List Errand) (e f : Errand) → (u ≡ [] → ⊥) → slice_get (u ++ e ∷ []) 0 ≡ Some f → slice_get u 0 ≡ Some f
-joined-front [] e f ne q = absurd (ne refl)
-joined-front (x ∷ u) e f ne q = q
 
 pub withdrawn-front : (p : Errand → Bool) (u : List Errand) (f : Errand) → slice_get (without_behind_front p u) 0 ≡ Some f → slice_get u 0 ≡ Some f
 withdrawn-front p [] f q = q

@@ -1,15 +1,15 @@
 //! The robots of a state: their cells, errands and waits.
 
-ghost use Rattle.std.specs.Prelude.{◌≡◌, ◌≢◌, ◌+◌, ◌<◌, ◌≤◌, ◌^◌, ◌++◌, ◌&&◌, ℕ, None, Some, IfOk, true, false, length, map, slice_index, slice_index_or};
-ghost use Rattle.std.specs.List.{list_any, range_with_len};
+ghost use Rattle.std.specs.Prelude.{◌≡◌, ◌≢◌, ◌+◌, ◌<◌, ◌≤◌, ◌^◌, ◌++◌, ◌&&◌, ℕ, None, Some, IfOk, true, false, length, slice_index, slice_index_or};
+ghost use Rattle.std.specs.List.{list_any};
 ghost use Rattle.fleet_queue.specs.Queue.{is_of};
 ghost use Rattle.fleet_history.specs.Verdicts.{place_in};
 ghost use Rattle.fleet_state.specs.Landed.{landing, is_last};
-ghost use Rattle.fleet_state.specs.Opened.{HaveRooms, queue_in, robots_in};
+ghost use Rattle.fleet_state.specs.Opened.{HaveRooms, robots_in};
 ghost use Rattle.fleet_state.specs.Robots.{queue_at, stepped, joined, without_errand, HasPlace, AreTaken, IsPlaceAmong};
-ghost use Rattle.fleet_state.specs.inside.Fronts.{AreFronts};
 
 use crate::landing::{front_cell, is_leaving, landing, one_more, wait_on};
+use crate::queues::{fronts_of, queues_of};
 use fleet_book::{Order, Place, Verdict};
 use fleet_history::RobotState;
 use fleet_queue::{Errand, ErrandQueue};
@@ -247,52 +247,6 @@ impl<A: Allocator + Copy> Robots<A> {
             let _ = queue.withdraw(client, number);
         }
     }
-}
-
-/// The queues of the robots of an opening, each with its room.
-fn queues_of<A: Allocator + Copy>(
-    alloc: A,
-    states: &[RobotState<A>],
-    rooms: &[u32],
-) -> Result<Vec<ErrandQueue<A>, A>, AllocError>
-    requires { HaveRooms rooms.now states.now }
-    ensures { IfOk result (λ queues. queues.items ≡ map (queue_in rooms.now states.now) (range_with_len 0 (length states.now))) }
-{
-    let mut queues = Vec::new(alloc);
-    for r in 0..states.len() {
-        queues.push(queue_of(alloc, states[r].errands.as_slice(), rooms[r])?)?;
-    }
-    Ok(queues)
-}
-
-/// The cells of the queues' first errands.
-fn fronts_of<A: Allocator + Copy>(
-    alloc: A,
-    queues: &[ErrandQueue<A>],
-) -> Result<Vec<u32, A>, AllocError>
-    ensures { IfOk result (λ fronts. AreFronts queues.now fronts.items) }
-{
-    let mut fronts = Vec::new(alloc);
-    for r in 0..queues.len() {
-        fronts.push(front_cell(&queues[r]))?;
-    }
-    Ok(fronts)
-}
-
-/// A queue of these errands, with this room.
-fn queue_of<A: Allocator + Copy>(
-    alloc: A,
-    errands: &[Errand],
-    room: u32,
-) -> Result<ErrandQueue<A>, AllocError>
-    requires { length errands.now ≤ room }
-    ensures { IfOk result (λ queue. queue ≡ record { items = errands.now; capacity = room }) }
-{
-    let mut queue = ErrandQueue::new(alloc, room)?;
-    for errand in errands {
-        let _ = queue.try_push(*errand);
-    }
-    Ok(queue)
 }
 
 /// Where in the queue the errand stands that it holds.

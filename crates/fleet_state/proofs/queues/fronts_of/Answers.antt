@@ -1,5 +1,5 @@
 use Rattle.std.proofs.Common.{arith}
-use Rattle.fleet_state.proofs.robots.fronts_of.Goals as goal
+use Rattle.fleet_state.proofs.queues.fronts_of.Goals as goal
 
 pub loop-r-preserved : goal.loop-r-preserved
 loop-r-preserved g c = ?

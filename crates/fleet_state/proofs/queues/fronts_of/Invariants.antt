@@ -2,7 +2,7 @@ use Rattle.std.proofs.Common.{◌≡◌, ◌<◌, ℕ, Some, length}
 use Rattle.std.specs.Prelude.{slice_get, slice_index}
 use Rattle.fleet_queue.specs.declared.errand.Errand.{Errand}
 use Rattle.fleet_state.specs.Robots.{queue_at}
-use Rattle.fleet_state.proofs.robots.fronts_of.Given as goal
+use Rattle.fleet_state.proofs.queues.fronts_of.Given as goal
 
 abbrev pub invariant-loop-r : goal.invariant-loop-r
 invariant-loop-r g l = record {
