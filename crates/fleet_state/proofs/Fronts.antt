@@ -1,7 +1,8 @@
 -- The list of the cells of the queues' first errands, as the queues change.
 use Rattle.std.proofs.Common.{◌≡◌, ℕ, ◌+◌, ◌<◌, ◌≤◌, List, [], ◌∷◌, ◌++◌, length, cond, eqb, Bool, true, false, ◌&&◌, Option, Some, None, sym, refl, ap, ◌∙◌, subst, arith, inl, inr, get_or, ext_get_or}
 use Rattle.std.specs.Prelude.{slice_get, slice_set, slice_index, slice_index_or}
-use Rattle.std.proofs.lemmas.List.{length-set, get_or-set_same, get_or-set_other, get_or_past}
+use Rattle.std.proofs.lemmas.List.{length-set, get_or-set_same, get_or-set_other, get_or_past, get_or_append_left}
+use Rattle.std.proofs.Math.Seq.{get_or-append_seam}
 use Rattle.std.proofs.lemmas.Bool.{cases_eq, cases_lt}
 use Rattle.fleet_queue.specs.declared.errand.Errand.{Errand}
 use Rattle.fleet_queue.specs.Queue.{Queue, without_behind_front}
@@ -50,6 +51,17 @@ fronts-kept queues others fronts a count same = record {
 pub withdrawn-front : (p : Errand → Bool) (u : List Errand) (f : Errand) → slice_get (without_behind_front p u) 0 ≡ Some f → slice_get u 0 ≡ Some f
 withdrawn-front p [] f q = q
 withdrawn-front p (x ∷ u) f q = q
+
+-- one more queue's front at the end of the list
+pub fronts-more : (queues : List Queue) (fronts : List ℕ) (r cell k : ℕ) (f : Errand) → length fronts ≡ r →
+    (k < r → slice_get (queue_at queues k).items 0 ≡ Some f → slice_index fronts k ≡ f.cell) →
+    (slice_get (queue_at queues r).items 0 ≡ Some f → cell ≡ f.cell) →
+    k < r + 1 → slice_get (queue_at queues k).items 0 ≡ Some f → slice_index (fronts ++ cell ∷ []) k ≡ f.cell
+fronts-more queues fronts r cell k f n before here l e = elim (cases_lt k r) [
+  | inl b ↦ get_or_append_left fronts (cell ∷ []) 0 k (omega (arith, n, b)) ∙ before b e
+  | inr b ↦ (let s : k ≡ length fronts = omega (arith, n, b, l) in
+      ap (slice_index (fronts ++ cell ∷ [])) s ∙ get_or-append_seam fronts cell [] 0 ∙ here (subst (λ i. slice_get (queue_at queues i).items 0 ≡ Some f) (s ∙ n) e))
+]
 
 -- ---- who is ruled out
 
