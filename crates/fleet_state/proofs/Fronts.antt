@@ -1,5 +1,5 @@
 -- The list of the cells of the queues' first errands, as the queues change.
-use Rattle.std.proofs.Common.{◌≡◌, ℕ, ◌+◌, ◌<◌, ◌≤◌, List, [], ◌∷◌, ◌++◌, length, cond, eqb, Bool, true, false, ◌&&◌, Option, Some, None, sym, refl, ap, ◌∙◌, subst, arith, inl, inr, get_or, ext_get_or}
+use Rattle.std.proofs.Common.{◌≡◌, ℕ, ◌+◌, ◌<◌, List, [], ◌∷◌, ◌++◌, length, cond, eqb, Bool, true, false, Option, Some, None, sym, refl, ap, ◌∙◌, subst, arith, inl, inr, ext_get_or}
 use Rattle.std.specs.Prelude.{slice_get, slice_set, slice_index, slice_index_or}
 use Rattle.std.proofs.lemmas.List.{length-set, get_or-set_same, get_or-set_other, get_or_past, get_or_append_left}
 use Rattle.std.proofs.Math.Seq.{get_or-append_seam}
@@ -7,8 +7,8 @@ use Rattle.std.proofs.lemmas.Bool.{cases_eq, cases_lt}
 use Rattle.fleet_queue.specs.declared.errand.Errand.{Errand}
 use Rattle.fleet_queue.specs.Queue.{Queue, without_behind_front}
 use Rattle.fleet_history.specs.Waited.{one_more}
-use Rattle.fleet_state.specs.Landed.{landing, wait_on, is_last, rest_on, without_landed}
-use Rattle.fleet_state.specs.Robots.{Robots, queue_at, no_queue, stepped, without_errand}
+use Rattle.fleet_state.specs.Landed.{landing, wait_on, rest_on, without_landed}
+use Rattle.fleet_state.specs.Robots.{Robots, queue_at, no_queue, stepped}
 use Rattle.fleet_state.specs.inside.Fronts.{AreFronts}
 
 -- ---- the queues change
@@ -73,7 +73,7 @@ pub ruled-out : (queues : List Queue) (fronts : List ℕ) (r cell : ℕ) → Are
 ruled-out queues fronts r cell a e = no_landing (queue_at queues r).items (slice_index fronts r) cell (a.cells r) e
 
 -- where nobody lands, the queue stays and the wait goes on
-pub rest-none : (cell : ℕ) (u : List Errand) → landing cell u ≡ None → rest_on cell u ≡ u
+rest-none : (cell : ℕ) (u : List Errand) → landing cell u ≡ None → rest_on cell u ≡ u
 rest-none cell [] e = refl
 rest-none cell (f ∷ u) e = by_case (eqb f.cell cell) e
   where
@@ -85,14 +85,9 @@ is_false : (f : Errand) (b : Bool) → cond b (Some f) None ≡ None → b ≡ f
 is_false f true q = cc
 is_false f false q = refl
 
-pub wait-none : (cell : ℕ) (u : List Errand) (w : Option ℕ) → landing cell u ≡ None → wait_on cell u w ≡ one_more w
+wait-none : (cell : ℕ) (u : List Errand) (w : Option ℕ) → landing cell u ≡ None → wait_on cell u w ≡ one_more w
 wait-none cell [] w e = refl
 wait-none cell (f ∷ u) w e = let t : eqb f.cell cell ≡ false = is_false f (eqb f.cell cell) e in rw t refl
-
-pub leaving-none : (shut : Bool) (cell : ℕ) (u : List Errand) → landing cell u ≡ None → false ≡ (shut && is_last cell u)
-leaving-none false cell u e = refl
-leaving-none true cell [] e = refl
-leaving-none true cell (f ∷ u) e = let t : eqb f.cell cell ≡ false = is_false f (eqb f.cell cell) e in rw t refl
 
 same_set : (queues : List Queue) (r : ℕ) (q : Queue) → q ≡ queue_at queues r → r < length queues → slice_set queues r q ≡ queues
 same_set queues r q e l = ext_get_or no_queue (slice_set queues r q) queues (length-set queues r q)

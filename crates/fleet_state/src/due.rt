@@ -49,7 +49,10 @@ impl<A: Allocator + Copy> FleetState<A> {
         let mut farewells = Vec::new(alloc);
         for r in 0..self.robots.len() {
             let robot = r as u32;
-            if self.robots.is_leaving(self.clients.is_shut(robot), r, to[r]) {
+            if self
+                .robots
+                .is_leaving(self.clients.is_shut(robot), r, to[r])
+            {
                 farewells.push(Bye { robot, stamp: 0 })?;
             }
         }

@@ -1,4 +1,4 @@
-use Rattle.std.proofs.Common.{arith, eqb, false, None, ◌≡◌, ap, subst, slice_index, ◌∙◌, length}
+use Rattle.std.proofs.Common.{arith, eqb, false, None, ◌≡◌, ap, subst, slice_index, length}
 use Rattle.std.proofs.lemmas.List.{get_or_read}
 use Rattle.fleet_state.specs.Robots.{Robots, queue_at}
 use Rattle.fleet_state.specs.Landed.{landing}

@@ -20,8 +20,7 @@ loop-robot-preserved g c =
 
 pub invariant_of-result : goal.invariant_of-result
 invariant_of-result g c =
-    let many : length c.in_ok-queues.queues.items ≡ length c.args.states.now = ap length c.in_ok-queues.ensures ∙ length-by (queue_in c.args.rooms.now c.args.states.now) (length c.args.states.now) in
-    (
+    let many : length c.in_ok-queues.queues.items ≡ length c.args.states.now = ap length c.in_ok-queues.ensures ∙ length-by (queue_in c.args.rooms.now c.args.states.now) (length c.args.states.now) in (
       grind (arith, common_steps, many),
       grind (arith, common_steps, many),
       subst (λ (queues : List Queue). AreFronts queues c.in_ok-fronts.fronts.items) c.as_slice.ensures.value c.in_ok-fronts.ensures,
