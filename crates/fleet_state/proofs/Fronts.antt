@@ -1,14 +1,14 @@
 -- The list of the cells of the queues' first errands, as the queues change.
-use Rattle.std.proofs.Common.{◌≡◌, ℕ, ◌+◌, ◌<◌, List, [], ◌∷◌, ◌++◌, length, cond, eqb, Bool, true, false, Option, Some, None, sym, refl, ap, ◌∙◌, subst, arith, inl, inr, ext_get_or}
+use Rattle.std.proofs.Common.{◌≡◌, ℕ, ◌+◌, ◌<◌, ◌≤◌, List, [], ◌∷◌, ◌++◌, length, cond, eqb, Bool, true, false, Option, Some, None, sym, refl, ap, ◌∙◌, subst, arith, inl, inr, ext_get_or}
 use Rattle.std.specs.Prelude.{slice_get, slice_set, slice_index, slice_index_or}
 use Rattle.std.proofs.lemmas.List.{length-set, get_or-set_same, get_or-set_other, get_or_past, get_or_append_left}
 use Rattle.std.proofs.Math.Seq.{get_or-append_seam}
 use Rattle.std.proofs.lemmas.Bool.{cases_eq, cases_lt}
 use Rattle.fleet_queue.specs.declared.errand.Errand.{Errand}
-use Rattle.fleet_queue.specs.Queue.{Queue, without_behind_front}
+use Rattle.fleet_queue.specs.Queue.{Queue, is_of, without_behind_front}
 use Rattle.fleet_history.specs.Waited.{one_more}
 use Rattle.fleet_state.specs.Landed.{landing, wait_on, rest_on, without_landed}
-use Rattle.fleet_state.specs.Robots.{Robots, queue_at, no_queue, stepped}
+use Rattle.fleet_state.specs.Robots.{Robots, queue_at, no_queue, stepped, without_errand}
 use Rattle.fleet_state.specs.inside.Fronts.{AreFronts}
 
 -- ---- the queues change
@@ -40,17 +40,22 @@ has-front queues r f e = elim (cases_lt r (length queues)) [
   | inr k ↦ (let q : None ≡ Some f = subst (λ (q : Queue). slice_get q.items 0 ≡ Some f) (get_or_past queues r no_queue k) e in cc)
 ]
 
--- no queue has another front than before
-pub fronts-kept : (queues others : List Queue) (fronts : List ℕ) → AreFronts queues fronts → length others ≡ length queues →
-    ((r : ℕ) (f : Errand) → slice_get (queue_at others r).items 0 ≡ Some f → slice_get (queue_at queues r).items 0 ≡ Some f) → AreFronts others fronts
-fronts-kept queues others fronts a count same = record {
-  count = a.count ∙ sym count;
-  cells = λ r f e. a.cells r f (same r f e);
-}
-
-pub withdrawn-front : (p : Errand → Bool) (u : List Errand) (f : Errand) → slice_get (without_behind_front p u) 0 ≡ Some f → slice_get u 0 ≡ Some f
+-- what stood behind a front leaves it
+withdrawn-front : (p : Errand → Bool) (u : List Errand) (f : Errand) → slice_get (without_behind_front p u) 0 ≡ Some f → slice_get u 0 ≡ Some f
 withdrawn-front p [] f q = q
 withdrawn-front p (x ∷ u) f q = q
+
+-- the first n queues without the client's errand of this number, where that is no front
+pub fronts-withdrawn : (queues others : List Queue) (fronts : List ℕ) (client number n : ℕ) → AreFronts queues fronts → length others ≡ length queues →
+    ((r : ℕ) → r < n → queue_at others r ≡ without_errand client number (queue_at queues r)) → ((r : ℕ) → n ≤ r → queue_at others r ≡ queue_at queues r) → AreFronts others fronts
+fronts-withdrawn queues others fronts client number n a count before behind = record {
+  count = a.count ∙ sym count;
+  cells = λ r f e. a.cells r f
+      (elim (cases_lt r n) [
+        | inl l ↦ withdrawn-front (is_of client number) (queue_at queues r).items f (subst (λ (q : Queue). slice_get q.items 0 ≡ Some f) (before r l) e)
+        | inr l ↦ subst (λ (q : Queue). slice_get q.items 0 ≡ Some f) (behind r l) e
+      ]);
+}
 
 -- one more queue's front at the end of the list
 pub fronts-more : (queues : List Queue) (fronts : List ℕ) (r cell k : ℕ) (f : Errand) → length fronts ≡ r →
