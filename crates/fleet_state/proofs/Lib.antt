@@ -2,6 +2,7 @@ pub mod Parts
 pub mod Laws
 pub mod Judged
 pub mod Ranges
+pub mod Fronts
 pub mod Dues
 pub mod Steps
 pub mod Accounts

@@ -1,3 +1,4 @@
 -- What only proofs and private functions use.
 pub mod Due
 pub mod Next
+pub mod Fronts

@@ -6,6 +6,7 @@ mod due;
 mod enter;
 mod landing;
 mod opening;
+mod queues;
 mod robots;
 mod state;
 mod verdict;

@@ -1,14 +1,15 @@
 //! The robots of a state: their cells, errands and waits.
 
-ghost use Rattle.std.specs.Prelude.{◌≡◌, ◌≢◌, ◌+◌, ◌<◌, ◌≤◌, ◌^◌, ◌++◌, ℕ, None, Some, IfOk, true, length, map, slice_index, slice_index_or};
-ghost use Rattle.std.specs.List.{list_any, range_with_len};
+ghost use Rattle.std.specs.Prelude.{◌≡◌, ◌≢◌, ◌+◌, ◌<◌, ◌^◌, ◌&&◌, ℕ, None, Some, IfOk, true, false, length, slice_index, slice_index_or};
+ghost use Rattle.std.specs.List.{list_any};
 ghost use Rattle.fleet_queue.specs.Queue.{is_of};
 ghost use Rattle.fleet_history.specs.Verdicts.{place_in};
-ghost use Rattle.fleet_state.specs.Landed.{landing};
-ghost use Rattle.fleet_state.specs.Opened.{HaveRooms, queue_in, robots_in};
+ghost use Rattle.fleet_state.specs.Landed.{landing, is_last};
+ghost use Rattle.fleet_state.specs.Opened.{HaveRooms, robots_in};
 ghost use Rattle.fleet_state.specs.Robots.{queue_at, stepped, joined, without_errand, HasPlace, AreTaken, IsPlaceAmong};
 
-use crate::landing::{landing, wait_on};
+use crate::landing::{front_cell, is_leaving, landing, one_more, wait_on};
+use crate::queues::{fronts_of, queues_of};
 use fleet_book::{Order, Place, Verdict};
 use fleet_history::RobotState;
 use fleet_queue::{Errand, ErrandQueue};
@@ -20,18 +21,22 @@ use std::marker::Model;
 pub(crate) struct Robots<A: Allocator + Copy = Global> {
     cells: Vec<u32, A>,
     queues: Vec<ErrandQueue<A>, A>,
+    /// By robot: the cell of its first errand, and any where it has none. Each queue lies in memory of its own, so this
+    /// flat list spares a tick the look at the queues of all robots that can't land.
+    fronts: Vec<u32, A>,
     waits: Vec<Option<u64>, A>,
 }
 
 impl<A: Allocator + Copy> Model for Robots<A> {
     ghost use Rattle.std.specs.Prelude.{◌≡◌, length};
     ghost use Rattle.fleet_state.specs.Robots.{Robots};
+    ghost use Rattle.fleet_state.specs.inside.Fronts.{AreFronts};
 
     ghost Value = { Robots };
 
     ghost view = { λ x. record { cells = x.cells.items; queues = x.queues.items; waits = x.waits.items } };
 
-    ghost invariant = { λ x. (length x.cells.items ≡ length x.queues.items) × (length x.waits.items ≡ length x.queues.items) };
+    ghost invariant = { λ x. (length x.cells.items ≡ length x.queues.items) × (length x.waits.items ≡ length x.queues.items) × AreFronts x.queues.items x.fronts.items };
 }
 
 impl<A: Allocator + Copy> Robots<A> {
@@ -45,6 +50,7 @@ impl<A: Allocator + Copy> Robots<A> {
         ensures { IfOk result (λ x. x ≡ robots_in rooms.now states.now) }
     {
         let queues = queues_of(alloc, states, rooms)?;
+        let fronts = fronts_of(alloc, queues.as_slice())?;
         let mut cells = Vec::new(alloc);
         let mut waits = Vec::new(alloc);
         for robot in states {
@@ -54,6 +60,7 @@ impl<A: Allocator + Copy> Robots<A> {
         Ok(Robots {
             cells,
             queues,
+            fronts,
             waits,
         })
     }
@@ -123,8 +130,55 @@ impl<A: Allocator + Copy> Robots<A> {
         Place::Absent
     }
 
+    /// Whether the robot may land on the cell. Of one that may not, nobody needs to look at the queue.
+    fn may_land(&self, robot: usize, cell: u32) -> bool
+        requires { robot < length self.now.queues }
+        ensures { result ≡ false → landing cell (queue_at self.now.queues robot).items ≡ None }
+    {
+        self.fronts[robot] == cell
+    }
+
+    /// The errand that the robot finishes where a step brings it to the cell.
+    pub(crate) fn landing(&self, robot: usize, cell: u32) -> Option<Errand>
+        requires { robot < length self.now.queues }
+        ensures { result ≡ landing cell (queue_at self.now.queues robot).items }
+    {
+        if self.may_land(robot, cell) {
+            landing(&self.queues[robot], cell)
+        } else {
+            None
+        }
+    }
+
+    /// Whether the robot, shut or not, takes its leave where a step brings it to the cell.
+    pub(crate) fn is_leaving(&self, shut: bool, robot: usize, cell: u32) -> bool
+        requires { robot < length self.now.queues }
+        ensures { result ≡ (shut && is_last cell (queue_at self.now.queues robot).items) }
+    {
+        if self.may_land(robot, cell) {
+            is_leaving(shut, &self.queues[robot], cell)
+        } else {
+            false
+        }
+    }
+
     /// Lets the robot step to the cell: counts its wait on, and takes the errand that it lands on out of its queue.
     pub(crate) fn step(&mut self, robot: usize, cell: u32) -> Option<Errand>
+        requires known { robot < length self.old.queues }
+        requires small { (w : ℕ) → slice_index_or self.old.waits robot None ≡ Some w → w + 1 < 2 ^ 64 }
+        ensures landing { result ≡ landing cell (queue_at self.old.queues robot).items }
+        ensures stepped { self.new ≡ stepped self.old robot cell }
+    {
+        if self.may_land(robot, cell) {
+            return self.step_on_front(robot, cell);
+        }
+        self.cells[robot] = cell;
+        self.waits[robot] = one_more(self.waits[robot]);
+        None
+    }
+
+    /// The same, by a look at the robot's queue.
+    fn step_on_front(&mut self, robot: usize, cell: u32) -> Option<Errand>
         requires known { robot < length self.old.queues }
         requires small { (w : ℕ) → slice_index_or self.old.waits robot None ≡ Some w → w + 1 < 2 ^ 64 }
         ensures landing { result ≡ landing cell (queue_at self.old.queues robot).items }
@@ -135,6 +189,7 @@ impl<A: Allocator + Copy> Robots<A> {
         self.waits[robot] = wait_on(queue, cell, self.waits[robot]);
         let landed = landing(queue, cell)?;
         let _ = queue.pop();
+        self.fronts[robot] = front_cell(queue);
         Some(landed)
     }
 
@@ -173,6 +228,7 @@ impl<A: Allocator + Copy> Robots<A> {
     {
         let queue = &mut self.queues[robot];
         let _ = queue.try_push(errand);
+        self.fronts[robot] = front_cell(queue);
         if let None = self.waits[robot] {
             self.waits[robot] = Some(0);
         }
@@ -191,38 +247,6 @@ impl<A: Allocator + Copy> Robots<A> {
             let _ = queue.withdraw(client, number);
         }
     }
-}
-
-/// The queues of the robots of an opening, each with its room.
-fn queues_of<A: Allocator + Copy>(
-    alloc: A,
-    states: &[RobotState<A>],
-    rooms: &[u32],
-) -> Result<Vec<ErrandQueue<A>, A>, AllocError>
-    requires { HaveRooms rooms.now states.now }
-    ensures { IfOk result (λ queues. queues.items ≡ map (queue_in rooms.now states.now) (range_with_len 0 (length states.now))) }
-{
-    let mut queues = Vec::new(alloc);
-    for r in 0..states.len() {
-        queues.push(queue_of(alloc, states[r].errands.as_slice(), rooms[r])?)?;
-    }
-    Ok(queues)
-}
-
-/// A queue of these errands, with this room.
-fn queue_of<A: Allocator + Copy>(
-    alloc: A,
-    errands: &[Errand],
-    room: u32,
-) -> Result<ErrandQueue<A>, AllocError>
-    requires { length errands.now ≤ room }
-    ensures { IfOk result (λ queue. queue ≡ record { items = errands.now; capacity = room }) }
-{
-    let mut queue = ErrandQueue::new(alloc, room)?;
-    for errand in errands {
-        let _ = queue.try_push(*errand);
-    }
-    Ok(queue)
 }
 
 /// Where in the queue the errand stands that it holds.

@@ -1,6 +1,8 @@
-use Rattle.std.proofs.Common.{arith, ◌≡◌, ◌<◌, ◌∙◌, sym, ap, length}
+use Rattle.std.proofs.Common.{arith, ◌≡◌, ◌<◌, ◌∙◌, sym, ap, length, List, subst}
 use Rattle.std.proofs.lemmas.Grind.{common_steps}
+use Rattle.fleet_queue.specs.Queue.{Queue}
 use Rattle.fleet_state.specs.Opened.{queue_in}
+use Rattle.fleet_state.specs.inside.Fronts.{AreFronts}
 use Rattle.fleet_state.proofs.Parts.{length-by}
 use Rattle.fleet_state.proofs.Ranges.{map-take_more}
 use Rattle.fleet_state.proofs.robots.Robots.open.Goals as goal
@@ -18,5 +20,8 @@ loop-robot-preserved g c =
 
 pub invariant_of-result : goal.invariant_of-result
 invariant_of-result g c =
-    let many : length c.in_ok-queues.queues.items ≡ length c.args.states.now = ap length c.in_ok-queues.ensures ∙ length-by (queue_in c.args.rooms.now c.args.states.now) (length c.args.states.now) in
-    (grind (arith, common_steps, many), grind (arith, common_steps, many))
+    let many : length c.in_ok-queues.queues.items ≡ length c.args.states.now = ap length c.in_ok-queues.ensures ∙ length-by (queue_in c.args.rooms.now c.args.states.now) (length c.args.states.now) in (
+      grind (arith, common_steps, many),
+      grind (arith, common_steps, many),
+      subst (λ (queues : List Queue). AreFronts queues c.in_ok-fronts.fronts.items) c.as_slice.ensures.value c.in_ok-fronts.ensures,
+    )

@@ -13,8 +13,8 @@ pub loop-r-preserved : goal.loop-r-preserved
 loop-r-preserved g c =
     rw (dues-more c.self.inside.robots.queues c.args.to.now c.loop-r.r)
     (elim c.match-landing.branch [
-      | in-Some+in_ok-push w ↦ rw (w.arrived-is, w.in_ok-push.ensures.items, map_push, c.loop-r.invariant, ← c.queue.ensures, ← w.in-Some.ensures) refl
-      | in_default w ↦ rw (w.arrived-is, c.loop-r.invariant, ← c.queue.ensures, ← w.in_default.ensures) (simp append-nil)
+      | in-Some+in_ok-push w ↦ rw (w.arrived-is, w.in_ok-push.ensures.items, map_push, c.loop-r.invariant, ← w.in-Some.ensures) refl
+      | in_default w ↦ rw (w.arrived-is, c.loop-r.invariant, ← w.in_default.ensures) (simp append-nil)
     ])
 
 pub returns : goal.returns

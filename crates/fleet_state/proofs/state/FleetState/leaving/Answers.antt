@@ -16,8 +16,8 @@ loop-r-preserved g c =
     let p = is_leaver c.self.inside.clients.counts c.self.inside.robots.queues c.args.to.now in
     rw (flat_map-range_more (λ r. robot_if (p r) r) c.loop-r.r)
     (elim c.if-is_leaving.branch [
-      | then-is_leaving+in_ok-push w ↦ rw (w.farewells-is, w.in_ok-push.ensures.items, map_push, c.loop-r.invariant, ← c.queue.ensures, ← c.is_shut.ensures, ← c.is_leaving.ensures, w.if-is_leaving.true) refl
-      | else-is_leaving w ↦ rw (w.farewells-is, c.loop-r.invariant, ← c.queue.ensures, ← c.is_shut.ensures, ← c.is_leaving.ensures, w.if-is_leaving.false) (simp append-nil)
+      | then-is_leaving+in_ok-push w ↦ rw (w.farewells-is, w.in_ok-push.ensures.items, map_push, c.loop-r.invariant, ← c.is_shut.ensures, ← c.is_leaving.ensures, w.if-is_leaving.true) refl
+      | else-is_leaving w ↦ rw (w.farewells-is, c.loop-r.invariant, ← c.is_shut.ensures, ← c.is_leaving.ensures, w.if-is_leaving.false) (simp append-nil)
     ])
 
 pub returns : goal.returns

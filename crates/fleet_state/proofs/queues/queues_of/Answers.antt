@@ -5,7 +5,7 @@ use Rattle.std.proofs.lemmas.List.{get_or-map}
 use Rattle.fleet_queue.specs.declared.errand.Errand.{Errand}
 use Rattle.fleet_state.specs.Opened.{errands_in, queue_in}
 use Rattle.fleet_state.proofs.Ranges.{map-range_more}
-use Rattle.fleet_state.proofs.robots.queues_of.Goals as goal
+use Rattle.fleet_state.proofs.queues.queues_of.Goals as goal
 
 -- the errands of the robot that the loop has come to
 here : {A : Type 0} (xs : List (RobotState A)) (r : ℕ) (x : RobotState A) → r < length xs → (get_or xs r x).errands ≡ errands_in xs r

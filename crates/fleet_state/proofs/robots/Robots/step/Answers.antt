@@ -1,0 +1,23 @@
+use Rattle.std.proofs.Common.{◌≡◌, ◌∙◌, ◌<◌, None, arith, ap, length, subst, sym}
+use Rattle.std.specs.Prelude.{slice_set, slice_index_or}
+use Rattle.std.proofs.lemmas.List.{get_or_read}
+use Rattle.fleet_history.specs.Waited.{one_more}
+use Rattle.fleet_state.specs.Landed.{landing}
+use Rattle.fleet_state.specs.Robots.{Robots, queue_at, stepped}
+use Rattle.fleet_state.proofs.Fronts.{stepped-past}
+use Rattle.fleet_state.proofs.robots.Robots.step.Goals as goal
+
+pub returns-clause-stepped : goal.returns-clause-stepped
+returns-clause-stepped g c =
+    let cells = c.self.inside.cells.items in
+    let queues = c.self.inside.queues.items in
+    let waits = c.self.inside.waits.items in
+    let r = c.args.robot in
+    let x : Robots = record { cells = cells; queues = queues; waits = waits } in
+    let l : r < length queues = omega (arith, c.requires.known, ap (λ (x : Robots). length x.queues) c.self.view_is) in
+    let read : c.index.result.now ≡ slice_index_or waits r None = get_or_read waits r c.index.result.now (omega (arith, l, c.self.invariant.1)) c.index.ensures None in
+    let wait : c.one_more.result ≡ one_more (slice_index_or waits r None) = c.one_more.ensures ∙ ap one_more read in
+    let past : landing c.args.cell (queue_at queues r).items ≡ None = subst (λ (y : Robots). landing c.args.cell (queue_at y.queues r).items ≡ None) (sym c.self.view_is) (c.may_land.ensures c.if-may_land.false) in
+    rw wait
+    (subst (λ (y : Robots). ◌≡◌ {A = Robots} (record { cells = slice_set cells r c.args.cell; queues = queues; waits = slice_set waits r (one_more (slice_index_or waits r None)) }) (stepped y r c.args.cell)) c.self.view_is
+    (stepped-past x r c.args.cell l past))
