@@ -10,7 +10,6 @@ use Rattle.fleet_grid.specs.Walk.{IsDistance, AreApart}
 use Rattle.fleet_field.specs.Field.{Aim, IsField}
 use Rattle.fleet_field.specs.declared.store.Held.{Held}
 use Rattle.fleet_field.specs.Store.{shown, Serves, IsHold, IsHeldMore}
-use Rattle.fleet_field.specs.Several.{AreHeld}
 use Rattle.fleet_field.proofs.Shares.{none_some}
 use Rattle.fleet_goals.specs.Aims.{goal_in, distance_in, goals_of, aim_at, goal, distance, AreOn, AreFloor}
 use Rattle.fleet_goals.specs.Keys.{field_in, field_at, fields_of, key_at, holders, uses_in, AreOwn, AreKept}
@@ -107,11 +106,6 @@ field_held m aimed old new key hold k some = elim (cases_eq k key) [
     at : (o : Option (Held Aim)) → shown old key ≡ o → IsSome (shown old key) → IsHeldMore m aimed o (shown new key) → field_in (shown new key) ≡ field_in (shown old key)
     at None e s p = (let h = some_of (shown old key) s in absurd (none_some h.0 (shown old key) e h.1))
     at (Some was) e s p = ap field_in p.1 ∙ sym (ap field_in e)
-
-pub field_all : (goals : List ℕ) (old : List (Option (Held Aim))) (fresh : List ℕ) (new : List (Option (Held Aim))) → AreHeld goals old fresh new → (k : ℕ) → IsSome (shown old k) → field_in (shown new k) ≡ field_in (shown old k)
-field_all goals old fresh new all k some =
-    let h = some_of (shown old k) some in
-    ap field_in (all.kept k h.0 h.1) ∙ sym (ap field_in h.1)
 
 -- for the step: the distances are those on the map
 pub measured_on : (m : Floor) (aims : List (Option Aim)) → AreOn m aims → (robot aimed cell : ℕ) → goal aims robot ≡ Some aimed → MatchOption (distance aims robot cell) (AreApart (IsNeighbour m) cell aimed) (IsDistance (IsNeighbour m) cell aimed)

@@ -1,14 +1,13 @@
-use Rattle.std.proofs.Common.{drop}
-use Rattle.fleet_grid.specs.Floor.{Floor}
-use Rattle.fleet_field.specs.Store.{Keeps, Serves}
-use Rattle.fleet_goals.specs.Keys.{AreCounted, AreKept}
-use Rattle.fleet_goals.specs.inside.Turns.{AreDealt}
+use Rattle.std.proofs.Common.{◌≡◌, ℕ, ◌+◌, length, drop}
+use Rattle.fleet_goals.specs.Keys.{holders}
+use Rattle.fleet_goals.specs.inside.Turns.{dealt}
 use Rattle.fleet_goals.proofs.turns.deal.Given as goal
 
 abbrev pub invariant-loop-at : goal.invariant-loop-at
-invariant-loop-at g l = record {
-  counted : AreCounted l.store l.keys (drop l.at l.fresh);
-  kept : AreKept l.fn.store l.store;
-  dealt : AreDealt l.robots l.fresh l.at l.fn.keys l.keys;
-  keeps : (m : Floor) → Serves m l.fn.store → Keeps m l.fn.shelf → Keeps m l.shelf;
+invariant-loop-at l = record {
+  known : length l.keys ≡ length l.fn.keys;
+  count : length l.fresh ≡ length l.fn.fresh;
+  left : drop l.at l.fresh ≡ drop l.at l.fn.fresh;
+  dealt : dealt (drop l.at l.turns) (drop l.at l.fn.fresh) l.keys ≡ dealt l.turns l.fn.fresh l.fn.keys;
+  swapped : (key : ℕ) → holders l.keys key + holders l.fresh key ≡ holders l.fn.keys key + holders l.fn.fresh key;
 }
