@@ -36,7 +36,10 @@ pub holders_set : (keys : List (Option ℕ)) (robot : ℕ) (key : Option ℕ) (k
 holders_set keys robot key k below = sum_by-set (one_at k) keys robot key None below
 
 pub holders_push : (keys : List (Option ℕ)) (key : Option ℕ) (k : ℕ) → holders (keys ++ key ∷ []) k ≡ holders keys k + one_at k key
-holders_push [] key k = sum_by-cons (one_at k) key []
+holders_push [] key k =
+    let a : holders (key ∷ []) k ≡ one_at k key + holders [] k = sum_by-cons (one_at k) key [] in
+    let none : holders [] k ≡ 0 = refl in
+    omega (arith, a, none)
 holders_push (x ∷ keys) key k =
     let a : holders (x ∷ (keys ++ key ∷ [])) k ≡ one_at k x + holders (keys ++ key ∷ []) k = sum_by-cons (one_at k) x (keys ++ key ∷ []) in
     let b : holders (x ∷ keys) k ≡ one_at k x + holders keys k = sum_by-cons (one_at k) x keys in
@@ -198,10 +201,16 @@ kept_on a b c p q key held e =
 
 -- a spare key is given back
 
+pub spare_shown : (store : List (Option (Held Aim))) (keys rest : List (Option ℕ)) (own : ℕ) → AreCounted store keys (Some own ∷ rest) → IsSome (shown store own)
+spare_shown store keys rest own c =
+    let m : holders (Some own ∷ rest) own ≡ one_at own (Some own) + holders rest own = sum_by-cons (one_at own) (Some own) rest in
+    let one = one_same own own refl in
+    showing_spare store keys (Some own ∷ rest) own c (omega (arith, m, one))
+
 pub released : (old new : List (Option (Held Aim))) (keys rest : List (Option ℕ)) (own : ℕ) → AreCounted old keys (Some own ∷ rest) → IsRelease old new own → AreCounted new keys rest × AreKept old new
 released old new keys rest own c back =
     let more : (k : ℕ) → holders (Some own ∷ rest) k ≡ one_at k (Some own) + holders rest k = λ k. sum_by-cons (one_at k) (Some own) rest in
-    let there : IsSome (shown old own) = showing_spare old keys (Some own ∷ rest) own c (let m = more own in let one = one_same own own refl in omega (arith, m, one)) in (
+    let there : IsSome (shown old own) = spare_shown old keys rest own c in (
       record {
         once = once_released old new own back c.used there c.once;
         used = λ k held eh. (from_before old new own back c.used there k held eh).3;

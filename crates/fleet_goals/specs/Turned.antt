@@ -4,7 +4,7 @@ use Rattle.fleet_grid.specs.Floor.{Floor, IsFloor}
 use Rattle.fleet_goals.specs.declared.turns.Turn.{Turn}
 
 -- each turn gives its robot its goal, the first one first
-pub turned : List Turn → List (Option ℕ) → List (Option ℕ)
+unfoldable pub turned : List Turn → List (Option ℕ) → List (Option ℕ)
 turned [] goals = goals
 turned (t ∷ turns) goals = turned turns (slice_set goals t.robot t.goal)
 

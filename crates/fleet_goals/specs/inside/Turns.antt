@@ -7,7 +7,7 @@ use Rattle.fleet_goals.specs.Keys.{field_in}
 use Rattle.fleet_goals.specs.declared.turns.Turn.{Turn}
 
 -- the keys behind these turns, each of which gives its robot its fresh key
-pub dealt : List Turn → List (Option ℕ) → List (Option ℕ) → List (Option ℕ)
+unfoldable pub dealt : List Turn → List (Option ℕ) → List (Option ℕ) → List (Option ℕ)
 dealt [] fresh keys = keys
 dealt (t ∷ turns) [] keys = keys
 dealt (t ∷ turns) (key ∷ fresh) keys = dealt turns fresh (slice_set keys t.robot key)
