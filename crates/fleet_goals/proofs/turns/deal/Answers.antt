@@ -1,4 +1,5 @@
-use Rattle.std.proofs.Common.{◌<◌, length, get_or, Option, Some, None, rules}
+use Rattle.std.proofs.Common.{get_or, None}
+use Rattle.std.proofs.lemmas.Option.{slice_get-get_or}
 use Rattle.fleet_goals.proofs.Turned.{dealing_none, dealing_more, dealing_all}
 use Rattle.fleet_goals.proofs.turns.deal.Goals as goal
 
@@ -7,7 +8,7 @@ loop-at-preserved c =
     let turns = c.args.turns.now in
     let n = c.loop-at.at in
     dealing_more turns c.args.fresh.now c.args.keys.now n c.loop-at.fresh c.loop-at.keys (record { robot = 0; goal = None }) c.loop-at-test.true c.requires.count
-    (c.requires.known n (get_or turns n (record { robot = 0; goal = None })) (search (rules, c.loop-at-test.true))) c.loop-at.invariant
+    (c.requires.known n (get_or turns n (record { robot = 0; goal = None })) (slice_get-get_or turns n (record { robot = 0; goal = None }) c.loop-at-test.true)) c.loop-at.invariant
 
 pub returns-clause-dealt : goal.returns-clause-dealt
 returns-clause-dealt c =
