@@ -1,4 +1,5 @@
 pub mod Counts
 pub mod Fields
+pub mod Holding
 pub mod Turned
 pub mod Measured
