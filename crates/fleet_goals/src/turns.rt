@@ -118,10 +118,11 @@ pub(crate) fn turn_to<A: Allocator + Copy, B: Allocator + Copy>(
     ensures empty { fresh.new.items ≡ [] }
     ensures room { vec_capacity fresh.new ≡ vec_capacity fresh.old }
 {
-    let held = hold_goals(shelf, grid, store, fresh, turns);
-    if let Ok(()) = held {
-        deal(keys, fresh.as_mut_slice(), turns);
+    if let Err(refused) = hold_goals(shelf, grid, store, fresh, turns) {
+        give_back(shelf, store, fresh);
+        return Err(refused);
     }
+    deal(keys, fresh.as_mut_slice(), turns);
     give_back(shelf, store, fresh);
-    held
+    Ok(())
 }
