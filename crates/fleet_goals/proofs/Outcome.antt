@@ -28,13 +28,15 @@ length-dealt [] fresh keys = refl
 length-dealt (t ∷ turns) [] keys = refl
 length-dealt (t ∷ turns) (key ∷ fresh) keys = length-dealt turns fresh (set keys t.robot key) ∙ length-set keys t.robot key
 
+-- what a slice of a whole list writes back is the slice
+pub written : (slice old : List (Option ℕ)) (len : ℕ) → length slice ≡ len → take len (slice ++ drop (length slice) old) ≡ slice
+written slice old len long = ap (λ (n : ℕ). take n (slice ++ drop (length slice) old)) (sym long) ∙ take-append_seam slice (drop (length slice) old)
+
 -- keys that were swapped through a slice of the fresh ones are counted as before
 pub counted_dealt : (store : List (Option (Held Aim))) (keys fresh slice now slice_now : List (Option ℕ)) (len : ℕ) → slice ≡ fresh → length slice ≡ len → length slice_now ≡ length slice → ((k : ℕ) → holders now k + holders slice_now k ≡ holders keys k + holders slice k)
     → AreCounted store keys fresh → AreCounted store now (take len (slice_now ++ drop (length slice_now) fresh))
 counted_dealt store keys fresh slice now slice_now len is long count same c =
-    let written : take len (slice_now ++ drop (length slice_now) fresh) ≡ slice_now =
-    ap (λ (n : ℕ). take n (slice_now ++ drop (length slice_now) fresh)) (sym long ∙ sym count) ∙ take-append_seam slice_now (drop (length slice_now) fresh) in
-    subst (AreCounted store now) (sym written) (swapped store keys slice now slice_now same (subst (AreCounted store keys) (sym is) c))
+    subst (AreCounted store now) (sym (written slice_now fresh len (count ∙ long))) (swapped store keys slice now slice_now same (subst (AreCounted store keys) (sym is) c))
 
 -- goals stay floor
 
