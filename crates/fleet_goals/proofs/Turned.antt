@@ -1,11 +1,10 @@
 -- What stands after robots have turned to other goals.
-use Rattle.std.proofs.Common.{◌≡◌, ℕ, ◌<◌, ◌≤◌, inl, inr, ◌+◌, List, [], ◌∷◌, length, map, replicate, set, get_or, drop, Option, Some, None, IsSome, refl, sym, ap, subst, ◌∙◌, arith, rules, slice_index_or}
+use Rattle.std.proofs.Common.{◌≡◌, ℕ, ◌<◌, ◌≤◌, inl, inr, ◌+◌, List, [], ◌∷◌, length, map, replicate, set, get_or, drop, Option, Some, None, refl, sym, ap, subst, ◌∙◌, arith, rules, slice_index_or}
 use Rattle.std.proofs.lemmas.Bool.{cases_eq, cases_lt}
 use Rattle.std.proofs.lemmas.List.{get_or_past, length-map, length-set, map-set, drop_more, drop_all, get_or-set_other, ext_get_or, get_or-replicate, length-replicate}
 use Rattle.fleet_grid.specs.Floor.{Floor}
 use Rattle.fleet_field.specs.Field.{Aim}
 use Rattle.fleet_field.specs.declared.store.Held.{Held}
-use Rattle.fleet_field.specs.Store.{shown}
 use Rattle.fleet_goals.specs.declared.turns.Turn.{Turn}
 use Rattle.fleet_goals.specs.Aims.{goal_in, goals_of, aim_at, AreOn}
 use Rattle.fleet_goals.specs.Keys.{field_at, fields_of, key_at, holders, AreCounted, AreOwn, AreKept}

@@ -7,7 +7,7 @@ ghost use Rattle.fleet_goals.specs.Aims.{goals_of, goal, distance, AreOn};
 ghost use Rattle.fleet_goals.specs.Turned.{turned, AreFloorTurns, AreKnownTurns};
 
 use crate::keys::{distance_of, goal_of, ways_of};
-use crate::turns::{turn_to, Turn};
+use crate::turns::{Turn, turn_to};
 use fleet_field::{FieldStore, Shelf};
 use fleet_grid::Grid;
 use fleet_pibt::Goals;

@@ -41,7 +41,16 @@ fn aimed_and_turned(rt: HostRuntime) -> Result<(), Fail> {
     // East and south.
     assert_eq!(rt; (aims.ways(&grid, 0, 0), aims.ways(&grid, 1, 0)), (6, 0));
     aims.aim(&mut shelf, &grid, 1, 8)?;
-    let turns = [Turn { robot: 0, goal: Some(1) }, Turn { robot: 1, goal: Some(8) }];
+    let turns = [
+        Turn {
+            robot: 0,
+            goal: Some(1),
+        },
+        Turn {
+            robot: 1,
+            goal: Some(8),
+        },
+    ];
     assert!(rt; are_allowed(&grid, 2, &turns));
     aims.turn(&mut shelf, &grid, &turns)?;
     assert_eq!(rt; (aims.goal(0), aims.goal(1)), (Some(1), Some(8)));
@@ -63,7 +72,16 @@ fn is_refused(
     let first = aims.aim(&mut shelf, grid, 0, 8).is_err();
     assert!(rt; aims.goal(0).is_none() == first);
     aims.aim(&mut shelf, grid, 0, 8)?;
-    let turns = [Turn { robot: 0, goal: Some(1) }, Turn { robot: 1, goal: Some(5) }];
+    let turns = [
+        Turn {
+            robot: 0,
+            goal: Some(1),
+        },
+        Turn {
+            robot: 1,
+            goal: Some(5),
+        },
+    ];
     assert!(rt; are_allowed(grid, 2, &turns));
     let second = aims.turn(&mut shelf, grid, &turns).is_err();
     assert!(rt; aims.goal(0) == Some(if second { 8 } else { 1 }));
@@ -102,8 +120,26 @@ fn turned_without_memory(rt: HostRuntime) -> Result<(), Fail> {
             continue;
         }
         // Where no growth was left behind the goal's own, one here would be refused.
-        let same = [Turn { robot: 0, goal: Some(8) }, Turn { robot: 1, goal: None }];
-        let none = [Turn { robot: 0, goal: None }, Turn { robot: 1, goal: None }];
+        let same = [
+            Turn {
+                robot: 0,
+                goal: Some(8),
+            },
+            Turn {
+                robot: 1,
+                goal: None,
+            },
+        ];
+        let none = [
+            Turn {
+                robot: 0,
+                goal: None,
+            },
+            Turn {
+                robot: 1,
+                goal: None,
+            },
+        ];
         assert!(rt; are_allowed(&grid, 2, &same) && are_allowed(&grid, 2, &none));
         assert!(rt; aims.turn(&mut shelf, &grid, &same).is_ok());
         assert!(rt; aims.turn(&mut shelf, &grid, &none).is_ok());

@@ -1,6 +1,6 @@
 use Rattle.std.proofs.Common.{get_or, None}
 use Rattle.std.proofs.lemmas.Option.{slice_get-get_or}
-use Rattle.fleet_goals.proofs.Turned.{dealing_none, dealing_more, dealing_all}
+use Rattle.fleet_goals.proofs.Turned.{dealing_more, dealing_all}
 use Rattle.fleet_goals.proofs.turns.deal.Goals as goal
 
 pub loop-at-preserved : goal.loop-at-preserved

@@ -1,4 +1,4 @@
-use Rattle.std.proofs.Common.{◌≡◌, ℕ, ◌+◌, ◌<◌, ◌∙◌, List, [], ◌∷◌, Option, Some, None, length, drop, refl, sym, ap, subst, arith}
+use Rattle.std.proofs.Common.{◌≡◌, ℕ, ◌+◌, ◌<◌, ◌∙◌, List, ◌∷◌, Option, Some, None, length, drop, sym, subst, arith}
 use Rattle.std.proofs.lemmas.List.{drop_all, get_or_read}
 use Rattle.fleet_field.specs.Field.{Aim}
 use Rattle.fleet_field.specs.Store.{Keeps}
@@ -39,10 +39,10 @@ loop-at-preserved g c =
             keeps = λ m serves keeps. subst (Keeps m) (sym w.shelf-is) (w.release_to.ensures.keeps m (serves_kept m c.args.store.now c.loop-at.store i.kept serves) (i.keeps m serves keeps));
           })
       | in_default w ↦ record {
-          counted = λ keys counted. subst (λ (s : List (Option (Held Aim))). AreCounted s keys (drop (n + 1) fresh)) (sym w.store-is) (passed c.loop-at.store keys (drop (n + 1) fresh) (spare None w.in_default.is keys counted));
-          kept = subst (AreKept c.args.store.now) (sym w.store-is) i.kept;
-          keeps = λ m serves keeps. subst (Keeps m) (sym w.shelf-is) (i.keeps m serves keeps);
-        }
+        counted = λ keys counted. subst (λ (s : List (Option (Held Aim))). AreCounted s keys (drop (n + 1) fresh)) (sym w.store-is) (passed c.loop-at.store keys (drop (n + 1) fresh) (spare None w.in_default.is keys counted));
+        kept = subst (AreKept c.args.store.now) (sym w.store-is) i.kept;
+        keeps = λ m serves keeps. subst (Keeps m) (sym w.shelf-is) (i.keeps m serves keeps);
+      }
     ]
 
 pub returns-clause-counted : goal.returns-clause-counted

@@ -36,10 +36,10 @@ loop-turn-preserved g c =
             room = room;
           })
       | in-None w ↦ record {
-          holding = holding_is turns old (n + 1) before c.match-turn.store fresh c.push_reserved.new.self.items None c.match-turn.key w.store-is c.push_reserved.ensures.items w.key-is
-              (holding_idle turns old n d before fresh less w.in-None.is i.holding);
-          serves = subst (Serves c.args.grid.now) (sym w.store-is) i.serves;
-          keeps = subst (Keeps c.args.grid.now) (sym w.shelf-is) i.keeps;
-          room = room;
-        }
+        holding = holding_is turns old (n + 1) before c.match-turn.store fresh c.push_reserved.new.self.items None c.match-turn.key w.store-is c.push_reserved.ensures.items w.key-is
+            (holding_idle turns old n d before fresh less w.in-None.is i.holding);
+        serves = subst (Serves c.args.grid.now) (sym w.store-is) i.serves;
+        keeps = subst (Keeps c.args.grid.now) (sym w.shelf-is) i.keeps;
+        room = room;
+      }
     ]

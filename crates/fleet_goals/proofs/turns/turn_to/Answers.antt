@@ -33,8 +33,11 @@ returns-in-Err-clause-on g c =
 
 pub give_back-requires-2 : goal.give_back-requires-2
 give_back-requires-2 g c = record {
-  counted = (c.deal.new.keys, counted_dealt c.hold_goals.new.store c.args.keys.now c.hold_goals.new.fresh.items c.as_mut_slice.result.now c.deal.new.keys c.deal.new.fresh c.hold_goals.new.fresh.len c.as_mut_slice.ensures.value c.as_mut_slice.ensures.len c.deal.ensures.count c.deal.ensures.swapped
-    (c.hold_goals.ensures.counted c.args.keys.now c.requires.own.counted));
+  counted = (
+    c.deal.new.keys,
+    counted_dealt c.hold_goals.new.store c.args.keys.now c.hold_goals.new.fresh.items c.as_mut_slice.result.now c.deal.new.keys c.deal.new.fresh c.hold_goals.new.fresh.len c.as_mut_slice.ensures.value c.as_mut_slice.ensures.len c.deal.ensures.count c.deal.ensures.swapped
+        (c.hold_goals.ensures.counted c.args.keys.now c.requires.own.counted),
+  );
 }
 
 pub returns-clause-own : goal.returns-clause-own
