@@ -3,11 +3,10 @@ use Rattle.std.proofs.Common.{◌≡◌, ◌≢◌, ℕ, suc, ◌+◌, ◌-◌, 
 use Rattle.std.proofs.lemmas.Bool.{cases_eq, cases_Bool, eq-eqb, ne_eqb, eqb-true, leb-true, leb-false, false≢true}
 use Rattle.std.proofs.lemmas.List.{get_or_past}
 use Rattle.std.proofs.lemmas.List.Sums.{sum_by-set, sum_by-cons, count_by-le-length, get_or-le-sum_by}
-use Rattle.std.specs.Option.{is_some}
 use Rattle.fleet_grid.specs.Floor.{Floor}
 use Rattle.fleet_field.specs.Field.{Aim}
 use Rattle.fleet_field.specs.declared.store.Held.{Held}
-use Rattle.fleet_field.specs.Store.{shown, IsOnce, IsHold, IsHeldMore, IsRelease, HasUsesLeft, after_release}
+use Rattle.fleet_field.specs.Store.{shown, IsOnce, IsHold, IsHeldMore, IsRelease, after_release}
 use Rattle.fleet_field.proofs.Shares.{some_once, none_some, once_by}
 use Rattle.fleet_goals.specs.Keys.{key_at, is_key, one_at, holders, uses_in, AreCounted, AreOwn, AreShowing, AreKept}
 
@@ -48,18 +47,6 @@ holders_push (x ∷ keys) key k =
 
 pub holders_few : (keys : List (Option ℕ)) (k : ℕ) → holders keys k ≤ length keys
 holders_few keys k = count_by-le-length (is_key k) keys
-
--- an option that a test has told
-pub none_told : (o : Option ℕ) → is_some o ≡ false → o ≡ None
-none_told None e = refl
-none_told (Some a) e = absurd (false≢true (sym e))
-
-pub some_told : (o : Option ℕ) → is_some o ≡ true → (a : ℕ) × (o ≡ Some a)
-some_told None e = absurd (false≢true e)
-some_told (Some a) e = (a, refl)
-
-some_number : (a b : ℕ) → Some a ≡ Some b → a ≡ b
-some_number a b e = search (rules, e)
 
 pub none_number : (o : Option ℕ) (a : ℕ) → o ≡ None → o ≡ Some a → ⊥
 none_number None a e f = search (rules, f)
@@ -130,11 +117,6 @@ uses_own store keys own key held e =
     let all = own.few in
     omega (arith, count, uses, few, all)
 
-pub left_own : (store : List (Option (Held Aim))) (keys : List (Option ℕ)) (aimed : ℕ) → AreOwn store keys → HasUsesLeft store aimed 1
-left_own store keys aimed own key held e same =
-    let few = uses_own store keys own key held e in
-    omega (arith, few)
-
 pub none_own : (keys : List (Option ℕ)) → length keys ≤ 512 → ((k : ℕ) → holders keys k ≡ 0) → AreOwn [] keys
 none_own keys few none = record {
   few = few;
@@ -189,9 +171,6 @@ module _ (old new : List (Option (Held Aim))) (key : ℕ) (r : IsRelease old new
       let p = from_before j a ea in
       let q = from_before k b eb in
       once j k p.0 q.0 p.1 q.1 (ap (λ (x : Aim). x.goal) p.2 ∙ (e ∙ sym (ap (λ (x : Aim). x.goal) q.2)))
-
-pub kept_same : (store : List (Option (Held Aim))) → AreKept store store
-kept_same store key held e = (held, e, refl)
 
 pub kept_on : (a b c : List (Option (Held Aim))) → AreKept a b → AreKept b c → AreKept a c
 kept_on a b c p q key held e =

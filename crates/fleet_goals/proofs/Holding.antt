@@ -5,7 +5,7 @@ use Rattle.std.proofs.lemmas.List.{take_more, map-append, length-map, length-app
 use Rattle.fleet_grid.specs.Floor.{Floor}
 use Rattle.fleet_field.specs.Field.{Aim}
 use Rattle.fleet_field.specs.declared.store.Held.{Held}
-use Rattle.fleet_field.specs.Store.{shown, IsHold, HasUsesLeft}
+use Rattle.fleet_field.specs.Store.{shown, IsHold}
 use Rattle.fleet_field.proofs.Shares.{some_once}
 use Rattle.fleet_goals.specs.declared.turns.Turn.{Turn}
 use Rattle.fleet_goals.specs.Aims.{goal_in, goals_of}
@@ -26,16 +26,6 @@ pub record AreHolding (turns : List Turn) (old : List (Option (Held Aim))) (n : 
   pub showing : IsHolding store fresh
   pub count : length fresh ≡ n
   pub goals : goals_of (fields_of store fresh) ≡ map (λ t. t.goal) (take n turns)
-
-pub holding_none : (turns : List Turn) (old : List (Option (Held Aim))) (fresh : List (Option ℕ)) → fresh ≡ [] → AreFewUses old 512 → AreHolding turns old 0 old fresh
-holding_none turns old fresh e few = subst (AreHolding turns old 0 old) (sym e) (record {
-  counted = λ keys c. c;
-  shown_on = λ key some. refl;
-  uses = few;
-  showing = λ key some. absurd (let none : holders [] key ≡ 0 = refl in omega (arith, some, none));
-  count = refl;
-  goals = refl;
-})
 
 -- fields that are shown still are the keys' fields
 pub fields_shown : (old new : List (Option (Held Aim))) (keys : List (Option ℕ)) → AreShowing old keys → AreShownOn old new → fields_of new keys ≡ fields_of old keys
@@ -131,10 +121,6 @@ module _ (m : Floor) (aimed : ℕ) (turns : List Turn) (old : List (Option (Held
     where
       longer : (keys : List (Option ℕ)) (key : Option ℕ) → length (keys ++ key ∷ []) ≡ length keys + 1
       longer keys key = length-append keys (key ∷ [])
-
--- there is room for one hold more
-pub holding_left : (turns : List Turn) (old : List (Option (Held Aim))) (n aimed : ℕ) (store : List (Option (Held Aim))) (fresh : List (Option ℕ)) → n < 513 → AreHolding turns old n store fresh → HasUsesLeft store aimed 1
-holding_left turns old n aimed store fresh few s key held e same = (let uses = s.uses key held e in omega (arith, uses, few))
 
 -- the same, under other names
 pub holding_is : (turns : List Turn) (old : List (Option (Held Aim))) (n : ℕ) (store store_now : List (Option (Held Aim))) (fresh fresh_now : List (Option ℕ)) (key key_now : Option ℕ) → store_now ≡ store → fresh_now ≡ fresh ++ key_now ∷ [] → key_now ≡ key

@@ -2,7 +2,7 @@
 use Rattle.std.proofs.Common.{◌≡◌, ℕ, suc, ◌+◌, ◌<◌, inl, inr, List, [], ◌∷◌, ◌++◌, length, map, take, drop, set, get_or, Option, Some, None, refl, sym, ap, subst, ◌∙◌, arith}
 use Rattle.std.proofs.Math.Seq.{take-append_seam}
 use Rattle.std.proofs.lemmas.Bool.{cases_eq}
-use Rattle.std.proofs.lemmas.List.{length-map, length-set, get_or-set_same, get_or-set_other}
+use Rattle.std.proofs.lemmas.List.{length-set, get_or-set_same, get_or-set_other}
 use Rattle.fleet_grid.specs.Floor.{Floor, IsFloor}
 use Rattle.fleet_field.specs.Field.{Aim}
 use Rattle.fleet_field.specs.declared.store.Held.{Held}
@@ -16,11 +16,6 @@ use Rattle.fleet_goals.proofs.Counts.{showing, swapped}
 use Rattle.fleet_goals.proofs.Fields.{length-goals, floor_on, on_serves, serves_kept}
 use Rattle.fleet_goals.proofs.Holding.{fields_shown}
 use Rattle.fleet_goals.proofs.Turned.{goals_dealt, fields_kept}
-
--- as many keys were held as there are turns
-pub count_held : (store : List (Option (Held Aim))) (fresh : List (Option ℕ)) (turns : List Turn) → goals_of (fields_of store fresh) ≡ map (λ t. t.goal) turns → length fresh ≡ length turns
-count_held store fresh turns e =
-    sym (length-goals store fresh) ∙ (ap (λ (gs : List (Option ℕ)). length gs) e ∙ length-map turns (λ (t : Turn). t.goal))
 
 pub length-dealt : (turns : List Turn) (fresh keys : List (Option ℕ)) → length (dealt turns fresh keys) ≡ length keys
 unfolding dealt

@@ -34,9 +34,6 @@ pub record AreDealing (turns : List Turn) (fresh keys : List (Option ℕ)) (n : 
   pub deals : dealt (drop n turns) (drop n fresh) keys_now ≡ dealt turns fresh keys
   pub swaps : (key : ℕ) → holders keys_now key + holders fresh_now key ≡ holders keys key + holders fresh key
 
-pub dealing_none : (turns : List Turn) (fresh keys : List (Option ℕ)) → AreDealing turns fresh keys 0 fresh keys
-dealing_none turns fresh keys = record { known = refl; count = refl; left = λ i le. refl; deals = refl; swaps = λ key. refl }
-
 pub dealing_more : (turns : List Turn) (fresh keys : List (Option ℕ)) (n : ℕ) (fresh_now keys_now : List (Option ℕ)) (d : Turn) → n < length turns → length fresh ≡ length turns → (get_or turns n d).robot < length keys
     → AreDealing turns fresh keys n fresh_now keys_now → AreDealing turns fresh keys (n + 1) (set fresh_now n (key_at keys_now (get_or turns n d).robot)) (set keys_now (get_or turns n d).robot (key_at fresh_now n))
 unfolding dealt

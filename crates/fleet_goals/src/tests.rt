@@ -58,6 +58,20 @@ fn aimed_and_turned(rt: HostRuntime) -> Result<(), Fail> {
     Ok(())
 }
 
+/// A turn of each of two robots.
+fn both(first: Option<u32>, second: Option<u32>) -> [Turn; 2] {
+    [
+        Turn {
+            robot: 0,
+            goal: first,
+        },
+        Turn {
+            robot: 1,
+            goal: second,
+        },
+    ]
+}
+
 /// Whether a growth is refused while robots are given goals and turned to others. What is refused changes nothing.
 fn is_refused(
     rt: &(impl Abort + Threads + Sync),
@@ -72,16 +86,7 @@ fn is_refused(
     let first = aims.aim(&mut shelf, grid, 0, 8).is_err();
     assert!(rt; aims.goal(0).is_none() == first);
     aims.aim(&mut shelf, grid, 0, 8)?;
-    let turns = [
-        Turn {
-            robot: 0,
-            goal: Some(1),
-        },
-        Turn {
-            robot: 1,
-            goal: Some(5),
-        },
-    ];
+    let turns = both(Some(1), Some(5));
     assert!(rt; are_allowed(grid, 2, &turns));
     let second = aims.turn(&mut shelf, grid, &turns).is_err();
     assert!(rt; aims.goal(0) == Some(if second { 8 } else { 1 }));
@@ -120,28 +125,11 @@ fn turned_without_memory(rt: HostRuntime) -> Result<(), Fail> {
             continue;
         }
         // Where no growth was left behind the goal's own, one here would be refused.
-        let same = [
-            Turn {
-                robot: 0,
-                goal: Some(8),
-            },
-            Turn {
-                robot: 1,
-                goal: None,
-            },
-        ];
-        let none = [
-            Turn {
-                robot: 0,
-                goal: None,
-            },
-            Turn {
-                robot: 1,
-                goal: None,
-            },
-        ];
-        assert!(rt; are_allowed(&grid, 2, &same) && are_allowed(&grid, 2, &none));
+        let same = both(Some(8), None);
+        assert!(rt; are_allowed(&grid, 2, &same));
         assert!(rt; aims.turn(&mut shelf, &grid, &same).is_ok());
+        let none = both(None, None);
+        assert!(rt; are_allowed(&grid, 2, &none));
         assert!(rt; aims.turn(&mut shelf, &grid, &none).is_ok());
     }
     Ok(())

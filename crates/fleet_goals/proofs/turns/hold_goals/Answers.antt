@@ -22,7 +22,7 @@ loop-turn-preserved g c =
     let i = c.loop-turn.invariant in
     let d : Turn = record { robot = 0; goal = None } in
     let less : n < length turns = omega (arith, c.loop-turn-test.true) in
-    let room : vec_capacity c.push_reserved.new.self ≡ vec_capacity c.args.fresh.now = c.push_reserved.ensures.capacity ∙ i.room in
+    let room : vec_capacity c.push_reserved.new.self ≡ vec_capacity c.args.fresh.now = ◌∙◌ {a = vec_capacity c.push_reserved.new.self} c.push_reserved.ensures.capacity i.room in
     elim c.match-turn.branch [
       | in-Some+in_ok-hold_from-in-Some w ↦ (
           let key = w.in_ok-hold_from-in-Some.field-0 in
