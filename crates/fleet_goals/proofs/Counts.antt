@@ -1,16 +1,14 @@
 -- Each key is held as often as robots have it.
-use Rattle.std.proofs.Common.{◌≡◌, ◌≢◌, ℕ, suc, ◌+◌, ◌-◌, ◌<◌, ◌≤◌, ◌⊎◌, inl, inr, nat_le, Bool, true, false, cond, List, [], ◌∷◌, length, set, slice_index, Option, Some, None, IsSome, refl, sym, ap, subst, ◌∙◌, arith, rules}
+use Rattle.std.proofs.Common.{◌≡◌, ◌≢◌, ℕ, suc, ◌+◌, ◌-◌, ◌<◌, ◌≤◌, ◌⊎◌, inl, inr, nat_le, Bool, true, false, cond, List, [], ◌∷◌, ◌++◌, length, set, Option, Some, None, IsSome, refl, sym, ap, subst, ◌∙◌, arith, rules}
 use Rattle.std.proofs.lemmas.Bool.{cases_eq, cases_Bool, eq-eqb, ne_eqb, eqb-true, leb-true, leb-false, false≢true}
 use Rattle.std.proofs.lemmas.List.{get_or_past}
 use Rattle.std.proofs.lemmas.List.Sums.{sum_by-set, sum_by-cons, count_by-le-length, get_or-le-sum_by}
-use Rattle.std.specs.Option.{is_some}
 use Rattle.fleet_grid.specs.Floor.{Floor}
 use Rattle.fleet_field.specs.Field.{Aim}
 use Rattle.fleet_field.specs.declared.store.Held.{Held}
-use Rattle.fleet_field.specs.Store.{shown, IsOnce, IsHold, IsHeldMore, IsRelease, HasUsesLeft, after_release}
-use Rattle.fleet_field.specs.Several.{AreHeld, times}
+use Rattle.fleet_field.specs.Store.{shown, IsOnce, IsHold, IsHeldMore, IsRelease, after_release}
 use Rattle.fleet_field.proofs.Shares.{some_once, none_some, once_by}
-use Rattle.fleet_goals.specs.Keys.{key_at, is_key, one_at, holders, uses_in, AreCounted, AreOwn, AreShowing, IsGivenBack, AreKept}
+use Rattle.fleet_goals.specs.Keys.{key_at, is_key, one_at, holders, uses_in, AreCounted, AreOwn, AreShowing, AreKept}
 
 pub something : (o : Option (Held Aim)) → (o ≡ None) ⊎ (held : Held Aim) × (o ≡ Some held)
 something None = inl refl
@@ -36,20 +34,19 @@ one_other k own ne = ap (λ (b : Bool). cond b 1 0) (ne_eqb own k ne)
 pub holders_set : (keys : List (Option ℕ)) (robot : ℕ) (key : Option ℕ) (k : ℕ) → robot < length keys → holders (set keys robot key) k + one_at k (key_at keys robot) ≡ holders keys k + one_at k key
 holders_set keys robot key k below = sum_by-set (one_at k) keys robot key None below
 
+pub holders_push : (keys : List (Option ℕ)) (key : Option ℕ) (k : ℕ) → holders (keys ++ key ∷ []) k ≡ holders keys k + one_at k key
+holders_push [] key k =
+    let a : holders (key ∷ []) k ≡ one_at k key + holders [] k = sum_by-cons (one_at k) key [] in
+    let none : holders [] k ≡ 0 = refl in
+    omega (arith, a, none)
+holders_push (x ∷ keys) key k =
+    let a : holders (x ∷ (keys ++ key ∷ [])) k ≡ one_at k x + holders (keys ++ key ∷ []) k = sum_by-cons (one_at k) x (keys ++ key ∷ []) in
+    let b : holders (x ∷ keys) k ≡ one_at k x + holders keys k = sum_by-cons (one_at k) x keys in
+    let rest = holders_push keys key k in
+    omega (arith, a, b, rest)
+
 pub holders_few : (keys : List (Option ℕ)) (k : ℕ) → holders keys k ≤ length keys
 holders_few keys k = count_by-le-length (is_key k) keys
-
--- an option that a test has told
-pub none_told : (o : Option ℕ) → is_some o ≡ false → o ≡ None
-none_told None e = refl
-none_told (Some a) e = absurd (false≢true (sym e))
-
-pub some_told : (o : Option ℕ) → is_some o ≡ true → (a : ℕ) × (o ≡ Some a)
-some_told None e = absurd (false≢true e)
-some_told (Some a) e = (a, refl)
-
-some_number : (a b : ℕ) → Some a ≡ Some b → a ≡ b
-some_number a b e = search (rules, e)
 
 pub none_number : (o : Option ℕ) (a : ℕ) → o ≡ None → o ≡ Some a → ⊥
 none_number None a e f = search (rules, f)
@@ -89,7 +86,7 @@ holder_of (Some own ∷ keys) k some = elim (cases_eq own k) [
 
 -- what the counts say
 
-pub showing : (store : List (Option (Held Aim))) (keys : List (Option ℕ)) (spare : List ℕ) → AreCounted store keys spare → AreShowing store keys
+pub showing : (store : List (Option (Held Aim))) (keys : List (Option ℕ)) (spare : List (Option ℕ)) → AreCounted store keys spare → AreShowing store keys
 showing store keys spare c robot key e = elim (something (shown store key)) [
   | inl none ↦ (
       let zero : uses_in (shown store key) ≡ 0 = ap uses_in none in
@@ -99,7 +96,7 @@ showing store keys spare c robot key e = elim (something (shown store key)) [
   | inr some ↦ some_is (shown store key) some.0 some.1
 ]
 
-pub showing_spare : (store : List (Option (Held Aim))) (keys : List (Option ℕ)) (spare : List ℕ) (key : ℕ) → AreCounted store keys spare → 0 < times spare key → IsSome (shown store key)
+pub showing_spare : (store : List (Option (Held Aim))) (keys : List (Option ℕ)) (spare : List (Option ℕ)) (key : ℕ) → AreCounted store keys spare → 0 < holders spare key → IsSome (shown store key)
 showing_spare store keys spare key c more = elim (something (shown store key)) [
   | inl none ↦ (
       let zero : uses_in (shown store key) ≡ 0 = ap uses_in none in
@@ -114,16 +111,11 @@ uses_some store key held e = ap uses_in e
 -- an own key is held 512 times at most
 pub uses_own : (store : List (Option (Held Aim))) (keys : List (Option ℕ)) → AreOwn store keys → (key : ℕ) (held : Held Aim) → shown store key ≡ Some held → held.uses ≤ 512
 uses_own store keys own key held e =
-    let count : uses_in (shown store key) ≡ holders keys key + times [] key = own.counted.counted key in
+    let count : uses_in (shown store key) ≡ holders keys key + holders [] key = own.counted.counted key in
     let uses = uses_some store key held e in
     let few = holders_few keys key in
     let all = own.few in
     omega (arith, count, uses, few, all)
-
-pub left_own : (store : List (Option (Held Aim))) (keys : List (Option ℕ)) (aimed : ℕ) → AreOwn store keys → HasUsesLeft store aimed 1
-left_own store keys aimed own key held e same =
-    let few = uses_own store keys own key held e in
-    omega (arith, few)
 
 pub none_own : (keys : List (Option ℕ)) → length keys ≤ 512 → ((k : ℕ) → holders keys k ≡ 0) → AreOwn [] keys
 none_own keys few none = record {
@@ -180,42 +172,61 @@ module _ (old new : List (Option (Held Aim))) (key : ℕ) (r : IsRelease old new
       let q = from_before k b eb in
       once j k p.0 q.0 p.1 q.1 (ap (λ (x : Aim). x.goal) p.2 ∙ (e ∙ sym (ap (λ (x : Aim). x.goal) q.2)))
 
-pub kept_same : (store : List (Option (Held Aim))) → AreKept store store
-kept_same store key held e = (held, e, refl)
-
 pub kept_on : (a b c : List (Option (Held Aim))) → AreKept a b → AreKept b c → AreKept a c
 kept_on a b c p q key held e =
     let m = q key held e in
     let f = p key m.0 m.1 in
     (f.0, f.1, f.2 ∙ m.2)
 
--- a robot gets another key, and its old one goes back
+-- a spare key is given back
 
-pub given : (old new : List (Option (Held Aim))) (keys : List (Option ℕ)) (robot : ℕ) (key : Option ℕ) (spare rest : List ℕ) → robot < length keys
-    → ((k : ℕ) → times spare k ≡ one_at k key + times rest k) → AreCounted old keys spare → (own : Option ℕ) → key_at keys robot ≡ own → IsGivenBack old new own → AreCounted new (set keys robot key) rest × AreKept old new
-given old new keys robot key spare rest below more c None e back =
-    let same : (k : ℕ) → uses_in (shown old k) ≡ holders (set keys robot key) k + times rest k = (λ k.
-    let s = holders_set keys robot key k below in
-    let none : one_at k (key_at keys robot) ≡ 0 = ap (one_at k) e in
-    let m = more k in
-    let count = c.counted k in
-    omega (arith, s, none, m, count)) in
-    subst (λ (x : List (Option (Held Aim))). AreCounted x (set keys robot key) rest × AreKept old x) (sym back) (record { once = c.once; used = c.used; counted = same }, kept_same old)
-given old new keys robot key spare rest below more c (Some own) e back =
-    let there : IsSome (shown old own) = showing old keys spare c robot own e in (
+pub spare_shown : (store : List (Option (Held Aim))) (keys rest : List (Option ℕ)) (own : ℕ) → AreCounted store keys (Some own ∷ rest) → IsSome (shown store own)
+spare_shown store keys rest own c =
+    let m : holders (Some own ∷ rest) own ≡ one_at own (Some own) + holders rest own = sum_by-cons (one_at own) (Some own) rest in
+    let one = one_same own own refl in
+    showing_spare store keys (Some own ∷ rest) own c (omega (arith, m, one))
+
+pub released : (old new : List (Option (Held Aim))) (keys rest : List (Option ℕ)) (own : ℕ) → AreCounted old keys (Some own ∷ rest) → IsRelease old new own → AreCounted new keys rest × AreKept old new
+released old new keys rest own c back =
+    let more : (k : ℕ) → holders (Some own ∷ rest) k ≡ one_at k (Some own) + holders rest k = λ k. sum_by-cons (one_at k) (Some own) rest in
+    let there : IsSome (shown old own) = spare_shown old keys rest own c in (
       record {
         once = once_released old new own back c.used there c.once;
         used = λ k held eh. (from_before old new own back c.used there k held eh).3;
         counted = λ k. (
-            let s = holders_set keys robot key k below in
-            let own_one : one_at k (key_at keys robot) ≡ one_at k (Some own) = ap (one_at k) e in
             let m = more k in
             let count = c.counted k in
             let less = uses_released old new own back c.used there k in
-            omega (arith, s, own_one, m, count, less));
+            omega (arith, m, count, less));
       },
       λ k held eh. (let b = from_before old new own back c.used there k held eh in (b.0, b.1, b.2)),
     )
+
+pub passed : (store : List (Option (Held Aim))) (keys rest : List (Option ℕ)) → AreCounted store keys (None ∷ rest) → AreCounted store keys rest
+passed store keys rest c = record {
+  once = c.once;
+  used = c.used;
+  counted = λ k. (
+      let more : holders (None ∷ rest) k ≡ 0 + holders rest k = sum_by-cons (one_at k) None rest in
+      let count = c.counted k in
+      omega (arith, more, count));
+}
+
+-- keys change hands
+
+pub swapped : (store : List (Option (Held Aim))) (keys spare keys_now spare_now : List (Option ℕ)) → ((k : ℕ) → holders keys_now k + holders spare_now k ≡ holders keys k + holders spare k) → AreCounted store keys spare → AreCounted store keys_now spare_now
+swapped store keys spare keys_now spare_now same c = record {
+  once = c.once;
+  used = c.used;
+  counted = λ k. (let s = same k in let count = c.counted k in omega (arith, s, count));
+}
+
+pub swap_counts : (keys fresh : List (Option ℕ)) (robot at k : ℕ) → robot < length keys → at < length fresh
+    → holders (set keys robot (key_at fresh at)) k + holders (set fresh at (key_at keys robot)) k ≡ holders keys k + holders fresh k
+swap_counts keys fresh robot at k known there =
+    let a = holders_set keys robot (key_at fresh at) k known in
+    let b = holders_set fresh at (key_at keys robot) k there in
+    omega (arith, a, b)
 
 -- a hold
 
@@ -236,8 +247,8 @@ module _ (m : Floor) (aimed : ℕ) (old new : List (Option (Held Aim))) (key : �
       let goal : at.field.goal ≡ aimed = eg ∙ (sym (ap (λ (x : Held Aim). x.field.goal) one) ∙ now.2) in
       ne (hold.shared k at ek goal)))
 
-  pub counted_held : (keys : List (Option ℕ)) → AreCounted old keys [] → AreCounted new keys (key ∷ [])
-  counted_held keys c = record {
+  pub counted_held : (keys spare : List (Option ℕ)) → AreCounted old keys spare → AreCounted new keys (spare ++ Some key ∷ [])
+  counted_held keys spare c = record {
     once = once_held c.once;
     used = λ k held e. elim (cases_eq k key) [
       | inl same ↦ (
@@ -249,103 +260,29 @@ module _ (m : Floor) (aimed : ℕ) (old new : List (Option (Held Aim))) (key : �
       | inr ne ↦ c.used k held (sym (hold.others k ne) ∙ e)
     ];
     counted = λ k. (
-        let cons : times (key ∷ []) k ≡ one_at k (Some key) + times [] k = sum_by-cons (λ (x : ℕ). one_at k (Some x)) key [] in
+        let more : holders (spare ++ Some key ∷ []) k ≡ holders spare k + one_at k (Some key) = holders_push spare (Some key) k in
         let count = c.counted k in
         elim (cases_eq k key) [
           | inl same ↦ (
               let now = held_now in
               let is : uses_in (shown new k) ≡ now.0.uses = ap (λ (x : ℕ). uses_in (shown new x)) same ∙ ap uses_in now.1 in
               let was : uses_in (shown old k) ≡ uses_in (shown old key) = ap (λ (x : ℕ). uses_in (shown old x)) same in
-              let more = now.3 in
+              let uses = now.3 in
               let one = one_same k key (sym same) in
-              omega (arith, cons, count, is, was, more, one))
+              omega (arith, more, count, is, was, uses, one))
           | inr ne ↦ (
               let kept : uses_in (shown new k) ≡ uses_in (shown old k) = ap uses_in (hold.others k ne) in
               let none = one_other k key (λ e. ne (sym e)) in
-              omega (arith, cons, count, kept, none))
+              omega (arith, more, count, kept, none))
         ]);
   }
 
--- several holds
-
-times_of : (xs : List ℕ) (k : ℕ) → 0 < times xs k → (i : ℕ) × (i < length xs) × (slice_index xs i ≡ k)
-times_of [] k some = absurd (omega (arith, some))
-times_of (x ∷ xs) k some = elim (cases_eq x k) [
-  | inl same ↦ (0, omega arith, same)
-  | inr ne ↦ (
-      let cons : times (x ∷ xs) k ≡ one_at k (Some x) + times xs k = sum_by-cons (λ (y : ℕ). one_at k (Some y)) x xs in
-      let none = one_other k x ne in
-      let r = times_of xs k (omega (arith, some, cons, none)) in
-      (suc r.0, omega (arith, r.1), r.2))
-]
-
--- keys and their goals are the same ones
-same_times : (new : List (Option (Held Aim))) (k : ℕ) (held : Held Aim) → IsOnce new → shown new k ≡ Some held → (xs gs : List ℕ) → length xs ≡ length gs
-    → ((i : ℕ) → i < length gs → (h : Held Aim) × (shown new (slice_index xs i) ≡ Some h) × (h.field.goal ≡ slice_index gs i)) → times xs k ≡ times gs held.field.goal
-same_times new k held once e [] [] count each = refl
-same_times new k held once e [] (g ∷ gs) count each = absurd (omega (arith, count))
-same_times new k held once e (x ∷ xs) [] count each = absurd (omega (arith, count))
-same_times new k held once e (x ∷ xs) (g ∷ gs) count each =
-    let left : times (x ∷ xs) k ≡ one_at k (Some x) + times xs k = sum_by-cons (λ (y : ℕ). one_at k (Some y)) x xs in
-    let right : times (g ∷ gs) held.field.goal ≡ one_at held.field.goal (Some g) + times gs held.field.goal = sum_by-cons (λ (y : ℕ). one_at held.field.goal (Some y)) g gs in
-    let rest = same_times new k held once e xs gs (omega (arith, count)) (λ i less. each (suc i) (omega (arith, less))) in
-    let h = each 0 (omega arith) in
-    elim (cases_eq x k) [
-      | inl same ↦ (
-          let one : h.0 ≡ held = some_once h.0 held (sym h.1 ∙ (ap (shown new) same ∙ e)) in
-          let goal : g ≡ held.field.goal = sym h.2 ∙ ap (λ (y : Held Aim). y.field.goal) one in
-          let a = one_same k x same in
-          let b = one_same held.field.goal g goal in
-          omega (arith, left, right, rest, a, b))
-      | inr ne ↦ (
-          let a = one_other k x ne in
-          let b = one_other held.field.goal g (λ (eg : g ≡ held.field.goal). ne (once x k h.0 held h.1 e (h.2 ∙ eg))) in
-          omega (arith, left, right, rest, a, b))
-    ]
-
-module _ (goals : List ℕ) (old : List (Option (Held Aim))) (fresh : List ℕ) (new : List (Option (Held Aim))) (all : AreHeld goals old fresh new) (once : IsOnce new) where
-  pub counted_all : (keys : List (Option ℕ)) → AreCounted old keys [] → AreCounted new keys fresh
-  counted_all keys c = record {
-    once = once;
-    used = λ k held e. elim (something (shown old k)) [
-      | inl none ↦ (all.fresh k held none e).0
-      | inr was ↦ (
-          let one : record was.0 { uses = was.0.uses + times goals was.0.field.goal } ≡ held = some_once (record was.0 { uses = was.0.uses + times goals was.0.field.goal }) held (sym (all.kept k was.0 was.1) ∙ e) in
-          let uses : was.0.uses + times goals was.0.field.goal ≡ held.uses = ap (λ (x : Held Aim). x.uses) one in
-          let some = c.used k was.0 was.1 in
-          omega (arith, uses, some))
-    ];
-    counted = λ k. (
-        let count = c.counted k in
-        elim (something (shown new k)) [
-          | inl none ↦ elim (something (shown old k)) [
-            | inl none_old ↦ (
-                let zero : uses_in (shown new k) ≡ 0 = ap uses_in none in
-                let zero_old : uses_in (shown old k) ≡ 0 = ap uses_in none_old in
-                elim (cases_eq (times fresh k) 0) [
-                  | inl never ↦ omega (arith, zero, zero_old, never, count)
-                  | inr some ↦ (
-                      let i = times_of fresh k (omega (arith, some)) in
-                      let number = all.count in
-                      let s = all.shows i.0 (omega (arith, i.1, number)) in
-                      absurd (none_some s.0 (shown new k) none (ap (shown new) (sym i.2) ∙ s.1)))
-                ])
-            | inr was ↦ absurd (none_some (record was.0 { uses = was.0.uses + times goals was.0.field.goal }) (shown new k) none (all.kept k was.0 was.1))
-          ]
-          | inr now ↦ (
-              let t = same_times new k now.0 once now.1 fresh goals all.count all.shows in
-              let is : uses_in (shown new k) ≡ now.0.uses = ap uses_in now.1 in
-              elim (something (shown old k)) [
-                | inl none_old ↦ (
-                    let zero_old : uses_in (shown old k) ≡ 0 = ap uses_in none_old in
-                    let f = (all.fresh k now.0 none_old now.1).1 in
-                    omega (arith, t, is, zero_old, f, count))
-                | inr was ↦ (
-                    let one : record was.0 { uses = was.0.uses + times goals was.0.field.goal } ≡ now.0 = some_once (record was.0 { uses = was.0.uses + times goals was.0.field.goal }) now.0 (sym (all.kept k was.0 was.1) ∙ now.1) in
-                    let uses : was.0.uses + times goals was.0.field.goal ≡ now.0.uses = ap (λ (x : Held Aim). x.uses) one in
-                    let goal : times goals was.0.field.goal ≡ times goals now.0.field.goal = ap (λ (x : Held Aim). times goals x.field.goal) one in
-                    let was_uses : uses_in (shown old k) ≡ was.0.uses = ap uses_in was.1 in
-                    omega (arith, t, is, uses, goal, was_uses, count))
-              ])
-        ]);
-  }
+pub counted_none : (store : List (Option (Held Aim))) (keys spare : List (Option ℕ)) → AreCounted store keys spare → AreCounted store keys (spare ++ None ∷ [])
+counted_none store keys spare c = record {
+  once = c.once;
+  used = c.used;
+  counted = λ k. (
+      let more : holders (spare ++ None ∷ []) k ≡ holders spare k + 0 = holders_push spare None k in
+      let count = c.counted k in
+      omega (arith, more, count));
+}

@@ -1,7 +1,7 @@
 -- What the robots aim at, by their keys.
-use Rattle.std.proofs.Common.{◌≡◌, ℕ, ◌+◌, ◌<◌, inl, inr, List, length, set, get_or, Option, Some, None, IsSome, MatchOption, ◌↔◌, refl, sym, ap, subst, ◌∙◌, arith, rules, slice_index_or}
+use Rattle.std.proofs.Common.{◌≡◌, ℕ, ◌+◌, inl, inr, List, length, Option, Some, None, IsSome, MatchOption, ◌↔◌, refl, sym, ap, subst, ◌∙◌, arith, rules, slice_index_or}
 use Rattle.std.proofs.lemmas.Bool.{cases_eq, cases_lt}
-use Rattle.std.proofs.lemmas.List.{get_or-map, get_or_past, length-map, get_or-set_same, get_or-set_other}
+use Rattle.std.proofs.lemmas.List.{get_or-map, get_or_past, length-map}
 use Rattle.fleet_grid.specs.Floor.{Floor, IsFloor, IsNeighbour}
 use Rattle.std.proofs.lemmas.Nat.Bits.{bit_at-zero}
 use Rattle.fleet_grid.specs.Direction.{dir_number}
@@ -10,7 +10,6 @@ use Rattle.fleet_grid.specs.Walk.{IsDistance, AreApart}
 use Rattle.fleet_field.specs.Field.{Aim, IsField}
 use Rattle.fleet_field.specs.declared.store.Held.{Held}
 use Rattle.fleet_field.specs.Store.{shown, Serves, IsHold, IsHeldMore}
-use Rattle.fleet_field.specs.Several.{AreHeld}
 use Rattle.fleet_field.proofs.Shares.{none_some}
 use Rattle.fleet_goals.specs.Aims.{goal_in, distance_in, goals_of, aim_at, goal, distance, AreOn, AreFloor}
 use Rattle.fleet_goals.specs.Keys.{field_in, field_at, fields_of, key_at, holders, uses_in, AreOwn, AreKept}
@@ -33,9 +32,6 @@ goals_of-at aims robot = elim (cases_lt robot (length aims)) [
       let long : length (goals_of aims) ≡ length aims = length-map aims goal_in in
       get_or_past (goals_of aims) robot None (omega (arith, long, past)) ∙ sym (ap goal_in (get_or_past aims robot None past)))
 ]
-
-pub goals-fields : (store : List (Option (Held Aim))) (keys : List (Option ℕ)) (robot : ℕ) → slice_index_or (goals_of (fields_of store keys)) robot None ≡ goal_in (field_at store (key_at keys robot))
-goals-fields store keys robot = goals_of-at (fields_of store keys) robot ∙ ap goal_in (aim_at-fields store keys robot)
 
 pub length-goals : (store : List (Option (Held Aim))) (keys : List (Option ℕ)) → length (goals_of (fields_of store keys)) ≡ length keys
 length-goals store keys = length-map (fields_of store keys) goal_in ∙ length-map keys (field_at store)
@@ -78,14 +74,6 @@ floor_on m aims on robot cell e =
     let a = goal_of_field (aim_at aims robot) cell (sym (goals_of-at aims robot) ∙ e) in
     subst (IsFloor m) a.2 (on robot a.0 a.1).floor
 
-pub floor_set : (m : Floor) (goals : List (Option ℕ)) (robot aimed : ℕ) → robot < length goals → AreFloor m goals → IsFloor m aimed → AreFloor m (set goals robot (Some aimed))
-floor_set m goals robot aimed below floor here r cell e = elim (cases_eq r robot) [
-  | inl same ↦ (
-      let at : Some aimed ≡ Some cell = sym (get_or-set_same goals robot (Some aimed) None below) ∙ (ap (λ (x : ℕ). get_or (set goals robot (Some aimed)) x None) (sym same) ∙ e) in
-      subst (IsFloor m) (search (rules, at)) here)
-  | inr ne ↦ floor r cell (sym (get_or-set_other goals robot r (Some aimed) None ne) ∙ e)
-]
-
 pub serves_kept : (m : Floor) (old new : List (Option (Held Aim))) → AreKept old new → Serves m old → Serves m new
 serves_kept m old new kept serves key held e =
     let was = kept key held e in
@@ -107,11 +95,6 @@ field_held m aimed old new key hold k some = elim (cases_eq k key) [
     at : (o : Option (Held Aim)) → shown old key ≡ o → IsSome (shown old key) → IsHeldMore m aimed o (shown new key) → field_in (shown new key) ≡ field_in (shown old key)
     at None e s p = (let h = some_of (shown old key) s in absurd (none_some h.0 (shown old key) e h.1))
     at (Some was) e s p = ap field_in p.1 ∙ sym (ap field_in e)
-
-pub field_all : (goals : List ℕ) (old : List (Option (Held Aim))) (fresh : List ℕ) (new : List (Option (Held Aim))) → AreHeld goals old fresh new → (k : ℕ) → IsSome (shown old k) → field_in (shown new k) ≡ field_in (shown old k)
-field_all goals old fresh new all k some =
-    let h = some_of (shown old k) some in
-    ap field_in (all.kept k h.0 h.1) ∙ sym (ap field_in h.1)
 
 -- for the step: the distances are those on the map
 pub measured_on : (m : Floor) (aims : List (Option Aim)) → AreOn m aims → (robot aimed cell : ℕ) → goal aims robot ≡ Some aimed → MatchOption (distance aims robot cell) (AreApart (IsNeighbour m) cell aimed) (IsDistance (IsNeighbour m) cell aimed)

@@ -1,8 +1,7 @@
 -- How the robots' keys lie in the store of fields.
 use Rattle.std.specs.Prelude.{◌≡◌, ℕ, ◌+◌, ◌<◌, ◌≤◌, ◌==◌, Bool, false, cond, List, [], Option, Some, None, length, map, count_by, slice_index_or, IsSome}
 use Rattle.fleet_field.specs.Field.{Aim}
-use Rattle.fleet_field.specs.Several.{times}
-use Rattle.fleet_field.specs.Store.{shown, IsOnce, IsRelease}
+use Rattle.fleet_field.specs.Store.{shown, IsOnce}
 use Rattle.fleet_field.specs.declared.store.Held.{Held}
 
 abbrev pub field_in : Option (Held Aim) → Option Aim
@@ -40,10 +39,10 @@ uses_in None = 0
 uses_in (Some held) = held.uses
 
 -- each key is held as often as robots have it, and it is among the spare ones
-pub record AreCounted (store : List (Option (Held Aim))) (keys : List (Option ℕ)) (spare : List ℕ) : Type 0 where
+pub record AreCounted (store : List (Option (Held Aim))) (keys : List (Option ℕ)) (spare : List (Option ℕ)) : Type 0 where
   pub once : IsOnce store
   pub used : (key : ℕ) (held : Held Aim) → shown store key ≡ Some held → 0 < held.uses
-  pub counted : (key : ℕ) → uses_in (shown store key) ≡ holders keys key + times spare key
+  pub counted : (key : ℕ) → uses_in (shown store key) ≡ holders keys key + holders spare key
 
 -- the keys of at most 512 robots, none held for anybody else
 pub record AreOwn (store : List (Option (Held Aim))) (keys : List (Option ℕ)) : Type 0 where
@@ -53,11 +52,6 @@ pub record AreOwn (store : List (Option (Held Aim))) (keys : List (Option ℕ)) 
 -- each robot's key shows a field
 abbrev pub AreShowing : List (Option (Held Aim)) → List (Option ℕ) → Type 0
 AreShowing store keys = (robot key : ℕ) → key_at keys robot ≡ Some key → IsSome (shown store key)
-
--- one hold less of the key, if there is one
-abbrev pub IsGivenBack : List (Option (Held Aim)) → List (Option (Held Aim)) → Option ℕ → Type 0
-IsGivenBack old new None = new ≡ old
-IsGivenBack old new (Some key) = IsRelease old new key
 
 -- each field that is shown was shown at that key before
 abbrev pub AreKept : List (Option (Held Aim)) → List (Option (Held Aim)) → Type 0

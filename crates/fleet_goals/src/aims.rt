@@ -3,10 +3,11 @@
 ghost use Rattle.std.specs.Prelude.{◌≡◌, ℕ, ◌<◌, ◌≤◌, Some, None, length, replicate, slice_set, IfOk, OnOk, OnErr};
 ghost use Rattle.fleet_field.specs.Store.{Keeps};
 ghost use Rattle.fleet_grid.specs.Floor.{Floor, IsFloor};
-ghost use Rattle.fleet_goals.specs.Aims.{goals_of, goal, distance, AreOn, AreFloor};
+ghost use Rattle.fleet_goals.specs.Aims.{goals_of, goal, distance, AreOn};
+ghost use Rattle.fleet_goals.specs.Turned.{turned, AreFloorTurns, AreKnownTurns};
 
-use crate::keys::{distance_of, exchange, goal_of, ways_of};
-use crate::turns::turn_to;
+use crate::keys::{distance_of, goal_of, ways_of};
+use crate::turns::{Turn, turn_to};
 use fleet_field::{FieldStore, Shelf};
 use fleet_grid::Grid;
 use fleet_pibt::Goals;
@@ -17,13 +18,14 @@ use std::marker::Model;
 /// for each robot. Robots with one goal share its distances.
 #[derive(Drop)]
 pub struct Aims<A: Allocator + Copy = Global> {
-    alloc: A,
     store: FieldStore<A>,
     keys: Vec<Option<usize>, A>,
+    // What a turn holds before it deals it, or what it gives back. Between calls it is empty, with room for all robots.
+    fresh: Vec<Option<usize>, A>,
 }
 
 impl<A: Allocator + Copy> Model for Aims<A> {
-    ghost use Rattle.std.specs.Prelude.{List, Option};
+    ghost use Rattle.std.specs.Prelude.{◌≡◌, ◌≤◌, [], List, Option, length, vec_capacity};
     ghost use Rattle.fleet_field.specs.Field.{Aim};
     ghost use Rattle.fleet_goals.specs.Keys.{fields_of, AreOwn};
 
@@ -31,7 +33,7 @@ impl<A: Allocator + Copy> Model for Aims<A> {
 
     ghost view = { λ a. fields_of a.store a.keys.items };
 
-    ghost invariant = { λ a. AreOwn a.store a.keys.items };
+    ghost invariant = { λ a. AreOwn a.store a.keys.items × (a.fresh.items ≡ []) × (length a.keys.items ≤ vec_capacity a.fresh) };
 }
 
 /// So many robots without a key.
@@ -58,7 +60,8 @@ impl<A: Allocator + Copy> Aims<A> {
     {
         let store = FieldStore::new(alloc)?;
         let keys = no_keys(alloc, robots)?;
-        Ok(Aims { alloc, store, keys })
+        let fresh = Vec::with_capacity(alloc, robots)?;
+        Ok(Aims { store, keys, fresh })
     }
 
     /// From now on the robot aims at the goal, a floor cell, in place of what it aimed at. All aims are on one map, and
@@ -80,38 +83,42 @@ impl<A: Allocator + Copy> Aims<A> {
         ensures goals { OnOk result (goals_of self.new ≡ slice_set (goals_of self.old) robot (Some goal)) }
         ensures refused { OnErr result (self.new ≡ self.old) }
     {
-        let key = self.store.hold_from(shelf, grid, goal)?;
-        exchange(shelf, &mut self.store, &mut self.keys, robot, Some(key));
-        Ok(())
+        let turn = Turn {
+            robot,
+            goal: Some(goal),
+        };
+        self.turn(shelf, grid, &[turn])
     }
 }
 
 impl<A: Allocator + Copy> Aims<A> {
-    /// From now on each robot aims at its next goal, a floor cell, or at nothing. Distances to new goals are searched
-    /// together, where they are not kept; where no robot turns to a new goal, nothing is allocated.
+    /// From now on the robots of these turns aim at their goals, floor cells, or at nothing; of two turns of one robot the
+    /// later one holds. There are at most as many turns as robots. Distances to new goals are searched one after another,
+    /// where they are not kept. No list is allocated.
     pub fn turn<B: Allocator + Copy>(
         &mut self,
         shelf: &mut Shelf<A>,
         grid: &Grid<B>,
-        next: &[Option<u32>],
+        turns: &[Turn],
     ) -> Result<(), AllocError>
-        requires same_length { length next.now ≡ length self.old }
-        requires floor { AreFloor grid.now next.now }
+        requires few { length turns.now ≤ length self.old }
+        requires known { AreKnownTurns (length self.old) turns.now }
+        requires floor { AreFloorTurns grid.now turns.now }
         requires on { AreOn grid.now self.old }
         requires keeps { Keeps grid.now shelf.old }
         ensures count { length self.new ≡ length self.old }
         ensures on { AreOn grid.now self.new }
         ensures keeps { Keeps grid.now shelf.new }
-        ensures goals { OnOk result (goals_of self.new ≡ next.now) }
+        ensures goals { OnOk result (goals_of self.new ≡ turned turns.now (goals_of self.old)) }
         ensures refused { OnErr result (self.new ≡ self.old) }
     {
         turn_to(
-            self.alloc,
             shelf,
             grid,
             &mut self.store,
             &mut self.keys,
-            next,
+            &mut self.fresh,
+            turns,
         )
     }
 }

@@ -1,13 +1,11 @@
 //! The robots' keys in the store of fields.
 
-ghost use Rattle.std.specs.Prelude.{◌≡◌, ℕ, ◌<◌, None, length, slice_set};
-ghost use Rattle.fleet_field.specs.Store.{Keeps, Serves};
-ghost use Rattle.fleet_grid.specs.Floor.{Floor};
+ghost use Rattle.std.specs.Prelude.{◌≡◌, ℕ, None};
 ghost use Rattle.fleet_grid.specs.Ways.{AreNearer};
 ghost use Rattle.fleet_goals.specs.Aims.{goal_in, distance_in};
-ghost use Rattle.fleet_goals.specs.Keys.{key_at, field_at, AreShowing, IsGivenBack};
+ghost use Rattle.fleet_goals.specs.Keys.{key_at, field_at, AreShowing};
 
-use fleet_field::{FieldStore, Shelf};
+use fleet_field::FieldStore;
 use fleet_grid::Grid;
 use std::alloc::Allocator;
 
@@ -63,26 +61,5 @@ pub(crate) fn ways_of<A: Allocator + Copy, B: Allocator + Copy>(
     match key_of(keys, robot) {
         Some(key) => store.ways(grid, key, cell),
         None => 0,
-    }
-}
-
-/// Gives a robot another key, or none, and gives its old one back. What nobody holds then goes to what is kept.
-pub(crate) fn exchange<A: Allocator + Copy>(
-    shelf: &mut Shelf<A>,
-    store: &mut FieldStore<A>,
-    keys: &mut [Option<usize>],
-    robot: u32,
-    key: Option<usize>,
-)
-    requires known { robot < length keys.old }
-    requires showing { AreShowing store.old keys.old }
-    ensures keys { keys.new ≡ slice_set keys.old robot key }
-    ensures back { IsGivenBack store.old store.new (key_at keys.old robot) }
-    ensures keeps { (m : Floor) → Serves m store.old → Keeps m shelf.old → Keeps m shelf.new }
-{
-    let old = keys[robot as usize];
-    keys[robot as usize] = key;
-    if let Some(old) = old {
-        store.release_to(shelf, old);
     }
 }

@@ -6,6 +6,7 @@ mod keys;
 mod turns;
 
 pub use aims::Aims;
+pub use turns::Turn;
 
 #[cfg(test)]
 mod tests;

@@ -1,13 +1,13 @@
 //! Goals given and turned, robots that share a goal, and each growth refused in turn.
 
-mod floor;
+mod allowed;
 
-use crate::Aims;
+use crate::{Aims, Turn};
+use allowed::are_allowed;
 use fleet_field::Shelf;
 use fleet_grid::Grid;
 use fleet_map::MapText;
 use fleet_pibt::Goals;
-use floor::are_floor;
 use refusing::Refusing;
 use std::alloc::Global;
 use std::process::Abort;
@@ -41,12 +41,35 @@ fn aimed_and_turned(rt: HostRuntime) -> Result<(), Fail> {
     // East and south.
     assert_eq!(rt; (aims.ways(&grid, 0, 0), aims.ways(&grid, 1, 0)), (6, 0));
     aims.aim(&mut shelf, &grid, 1, 8)?;
-    let next = [Some(1), Some(8)];
-    assert!(rt; are_floor(&grid, &next));
-    aims.turn(&mut shelf, &grid, &next)?;
+    let turns = [
+        Turn {
+            robot: 0,
+            goal: Some(1),
+        },
+        Turn {
+            robot: 1,
+            goal: Some(8),
+        },
+    ];
+    assert!(rt; are_allowed(&grid, 2, &turns));
+    aims.turn(&mut shelf, &grid, &turns)?;
     assert_eq!(rt; (aims.goal(0), aims.goal(1)), (Some(1), Some(8)));
     assert_eq!(rt; (aims.at(0, 8), aims.at(1, 1)), (Some(3), Some(3)));
     Ok(())
+}
+
+/// A turn of each of two robots.
+fn both(first: Option<u32>, second: Option<u32>) -> [Turn; 2] {
+    [
+        Turn {
+            robot: 0,
+            goal: first,
+        },
+        Turn {
+            robot: 1,
+            goal: second,
+        },
+    ]
 }
 
 /// Whether a growth is refused while robots are given goals and turned to others. What is refused changes nothing.
@@ -63,11 +86,11 @@ fn is_refused(
     let first = aims.aim(&mut shelf, grid, 0, 8).is_err();
     assert!(rt; aims.goal(0).is_none() == first);
     aims.aim(&mut shelf, grid, 0, 8)?;
-    let next = [Some(1), Some(5)];
-    assert!(rt; are_floor(grid, &next));
-    let second = aims.turn(&mut shelf, grid, &next).is_err();
+    let turns = both(Some(1), Some(5));
+    assert!(rt; are_allowed(grid, 2, &turns));
+    let second = aims.turn(&mut shelf, grid, &turns).is_err();
     assert!(rt; aims.goal(0) == Some(if second { 8 } else { 1 }));
-    aims.turn(&mut shelf, grid, &next)?;
+    aims.turn(&mut shelf, grid, &turns)?;
     assert!(rt; aims.at(0, 0) == Some(1) && aims.at(1, 8) == Some(1));
     Ok(first || second)
 }
@@ -102,9 +125,12 @@ fn turned_without_memory(rt: HostRuntime) -> Result<(), Fail> {
             continue;
         }
         // Where no growth was left behind the goal's own, one here would be refused.
-        assert!(rt; are_floor(&grid, &[Some(8), None]) && are_floor(&grid, &[None, None]));
-        assert!(rt; aims.turn(&mut shelf, &grid, &[Some(8), None]).is_ok());
-        assert!(rt; aims.turn(&mut shelf, &grid, &[None, None]).is_ok());
+        let same = both(Some(8), None);
+        assert!(rt; are_allowed(&grid, 2, &same));
+        assert!(rt; aims.turn(&mut shelf, &grid, &same).is_ok());
+        let none = both(None, None);
+        assert!(rt; are_allowed(&grid, 2, &none));
+        assert!(rt; aims.turn(&mut shelf, &grid, &none).is_ok());
     }
     Ok(())
 }

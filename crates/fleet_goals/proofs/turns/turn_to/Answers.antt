@@ -1,56 +1,68 @@
-use Rattle.std.proofs.Common.{ℕ, List, Option, sym, subst}
-use Rattle.fleet_field.specs.Field.{Aim}
-use Rattle.fleet_field.specs.Several.{AreHeld}
-use Rattle.fleet_field.specs.Store.{IsOnce}
-use Rattle.fleet_field.specs.declared.store.Held.{Held}
-use Rattle.fleet_goals.specs.Aims.{goals_of, AreOn}
-use Rattle.fleet_goals.specs.Keys.{fields_of, AreCounted}
-use Rattle.fleet_goals.specs.inside.Turns.{AreTurning}
-use Rattle.fleet_goals.proofs.Counts.{counted_all}
-use Rattle.fleet_goals.proofs.Fields.{serves_on, serves_kept}
-use Rattle.fleet_goals.proofs.Turned.{goals_turned, on_turned, turning_slices}
+use Rattle.std.proofs.Common.{ℕ, List, Option, sym, subst, ap, ◌∙◌}
+use Rattle.fleet_goals.specs.Aims.{AreOn}
+use Rattle.fleet_goals.specs.inside.Turns.{dealt}
+use Rattle.fleet_goals.proofs.Fields.{serves_on}
+use Rattle.fleet_goals.proofs.Outcome.{counted_dealt, fields_refused, own_turned, goals_turned, on_turned}
 use Rattle.fleet_goals.proofs.turns.turn_to.Goals as goal
 
-pub hold_each_from-requires-clause-serves : goal.hold_each_from-requires-clause-serves
-hold_each_from-requires-clause-serves g c = serves_on c.args.grid.now c.args.store.now c.args.keys.now c.requires.own c.requires.on
+pub hold_goals-requires-clause-serves : goal.hold_goals-requires-clause-serves
+hold_goals-requires-clause-serves g c = serves_on c.args.grid.now c.args.store.now c.args.keys.now c.requires.own c.requires.on
 
-pub returns-in_err-fresh-clause-on : goal.returns-in_err-fresh-clause-on
-returns-in_err-fresh-clause-on g c =
-    subst (λ (s : List (Option (Held Aim))). AreOn c.args.grid.now (fields_of s c.args.keys.now)) (sym c.in_err-fresh.ensures.refused) c.requires.on
+-- refused
 
-pub deal-requires-clause-counted : goal.deal-requires-clause-counted
-deal-requires-clause-counted g c =
-    let once : IsOnce c.hold_each_from.new.self = c.in_ok-fresh.ensures.once in
-    subst (AreCounted c.hold_each_from.new.self c.args.keys.now) (sym c.deref-3.ensures.value)
-    (counted_all c.deref.result.now c.args.store.now c.in_ok-fresh.fresh.items c.hold_each_from.new.self c.in_ok-fresh.ensures.held once c.args.keys.now c.requires.own.counted)
+pub give_back-requires : goal.give_back-requires
+give_back-requires g c = record { counted = (c.args.keys.now, c.hold_goals.ensures.counted c.args.keys.now c.requires.own.counted) }
+
+pub returns-in-Err-clause-own : goal.returns-in-Err-clause-own
+returns-in-Err-clause-own g c = record {
+  few = c.requires.own.few;
+  counted = c.give_back.ensures.counted c.args.keys.now (c.hold_goals.ensures.counted c.args.keys.now c.requires.own.counted);
+}
+
+pub returns-in-Err-clause-refused : goal.returns-in-Err-clause-refused
+returns-in-Err-clause-refused g c =
+    fields_refused c.args.grid.now c.args.turns.now c.args.store.now c.hold_goals.new.store c.give_back.new.store c.args.keys.now c.requires.own c.hold_goals.ensures.shown c.give_back.ensures.kept
+    (c.give_back.ensures.counted c.args.keys.now (c.hold_goals.ensures.counted c.args.keys.now c.requires.own.counted))
+
+pub returns-in-Err-clause-on : goal.returns-in-Err-clause-on
+returns-in-Err-clause-on g c =
+    subst (AreOn c.args.grid.now) (sym (fields_refused c.args.grid.now c.args.turns.now c.args.store.now c.hold_goals.new.store c.give_back.new.store c.args.keys.now c.requires.own c.hold_goals.ensures.shown c.give_back.ensures.kept
+    (c.give_back.ensures.counted c.args.keys.now (c.hold_goals.ensures.counted c.args.keys.now c.requires.own.counted)))) c.requires.on
+
+-- dealt
+
+pub give_back-requires-2 : goal.give_back-requires-2
+give_back-requires-2 g c = record {
+  counted = (
+    c.deal.new.keys,
+    counted_dealt c.hold_goals.new.store c.args.keys.now c.hold_goals.new.fresh.items c.as_mut_slice.result.now c.deal.new.keys c.deal.new.fresh c.hold_goals.new.fresh.len c.as_mut_slice.ensures.value c.as_mut_slice.ensures.len c.deal.ensures.count c.deal.ensures.swapped
+        (c.hold_goals.ensures.counted c.args.keys.now c.requires.own.counted),
+  );
+}
+
+pub returns-clause-own : goal.returns-clause-own
+returns-clause-own g c =
+    let is = c.deal.ensures.dealt ∙ ap (λ (fresh : List (Option ℕ)). dealt c.args.turns.now fresh c.args.keys.now) c.as_mut_slice.ensures.value in
+    let counted = c.give_back-2.ensures.counted c.deal.new.keys (counted_dealt c.hold_goals.new.store c.args.keys.now c.hold_goals.new.fresh.items c.as_mut_slice.result.now c.deal.new.keys c.deal.new.fresh c.hold_goals.new.fresh.len c.as_mut_slice.ensures.value c.as_mut_slice.ensures.len c.deal.ensures.count c.deal.ensures.swapped
+    (c.hold_goals.ensures.counted c.args.keys.now c.requires.own.counted)) in
+    own_turned c.args.grid.now c.args.turns.now c.args.store.now c.hold_goals.new.store c.give_back-2.new.store c.args.keys.now c.requires.own c.hold_goals.ensures.shown c.give_back-2.ensures.kept
+    c.hold_goals.new.fresh.items c.deal.new.keys is c.in_default.ensures.goals counted
 
 pub returns-clause-goals : goal.returns-clause-goals
 returns-clause-goals g c =
-    let robots = c.deref-2.result.now in
-    let turned = c.deref.result.now in
-    let fresh = c.deref-3.result.now in
-    let turning : AreTurning (goals_of (fields_of c.args.store.now c.args.keys.now)) c.args.next.now robots turned =
-    turning_slices _ c.args.next.now c.in_ok-turning.turning.robots.items robots c.in_ok-turning.turning.goals.items turned c.deref-2.ensures.value c.deref.ensures.value c.in_ok-turning.ensures in
-    let all : AreHeld turned c.args.store.now fresh c.hold_each_from.new.self =
-    subst (λ (xs : List ℕ). AreHeld turned c.args.store.now xs c.hold_each_from.new.self) (sym c.deref-3.ensures.value) c.in_ok-fresh.ensures.held in
-    goals_turned c.args.grid.now c.args.next.now robots turned fresh c.args.store.now c.hold_each_from.new.self c.deal.new.store c.idle.new.store c.args.keys.now c.deal.new.keys c.idle.new.keys
-    c.requires.own c.requires.same_length turning all c.deal.ensures.kept c.deal.ensures.dealt c.idle.ensures.kept c.idle.ensures.counted c.idle.ensures.idled
+    let is = c.deal.ensures.dealt ∙ ap (λ (fresh : List (Option ℕ)). dealt c.args.turns.now fresh c.args.keys.now) c.as_mut_slice.ensures.value in
+    let counted = c.give_back-2.ensures.counted c.deal.new.keys (counted_dealt c.hold_goals.new.store c.args.keys.now c.hold_goals.new.fresh.items c.as_mut_slice.result.now c.deal.new.keys c.deal.new.fresh c.hold_goals.new.fresh.len c.as_mut_slice.ensures.value c.as_mut_slice.ensures.len c.deal.ensures.count c.deal.ensures.swapped
+    (c.hold_goals.ensures.counted c.args.keys.now c.requires.own.counted)) in
+    goals_turned c.args.grid.now c.args.turns.now c.args.store.now c.hold_goals.new.store c.give_back-2.new.store c.args.keys.now c.requires.own c.hold_goals.ensures.shown c.give_back-2.ensures.kept
+    c.hold_goals.new.fresh.items c.deal.new.keys is c.in_default.ensures.goals counted
 
 pub returns-clause-on : goal.returns-clause-on
 returns-clause-on g c =
-    let robots = c.deref-2.result.now in
-    let turned = c.deref.result.now in
-    let fresh = c.deref-3.result.now in
-    let turning : AreTurning (goals_of (fields_of c.args.store.now c.args.keys.now)) c.args.next.now robots turned =
-    turning_slices _ c.args.next.now c.in_ok-turning.turning.robots.items robots c.in_ok-turning.turning.goals.items turned c.deref-2.ensures.value c.deref.ensures.value c.in_ok-turning.ensures in
-    let all : AreHeld turned c.args.store.now fresh c.hold_each_from.new.self =
-    subst (λ (xs : List ℕ). AreHeld turned c.args.store.now xs c.hold_each_from.new.self) (sym c.deref-3.ensures.value) c.in_ok-fresh.ensures.held in
-    on_turned c.args.grid.now c.args.next.now robots turned fresh c.args.store.now c.hold_each_from.new.self c.deal.new.store c.idle.new.store c.args.keys.now c.deal.new.keys c.idle.new.keys
-    c.requires.own c.requires.same_length turning all c.deal.ensures.kept c.deal.ensures.dealt c.idle.ensures.kept c.idle.ensures.counted c.idle.ensures.idled c.requires.floor c.in_ok-fresh.ensures.serves
+    let is = c.deal.ensures.dealt ∙ ap (λ (fresh : List (Option ℕ)). dealt c.args.turns.now fresh c.args.keys.now) c.as_mut_slice.ensures.value in
+    let counted = c.give_back-2.ensures.counted c.deal.new.keys (counted_dealt c.hold_goals.new.store c.args.keys.now c.hold_goals.new.fresh.items c.as_mut_slice.result.now c.deal.new.keys c.deal.new.fresh c.hold_goals.new.fresh.len c.as_mut_slice.ensures.value c.as_mut_slice.ensures.len c.deal.ensures.count c.deal.ensures.swapped
+    (c.hold_goals.ensures.counted c.args.keys.now c.requires.own.counted)) in
+    on_turned c.args.grid.now c.args.turns.now c.args.store.now c.hold_goals.new.store c.give_back-2.new.store c.args.keys.now c.requires.own c.hold_goals.ensures.shown c.give_back-2.ensures.kept
+    c.hold_goals.new.fresh.items c.deal.new.keys is c.in_default.ensures.goals counted c.hold_goals.ensures.serves c.requires.known c.requires.floor c.requires.on
 
 pub returns-clause-keeps : goal.returns-clause-keeps
-returns-clause-keeps g c =
-    let m = c.args.grid.now in
-    let held = c.hold_each_from.new.self in
-    let serves = c.in_ok-fresh.ensures.serves in
-    c.idle.ensures.keeps m (serves_kept m held c.deal.new.store c.deal.ensures.kept serves) (c.deal.ensures.keeps m serves c.in_ok-fresh.ensures.keeps)
+returns-clause-keeps g c = c.give_back-2.ensures.keeps c.args.grid.now c.hold_goals.ensures.serves c.hold_goals.ensures.keeps

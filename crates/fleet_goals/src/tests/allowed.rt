@@ -1,0 +1,25 @@
+//! Whether turns may be made, for tests that make several.
+
+ghost use Rattle.std.specs.Bool.{OnTrue};
+ghost use Rattle.fleet_goals.specs.Turned.{AreFloorTurns, AreKnownTurns};
+
+use crate::Turn;
+use fleet_grid::Grid;
+
+/// Whether each turn is one of these robots, to a floor cell or to nothing.
+pub fn are_allowed(grid: &Grid, robots: usize, turns: &[Turn]) -> bool
+    ensures known { OnTrue result (AreKnownTurns robots turns.now) }
+    ensures floor { OnTrue result (AreFloorTurns grid.now turns.now) }
+{
+    for turn in turns {
+        if turn.robot as usize >= robots {
+            return false;
+        }
+        if let Some(goal) = turn.goal {
+            if !grid.is_floor(goal) {
+                return false;
+            }
+        }
+    }
+    true
+}
