@@ -176,5 +176,5 @@ module _ {A : Type 0} {m : Floor} {h : History A} {s : State A} {p : Planner} (k
   turned-goals =
       turned-ticked s.queues to (goals_of p.aims) (ap length a.aimed ∙ length-by (λ r. cell_of (front h r)) (robots h) ∙ sym (queue-count k))
       (λ r l.
-        let known : r < robots h = omega (arith, l, queue-count k) in
-        ap (λ (gs : List (Option ℕ)). get_or gs r None) a.aimed ∙ item_of (λ r. cell_of (front h r)) (robots h) r known ∙ ap (λ (u : List Errand). cell_of (slice_get u 0)) (sym (items-of k r known)))
+      let known : r < robots h = omega (arith, l, queue-count k) in
+      ap (λ (gs : List (Option ℕ)). get_or gs r None) a.aimed ∙ item_of (λ r. cell_of (front h r)) (robots h) r known ∙ ap (λ (u : List Errand). cell_of (slice_get u 0)) (sym (items-of k r known)))

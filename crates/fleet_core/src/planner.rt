@@ -163,8 +163,7 @@ impl<A: Allocator + Copy> Planner<A> {
         ensures refused { OnErr result (self.new.aims ≡ self.old.aims) }
     {
         put_turns(state, to, &mut self.turns);
-        self.aims
-            .turn(&mut self.shelf, grid, self.turns.as_slice())
+        self.aims.turn(&mut self.shelf, grid, self.turns.as_slice())
     }
 }
 
