@@ -1,6 +1,6 @@
 -- The goals that a planner keeps stay those of the history after each entry.
 use Rattle.std.proofs.Common.{◌≡◌, ℕ, zero, suc, ◌<◌, ◌↔◌, List, [], ◌∷◌, ◌++◌, length, map, get_or, cond, eqb, Bool, true, false, Option, Some, None, replicate, sym, refl, ap, ◌∙◌, subst, arith, inl, inr}
-use Rattle.std.specs.Prelude.{All, IsTrue, unwrap_or, slice_get, slice_set, slice_index, slice_index_or}
+use Rattle.std.specs.Prelude.{IsTrue, unwrap_or, slice_get, slice_set, slice_index, slice_index_or}
 use Rattle.std.specs.List.{range_with_len}
 use Rattle.std.proofs.lemmas.List.{append-nil, length-map, length-set, length-replicate, get_or_past, get_or-set_same, get_or-set_other, ext_get_or}
 use Rattle.std.proofs.lemmas.List.FromFn.{length-range_with_len}
@@ -9,7 +9,7 @@ use Rattle.fleet_grid.specs.Floor.{Floor, IsFloor, IsNeighbour}
 use Rattle.fleet_grid.specs.Walk.{IsBridgeless}
 use Rattle.fleet_field.specs.Field.{Aim}
 use Rattle.fleet_field.specs.Store.{Keeps}
-use Rattle.fleet_goals.specs.Aims.{goals_of, goal_in, AreOn, AreFloor}
+use Rattle.fleet_goals.specs.Aims.{goals_of, goal_in, AreOn}
 use Rattle.fleet_hooks.specs.declared.law.TieLaw.{TieLaw}
 use Rattle.fleet_queue.specs.declared.errand.Errand.{Errand}
 use Rattle.fleet_queue.specs.Queue.{Queue}
@@ -21,7 +21,7 @@ use Rattle.fleet_history.specs.declared.history.Arrival.{Arrival}
 use Rattle.fleet_history.specs.declared.history.Bye.{Bye}
 use Rattle.fleet_history.specs.declared.history.Opening.{Opening}
 use Rattle.fleet_history.specs.declared.history.Entry.TheVariants as entry
-use Rattle.fleet_history.specs.History.{History, after, start, robots, place, unfinished, front, errand_for}
+use Rattle.fleet_history.specs.History.{History, after, start, robots, unfinished, front, errand_for}
 use Rattle.fleet_history.specs.Laws.{EachTick}
 use Rattle.fleet_history.specs.Legal.{IsLegal, due_of, due, is_none_left}
 use Rattle.fleet_history.specs.Next.{next_opening}
@@ -29,7 +29,6 @@ use Rattle.fleet_history.specs.Verdicts.{IsVerdict, standing}
 use Rattle.fleet_history.specs.Waits.{wait, wait_for}
 use Rattle.fleet_history.proofs.Legal.{accepted-rule, accepted-robot}
 use Rattle.fleet_history.proofs.Next.{next-robots, start-front}
-use Rattle.fleet_history.proofs.Reach.{CanBeReached, legal-reach}
 use Rattle.fleet_plan.specs.Counted.{goal_ticked}
 use Rattle.fleet_plan.specs.Planned.{waits, goals, cell_of, IsPlanned, IsAdvancingTick}
 use Rattle.fleet_plan.proofs.Goals.{planned-advances}
@@ -137,15 +136,6 @@ on-ticked : (to : List ℕ) (r : ℕ) (u : List Errand) → goal_on (slice_index
 on-ticked to r [] = refl
 on-ticked to r (f ∷ u) = refl
 
-ticked_floor : (m : Floor) (at : ℕ) (to : List ℕ) (r : ℕ) (u : List Errand) (cell : ℕ) → All (CanBeReached m at) u → goal_ticked to r u ≡ Some cell → IsFloor m cell
-ticked_floor m at to r [] cell all e = absurd (none_some cell e)
-ticked_floor m at to r (f ∷ u) cell all e = by_case (eqb f.cell (slice_index to r)) u all e
-  where
-    by_case : (b : Bool) (u : List Errand) → All (CanBeReached m at) (f ∷ u) → cond b (cell_of (slice_get u 0)) (Some f.cell) ≡ Some cell → IsFloor m cell
-    by_case true [] all e = absurd (none_some cell e)
-    by_case true (x ∷ xs) all e = subst (IsFloor m) (ap (λ (o : Option ℕ). unwrap_or o 0) e) (all 1 f (omega arith)).floor
-    by_case false u all e = subst (IsFloor m) (ap (λ (o : Option ℕ). unwrap_or o 0) e) (all 0 f (omega arith)).floor
-
 -- ---- what is kept
 
 module _ {A : Type 0} {m : Floor} {h : History A} {s : State A} {p : Planner} (k : IsStateOf m h s) (a : IsAimed m h p) where
@@ -191,16 +181,6 @@ module _ {A : Type 0} {m : Floor} {h : History A} {s : State A} {p : Planner} (k
         bridge = subst (λ b. IsTrue b ↔ IsBridgeless (IsNeighbour m)) (sym bridge) a.bridge;
         kept = kept;
       }
-
-  -- the goals behind a tick are floor
-  pub next-floor : (to : List ℕ) → AreFloor m (goals_ticked s.queues to)
-  next-floor to r cell e =
-      elim (cases_lt r (robots h)) [
-        | inl l ↦
-            (let at : slice_index_or (goals_ticked s.queues to) r None ≡ goal_on (slice_index to r) (queue_at s.queues r).items = item_of (λ r. goal_on (slice_index to r) (queue_at s.queues r).items) (length s.queues) r (omega (arith, queue-count k)) in
-            ticked_floor m (slice_index (place h) r) to r (unfinished h r) cell (legal-reach m h r k.legal l) (sym (at ∙ ap (goal_on (slice_index to r)) (items-of k r l) ∙ on-ticked to r (unfinished h r)) ∙ e))
-        | inr l ↦ absurd (none_some cell (sym (get_or_past (goals_ticked s.queues to) r None (omega (arith, queue-count k, length-by_robot (length s.queues) (λ r. goal_on (slice_index to r) (queue_at s.queues r).items)))) ∙ e))
-      ]
 
   -- a chapter that goes on has the same goals
   pub aimed-next : IsAimed m (start (next_opening h)) p

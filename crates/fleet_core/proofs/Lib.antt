@@ -1,5 +1,6 @@
 pub mod Farewells
 pub mod Goaled
+pub mod Turning
 pub mod Delivers
 pub mod Stamped
 pub mod Kept

@@ -1,10 +1,11 @@
 -- What a planner keeps of the robots' goals, and how it follows from the history.
 use Rattle.std.specs.Prelude.{ℕ, ◌≡◌, ◌<◌, ◌↔◌, Bool, IsTrue, ◌==◌, List, [], ◌∷◌, Option, Some, None, if◌then◌else◌, length, map, slice_get, slice_index, slice_set}
-use Rattle.std.specs.List.{range_with_len}
+use Rattle.std.specs.List.{flat_map, range_with_len}
 use Rattle.fleet_grid.specs.Floor.{Floor, IsNeighbour}
 use Rattle.fleet_grid.specs.Walk.{IsBridgeless}
 use Rattle.fleet_field.specs.Field.{Aim}
 use Rattle.fleet_field.specs.Store.{Keeps}
+use Rattle.fleet_goals.specs.declared.turns.Turn.{Turn}
 use Rattle.fleet_goals.specs.Aims.{goals_of, AreOn}
 use Rattle.fleet_pibt.specs.Size.{Size}
 use Rattle.fleet_queue.specs.declared.errand.Errand.{Errand}
@@ -66,6 +67,15 @@ goal_on cell (f ∷ rest) = if f.cell == cell then cell_of (slice_get rest 0) el
 -- the goals behind a tick to these cells
 abbrev pub goals_ticked : List Queue → List ℕ → List (Option ℕ)
 goals_ticked queues to = map (λ r. goal_on (slice_index to r) (queue_at queues r).items) (range_with_len 0 (length queues))
+
+-- the turn of a robot with these errands that a tick brings to the cell: an arrival makes way for the next errand
+abbrev pub turn_on : ℕ → ℕ → List Errand → List Turn
+turn_on robot cell [] = []
+turn_on robot cell (f ∷ rest) = if f.cell == cell then record { robot = robot; goal = cell_of (slice_get rest 0) } ∷ [] else []
+
+-- the turns that a tick to these cells brings, by robot
+abbrev pub turns_ticked : List Queue → List ℕ → List Turn
+turns_ticked queues to = flat_map (λ r. turn_on r (slice_index to r) (queue_at queues r).items) (range_with_len 0 (length queues))
 
 -- nobody has an errand
 abbrev pub IsIdle : {A : Type 0} → History A → Type 0

@@ -136,8 +136,7 @@ impl<A: Allocator + Copy> Core<A> {
         let mut arrived = self.state.dues(alloc, to.as_slice())?;
         let mut leaving = self.state.leaving(alloc, to.as_slice())?;
         self.chapter.entries.reserve(1)?;
-        self.planner
-            .turn(alloc, &self.grid, &self.state, to.as_slice())?;
+        self.planner.turn(&self.grid, &self.state, to.as_slice())?;
         let report = TickReport::of(self.state.clock() + 1, arrived.len(), leaving.len());
         arrive(&mut arrived, arrivals, to.as_slice(), report.tick);
         take_leave(&mut leaving, farewells, to.as_slice(), report.tick);

@@ -1,22 +1,22 @@
 //! What the robots go by from tick to tick: their goals, and the step by priority inheritance with backtracking.
 
-ghost use Rattle.std.specs.Prelude.{◌≡◌, ◌<◌, ◌≤◌, ◌^◌, ◌↔◌, ℕ, IsTrue, None, slice_get, length, map, replicate, IfOk, OnOk, OnErr};
+ghost use Rattle.std.specs.Prelude.{◌≡◌, ◌<◌, ◌≤◌, ◌^◌, ◌↔◌, ℕ, IsTrue, None, slice_get, length, map, replicate, vec_capacity, IfOk, OnOk, OnErr};
 ghost use Rattle.fleet_field.specs.Store.{Keeps};
 ghost use Rattle.fleet_grid.specs.Floor.{Floor, IsNeighbour};
 ghost use Rattle.fleet_grid.specs.Step.{IsConflictFree};
 ghost use Rattle.fleet_grid.specs.Walk.{IsBridgeless};
 ghost use Rattle.fleet_goals.specs.Aims.{goals_of, AreOn};
 ghost use Rattle.fleet_pibt.specs.Order.{wait_of};
-ghost use Rattle.fleet_plan.specs.Planned.{IsPlannedBy};
+ghost use Rattle.fleet_plan.specs.Planned.{IsPlannedBy, cell_of};
 ghost use Rattle.fleet_state.specs.Robots.{queue_at};
 ghost use Rattle.fleet_state.specs.State.{robot_count};
-ghost use Rattle.fleet_core.specs.Aimed.{MayPlan, MayBegin, begun, begun_goals, goal_on, goals_ticked};
+ghost use Rattle.fleet_core.specs.Aimed.{MayPlan, MayBegin, begun, begun_goals, goals_ticked, turns_ticked};
 
 use crate::ahead::goals_ahead;
 use fleet_book::{Order, Verdict};
 use fleet_bridge::first_bridge;
 use fleet_field::Shelf;
-use fleet_goals::Aims;
+use fleet_goals::{Aims, Turn};
 use fleet_grid::Grid;
 use fleet_hooks::TieHook;
 use fleet_pibt::Stepper;
@@ -36,14 +36,19 @@ pub(crate) struct Planner<A: Allocator + Copy = Global> {
     stepper: Stepper<A>,
     bridgeless: bool,
     shelf: Shelf<A>,
+    // Those of the last tick, with room for all robots.
+    turns: Vec<Turn, A>,
 }
 
 impl<A: Allocator + Copy> Model for Planner<A> {
+    ghost use Rattle.std.specs.Prelude.{◌≤◌, length, vec_capacity};
     ghost use Rattle.fleet_core.specs.Aimed.{Planner};
 
     ghost Value = { Planner };
 
     ghost view = { λ p. record { aims = p.aims; size = p.stepper; bridgeless = p.bridgeless; kept = p.shelf } };
+
+    ghost invariant = { λ p. length p.aims ≤ vec_capacity p.turns };
 }
 
 impl<A: Allocator + Copy> Planner<A> {
@@ -61,6 +66,7 @@ impl<A: Allocator + Copy> Planner<A> {
             stepper: Stepper::new(alloc, grid.cell_count(), robots as u32)?,
             bridgeless: has_no_bridge(alloc, grid)?,
             shelf: Shelf::new(alloc, KEPT_BYTES),
+            turns: Vec::with_capacity(alloc, robots)?,
         })
     }
 
@@ -139,11 +145,10 @@ impl<A: Allocator + Copy> Planner<A> {
 }
 
 impl<A: Allocator + Copy> Planner<A> {
-    /// Aims the robots at the goals that they have behind a tick to these cells. The state is that before the tick is
-    /// entered.
+    /// Aims the robots at the goals that they have behind a tick to these cells: those that land turn, the others keep
+    /// theirs. The state is that before the tick is entered. No list is allocated.
     pub(crate) fn turn(
         &mut self,
-        alloc: A,
         grid: &Grid<A>,
         state: &FleetState<A>,
         to: &[u32],
@@ -157,8 +162,8 @@ impl<A: Allocator + Copy> Planner<A> {
         ensures keeps { Keeps grid.now self.new.kept }
         ensures refused { OnErr result (self.new.aims ≡ self.old.aims) }
     {
-        let next = next_goals(alloc, state, to)?;
-        self.aims.turn(&mut self.shelf, grid, next.as_slice())
+        put_turns(state, to, &mut self.turns);
+        self.aims.turn(&mut self.shelf, grid, self.turns.as_slice())
     }
 }
 
@@ -184,32 +189,31 @@ impl<A: Allocator + Copy + Send + Sync> Planner<A> {
     }
 }
 
-/// The robots' goals behind a tick to these cells.
-fn next_goals<A: Allocator + Copy>(
-    alloc: A,
-    state: &FleetState<A>,
-    to: &[u32],
-) -> Result<Vec<Option<u32>, A>, AllocError>
+/// The turns that a tick to these cells brings, by rising robot, in place of what the list held.
+fn put_turns<A: Allocator + Copy>(state: &FleetState<A>, to: &[u32], turns: &mut Vec<Turn, A>)
     requires same { length to.now ≡ robot_count state.now }
     requires few { length to.now ≤ 512 }
-    ensures { IfOk result (λ goals. goals.items ≡ goals_ticked state.now.queues to.now) }
+    requires room { length to.now ≤ vec_capacity turns.old }
+    ensures turns { turns.new.items ≡ turns_ticked state.now.queues to.now }
+    ensures room { vec_capacity turns.new ≡ vec_capacity turns.old }
 {
-    let mut goals = Vec::new(alloc);
+    turns.clear();
     for r in 0..to.len() {
-        goals.push(next_goal(state, r as u32, to[r]))?;
+        let robot = r as u32;
+        if let Some(_errand) = state.landing(robot, to[r]) {
+            turns.push_reserved(Turn {
+                robot,
+                goal: goal_after(state, robot),
+            });
+        }
     }
-    Ok(goals)
 }
 
-/// The robot's goal behind a tick that brings it to the cell: that of its front, or of its next errand where it arrives.
-fn next_goal<A: Allocator + Copy>(state: &FleetState<A>, robot: u32, cell: u32) -> Option<u32>
+/// The robot's goal once it has finished its front errand.
+fn goal_after<A: Allocator + Copy>(state: &FleetState<A>, robot: u32) -> Option<u32>
     requires { robot < robot_count state.now }
-    ensures { result ≡ goal_on cell (queue_at state.now.queues robot).items }
+    ensures { result ≡ cell_of (slice_get (queue_at state.now.queues robot).items 1) }
 {
-    let front = state.front(robot)?;
-    if front.cell != cell {
-        return Some(front.cell);
-    }
     match state.next(robot) {
         Some(next) => Some(next.cell),
         None => None,

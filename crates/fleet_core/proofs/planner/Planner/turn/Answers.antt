@@ -1,33 +1,55 @@
-use Rattle.std.proofs.Common.{arith, ◌∙◌, length, ap, sym, subst}
-use Rattle.fleet_goals.specs.Aims.{AreFloor}
-use Rattle.fleet_state.proofs.Parts.{queue-count, robots-few, length-by}
-use Rattle.fleet_state.specs.Robots.{queue_at}
-use Rattle.std.specs.Prelude.{slice_index}
-use Rattle.fleet_core.specs.Aimed.{IsAimed, goal_on}
-use Rattle.fleet_core.proofs.Goaled.{aims-count, next-floor}
+use Rattle.std.proofs.Common.{arith, ◌∙◌, List, length, ap, sym, subst}
+use Rattle.std.specs.Prelude.{Ok, Err, Result, OnOk}
+use Rattle.fleet_goals.specs.Aims.{goals_of}
+use Rattle.fleet_goals.specs.Turned.{turned}
+use Rattle.fleet_goals.specs.declared.turns.Turn.{Turn}
+use Rattle.fleet_state.proofs.Parts.{queue-count, robots-few}
+use Rattle.fleet_core.specs.Aimed.{IsAimed}
+use Rattle.fleet_core.proofs.Goaled.{aims-count}
+use Rattle.fleet_core.proofs.Turning.{turns-few, turns-known, turns-floor, turned-goals}
 use Rattle.fleet_core.proofs.planner.Planner.turn.Goals as goal
 
-pub next_goals-requires-clause-few : goal.next_goals-requires-clause-few
-next_goals-requires-clause-few g c = omega (arith, c.requires.same, robots-few c.requires.may.is)
+pub put_turns-requires-clause-few : goal.put_turns-requires-clause-few
+put_turns-requires-clause-few g c = omega (arith, c.requires.same, robots-few c.requires.may.is)
 
-pub turn-requires-clause-same_length : goal.turn-requires-clause-same_length
-turn-requires-clause-same_length g c =
+pub put_turns-requires-clause-room : goal.put_turns-requires-clause-room
+put_turns-requires-clause-room g c =
     let may = c.requires.may in
     let a = subst (IsAimed c.args.grid.now may.history) (sym c.self.view_is) may.aimed in
-    omega (
-      arith,
-      ap length (c.as_slice.ensures.value ∙ c.in_ok-next.ensures),
-      length-by (λ r. goal_on (slice_index c.args.to.now r) (queue_at c.args.state.now.queues r).items) (length c.args.state.now.queues),
-      queue-count may.is,
-      aims-count may.history c.self.inside.aims a.aimed,
-    )
+    omega (arith, c.requires.same, queue-count may.is, aims-count may.history c.self.inside.aims a.aimed, c.self.invariant)
+
+pub turn-requires-clause-few : goal.turn-requires-clause-few
+turn-requires-clause-few g c =
+    let may = c.requires.may in
+    let queues = c.args.state.now.queues in
+    let a = subst (IsAimed c.args.grid.now may.history) (sym c.self.view_is) may.aimed in
+    omega (arith, ap length (c.as_slice.ensures.value ∙ c.put_turns.ensures.turns), turns-few queues c.args.to.now (length queues), queue-count may.is, aims-count may.history c.self.inside.aims a.aimed)
+
+pub turn-requires-clause-known : goal.turn-requires-clause-known
+turn-requires-clause-known g c =
+    let may = c.requires.may in
+    let queues = c.args.state.now.queues in
+    let a = subst (IsAimed c.args.grid.now may.history) (sym c.self.view_is) may.aimed in
+    let many = queue-count may.is ∙ sym (aims-count may.history c.self.inside.aims a.aimed) in
+    rw (c.as_slice.ensures.value, c.put_turns.ensures.turns, sym many) (turns-known queues c.args.to.now)
 
 pub turn-requires-clause-floor : goal.turn-requires-clause-floor
 turn-requires-clause-floor g c =
     let may = c.requires.may in
-    subst (AreFloor c.args.grid.now) (sym (c.as_slice.ensures.value ∙ c.in_ok-next.ensures)) (next-floor may.is may.aimed c.args.to.now)
+    rw (c.as_slice.ensures.value, c.put_turns.ensures.turns) (turns-floor may.is may.aimed c.args.to.now)
 
 pub turn-requires-clause-on : goal.turn-requires-clause-on
 turn-requires-clause-on g c =
     let may = c.requires.may in
     let a = subst (IsAimed c.args.grid.now may.history) (sym c.self.view_is) may.aimed in a.on
+
+on_ok_map : {X E : Type 0} {P Q : Type 0} (r : Result X E) → (P → Q) → OnOk r P → OnOk r Q
+on_ok_map (Ok x) f p = f p
+on_ok_map (Err e) f p = tt
+
+pub returns-clause-goals : goal.returns-clause-goals
+returns-clause-goals g c =
+    let may = c.requires.may in
+    let a = subst (IsAimed c.args.grid.now may.history) (sym c.self.view_is) may.aimed in
+    let turns = c.as_slice.ensures.value ∙ c.put_turns.ensures.turns in
+    on_ok_map c.turn.result (λ e. e ∙ (ap (λ (ts : List Turn). turned ts (goals_of c.self.inside.aims)) turns ∙ turned-goals may.is a c.args.to.now)) c.turn.ensures.goals
