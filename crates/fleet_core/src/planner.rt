@@ -36,7 +36,7 @@ pub(crate) struct Planner<A: Allocator + Copy = Global> {
     stepper: Stepper<A>,
     bridgeless: bool,
     shelf: Shelf<A>,
-    // Those of the last tick, with room for all robots.
+    /// The turns of the last tick, with room for all robots.
     turns: Vec<Turn, A>,
 }
 
