@@ -1,6 +1,5 @@
 //! Whole maps of a hostile shape: read, described, and run through by one robot.
 
-use crate::shape::Shape;
 use crate::steps::ANY;
 use crate::worlds::{LIMITS, STAMPS, order_one};
 use fleet_bridge::first_bridge;
@@ -11,6 +10,7 @@ use fleet_world::World;
 use std::alloc::{Alloc, Global};
 use std::io::{self, ErrorKind};
 use std::time::{Clock, Instant};
+use yardstick::Shape;
 
 /// How many ticks the robot is under way.
 const TICKS: u32 = 4_096;

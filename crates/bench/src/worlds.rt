@@ -2,10 +2,7 @@
 
 ghost use Rattle.std.specs.Prelude.{◌<◌, length};
 
-use crate::kind::{Kind, grid_of};
 use crate::lifelong::{print_run, time_run};
-use crate::measure::print_measure;
-use crate::random::Random;
 use crate::steps::ANY;
 use crate::ticks::time_ticks;
 use fleet_hooks::{
@@ -16,6 +13,7 @@ use std::alloc::{Alloc, Global};
 use std::io::{self, ErrorKind};
 use std::thread::Threads;
 use std::time::Clock;
+use yardstick::{Kind, Random, grid_of, print_measure};
 
 /// A law that any stamp meets.
 pub const STAMPS: StampLaw = StampLaw {
