@@ -1,12 +1,11 @@
 //! The measure of the first bridge.
 
-use crate::kind::{Kind, grid_of};
-use crate::measure::{Measure, print_measure};
 use fleet_bridge::first_bridge;
 use fleet_grid::Grid;
 use std::alloc::{Alloc, Global};
 use std::io;
 use std::time::{Clock, Instant};
+use yardstick::{Kind, Measure, grid_of, print_measure};
 
 /// How often the bridge is searched on each map.
 const REPEATS: u32 = 8;

@@ -2,16 +2,13 @@
 
 ghost use Rattle.fleet_grid.specs.Step.{IsPlacement};
 
-use crate::kind::{Kind, grid_of};
-use crate::measure::{Measure, print_measure};
-use crate::random::Random;
-use crate::site::Site;
 use crate::steps::FLEETS;
 use fleet_check::check_step;
 use fleet_grid::Grid;
 use std::alloc::{Alloc, Global};
 use std::io;
 use std::time::{Clock, Instant};
+use yardstick::{Kind, Measure, Random, Site, grid_of, print_measure};
 
 /// How often a step is checked.
 const REPEATS: u32 = 200;

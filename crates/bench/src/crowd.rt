@@ -1,11 +1,8 @@
 //! A full map, each of whose steps is checked.
 
 ghost use Rattle.std.specs.Prelude.{◌≡◌, ◌<◌, ◌≤◌, length, vec_len};
-ghost use Rattle.bench.specs.Fleet.{Serves, IsUnderWay};
+ghost use Rattle.yardstick.specs.Fleet.{Serves, IsUnderWay};
 
-use crate::fleet::Fleet;
-use crate::random::Random;
-use crate::site::Site;
 use crate::steps::ANY;
 use fleet_check::check_step;
 use fleet_field::Compass;
@@ -15,6 +12,7 @@ use fleet_map::MapText;
 use fleet_pibt::Stepper;
 use std::alloc::{Alloc, AllocError, Global};
 use std::io;
+use yardstick::{Fleet, Random, Site};
 
 /// How many robots there are: one for each cell.
 const ROBOTS: usize = 512;

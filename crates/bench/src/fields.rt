@@ -3,16 +3,13 @@
 ghost use Rattle.std.specs.Prelude.{ℕ, ◌<◌, length, slice_index};
 ghost use Rattle.fleet_grid.specs.Floor.{IsFloor};
 
-use crate::kind::{Kind, grid_of};
-use crate::measure::{Measure, print_measure};
-use crate::random::Random;
-use crate::site::Site;
 use fleet_field::{Field, fields};
 use fleet_grid::Grid;
 use std::alloc::{Alloc, Global};
 use std::io;
 use std::thread::Threads;
 use std::time::{Clock, Instant};
+use yardstick::{Kind, Measure, Random, Site, grid_of, print_measure};
 
 /// How often one field is searched on each map.
 const REPEATS: u32 = 48;

@@ -1,6 +1,5 @@
 //! Whole maps of a hostile shape: read, described, and run through by one robot.
 
-use crate::shape::Shape;
 use crate::steps::ANY;
 use crate::worlds::{LIMITS, STAMPS, order_one};
 use fleet_bridge::first_bridge;
@@ -10,7 +9,9 @@ use fleet_map::read_map;
 use fleet_world::World;
 use std::alloc::{Alloc, Global};
 use std::io::{self, ErrorKind};
+use std::mem;
 use std::time::{Clock, Instant};
+use yardstick::Shape;
 
 /// How many ticks the robot is under way.
 const TICKS: u32 = 4_096;
@@ -74,9 +75,15 @@ fn time_run<R: Alloc<A = Global> + Clock>(rt: &R, grid: Grid) -> io::Result<u128
     let Ok(mut world) = World::open(alloc, grid, starts, 1, LIMITS, hooks) else {
         return Err(io::Error::from(ErrorKind::OutOfMemory));
     };
-    order_one(&mut world, 0, last);
+    run_to(rt, &mut world, last);
+    mem::drop(world);
+    Ok(start.elapsed(rt)?.as_millis())
+}
+
+/// Sends the robot to the cell, and makes ticks.
+fn run_to<R: Alloc<A = Global>>(rt: &R, world: &mut World, cell: u32) {
+    order_one(world, 0, cell);
     for _tick in 0..TICKS {
         let _report = world.tick(rt);
     }
-    Ok(start.elapsed(rt)?.as_millis())
 }

@@ -2,9 +2,6 @@
 
 ghost use Rattle.std.specs.Prelude.{◌<◌, length};
 
-use crate::kind::{Kind, grid_of};
-use crate::random::Random;
-use crate::site::Site;
 use crate::steps::FLEETS;
 use crate::worlds::{LIMITS, MOST_ROBOTS, Work, give_one, measure_world, order_one};
 use fleet_world::{Notice, World};
@@ -12,6 +9,7 @@ use std::alloc::{Alloc, Global};
 use std::io;
 use std::thread::Threads;
 use std::time::{Clock, Instant};
+use yardstick::{Kind, Random, Site, grid_of};
 
 /// How many ticks times robots a run has.
 const ROBOT_TICKS: usize = 256_000;

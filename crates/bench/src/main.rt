@@ -4,27 +4,30 @@
 
 mod bridges;
 mod checks;
-mod course;
 mod crowd;
 mod fields;
-mod fleet;
 mod hostile;
-mod kernel;
-mod kind;
 mod lifelong;
 mod maps;
-mod measure;
-mod random;
-mod shape;
-mod site;
 mod steps;
 mod ticks;
 mod worlds;
 
-use kernel::{Kernel, run};
-use std::alloc::Alloc;
+use bridges::measure_bridge;
+use checks::measure_check;
+use crowd::tell_crowd;
+use fields::{measure_field, measure_fields};
+use hostile::measure_hostile;
+use lifelong::measure_lifelong;
+use maps::tell_maps;
+use std::alloc::{Alloc, Global};
 use std::env::Env;
+use std::thread::Threads;
+use std::time::Clock;
 use std::{env, io};
+use steps::measure_step;
+use ticks::measure_tick;
+use yardstick::{Kernel, Kind, Shape};
 
 /// What is printed where no kernel is named.
 const KERNELS: &str =
@@ -38,6 +41,27 @@ fn kernel_asked(rt: &(impl Env + Alloc)) -> io::Result<Option<Kernel>> {
         Some(word) => Kernel::named(word.as_str()),
         None => None,
     })
+}
+
+/// Measures the kernel, and prints a line for each measure.
+fn run<R: Alloc<A = Global> + Clock + Print + Threads + Sync>(
+    rt: &R,
+    kernel: Kernel,
+) -> io::Result<()> {
+    match kernel {
+        Kernel::Field => measure_field(rt, &Kind::ALL),
+        Kernel::Fields => measure_fields(rt, Kind::Warehouse),
+        Kernel::Bridge => measure_bridge(rt, &Kind::ALL),
+        Kernel::Check => measure_check(rt, &[Kind::Warehouse, Kind::Open]),
+        Kernel::Step => measure_step(rt, &[Kind::Warehouse, Kind::Open]),
+        Kernel::Tick => measure_tick(rt, &[Kind::Warehouse, Kind::Open]),
+        Kernel::Lifelong => measure_lifelong(rt, &[Kind::Warehouse, Kind::Open]),
+        Kernel::Hostile => measure_hostile(rt, &Shape::ALL),
+        Kernel::Maps => {
+            tell_maps(rt, &Kind::ALL, &Shape::ALL)?;
+            tell_crowd(rt)
+        }
+    }
 }
 
 fn main(rt: HostRuntime) -> io::Result<()> {

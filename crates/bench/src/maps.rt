@@ -1,11 +1,10 @@
 //! The maps that are measured, each with its counts.
 
 use crate::hostile::read_grid;
-use crate::kind::{Kind, grid_of};
-use crate::shape::Shape;
 use fleet_grid::Grid;
 use std::alloc::{Alloc, Global};
 use std::io;
+use yardstick::{Kind, Shape, grid_of};
 
 /// A line of a map's counts.
 fn tell(rt: &impl Print, name: &str, grid: &Grid) -> io::Result<()> {

@@ -2,19 +2,15 @@
 
 ghost use Rattle.std.specs.Prelude.{◌≡◌, ℕ, ◌<◌, ◌≤◌, length, vec_len};
 ghost use Rattle.fleet_grid.specs.Step.{IsPlacement};
-ghost use Rattle.bench.specs.Fleet.{AreWithin, Serves, IsUnderWay};
+ghost use Rattle.yardstick.specs.Fleet.{AreWithin, Serves, IsUnderWay};
 
-use crate::fleet::Fleet;
-use crate::kind::{Kind, grid_of};
-use crate::measure::{Measure, print_measure};
-use crate::random::Random;
-use crate::site::Site;
 use fleet_field::Compass;
 use fleet_hooks::{TieHook, TieLaw, TieView};
 use fleet_pibt::Stepper;
 use std::alloc::{Alloc, Global};
 use std::io;
 use std::time::{Clock, Instant};
+use yardstick::{Fleet, Kind, Measure, Random, Site, grid_of, print_measure};
 
 /// How many robots there are.
 pub const FLEETS: [usize; 3] = [16, 128, 512];

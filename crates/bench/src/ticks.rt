@@ -2,10 +2,6 @@
 
 ghost use Rattle.std.specs.Prelude.{◌<◌, length};
 
-use crate::kind::{Kind, grid_of};
-use crate::measure::Measure;
-use crate::random::Random;
-use crate::site::Site;
 use crate::steps::FLEETS;
 use crate::worlds::{LIMITS, MOST_ROBOTS, Work, give_one, measure_world, order_one};
 use fleet_world::World;
@@ -13,6 +9,7 @@ use std::alloc::{Alloc, Global};
 use std::io;
 use std::thread::Threads;
 use std::time::{Clock, Instant};
+use yardstick::{Kind, Measure, Random, Site, grid_of};
 
 /// From how many cells robots take their goals.
 const GOALS: usize = 64;

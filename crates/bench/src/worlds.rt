@@ -2,10 +2,7 @@
 
 ghost use Rattle.std.specs.Prelude.{◌<◌, length};
 
-use crate::kind::{Kind, grid_of};
 use crate::lifelong::{print_run, time_run};
-use crate::measure::print_measure;
-use crate::random::Random;
 use crate::steps::ANY;
 use crate::ticks::time_ticks;
 use fleet_hooks::{
@@ -14,8 +11,10 @@ use fleet_hooks::{
 use fleet_world::{Limits, Notice, Order, World};
 use std::alloc::{Alloc, Global};
 use std::io::{self, ErrorKind};
+use std::mem;
 use std::thread::Threads;
 use std::time::Clock;
+use yardstick::{Kind, Random, grid_of, print_measure};
 
 /// A law that any stamp meets.
 pub const STAMPS: StampLaw = StampLaw {
@@ -71,7 +70,9 @@ pub(crate) fn measure_world<R: Alloc<A = Global> + Clock + Print + Threads + Syn
         return Err(io::Error::from(ErrorKind::OutOfMemory));
     };
     world.keep(KEPT);
-    work_on(rt, kind, work, &mut world, goals, random)
+    let worked = work_on(rt, kind, work, &mut world, goals, random);
+    mem::drop(world);
+    worked
 }
 
 /// Measures a world, and prints the line.

@@ -33,12 +33,24 @@ pub(crate) fn play(
     last: usize,
 ) -> Result<Result<Played, Stage>, AllocError> {
     let heap = Refusing::after(alloc, before);
-    let (grid, script) = match read(&heap, case) {
+    play_over(alloc, &((), &heap), case, calls, last)
+}
+
+/// Plays the first `last` calls of a row, all of whose memory is the runtime's.
+fn play_over<A: Allocator + Copy, R: Alloc<A = A>>(
+    alloc: Global,
+    rt: &R,
+    case: Case<'_>,
+    calls: &[Call],
+    last: usize,
+) -> Result<Result<Played, Stage>, AllocError> {
+    let heap = rt.alloc();
+    let (grid, script) = match read(heap, case) {
         Ok(read) => read,
         Err(stage) => return Ok(Err(stage)),
     };
     let stamped = Arc::new(alloc, AtomicU64::new(0))?;
-    let mut hooks = Hooks::new(&heap);
+    let mut hooks = Hooks::new(heap);
     for _robot in 0..script.starts.len() {
         let (arrivals, farewells) = (Arc::try_clone(&stamped)?, Arc::try_clone(&stamped)?);
         let tie = |_view: TieView| -> u8
@@ -58,12 +70,11 @@ pub(crate) fn play(
         }
     }
     let (starts, clients, limits) = (script.starts, script.clients, script.limits);
-    let mut world = match World::open(&heap, grid, starts, clients, limits, hooks) {
+    let mut world = match World::open(heap, grid, starts, clients, limits, hooks) {
         Ok(world) => world,
         Err(fault) => return Ok(Err(stage_of(fault))),
     };
-    let rt = ((), &heap);
-    Ok(Ok(play_calls(alloc, &rt, &mut world, calls, last, &stamped)?))
+    Ok(Ok(play_calls(alloc, rt, &mut world, calls, last, &stamped)?))
 }
 
 /// Where a row ends whose world is not opened.
@@ -89,13 +100,23 @@ pub(crate) fn run_row<R: Alloc<A = Global> + Threads + Sync>(
     events: &[Event],
     before: u64,
 ) -> Result<Result<Run, Stage>, AllocError> {
-    let alloc = rt.alloc();
-    let heap = Refusing::after(alloc, before);
-    let (grid, script) = match read(&heap, case) {
+    let heap = Refusing::after(rt.alloc(), before);
+    run_over(rt.alloc(), &(rt, &heap), case, events)
+}
+
+/// Runs the events of a row's script, all of whose memory is the runtime's.
+fn run_over<A: Allocator + Copy + Send + Sync, R: Alloc<A = A> + Threads + Sync>(
+    alloc: Global,
+    rt: &R,
+    case: Case<'_>,
+    events: &[Event],
+) -> Result<Result<Run, Stage>, AllocError> {
+    let heap = rt.alloc();
+    let (grid, script) = match read(heap, case) {
         Ok(read) => read,
         Err(stage) => return Ok(Err(stage)),
     };
-    let mut hooks = Hooks::new(&heap);
+    let mut hooks = Hooks::new(heap);
     for _robot in 0..script.starts.len() {
         let tie = |_view: TieView| -> u8
             ensures { result ≡ 0 }
@@ -114,6 +135,6 @@ pub(crate) fn run_row<R: Alloc<A = Global> + Threads + Sync>(
         }
     }
     let (starts, clients, limits) = (script.starts, script.clients, script.limits);
-    let ended = run(&(rt, &heap), grid, starts, clients, limits, hooks, events);
-    Ok(Ok(end_run(alloc, &heap, ended)?))
+    let ended = run(rt, grid, starts, clients, limits, hooks, events);
+    Ok(Ok(end_run(alloc, heap, ended)?))
 }

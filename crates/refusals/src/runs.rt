@@ -3,7 +3,7 @@
 ghost use Rattle.std.specs.Prelude.{◌≡◌, ◌↔◌, IsTrue, string_bytes};
 
 use fleet_trace::{JudgeFault, judge, write_trace};
-use fleet_world::{OpenFault, Played, RunFault};
+use fleet_world::{OpenFault, Played, Reply, RunFault};
 use std::alloc::{AllocError, Allocator, Global};
 use std::fmt::Write;
 
@@ -41,15 +41,12 @@ pub(crate) enum Run {
 }
 
 /// A line for each reply.
-fn replies_of<A: Allocator + Copy>(
-    alloc: Global,
-    played: &Played<A>,
-) -> Result<String, AllocError> {
-    let mut replies = String::new(alloc);
-    for reply in played.replies.as_slice() {
-        writeln!(replies, "{reply:?}")?;
+fn text_of(alloc: Global, replies: &[Reply]) -> Result<String, AllocError> {
+    let mut text = String::new(alloc);
+    for reply in replies {
+        writeln!(text, "{reply:?}")?;
     }
-    Ok(replies)
+    Ok(text)
 }
 
 /// Judges what a run made.
@@ -58,7 +55,7 @@ fn judge_run<A: Allocator + Copy>(
     heap: A,
     played: Played<A>,
 ) -> Result<Run, AllocError> {
-    let replies = replies_of(alloc, &played)?;
+    let replies = text_of(alloc, played.replies.as_slice())?;
     let (grid, chapter) = played.world.finish();
     match judge(heap, &grid, &chapter) {
         Err(JudgeFault::NoMemory) => {

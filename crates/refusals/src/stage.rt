@@ -4,7 +4,7 @@ use crate::case::Case;
 use fleet_grid::Grid;
 use fleet_map::{MapFault, read_map};
 use fleet_script::{Script, ScriptFault, read_script};
-use std::alloc::Allocator;
+use std::alloc::{AllocError, Allocator};
 
 /// Where a row ended before its world's first call.
 #[derive(Clone, Copy, Debug, PartialEq, Eq)]
@@ -43,6 +43,19 @@ impl Stage {
     }
 }
 
+/// The grid of a row.
+fn grid_of<A: Allocator + Copy>(alloc: A, text: &[u8]) -> Result<Grid<A>, Stage> {
+    let map = match read_map(alloc, text) {
+        Ok(map) => map,
+        Err(MapFault::NoMemory) => return Err(Stage::Map),
+        Err(_) => return Err(Stage::Faulty),
+    };
+    match Grid::new(map) {
+        Ok(grid) => Ok(grid),
+        Err(AllocError) => Err(Stage::Grid),
+    }
+}
+
 /// The grid and the script of a row.
 pub(crate) fn read<A: Allocator + Copy>(
     alloc: A,
@@ -51,14 +64,7 @@ pub(crate) fn read<A: Allocator + Copy>(
     if case.script.len() > 16_777_216 {
         return Err(Stage::Faulty);
     }
-    let map = match read_map(alloc, case.map) {
-        Ok(map) => map,
-        Err(MapFault::NoMemory) => return Err(Stage::Map),
-        Err(_) => return Err(Stage::Faulty),
-    };
-    let Ok(grid) = Grid::new(map) else {
-        return Err(Stage::Grid);
-    };
+    let grid = grid_of(alloc, case.map)?;
     match read_script(alloc, case.script) {
         Ok(script) => Ok((grid, script)),
         Err(ScriptFault::NoMemory) => Err(Stage::Script),

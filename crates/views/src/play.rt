@@ -10,8 +10,9 @@ use fleet_hooks::{
     ArrivalHook, ArrivalView, Farewell, FarewellView, Hooks, StampLaw, TieHook, TieLaw, TieView,
 };
 use fleet_map::MapText;
-use fleet_world::{Entry, Played, RunFault, run};
+use fleet_world::{Entry, run};
 use std::alloc::{Alloc, AllocError, Global};
+use std::mem;
 use std::sync::Arc;
 use std::sync::atomic::{AtomicU64, Ordering};
 use std::thread::Threads;
@@ -53,9 +54,9 @@ fn rank_of(robot: u32, dir: Dir) -> u8 {
 }
 
 /// The stamps of a run, tick by tick, those of arrivals first.
-fn stamps_of(alloc: Global, played: &Played) -> Result<Vec<u32>, AllocError> {
+fn stamps_of(alloc: Global, entries: &[Entry]) -> Result<Vec<u32>, AllocError> {
     let mut stamps = Vec::new(alloc);
-    for entry in &played.world.chapter().entries {
+    for entry in entries {
         match entry {
             Entry::Take { .. } => {}
             Entry::Tick {
@@ -117,21 +118,19 @@ fn compare_noted(met: Noted<'_>, wanted: Noted<'_>) -> Finding
     Finding::AsTheRow
 }
 
-/// Compares a run with the row.
+/// Compares the entries of a run, its robots' cells at the end, and what its closures noted, with the row.
 fn compare(
     alloc: Global,
     row: &Row,
-    ended: Result<Played, RunFault>,
+    entries: &[Entry],
+    cells: &[u32],
     note: u64,
 ) -> Result<Finding, AllocError> {
-    let Ok(played) = ended else {
-        return Ok(Finding::NotPlayed);
-    };
-    let (stamps, wanted_stamps) = (stamps_of(alloc, &played)?, row_stamps(alloc, row)?);
+    let (stamps, wanted_stamps) = (stamps_of(alloc, entries)?, row_stamps(alloc, row)?);
     let met = Noted {
         note,
         stamps: &stamps,
-        cells: played.world.placement(),
+        cells,
     };
     let wanted = Noted {
         note: row.shown.iter().fold(0, |note, shown| shown.noted(note)),
@@ -166,8 +165,13 @@ fn find<R: Alloc<A = Global> + Threads + Sync>(
     let alloc = rt.alloc();
     let starts = Vec::from_slice(alloc, row.starts)?;
     let hooks = hooks.cut(starts.len());
-    let ended = run(rt, grid, starts, 2, row.limits, hooks, row.events);
-    compare(alloc, row, ended, note.load(Ordering::SeqCst))
+    let Ok(played) = run(rt, grid, starts, 2, row.limits, hooks, row.events) else {
+        return Ok(Finding::NotPlayed);
+    };
+    let (entries, cells) = (&played.world.chapter().entries, played.world.placement());
+    let found = compare(alloc, row, entries, cells, note.load(Ordering::SeqCst));
+    mem::drop(played);
+    found
 }
 
 /// Plays a row with closures that note each view, in one note for all robots.

@@ -10,6 +10,7 @@ use fleet_hooks::{
 use fleet_map::MapText;
 use fleet_world::World;
 use std::alloc::{Alloc, AllocError, Global};
+use std::mem;
 
 /// Every robot's law: ranks of any kind.
 const RANKS: TieLaw = TieLaw {
@@ -99,8 +100,9 @@ pub(crate) fn play<R: Alloc<A = Global>>(rt: &R, row: &Row) -> Result<String, Al
     let starts = Vec::from_slice(alloc, row.starts)?;
     match World::open(alloc, grid, starts, 1, row.limits, hooks) {
         Ok(mut world) => {
-            let lines = answers(rt, &mut world, row.calls)?;
-            format!(in alloc; "{}\n{lines}", row.name)
+            let lines = answers(rt, &mut world, row.calls);
+            mem::drop(world);
+            format!(in alloc; "{}\n{}", row.name, lines?)
         }
         Err(fault) => format!(in alloc; "{}: {fault:?}\n", row.name),
     }

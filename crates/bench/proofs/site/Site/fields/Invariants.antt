@@ -1,6 +1,0 @@
-use Rattle.std.proofs.Common.{◌≡◌, vec_len}
-use Rattle.bench.specs.Fleet.{Serves}
-use Rattle.bench.proofs.site.Site.fields.Given as goal
-
-abbrev pub invariant-loop : goal.invariant-loop
-invariant-loop l = record { count : vec_len l.fields ≡ l.counter; serves : Serves l.self.grid l.self.home l.fields.items }

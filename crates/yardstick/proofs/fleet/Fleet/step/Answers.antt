@@ -1,0 +1,17 @@
+use Rattle.std.proofs.Common.{◌≡◌, ◌∙◌, ap, arith, length, drop}
+use Rattle.yardstick.proofs.Courses.{goals_for, way_for, seam}
+use Rattle.yardstick.proofs.fleet.Fleet.step.Goals as goal
+
+pub step-requires-clause-goals : goal.step-requires-clause-goals
+step-requires-clause-goals g c =
+    let s = c.args.self.now in
+    goals_for c.args.site.now.grid c.args.site.now.home c.args.fields.now s.from.items s.to.items c.deref-2.result.now s.waits.items c.deref-3.result.now s.aims.items c.deref.result.now
+    c.deref-2.ensures.value c.deref-3.ensures.value c.deref.ensures.value c.requires.serves c.requires.way
+
+pub returns-clause-way : goal.returns-clause-way
+returns-clause-way g c =
+    let s = c.args.self.now in
+    let free = c.step.ensures.conflict_free in
+    let size : s.to.len ≡ length c.step.new.to = omega (arith, s.to.ok.0, c.requires.way.next, free.same_length, ap length c.deref-2.ensures.value) in
+    way_for c.args.site.now.grid c.args.site.now.home (length c.args.fields.now) s.from.items s.to.items c.deref-2.result.now c.step.new.to c.swap.new.x.items c.swap.new.y.items s.waits.items s.aims.items
+    c.deref-2.ensures.value (ap (λ v. v.items) c.swap.ensures.x_after ∙ seam s.to.len c.step.new.to (drop (length c.step.new.to) s.to.items) size) (ap (λ v. v.items) c.swap.ensures.y_after) c.requires.way free

@@ -1,0 +1,65 @@
+//! What a measure found, and its line.
+
+ghost use Rattle.std.specs.Prelude.{◌≡◌, ◌+◌, ◌<◌, ◌^◌, min};
+
+use std::io;
+
+/// So many repeats on a map, and the time of the fastest and of all together.
+#[derive(Clone, Copy, Debug, PartialEq, Eq)]
+pub struct Measure {
+    /// How many times the work was done.
+    pub repeats: u64,
+    /// Nanoseconds of the fastest.
+    pub least: u128,
+    /// Nanoseconds of all.
+    pub all: u128,
+}
+
+impl Measure {
+    /// Before the first repeat.
+    pub const NONE: Measure = Measure {
+        repeats: 0,
+        least: u128::MAX,
+        all: 0,
+    };
+
+    /// With one repeat more, which took so many nanoseconds.
+    pub fn with(self, nanos: u128) -> Measure
+        ensures more { self.repeats + 1 < 2 ^ 64 → result.repeats ≡ self.repeats + 1 }
+        ensures least { result.least ≡ min self.least nanos }
+        ensures all { self.all + nanos < 2 ^ 128 → result.all ≡ self.all + nanos }
+    {
+        Measure {
+            repeats: self.repeats.saturating_add(1),
+            least: self.least.min(nanos),
+            all: self.all.saturating_add(nanos),
+        }
+    }
+}
+
+/// A line of the kernel, the map, the number of robots, how many things one repeat works on, the repeats, and the nanoseconds by thing of the
+/// fastest repeat and on average.
+pub fn print_measure(
+    rt: &impl Print,
+    kernel: &str,
+    map: &str,
+    fleet: usize,
+    things: u64,
+    found: Measure,
+) -> io::Result<()> {
+    let repeats = found.repeats;
+    let least = hundredths(found.least, things);
+    let mean = hundredths(found.all, things.saturating_mul(repeats));
+    println!(rt;
+        "{kernel} map={map} fleet={fleet} things={things} repeats={repeats} least_ns={}.{:02} mean_ns={}.{:02}",
+        least / 100,
+        least % 100,
+        mean / 100,
+        mean % 100
+    )
+}
+
+/// A hundred times the nanoseconds by thing.
+fn hundredths(nanos: u128, things: u64) -> u128 {
+    nanos.saturating_mul(100) / u128::from(things.max(1))
+}

@@ -1,0 +1,31 @@
+//! Numbers that look as if they were thrown, and are the same in each run.
+
+ghost use Rattle.std.specs.Prelude.{◌≡◌, ◌<◌};
+
+/// A linear congruential sequence.
+#[derive(Clone, Copy, Debug)]
+pub struct Random {
+    /// What the next number comes of.
+    pub seed: u64,
+}
+
+impl Random {
+    /// The sequence from a seed on.
+    pub fn from_seed(seed: u64) -> Random
+        ensures { result.seed ≡ seed }
+    {
+        Random { seed }
+    }
+
+    /// The next number, below a bound.
+    pub fn below(&mut self, bound: usize) -> usize
+        requires { 0 < bound }
+        ensures { result < bound }
+    {
+        self.seed = self
+            .seed
+            .wrapping_mul(6364136223846793005)
+            .wrapping_add(1442695040888963407);
+        ((self.seed >> 33) % bound as u64) as usize
+    }
+}
