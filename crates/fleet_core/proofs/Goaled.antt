@@ -1,5 +1,5 @@
 -- The goals that a planner keeps stay those of the history after each entry.
-use Rattle.std.proofs.Common.{◌≡◌, ℕ, zero, suc, ◌<◌, ◌↔◌, List, [], ◌∷◌, ◌++◌, length, map, get_or, cond, eqb, Bool, true, false, Option, Some, None, replicate, sym, refl, ap, ◌∙◌, subst, arith, inl, inr}
+use Rattle.std.proofs.Common.{◌≡◌, ℕ, zero, suc, ◌<◌, ◌↔◌, List, [], ◌∷◌, ◌++◌, length, map, get_or, cond, Bool, true, false, Option, Some, None, replicate, sym, refl, ap, ◌∙◌, subst, arith, inl, inr}
 use Rattle.std.specs.Prelude.{IsTrue, unwrap_or, slice_get, slice_set, slice_index, slice_index_or}
 use Rattle.std.specs.List.{range_with_len}
 use Rattle.std.proofs.lemmas.List.{append-nil, length-map, length-set, length-replicate, get_or_past, get_or-set_same, get_or-set_other, ext_get_or}

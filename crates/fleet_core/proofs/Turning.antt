@@ -1,5 +1,5 @@
 -- The turns of a tick lead to the goals behind it.
-use Rattle.std.proofs.Common.{◌≡◌, ℕ, zero, suc, ◌+◌, ◌<◌, ◌≤◌, List, [], ◌∷◌, ◌++◌, length, map, get_or, cond, eqb, Bool, true, false, Option, Some, None, sym, refl, ap, ◌∙◌, subst, arith, inl, inr}
+use Rattle.std.proofs.Common.{◌≡◌, ℕ, zero, suc, ◌+◌, ◌<◌, ◌≤◌, List, [], ◌∷◌, ◌++◌, length, get_or, cond, eqb, Bool, true, false, Option, Some, None, sym, refl, ap, ◌∙◌, subst, arith, inl, inr}
 use Rattle.std.specs.Prelude.{All, unwrap_or, slice_get, slice_set, slice_index}
 use Rattle.std.specs.List.{flat_map, range_with_len}
 use Rattle.std.proofs.lemmas.Bool.{cases_eq}
@@ -15,7 +15,7 @@ use Rattle.fleet_queue.specs.Queue.{Queue}
 use Rattle.fleet_history.specs.History.{History, robots, place, unfinished, front}
 use Rattle.fleet_history.proofs.Legal.{All-single}
 use Rattle.fleet_history.proofs.Reach.{CanBeReached, legal-reach}
-use Rattle.fleet_plan.specs.Planned.{goals, cell_of}
+use Rattle.fleet_plan.specs.Planned.{cell_of}
 use Rattle.fleet_plan.proofs.Lists.{item_of}
 use Rattle.fleet_state.specs.Landed.{landing}
 use Rattle.fleet_state.specs.Robots.{queue_at}
@@ -33,7 +33,7 @@ turn_of r u = record { robot = r; goal = cell_of (slice_get u 1) }
 none_some : {X : Type 0} (x : X) → None ≡ Some x → ⊥
 none_some x e = cc
 
-pub turn-lands : (r cell : ℕ) (u : List Errand) (e : Errand) → landing cell u ≡ Some e → turn_on r cell u ≡ turn_of r u ∷ []
+turn-lands : (r cell : ℕ) (u : List Errand) (e : Errand) → landing cell u ≡ Some e → turn_on r cell u ≡ turn_of r u ∷ []
 turn-lands r cell [] e l = absurd (none_some e l)
 turn-lands r cell (f ∷ rest) e l = by_case (eqb f.cell cell) l
   where
@@ -41,7 +41,7 @@ turn-lands r cell (f ∷ rest) e l = by_case (eqb f.cell cell) l
     by_case true l = refl
     by_case false l = absurd (none_some e l)
 
-pub turn-stays : (r cell : ℕ) (u : List Errand) → landing cell u ≡ None → turn_on r cell u ≡ []
+turn-stays : (r cell : ℕ) (u : List Errand) → landing cell u ≡ None → turn_on r cell u ≡ []
 turn-stays r cell [] l = refl
 turn-stays r cell (f ∷ rest) l = by_case (eqb f.cell cell) l
   where
@@ -89,14 +89,14 @@ module _ (queues : List Queue) (to : List ℕ) where
   turns_next : (n : ℕ) → turns_below (suc n) ≡ turns_below n ++ turn_on n (slice_index to n) (errands n)
   turns_next n = let more : suc n ≡ n + 1 = omega arith in ap turns_below more ∙ turns_more n
 
-  pub turns-land : (n : ℕ) (ts : List Turn) (e : Errand) (x : Option ℕ) → ts ≡ turns_below n → landing (slice_index to n) (errands n) ≡ Some e → x ≡ cell_of (slice_get (errands n) 1) → ts ++ record { robot = n; goal = x } ∷ [] ≡ turns_below (n + 1)
-  turns-land n ts e x same lands goes =
+  pub turns-land : (n : ℕ) (ts : List Turn) (o : Option Errand) (e : Errand) (x : Option ℕ) → ts ≡ turns_below n → o ≡ landing (slice_index to n) (errands n) → o ≡ Some e → x ≡ cell_of (slice_get (errands n) 1) → ts ++ record { robot = n; goal = x } ∷ [] ≡ turns_below (n + 1)
+  turns-land n ts o e x same finds lands goes =
       ap (λ (xs : List Turn). xs ++ record { robot = n; goal = x } ∷ []) same
-      ∙ (ap (λ (y : Option ℕ). turns_below n ++ record { robot = n; goal = y } ∷ []) goes ∙ sym (turns_more n ∙ ap (λ (xs : List Turn). turns_below n ++ xs) (turn-lands n (slice_index to n) (errands n) e lands)))
+      ∙ (ap (λ (y : Option ℕ). turns_below n ++ record { robot = n; goal = y } ∷ []) goes ∙ sym (turns_more n ∙ ap (λ (xs : List Turn). turns_below n ++ xs) (turn-lands n (slice_index to n) (errands n) e (sym finds ∙ lands))))
 
-  pub turns-stay : (n : ℕ) (ts : List Turn) → ts ≡ turns_below n → landing (slice_index to n) (errands n) ≡ None → ts ≡ turns_below (n + 1)
-  turns-stay n ts same stays =
-      same ∙ sym (turns_more n ∙ (ap (λ (xs : List Turn). turns_below n ++ xs) (turn-stays n (slice_index to n) (errands n) stays) ∙ append-nil (turns_below n)))
+  pub turns-stay : (n : ℕ) (ts : List Turn) (o : Option Errand) → ts ≡ turns_below n → o ≡ landing (slice_index to n) (errands n) → o ≡ None → ts ≡ turns_below (n + 1)
+  turns-stay n ts o same finds stays =
+      same ∙ sym (turns_more n ∙ (ap (λ (xs : List Turn). turns_below n ++ xs) (turn-stays n (slice_index to n) (errands n) (sym finds ∙ stays)) ∙ append-nil (turns_below n)))
 
   turn_one : (n : ℕ) → length (turn_on n (slice_index to n) (errands n)) ≤ 1
   turn_one n = turn_cases (λ ts. length ts ≤ 1) n (slice_index to n) (errands n) (λ e. omega arith) (λ e. omega arith)

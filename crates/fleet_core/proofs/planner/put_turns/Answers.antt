@@ -1,4 +1,4 @@
-use Rattle.std.proofs.Common.{arith, ◌∙◌, ap, sym, length}
+use Rattle.std.proofs.Common.{arith, ◌∙◌, ap, length}
 use Rattle.fleet_core.proofs.Turning.{turns-few, turns-land, turns-stay}
 use Rattle.fleet_core.proofs.planner.put_turns.Goals as goal
 use Rattle.fleet_core.proofs.planner.put_turns.Goals.{in-Some, in_default}
@@ -16,11 +16,11 @@ loop-r-preserved g c =
     let before = c.loop-r.invariant.turns in
     elim c.match-landing.branch [
       | in-Some w ↦ record {
-        turns = rw (w.turns-is, w.push_reserved.ensures.items) (turns-land queues to n c.loop-r.turns.items w.in-Some._errand _ before (sym c.landing.ensures ∙ w.in-Some.is) w.goal_after.ensures);
-        room = rw w.turns-is (w.push_reserved.ensures.capacity ∙ c.loop-r.invariant.room);
+        turns = rw (w.turns-is, w.push_reserved.ensures.items) (turns-land queues to n c.loop-r.turns.items c.landing.result w.in-Some._errand w.goal_after.result before c.landing.ensures w.in-Some.is w.goal_after.ensures);
+        room = rw (w.turns-is, w.push_reserved.ensures.capacity) c.loop-r.invariant.room;
       }
       | in_default w ↦ record {
-        turns = rw w.turns-is (turns-stay queues to n c.loop-r.turns.items before (sym c.landing.ensures ∙ w.in_default.is));
+        turns = rw w.turns-is (turns-stay queues to n c.loop-r.turns.items c.landing.result before c.landing.ensures w.in_default.is);
         room = rw w.turns-is c.loop-r.invariant.room;
       }
     ]
