@@ -68,11 +68,9 @@ fn longest_unused_goes_first(rt: HostRuntime) -> Result<(), Fail> {
     let _second = visit(&mut store, &mut shelf, &grid, 2, 8)?;
     let _again = visit(&mut store, &mut shelf, &grid, 0, 8)?;
     let _third = visit(&mut store, &mut shelf, &grid, 8, 8)?;
-    // The first two goals have place: only they are searched where they are missing.
-    assert!(rt; are_floor(&grid, &[8, 8, 0]));
-    assert!(rt; shelf.search_ahead(&rt, &grid, &[8, 8, 0])?);
-    assert!(rt; are_floor(&grid, &[8, 8, 2]));
-    assert!(rt; !shelf.search_ahead(&rt, &grid, &[8, 8, 2])?);
+    assert!(rt; shelf.take(2).is_none());
+    assert!(rt; shelf.take(0).is_some());
+    assert!(rt; shelf.take(8).is_some());
     Ok(())
 }
 
@@ -88,11 +86,9 @@ fn searched_ahead(rt: HostRuntime) -> Result<(), Fail> {
     let mut store = FieldStore::new(rt.alloc())?;
     assert!(rt; grid.is_floor(8));
     assert!(rt; visit(&mut store, &mut shelf, &grid, 8, 0)? == Some(4));
-    // The first two goals have place: only they are searched where they are missing.
-    assert!(rt; are_floor(&grid, &[8, 8, 0]));
-    assert!(rt; shelf.search_ahead(&rt, &grid, &[8, 8, 0])?);
-    assert!(rt; are_floor(&grid, &[8, 8, 2]));
-    assert!(rt; !shelf.search_ahead(&rt, &grid, &[8, 8, 2])?);
+    assert!(rt; shelf.take(2).is_none());
+    assert!(rt; shelf.take(0).is_some());
+    assert!(rt; shelf.take(8).is_some());
     Ok(())
 }
 
@@ -104,14 +100,11 @@ fn nothing_is_kept(rt: HostRuntime) -> Result<(), Fail> {
     let mut shelf = Shelf::new(rt.alloc(), 4096);
     let _kept = visit(&mut store, &mut shelf, &grid, 0, 8)?;
     shelf.keep(8);
-    // No goal has place: none is searched.
-    assert!(rt; are_floor(&grid, &[0]));
-    assert!(rt; !shelf.search_ahead(&rt, &grid, &[0])?);
+    assert!(rt; shelf.take(0).is_none());
     // Too few bytes for one field.
     let mut small = Shelf::new(rt.alloc(), 8);
     let _gone = visit(&mut store, &mut small, &grid, 2, 8)?;
-    assert!(rt; are_floor(&grid, &[2]));
-    assert!(rt; !small.search_ahead(&rt, &grid, &[2])?);
+    assert!(rt; small.take(2).is_none());
     Ok(())
 }
 
@@ -119,20 +112,19 @@ fn nothing_is_kept(rt: HostRuntime) -> Result<(), Fail> {
 #[test]
 fn kept_goes_before_want_of_memory(rt: HostRuntime) -> Result<(), Fail> {
     let grid = ring(&rt, rt.alloc())?;
-    assert!(rt; grid.is_floor(0) && grid.is_floor(2) && are_floor(&grid, &[2, 2, 0]));
+    assert!(rt; grid.is_floor(0) && grid.is_floor(2));
     let mut gone = 0;
     for before in 0..16 {
         let heap = Refusing::after(rt.alloc(), before);
         let Ok(mut store) = FieldStore::new(&heap) else {
             continue;
         };
-        // Two fields of nine cells.
-        let mut shelf = Shelf::new(&heap, 26);
+        let mut shelf = Shelf::new(&heap, 4096);
         if visit(&mut store, &mut shelf, &grid, 0, 8).is_err() {
             continue;
         }
         assert!(rt; visit(&mut store, &mut shelf, &grid, 2, 8)? == Some(2));
-        if matches!(shelf.search_ahead(&rt, &grid, &[2, 2, 0]), Ok(false)) {
+        if shelf.take(0).is_none() {
             gone = before;
         }
     }
