@@ -18,6 +18,3 @@ pub use limits::Limits;
 pub use notice::Notice;
 pub use order::Order;
 pub use verdict::Verdict;
-
-#[cfg(test)]
-mod tests;

@@ -6,6 +6,3 @@ mod idle;
 pub mod law;
 
 pub use idle::{idle_within, longest_queue};
-
-#[cfg(test)]
-mod tests;

@@ -13,6 +13,3 @@ mod tree;
 
 pub use first::first_bridge;
 pub use search::is_bridge;
-
-#[cfg(test)]
-mod tests;

@@ -6,6 +6,3 @@ mod fault;
 
 pub use check::check_step;
 pub use fault::StepFault;
-
-#[cfg(test)]
-mod tests;

@@ -19,6 +19,3 @@ pub use field::Field;
 pub use several::fields;
 pub use shelf::Shelf;
 pub use store::FieldStore;
-
-#[cfg(test)]
-mod tests;

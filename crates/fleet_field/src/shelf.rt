@@ -98,7 +98,7 @@ impl<A: Allocator + Copy> Shelf<A> {
     }
 
     /// The kept field of a goal, which is not kept any more.
-    pub(crate) fn take(&mut self, goal: u32) -> Option<Compass<A>>
+    pub fn take(&mut self, goal: u32) -> Option<Compass<A>>
         ensures goal { IfSome result (λ field. field.goal ≡ goal) }
         ensures kept { IfSome result (λ field. Contains self.old field) }
         ensures others { All (Contains self.old) self.new }

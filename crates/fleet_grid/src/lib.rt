@@ -18,6 +18,3 @@ pub use law::{
     neighbours_differ_by_one, walks_join_and_turn,
 };
 pub use padded::{FAR, WALL, place_of};
-
-#[cfg(test)]
-mod tests;

@@ -15,6 +15,3 @@ pub use hooks::Hooks;
 pub use law::{StampLaw, TieLaw};
 pub use tie::TieHook;
 pub use views::{ArrivalView, FarewellView, TieView};
-
-#[cfg(test)]
-mod tests;

@@ -13,6 +13,3 @@ pub use client::Client;
 pub use fault::PostFault;
 pub use hall_end::HallEnd;
 pub use pair::lane_pair;
-
-#[cfg(test)]
-mod tests;

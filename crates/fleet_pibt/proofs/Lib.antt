@@ -13,7 +13,6 @@ pub mod Keys
 pub mod Choices
 pub mod Insertion
 pub mod Whole
-pub mod TwoCells
 pub mod Stepped
 pub mod Beside
 pub mod Seen

@@ -18,6 +18,3 @@ mod ways;
 pub use goals::Goals;
 pub use priority::order;
 pub use stepper::Stepper;
-
-#[cfg(test)]
-mod tests;

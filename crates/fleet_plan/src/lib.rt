@@ -9,6 +9,3 @@ mod waits;
 pub use fronts::write_goals;
 pub use mover::plan;
 pub use waits::{count_tick, eldest};
-
-#[cfg(test)]
-mod tests;

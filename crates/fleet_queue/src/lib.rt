@@ -6,6 +6,3 @@ mod queue;
 
 pub use errand::Errand;
 pub use queue::ErrandQueue;
-
-#[cfg(test)]
-mod tests;

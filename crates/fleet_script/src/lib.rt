@@ -11,6 +11,3 @@ mod script;
 pub use bundle::split_bundle;
 pub use law::reading_is_by_grammar;
 pub use script::{Script, ScriptFault, read_script};
-
-#[cfg(test)]
-mod tests;

@@ -14,6 +14,3 @@ pub use law::{trace_reads_back, write_and_read};
 pub use read::read_trace;
 pub use version::Version;
 pub use write::write_trace;
-
-#[cfg(test)]
-mod tests;

@@ -1,3 +1,0 @@
-//! Scripts and bundles, and their faults.
-
-mod scripts;

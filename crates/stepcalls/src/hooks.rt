@@ -1,0 +1,124 @@
+//! The closures' own answers, and how often they are called, which no clause says.
+
+ghost use Rattle.std.specs.Prelude.{◌≡◌, ◌<◌, ◌≤◌, ◌+◌, ℕ};
+
+use fleet_grid::Dir;
+use fleet_hooks::{
+    ArrivalHook, ArrivalView, Farewell, FarewellView, Hooks, StampLaw, TieHook, TieLaw, TieView,
+};
+use std::alloc::AllocError;
+use std::sync::Arc;
+use std::sync::atomic::{AtomicU64, Ordering};
+
+const SOUTH_FIRST: TieLaw = TieLaw {
+    low: [1, 1, 0, 1],
+    high: [9, 9, 0, 9],
+};
+
+const THOUSAND: StampLaw = StampLaw { low: 0, high: 999 };
+
+const ANY: StampLaw = StampLaw {
+    low: 0,
+    high: 4294967295,
+};
+
+#[test]
+fn rank_is_the_closure_s_answer_of_one_call(rt: HostRuntime) -> Result<(), AllocError> {
+    let alloc = rt.alloc();
+    let calls = Arc::new(alloc, AtomicU64::new(0))?;
+    let counted = Arc::try_clone(&calls)?;
+    let hook = TieHook::new(
+        SOUTH_FIRST,
+        Box::new(alloc, move |view: TieView| {
+            counted.fetch_add(1, Ordering::SeqCst);
+            if view.dir == Dir::South { 0 } else { 4 }
+        })?,
+    );
+    assert!(rt; hook.law() == SOUTH_FIRST);
+    let view = TieView {
+        robot: 0,
+        cell: 4,
+        neighbour: 7,
+        dir: Dir::South,
+        tick: 1,
+    };
+    assert_eq!(rt; hook.rank(view), 0);
+    let east = TieView {
+        neighbour: 5,
+        dir: Dir::East,
+        ..view
+    };
+    assert_eq!(rt; hook.rank(east), 4);
+    assert_eq!(rt; calls.load(Ordering::SeqCst), 2);
+    Ok(())
+}
+
+#[test]
+fn stamp_is_the_closure_s_answer_of_one_call(rt: HostRuntime) -> Result<(), AllocError> {
+    let alloc = rt.alloc();
+    let calls = Arc::new(alloc, AtomicU64::new(0))?;
+    let counted = Arc::try_clone(&calls)?;
+    let hook = ArrivalHook::new(
+        THOUSAND,
+        Box::new(alloc, move |view: ArrivalView| {
+            counted.fetch_add(1, Ordering::SeqCst);
+            (view.tick % 1000) as u32
+        })?,
+    );
+    assert!(rt; hook.law() == THOUSAND);
+    let view = ArrivalView {
+        client: 0,
+        number: 1,
+        robot: 0,
+        cell: 1,
+        tick: 2026,
+    };
+    assert_eq!(rt; hook.stamp(view), 26);
+    assert_eq!(rt; calls.load(Ordering::SeqCst), 1);
+    Ok(())
+}
+
+#[test]
+fn farewell_is_the_closure_s_answer_of_its_one_call(rt: HostRuntime) -> Result<(), AllocError> {
+    let alloc = rt.alloc();
+    let calls = Arc::new(alloc, AtomicU64::new(0))?;
+    let counted = Arc::try_clone(&calls)?;
+    let farewell = Farewell::new(
+        ANY,
+        Box::new(alloc, move |view: FarewellView| {
+            counted.fetch_add(1, Ordering::SeqCst);
+            view.cell
+        })?,
+    );
+    assert!(rt; farewell.law() == ANY);
+    let view = FarewellView {
+        robot: 0,
+        cell: 7,
+        tick: 3,
+    };
+    assert_eq!(rt; farewell.call(view), 7);
+    assert_eq!(rt; calls.load(Ordering::SeqCst), 1);
+    Ok(())
+}
+
+#[test]
+fn cut_keeps_the_first_hooks(rt: HostRuntime) -> Result<(), AllocError> {
+    let alloc = rt.alloc();
+    let mut hooks = Hooks::new(alloc);
+    for high in 7..10u32 {
+        let law = StampLaw { low: 0, high };
+        let tie = |view: TieView| if view.dir == Dir::South { 0 } else { 1 };
+        let tie = TieHook::new(SOUTH_FIRST, Box::new(alloc, tie)?);
+        let arrival = ArrivalHook::new(law, Box::new(alloc, |_view: ArrivalView| 0)?);
+        let farewell = Farewell::new(law, Box::new(alloc, |_view: FarewellView| 0)?);
+        hooks.push(tie, arrival, farewell)?;
+    }
+    hooks.ties.truncate(1);
+    let kept = hooks.cut(2);
+    assert_eq!(rt;
+        (kept.ties.len(), kept.arrivals.len(), kept.farewells.len()),
+        (1, 2, 2)
+    );
+    assert!(rt; kept.arrivals.iter().all(|hook| hook.law().high < 9));
+    Ok(())
+}

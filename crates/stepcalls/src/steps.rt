@@ -1,0 +1,157 @@
+//! Worked orders, the smallest steps, how often a tie closure is asked, and each growth refused in turn. Whole runs are
+//! tested above, over proved distances.
+
+ghost use Rattle.std.specs.Prelude.{◌≡◌, ℕ, ◌↔◌, IsTrue, Option, Some, None, cond, ◌==◌};
+ghost use Rattle.fleet_grid.specs.Floor.{IsNeighbourIn};
+ghost use Rattle.fleet_grid.specs.Ways.{IsLess};
+
+use fleet_grid::{Dir, Grid};
+use fleet_hooks::{TieHook, TieLaw, TieView};
+use fleet_map::MapText;
+use fleet_pibt::{Goals, Stepper, order};
+use refusing::Refusing;
+use std::alloc::{AllocError, Allocator};
+use std::sync::Arc;
+use std::sync::atomic::{AtomicU64, Ordering};
+use std::test::Fail;
+
+const ANY: TieLaw = TieLaw {
+    low: [0; 4],
+    high: [255; 4],
+};
+
+/// No robot has an errand.
+struct NoGoals;
+
+impl Goals for NoGoals {
+    ghost goal_of = { λ s r. None };
+
+    ghost distance = { λ s r c. None };
+
+    fn goal(&self, _robot: u32) -> Option<u32> {
+        None
+    }
+
+    fn at(&self, _robot: u32, _cell: u32) -> Option<u32> {
+        None
+    }
+
+    fn ways<A: Allocator + Copy>(&self, _grid: &Grid<A>, _robot: u32, _cell: u32) -> u8 {
+        0
+    }
+}
+
+/// Whether a way leads to cell 1 from another cell.
+#[tactic(auto, using(fleet_pibt::proofs::Rated::beside_once))]
+fn leads_east<A: Allocator + Copy>(grid: &Grid<A>, cell: u32, dir: Dir) -> bool
+    ensures { (w : ℕ) → IsNeighbourIn grid.now dir cell w → IsTrue result ↔ IsLess (Some (cond (w == 1) 0 1)) (Some (cond (cell == 1) 0 1)) }
+{
+    if cell == 1 {
+        return false;
+    }
+    match grid.neighbour(cell, dir) {
+        Some(other) => other == 1,
+        None => false,
+    }
+}
+
+/// Each robot goes to cell 1, on the map `..`.
+struct ToTheEast;
+
+impl Goals for ToTheEast {
+    ghost goal_of = { λ s r. Some 1 };
+
+    ghost distance = { λ s r c. Some (cond (c == 1) 0 1) };
+
+    fn goal(&self, _robot: u32) -> Option<u32> {
+        Some(1)
+    }
+
+    fn at(&self, _robot: u32, cell: u32) -> Option<u32> {
+        Some(if cell == 1 { 0 } else { 1 })
+    }
+
+    fn ways<A: Allocator + Copy>(&self, grid: &Grid<A>, _robot: u32, cell: u32) -> u8 {
+        let [north, east, south, west] = [
+            leads_east(grid, cell, Dir::North),
+            leads_east(grid, cell, Dir::East),
+            leads_east(grid, cell, Dir::South),
+            leads_east(grid, cell, Dir::West),
+        ];
+        u8::from(north) + 2 * u8::from(east) + 4 * u8::from(south) + 8 * u8::from(west)
+    }
+}
+
+#[test]
+fn order_by_wait_then_number(rt: HostRuntime) {
+    let mut out = [9; 5];
+    order(&[Some(1), None, Some(5), Some(1), None], &mut out);
+    assert_eq!(rt; out, [2, 0, 3, 1, 4]);
+    // A robot whose errand is new comes before an idle one.
+    let mut out = [9; 2];
+    order(&[None, Some(0)], &mut out);
+    assert_eq!(rt; out, [1, 0]);
+    let mut out = [];
+    order(&[], &mut out);
+}
+
+#[test]
+fn idle_robot_stays(rt: HostRuntime) -> Result<(), AllocError> {
+    let alloc = rt.alloc();
+    let grid = Grid::new(MapText {
+        height: 1,
+        width: 2,
+        cells: Vec::from_slice(alloc, b"..")?,
+    })?;
+    let ties = [TieHook::new(ANY, Box::new(alloc, |_view: TieView| 0)?)];
+    let mut stepper = Stepper::new(alloc, 2, 1)?;
+    let mut to = [9];
+    stepper.step(&grid, &[0], &[None], &NoGoals, &ties, 1, &mut to);
+    assert_eq!(rt; to, [0]);
+    Ok(())
+}
+
+#[test]
+fn lone_robot_takes_its_goal(rt: HostRuntime) -> Result<(), AllocError> {
+    let alloc = rt.alloc();
+    let grid = Grid::new(MapText {
+        height: 1,
+        width: 2,
+        cells: Vec::from_slice(alloc, b"..")?,
+    })?;
+    let calls = Arc::new(alloc, AtomicU64::new(0))?;
+    let counted = Arc::try_clone(&calls)?;
+    let asked = move |_view: TieView| {
+        counted.fetch_add(1, Ordering::SeqCst);
+        7
+    };
+    let ties = [TieHook::new(ANY, Box::new(alloc, asked)?)];
+    let mut stepper = Stepper::new(alloc, 2, 1)?;
+    let mut to = [9];
+    stepper.step(&grid, &[0], &[Some(3)], &ToTheEast, &ties, 1, &mut to);
+    assert_eq!(rt; to, [1]);
+    // The tie closure is asked once, about the one neighbour.
+    assert_eq!(rt; calls.load(Ordering::SeqCst), 1);
+    stepper.step(&grid, &[1], &[Some(4)], &ToTheEast, &ties, 2, &mut to);
+    assert_eq!(rt; to, [1]);
+    Ok(())
+}
+
+/// Each growth is refused in turn, until the tables are made without a refusal.
+#[test]
+fn refused_growths(rt: HostRuntime) -> Result<(), Fail> {
+    let mut unrefused = None;
+    for before in 0..9 {
+        let heap = Refusing::after(rt.alloc(), before);
+        let met = Stepper::new(&heap, 9, 2).is_err();
+        let later = Stepper::new(&heap, 9, 2);
+        if !met {
+            unrefused = Some(before);
+            break;
+        }
+        let _stepper = later?;
+    }
+    // Three tables, the queue and what the robots see.
+    assert_eq!(rt; unrefused, Some(5));
+    Ok(())
+}
