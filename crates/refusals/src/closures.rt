@@ -13,6 +13,7 @@ use fleet_hooks::{
 use fleet_world::{Event, OpenFault, World, run};
 use refusing::Refusing;
 use std::alloc::{Alloc, AllocError, Allocator, Global};
+use std::mem;
 use std::sync::Arc;
 use std::sync::atomic::{AtomicU64, Ordering};
 use std::thread::Threads;
@@ -74,7 +75,9 @@ fn play_over<A: Allocator + Copy, R: Alloc<A = A>>(
         Ok(world) => world,
         Err(fault) => return Ok(Err(stage_of(fault))),
     };
-    Ok(Ok(play_calls(alloc, rt, &mut world, calls, last, &stamped)?))
+    let played = play_calls(alloc, rt, &mut world, calls, last, &stamped);
+    mem::drop(world);
+    Ok(Ok(played?))
 }
 
 /// Where a row ends whose world is not opened.
