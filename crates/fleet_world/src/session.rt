@@ -113,9 +113,9 @@ fn empty_lists<A: Allocator + Copy>(
     ensures items { IfOk result (λ lists. lists.items ≡ replicate count no_lists) }
     ensures len { IfOk result (λ lists. vec_len lists ≡ count) }
 {
-    let mut lists = Vec::new(alloc);
+    let mut lists = Vec::with_capacity(alloc, count)?;
     for _i in 0..count {
-        lists.push(ClientLists::new(alloc))?;
+        lists.push_reserved(ClientLists::new(alloc));
     }
     Ok(lists)
 }

@@ -1,4 +1,4 @@
-use Rattle.std.proofs.Common.{◌≡◌, replicate, vec_len}
+use Rattle.std.proofs.Common.{◌≡◌, ◌≤◌, replicate, vec_len, vec_capacity}
 use Rattle.fleet_world.specs.Run.{no_lists}
 use Rattle.fleet_world.proofs.session.empty_lists.Given as goal
 
@@ -6,4 +6,5 @@ abbrev pub invariant-loop-i : goal.invariant-loop-i
 invariant-loop-i g l = record {
   items : l.lists.items ≡ replicate l._i no_lists;
   len : vec_len l.lists ≡ l._i;
+  room : l.count ≤ vec_capacity l.lists;
 }
