@@ -93,9 +93,9 @@ pub(crate) fn spare<A: Allocator + Copy>(
 ) -> Result<Vec<Option<Farewell>, A>, AllocError>
     ensures { IfOk result (λ farewells. spare_laws farewells.items ≡ map (λ h. Some h.law) hooks.items) }
 {
-    let mut farewells = Vec::new(alloc);
+    let mut farewells = Vec::with_capacity(alloc, hooks.len())?;
     for hook in hooks {
-        farewells.push(Some(hook))?;
+        farewells.push_reserved(Some(hook));
     }
     Ok(farewells)
 }
