@@ -29,16 +29,16 @@ pub(crate) fn robots_at<A: Allocator + Copy>(
     requires farewells { length farewells.now ≡ length starts.now }
     ensures { IfOk result (λ robots. robots.items ≡ map (robot_at starts.now arrivals.now farewells.now) (range_with_len 0 (length starts.now))) }
 {
-    let mut robots = Vec::new(alloc);
+    let mut robots = Vec::with_capacity(alloc, starts.len())?;
     for r in 0..starts.len() {
-        robots.push(RobotState {
+        robots.push_reserved(RobotState {
             cell: starts[r],
             shut: false,
             wait: None,
             errands: Row::new(alloc),
             arrival_law: arrivals[r],
             farewell_law: farewells[r],
-        })?;
+        });
     }
     Ok(robots)
 }
@@ -50,9 +50,9 @@ pub(crate) fn nobodies<A: Allocator + Copy>(
 ) -> Result<Vec<ClientState, A>, AllocError>
     ensures { IfOk result (λ clients. clients.items ≡ replicate count unknown_client) }
 {
-    let mut clients = Vec::new(alloc);
+    let mut clients = Vec::with_capacity(alloc, count)?;
     for _i in 0..count {
-        clients.push(NOBODY)?;
+        clients.push_reserved(NOBODY);
     }
     Ok(clients)
 }
