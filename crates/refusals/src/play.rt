@@ -4,6 +4,7 @@ use crate::calls::Call;
 use crate::clients::Clients;
 use crate::making::make;
 use crate::shown::{held, shown};
+use findings::Showing;
 use fleet_trace::write_trace;
 use fleet_world::World;
 use std::alloc::{Alloc, AllocError, Allocator, Global};
@@ -13,8 +14,8 @@ use std::sync::atomic::{AtomicU64, Ordering};
 /// A row as far as it was played.
 #[derive(Drop)]
 pub(crate) struct Played {
-    /// What each call answered in the end, a line each.
-    pub(crate) answers: String,
+    /// What each call answered in the end, and what the world held then.
+    pub(crate) showing: Showing,
     /// The call that was refused memory.
     pub(crate) refused: Option<usize>,
     /// Whether that call left all that is shown as it was, and called no closure that makes a stamp.
@@ -23,19 +24,19 @@ pub(crate) struct Played {
     pub(crate) spent: bool,
     /// The trace of the chapter at the end.
     pub(crate) chapter: String,
-    /// What the world held at the end.
-    pub(crate) held: String,
 }
 
 impl Played {
     fn new(alloc: Global) -> Played {
         Played {
-            answers: String::new(alloc),
+            showing: Showing {
+                answers: String::new(alloc),
+                held: String::new(alloc),
+            },
             refused: None,
             same: true,
             spent: false,
             chapter: String::new(alloc),
-            held: String::new(alloc),
         }
     }
 }
@@ -67,12 +68,12 @@ pub(crate) fn play_calls<A: Allocator + Copy, R: Alloc<A = A>>(
             answer = make(alloc, rt, world, &mut clients, *call)?;
         }
         match answer {
-            Some(answer) => writeln!(played.answers, "{answer}")?,
+            Some(answer) => writeln!(played.showing.answers, "{answer}")?,
             None => played.same = false,
         }
     }
     played.spent = Vec::from_slice(rt.alloc(), &[0u8]).is_err();
     played.chapter = write_trace(alloc, world.chapter())?;
-    played.held = held(alloc, world)?;
+    played.showing.held = held(alloc, world)?;
     Ok(played)
 }

@@ -3,9 +3,10 @@
 use crate::case::Case;
 use crate::closures::run_row;
 use crate::rounds::MANY;
-use crate::runs::{Ending, Run, end_alike};
+use crate::runs::Run;
 use crate::stage::{Stage, read};
 use crate::tally::{Sheet, Tally, tell_end};
+use findings::Ending;
 use fleet_world::Event;
 use std::alloc::{Alloc, AllocError, Global};
 use std::fmt::Write;
@@ -30,7 +31,7 @@ fn refuse_each<R: Alloc<A = Global> + Threads + Sync>(
             Ok(Run::Judge { again }) => judged.count(again),
             Ok(Run::Faulty) => return Ok(false),
             Ok(Run::Ended { ending, spent }) => {
-                alike &= end_alike(&ending, base);
+                alike &= ending.is_like(base);
                 if spent {
                     return Ok(alike);
                 }

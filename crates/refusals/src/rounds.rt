@@ -1,6 +1,6 @@
 //! A row by its world's calls, again and again, until no growth is refused.
 
-ghost use Rattle.std.specs.Prelude.{◌≡◌, ◌↔◌, IsTrue, string_bytes};
+ghost use Rattle.std.specs.Prelude.{◌≡◌, IsTrue, string_bytes};
 
 use crate::calls::{Call, calls_of};
 use crate::case::Case;
@@ -17,19 +17,12 @@ pub(crate) const MANY: u64 = 1 << 40;
 /// Whether two plays of a row came to the same.
 fn agree(played: &Played, base: &Played) -> bool
     ensures same { IsTrue result → IsTrue played.now.same }
-    ensures answers { IsTrue result → string_bytes played.now.answers ≡ string_bytes base.now.answers }
-    ensures held { IsTrue result → string_bytes played.now.held ≡ string_bytes base.now.held }
+    ensures answers { IsTrue result →
+        string_bytes played.now.showing.answers ≡ string_bytes base.now.showing.answers }
+    ensures held { IsTrue result →
+        string_bytes played.now.showing.held ≡ string_bytes base.now.showing.held }
 {
-    played.same
-        && played.answers.as_bytes() == base.answers.as_bytes()
-        && hold_the_same(played, base)
-}
-
-/// Whether two worlds hold the same at the end of their plays.
-fn hold_the_same(one: &Played, other: &Played) -> bool
-    ensures { IsTrue result ↔ string_bytes one.now.held ≡ string_bytes other.now.held }
-{
-    one.held.as_bytes() == other.held.as_bytes()
+    played.same && played.showing.is_like(&base.showing)
 }
 
 /// Whether a world holds all that it held before the call that was refused.
@@ -43,7 +36,7 @@ fn holds_the_same(
     let refused = play(alloc, case, calls, growth, call.saturating_add(1))?;
     let before = play(alloc, case, calls, MANY, call)?;
     match (refused, before) {
-        (Ok(refused), Ok(before)) => Ok(hold_the_same(&refused, &before)),
+        (Ok(refused), Ok(before)) => Ok(refused.showing.holds_like(&before.showing)),
         _ => Ok(false),
     }
 }
@@ -92,7 +85,7 @@ pub(crate) fn tell_calls(
     };
     let mut sheet = Sheet::new(alloc, calls.len())?;
     let ended = refuse_each(alloc, case, &calls, &base, &mut sheet)?;
-    sheet.tell(told, &base.answers)?;
+    sheet.tell(told, &base.showing.answers)?;
     writeln!(told, "{}", base.chapter)?;
     tell_end(told, ended)
 }

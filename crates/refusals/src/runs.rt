@@ -1,29 +1,10 @@
 //! How a run ends, and what its judge says.
 
-ghost use Rattle.std.specs.Prelude.{◌≡◌, ◌↔◌, IsTrue, string_bytes};
-
+use findings::Ending;
 use fleet_trace::{JudgeFault, judge, write_trace};
 use fleet_world::{OpenFault, Played, Reply, RunFault};
 use std::alloc::{AllocError, Allocator, Global};
 use std::fmt::Write;
-
-/// What a run that was not refused came to.
-#[derive(Drop)]
-pub(crate) struct Ending {
-    /// A line for each reply.
-    pub(crate) replies: String,
-    pub(crate) trace: String,
-}
-
-/// Whether two runs came to the same.
-pub(crate) fn end_alike(one: &Ending, other: &Ending) -> bool
-    ensures { IsTrue result ↔
-        (string_bytes one.now.replies ≡ string_bytes other.now.replies)
-        × (string_bytes one.now.trace ≡ string_bytes other.now.trace) }
-{
-    one.replies.as_bytes() == other.replies.as_bytes()
-        && one.trace.as_bytes() == other.trace.as_bytes()
-}
 
 /// How a run of a row ended.
 #[derive(Drop)]

@@ -4,7 +4,6 @@
 #![tactic(auto)]
 
 mod case;
-mod placement;
 mod row;
 mod walk;
 

@@ -1,6 +1,6 @@
 //! The steps of a chapter, one after another.
 
-use crate::placement::is_placement;
+use findings::is_placement;
 use fleet_check::{StepFault, check_step};
 use fleet_grid::Grid;
 use fleet_history::{Chapter, Entry};

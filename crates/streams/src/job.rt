@@ -2,18 +2,11 @@
 
 use crate::sink::Sink;
 use crate::source::Source;
+use findings::Outcome;
 use fleet_program::{Job, run_with_kit};
 use std::alloc::{Alloc, AllocError, Global};
 use std::sync::Wait;
 use std::thread::Threads;
-
-/// What the program wrote, and its status.
-#[derive(Drop)]
-pub(crate) struct Outcome {
-    pub(crate) status: u8,
-    pub(crate) output: Vec<u8>,
-    pub(crate) complaint: Vec<u8>,
-}
 
 /// What a run of the script on the map comes to with these readers and writers, by lines or by its trace.
 pub(crate) fn run_job<'x, R: Alloc<A = Global> + Threads + Sync + Wait>(

@@ -1,11 +1,10 @@
 //! Readers and writers that fail, each in turn.
 
-ghost use Rattle.std.specs.Prelude.{◌≡◌, IsTrue, [], codes};
-
 use crate::case::Case;
-use crate::job::{Outcome, run_job};
+use crate::job::run_job;
 use crate::sink::Sink;
 use crate::source::Source;
+use findings::Outcome;
 use std::alloc::{Alloc, AllocError, Global};
 use std::fmt::Write;
 use std::sync::Wait;
@@ -16,8 +15,6 @@ const ALL: u64 = 1 << 40;
 
 /// The greatest length of a file.
 const MOST: u64 = 16_777_216;
-
-const COMPLAINT: &[u8] = b"errands: file\n";
 
 /// A row, and what comes of it with good readers and writers.
 #[derive(Clone, Copy)]
@@ -49,24 +46,6 @@ fn read_by<'x, R: Alloc<A = Global> + Threads + Sync + Wait>(
     )
 }
 
-/// Whether a file failed before anything was written.
-fn is_file_fault(met: &Outcome) -> bool
-    ensures status { IsTrue result → met.now.status ≡ 3 }
-    ensures output { IsTrue result → met.now.output.items ≡ [] }
-    ensures complaint { IsTrue result → met.now.complaint.items ≡ codes "errands: file\n" }
-{
-    met.status == 3 && met.output.is_empty() && met.complaint.as_slice() == COMPLAINT
-}
-
-/// Whether the same came out.
-fn is_same(met: &Outcome, wanted: &Outcome) -> bool
-    ensures status { IsTrue result → met.now.status ≡ wanted.now.status }
-    ensures output { IsTrue result → met.now.output.items ≡ wanted.now.output.items }
-    ensures complaint { IsTrue result → met.now.complaint.items ≡ wanted.now.complaint.items }
-{
-    met.status == wanted.status && met.output == wanted.output && met.complaint == wanted.complaint
-}
-
 /// Reads of one byte: the same comes out.
 fn byte_by_byte<R: Alloc<A = Global> + Threads + Sync + Wait>(
     rt: &R,
@@ -80,7 +59,7 @@ fn byte_by_byte<R: Alloc<A = Global> + Threads + Sync + Wait>(
         step: 1,
         ..Source::of(good.case.script)
     };
-    Ok(is_same(&read_by(rt, good, map, script)?, good.wanted))
+    Ok(read_by(rt, good, map, script)?.is_like(good.wanted))
 }
 
 /// Each read of a byte fails in turn, the one that finds the end of the file too.
@@ -96,7 +75,7 @@ fn each_read<R: Alloc<A = Global> + Threads + Sync + Wait>(
             good_reads,
             ..map
         };
-        named &= is_file_fault(&read_by(rt, good, broken, script)?);
+        named &= read_by(rt, good, broken, script)?.is_file_fault();
     }
     for good_reads in 0..good.case.script.len() as u64 {
         let broken = Source {
@@ -104,7 +83,7 @@ fn each_read<R: Alloc<A = Global> + Threads + Sync + Wait>(
             good_reads,
             ..script
         };
-        named &= is_file_fault(&read_by(rt, good, map, broken)?);
+        named &= read_by(rt, good, map, broken)?.is_file_fault();
     }
     Ok(named)
 }
@@ -122,7 +101,7 @@ fn each_write<R: Alloc<A = Global> + Threads + Sync + Wait>(
         let output = Sink::new(alloc, good_writes, fails);
         let met = run_job(rt, good.trace, (map, script), output, open_sink(alloc))?;
         named &= met.status == 3
-            && met.complaint.as_slice() == COMPLAINT
+            && met.complaint.as_slice() == Outcome::FILE_COMPLAINT
             && met.output.len() as u64 == good_writes
             && good.wanted.output.starts_with(&met.output);
     }
@@ -137,14 +116,14 @@ fn each_complaint<R: Alloc<A = Global> + Threads + Sync + Wait>(
     let alloc = rt.alloc();
     let (map, script) = (Source::of(good.case.map), Source::of(good.case.script));
     let mut named = true;
-    for good_writes in 0..COMPLAINT.len() as u64 {
+    for good_writes in 0..Outcome::FILE_COMPLAINT.len() as u64 {
         let error = Sink::new(alloc, good_writes, true);
         let output = Sink::new(alloc, 0, true);
         let met = run_job(rt, good.trace, (map, script), output, error)?;
         named &= met.status == 3
             && met.output.is_empty()
             && met.complaint.len() as u64 == good_writes
-            && COMPLAINT.starts_with(&met.complaint);
+            && Outcome::FILE_COMPLAINT.starts_with(&met.complaint);
     }
     Ok(named)
 }
@@ -171,9 +150,9 @@ fn long_files<R: Alloc<A = Global> + Threads + Sync + Wait>(
         ..longest
     };
     Ok(
-        is_same(&read_by(rt, good, map, longest)?, good.wanted)
-            && is_file_fault(&read_by(rt, good, map, longer)?)
-            && is_file_fault(&read_by(rt, good, map, endless)?),
+        read_by(rt, good, map, longest)?.is_like(good.wanted)
+            && read_by(rt, good, map, longer)?.is_file_fault()
+            && read_by(rt, good, map, endless)?.is_file_fault(),
     )
 }
 

@@ -1,41 +1,24 @@
 //! One trace, judged in two ways.
 
 ghost use Rattle.std.specs.Prelude.{◌≡◌, ℕ, None, Some, Ok, Err};
-ghost use Rattle.twoways.specs.declared.compare.Answer.TheVariants.{Legal, Broken};
 ghost use Rattle.fleet_trace.specs.declared.fault.JudgeFault.TheVariants.{Illegal};
 
 use crate::rules::first_fault;
 use crate::site::Site;
+use findings::Answer;
 use fleet_grid::Grid;
 use fleet_trace::{JudgeFault, TraceFault, judge, read_trace};
 use std::alloc::{AllocError, Global};
 
-/// What both ways say.
-#[derive(Clone, Copy, Debug, PartialEq, Eq)]
-pub(crate) enum Answer {
-    Legal,
-    /// The same entry breaks the same rule first.
-    Broken { at: u64, rule: u8 },
-    /// The text is no JSON.
-    NotJson,
-    /// The text has no trace's form, or another version.
-    Refused,
-    /// They differ.
-    Unlike,
-}
-
-/// What the judge and a reading of the rules of its own say together. None where the judge had no memory.
-fn said_by_both(said: Result<(), JudgeFault>, told: Option<(u64, u8)>) -> Option<Answer>
-    ensures legal { result ≡ Some Legal → (said ≡ Ok tt) × (told ≡ None) }
-    ensures broken { (at rule : ℕ) → result ≡ Some (Broken at rule) → (said ≡ Err (Illegal at rule)) × (told ≡ Some (at, rule)) }
+/// The entry that the judge names first, and the rule that it breaks; none where all is legal.
+fn broken_by(said: Result<(), JudgeFault>) -> Result<Option<(u64, u8)>, AllocError>
+    ensures legal { result ≡ Ok None → said ≡ Ok tt }
+    ensures broken { (at rule : ℕ) → result ≡ Ok (Some (at, rule)) → said ≡ Err (Illegal at rule) }
 {
-    match (said, told) {
-        (Err(JudgeFault::NoMemory), _) => None,
-        (Ok(()), None) => Some(Answer::Legal),
-        (Err(JudgeFault::Illegal { at, rule }), Some(first)) if first == (at, rule) => {
-            Some(Answer::Broken { at, rule })
-        }
-        _ => Some(Answer::Unlike),
+    match said {
+        Ok(()) => Ok(None),
+        Err(JudgeFault::Illegal { at, rule }) => Ok(Some((at, rule))),
+        Err(JudgeFault::NoMemory) => Err(AllocError),
     }
 }
 
@@ -53,5 +36,6 @@ pub(crate) fn compare(
         Err(TraceFault::Shape | TraceFault::Version) => return Ok(Answer::Refused),
     };
     let told = first_fault(alloc, site, &chapter)?;
-    said_by_both(judge(alloc, grid, &chapter), told).ok_or(AllocError)
+    let said = broken_by(judge(alloc, grid, &chapter))?;
+    Ok(Answer::of_both(said, told))
 }

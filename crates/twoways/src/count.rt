@@ -1,6 +1,6 @@
 //! What was counted of all traces.
 
-use crate::compare::Answer;
+use findings::Answer;
 
 /// How many traces had which answer.
 #[derive(Clone, Copy, Debug)]

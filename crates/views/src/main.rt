@@ -7,7 +7,8 @@ mod note;
 mod play;
 mod row;
 
-use play::{Finding, play};
+use findings::Finding;
+use play::play;
 use row::ROWS;
 use std::alloc::{Alloc, AllocError, Global};
 use std::process::ExitCode;

@@ -1,10 +1,8 @@
 //! A row as a run, with closures that note what they are shown.
 
-ghost use Rattle.std.specs.Prelude.{◌≡◌};
-ghost use Rattle.views.specs.declared.play.Finding.TheVariants.{AsTheRow};
-
 use crate::note::Shown;
 use crate::row::Row;
+use findings::{Finding, Noted};
 use fleet_grid::{Dir, Grid};
 use fleet_hooks::{
     ArrivalHook, ArrivalView, Farewell, FarewellView, Hooks, StampLaw, TieHook, TieLaw, TieView,
@@ -28,20 +26,6 @@ const STAMPS: StampLaw = StampLaw {
     low: 0,
     high: 4_294_967_295,
 };
-
-/// How a row is played otherwise than it says.
-#[derive(Clone, Copy, Debug, PartialEq, Eq)]
-pub(crate) enum Finding {
-    AsTheRow,
-    /// The row was not played: its letters do not fill its map, or the run had a fault.
-    NotPlayed,
-    /// Closures were shown something else, more or less often, or in another order.
-    Views,
-    /// A stamp is not its closure's own.
-    Stamps,
-    /// A robot went another way than its own ranks lead.
-    Ways,
-}
 
 /// The rank of a direction by the robot's own closure: even robots go south first, odd ones west.
 fn rank_of(robot: u32, dir: Dir) -> u8 {
@@ -92,32 +76,6 @@ fn row_stamps(alloc: Global, row: &Row) -> Result<Vec<u32>, AllocError> {
     Ok(stamps)
 }
 
-/// What is compared of a run: what its closures noted, its stamps, and its robots' cells at the end.
-#[derive(Clone, Copy, Debug)]
-struct Noted<'a> {
-    note: u64,
-    stamps: &'a [u32],
-    cells: &'a [u32],
-}
-
-/// Compares what a run came to with what it was to come to.
-fn compare_noted(met: Noted<'_>, wanted: Noted<'_>) -> Finding
-    ensures views { result ≡ AsTheRow → met.entry.note ≡ wanted.entry.note }
-    ensures stamps { result ≡ AsTheRow → met.entry.stamps.now ≡ wanted.entry.stamps.now }
-    ensures ways { result ≡ AsTheRow → met.entry.cells.now ≡ wanted.entry.cells.now }
-{
-    if met.note != wanted.note {
-        return Finding::Views;
-    }
-    if met.stamps != wanted.stamps {
-        return Finding::Stamps;
-    }
-    if met.cells != wanted.cells {
-        return Finding::Ways;
-    }
-    Finding::AsTheRow
-}
-
 /// Compares the entries of a run, its robots' cells at the end, and what its closures noted, with the row.
 fn compare(
     alloc: Global,
@@ -137,7 +95,7 @@ fn compare(
         stamps: &wanted_stamps,
         cells: row.end,
     };
-    Ok(compare_noted(met, wanted))
+    Ok(met.beside(wanted))
 }
 
 /// The row's grid. None where the letters do not fill the sides.

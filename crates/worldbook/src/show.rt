@@ -1,7 +1,6 @@
 //! What a world answers and shows, in words.
 
-ghost use Rattle.std.specs.Prelude.{◌≡◌, ◌<◌, codes};
-
+use findings::beside_bound;
 use fleet_world::{Notice, ShutFault, TakeFault, TickFault, TickReport, Verdict, World};
 use std::alloc::{AllocError, Global};
 
@@ -70,13 +69,6 @@ pub(crate) fn give_line(alloc: Global, answer: Option<Notice>) -> Result<String,
         ),
         None => format!(in alloc; "give: nothing\n"),
     }
-}
-
-/// How a wait lies beside a bound.
-fn beside_bound(wait: u64, bound: u64) -> &'static str
-    ensures below { result.now ≡ codes "below" → wait < bound }
-{
-    if wait < bound { "below" } else { "not below" }
 }
 
 /// The line of a greatest wait beside a bound.

@@ -42,8 +42,8 @@ fn are_distinct(cells: &[u32]) -> bool
 }
 
 /// Whether robots may stand on these cells.
-pub(crate) fn is_placement(grid: &Grid, cells: &[u32]) -> bool
-    ensures { OnTrue result (IsPlacement grid.now cells.now) }
+pub fn is_placement(grid: &Grid, cells: &[u32]) -> bool
+    ensures placed { OnTrue result (IsPlacement grid.now cells.now) }
 {
     if !are_on_floor(grid, cells) {
         return false;
