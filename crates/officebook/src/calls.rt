@@ -4,7 +4,7 @@ use crate::case::Step;
 use crate::stage::Stage;
 use fleet_core::{ChapterFault, ShutFault};
 use fleet_history::{Chapter, Entry};
-use fleet_office::{Office, OfficeName, Ticker, TurnCause, TurnFault, TurnReport};
+use fleet_office::{Look, Office, OfficeName, Ticker, TurnCause, TurnFault, TurnReport};
 use std::alloc::{Alloc, AllocError, Allocator, Global};
 use std::sync::Wait;
 
@@ -57,6 +57,20 @@ fn turn_text<N: OfficeName<A>, A: Allocator + Copy, R: Alloc<A = A> + Wait>(
     format!(in alloc; "{turned:?}")
 }
 
+/// What a look saw.
+fn seen_text<A: Allocator + Copy>(look: &Look<A>, alloc: Global) -> Result<String, AllocError> {
+    format!(in alloc;
+        "tick {} at {:?} eldest {:?} idle {} chapter {} entries {} within {:?}",
+        look.tick,
+        look.placement.as_slice(),
+        look.eldest,
+        look.idle,
+        look.chapter,
+        look.entries,
+        look.idle_within
+    )
+}
+
 /// What there is to see with this ticker.
 pub(crate) fn look_text<N: OfficeName<A>, A: Allocator + Copy, R: Alloc<A = A> + Wait>(
     rt: &R,
@@ -71,16 +85,7 @@ pub(crate) fn look_text<N: OfficeName<A>, A: Allocator + Copy, R: Alloc<A = A> +
         Ok(look) => look,
         Err(AllocError) => stage.office.look(rt, ticker)?,
     };
-    format!(in alloc;
-        "tick {} at {:?} eldest {:?} idle {} chapter {} entries {} within {:?}",
-        look.tick,
-        look.placement.as_slice(),
-        look.eldest,
-        look.idle,
-        look.chapter,
-        look.entries,
-        look.idle_within
-    )
+    seen_text(&look, alloc)
 }
 
 /// What a shut of this robot answers.

@@ -9,6 +9,7 @@ use crate::telling::Telling;
 use fleet_office::{Desk, Guest, Hall, OfficeName, Ticker, guests_of};
 use fleet_world::OpenFault;
 use std::alloc::{Alloc, AllocError, Allocator, Global};
+use std::mem;
 
 /// What a post or a collect of the first client answers.
 fn guest_text<N: OfficeName<A>, A: Allocator + Copy>(
@@ -54,6 +55,39 @@ fn hall_text<N: OfficeName<A>, A: Allocator + Copy, R: Alloc<A = A>>(
     }
 }
 
+/// Makes a call on a hall, or on its first client, and tells what it answered.
+fn play_step<N: OfficeName<A>, A: Allocator + Copy, R: Alloc<A = A>>(
+    rt: &R,
+    hall: &mut Hall<N, A>,
+    ticker: &mut Ticker<N>,
+    guests: &mut Vec<Guest<N, A>, A>,
+    step: &HallStep,
+    book: &mut Telling,
+) -> Result<(), AllocError> {
+    let answer = if matches!(step, HallStep::Post(_) | HallStep::Collect) {
+        guest_text(guests, step, book.alloc)?
+    } else {
+        hall_text(rt, hall, ticker, step, book.alloc)?
+    };
+    let line = format!(in book.alloc; "{step:?}: {answer}")?;
+    book.line(&line)
+}
+
+/// Makes these calls on a hall with these clients.
+fn play_steps<N: OfficeName<A>, A: Allocator + Copy, R: Alloc<A = A>>(
+    rt: &R,
+    hall: &mut Hall<N, A>,
+    ticker: &mut Ticker<N>,
+    guests: &mut Vec<Guest<N, A>, A>,
+    steps: &[HallStep],
+    book: &mut Telling,
+) -> Result<(), AllocError> {
+    for step in steps {
+        play_step(rt, hall, ticker, guests, step, book)?;
+    }
+    Ok(())
+}
+
 /// Opens a hall over the desk, and makes these calls.
 pub(crate) fn play_hall<N: OfficeName<A>, A: Allocator + Copy, R: Alloc<A = A>>(
     rt: &R,
@@ -79,15 +113,13 @@ pub(crate) fn play_hall<N: OfficeName<A>, A: Allocator + Copy, R: Alloc<A = A>>(
         Ok(opened) => opened,
         Err(fault) => return Ok(Err(fault)),
     };
-    let mut guests = guests_of::<N, A>(rt.alloc(), clients)?;
-    for step in steps {
-        let answer = if matches!(step, HallStep::Post(_) | HallStep::Collect) {
-            guest_text(&mut guests, step, book.alloc)?
-        } else {
-            hall_text(rt, &mut hall, &mut ticker, step, book.alloc)?
-        };
-        let line = format!(in book.alloc; "{step:?}: {answer}")?;
-        book.line(&line)?;
+    let played = match guests_of::<N, A>(rt.alloc(), clients) {
+        Ok(mut guests) => play_steps(rt, &mut hall, &mut ticker, &mut guests, steps, book),
+        Err(AllocError) => Err(AllocError),
+    };
+    mem::drop(hall);
+    match played {
+        Ok(()) => Ok(Ok(())),
+        Err(AllocError) => Err(AllocError),
     }
-    Ok(Ok(()))
 }

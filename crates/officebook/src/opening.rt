@@ -54,6 +54,37 @@ fn grid_of<A: Allocator + Copy>(heap: A, case: &Case) -> Result<Option<Grid<A>>,
     Ok(Some(Grid::new(map)?))
 }
 
+/// A row's grid, and where its robots start. None where the letters do not fill the sides.
+fn floor_of<A: Allocator + Copy>(
+    heap: A,
+    case: &Case,
+) -> Result<Option<(Grid<A>, Vec<u32, A>)>, AllocError> {
+    let starts = Vec::from_slice(heap, case.starts)?;
+    match grid_of(heap, case)? {
+        Some(grid) => Ok(Some((grid, starts))),
+        None => Ok(None),
+    }
+}
+
+/// Plays a row with this fleet, or says why its office was not opened.
+fn fleet_play<'a, R: Wait>(
+    rt: &'a R,
+    fleet: Fleet<Heap<'a>>,
+    case: &Case,
+    plan: Plan<'a>,
+    book: &mut Telling,
+) -> Result<Result<(), OpenFault>, AllocError> {
+    let heap = plan.meter;
+    plan.begin(Call::Desk);
+    let desk = Desk::new(heap, case.clients, case.limits);
+    plan.end();
+    let (lent, course) = ((rt, heap), case.course());
+    match desk {
+        Ok(desk) => play::<Brand, Heap<'_>, (&R, Heap<'_>)>(&lent, desk, fleet, course, plan, book),
+        Err(fault) => Ok(Err(fault)),
+    }
+}
+
 /// Plays a row with closures that answer 0, or says why it was not opened.
 fn opened_play<'a, R: Wait>(
     rt: &'a R,
@@ -62,28 +93,33 @@ fn opened_play<'a, R: Wait>(
     book: &mut Telling,
 ) -> Result<Result<(), OpenFault>, AllocError> {
     let (alloc, heap) = (book.alloc, plan.meter);
-    let Some(grid) = grid_of(heap, case)? else {
+    let Some((grid, starts)) = floor_of(heap, case)? else {
         return Ok(Err(OpenFault::NoRobots));
     };
     let mut hooks = Hooks::new(heap);
+    let mut complete = true;
     for _robot in case.starts {
-        let tie = TieHook::new(ANY, Box::new(alloc, |_view: TieView| 0)?);
-        let arrival = ArrivalHook::new(STAMPS, Box::new(alloc, |_view: ArrivalView| 0)?);
-        let farewell = Farewell::new(STAMPS, Box::new(alloc, |_view: FarewellView| 0)?);
-        hooks.push(tie, arrival, farewell)?;
+        let tie = Box::new(alloc, |_view: TieView| 0);
+        let arrival = Box::new(alloc, |_view: ArrivalView| 0);
+        let farewell = Box::new(alloc, |_view: FarewellView| 0);
+        if let (Ok(tie), Ok(arrival), Ok(farewell)) = (tie, arrival, farewell) {
+            let tie = TieHook::new(ANY, tie);
+            let arrival = ArrivalHook::new(STAMPS, arrival);
+            let farewell = Farewell::new(STAMPS, farewell);
+            complete &= hooks.push(tie, arrival, farewell).is_ok();
+        } else {
+            complete = false;
+        }
     }
     let fleet = Fleet {
         grid,
-        starts: Vec::from_slice(heap, case.starts)?,
+        starts,
         hooks,
     };
-    plan.begin(Call::Desk);
-    let desk = Desk::new(heap, case.clients, case.limits);
-    plan.end();
-    let (lent, course) = ((rt, heap), case.course());
-    match desk {
-        Ok(desk) => play::<Brand, Heap<'_>, (&R, Heap<'_>)>(&lent, desk, fleet, course, plan, book),
-        Err(fault) => Ok(Err(fault)),
+    if complete {
+        fleet_play(rt, fleet, case, plan, book)
+    } else {
+        Err(AllocError)
     }
 }
 

@@ -9,9 +9,10 @@ use crate::hall::play_hall;
 use crate::plan::{Call, Plan};
 use crate::stage::{Fleet, Stage, concluded, opened};
 use crate::telling::Telling;
-use fleet_office::{Desk, Final, OfficeName};
+use fleet_office::{ConcludeFault, Desk, Final, OfficeName};
 use fleet_world::OpenFault;
 use std::alloc::{Alloc, AllocError, Allocator};
+use std::mem;
 use std::sync::Wait;
 
 /// Tells how an office ended: its ticks, its floor cells and its chapter, and by client what it had not collected.
@@ -54,6 +55,32 @@ fn play_step<N: OfficeName<A>, A: Allocator + Copy, R: Alloc<A = A> + Wait>(
     }
 }
 
+/// Tells why an office did not end.
+fn tell_fault(step: &Step, fault: ConcludeFault, book: &mut Telling) -> Result<(), AllocError> {
+    let line = format!(in book.alloc; "{step:?}: {fault:?}")?;
+    book.line(&line)
+}
+
+/// Tells what an end came to, and hands the office back where it goes on.
+fn tell_ended<N: OfficeName<A>, A: Allocator + Copy>(
+    step: &Step,
+    ended: Result<Final<A>, (ConcludeFault, Stage<N, A>)>,
+    book: &mut Telling,
+) -> Result<Option<Stage<N, A>>, AllocError> {
+    match ended {
+        Ok(end) => {
+            let told = tell_end(step, &end, book);
+            mem::drop(end);
+            told?;
+            Ok(None)
+        }
+        Err((fault, stage)) => match tell_fault(step, fault, book) {
+            Ok(()) => Ok(Some(stage)),
+            Err(AllocError) => Err(AllocError),
+        },
+    }
+}
+
 /// Makes a call, and hands the office back where it goes on.
 fn play_on<N: OfficeName<A>, A: Allocator + Copy, R: Alloc<A = A> + Wait>(
     rt: &R,
@@ -63,21 +90,14 @@ fn play_on<N: OfficeName<A>, A: Allocator + Copy, R: Alloc<A = A> + Wait>(
     plan: Plan<'_>,
     book: &mut Telling,
 ) -> Result<Option<Stage<N, A>>, AllocError> {
+    if let Step::Conclude(clients, tickers) = *step {
+        let ended = concluded(rt.alloc(), stage, (clients, tickers), call, plan)?;
+        return tell_ended(step, ended, book);
+    }
     let mut stage = stage;
-    let Step::Conclude(clients, tickers) = *step else {
-        play_step(rt, &mut stage, step, call, plan, book)?;
-        return Ok(Some(stage));
-    };
-    match concluded(rt.alloc(), stage, (clients, tickers), call, plan)? {
-        Ok(end) => {
-            tell_end(step, &end, book)?;
-            Ok(None)
-        }
-        Err((fault, stage)) => {
-            let line = format!(in book.alloc; "{step:?}: {fault:?}")?;
-            book.line(&line)?;
-            Ok(Some(stage))
-        }
+    match play_step(rt, &mut stage, step, call, plan, book) {
+        Ok(()) => Ok(Some(stage)),
+        Err(AllocError) => Err(AllocError),
     }
 }
 
@@ -115,6 +135,21 @@ fn play_rounds<N: OfficeName<A>, A: Allocator + Copy, R: Alloc<A = A> + Wait>(
     Ok(())
 }
 
+/// Makes the calls of a row.
+fn play_course<N: OfficeName<A>, A: Allocator + Copy, R: Alloc<A = A> + Wait>(
+    rt: &R,
+    stage: Stage<N, A>,
+    course: Course<'_>,
+    plan: Plan<'_>,
+    book: &mut Telling,
+) -> Result<(), AllocError> {
+    let mut stage = stage;
+    match play_rounds(rt, &mut stage, course, plan, book) {
+        Ok(()) => play_steps(rt, stage, course.steps, plan, book),
+        Err(AllocError) => Err(AllocError),
+    }
+}
+
 /// Opens an office over the desk, or a hall, and makes the calls of a row.
 pub(crate) fn play<N: OfficeName<A>, A: Allocator + Copy, R: Alloc<A = A> + Wait>(
     rt: &R,
@@ -129,11 +164,11 @@ pub(crate) fn play<N: OfficeName<A>, A: Allocator + Copy, R: Alloc<A = A> + Wait
     if !course.hall.is_empty() {
         return play_hall::<N, A, R>(rt, desk, fleet, course.hall, book);
     }
-    let mut stage = match opened::<N, A>(rt.alloc(), desk, fleet, plan)? {
-        Ok(stage) => stage,
-        Err(fault) => return Ok(Err(fault)),
-    };
-    play_rounds(rt, &mut stage, course, plan, book)?;
-    play_steps(rt, stage, course.steps, plan, book)?;
-    Ok(Ok(()))
+    match opened::<N, A>(rt.alloc(), desk, fleet, plan)? {
+        Ok(stage) => {
+            play_course(rt, stage, course, plan, book)?;
+            Ok(Ok(()))
+        }
+        Err(fault) => Ok(Err(fault)),
+    }
 }

@@ -1,11 +1,12 @@
 //! An office with its clients and tickers.
 
-ghost use Rattle.std.specs.Prelude.{◌≡◌, IfErr};
+ghost use Rattle.std.specs.Prelude.{◌≡◌, IfErr, IfOk};
 ghost use Rattle.fleet_office.specs.Views.{IsNamed, AreOn, cores};
 
 use crate::plan::{Call, Plan};
 use fleet_grid::Grid;
 use fleet_hooks::Hooks;
+use fleet_lanes::Client;
 use fleet_office::{
     ConcludeFault, Desk, Final, Guest, Home, Office, OfficeName, Ticker, clients_of, guests_of,
 };
@@ -26,6 +27,20 @@ pub(crate) struct Fleet<A: Allocator + Copy> {
     pub(crate) grid: Grid<A>,
     pub(crate) starts: Vec<u32, A>,
     pub(crate) hooks: Hooks<A>,
+}
+
+/// The clients as guests, and a list of the ticker.
+fn seated<N: OfficeName<A>, A: Allocator + Copy>(
+    alloc: A,
+    clients: Vec<Client<A>, A>,
+    ticker: Ticker<N>,
+) -> Result<(Vec<Guest<N, A>, A>, Vec<Ticker<N>, A>), AllocError>
+    requires on { AreOn N.rings (cores clients.items) }
+{
+    let mut tickers = Vec::with_capacity(alloc, 1)?;
+    tickers.push_reserved(ticker);
+    let guests = guests_of::<N, A>(alloc, clients)?;
+    Ok((guests, tickers))
 }
 
 /// Opens an office.
@@ -49,14 +64,14 @@ pub(crate) fn opened<N: OfficeName<A>, A: Allocator + Copy>(
         Ok(opened) => opened,
         Err(fault) => return Ok(Err(fault)),
     };
-    let guests = guests_of::<N, A>(alloc, clients)?;
-    let mut tickers = Vec::new(alloc);
-    tickers.push(ticker)?;
-    Ok(Ok(Stage {
-        office,
-        guests,
-        tickers,
-    }))
+    match seated::<N, A>(alloc, clients, ticker) {
+        Ok((guests, tickers)) => Ok(Ok(Stage {
+            office,
+            guests,
+            tickers,
+        })),
+        Err(AllocError) => Err(AllocError),
+    }
 }
 
 /// Moves the first ones out of a list, so many or all.
@@ -103,6 +118,31 @@ fn conclude_home<N: OfficeName<A>, A: Allocator + Copy>(
     office.conclude(alloc, clients, tickers)
 }
 
+/// The clients that came home as guests, before those that had stayed away.
+fn guests_again<N: OfficeName<A>, A: Allocator + Copy>(
+    alloc: A,
+    clients: Vec<Client<A>, A>,
+    away: Vec<Guest<N, A>, A>,
+) -> Result<Vec<Guest<N, A>, A>, AllocError>
+    requires on { AreOn N.rings (cores clients.items) }
+{
+    let mut away = away;
+    let mut guests = guests_of::<N, A>(alloc, clients)?;
+    guests.append(&mut away)?;
+    Ok(guests)
+}
+
+/// The tickers that came home, before those that had stayed away.
+fn tickers_again<N: OfficeName<A>, A: Allocator + Copy>(
+    tickers: Vec<Ticker<N>, A>,
+    away: Vec<Ticker<N>, A>,
+) -> Result<Vec<Ticker<N>, A>, AllocError> {
+    let mut away = away;
+    let mut tickers = tickers;
+    tickers.append(&mut away)?;
+    Ok(tickers)
+}
+
 /// The stage again, with what came home and what had stayed away.
 fn come_back<N: OfficeName<A>, A: Allocator + Copy>(
     alloc: A,
@@ -115,18 +155,32 @@ fn come_back<N: OfficeName<A>, A: Allocator + Copy>(
     let Home {
         office,
         clients,
-        tickers: mut all,
-    } = home;
-    let mut guests = guests;
-    let mut tickers = tickers;
-    let mut home = guests_of::<N, A>(alloc, clients)?;
-    home.append(&mut guests)?;
-    all.append(&mut tickers)?;
-    Ok(Stage {
-        office,
-        guests: home,
         tickers: all,
-    })
+    } = home;
+    let guests = guests_again::<N, A>(alloc, clients, guests);
+    let tickers = tickers_again::<N, A>(all, tickers);
+    match (guests, tickers) {
+        (Ok(guests), Ok(tickers)) => Ok(Stage {
+            office,
+            guests,
+            tickers,
+        }),
+        _ => Err(AllocError),
+    }
+}
+
+/// The first so many guests as clients, and the first so many tickers.
+fn handed_in<N: OfficeName<A>, A: Allocator + Copy>(
+    alloc: A,
+    guests: &mut Vec<Guest<N, A>, A>,
+    tickers: &mut Vec<Ticker<N>, A>,
+    handed: (usize, usize),
+) -> Result<(Vec<Client<A>, A>, Vec<Ticker<N>, A>), AllocError>
+    ensures on { IfOk result (λ given. AreOn N.rings (cores given.0.items)) }
+{
+    let first = first_of(alloc, guests, handed.0)?;
+    let by = first_of(alloc, tickers, handed.1)?;
+    Ok((clients_of::<N, A>(alloc, first)?, by))
 }
 
 /// Concludes with the first so many clients and tickers. After a fault the stage comes back.
@@ -142,9 +196,9 @@ pub(crate) fn concluded<N: OfficeName<A>, A: Allocator + Copy>(
         mut guests,
         mut tickers,
     } = stage;
-    let first = first_of(alloc, &mut guests, handed.0)?;
-    let clients = clients_of::<N, A>(alloc, first)?;
-    let by = first_of(alloc, &mut tickers, handed.1)?;
+    let Ok((clients, by)) = handed_in(alloc, &mut guests, &mut tickers, handed) else {
+        return Err(AllocError);
+    };
     plan.begin(call);
     let ended = conclude_home(
         alloc,
@@ -157,6 +211,9 @@ pub(crate) fn concluded<N: OfficeName<A>, A: Allocator + Copy>(
     plan.end();
     match ended {
         Ok(last) => Ok(Ok(last)),
-        Err((fault, home)) => Ok(Err((fault, come_back(alloc, home, guests, tickers)?))),
+        Err((fault, home)) => match come_back(alloc, home, guests, tickers) {
+            Ok(stage) => Ok(Err((fault, stage))),
+            Err(AllocError) => Err(AllocError),
+        },
     }
 }
