@@ -1,4 +1,4 @@
-use Rattle.std.proofs.Common.{ap, sym, ◌∙◌}
+use Rattle.std.proofs.Common.{ap}
 use Rattle.fleet_map.specs.Grammar.{view}
 use Rattle.fleet_report.specs.Outcome.{fault}
 use Rattle.fleet_answer.specs.Answer.{IsDescribed, IsMapOutcome, floor_of_map, refused, described}

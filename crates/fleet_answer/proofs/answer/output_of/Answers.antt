@@ -1,9 +1,8 @@
 use Rattle.std.proofs.Common.{◌≡◌, ◌++◌, ◌∙◌, ap, codes, refl, ℕ}
 use Rattle.std.proofs.lemmas.Result.{IfOk-weaker}
 use Rattle.fleet_history.specs.History.{History, history_of}
-use Rattle.fleet_trace.specs.Trace.{Trace, trace_of}
+use Rattle.fleet_trace.specs.Trace.{Trace}
 use Rattle.fleet_trace.specs.Text.{trace_text}
-use Rattle.fleet_answer.specs.Answer.{chapter_trace}
 use Rattle.fleet_answer.proofs.answer.output_of.Goals as goal
 
 -- traces of the same number and history are the same
