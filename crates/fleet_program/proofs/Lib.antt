@@ -1,4 +1,2 @@
-pub mod Kits
-pub mod Transfers
-pub mod Outcomes
+pub mod Jobs
 pub mod Services

@@ -16,13 +16,15 @@ use Rattle.fleet_trace.specs.Text.{trace_text}
 use Rattle.fleet_serve.specs.declared.served.ServeFault.{ServeFault}
 use Rattle.fleet_serve.specs.declared.served.ServeFault.TheVariants as serve_fault
 use Rattle.fleet_serve.specs.Posted.{TakesPosted, TakesAll}
-use Rattle.fleet_program.specs.declared.said.Said.{Said}
-use Rattle.fleet_program.specs.declared.words.Job.{Job}
-use Rattle.fleet_program.specs.declared.words.Job.TheVariants as job
-use Rattle.fleet_program.specs.Kit.{KitLaws, chosen_laws}
-use Rattle.fleet_program.specs.Outcome.{Outcome, MayOpen, IsServed, IsServedText, IsUnserved, IsServeOutcome, IsJobOutcome, limited, refused, ended, served}
-use Rattle.fleet_program.specs.Said.{said}
-use Rattle.fleet_program.specs.Told.{is_serve}
+use Rattle.fleet_report.specs.declared.said.Said.{Said}
+use Rattle.errands_words.specs.declared.words.Job.{Job}
+use Rattle.errands_words.specs.declared.words.Job.TheVariants as job
+use Rattle.fleet_answer.specs.Kit.{KitLaws, chosen_laws}
+use Rattle.fleet_report.specs.Outcome.{Outcome}
+use Rattle.fleet_answer.specs.Answer.{limited}
+use Rattle.fleet_program.specs.Outcome.{MayOpen, IsServed, IsServedText, IsUnserved, IsServeOutcome, IsJobOutcome, refused, ended, served}
+use Rattle.fleet_report.specs.Said.{said}
+use Rattle.errands_words.specs.Asked.{is_serve}
 
 module _ (kit : KitLaws) (laws : HookLaws) (m g : Floor) (p : Plan) (same : g ≡ m) (chosen : laws ≡ chosen_laws kit p) where
   moved : (f : OpenFault) → IsRefused g p.starts p.clients p.limits laws f → IsRefused m p.starts p.clients p.limits (chosen_laws kit p) f

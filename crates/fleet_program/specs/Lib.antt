@@ -1,10 +1,2 @@
-pub mod Output
-pub mod MapReport
-pub mod Command
-pub mod Asked
-pub mod Complaint
-pub mod Transfer
-pub mod Kit
 pub mod Outcome
-pub mod Said
 pub mod Told

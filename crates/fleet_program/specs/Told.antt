@@ -1,14 +1,14 @@
 -- What the program leaves on its two writers.
-use Rattle.std.specs.Prelude.{◌≡◌, ℕ, ◌≤◌, Bool, true, false, List, [], length, Option, Some, None}
-use Rattle.std.specs.Borrow.{MutBor}
+use Rattle.std.specs.Prelude.{◌≡◌, ℕ, ◌≤◌, Bool, true, false, List, length, Option}
 use Rattle.std.specs.Io.KnownBytes.{Appends}
-use Rattle.fleet_program.specs.declared.words.Job.{Job}
-use Rattle.fleet_program.specs.declared.words.Job.TheVariants as job
-use Rattle.fleet_program.specs.declared.said.Complaint.TheVariants as complaint
-use Rattle.fleet_program.specs.Complaint.{complaint_line, status_of}
-use Rattle.fleet_program.specs.Kit.{KitLaws}
-use Rattle.fleet_program.specs.Outcome.{Outcome, IsJobOutcome}
-use Rattle.fleet_program.specs.Transfer.{AppendsFront}
+use Rattle.errands_words.specs.declared.words.Job.{Job}
+use Rattle.errands_words.specs.declared.words.Job.TheVariants as job
+use Rattle.fleet_report.specs.declared.said.Complaint.TheVariants as complaint
+use Rattle.fleet_report.specs.Complaint.{complaint_line, status_of}
+use Rattle.fleet_answer.specs.Kit.{KitLaws}
+use Rattle.fleet_report.specs.Outcome.{Outcome}
+use Rattle.fleet_program.specs.Outcome.{IsJobOutcome}
+use Rattle.fleet_report.specs.Transfer.{AppendsFront}
 
 -- whether the job names two files
 abbrev pub names_two : Job → Bool
@@ -17,19 +17,6 @@ names_two (job.Map file) = false
 names_two (job.Run map script trace) = true
 names_two (job.Judge map trace) = true
 names_two (job.Serve map script) = true
-
--- whether the job is to serve a script
-abbrev pub is_serve : Job → Bool
-is_serve job.Bundle = false
-is_serve (job.Map file) = false
-is_serve (job.Run map script trace) = false
-is_serve (job.Judge map trace) = false
-is_serve (job.Serve map script) = true
-
--- what a second reader has, and nothing where there is none
-abbrev pub bytes_of : {I : Type 0} → (I → Option (List ℕ)) → Option (MutBor I) → Option (List ℕ)
-bytes_of remaining None = Some []
-bytes_of remaining (Some reader) = remaining reader.now
 
 -- a file, memory or a thread failed, and the error writer got the front of a line that says so
 pub data Failed (old_err new_err : Option (List ℕ)) (status : ℕ) : Type 0 where

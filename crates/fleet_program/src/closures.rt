@@ -5,14 +5,14 @@ ghost use Rattle.fleet_hooks.specs.Law.{IsRank};
 ghost use Rattle.fleet_program.specs.Told.{names_two};
 ghost use Rattle.fleet_program.specs.declared.closures.TheConstants.{SOUTH_FIRST};
 
-use crate::input::InputFault;
-use crate::kit::HookKit;
 use crate::program::{fail, run_program};
-use crate::words::Job;
+use errands_words::Job;
+use fleet_answer::HookKit;
 use fleet_grid::Dir;
 use fleet_hooks::{
     ArrivalHook, ArrivalView, Farewell, FarewellView, Hooks, StampLaw, TieHook, TieLaw, TieView,
 };
+use fleet_report::InputFault;
 use std::alloc::{Alloc, AllocError, Global};
 use std::io::{Read, Write};
 use std::sync::Wait;

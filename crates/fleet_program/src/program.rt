@@ -1,17 +1,17 @@
 //! The program over any readers and writers.
 
 ghost use Rattle.std.specs.Prelude.{◌≡◌, false, true, IfOk, IfSome, is_some};
-ghost use Rattle.fleet_program.specs.Told.{Failed, IsAnswer, IsTold, IsShown, bytes_of, is_serve, names_two};
-ghost use Rattle.fleet_program.specs.Kit.{kit_laws};
-ghost use Rattle.fleet_program.specs.Said.{said as said_of};
+ghost use Rattle.errands_words.specs.Asked.{is_serve};
+ghost use Rattle.fleet_report.specs.Transfer.{bytes_of};
+ghost use Rattle.fleet_program.specs.Told.{Failed, IsAnswer, IsTold, IsShown, names_two};
+ghost use Rattle.fleet_answer.specs.Kit.{kit_laws};
+ghost use Rattle.fleet_report.specs.Said.{said as said_of};
 
 use crate::answer::answer;
-use crate::input::{InputFault, read_other, read_whole};
-use crate::kit::HookKit;
-use crate::output::write_whole;
-use crate::said::{Complaint, Said};
 use crate::service::answer_job;
-use crate::words::Job;
+use errands_words::Job;
+use fleet_answer::HookKit;
+use fleet_report::{Complaint, InputFault, Said, read_other, read_whole, write_whole};
 use std::alloc::{Alloc, Global};
 use std::io::{Read, Write};
 use std::sync::Wait;

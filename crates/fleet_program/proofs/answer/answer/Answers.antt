@@ -1,5 +1,5 @@
-use Rattle.fleet_program.specs.Kit.{kit_laws}
-use Rattle.fleet_program.proofs.Outcomes.{job_is}
+use Rattle.fleet_answer.specs.Kit.{kit_laws}
+use Rattle.fleet_program.proofs.Jobs.{job_is}
 use Rattle.fleet_program.proofs.answer.answer.Goals as goal
 
 pub returns-in-Bundle : goal.returns-in-Bundle

@@ -1,6 +1,6 @@
 use Rattle.fleet_program.specs.Told.{told}
-use Rattle.fleet_program.specs.Said.{said}
-use Rattle.fleet_program.proofs.Outcomes.{for_both}
+use Rattle.fleet_report.specs.Said.{said}
+use Rattle.fleet_program.proofs.Jobs.{for_both}
 use Rattle.fleet_program.proofs.program.run_plain.Goals as goal
 
 pub returns-in-Ok : goal.returns-in-Ok

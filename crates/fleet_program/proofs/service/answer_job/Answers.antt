@@ -1,4 +1,4 @@
-use Rattle.fleet_program.specs.Kit.{kit_laws}
+use Rattle.fleet_answer.specs.Kit.{kit_laws}
 use Rattle.fleet_program.proofs.Services.{serve_job_is}
 use Rattle.fleet_program.proofs.service.answer_job.Goals as goal
 

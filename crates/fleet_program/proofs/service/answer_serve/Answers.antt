@@ -1,9 +1,11 @@
 use Rattle.std.proofs.Common.{ap, refl}
 use Rattle.fleet_map.specs.Grammar.{view}
-use Rattle.fleet_program.specs.Outcome.{IsServedScript, IsServeOutcome, floor_of_map, fault, done, map_faulty, script_faulty}
-use Rattle.fleet_program.specs.Kit.{kit_laws}
+use Rattle.fleet_report.specs.Outcome.{fault}
+use Rattle.fleet_answer.specs.Answer.{floor_of_map}
+use Rattle.fleet_program.specs.Outcome.{IsServedScript, IsServeOutcome, done, map_faulty, script_faulty}
+use Rattle.fleet_answer.specs.Kit.{kit_laws}
 use Rattle.fleet_script.specs.Shown.{plan}
-use Rattle.fleet_program.proofs.Outcomes.{said_is, said_more, map_fails, fails_line}
+use Rattle.fleet_answer.proofs.Outcomes.{said_is, said_more, map_fails, fails_line}
 use Rattle.fleet_program.proofs.service.answer_serve.Goals as goal
 
 pub returns-in-Err : goal.returns-in-Err

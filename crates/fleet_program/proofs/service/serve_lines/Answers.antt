@@ -3,9 +3,9 @@ use Rattle.fleet_map.specs.Grammar.{view}
 use Rattle.fleet_history.specs.History.{history_of}
 use Rattle.fleet_core.specs.Hooks.{laws_of}
 use Rattle.fleet_script.specs.Shown.{plan}
-use Rattle.fleet_program.specs.Kit.{kit_laws, chosen_laws}
-use Rattle.fleet_program.specs.Outcome.{floor_of_map}
-use Rattle.fleet_program.proofs.Kits.{first_laws, chosen_is}
+use Rattle.fleet_answer.specs.Kit.{kit_laws, chosen_laws}
+use Rattle.fleet_answer.specs.Answer.{floor_of_map}
+use Rattle.fleet_answer.proofs.Kits.{first_laws, chosen_is}
 use Rattle.fleet_program.proofs.Services.{served_is, unserved_is}
 use Rattle.fleet_program.proofs.service.serve_lines.Goals as goal
 

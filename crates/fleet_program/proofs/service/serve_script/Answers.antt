@@ -5,10 +5,12 @@ use Rattle.std.specs.List.{All}
 use Rattle.fleet_map.specs.Grammar.{view}
 use Rattle.fleet_script.specs.Shown.{plan}
 use Rattle.fleet_serve.specs.Posted.{IsLine}
-use Rattle.fleet_program.specs.declared.said.Complaint.TheVariants as complaint
-use Rattle.fleet_program.specs.Kit.{kit_laws}
-use Rattle.fleet_program.specs.Outcome.{IsServed, IsServedScript, floor_of_map, fault, other, lines}
-use Rattle.fleet_program.proofs.Outcomes.{said_is, said_more}
+use Rattle.fleet_report.specs.declared.said.Complaint.TheVariants as complaint
+use Rattle.fleet_answer.specs.Kit.{kit_laws}
+use Rattle.fleet_report.specs.Outcome.{fault}
+use Rattle.fleet_answer.specs.Answer.{floor_of_map}
+use Rattle.fleet_program.specs.Outcome.{IsServed, IsServedScript, other, lines}
+use Rattle.fleet_answer.proofs.Outcomes.{said_is, said_more}
 use Rattle.fleet_program.proofs.service.serve_script.Goals as goal
 
 pub returns-in_default : goal.returns-in_default

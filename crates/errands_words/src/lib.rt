@@ -1,0 +1,6 @@
+//! The words that the program `errands` is given, as `clap` takes them, and the job that they name.
+#![tactic(auto)]
+
+mod words;
+
+pub use words::{Job, WordFault, parse_words};

@@ -1,0 +1,2 @@
+pub mod Kits
+pub mod Outcomes

@@ -1,0 +1,6 @@
+pub mod Output
+pub mod MapReport
+pub mod Complaint
+pub mod Transfer
+pub mod Outcome
+pub mod Said

@@ -1,0 +1,15 @@
+//! What a run, a map and a refusal read as, in text; and whole reads and writes of any readers and writers.
+#![tactic(auto)]
+
+mod input;
+mod maps;
+mod output;
+mod runs;
+mod said;
+mod texts;
+
+pub use input::{InputFault, read_other, read_whole};
+pub use maps::map_report;
+pub use output::write_whole;
+pub use runs::report;
+pub use said::{Complaint, Said, faulty, line_of, map_complaint};
