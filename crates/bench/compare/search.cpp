@@ -147,6 +147,17 @@ static void measure_field(const Map& map, u32 pad) {
         if (dist[g.place(goal)] != 0) printf("wrong\n");
     }
     line("field", map.name, 0, cells.size(), m);
+    // beside a compass stands the field that a long run searches, over lists that are kept
+    vector<u32> dist, now_front, next_front;
+    Measure kept;
+    for (int k = 0; k < 48; k++) {
+        u32 goal = cells[random.below(cells.size())];
+        double start = now();
+        field_into(g, g.place(goal), dist, now_front, next_front);
+        kept.with(now() - start);
+        if (dist[g.place(goal)] != 0) printf("wrong\n");
+    }
+    line("compass", map.name, 0, cells.size(), kept);
 }
 
 static void measure_fields(const Map& map) {

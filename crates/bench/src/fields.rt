@@ -1,9 +1,9 @@
-//! Measures of distance fields.
+//! Measures of distance fields, and of the compasses that a world goes by.
 
 ghost use Rattle.std.specs.Prelude.{ℕ, ◌<◌, length, slice_index};
 ghost use Rattle.fleet_grid.specs.Floor.{IsFloor};
 
-use fleet_field::{Field, fields};
+use fleet_field::{Compass, Field, fields};
 use fleet_grid::Grid;
 use std::alloc::{Alloc, Global};
 use std::io;
@@ -17,38 +17,63 @@ const REPEATS: u32 = 48;
 /// How many fields are searched together.
 const MANY: usize = 3000;
 
-/// One field, by cell that it reaches.
+/// What is searched from a goal.
+#[derive(Clone, Copy)]
+enum Search {
+    Field,
+    Compass,
+}
+
+/// One field, and one compass, by cell that it reaches.
 pub(crate) fn measure_field<R: Alloc<A = Global> + Clock + Print>(
     rt: &R,
     kinds: &[Kind],
 ) -> io::Result<()> {
     for kind in kinds {
         if let Some(site) = Site::new(rt.alloc(), grid_of(rt.alloc(), *kind)?)? {
-            let found = time_goals(rt, &site)?;
             let things = site.cells.len() as u64;
-            print_measure(rt, "field", kind.name(), 0, things, found)?;
+            let fields = time_goals(rt, &site, Search::Field)?;
+            print_measure(rt, "field", kind.name(), 0, things, fields)?;
+            let compasses = time_goals(rt, &site, Search::Compass)?;
+            print_measure(rt, "compass", kind.name(), 0, things, compasses)?;
         }
     }
     Ok(())
 }
 
-/// The fields of several goals, one after another.
-fn time_goals<R: Alloc<A = Global> + Clock>(rt: &R, site: &Site) -> io::Result<Measure> {
+/// The searches from several goals, one after another.
+fn time_goals<R: Alloc<A = Global> + Clock>(
+    rt: &R,
+    site: &Site,
+    search: Search,
+) -> io::Result<Measure> {
     let mut random = Random::from_seed(7);
     let mut found = Measure::NONE;
     for _ in 0..REPEATS {
         let goal = site.cell(&mut random);
-        found = found.with(time_field(rt, &site.grid, goal)?);
+        found = found.with(time_search(rt, &site.grid, goal, search)?);
     }
     Ok(found)
 }
 
-/// The nanoseconds that the field of a goal takes.
-fn time_field<R: Alloc<A = Global> + Clock>(rt: &R, grid: &Grid, goal: u32) -> io::Result<u128>
+/// The nanoseconds that the search from a goal takes.
+fn time_search<R: Alloc<A = Global> + Clock>(
+    rt: &R,
+    grid: &Grid,
+    goal: u32,
+    search: Search,
+) -> io::Result<u128>
     requires { IsFloor grid.now goal }
 {
     let start = Instant::now(rt)?;
-    let _field = Field::from(rt.alloc(), grid, goal)?;
+    match search {
+        Search::Field => {
+            let _field = Field::from(rt.alloc(), grid, goal)?;
+        }
+        Search::Compass => {
+            let _compass = Compass::from(rt.alloc(), grid, goal)?;
+        }
+    }
     Ok(start.elapsed(rt)?.as_nanos())
 }
 
