@@ -23,7 +23,6 @@ use fleet_calls::World;
 use fleet_grid::Grid;
 use fleet_hooks::Hooks;
 use std::alloc::{Alloc, Allocator, Global};
-use std::mem;
 use std::thread::Threads;
 
 /// What a run leaves, by client where a list is one of lists.
@@ -81,8 +80,7 @@ pub fn run<A: Allocator + Copy + Send + Sync, R: Alloc<A = A> + Threads + Sync>(
     match session.play(rt, events) {
         Ok(replies) => Ok(session.close(replies)),
         Err(fault) => {
-            // By a call: the drop of a type is proved once, and one that is not called anew in each function.
-            mem::drop(session);
+            session.abandon();
             Err(fault)
         }
     }

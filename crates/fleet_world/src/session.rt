@@ -17,11 +17,9 @@ use fleet_calls::{OpenFault, World};
 use fleet_grid::Grid;
 use fleet_hooks::Hooks;
 use std::alloc::{AllocError, Allocator};
-use std::mem;
 
 /// A world, and by client what it sent, what was taken of that, what it was given and what it collected. Each event is
 /// answered; want of memory leaves everything as it was.
-#[derive(Drop)]
 pub(crate) struct Session<A: Allocator + Copy> {
     pub(crate) world: World<A>,
     pub(crate) lists: Vec<ClientLists<A>, A>,
@@ -59,11 +57,20 @@ impl<A: Allocator + Copy> Session<A> {
                 leavings,
             }),
             Err(AllocError) => {
-                // By a call: the drop of a type is proved once, and one that is not called anew in each function.
-                mem::drop(world);
+                let_go(world);
                 Err(OpenFault::NoMemory)
             }
         }
+    }
+
+    /// Lets the run go.
+    pub(crate) fn abandon(self) {
+        let Session {
+            world,
+            lists: _,
+            leavings: _,
+        } = self;
+        let_go(world);
     }
 
     /// What the run leaves, with the replies to its events.
@@ -88,6 +95,11 @@ impl<A: Allocator + Copy> Session<A> {
             replies,
         }
     }
+}
+
+/// Lets a world go. By its own end: that is proved in its crate, and a drop would be anew here, for each type that lies in it.
+fn let_go<A: Allocator + Copy>(world: World<A>) {
+    let _left = world.finish();
 }
 
 /// The lists of clients that did nothing, and room for what they leave.
