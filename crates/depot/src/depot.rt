@@ -7,6 +7,7 @@ use crate::account::Account;
 use crate::random::Random;
 use crate::tally::Tally;
 use crate::work::{Shift, Worker, work_all};
+use fleet_calls::OpenFault;
 use fleet_grid::Grid;
 use fleet_history::Chapter;
 use fleet_hooks::Hooks;
@@ -14,7 +15,6 @@ use fleet_lanes::Client;
 use fleet_office::{
     ConcludeFault, Desk, Final, Office, OfficeName, Ticker, TurnCause, clients_of, guests_of,
 };
-use fleet_world::OpenFault;
 use std::alloc::{Alloc, AllocError, Global};
 use std::sync::Wait;
 use std::thread::Threads;

@@ -7,11 +7,11 @@ use crate::settings::Settings;
 use crate::work::Shift;
 use crate::yard::{floor_of, starts_on, warehouse};
 use fleet_book::Limits;
+use fleet_calls::OpenFault;
 use fleet_hooks::{
     ArrivalHook, ArrivalView, Farewell, FarewellView, Hooks, StampLaw, TieHook, TieLaw, TieView,
 };
 use fleet_office::Desk;
-use fleet_world::OpenFault;
 use std::alloc::{Alloc, AllocError, Global};
 use std::marker::Brand;
 use std::sync::Wait;

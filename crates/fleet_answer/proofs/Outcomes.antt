@@ -30,11 +30,11 @@ use Rattle.fleet_map.specs.declared.fault.MapFault.{MapFault}
 use Rattle.fleet_map.specs.declared.fault.MapFault.TheVariants as map_fault
 use Rattle.fleet_map.specs.Grammar.{Fails, map_of}
 use Rattle.fleet_book.specs.declared.limits.Limits.{Limits}
-use Rattle.fleet_world.specs.declared.faults.OpenFault.{OpenFault}
-use Rattle.fleet_world.specs.declared.faults.OpenFault.TheVariants as open_fault
+use Rattle.fleet_calls.specs.declared.faults.OpenFault.{OpenFault}
+use Rattle.fleet_calls.specs.declared.faults.OpenFault.TheVariants as open_fault
 use Rattle.fleet_world.specs.declared.faults.RunFault.{RunFault}
 use Rattle.fleet_world.specs.declared.faults.RunFault.TheVariants as run_fault
-use Rattle.fleet_world.specs.Opening.{IsNamed, IsRefused}
+use Rattle.fleet_calls.specs.Opening.{IsNamed, IsRefused}
 use Rattle.fleet_report.specs.Said.{said}
 use Rattle.fleet_script.specs.Shown.{FailsAt}
 use Rattle.fleet_script.specs.declared.script.ScriptFault.{ScriptFault}

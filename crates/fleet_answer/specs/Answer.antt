@@ -9,10 +9,10 @@ use Rattle.fleet_grid.specs.Floor.{Floor, IsNeighbour, floor_of}
 use Rattle.fleet_grid.specs.Walk.{IsBridgeless}
 use Rattle.fleet_book.specs.declared.event.Event.{Event}
 use Rattle.fleet_world.specs.declared.reply.Reply.{Reply}
-use Rattle.fleet_world.specs.declared.faults.OpenFault.{OpenFault}
+use Rattle.fleet_calls.specs.declared.faults.OpenFault.{OpenFault}
 use Rattle.fleet_core.specs.Core.{World}
 use Rattle.fleet_world.specs.Run.{State, Run, opened_state}
-use Rattle.fleet_world.specs.Opening.{IsRefused}
+use Rattle.fleet_calls.specs.Opening.{IsRefused}
 use Rattle.fleet_world.specs.Laws.{KeepsRings, KeepsEachRing, CollectsInOrder}
 use Rattle.fleet_history.specs.Legal.{IsLegal}
 use Rattle.fleet_history.specs.Laws.{ArrivesInOrder, ArrivalsRise, EachTick, HasNoConflict, AcceptsNoneClosed}

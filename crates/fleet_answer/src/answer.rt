@@ -4,7 +4,7 @@ ghost use Rattle.std.specs.Prelude.{◌≡◌, ◌≤◌, ◌++◌, length, IfOk
 ghost use Rattle.std.specs.List.{list_any};
 ghost use Rattle.fleet_map.specs.Form.{HasSides};
 ghost use Rattle.fleet_map.specs.Grammar.{view};
-ghost use Rattle.fleet_world.specs.Opening.{IsNamed};
+ghost use Rattle.fleet_calls.specs.Opening.{IsNamed};
 ghost use Rattle.fleet_report.specs.Output.{is_limit_met};
 ghost use Rattle.fleet_answer.specs.Answer.{IsBundleOutcome, IsMapOutcome, IsDescribed, IsPartsOutcome, IsScriptOutcome, floor_of_map, limited, run_output, run_outcome};
 ghost use Rattle.fleet_trace.specs.Trace.{trace_of};

@@ -3,7 +3,7 @@
 ghost use Rattle.std.specs.Prelude.{◌≡◌, ◌+◌, ◌<◌, ◌≤◌, ◌^◌, ◌↔◌, true, false, ℕ, length, Err, IfOk, IfErr, IfSome, OnOk, OnErr};
 ghost use Rattle.fleet_history.specs.History.{clock, robots, is_shut};
 ghost use Rattle.fleet_core.specs.Hooks.{laws_of};
-ghost use Rattle.fleet_world.specs.Opening.{IsRefused, IsNamed as IsNamedFault};
+ghost use Rattle.fleet_calls.specs.Opening.{IsRefused, IsNamed as IsNamedFault};
 ghost use Rattle.fleet_core.specs.Core.{Shuts, HasRoom, HasNoRoom, HasEntries, HasNoEntries, opened_world};
 ghost use Rattle.fleet_office.specs.Views.{IsNamed, AreOn, cores};
 ghost use Rattle.fleet_office.specs.Hall.{ShowsOrder, TakesOne, GivesAll, given_count, TicksOnce, Turns, StopsTurn, Looks};
@@ -14,11 +14,11 @@ use crate::report::{TurnFault, TurnReport};
 use crate::rest::Rest;
 use crate::ticker::Ticker;
 use fleet_book::Verdict;
+use fleet_calls::{OpenFault, World};
 use fleet_core::{Robots, ShutFault, TakeFault, TickFault, TickReport};
 use fleet_grid::Grid;
 use fleet_hooks::Hooks;
 use fleet_lanes::Client;
-use fleet_world::{OpenFault, World};
 use std::alloc::{Alloc, Allocator, Global};
 
 /// The lock's value in two parts, so that each may be shown to cross threads by itself.

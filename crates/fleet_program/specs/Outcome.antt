@@ -5,8 +5,8 @@ use Rattle.std.specs.List.{All}
 use Rattle.fleet_map.specs.declared.fault.MapFault.{MapFault}
 use Rattle.fleet_map.specs.Grammar.{Map, map_of}
 use Rattle.fleet_grid.specs.Floor.{Floor}
-use Rattle.fleet_world.specs.declared.faults.OpenFault.{OpenFault}
-use Rattle.fleet_world.specs.Opening.{IsRefused}
+use Rattle.fleet_calls.specs.declared.faults.OpenFault.{OpenFault}
+use Rattle.fleet_calls.specs.Opening.{IsRefused}
 use Rattle.fleet_history.specs.Legal.{IsLegal}
 use Rattle.fleet_history.specs.History.{History}
 use Rattle.fleet_trace.specs.Text.{trace_text}

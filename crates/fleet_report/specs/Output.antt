@@ -1,8 +1,8 @@
 -- What the program prints of a run: the lines of each event, by its reply and by the entry that it made.
 use Rattle.fleet_map.specs.declared.fault.MapFault.{MapFault}
 use Rattle.fleet_map.specs.declared.fault.MapFault.TheVariants as map_fault
-use Rattle.fleet_world.specs.declared.faults.OpenFault.{OpenFault}
-use Rattle.fleet_world.specs.declared.faults.OpenFault.TheVariants as open_fault
+use Rattle.fleet_calls.specs.declared.faults.OpenFault.{OpenFault}
+use Rattle.fleet_calls.specs.declared.faults.OpenFault.TheVariants as open_fault
 use Rattle.std.specs.Prelude.{Bool, true, false, ℕ, ◌+◌, List, [], ◌∷◌, ◌++◌, Option, Some, None, codes, decimal, slice_index, drop, slice_get}
 use Rattle.std.specs.List.{flat_map}
 use Rattle.fleet_book.specs.declared.verdict.Verdict.{Verdict}

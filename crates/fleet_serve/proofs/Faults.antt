@@ -5,9 +5,9 @@ use Rattle.fleet_grid.specs.Floor.{Floor}
 use Rattle.fleet_book.specs.declared.limits.Limits.{Limits}
 use Rattle.fleet_core.specs.Hooks.{HookLaws}
 use Rattle.fleet_core.specs.Opening.{AreInRange}
-use Rattle.fleet_world.specs.declared.faults.OpenFault.{OpenFault}
-use Rattle.fleet_world.specs.declared.faults.OpenFault.TheVariants as open_fault
-use Rattle.fleet_world.specs.Opening.{IsRefused, IsNamed}
+use Rattle.fleet_calls.specs.declared.faults.OpenFault.{OpenFault}
+use Rattle.fleet_calls.specs.declared.faults.OpenFault.TheVariants as open_fault
+use Rattle.fleet_calls.specs.Opening.{IsRefused, IsNamed}
 use Rattle.fleet_serve.specs.declared.served.ServeFault.{ServeFault}
 use Rattle.fleet_serve.specs.declared.served.ServeFault.TheVariants.{Opening, NoMemory}
 use Rattle.fleet_serve.specs.inside.Faults.{IsLater}

@@ -1,7 +1,7 @@
 //! What a serve comes to, and why it does not.
 
+use fleet_calls::OpenFault;
 use fleet_office::Final;
-use fleet_world::OpenFault;
 use std::alloc::AllocError;
 
 /// What a serve came to: how the office ended, and how many posts met a full lane.

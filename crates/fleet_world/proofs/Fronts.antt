@@ -1,5 +1,5 @@
 -- A list of which a front was taken.
-use Rattle.std.proofs.Common.{◌≡◌, ℕ, zero, suc, ◌+◌, ◌≤◌, List, [], ◌∷◌, ◌++◌, length, take, drop, Some, None, refl, ap, add-one}
+use Rattle.std.proofs.Common.{◌≡◌, ℕ, zero, suc, ◌+◌, ◌≤◌, List, [], ◌∷◌, ◌++◌, length, take, drop, Some, refl, ap, add-one}
 use Rattle.std.proofs.Common.{subst}
 use Rattle.std.specs.Prelude.{slice_get}
 use Rattle.fleet_book.specs.declared.event.Event.{Event}
@@ -18,11 +18,6 @@ pub take_next : {X : Type 0} (xs : List X) (n : ℕ) (x : X) → n ≤ length xs
 take_next xs n x l e =
     let s = length-take-le n xs l in
     rw add-one (take_next_at xs n x (rw s at e))
-
--- a list with no first item is empty
-pub nil_from_none : {X : Type 0} (xs : List X) → slice_get xs 0 ≡ None → xs ≡ []
-nil_from_none [] e = refl
-nil_from_none (x ∷ xs) e = cc
 
 -- a run goes on by one step
 pub Run-push : {A : Type 0} (s m t : State A) (events : List Event) (replies : List Reply) (event : Event) (reply : Reply) →

@@ -3,4 +3,3 @@ pub mod Moves
 pub mod Plays
 pub mod Rings
 pub mod Leaves
-pub mod Refusals

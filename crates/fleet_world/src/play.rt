@@ -9,7 +9,7 @@ ghost use Rattle.fleet_history.specs.Numbering.{AreNumbered};
 ghost use Rattle.fleet_history.specs.Laws.{ArrivesInOrder, ArrivalsRise, HasNoConflict, AcceptsNoneClosed, EachTick};
 ghost use Rattle.fleet_plan.specs.Planned.{IsPlanned, IsAdvancingTick};
 ghost use Rattle.fleet_core.specs.Hooks.{laws_of};
-ghost use Rattle.fleet_world.specs.Opening.{IsRefused, IsNamed};
+ghost use Rattle.fleet_calls.specs.Opening.{IsRefused, IsNamed};
 ghost use Rattle.fleet_core.specs.Core.{opened_world};
 ghost use Rattle.fleet_world.specs.Run.{Run, opened_state};
 ghost use Rattle.fleet_world.specs.Laws.{KeepsRings, KeepsEachRing, CollectsInOrder, IsSameGround};
@@ -18,12 +18,11 @@ ghost use Rattle.fleet_world.specs.Played.{collected_of, end_of};
 use crate::faults::RunFault;
 use crate::reply::Reply;
 use crate::session::Session;
-use crate::world::World;
 use fleet_book::{Event, Limits, Notice, Order};
+use fleet_calls::World;
 use fleet_grid::Grid;
 use fleet_hooks::Hooks;
 use std::alloc::{Alloc, Allocator, Global};
-use std::mem;
 use std::thread::Threads;
 
 /// What a run leaves, by client where a list is one of lists.
@@ -81,8 +80,7 @@ pub fn run<A: Allocator + Copy + Send + Sync, R: Alloc<A = A> + Threads + Sync>(
     match session.play(rt, events) {
         Ok(replies) => Ok(session.close(replies)),
         Err(fault) => {
-            // By a call: the drop of a type is proved once, and one that is not called anew in each function.
-            mem::drop(session);
+            session.abandon();
             Err(fault)
         }
     }

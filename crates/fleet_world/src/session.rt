@@ -1,28 +1,25 @@
 //! A run under way: a world, and the lists of its clients.
 
-ghost use Rattle.std.specs.Prelude.{◌≡◌, ◌↔◌, IfOk, OnOk, Err, map, replicate, vec_len};
+ghost use Rattle.std.specs.Prelude.{◌≡◌, ◌<◌, ◌^◌, ◌↔◌, IfOk, OnOk, Err, map, replicate, vec_len};
 ghost use Rattle.fleet_history.specs.History.{clients as client_count};
 ghost use Rattle.fleet_core.specs.Hooks.{laws_of, AreOrderly};
 ghost use Rattle.fleet_core.specs.Opening.{CanOpen};
-ghost use Rattle.fleet_world.specs.Opening.{IsRefused, IsNamed};
+ghost use Rattle.fleet_calls.specs.Opening.{IsRefused, IsNamed};
 ghost use Rattle.fleet_world.specs.inside.Leavings.{HasRoomFor};
 ghost use Rattle.fleet_world.specs.Run.{lane, outlet, no_lists, state_of, opened_state};
 
-use crate::faults::OpenFault;
 use crate::leavings::Leavings;
 use crate::lists::ClientLists;
-use crate::opening::opening_fault;
 use crate::play::Played;
 use crate::reply::Reply;
-use crate::world::World;
 use fleet_book::Limits;
+use fleet_calls::{OpenFault, World};
 use fleet_grid::Grid;
 use fleet_hooks::Hooks;
 use std::alloc::{AllocError, Allocator};
 
 /// A world, and by client what it sent, what was taken of that, what it was given and what it collected. Each event is
 /// answered; want of memory leaves everything as it was.
-#[derive(Drop)]
 pub(crate) struct Session<A: Allocator + Copy> {
     pub(crate) world: World<A>,
     pub(crate) lists: Vec<ClientLists<A>, A>,
@@ -42,43 +39,38 @@ impl<A: Allocator + Copy> Session<A> {
         limits: Limits,
         hooks: Hooks<A>,
     ) -> Result<Session<A>, OpenFault>
+        // Of each call: only a call with a condition may hand on closures that another crate hands out.
+        requires { clients < 2 ^ 32 }
         ensures refused { (fault : _) → IsNamed fault → ((result ≡ Err fault) ↔ IsRefused grid starts.items clients limits (laws_of hooks) fault) }
         ensures can { OnOk result (CanOpen grid starts.items clients limits (laws_of hooks)) }
         ensures orderly { OnOk result (AreOrderly (laws_of hooks)) }
         ensures ok { IfOk result (λ s. state_of s.world.core s.lists.items ≡ opened_state grid starts.items clients limits (laws_of hooks)) }
     {
-        if let Some(fault) = opening_fault(&grid, starts.as_slice(), clients, limits, &hooks) {
-            return Err(fault);
-        }
-        match Session::make(alloc, grid, starts, clients, limits, hooks) {
-            Ok(session) => Ok(session),
-            Err(AllocError) => Err(OpenFault::NoMemory),
+        let world = match World::open(alloc, grid, starts, clients, limits, hooks) {
+            Ok(world) => world,
+            Err(fault) => return Err(fault),
+        };
+        match rooms(alloc, clients as usize) {
+            Ok((lists, leavings)) => Ok(Session {
+                world,
+                lists,
+                leavings,
+            }),
+            Err(AllocError) => {
+                let_go(world);
+                Err(OpenFault::NoMemory)
+            }
         }
     }
 
-    /// The session at its opening.
-    fn make(
-        alloc: A,
-        grid: Grid<A>,
-        starts: Vec<u32, A>,
-        clients: u32,
-        limits: Limits,
-        hooks: Hooks<A>,
-    ) -> Result<Session<A>, AllocError>
-        requires { CanOpen grid starts.items clients limits (laws_of hooks) }
-        ensures orderly { OnOk result (AreOrderly (laws_of hooks)) }
-        ensures ok { IfOk result (λ s. state_of s.world.core s.lists.items ≡ opened_state grid starts.items clients limits (laws_of hooks)) }
-    {
-        let count = clients as usize;
-        let lists = empty_lists(alloc, count)?;
-        let leavings = Leavings::with_room(alloc, count)?;
-        // Last, so that no path lets a world go.
-        let world = World::make(alloc, grid, starts, clients, limits, hooks)?;
-        Ok(Session {
+    /// Lets the run go.
+    pub(crate) fn abandon(self) {
+        let Session {
             world,
-            lists,
-            leavings,
-        })
+            lists: _,
+            leavings: _,
+        } = self;
+        let_go(world);
     }
 
     /// What the run leaves, with the replies to its events.
@@ -103,6 +95,25 @@ impl<A: Allocator + Copy> Session<A> {
             replies,
         }
     }
+}
+
+/// Lets a world go. By its own end: that is proved in its crate, and a drop would be anew here, for each type that lies in it.
+fn let_go<A: Allocator + Copy>(world: World<A>) {
+    let _left = world.finish();
+}
+
+/// The lists of clients that did nothing, and room for what they leave.
+fn rooms<A: Allocator + Copy>(
+    alloc: A,
+    count: usize,
+) -> Result<(Vec<ClientLists<A>, A>, Leavings<A>), AllocError>
+    ensures lists { IfOk result (λ r. r.0.items ≡ replicate count no_lists) }
+    ensures len { IfOk result (λ r. vec_len r.0 ≡ count) }
+    ensures room { IfOk result (λ r. HasRoomFor r.1 count) }
+{
+    let lists = empty_lists(alloc, count)?;
+    let leavings = Leavings::with_room(alloc, count)?;
+    Ok((lists, leavings))
 }
 
 /// Lists of clients that did nothing.

@@ -32,7 +32,7 @@ impl<A: Allocator + Copy> Session<A> {
     }
 
     /// A take: the lane's first order goes into the world.
-    #[tactic(auto, using(crate::proofs::Fronts::nil_from_none))]
+    #[tactic(auto, using(fleet_calls::proofs::Fronts::nil_from_none))]
     pub(crate) fn take(&mut self, client: u32) -> Result<Reply, AllocError>
         ensures step { IfOk result (λ reply. Step (state self.old) (Event.Take client) reply (state self.new)) }
         ensures err { OnErr result (state self.new ≡ state self.old) }
@@ -54,7 +54,7 @@ impl<A: Allocator + Copy> Session<A> {
     }
 
     /// A give: the mailbox's first notice goes to the outlet, unless that is full.
-    #[tactic(auto, using(crate::proofs::Fronts::nil_from_none))]
+    #[tactic(auto, using(fleet_calls::proofs::Fronts::nil_from_none))]
     pub(crate) fn give(&mut self, client: u32) -> Result<Reply, AllocError>
         ensures step { IfOk result (λ reply. Step (state self.old) (Event.Give client) reply (state self.new)) }
         ensures err { OnErr result (state self.new ≡ state self.old) }

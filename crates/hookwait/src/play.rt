@@ -5,11 +5,11 @@ ghost use Rattle.fleet_office.specs.Views.{IsNamed, AreOn, cores};
 
 use crate::flags::is_seen;
 use crate::staff::{Shared, Turner, Worker, work_all};
+use fleet_calls::OpenFault;
 use fleet_grid::Grid;
 use fleet_hooks::Hooks;
 use fleet_lanes::Client;
 use fleet_office::{ConcludeFault, Desk, Office, OfficeName, Ticker, clients_of, guests_of};
-use fleet_world::OpenFault;
 use std::alloc::{Alloc, AllocError, Global};
 use std::sync::Wait;
 use std::thread::Threads;

@@ -6,8 +6,8 @@ ghost use Rattle.fleet_office.specs.Views.{IsNamed};
 use crate::case::HallStep;
 use crate::stage::Fleet;
 use crate::telling::Telling;
+use fleet_calls::OpenFault;
 use fleet_office::{Desk, Guest, Hall, OfficeName, Ticker, guests_of};
-use fleet_world::OpenFault;
 use std::alloc::{Alloc, AllocError, Allocator, Global};
 use std::mem;
 

@@ -8,13 +8,13 @@ use crate::plan::{Call, Plan};
 use crate::play::play;
 use crate::stage::Fleet;
 use crate::telling::Telling;
+use fleet_calls::OpenFault;
 use fleet_grid::Grid;
 use fleet_hooks::{
     ArrivalHook, ArrivalView, Farewell, FarewellView, Hooks, StampLaw, TieHook, TieLaw, TieView,
 };
 use fleet_map::MapText;
 use fleet_office::{Desk, OfficeName};
-use fleet_world::OpenFault;
 use std::alloc::{AllocError, Allocator, Global};
 use std::marker::Brand;
 use std::sync::Wait;

@@ -4,13 +4,13 @@ ghost use Rattle.std.specs.Prelude.{◌≡◌, IfErr, IfOk};
 ghost use Rattle.fleet_office.specs.Views.{IsNamed, AreOn, cores};
 
 use crate::plan::{Call, Plan};
+use fleet_calls::OpenFault;
 use fleet_grid::Grid;
 use fleet_hooks::Hooks;
 use fleet_lanes::Client;
 use fleet_office::{
     ConcludeFault, Desk, Final, Guest, Home, Office, OfficeName, Ticker, clients_of, guests_of,
 };
-use fleet_world::OpenFault;
 use std::alloc::{AllocError, Allocator};
 
 /// An office, its clients by number, and its tickers in the order in which they were made.

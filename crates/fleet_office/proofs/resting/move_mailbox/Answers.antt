@@ -3,7 +3,7 @@ use Rattle.std.proofs.Math.ListN.{length-set}
 use Rattle.fleet_history.specs.History.{clients}
 use Rattle.fleet_core.specs.Core.{pending, without_first}
 use Rattle.fleet_core.specs.Pending.{Pending}
-use Rattle.fleet_world.proofs.Fronts.{nil_from_none}
+use Rattle.fleet_calls.proofs.Fronts.{nil_from_none}
 use Rattle.fleet_office.specs.Hall.{handed}
 use Rattle.fleet_office.proofs.GiveSteps.{handed_again, box_handed, head_split, popped}
 use Rattle.fleet_office.proofs.resting.move_mailbox.Goals as goal

@@ -14,7 +14,7 @@ use Rattle.fleet_core.specs.Hooks.{laws_of}
 use Rattle.fleet_world.specs.Laws.{KeepsRings, KeepsEachRing, CollectsInOrder, IsSameGround}
 use Rattle.fleet_world.specs.Played.{collected_of, end_of}
 use Rattle.fleet_world.specs.Run.{State, Run, state_of, opened_state}
-use Rattle.fleet_world.proofs.Refusals.{not_refused}
+use Rattle.fleet_calls.proofs.Refusals.{not_refused}
 use Rattle.fleet_world.proofs.Plays.{IsEnd, ends, same_length, end-left, end-clients, end-each, end-once}
 use Rattle.fleet_world.proofs.play.run.Goals as goal
 

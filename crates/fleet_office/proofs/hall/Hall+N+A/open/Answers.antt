@@ -1,7 +1,7 @@
 use Rattle.std.proofs.Common.{◌≡◌, length, ap, ◌∙◌, rules}
 use Rattle.fleet_core.specs.Hooks.{laws_of}
 use Rattle.fleet_history.specs.Legal.{IsLegal}
-use Rattle.fleet_world.specs.Opening.{IsRefused}
+use Rattle.fleet_calls.specs.Opening.{IsRefused}
 use Rattle.fleet_office.specs.Views.{rings_of}
 use Rattle.fleet_office.proofs.Opening.{opened, all_on}
 use Rattle.fleet_office.proofs.Over.{refused-err, refused-ok}

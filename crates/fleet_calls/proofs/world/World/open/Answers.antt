@@ -1,6 +1,6 @@
-use Rattle.fleet_world.proofs.Refusals.{refused-err, refused-ok, refused-memory}
+use Rattle.fleet_calls.proofs.Refusals.{refused-err, refused-ok, refused-memory}
 use Rattle.fleet_core.specs.Hooks.{laws_of}
-use Rattle.fleet_world.proofs.world.World.open.Goals as goal
+use Rattle.fleet_calls.proofs.world.World.open.Goals as goal
 
 pub returns-in-Some-clause-refused : goal.returns-in-Some-clause-refused
 returns-in-Some-clause-refused g c f named =

@@ -2,7 +2,7 @@
 
 ghost use Rattle.std.specs.Prelude.{Some, ◌≡◌, ◌≤◌, ◌<◌, ℕ, length, IfOk, MatchOption, map, IsTrue, ◌↔◌};
 ghost use Rattle.fleet_core.specs.Opening.{AreOnFloor, CanOpen};
-ghost use Rattle.fleet_world.specs.Opening.{IsFirstOffFloor, AreShared, IsFirstShared, IsRefused};
+ghost use Rattle.fleet_calls.specs.Opening.{IsFirstOffFloor, AreShared, IsFirstShared, IsRefused};
 ghost use Rattle.fleet_core.specs.Hooks.{laws_of, spare_laws, HaveCount};
 
 use crate::faults::OpenFault;

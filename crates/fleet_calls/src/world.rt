@@ -12,7 +12,7 @@ ghost use Rattle.fleet_history.specs.Notices.{noticed_count};
 ghost use Rattle.fleet_plan.specs.Planned.{IsPlanned, IsAdvancingTick};
 ghost use Rattle.fleet_core.specs.Hooks.{laws_of, spare_laws, AreOrderly, AreArrivals, AreFarewells};
 ghost use Rattle.fleet_core.specs.Opening.{CanOpen};
-ghost use Rattle.fleet_world.specs.Opening.{IsRefused, IsNamed};
+ghost use Rattle.fleet_calls.specs.Opening.{IsRefused, IsNamed};
 ghost use Rattle.fleet_core.specs.Core.{Takes, Ticks, Shuts, pending, without_first, widened, next_world, opened_world, HasRoom, HasNoRoom, HasEntries, HasNoEntries};
 
 use crate::faults::OpenFault;

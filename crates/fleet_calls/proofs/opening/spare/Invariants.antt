@@ -1,7 +1,7 @@
 use Rattle.std.proofs.Common.{◌≡◌, ◌+◌, ◌≤◌, map, Some, vec_len, vec_capacity}
 use Rattle.std.specs.Vec.Iter.{into_iter_len}
 use Rattle.fleet_core.specs.Hooks.{spare_laws}
-use Rattle.fleet_world.proofs.opening.spare.Given as goal
+use Rattle.fleet_calls.proofs.opening.spare.Given as goal
 
 abbrev pub invariant-loop-hook : goal.invariant-loop-hook
 invariant-loop-hook g l = record {

@@ -5,8 +5,8 @@ use Rattle.fleet_grid.specs.Step.{IsPlacement}
 use Rattle.fleet_book.specs.declared.limits.Limits.{Limits}
 use Rattle.fleet_core.specs.Hooks.{HookLaws, HaveCount}
 use Rattle.fleet_core.specs.Opening.{AreInRange, AreRobots, AreOnFloor}
-use Rattle.fleet_world.specs.declared.faults.OpenFault.{OpenFault}
-use Rattle.fleet_world.specs.declared.faults.OpenFault.TheVariants as fault
+use Rattle.fleet_calls.specs.declared.faults.OpenFault.{OpenFault}
+use Rattle.fleet_calls.specs.declared.faults.OpenFault.TheVariants as fault
 
 -- the robot is the first that does not start on floor
 pub record IsFirstOffFloor (m : Floor) (starts : List ℕ) (r : ℕ) : Type 0 where

@@ -2,7 +2,7 @@ use Rattle.std.proofs.Common.{◌≡◌, ◌∙◌, ap, refl}
 use Rattle.fleet_core.specs.Hooks.{HookLaws, laws_of}
 use Rattle.fleet_core.specs.Core.{opened_world}
 use Rattle.fleet_core.proofs.Opens.{arrivals-opened, farewells-opened, some_laws}
-use Rattle.fleet_world.proofs.world.World.make.Goals as goal
+use Rattle.fleet_calls.proofs.world.World.make.Goals as goal
 
 pub invariant_of-result : goal.invariant_of-result
 invariant_of-result g c =

@@ -5,9 +5,9 @@ use Rattle.fleet_grid.specs.Floor.{Floor}
 use Rattle.fleet_book.specs.declared.limits.Limits.{Limits}
 use Rattle.fleet_core.specs.Hooks.{HookLaws}
 use Rattle.fleet_core.specs.Opening.{CanOpen}
-use Rattle.fleet_world.specs.declared.faults.OpenFault.{OpenFault}
-use Rattle.fleet_world.specs.declared.faults.OpenFault.TheVariants as fault
-use Rattle.fleet_world.specs.Opening.{IsRefused, IsNamed}
+use Rattle.fleet_calls.specs.declared.faults.OpenFault.{OpenFault}
+use Rattle.fleet_calls.specs.declared.faults.OpenFault.TheVariants as fault
+use Rattle.fleet_calls.specs.Opening.{IsRefused, IsNamed}
 
 -- an opening is refused for one reason at most
 same_refused : (m : Floor) (starts : List ℕ) (n : ℕ) (limits : Limits) (laws : HookLaws) (e f : OpenFault) → IsRefused m starts n limits laws e → IsRefused m starts n limits laws f → e ≡ f
