@@ -5,7 +5,7 @@ use Rattle.std.proofs.lemmas.List.{get_or-set_same, get_or-set_other, get_or_pas
 use Rattle.std.proofs.Math.ListN.{length-set}
 use Rattle.fleet_pibt.specs.inside.Plan.{Distinct}
 use Rattle.std.proofs.lemmas.Bool.Decides.{eqb_tells}
-use Rattle.fleet_pibt.specs.inside.Entry.{entry, entry_by, table, IsEmpty}
+use Rattle.fleet_pibt.specs.inside.Entry.{entry_beside, entry_by, table, IsEmpty}
 use Rattle.fleet_pibt.specs.inside.Setting.{Setting, robots, IsStanding, NamesAll, IsPlanned}
 use Rattle.fleet_pibt.specs.inside.Tables.{IsPlaced, IsTaken, IsMatched}
 use Rattle.fleet_pibt.proofs.Reserve.{none_or_some}
@@ -146,8 +146,8 @@ planned-decided s target0 holder0 target holder queue names planned r l none =
     planned.decided j.0 j.1 (cc (none, ap (table target) j.2))
 
 -- a number that is entered can be read, and nothing where the empty entry is written
-pub entry-some : (n : ℕ) → n < 4294967295 → entry n ≡ Some n
-entry-some n l = elim (eqb_tells n 4294967295) [ inl p ↦ absurd (omega (arith, p.1)) | inr p ↦ ap (λ (b : Bool). entry_by b n) p.0 ]
+pub entry-some : (nothing n : ℕ) → n < nothing → entry_beside nothing n ≡ Some n
+entry-some nothing n l = elim (eqb_tells n nothing) [ inl p ↦ absurd (omega (arith, p.1)) | inr p ↦ ap (λ (b : Bool). entry_by b n) p.0 ]
 
 -- one more robot is entered
 pub place-next : (from : List ℕ) (standing standing' standing0 : List (Option ℕ)) (k : ℕ) → Distinct (length from) (slice_index from) → k < length from → slice_index from k < length standing0 → length standing ≡ length standing0 →
@@ -161,14 +161,17 @@ pub lift-next : (from : List ℕ) (standing standing' standing0 : List (Option �
 lift-next from standing standing' standing0 k same rests e = rw e (length-set standing (slice_index from k) None ∙ same, lift-more from standing k rests)
 
 -- a new table is empty
-blank-at : (n k : ℕ) → table (map entry (replicate n 4294967295)) k ≡ None
-blank-at zero k = refl
-blank-at (suc n) zero = refl
-blank-at (suc n) (suc k) = blank-at n k
+entry-none : (nothing : ℕ) → entry_beside nothing nothing ≡ None
+entry-none nothing = elim (eqb_tells nothing nothing) [ inl p ↦ ap (λ (b : Bool). entry_by b nothing) p.0 | inr p ↦ absurd (p.1 refl) ]
 
-blank-length : (n : ℕ) → length (map entry (replicate n 4294967295)) ≡ n
-blank-length zero = refl
-blank-length (suc n) = ap suc (blank-length n)
+blank-at : (nothing n k : ℕ) → table (map (entry_beside nothing) (replicate n nothing)) k ≡ None
+blank-at nothing zero k = refl
+blank-at nothing (suc n) zero = entry-none nothing
+blank-at nothing (suc n) (suc k) = blank-at nothing n k
 
-pub blank-empty : (n : ℕ) (xs : List ℕ) → xs ≡ replicate n 4294967295 → (length (map entry xs) ≡ n) × IsEmpty (map entry xs)
-blank-empty n xs e = rw e (blank-length n, blank-at n)
+blank-length : (nothing n : ℕ) → length (map (entry_beside nothing) (replicate n nothing)) ≡ n
+blank-length nothing zero = refl
+blank-length nothing (suc n) = ap suc (blank-length nothing n)
+
+pub blank-empty : (nothing n : ℕ) (xs : List ℕ) → xs ≡ replicate n nothing → (length (map (entry_beside nothing) xs) ≡ n) × IsEmpty (map (entry_beside nothing) xs)
+blank-empty nothing n xs e = rw e (blank-length nothing n, blank-at nothing n)

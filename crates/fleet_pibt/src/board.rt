@@ -3,6 +3,7 @@
 ghost use Rattle.std.specs.Prelude.{◌≡◌, ◌≢◌, ℕ, ◌+◌, ◌<◌, ◌≤◌, length, slice_set, Option, Some, None};
 ghost use Rattle.fleet_pibt.specs.inside.Entry.{table};
 
+use crate::roster::Roster;
 use crate::table::Table;
 use std::alloc::{Allocator, Global};
 
@@ -10,7 +11,7 @@ use std::alloc::{Allocator, Global};
 #[derive(Drop)]
 pub(crate) struct Board<A: Allocator + Copy = Global> {
     pub(crate) target: Table<A>,
-    pub(crate) holder: Table<A>,
+    pub(crate) holder: Roster<A>,
 }
 
 impl<A: Allocator + Copy> Board<A> {
@@ -18,7 +19,7 @@ impl<A: Allocator + Copy> Board<A> {
     pub(crate) fn reserve(&mut self, robot: u32, cell: u32)
         requires known { robot < length self.old.target }
         requires inside { cell < length self.old.holder }
-        requires few_robots { robot < 4294967295 }
+        requires few_robots { robot < 65535 }
         requires few_cells { cell < 4294967295 }
         ensures target { self.new.target ≡ slice_set self.old.target robot (Some cell) }
         ensures holder { self.new.holder ≡ slice_set self.old.holder cell (Some robot) }
@@ -32,7 +33,7 @@ impl<A: Allocator + Copy> Board<A> {
         requires known { robot < length self.old.target }
         requires other_known { other < length self.old.target }
         requires inside { cell < length self.old.holder }
-        requires few_robots { other < 4294967295 }
+        requires few_robots { other < 65535 }
         requires few_cells { cell < 4294967295 }
         ensures target { self.new.target ≡ slice_set (slice_set self.old.target robot None) other (Some cell) }
         ensures holder { self.new.holder ≡ slice_set self.old.holder cell (Some other) }

@@ -8,6 +8,7 @@ mod choice;
 mod goals;
 mod plan;
 mod priority;
+mod roster;
 mod scene;
 mod sight;
 mod stepper;

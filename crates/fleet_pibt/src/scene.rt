@@ -9,8 +9,8 @@ ghost use Rattle.fleet_pibt.specs.inside.Candidate.{IsCandidate};
 use crate::around::Around;
 use crate::choice::{Candidate, cells, in_order};
 use crate::goals::Goals;
+use crate::roster::Roster;
 use crate::sight::Sight;
-use crate::table::Table;
 use crate::ways::is_way;
 use fleet_grid::{Dir, Grid};
 use fleet_hooks::{TieHook, TieView};
@@ -39,7 +39,7 @@ pub(crate) struct Scene<'a, G, A: Allocator + Copy> {
     pub(crate) from: &'a [u32],
     pub(crate) ties: &'a [TieHook],
     /// The robot on each cell.
-    pub(crate) standing: &'a Table<A>,
+    pub(crate) standing: &'a Roster<A>,
     /// What each robot sees.
     pub(crate) arounds: &'a [Around],
     pub(crate) tick: u64,

@@ -15,6 +15,7 @@ use crate::board::Board;
 use crate::goals::Goals;
 use crate::plan::plan_all;
 use crate::priority::{number, put_in_order};
+use crate::roster::Roster;
 use crate::scene::Scene;
 use crate::table::Table;
 use crate::tables::{fetch, lift, place, settle};
@@ -27,7 +28,7 @@ use std::marker::Model;
 /// between two steps.
 #[derive(Drop)]
 pub struct Stepper<A: Allocator + Copy = Global> {
-    standing: Table<A>,
+    standing: Roster<A>,
     board: Board<A>,
     /// The robots, in the order of the last step.
     queue: Vec<u32, A>,
@@ -62,10 +63,10 @@ impl<A: Allocator + Copy> Stepper<A> {
         let mut queue = vec![in alloc; 0; robots as usize]?;
         number(&mut queue);
         Ok(Stepper {
-            standing: Table::new(alloc, cells)?,
+            standing: Roster::new(alloc, cells)?,
             board: Board {
                 target: Table::new(alloc, robots)?,
-                holder: Table::new(alloc, cells)?,
+                holder: Roster::new(alloc, cells)?,
             },
             queue,
             arounds: vec![in alloc; Around::NOWHERE; robots as usize]?,

@@ -7,7 +7,7 @@ ghost use Rattle.fleet_pibt.specs.inside.Tables.{IsPlaced, HasCells, HasSides, I
 
 use crate::around::Around;
 use crate::board::Board;
-use crate::table::Table;
+use crate::roster::Roster;
 use std::alloc::Allocator;
 
 /// A table of more entries does not lie near the processor as a whole.
@@ -15,7 +15,7 @@ const NEAR: usize = 262144;
 
 /// Empties the entries of the cells north and south of the robots, where they are empty. It changes nothing: the processor
 /// fetches all these entries of a large table at once, and not one after another when the robots are planned.
-pub(crate) fn fetch<A: Allocator + Copy>(arounds: &[Around], table: &mut Table<A>)
+pub(crate) fn fetch<A: Allocator + Copy>(arounds: &[Around], table: &mut Roster<A>)
     requires inside { HasSides arounds.now (length table.old) }
     requires empty { IsEmpty table.old }
     ensures same_length { length table.new ≡ length table.old }
@@ -31,7 +31,7 @@ pub(crate) fn fetch<A: Allocator + Copy>(arounds: &[Around], table: &mut Table<A
 }
 
 /// Enters each robot at its cell.
-pub(crate) fn place<A: Allocator + Copy>(from: &[u32], standing: &mut Table<A>)
+pub(crate) fn place<A: Allocator + Copy>(from: &[u32], standing: &mut Roster<A>)
     requires few { length from.now ≤ 512 }
     requires inside { HasCells from.now (length standing.old) }
     requires distinct { Distinct (length from.now) (slice_index from.now) }
@@ -45,7 +45,7 @@ pub(crate) fn place<A: Allocator + Copy>(from: &[u32], standing: &mut Table<A>)
 }
 
 /// Takes each robot out of the table.
-pub(crate) fn lift<A: Allocator + Copy>(from: &[u32], standing: &mut Table<A>)
+pub(crate) fn lift<A: Allocator + Copy>(from: &[u32], standing: &mut Roster<A>)
     requires inside { HasCells from.now (length standing.old) }
     requires placed { IsPlaced from.now standing.old (length from.now) }
     ensures same_length { length standing.new ≡ length standing.old }
