@@ -10,3 +10,5 @@ pub mod Neighbours
 pub mod Least
 pub mod Shortest
 pub mod Colours
+pub mod Columns
+pub mod Opens

@@ -3,6 +3,7 @@
 ghost use Rattle.std.specs.Prelude.{◌≡◌, ℕ, ◌*◌, ◌<◌, ◌≤◌, ◌↔◌, length, IfOk, IsTrue, MatchOption};
 ghost use Rattle.fleet_grid.specs.Floor.{floor_of, HasForm, IsFloor, IsNeighbour, IsNeighbourIn};
 ghost use Rattle.fleet_grid.specs.Padded.{IsPadded};
+ghost use Rattle.fleet_grid.specs.Ways.{AreWays};
 ghost use Rattle.fleet_grid.specs.Walk.{AreJoined};
 ghost use Rattle.fleet_grid.specs.Counts.{floor_count, edge_count};
 
@@ -11,6 +12,7 @@ use crate::counts::{edge_count_of, floor_count_of};
 use crate::dir::Dir;
 use crate::padded::{blank_of, stride_of};
 use crate::parts::{is_same_part, parts_of};
+use crate::ways::ways_of;
 use fleet_map::MapText;
 use std::alloc::{AllocError, Allocator, Global};
 use std::marker::Model;
@@ -21,6 +23,7 @@ pub struct Grid<A: Allocator + Copy = Global> {
     cells: Cells<A>,
     stride: u32,
     blank: Vec<u32, A>,
+    ways: Vec<u8, A>,
     parts: Vec<u32, A>,
     floor_count: u32,
 }
@@ -33,7 +36,7 @@ impl<A: Allocator + Copy> Model for Grid<A> {
 
     ghost view = { λ g. g.cells };
 
-    ghost invariant = { λ g. IsKept g.cells g.stride g.blank.items g.parts.items g.floor_count };
+    ghost invariant = { λ g. IsKept g.cells g.stride g.blank.items g.ways.items g.parts.items g.floor_count };
 }
 
 impl<A: Allocator + Copy> Grid<A> {
@@ -48,12 +51,14 @@ impl<A: Allocator + Copy> Grid<A> {
         let cells = Cells::new(map);
         let stride = stride_of(cells.width());
         let blank = blank_of(alloc, &cells, stride)?;
+        let ways = ways_of(alloc, &cells)?;
         let parts = parts_of(alloc, &cells)?;
         let floor_count = floor_count_of(&cells);
         Ok(Grid {
             cells,
             stride,
             blank,
+            ways,
             parts,
             floor_count,
         })
@@ -103,6 +108,14 @@ impl<A: Allocator + Copy> Grid<A> {
         ensures form { HasForm self.now }
     {
         (self.stride, self.blank.as_slice())
+    }
+
+    /// The ways from each cell to its floor neighbours, a byte a cell: bit `dir.number()` stands for the way in that direction.
+    pub fn ways(&self) -> &[u8]
+        ensures ways { AreWays self.now result.now }
+        ensures form { HasForm self.now }
+    {
+        self.ways.as_slice()
     }
 
     /// Whether a walk joins two floor cells.

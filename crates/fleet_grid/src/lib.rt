@@ -10,6 +10,7 @@ mod law;
 mod letters;
 mod padded;
 mod parts;
+mod ways;
 
 pub use dir::Dir;
 pub use grid::Grid;

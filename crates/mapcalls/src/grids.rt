@@ -100,6 +100,14 @@ fn padded_form(rt: HostRuntime) -> Result<(), Fail> {
 }
 
 #[test]
+fn ways_from_each_cell(rt: HostRuntime) -> Result<(), Fail> {
+    // North is 1, east 2, south 4 and west 8. The wall is beside the first cell, and the last row is open.
+    let grid = grid_of(rt.alloc(), 2, 3, b".@....")?.ok_or("a map")?;
+    assert!(rt; grid.ways() == [4, 0, 4, 3, 10, 9]);
+    Ok(())
+}
+
+#[test]
 fn directions_in_order(rt: HostRuntime) {
     let numbers = [
         Dir::North.number(),
@@ -220,7 +228,7 @@ fn refused_growths(rt: HostRuntime) -> Result<(), Fail> {
             break;
         }
     }
-    // A grid takes memory for its padded form, its labels and its search.
-    assert_eq!(rt; unrefused, Some(4));
+    // A grid takes memory for its padded form, its ways, its labels and its search.
+    assert_eq!(rt; unrefused, Some(5));
     Ok(())
 }
