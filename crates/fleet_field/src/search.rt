@@ -2,12 +2,9 @@
 //! those that lead nearer. A way that is open and does not lead nearer leads one further, since no two places side by side
 //! are equally far.
 
-ghost use Rattle.std.specs.Prelude.{◌≡◌, ℕ, ◌+◌, ◌*◌, ◌%◌, ◌^◌, ◌<◌, ◌≤◌, length, slice_index, take, OnOk, IfOk};
-ghost use Rattle.fleet_grid.specs.Padded.{IsOpen};
-ghost use Rattle.fleet_field.specs.inside.Search.{IsWalled};
-ghost use Rattle.fleet_field.specs.inside.Bytes.{colour, AreColoured, IsLook, IsAround, IsSpread, IsSearched};
+ghost use Rattle.std.specs.Prelude.{◌≡◌, ℕ, ◌+◌, ◌*◌, ◌%◌, ◌^◌, ◌<◌, ◌≤◌, List, length, slice_index, take, OnOk, IfOk};
+ghost use Rattle.fleet_field.specs.inside.Bytes.{IsLook, IsAround, IsSpread, IsReady, IsSearched};
 
-use crate::bits::free_ways;
 use crate::ways::is_way;
 use std::alloc::{AllocError, Allocator};
 use std::mem;
@@ -96,25 +93,21 @@ fn make_room<A: Allocator + Copy>(next: &mut Vec<u32, A>, count: usize) -> Resul
 /// reaches is the next front. The fronts' room is kept from level to level.
 pub(crate) fn search<A: Allocator + Copy>(
     alloc: A,
-    blank: &[u32],
+    free: Vec<u8, A>,
     stride: usize,
     goal: u32,
 ) -> Result<Vec<u8, A>, AllocError>
-    requires size { length blank.now < 1073741824 }
     requires step { 0 < stride }
-    requires blank { (v : ℕ) → IsOpen blank.now v → slice_index blank.now v ≡ 4294967295 }
-    requires walled { IsWalled blank.now stride }
-    requires coloured { AreColoured (colour stride goal) stride blank.now }
-    requires goal { IsOpen blank.now goal }
-    ensures { IfOk result (λ ways. IsSearched blank.now stride goal ways.items) }
+    requires ready { (blank : List ℕ) × IsReady blank stride goal free.items }
+    ensures { IfOk result (λ ways. (blank : List ℕ) → IsReady blank stride goal free.items → IsSearched blank stride goal ways.items) }
 {
-    let mut ways = free_ways(alloc, blank, stride)?;
+    let mut ways = free;
     let mut now = Vec::new(alloc);
     let mut next = Vec::new(alloc);
     now.push(goal)?;
     let mut count = 1;
     // There are no more levels than places.
-    for _ in 0..blank.len() {
+    for _ in 0..ways.len() {
         if count == 0 {
             break;
         }

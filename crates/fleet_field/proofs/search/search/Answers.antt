@@ -1,15 +1,11 @@
-use Rattle.std.proofs.Common.{◌≡◌, ℕ, ◌<◌, List, [], ◌∷◌, ◌++◌, length, take, drop, sym, ap, subst, ◌∙◌, arith}
+use Rattle.std.proofs.Common.{◌≡◌, ℕ, ◌<◌, List, [], ◌∷◌, ◌++◌, length, take, drop, refl, sym, ap, subst, ◌∙◌, arith}
 use Rattle.std.proofs.lemmas.Grind.{common_steps}
 use Rattle.std.proofs.lemmas.List.{length-take-le}
 use Rattle.fleet_field.specs.inside.Bytes.{colour, IsSpread, Runs}
-use Rattle.fleet_field.proofs.Unsearched.{is_blank}
 use Rattle.fleet_field.proofs.Whole.{written_back}
 use Rattle.fleet_field.proofs.Levels.{first_runs, no_items, runs_on, runs_inside, runs_small, searched}
 use Rattle.fleet_field.proofs.search.search.Goals.{else-loop-test, then-loop-test+then-count-eq0}
 use Rattle.fleet_field.proofs.search.search.Goals as goal
-
-pub free_ways-requires-clause-blank : goal.free_ways-requires-clause-blank
-free_ways-requires-clause-blank g c = is_blank c.args.blank.now c.requires.blank
 
 pub loop-init : goal.loop-init
 loop-init g c =
@@ -17,20 +13,32 @@ loop-init g c =
     let one : length c.push.new.self.items ≡ 1 = ap (λ (xs : List ℕ). length xs) e in
     let front : take 1 c.push.new.self.items ≡ [] ++ c.args.goal ∷ [] = ap (λ (xs : List ℕ). take 1 xs) e in
     record {
-      len = c.in_ok-ways.ensures.len;
+      len = refl;
       within = omega (arith, one);
-      runs = subst (λ (xs : List ℕ). Runs c.args.blank.now c.args.stride c.args.goal 0 xs c.in_ok-ways.ways.items) (sym front)
-          (first_runs c.args.blank.now c.args.stride c.args.goal c.in_ok-ways.ways.items c.requires.step c.requires.walled c.requires.blank c.requires.goal c.requires.coloured c.in_ok-ways.ensures);
+      runs = λ blank r. subst (λ (xs : List ℕ). Runs blank c.args.stride c.args.goal 0 xs c.args.free.items) (sym front)
+          (first_runs blank c.args.stride c.args.goal c.args.free.items r.walled r.far r.start r.coloured r.unsearched);
     }
+
+pub make_room-requires : goal.make_room-requires
+make_room-requires g c =
+    let ready = c.requires.ready in
+    let count = (c.loop.invariant.runs ready.0 ready.1).count in
+    let long = length-take-le c.loop.count c.loop.now.items c.loop.invariant.within in
+    omega (arith, count, long, ready.1.small)
+
+pub spread-count-requires-clause-size : goal.spread-count-requires-clause-size
+spread-count-requires-clause-size g c =
+    let ready = c.requires.ready in
+    omega (arith, c.deref_mut.ensures.len, ap (λ (xs : List ℕ). length xs) c.deref_mut.ensures.value, c.loop.invariant.len, ready.1.unsearched.len, ready.1.small)
 
 pub spread-count-requires-clause-inside : goal.spread-count-requires-clause-inside
 spread-count-requires-clause-inside g c =
+    let ready = c.requires.ready in
     rw (c.deref.ensures.value, c.deref_mut.ensures.value)
-    (runs_inside c.args.blank.now c.args.stride c.args.goal c.loop.counter (take c.loop.count c.loop.now.items) c.loop.ways.items c.requires.size c.loop.invariant.runs)
+    (runs_inside ready.0 c.args.stride c.args.goal c.loop.counter (take c.loop.count c.loop.now.items) c.loop.ways.items ready.1.small (c.loop.invariant.runs ready.0 ready.1))
 
 pub loop-preserved : goal.loop-preserved
 loop-preserved g c =
-    let r = c.loop.invariant.runs in
     let front = take c.loop.count c.loop.now.items in
     let next = take c.spread-count.result c.spread-count.new.next in
     let room = c.make_room.new.next in
@@ -46,22 +54,24 @@ loop-preserved g c =
     let x : c.swap.new.x.items ≡ c.spread-count.new.next = ap (λ v. v.items) c.swap.ensures.x_after ∙ written_back room.len c.spread-count.new.next room.items kept (grind (arith, common_steps)) in
     let long = length-take-le c.loop.count c.loop.now.items c.loop.invariant.within in
     let some : 0 < length front = omega (arith, long, c.if-count-eq0.false) in
-    let small = runs_small c.args.blank.now c.args.stride c.args.goal c.loop.counter front c.loop.ways.items c.requires.size r in
-    let s = on (colour c.args.stride c.args.goal) c.loop.counter r.dist small r.search r.marks in
     rw (whole, x) (record {
       len = len ∙ c.loop.invariant.len;
       within = c.spread-count.ensures.most;
-      runs = runs_on c.args.blank.now c.args.stride c.args.goal c.loop.counter front c.loop.ways.items next c.spread-count.new.ways c.requires.size some r s.0 s.1;
+      runs = λ blank ready. (
+          let r = c.loop.invariant.runs blank ready in
+          let small = runs_small blank c.args.stride c.args.goal c.loop.counter front c.loop.ways.items ready.small r in
+          let s = on (colour c.args.stride c.args.goal) c.loop.counter r.dist small r.search r.marks in
+          runs_on blank c.args.stride c.args.goal c.loop.counter front c.loop.ways.items next c.spread-count.new.ways ready.small some r s.0 s.1);
     })
 
 pub returns : goal.returns
-returns g c =
-    let r = c.loop.invariant.runs in
+returns g c blank ready =
+    let r = c.loop.invariant.runs blank ready in
     let front = take c.loop.count c.loop.now.items in
     let count = r.count in
     let none : length front ≡ 0 = elim c.loop-test.branch [
-      | else-loop-test w ↦ omega (arith, w.loop-test.false, count)
+      | else-loop-test w ↦ omega (arith, w.loop-test.false, count, ready.unsearched.len, c.loop.auto.counter-end)
       | then-loop-test+then-count-eq0 w ↦ ap (λ (k : ℕ). length (take k c.loop.now.items)) w.if-count-eq0.true
     ] in
-    searched c.args.blank.now c.args.stride c.args.goal c.loop.counter c.loop.ways.items c.requires.step c.requires.size
-    (subst (λ (xs : List ℕ). Runs c.args.blank.now c.args.stride c.args.goal c.loop.counter xs c.loop.ways.items) (no_items front none) r)
+    searched blank c.args.stride c.args.goal c.loop.counter c.loop.ways.items c.requires.step ready.small
+    (subst (λ (xs : List ℕ). Runs blank c.args.stride c.args.goal c.loop.counter xs c.loop.ways.items) (no_items front none) r)
