@@ -1,5 +1,5 @@
 -- The bytes before the search, from the ways of the cells.
-use Rattle.std.proofs.Common.{◌≡◌, ℕ, ◌+◌, ◌-◌, ◌*◌*◌, ◌<◌, ◌≤◌, ◌↔◌, List, length, slice_index, sym, ap, subst, ◌∙◌, arith}
+use Rattle.std.proofs.Common.{◌≡◌, ℕ, ◌+◌, ◌-◌, ◌*◌, ◌<◌, ◌≤◌, ◌↔◌, List, length, slice_index, sym, ap, subst, ◌∙◌, arith}
 use Rattle.std.specs.Int.{bit_at}
 use Rattle.fleet_grid.specs.declared.dir.Dir.{Dir}
 use Rattle.fleet_grid.specs.declared.dir.Dir.TheVariants.{North, East, South, West}
@@ -55,7 +55,7 @@ module _ (m : Floor) (s : ℕ) (blank ways bytes : List ℕ) (form : HasForm m) 
     none = laid.none;
   }
 
-  pub is_ready : (goal start : ℕ) → IsFloor m goal → start ≡ place m.width s goal → IsReady blank s start bytes
+  is_ready : (goal start : ℕ) → IsFloor m goal → start ≡ place m.width s goal → IsReady blank s start bytes
   is_ready goal start f e = record {
     small = p.small;
     far = λ v o. (p.only v o).0;
@@ -64,3 +64,9 @@ module _ (m : Floor) (s : ℕ) (blank ways bytes : List ℕ) (form : HasForm m) 
     start = subst (IsOpen blank) (sym e) (blank_open m s blank form p goal f);
     unsearched = unsearched;
   }
+
+-- the same, where the sides were read from the grid
+pub ready_by : (m : Floor) (h w s goal start : ℕ) (blank ways bytes : List ℕ) → h ≡ m.height → w ≡ m.width → HasForm m → IsPadded m s blank → AreWays m ways → AreFree h w s ways bytes → IsFloor m goal → start ≡ place w s goal
+    → IsReady blank s start bytes
+ready_by m h w s goal start blank ways bytes eh ew form p led laid f es =
+    is_ready m s blank ways bytes form p led (subst (λ (x : ℕ). AreFree x m.width s ways bytes) eh (subst (λ (y : ℕ). AreFree h y s ways bytes) ew laid)) goal start f (subst (λ (x : ℕ). start ≡ place x s goal) ew es)
