@@ -1,12 +1,13 @@
 -- The bits of a byte's low half.
-use Rattle.std.proofs.Common.{◌≡◌, ◌≢◌, ℕ, zero, suc, ◌*◌, ◌↔◌, ◌+◌, ◌<◌, ◌≤◌, ◌^◌, max, min, inl, inr, ◌⊎◌, refl, sym, ap, ◌∙◌, arith}
+use Rattle.std.proofs.Common.{◌≡◌, ◌≢◌, ℕ, ◌*◌, ◌%◌, ◌+◌, ◌<◌, ◌≤◌, ◌^◌, max, min, inl, inr, ◌⊎◌, refl, sym, ap, ◌∙◌, arith}
 use Rattle.std.specs.Int.{bit_at}
 use Rattle.std.specs.Int.Bits.{bit_or}
 use Rattle.std.proofs.lemmas.Nat.Bits.{bit_at_and, bit_at_or, bit_at_ones, bit_at-lt, bit_at-pow_same, bit_at-pow_other, bit_at-zero}
+use Rattle.std.proofs.lemmas.Nat.{and_mask}
 use Rattle.fleet_grid.specs.declared.dir.Dir.{Dir}
 use Rattle.fleet_grid.specs.declared.dir.Dir.TheVariants.{North, East, South, West}
 use Rattle.fleet_grid.specs.Direction.{dir_number}
-use Rattle.fleet_field.specs.inside.Bytes.{low, toward, back, IsHighHalf}
+use Rattle.fleet_field.specs.inside.Bytes.{low, high, toward, back}
 
 least_one : (a b : ℕ) → a < 2 → b ≡ 1 → min a b ≡ a
 least_one a b few one = grind (arith, few, one)
@@ -82,30 +83,12 @@ one_or_other West East = inr (λ e. omega (arith, e))
 one_or_other West South = inr (λ e. omega (arith, e))
 one_or_other West West = inl refl
 
-both_one : (a b : ℕ) → a ≡ 1 → b ≡ 1 → a ≡ 1 ↔ b ≡ 1
-both_one a b e f = (λ w. f, λ w. e)
+-- the ways in the high half of a byte, and none in its low half
+pub high_bit : (x : ℕ) (dir : Dir) → bit_at (high x) (dir_number dir + 4) ≡ bit_at x (dir_number dir)
+high_bit x North = omega arith
+high_bit x East = omega arith
+high_bit x South = omega arith
+high_bit x West = omega arith
 
-both_none : (a b : ℕ) → a ≡ 0 → b ≡ 0 → a ≡ 1 ↔ b ≡ 1
-both_none a b e f = (λ w. absurd (omega (arith, e, w)), λ w. absurd (omega (arith, f, w)))
-
-pub high_half : (a b c d : ℕ) → (a < 2) × (b < 2) × (c < 2) × (d < 2) → IsHighHalf a b c d (16 * a + 32 * b + 64 * c + 128 * d)
-high_half zero zero zero zero few = record { north_bit = both_none (bit_at 0 4) 0 refl refl; east_bit = both_none (bit_at 0 5) 0 refl refl; south_bit = both_none (bit_at 0 6) 0 refl refl; west_bit = both_none (bit_at 0 7) 0 refl refl; none = refl }
-high_half (suc zero) zero zero zero few = record { north_bit = both_one (bit_at 16 4) 1 refl refl; east_bit = both_none (bit_at 16 5) 0 refl refl; south_bit = both_none (bit_at 16 6) 0 refl refl; west_bit = both_none (bit_at 16 7) 0 refl refl; none = refl }
-high_half zero (suc zero) zero zero few = record { north_bit = both_none (bit_at 32 4) 0 refl refl; east_bit = both_one (bit_at 32 5) 1 refl refl; south_bit = both_none (bit_at 32 6) 0 refl refl; west_bit = both_none (bit_at 32 7) 0 refl refl; none = refl }
-high_half (suc zero) (suc zero) zero zero few = record { north_bit = both_one (bit_at 48 4) 1 refl refl; east_bit = both_one (bit_at 48 5) 1 refl refl; south_bit = both_none (bit_at 48 6) 0 refl refl; west_bit = both_none (bit_at 48 7) 0 refl refl; none = refl }
-high_half zero zero (suc zero) zero few = record { north_bit = both_none (bit_at 64 4) 0 refl refl; east_bit = both_none (bit_at 64 5) 0 refl refl; south_bit = both_one (bit_at 64 6) 1 refl refl; west_bit = both_none (bit_at 64 7) 0 refl refl; none = refl }
-high_half (suc zero) zero (suc zero) zero few = record { north_bit = both_one (bit_at 80 4) 1 refl refl; east_bit = both_none (bit_at 80 5) 0 refl refl; south_bit = both_one (bit_at 80 6) 1 refl refl; west_bit = both_none (bit_at 80 7) 0 refl refl; none = refl }
-high_half zero (suc zero) (suc zero) zero few = record { north_bit = both_none (bit_at 96 4) 0 refl refl; east_bit = both_one (bit_at 96 5) 1 refl refl; south_bit = both_one (bit_at 96 6) 1 refl refl; west_bit = both_none (bit_at 96 7) 0 refl refl; none = refl }
-high_half (suc zero) (suc zero) (suc zero) zero few = record { north_bit = both_one (bit_at 112 4) 1 refl refl; east_bit = both_one (bit_at 112 5) 1 refl refl; south_bit = both_one (bit_at 112 6) 1 refl refl; west_bit = both_none (bit_at 112 7) 0 refl refl; none = refl }
-high_half zero zero zero (suc zero) few = record { north_bit = both_none (bit_at 128 4) 0 refl refl; east_bit = both_none (bit_at 128 5) 0 refl refl; south_bit = both_none (bit_at 128 6) 0 refl refl; west_bit = both_one (bit_at 128 7) 1 refl refl; none = refl }
-high_half (suc zero) zero zero (suc zero) few = record { north_bit = both_one (bit_at 144 4) 1 refl refl; east_bit = both_none (bit_at 144 5) 0 refl refl; south_bit = both_none (bit_at 144 6) 0 refl refl; west_bit = both_one (bit_at 144 7) 1 refl refl; none = refl }
-high_half zero (suc zero) zero (suc zero) few = record { north_bit = both_none (bit_at 160 4) 0 refl refl; east_bit = both_one (bit_at 160 5) 1 refl refl; south_bit = both_none (bit_at 160 6) 0 refl refl; west_bit = both_one (bit_at 160 7) 1 refl refl; none = refl }
-high_half (suc zero) (suc zero) zero (suc zero) few = record { north_bit = both_one (bit_at 176 4) 1 refl refl; east_bit = both_one (bit_at 176 5) 1 refl refl; south_bit = both_none (bit_at 176 6) 0 refl refl; west_bit = both_one (bit_at 176 7) 1 refl refl; none = refl }
-high_half zero zero (suc zero) (suc zero) few = record { north_bit = both_none (bit_at 192 4) 0 refl refl; east_bit = both_none (bit_at 192 5) 0 refl refl; south_bit = both_one (bit_at 192 6) 1 refl refl; west_bit = both_one (bit_at 192 7) 1 refl refl; none = refl }
-high_half (suc zero) zero (suc zero) (suc zero) few = record { north_bit = both_one (bit_at 208 4) 1 refl refl; east_bit = both_none (bit_at 208 5) 0 refl refl; south_bit = both_one (bit_at 208 6) 1 refl refl; west_bit = both_one (bit_at 208 7) 1 refl refl; none = refl }
-high_half zero (suc zero) (suc zero) (suc zero) few = record { north_bit = both_none (bit_at 224 4) 0 refl refl; east_bit = both_one (bit_at 224 5) 1 refl refl; south_bit = both_one (bit_at 224 6) 1 refl refl; west_bit = both_one (bit_at 224 7) 1 refl refl; none = refl }
-high_half (suc zero) (suc zero) (suc zero) (suc zero) few = record { north_bit = both_one (bit_at 240 4) 1 refl refl; east_bit = both_one (bit_at 240 5) 1 refl refl; south_bit = both_one (bit_at 240 6) 1 refl refl; west_bit = both_one (bit_at 240 7) 1 refl refl; none = refl }
-high_half (suc (suc a)) b c d few = absurd (omega (arith, few.0))
-high_half a (suc (suc b)) c d few = absurd (omega (arith, few.1))
-high_half a b (suc (suc c)) d few = absurd (omega (arith, few.2))
-high_half a b c (suc (suc d)) few = absurd (omega (arith, few.3))
+pub low_high : (x : ℕ) → low (high x) ≡ 0
+low_high x = and_mask (x * 16 % 256) 4 ∙ omega arith

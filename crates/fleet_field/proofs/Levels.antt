@@ -85,7 +85,7 @@ pub leaves_none : (shade : ℕ → ℕ) (stride level : ℕ) (old now ways : Lis
 leaves_none shade stride level old now ways small s m = record { extends = begins stride level old now small s; marks = m; done = λ k below. absurd (omega (arith, below)) }
 
 -- before the search
-module _ (blank : List ℕ) (stride goal : ℕ) (ways : List ℕ) (step : 0 < stride) (walled : IsWalled blank stride) (all_far : (v : ℕ) → IsOpen blank v → slice_index blank v ≡ 4294967295) (at : IsOpen blank goal)
+module _ (blank : List ℕ) (stride goal : ℕ) (ways : List ℕ) (walled : IsWalled blank stride) (all_far : (v : ℕ) → IsOpen blank v → slice_index blank v ≡ 4294967295) (at : IsOpen blank goal)
     (coloured : AreColoured (colour stride goal) stride blank) (u : IsUnsearched blank stride ways) where
   walls : SameWalls blank (set blank goal 0)
   walls = first_walls blank stride goal walled all_far at
@@ -96,14 +96,8 @@ module _ (blank : List ℕ) (stride goal : ℕ) (ways : List ℕ) (step : 0 < st
   nothing_near : (v : ℕ) → IsOpen (set blank goal 0) v → slice_index (set blank goal 0) v ≢ 4294967295 → slice_index (set blank goal 0) v ≡ 0
   nothing_near v o reached = let l = search.low v o reached in omega (arith, l)
 
-  free_by : (v w byte : ℕ) (dir : Dir) → w < length blank → bit_at byte (dir_number dir + 4) ≡ 1 ↔ slice_index blank w ≡ 4294967295 → bit_at byte (dir_number dir + 4) ≡ 1 ↔ IsOpen (set blank goal 0) w
-  free_by v w byte dir below f = (λ way. (let e = f.0 way in walls.kept w (below, λ z. omega (arith, e, z))), λ o. f.1 (all_far w (walls.no_more w o)))
-
   free : (v : ℕ) (dir : Dir) → IsOpen blank v → IsFreeWay (slice_index ways v) dir ↔ IsOpen (set blank goal 0) (toward stride dir v)
-  free v North o = let i = walled v o in free_by v (v - stride) (slice_index ways v) North (beside_inside stride v (length blank) North step i.0 i.1) (u.free v i.0 i.1).north
-  free v East o = let i = walled v o in free_by v (v + 1) (slice_index ways v) East (beside_inside stride v (length blank) East step i.0 i.1) (u.free v i.0 i.1).east
-  free v South o = let i = walled v o in free_by v (v + stride) (slice_index ways v) South (beside_inside stride v (length blank) South step i.0 i.1) (u.free v i.0 i.1).south
-  free v West o = let i = walled v o in free_by v (v - 1) (slice_index ways v) West (beside_inside stride v (length blank) West step i.0 i.1) (u.free v i.0 i.1).west
+  free v dir o = (λ way. walls.kept (toward stride dir v) ((u.free v dir o).0 way), λ to. (u.free v dir o).1 (walls.no_more (toward stride dir v) to))
 
   twice : (a b : ℕ) → (a + b + a + b + 0) % 2 ≡ 0
   twice a b = omega arith

@@ -1,37 +1,72 @@
--- The bytes before the search.
-use Rattle.std.proofs.Common.{◌≡◌, ℕ, ◌+◌, ◌-◌, ◌<◌, ◌≤◌, ◌↔◌, inl, inr, List, length, set, slice_index, sym, ap, subst, ◌∙◌, arith}
-use Rattle.std.proofs.lemmas.Bool.{cases_eq}
-use Rattle.fleet_grid.specs.Padded.{IsOpen}
-use Rattle.fleet_field.specs.inside.Bytes.{low, AreFree, IsBlank, IsHighHalf}
-use Rattle.fleet_field.proofs.Visit.{read}
+-- The bytes before the search, from the ways of the cells.
+use Rattle.std.proofs.Common.{◌≡◌, ℕ, ◌+◌, ◌-◌, ◌*◌, ◌<◌, ◌≤◌, ◌↔◌, List, length, slice_index, sym, ap, subst, ◌∙◌, arith}
+use Rattle.std.specs.Int.{bit_at}
+use Rattle.fleet_grid.specs.declared.dir.Dir.{Dir}
+use Rattle.fleet_grid.specs.declared.dir.Dir.TheVariants.{North, East, South, West}
+use Rattle.fleet_grid.specs.Direction.{dir_number}
+use Rattle.fleet_grid.specs.Floor.{Floor, HasForm, IsFloor, IsNeighbourIn}
+use Rattle.fleet_grid.specs.Floor as floor
+use Rattle.fleet_grid.specs.Padded.{IsOpen, IsPadded, place}
+use Rattle.fleet_grid.specs.Ways.{AreWays}
+use Rattle.fleet_grid.proofs.Forms.{floor_inside, wide}
+use Rattle.fleet_grid.proofs.Places.{place_inside, east_on, south_on, east_back, south_back}
+use Rattle.fleet_field.specs.inside.Bytes.{toward, IsFreeWay, AreFree, IsUnsearched, IsReady}
+use Rattle.fleet_field.proofs.Halves.{high_bit}
+use Rattle.fleet_field.proofs.Shades.{are_coloured}
+use Rattle.fleet_field.proofs.Transfer.{blank_open, is_walled}
 
-module _ (blank : List ℕ) (s p : ℕ) (ys : List ℕ) (byte : ℕ) (inside : p < length ys) (at : AreFree blank s p byte) where
-  pub free_more : ((v : ℕ) → s ≤ v → v < p → AreFree blank s v (slice_index ys v)) → (v : ℕ) → s ≤ v → v < p + 1 → AreFree blank s v (slice_index (set ys p byte) v)
-  free_more each v above below = elim (read ys p byte v inside) [
-    | inl e ↦ subst (AreFree blank s v) (sym e.1) (subst (λ (i : ℕ). AreFree blank s i byte) (sym e.0) at)
-    | inr e ↦ (let ne = e.0 in subst (AreFree blank s v) (sym e.1) (each v above (grind (arith, below, ne))))
-  ]
+-- the place toward a cell's neighbour is the neighbour's
+toward_of : (w s a b : ℕ) (dir : Dir) → 0 < w → floor.IsBeside w dir a b → place w s b ≡ toward s dir (place w s a)
+toward_of w s a b North pos e = let on = south_on w s b a pos e in omega (arith, on)
+toward_of w s a b East pos e = east_on w s a b pos e.0 e.1
+toward_of w s a b South pos e = south_on w s a b pos e
+toward_of w s a b West pos e = let on = east_on w s b a pos e.0 e.1 in omega (arith, on)
 
-  pub none_more : ((v : ℕ) → low (slice_index ys v) ≡ 0) → (v : ℕ) → low (slice_index (set ys p byte) v) ≡ 0
-  none_more each v = elim (read ys p byte v inside) [
-    | inl e ↦ ap low e.1 ∙ at.none
-    | inr e ↦ ap low e.1 ∙ each v
-  ]
+beside_of : (w s a b : ℕ) (dir : Dir) → 0 < w → w < s → s ≤ place w s a → toward s dir (place w s a) ≡ place w s b → floor.IsBeside w dir a b
+beside_of w s a b North pos apart above e = south_back w s b a pos apart (omega (arith, e, above))
+beside_of w s a b East pos apart above e = east_back w s a b pos apart (sym e)
+beside_of w s a b South pos apart above e = south_back w s a b pos apart (sym e)
+beside_of w s a b West pos apart above e = east_back w s b a pos apart (omega (arith, e, above, apart))
 
--- a place's free ways, by the numbers of those beside it
-pub free_by : (blank : List ℕ) (s at a b c d byte : ℕ) → IsHighHalf a b c d byte → a ≡ 1 ↔ slice_index blank (at - s) ≡ 4294967295 → b ≡ 1 ↔ slice_index blank (at + 1) ≡ 4294967295
-    → c ≡ 1 ↔ slice_index blank (at + s) ≡ 4294967295 → d ≡ 1 ↔ slice_index blank (at - 1) ≡ 4294967295 → AreFree blank s at byte
-free_by blank s at a b c d byte h north east south west = record {
-  north = (λ w. north.0 (h.north_bit.0 w), λ w. h.north_bit.1 (north.1 w));
-  east = (λ w. east.0 (h.east_bit.0 w), λ w. h.east_bit.1 (east.1 w));
-  south = (λ w. south.0 (h.south_bit.0 w), λ w. h.south_bit.1 (south.1 w));
-  west = (λ w. west.0 (h.west_bit.0 w), λ w. h.west_bit.1 (west.1 w));
-  none = h.none;
-}
+module _ (m : Floor) (s : ℕ) (blank ways bytes : List ℕ) (form : HasForm m) (p : IsPadded m s blank) (led : AreWays m ways) (laid : AreFree m.height m.width s ways bytes) where
+  -- a floor cell's free ways lead to open places
+  free_at : (c : ℕ) (dir : Dir) → IsFloor m c → IsFreeWay (slice_index bytes (place m.width s c)) dir ↔ IsOpen blank (toward s dir (place m.width s c))
+  free_at c dir f =
+      let pos = wide m c form f in
+      let inside = floor_inside m c f in
+      let below : c < m.height * m.width = omega (arith, inside, form.covered) in
+      let is : bit_at (slice_index bytes (place m.width s c)) (dir_number dir + 4) ≡ bit_at (slice_index ways c) (dir_number dir) = ap (λ (x : ℕ). bit_at x (dir_number dir + 4)) (laid.each c below) ∙ high_bit (slice_index ways c) dir in (
+        λ way. (
+            let n = (led.each c inside dir).0 (sym is ∙ way) in
+            subst (IsOpen blank) (toward_of m.width s c n.0 dir pos n.1.beside) (blank_open m s blank form p n.0 n.1.to)),
+        λ o. (
+            let cell = p.only (toward s dir (place m.width s c)) o in
+            let above = (place_inside m.height m.width s c pos p.apart below).0 in
+            let n : IsNeighbourIn m dir c cell.1 = record { from = f; to = cell.2; beside = beside_of m.width s c cell.1 dir pos p.apart above cell.3 } in
+            is ∙ (led.each c inside dir).1 (cell.1, n)),
+      )
 
--- what is open was not reached
-pub is_blank : (blank : List ℕ) → ((v : ℕ) → IsOpen blank v → slice_index blank v ≡ 4294967295) → IsBlank blank
-is_blank blank all_far v below = elim (cases_eq (slice_index blank v) 4294967294) [
-  | inl wall ↦ inr wall
-  | inr ne ↦ inl (all_far v (below, ne))
-]
+  unsearched : IsUnsearched blank s bytes
+  unsearched = record {
+    len = laid.len ∙ sym p.size;
+    free = λ v dir o. (
+        let cell = p.only v o in
+        subst (λ (u : ℕ). IsFreeWay (slice_index bytes u) dir ↔ IsOpen blank (toward s dir u)) (sym cell.3) (free_at cell.1 dir cell.2));
+    none = laid.none;
+  }
+
+  is_ready : (goal start : ℕ) → IsFloor m goal → start ≡ place m.width s goal → IsReady blank s start bytes
+  is_ready goal start f e = record {
+    small = p.small;
+    far = λ v o. (p.only v o).0;
+    walled = is_walled m s blank form p;
+    coloured = are_coloured m s start blank form p (is_walled m s blank form p);
+    start = subst (IsOpen blank) (sym e) (blank_open m s blank form p goal f);
+    unsearched = unsearched;
+  }
+
+-- the same, where the sides were read from the grid
+pub ready_by : (m : Floor) (h w s goal start : ℕ) (blank ways bytes : List ℕ) → h ≡ m.height → w ≡ m.width → HasForm m → IsPadded m s blank → AreWays m ways → AreFree h w s ways bytes → IsFloor m goal → start ≡ place w s goal
+    → IsReady blank s start bytes
+ready_by m h w s goal start blank ways bytes eh ew form p led laid f es =
+    is_ready m s blank ways bytes form p led (subst (λ (x : ℕ). AreFree x m.width s ways bytes) eh (subst (λ (y : ℕ). AreFree h y s ways bytes) ew laid)) goal start f (subst (λ (x : ℕ). start ≡ place x s goal) ew es)

@@ -1,75 +1,60 @@
 //! The bytes of a map's places before a search, and the ways of its cells after it.
 
-ghost use Rattle.std.specs.Prelude.{◌≡◌, ℕ, ◌+◌, ◌*◌, ◌<◌, ◌≤◌, ◌⊎◌, ◌↔◌, length, slice_index, IfOk};
+ghost use Rattle.std.specs.Prelude.{◌≡◌, ℕ, ◌+◌, ◌*◌, ◌<◌, ◌≤◌, length, slice_index, IfOk};
 ghost use Rattle.fleet_grid.specs.Padded.{place};
 ghost use Rattle.fleet_field.specs.Kept.{IsLaidOut};
-ghost use Rattle.fleet_field.specs.inside.Bytes.{low, AreFree, IsBlank, IsHighHalf, IsUnsearched, HasRow};
+ghost use Rattle.fleet_field.specs.inside.Bytes.{low, high, AreFree, HaveNone, HasRow};
 
 use std::alloc::{AllocError, Allocator};
 
-/// 1 for an open place, 0 for a wall. This asks for no comparison, whose result would have to be narrowed to a byte.
-fn open_bit(place: u32) -> u32
-    requires { (place ≡ 4294967295) ⊎ (place ≡ 4294967294) }
-    ensures few { result < 2 }
-    ensures open { result ≡ 1 ↔ place ≡ 4294967295 }
+/// Writes the ways of so many cells, from the cell `first` on, into the high halves of the bytes from `start` on.
+fn lay_row(bytes: &mut [u8], ways: &[u8], start: usize, first: usize, width: usize)
+    requires small { length ways.now < 1073741824 }
+    requires inside { first + width ≤ length ways.now }
+    requires room { start + width ≤ length bytes.old }
+    requires none { HaveNone bytes.old }
+    ensures row { HasRow high ways.now first start width bytes.old bytes.new }
+    ensures none { HaveNone bytes.new }
 {
-    place & 1
-}
-
-/// The ways whose number is 1, in the high half of a byte.
-fn high_half(north: u32, east: u32, south: u32, west: u32) -> u8
-    requires { (north < 2) × (east < 2) × (south < 2) × (west < 2) }
-    ensures { IsHighHalf north east south west result }
-{
-    (16 * north + 32 * east + 64 * south + 128 * west) as u8
-}
-
-/// The ways from a place to those of the four beside it that are open.
-fn free_at(blank: &[u32], stride: usize, place: usize) -> u8
-    requires step { 0 < stride }
-    requires above { stride ≤ place }
-    requires below { place + stride < length blank.now }
-    requires small { length blank.now < 1073741824 }
-    requires blank { IsBlank blank.now }
-    ensures { AreFree blank.now stride place result }
-{
-    high_half(
-        open_bit(blank[place - stride]),
-        open_bit(blank[place + 1]),
-        open_bit(blank[place + stride]),
-        open_bit(blank[place - 1]),
-    )
-}
-
-/// Writes the free ways of each place that has four beside it.
-fn write_free(ways: &mut [u8], blank: &[u32], stride: usize)
-    requires step { 0 < stride }
-    requires small { length blank.now < 1073741824 }
-    requires blank { IsBlank blank.now }
-    requires room { length ways.old ≡ length blank.now }
-    requires none { (v : ℕ) → slice_index ways.old v ≡ 0 }
-    ensures { IsUnsearched blank.now stride ways.new }
-{
-    for place in stride..ways.len().saturating_sub(stride) {
-        ways[place] = free_at(blank, stride, place);
+    for column in 0..width {
+        bytes[start + column] = ways[first + column] << 4;
     }
 }
 
-/// The free ways of each place, in the high half of its byte.
+/// Writes each cell's ways into the high half of its byte, row by row.
+fn lay_rows(bytes: &mut [u8], height: usize, width: usize, stride: usize, ways: &[u8])
+    requires laid_out { IsLaidOut height width stride bytes.old }
+    requires cells { length ways.now ≡ height * width }
+    requires none { HaveNone bytes.old }
+    ensures len { length bytes.new ≡ length bytes.old }
+    ensures none { HaveNone bytes.new }
+    ensures each { (cell : ℕ) → cell < height * width → slice_index bytes.new (place width stride cell) ≡ high (slice_index ways.now cell) }
+{
+    for row in 0..height {
+        lay_row(bytes, ways, (row + 1) * stride, row * width, width);
+    }
+}
+
+/// The bytes of the places before a search: a cell's has its ways to open places, each other none.
 pub(crate) fn free_ways<A: Allocator + Copy>(
     alloc: A,
-    blank: &[u32],
-    stride: usize,
+    height: u32,
+    width: u32,
+    stride: u32,
+    ways: &[u8],
 ) -> Result<Vec<u8, A>, AllocError>
-    requires step { 0 < stride }
-    requires small { length blank.now < 1073741824 }
-    requires blank { IsBlank blank.now }
-    ensures { IfOk result (λ ways. IsUnsearched blank.now stride ways.items) }
+    requires wide { 0 < width }
+    requires apart { width < stride }
+    requires few { height * width ≤ 1048576 }
+    requires small { (height + 2) * stride < 1073741824 }
+    requires cells { length ways.now ≡ height * width }
+    ensures { IfOk result (λ bytes. AreFree height width stride ways.now bytes.items) }
 {
-    let mut ways = Vec::new(alloc);
-    ways.resize(blank.len(), 0)?;
-    write_free(ways.as_mut_slice(), blank, stride);
-    Ok(ways)
+    let (rows, columns, step) = (height as usize, width as usize, stride as usize);
+    let mut bytes = Vec::new(alloc);
+    bytes.resize((rows + 2) * step, 0)?;
+    lay_rows(bytes.as_mut_slice(), rows, columns, step, ways);
+    Ok(bytes)
 }
 
 /// Writes the low halves of so many bytes from `start` on, from the entry `first` on.
@@ -77,7 +62,7 @@ fn write_row(ways: &mut [u8], bytes: &[u8], start: usize, first: usize, width: u
     requires small { length bytes.now < 1073741824 }
     requires inside { start + width ≤ length bytes.now }
     requires room { first + width ≤ length ways.old }
-    ensures { HasRow bytes.now start first width ways.old ways.new }
+    ensures { HasRow low bytes.now start first width ways.old ways.new }
 {
     for column in 0..width {
         ways[first + column] = bytes[start + column] & 15;

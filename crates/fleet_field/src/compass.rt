@@ -7,7 +7,7 @@ ghost use Rattle.fleet_grid.specs.Ways.{AreNearer, IsLess};
 ghost use Rattle.fleet_field.specs.Field.{IsField};
 ghost use Rattle.fleet_field.specs.Compass.{next_cell, steps_down};
 
-use crate::bits::ways_of_cells;
+use crate::bits::{free_ways, ways_of_cells};
 use crate::columns::Columns;
 use crate::search::search;
 use crate::ways::{is_less, is_way, ways_of};
@@ -101,9 +101,10 @@ impl<A: Allocator + Copy> Compass<A> {
     {
         let height = grid.height();
         let columns = Columns::new(grid.width());
-        let (stride, blank) = grid.padded();
+        let (stride, _blank) = grid.padded();
         let start = columns.place(stride, goal) as u32;
-        let bytes = search(alloc, blank, stride as usize, start)?;
+        let free = free_ways(alloc, height, columns.width, stride, grid.ways())?;
+        let bytes = search(alloc, free, stride as usize, start)?;
         let ways = ways_of_cells(alloc, height, columns.width, stride, &bytes)?;
         Ok(Compass {
             height,

@@ -2,116 +2,117 @@
 //! those that lead nearer. A way that is open and does not lead nearer leads one further, since no two places side by side
 //! are equally far.
 
-ghost use Rattle.std.specs.Prelude.{◌≡◌, ℕ, ◌+◌, ◌<◌, ◌≤◌, [], length, slice_index, OnOk, IfOk};
-ghost use Rattle.fleet_grid.specs.Padded.{IsOpen};
-ghost use Rattle.fleet_field.specs.inside.Search.{IsWalled};
-ghost use Rattle.fleet_field.specs.inside.Bytes.{colour, AreColoured, IsLook, IsAround, IsSpread, IsSearched};
+ghost use Rattle.std.specs.Prelude.{◌≡◌, ℕ, ◌+◌, ◌*◌, ◌%◌, ◌^◌, ◌<◌, ◌≤◌, List, length, slice_index, take, OnOk, IfOk};
+ghost use Rattle.fleet_field.specs.inside.Bytes.{IsLook, IsAround, IsSpread, IsReady, IsSearched};
 
-use crate::bits::free_ways;
 use crate::ways::is_way;
 use std::alloc::{AllocError, Allocator};
 use std::mem;
 
-/// Looks in one direction from a place whose byte is `seen`. The place there, if it is one further, gets the way back, and
-/// is of the next front if it had no way yet.
+/// Looks in one direction from a place whose byte is `seen`. The place there, if it is one further, gets the way back. It is
+/// written at the end of the next front each time, and counted if it had no way yet: so nothing is hard to foretell.
 #[inline(always)]
-fn look<A: Allocator + Copy>(
+fn look(
     ways: &mut [u8],
-    next: &mut Vec<u32, A>,
+    next: &mut [u32],
+    count: usize,
     seen: u8,
     number: u8,
-    back: u8,
     place: usize,
-) -> Result<(), AllocError>
+) -> usize
     requires number { number < 4 }
     requires inside { place < length ways.old }
     requires small { length ways.old < 1073741824 }
+    requires room { count < length next.old }
     ensures len { length ways.new ≡ length ways.old }
-    ensures ok { OnOk result (IsLook ways.old next.old.items seen number back place ways.new next.new.items) }
+    ensures kept { length next.new ≡ length next.old }
+    ensures most { result ≤ count + 1 }
+    ensures look { IsLook ways.old (take count next.old) seen number (2 ^ ((number + 2) % 4)) place ways.new (take result next.new) }
 {
     if !is_way(seen, number + 4) {
-        return Ok(());
+        return count;
     }
     if is_way(seen, number) {
-        return Ok(());
+        return count;
     }
     let byte = ways[place];
-    ways[place] = byte | back;
-    if byte & 15 == 0 {
-        next.push(place as u32)?;
-    }
-    Ok(())
+    ways[place] = byte | 1 << (number + 2) % 4;
+    next[count] = place as u32;
+    if byte & 15 == 0 { count + 1 } else { count }
 }
 
 /// Leaves a place of the front in all directions.
 #[inline(always)]
-fn around<A: Allocator + Copy>(
-    ways: &mut [u8],
-    next: &mut Vec<u32, A>,
-    stride: usize,
-    place: usize,
-) -> Result<(), AllocError>
+fn around(ways: &mut [u8], next: &mut [u32], count: usize, stride: usize, place: usize) -> usize
     requires size { length ways.old < 1073741824 }
     requires step { 0 < stride }
     requires inside { (stride ≤ place) × (place + stride < length ways.old) }
+    requires room { count + 4 ≤ length next.old }
     ensures len { length ways.new ≡ length ways.old }
-    ensures ok { OnOk result (IsAround ways.old next.old.items stride place ways.new next.new.items) }
+    ensures kept { length next.new ≡ length next.old }
+    ensures most { result ≤ count + 4 }
+    ensures around { IsAround ways.old (take count next.old) stride place ways.new (take result next.new) }
 {
     let seen = ways[place];
-    look(ways, next, seen, 0, 4, place - stride)?;
-    look(ways, next, seen, 1, 8, place + 1)?;
-    look(ways, next, seen, 2, 1, place + stride)?;
-    look(ways, next, seen, 3, 2, place - 1)?;
-    Ok(())
+    let north = look(ways, next, count, seen, 0, place - stride);
+    let east = look(ways, next, north, seen, 1, place + 1);
+    let south = look(ways, next, east, seen, 2, place + stride);
+    look(ways, next, south, seen, 3, place - 1)
 }
 
-/// One level: from the places of `now` to those beside them that are one further.
-fn spread<A: Allocator + Copy>(
-    ways: &mut [u8],
-    now: &[u32],
-    next: &mut Vec<u32, A>,
-    stride: usize,
-) -> Result<(), AllocError>
+/// One level: from the places of `now` to those beside them that are one further, and how many these are.
+fn spread(ways: &mut [u8], now: &[u32], next: &mut [u32], stride: usize) -> usize
     requires size { length ways.old < 1073741824 }
     requires step { 0 < stride }
     requires inside { (k : ℕ) → k < length now.now → (stride ≤ slice_index now.now k) × (slice_index now.now k + stride < length ways.old) }
-    requires next { next.old.items ≡ [] }
+    requires room { 4 * length now.now ≤ length next.old }
     ensures len { length ways.new ≡ length ways.old }
-    ensures ok { OnOk result (IsSpread ways.old now.now stride ways.new next.new.items) }
+    ensures kept { length next.new ≡ length next.old }
+    ensures most { result ≤ length next.new }
+    ensures spread { IsSpread ways.old now.now stride ways.new (take result next.new) }
 {
+    let mut count = 0;
     for place in now {
-        around(ways, next, stride, *place as usize)?;
+        count = around(ways, next, count, stride, *place as usize);
+    }
+    count
+}
+
+/// Makes room for the front after one of so many places: each has four beside it.
+fn make_room<A: Allocator + Copy>(next: &mut Vec<u32, A>, count: usize) -> Result<(), AllocError>
+    requires { count < 1073741824 }
+    ensures { OnOk result (4 * count ≤ length next.new.items) }
+{
+    if next.len() < 4 * count {
+        next.resize(4 * count, 0)?;
     }
     Ok(())
 }
 
 /// The ways that lead nearer to the goal, in the low halves of the places' bytes: a front is left in all directions, and what it
-/// reaches is the next front.
+/// reaches is the next front. The fronts' room is kept from level to level.
 pub(crate) fn search<A: Allocator + Copy>(
     alloc: A,
-    blank: &[u32],
+    free: Vec<u8, A>,
     stride: usize,
     goal: u32,
 ) -> Result<Vec<u8, A>, AllocError>
-    requires size { length blank.now < 1073741824 }
     requires step { 0 < stride }
-    requires blank { (v : ℕ) → IsOpen blank.now v → slice_index blank.now v ≡ 4294967295 }
-    requires walled { IsWalled blank.now stride }
-    requires coloured { AreColoured (colour stride goal) stride blank.now }
-    requires goal { IsOpen blank.now goal }
-    ensures { IfOk result (λ ways. IsSearched blank.now stride goal ways.items) }
+    requires ready { (blank : List ℕ) × IsReady blank stride goal free.items }
+    ensures { IfOk result (λ ways. (blank : List ℕ) → IsReady blank stride goal free.items → IsSearched blank stride goal ways.items) }
 {
-    let mut ways = free_ways(alloc, blank, stride)?;
+    let mut ways = free;
     let mut now = Vec::new(alloc);
     let mut next = Vec::new(alloc);
     now.push(goal)?;
+    let mut count = 1;
     // There are no more levels than places.
-    for _ in 0..blank.len() {
-        if now.is_empty() {
+    for _ in 0..ways.len() {
+        if count == 0 {
             break;
         }
-        spread(&mut ways, &now, &mut next, stride)?;
-        now.clear();
+        make_room(&mut next, count)?;
+        count = spread(&mut ways, &now[..count], &mut next, stride);
         mem::swap(&mut now, &mut next);
     }
     Ok(ways)

@@ -103,7 +103,7 @@ fn padded_form(rt: HostRuntime) -> Result<(), Fail> {
 fn ways_from_each_cell(rt: HostRuntime) -> Result<(), Fail> {
     // North is 1, east 2, south 4 and west 8. The wall is beside the first cell, and the last row is open.
     let grid = grid_of(rt.alloc(), 2, 3, b".@....")?.ok_or("a map")?;
-    assert!(rt; grid.ways() == [4, 0, 4, 3, 10, 9]);
+    assert!(rt; grid.ways() == [4, 0, 4, 3, 10, 9].as_slice());
     Ok(())
 }
 

@@ -1,18 +1,22 @@
 -- The search over bytes: the high half of a place's byte has the ways to open places, the low half those that lead nearer to the goal.
 -- It is told beside the search over distances, which no program holds.
-use Rattle.std.specs.Prelude.{◌≡◌, ◌≢◌, ℕ, ◌+◌, ◌-◌, ◌/◌, ◌%◌, ◌<◌, ◌≤◌, ◌⊎◌, ◌↔◌, List, [], ◌∷◌, ◌++◌, length, slice_index, slice_set}
+use Rattle.std.specs.Prelude.{◌≡◌, ◌≢◌, ℕ, ◌+◌, ◌-◌, ◌*◌, ◌/◌, ◌%◌, ◌<◌, ◌≤◌, ◌⊎◌, ◌↔◌, List, [], ◌∷◌, ◌++◌, length, slice_index, slice_set}
 use Rattle.std.specs.Int.{bit_at}
 use Rattle.std.specs.Int.Bits.{bit_and, bit_or}
 use Rattle.fleet_grid.specs.declared.dir.Dir.{Dir}
 use Rattle.fleet_grid.specs.declared.dir.Dir.TheVariants.{North, East, South, West}
 use Rattle.fleet_grid.specs.Direction.{dir_number}
-use Rattle.fleet_grid.specs.Padded.{IsOpen}
+use Rattle.fleet_grid.specs.Padded.{IsOpen, place}
 use Rattle.fleet_grid.specs.Ways.{IsWay}
 use Rattle.fleet_field.specs.Compass.{IsNear, AreWaysAt}
-use Rattle.fleet_field.specs.inside.Search.{Search, Keeps, Extends, far_count, AreLevels, SameWalls}
+use Rattle.fleet_field.specs.inside.Search.{IsWalled, Search, Keeps, Extends, far_count, AreLevels, SameWalls}
 
 abbrev pub low : ℕ → ℕ
 low byte = bit_and byte 15
+
+-- four ways in the high half of a byte
+abbrev pub high : ℕ → ℕ
+high ways = ways * 16 % 256
 
 -- the place beside another
 abbrev pub toward : ℕ → Dir → ℕ → ℕ
@@ -37,31 +41,30 @@ colour stride goal v = v % stride + v / stride + goal % stride + goal / stride
 abbrev pub AreColoured : (ℕ → ℕ) → ℕ → List ℕ → Type 0
 AreColoured shade stride dist = (v : ℕ) (dir : Dir) → IsOpen dist v → IsOpen dist (toward stride dir v) → (shade v + shade (toward stride dir v)) % 2 ≡ 1
 
--- the free ways of a place, and none that leads nearer
-pub record AreFree (blank : List ℕ) (stride at byte : ℕ) : Type 0 where
-  pub north : bit_at byte 4 ≡ 1 ↔ slice_index blank (at - stride) ≡ 4294967295
-  pub east : bit_at byte 5 ≡ 1 ↔ slice_index blank (at + 1) ≡ 4294967295
-  pub south : bit_at byte 6 ≡ 1 ↔ slice_index blank (at + stride) ≡ 4294967295
-  pub west : bit_at byte 7 ≡ 1 ↔ slice_index blank (at - 1) ≡ 4294967295
-  pub none : low byte ≡ 0
+-- no way leads nearer yet
+abbrev pub HaveNone : List ℕ → Type 0
+HaveNone ways = (v : ℕ) → low (slice_index ways v) ≡ 0
 
--- each place is open and not reached, or a wall
-abbrev pub IsBlank : List ℕ → Type 0
-IsBlank blank = (v : ℕ) → v < length blank → (slice_index blank v ≡ 4294967295) ⊎ (slice_index blank v ≡ 4294967294)
-
--- the byte has those of the four ways whose number is 1, in its high half alone
-pub record IsHighHalf (north east south west byte : ℕ) : Type 0 where
-  pub north_bit : bit_at byte 4 ≡ 1 ↔ north ≡ 1
-  pub east_bit : bit_at byte 5 ≡ 1 ↔ east ≡ 1
-  pub south_bit : bit_at byte 6 ≡ 1 ↔ south ≡ 1
-  pub west_bit : bit_at byte 7 ≡ 1 ↔ west ≡ 1
-  pub none : low byte ≡ 0
+-- each cell's ways stand in the high half of its place's byte, and nothing else does
+pub record AreFree (height width stride : ℕ) (ways bytes : List ℕ) : Type 0 where
+  pub len : length bytes ≡ (height + 2) * stride
+  pub each : (cell : ℕ) → cell < height * width → slice_index bytes (place width stride cell) ≡ high (slice_index ways cell)
+  pub none : HaveNone bytes
 
 -- the bytes before the search
 pub record IsUnsearched (blank : List ℕ) (stride : ℕ) (ways : List ℕ) : Type 0 where
   pub len : length ways ≡ length blank
-  pub free : (v : ℕ) → stride ≤ v → v + stride < length blank → AreFree blank stride v (slice_index ways v)
-  pub none : (v : ℕ) → low (slice_index ways v) ≡ 0
+  pub free : (v : ℕ) (dir : Dir) → IsOpen blank v → IsFreeWay (slice_index ways v) dir ↔ IsOpen blank (toward stride dir v)
+  pub none : HaveNone ways
+
+-- the bytes before the search from a goal, of a map whose open places are those of `blank`
+pub record IsReady (blank : List ℕ) (stride goal : ℕ) (ways : List ℕ) : Type 0 where
+  pub small : length blank < 1073741824
+  pub far : (v : ℕ) → IsOpen blank v → slice_index blank v ≡ 4294967295
+  pub walled : IsWalled blank stride
+  pub coloured : AreColoured (colour stride goal) stride blank
+  pub start : IsOpen blank goal
+  pub unsearched : IsUnsearched blank stride ways
 
 -- whether the place is new, by its byte
 abbrev pub IsFound : ℕ → List ℕ → ℕ → List ℕ → Type 0
@@ -140,8 +143,8 @@ pub record IsSearched (blank : List ℕ) (stride goal : ℕ) (ways : List ℕ) :
   pub len : length ways ≡ length blank
   pub each : (v : ℕ) → v < length dist → AreWaysAt dist stride v (low (slice_index ways v))
 
--- the low halves of so many bytes from one on stand in the list from an entry on, and what stood before it is left
-pub record HasRow (bytes : List ℕ) (start first count : ℕ) (before after : List ℕ) : Type 0 where
+-- what becomes of so many bytes from one on stands in the list from an entry on, and what stood before it is left
+pub record HasRow (half : ℕ → ℕ) (bytes : List ℕ) (start first count : ℕ) (before after : List ℕ) : Type 0 where
   pub len : length after ≡ length before
   pub kept : (cell : ℕ) → cell < first → slice_index after cell ≡ slice_index before cell
-  pub each : (k : ℕ) → k < count → slice_index after (first + k) ≡ low (slice_index bytes (start + k))
+  pub each : (k : ℕ) → k < count → slice_index after (first + k) ≡ half (slice_index bytes (start + k))

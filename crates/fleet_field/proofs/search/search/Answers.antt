@@ -1,57 +1,77 @@
-use Rattle.std.proofs.Common.{◌≡◌, ℕ, ◌<◌, List, [], ◌∷◌, ◌++◌, length, take, drop, sym, ap, subst, ◌∙◌, arith}
+use Rattle.std.proofs.Common.{◌≡◌, ℕ, ◌<◌, List, [], ◌∷◌, ◌++◌, length, take, drop, refl, sym, ap, subst, ◌∙◌, arith}
 use Rattle.std.proofs.lemmas.Grind.{common_steps}
+use Rattle.std.proofs.lemmas.List.{length-take-le}
 use Rattle.fleet_field.specs.inside.Bytes.{colour, IsSpread, Runs}
-use Rattle.fleet_field.proofs.Unsearched.{is_blank}
 use Rattle.fleet_field.proofs.Whole.{written_back}
 use Rattle.fleet_field.proofs.Levels.{first_runs, no_items, runs_on, runs_inside, runs_small, searched}
-use Rattle.fleet_field.proofs.search.search.Goals.{else-loop-test, then-loop-test+then-is_empty}
+use Rattle.fleet_field.proofs.search.search.Goals.{else-loop-test, then-loop-test+then-count-eq0}
 use Rattle.fleet_field.proofs.search.search.Goals as goal
-
-pub free_ways-requires-clause-blank : goal.free_ways-requires-clause-blank
-free_ways-requires-clause-blank g c = is_blank c.args.blank.now c.requires.blank
 
 pub loop-init : goal.loop-init
 loop-init g c =
     let e : c.push.new.self.items ≡ [] ++ c.args.goal ∷ [] = c.in_ok-push.ensures.items ∙ ap (λ (xs : List ℕ). xs ++ c.args.goal ∷ []) c.new-now.ensures.items in
+    let one : length c.push.new.self.items ≡ 1 = ap (λ (xs : List ℕ). length xs) e in
+    let front : take 1 c.push.new.self.items ≡ [] ++ c.args.goal ∷ [] = ap (λ (xs : List ℕ). take 1 xs) e in
     record {
-      len = c.in_ok-ways.ensures.len;
-      runs = subst (λ (xs : List ℕ). Runs c.args.blank.now c.args.stride c.args.goal 0 xs c.in_ok-ways.ways.items) (sym e)
-          (first_runs c.args.blank.now c.args.stride c.args.goal c.in_ok-ways.ways.items c.requires.step c.requires.walled c.requires.blank c.requires.goal c.requires.coloured c.in_ok-ways.ensures);
-      next = c.new-next.ensures.items;
+      len = refl;
+      within = omega (arith, one);
+      runs = λ blank r. subst (λ (xs : List ℕ). Runs blank c.args.stride c.args.goal 0 xs c.args.free.items) (sym front)
+          (first_runs blank c.args.stride c.args.goal c.args.free.items r.walled r.far r.start r.coloured r.unsearched);
     }
 
-pub spread-requires-clause-inside : goal.spread-requires-clause-inside
-spread-requires-clause-inside g c =
-    rw (c.deref.ensures.value, c.deref_mut.ensures.value) (runs_inside c.args.blank.now c.args.stride c.args.goal c.loop.counter c.loop.now.items c.loop.ways.items c.requires.size c.loop.invariant.runs)
+pub make_room-requires : goal.make_room-requires
+make_room-requires g c =
+    let ready = c.requires.ready in
+    let count = (c.loop.invariant.runs ready.0 ready.1).count in
+    let long = length-take-le c.loop.count c.loop.now.items c.loop.invariant.within in
+    omega (arith, count, long, ready.1.small)
+
+pub spread-count-requires-clause-size : goal.spread-count-requires-clause-size
+spread-count-requires-clause-size g c =
+    let ready = c.requires.ready in
+    omega (arith, c.deref_mut.ensures.len, ap (λ (xs : List ℕ). length xs) c.deref_mut.ensures.value, c.loop.invariant.len, ready.1.unsearched.len, ready.1.small)
+
+pub spread-count-requires-clause-inside : goal.spread-count-requires-clause-inside
+spread-count-requires-clause-inside g c =
+    let ready = c.requires.ready in
+    rw (c.deref.ensures.value, c.deref_mut.ensures.value)
+    (runs_inside ready.0 c.args.stride c.args.goal c.loop.counter (take c.loop.count c.loop.now.items) c.loop.ways.items ready.1.small (c.loop.invariant.runs ready.0 ready.1))
 
 pub loop-preserved : goal.loop-preserved
 loop-preserved g c =
-    let r = c.loop.invariant.runs in
+    let front = take c.loop.count c.loop.now.items in
+    let next = take c.spread-count.result c.spread-count.new.next in
+    let room = c.make_room.new.next in
     let d : c.deref_mut.result.now ≡ c.loop.ways.items = c.deref_mut.ensures.value in
-    let n : c.deref.result.now ≡ c.loop.now.items = c.deref.ensures.value in
-    let on : IsSpread c.loop.ways.items c.loop.now.items c.args.stride c.spread.new.ways c.spread.new.next.items =
-    subst (λ (xs : List ℕ). IsSpread xs c.loop.now.items c.args.stride c.spread.new.ways c.spread.new.next.items) d
-    (subst (λ (ys : List ℕ). IsSpread c.deref_mut.result.now ys c.args.stride c.spread.new.ways c.spread.new.next.items) n c.in_ok-spread.ensures.ok) in
-    let len : length c.spread.new.ways ≡ length c.loop.ways.items = c.in_ok-spread.ensures.len ∙ ap (λ (xs : List ℕ). length xs) d in
-    let whole : take c.loop.ways.len (c.spread.new.ways ++ drop (length c.spread.new.ways) c.loop.ways.items) ≡ c.spread.new.ways = written_back c.loop.ways.len c.spread.new.ways c.loop.ways.items len (grind (arith, common_steps)) in
-    let x : c.swap.new.x.items ≡ c.spread.new.next.items = ap (λ v. v.items) c.swap.ensures.x_after in
-    let y : c.swap.new.y.items ≡ [] = ap (λ v. v.items) c.swap.ensures.y_after ∙ c.clear.ensures.items in
-    let some : 0 < length c.loop.now.items = grind (arith, common_steps, c.if-is_empty.ensures) in
-    let small = runs_small c.args.blank.now c.args.stride c.args.goal c.loop.counter c.loop.now.items c.loop.ways.items c.requires.size r in
-    let s = on (colour c.args.stride c.args.goal) c.loop.counter r.dist small r.search r.marks in
+    let n : take c.loop.count c.deref.result.now ≡ front = ap (λ (xs : List ℕ). take c.loop.count xs) c.deref.ensures.value in
+    let m : c.deref_mut-in-loop.result.now ≡ room.items = c.deref_mut-in-loop.ensures.value in
+    let on : IsSpread c.loop.ways.items front c.args.stride c.spread-count.new.ways next =
+    subst (λ (xs : List ℕ). IsSpread xs front c.args.stride c.spread-count.new.ways next) d
+    (subst (λ (ys : List ℕ). IsSpread c.deref_mut.result.now ys c.args.stride c.spread-count.new.ways next) n c.spread-count.ensures.spread) in
+    let len : length c.spread-count.new.ways ≡ length c.loop.ways.items = c.spread-count.ensures.len ∙ ap (λ (xs : List ℕ). length xs) d in
+    let kept : length c.spread-count.new.next ≡ length room.items = c.spread-count.ensures.kept ∙ ap (λ (xs : List ℕ). length xs) m in
+    let whole : take c.loop.ways.len (c.spread-count.new.ways ++ drop (length c.spread-count.new.ways) c.loop.ways.items) ≡ c.spread-count.new.ways = written_back c.loop.ways.len c.spread-count.new.ways c.loop.ways.items len (grind (arith, common_steps)) in
+    let x : c.swap.new.x.items ≡ c.spread-count.new.next = ap (λ v. v.items) c.swap.ensures.x_after ∙ written_back room.len c.spread-count.new.next room.items kept (grind (arith, common_steps)) in
+    let long = length-take-le c.loop.count c.loop.now.items c.loop.invariant.within in
+    let some : 0 < length front = omega (arith, long, c.if-count-eq0.false) in
     rw (whole, x) (record {
       len = len ∙ c.loop.invariant.len;
-      runs = runs_on c.args.blank.now c.args.stride c.args.goal c.loop.counter c.loop.now.items c.loop.ways.items c.spread.new.next.items c.spread.new.ways c.requires.size some r s.0 s.1;
-      next = y;
+      within = c.spread-count.ensures.most;
+      runs = λ blank ready. (
+          let r = c.loop.invariant.runs blank ready in
+          let small = runs_small blank c.args.stride c.args.goal c.loop.counter front c.loop.ways.items ready.small r in
+          let s = on (colour c.args.stride c.args.goal) c.loop.counter r.dist small r.search r.marks in
+          runs_on blank c.args.stride c.args.goal c.loop.counter front c.loop.ways.items next c.spread-count.new.ways ready.small some r s.0 s.1);
     })
 
 pub returns : goal.returns
-returns g c =
-    let r = c.loop.invariant.runs in
+returns g c blank ready =
+    let r = c.loop.invariant.runs blank ready in
+    let front = take c.loop.count c.loop.now.items in
     let count = r.count in
-    let none : length c.loop.now.items ≡ 0 = elim c.loop-test.branch [
-      | else-loop-test w ↦ omega (arith, w.loop-test.false, count)
-      | then-loop-test+then-is_empty w ↦ grind (arith, common_steps, w.if-is_empty.ensures)
+    let none : length front ≡ 0 = elim c.loop-test.branch [
+      | else-loop-test w ↦ omega (arith, w.loop-test.false, count, ready.unsearched.len, c.loop.auto.counter-end)
+      | then-loop-test+then-count-eq0 w ↦ ap (λ (k : ℕ). length (take k c.loop.now.items)) w.if-count-eq0.true
     ] in
-    searched c.args.blank.now c.args.stride c.args.goal c.loop.counter c.loop.ways.items c.requires.step c.requires.size
-    (subst (λ (xs : List ℕ). Runs c.args.blank.now c.args.stride c.args.goal c.loop.counter xs c.loop.ways.items) (no_items c.loop.now.items none) r)
+    searched blank c.args.stride c.args.goal c.loop.counter c.loop.ways.items c.requires.step ready.small
+    (subst (λ (xs : List ℕ). Runs blank c.args.stride c.args.goal c.loop.counter xs c.loop.ways.items) (no_items front none) r)
