@@ -1,11 +1,12 @@
 //! What each robot sees from its cell, gathered in one pass before the planning.
 
-ghost use Rattle.std.specs.Prelude.{◌≡◌, ℕ, ◌%◌, ◌<◌, ◌≤◌, length, slice_index};
+ghost use Rattle.std.specs.Prelude.{◌≡◌, ℕ, ◌<◌, ◌≤◌, length, slice_index};
 ghost use Rattle.fleet_grid.specs.Floor.{IsFloor};
-ghost use Rattle.fleet_grid.specs.declared.dir.Dir.TheVariants.{East, West};
-ghost use Rattle.fleet_pibt.specs.inside.Around.{IsSide, IsSpot, IsAround, AreArounds, IsAsked, AreAsked, cell_in};
+ghost use Rattle.fleet_grid.specs.Ways.{AreOpen};
+ghost use Rattle.fleet_pibt.specs.inside.Around.{IsSpot, IsAround, AreArounds, IsAsked, AreAsked, cell_in};
 
 use crate::goals::Goals;
+use crate::ways::is_way;
 use fleet_grid::{Dir, Grid};
 use std::alloc::Allocator;
 
@@ -46,57 +47,38 @@ impl Around {
     }
 }
 
-/// The cell where it is floor, and else the own cell.
-#[tactic(auto, using(crate::proofs::Spots::spot_none, crate::proofs::Spots::spot_floor, crate::proofs::Spots::spot_wall))]
-fn floor_or_own<A: Allocator + Copy>(grid: &Grid<A>, own: u32, dir: Dir, beside: Option<u32>) -> u32
+/// The cell beside the floor cell `own` in a direction where that is an exit, and else `own`. No letter is read.
+#[tactic(auto, using(crate::proofs::Spots::spot_shut, crate::proofs::Spots::spot_north, crate::proofs::Spots::spot_east, crate::proofs::Spots::spot_south, crate::proofs::Spots::spot_west))]
+fn spot<A: Allocator + Copy>(grid: &Grid<A>, exits: u8, own: u32, dir: Dir) -> u32
     requires floor { IsFloor grid.now own }
-    requires beside { IsSide grid.now.width dir own beside }
+    requires exits { AreOpen grid.now own exits }
     ensures { IsSpot grid.now own dir result }
 {
-    let Some(cell) = beside else {
+    let width = grid.width();
+    if !is_way(exits, dir) {
         return own;
-    };
-    if grid.is_floor(cell) { cell } else { own }
-}
-
-/// The cell behind a cell of that column in its row.
-#[tactic(auto, using(crate::proofs::Spots::east_there, crate::proofs::Spots::east_none))]
-fn east_of(width: u32, own: u32, column: u32) -> Option<u32>
-    requires wide { 0 < width }
-    requires small { own < 1048576 }
-    requires column { column ≡ own % width }
-    ensures { IsSide width East own result }
-{
-    if column + 1 < width {
-        Some(own + 1)
-    } else {
-        None
+    }
+    match dir {
+        Dir::North => own - width,
+        Dir::East => own + 1,
+        Dir::South => own + width,
+        Dir::West => own - 1,
     }
 }
 
-/// The cell before a cell of that column in its row.
-fn west_of(width: u32, own: u32, column: u32) -> Option<u32>
-    requires column { column ≡ own % width }
-    ensures { IsSide width West own result }
-{
-    if column > 0 { Some(own - 1) } else { None }
-}
-
-/// What a robot sees from the floor cell `own`, where these ways lead nearer to its goal.
-fn look<A: Allocator + Copy>(grid: &Grid<A>, own: u32, nearer: u8) -> Around
-    requires { IsFloor grid.now own }
+/// What a robot sees from the floor cell `own` with these exits, where the ways in `nearer` lead nearer to its goal.
+fn look<A: Allocator + Copy>(grid: &Grid<A>, exits: u8, own: u32, nearer: u8) -> Around
+    requires floor { IsFloor grid.now own }
+    requires exits { AreOpen grid.now own exits }
     ensures cells { IsAround grid.now own result }
     ensures nearer { result.nearer ≡ nearer }
 {
-    let width = grid.width();
-    // Divided once, for both neighbours in the row.
-    let column = own % width;
     Around {
         own,
-        north: floor_or_own(grid, own, Dir::North, own.checked_sub(width)),
-        east: floor_or_own(grid, own, Dir::East, east_of(width, own, column)),
-        south: floor_or_own(grid, own, Dir::South, Some(own + width)),
-        west: floor_or_own(grid, own, Dir::West, west_of(width, own, column)),
+        north: spot(grid, exits, own, Dir::North),
+        east: spot(grid, exits, own, Dir::East),
+        south: spot(grid, exits, own, Dir::South),
+        west: spot(grid, exits, own, Dir::West),
         nearer,
     }
 }
@@ -138,7 +120,9 @@ pub(crate) fn gather<G: Goals, A: Allocator + Copy>(
     ensures { AreArounds grid.now (G.goal_of goals.now) (G.distance goals.now) from.now arounds.new }
 {
     ask(grid, from, goals, arounds);
+    let ways = grid.ways();
     for (robot, seen) in arounds.iter_mut().enumerate() {
-        *seen = look(grid, from[robot], seen.nearer);
+        let own = from[robot];
+        *seen = look(grid, ways[own as usize], own, seen.nearer);
     }
 }

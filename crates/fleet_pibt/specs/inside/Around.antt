@@ -1,15 +1,11 @@
 -- What a robot sees from its cell: the cells beside it, and which of them are nearer to its goal.
-use Rattle.std.specs.Prelude.{◌≡◌, ◌≢◌, ℕ, ◌+◌, List, length, slice_get, slice_index, Option, Some, None, MatchOption}
-use Rattle.fleet_grid.specs.Floor.{Floor, IsBeside, IsNeighbourIn}
+use Rattle.std.specs.Prelude.{◌≡◌, ◌≢◌, ℕ, ◌+◌, List, length, slice_get, slice_index, Option, Some, None}
+use Rattle.fleet_grid.specs.Floor.{Floor, IsNeighbourIn}
 use Rattle.fleet_grid.specs.Ways.{IsWay, AreNearer}
 use Rattle.fleet_grid.specs.declared.dir.Dir.{Dir}
 use Rattle.fleet_grid.specs.declared.dir.Dir.TheVariants.{North, East, South, West}
 use Rattle.fleet_pibt.specs.inside.Setting.{Setting, cell_of, cost, IsScene, IsStanding}
 use Rattle.fleet_pibt.specs.declared.around.Around.{Around}
-
--- the cell beside `own` in a direction, if there is one
-abbrev pub IsSide : ℕ → Dir → ℕ → Option ℕ → Type 0
-IsSide width dir own beside = MatchOption beside ((b : ℕ) → IsBeside width dir own b → ⊥) (λ b. IsBeside width dir own b)
 
 -- the floor neighbour of the cell `own` in a direction, or where there is none `own` itself
 pub record IsSpot (m : Floor) (own : ℕ) (dir : Dir) (cell : ℕ) : Type 0 where

@@ -1,4 +1,5 @@
 use Rattle.std.proofs.Common.{slice_index, arith}
+use Rattle.fleet_grid.proofs.Forms.{floor_inside}
 use Rattle.fleet_pibt.specs.inside.Around.{IsAround, IsAsked}
 use Rattle.fleet_pibt.proofs.Seen.{seen-more, seen-all, seen-at, seen-below}
 use Rattle.fleet_pibt.proofs.around.gather.Goals as goal
@@ -15,6 +16,12 @@ loop-robot-preserved g c =
       seen-all (λ r around. IsAsked m (g.G.Goals.goal_of goals r) (g.G.Goals.distance goals r) (slice_index from r) around.nearer) seen robot c.look.result c.loop-robot.invariant.0 asked,
       seen-more (λ r around. IsAround m (slice_index from r) around) seen robot c.look.result c.loop-robot.invariant.1 c.look.ensures.cells,
     )
+
+pub look-requires-clause-exits : goal.look-requires-clause-exits
+look-requires-clause-exits g c =
+    let m = c.args.grid.now in
+    let own = slice_index c.args.from.now c.loop-robot.robot in
+    c.ways-ways.ensures.ways.each own (floor_inside m own (c.requires.floor c.loop-robot.robot (omega (arith, c.loop-robot-test.true, c.loop-robot.auto.arounds, c.loop-robot.auto.robot-end, c.ask.auto.arounds, c.requires.same_length))))
 
 pub returns : goal.returns
 returns g c = record {
