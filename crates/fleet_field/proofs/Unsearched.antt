@@ -1,5 +1,5 @@
 -- The bytes before the search, from the ways of the cells.
-use Rattle.std.proofs.Common.{◌≡◌, ℕ, ◌+◌, ◌-◌, ◌*◌, ◌<◌, ◌≤◌, ◌↔◌, List, length, slice_index, sym, ap, subst, ◌∙◌, arith}
+use Rattle.std.proofs.Common.{◌≡◌, ℕ, ◌+◌, ◌*◌, ◌<◌, ◌≤◌, ◌↔◌, List, slice_index, sym, ap, subst, ◌∙◌, arith}
 use Rattle.std.specs.Int.{bit_at}
 use Rattle.fleet_grid.specs.declared.dir.Dir.{Dir}
 use Rattle.fleet_grid.specs.declared.dir.Dir.TheVariants.{North, East, South, West}

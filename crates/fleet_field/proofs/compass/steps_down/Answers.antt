@@ -1,6 +1,6 @@
-use Rattle.std.proofs.Common.{◌≡◌, ◌+◌, ◌-◌, ◌<◌, ℕ, length, slice_index, Option, Some, None, refl, sym, ap, ◌∙◌, arith}
+use Rattle.std.proofs.Common.{◌≡◌, ◌+◌, ◌-◌, ℕ, length, slice_index, Some, None, refl, sym, ap, ◌∙◌, arith}
 use Rattle.std.proofs.lemmas.List.{get_or_past}
-use Rattle.fleet_field.specs.Compass.{next_cell, steps_down}
+use Rattle.fleet_field.specs.Compass.{next_cell}
 use Rattle.fleet_field.proofs.Descent.{step_found, step_stuck, step_on}
 use Rattle.fleet_field.proofs.compass.steps_down.Goals as goal
 

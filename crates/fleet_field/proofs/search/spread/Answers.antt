@@ -1,4 +1,4 @@
-use Rattle.std.proofs.Common.{ℕ, List, take, refl, ◌∙◌, arith}
+use Rattle.std.proofs.Common.{take, refl, ◌∙◌, arith}
 use Rattle.fleet_field.proofs.Levels.{leaves_none, leaves_on, spreads}
 use Rattle.fleet_field.proofs.search.spread.Goals as goal
 

@@ -1,4 +1,4 @@
-use Rattle.std.proofs.Common.{◌≡◌, ℕ, ◌*◌, ◌<◌, length, get_or, None, sym, ap, ◌∙◌, arith}
+use Rattle.std.proofs.Common.{ℕ, get_or, None, sym, ap, ◌∙◌, arith}
 use Rattle.fleet_field.specs.Field.{Aim}
 use Rattle.fleet_field.specs.Compass.{steps_down}
 use Rattle.fleet_field.proofs.Nearer.{down_in, down_out}

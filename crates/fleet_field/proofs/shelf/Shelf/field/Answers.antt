@@ -1,4 +1,4 @@
-use Rattle.std.proofs.Common.{List, sym, subst}
+use Rattle.std.proofs.Common.{sym, subst}
 use Rattle.fleet_field.specs.Field.{Aim, IsField}
 use Rattle.fleet_field.specs.Store.{Keeps}
 use Rattle.fleet_field.proofs.Shelved.{all_among}

@@ -1,5 +1,5 @@
 use Rattle.std.proofs.Common.{◌≡◌, ◌⊎◌, inl, inr, List, [], ◌∷◌, ◌++◌, sym, subst}
-use Rattle.std.specs.List.{All, Contains}
+use Rattle.std.specs.List.{Contains}
 use Rattle.std.proofs.lemmas.List.Elements.{All-cons, All-weaker, All-contains_itself, Contains-push, Contains-append_left}
 use Rattle.fleet_field.specs.Field.{Aim}
 use Rattle.fleet_field.proofs.Shelved.{all_among}
