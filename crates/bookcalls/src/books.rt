@@ -33,20 +33,20 @@ fn refusals_in_order(rt: HostRuntime) -> Result<(), Fail> {
         queue_full: true,
         place: Place::Absent,
     };
-    assert_eq!(rt; book.judge(0, GO, facts), Verdict::NoRobot);
+    assert!(rt; book.judge(0, GO, facts) == Verdict::NoRobot);
     facts.robot_known = true;
-    assert_eq!(rt; book.judge(0, GO, facts), Verdict::RobotShut);
+    assert!(rt; book.judge(0, GO, facts) == Verdict::RobotShut);
     let other = Order::Go { robot: 0, cell: 4 };
-    assert_eq!(rt; book.judge(0, other, facts), Verdict::NoCell);
+    assert!(rt; book.judge(0, other, facts) == Verdict::NoCell);
     facts.in_range = true;
-    assert_eq!(rt; book.judge(0, other, facts), Verdict::Blocked);
+    assert!(rt; book.judge(0, other, facts) == Verdict::Blocked);
     facts.floor = true;
-    assert_eq!(rt; book.judge(0, other, facts), Verdict::Unreachable);
+    assert!(rt; book.judge(0, other, facts) == Verdict::Unreachable);
     facts.same_part = true;
-    assert_eq!(rt; book.judge(0, other, facts), Verdict::QueueFull);
+    assert!(rt; book.judge(0, other, facts) == Verdict::QueueFull);
     facts.queue_full = false;
-    assert_eq!(rt; book.judge(0, other, facts), Verdict::LifeSpent);
-    assert_eq!(rt; book.judge(1, other, facts), Verdict::Accepted(1));
+    assert!(rt; book.judge(0, other, facts) == Verdict::LifeSpent);
+    assert!(rt; book.judge(1, other, facts) == Verdict::Accepted(1));
     Ok(())
 }
 
@@ -59,12 +59,12 @@ fn closed_and_withdrawn(rt: HostRuntime) -> Result<(), Fail> {
         (Place::Front, Verdict::TooLate),
         (Place::Behind, Verdict::Withdrawn),
     ] {
-        assert_eq!(rt; book.judge(0, withdraw, Facts { place, ..GOOD }), verdict);
+        assert!(rt; book.judge(0, withdraw, Facts { place, ..GOOD }) == verdict);
     }
-    assert_eq!(rt; book.judge(0, Order::Close, GOOD), Verdict::Closed);
+    assert!(rt; book.judge(0, Order::Close, GOOD) == Verdict::Closed);
     book.enter(0, Verdict::Closed);
     for order in [GO, Order::Close, withdraw] {
-        assert_eq!(rt; book.judge(0, order, GOOD), Verdict::ClientClosed);
+        assert!(rt; book.judge(0, order, GOOD) == Verdict::ClientClosed);
     }
     Ok(())
 }
@@ -72,26 +72,23 @@ fn closed_and_withdrawn(rt: HostRuntime) -> Result<(), Fail> {
 #[test]
 fn counts(rt: HostRuntime) -> Result<(), Fail> {
     let mut book = Book::new(rt.alloc(), 2, 1, Limits::DEFAULT)?;
-    assert_eq!(rt; book.account(1), Account::BLANK);
-    assert_eq!(rt; book.next_number(1), 1);
+    assert!(rt; book.account(1) == Account::BLANK);
+    assert!(rt; book.next_number(1) == 1);
     book.enter(1, Verdict::Accepted(1));
     book.enter(1, Verdict::Accepted(2));
     book.enter(1, Verdict::QueueFull);
-    assert_eq!(rt;
-        (book.accepted(1), book.owed(1), book.next_number(1)),
-        (2, 2, 3)
-    );
+    assert!(rt; (book.accepted(1), book.owed(1), book.next_number(1)) == (2, 2, 3));
     book.enter(1, Verdict::Withdrawn);
-    assert_eq!(rt; (book.accepted(1), book.owed(1)), (2, 1));
+    assert!(rt; (book.accepted(1), book.owed(1)) == (2, 1));
     book.settle(1);
-    assert_eq!(rt; (book.accepted(1), book.owed(1)), (2, 0));
+    assert!(rt; (book.accepted(1), book.owed(1)) == (2, 0));
     assert!(rt; !book.is_closed(1));
     book.close_client(1);
     assert!(rt; book.is_closed(1) && !book.is_closed(0));
     assert!(rt; !book.is_shut(0));
     book.shut_robot(0);
     assert!(rt; book.is_shut(0));
-    assert_eq!(rt; book.account(0), Account::BLANK);
+    assert!(rt; book.account(0) == Account::BLANK);
     Ok(())
 }
 
@@ -190,10 +187,10 @@ fn refused_growths(rt: HostRuntime) -> Result<(), Fail> {
             Book::new(&heap, 2, 3, Limits::DEFAULT).is_err(),
             "in {units} units"
         );
-        assert_eq!(rt; heap.used(), 0);
+        assert!(rt; heap.used() == 0);
     }
     let heap = LocalHeap::new(rt.alloc(), 64)?;
     let book = Book::new(&heap, 2, 3, Limits::DEFAULT)?;
-    assert_eq!(rt; book.account(1), Account::BLANK);
+    assert!(rt; book.account(1) == Account::BLANK);
     Ok(())
 }

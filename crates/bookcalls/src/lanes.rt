@@ -45,22 +45,22 @@ fn arrived(seq: u64, number: u64) -> Notice {
 #[test]
 fn lane_and_numbers(rt: HostRuntime) -> Result<(), Fail> {
     let (mut client, mut hall) = lane_pair(rt.alloc(), 5, limits(2, 64))?;
-    assert_eq!(rt; client.number(), 5);
-    assert_eq!(rt; client.post(GO), Ok(1));
-    assert_eq!(rt; client.post(GO), Ok(2));
-    assert_eq!(rt; client.post(GO), Err(PostFault::LaneFull(GO)));
-    assert_eq!(rt; hall.take(), Some(GO));
-    assert_eq!(rt; client.post(GO), Ok(3));
-    assert_eq!(rt; client.sent(), 3);
+    assert!(rt; client.number() == 5);
+    assert!(rt; client.post(GO) == Ok(1));
+    assert!(rt; client.post(GO) == Ok(2));
+    assert!(rt; client.post(GO) == Err(PostFault::LaneFull(GO)));
+    assert!(rt; hall.take() == Some(GO));
+    assert!(rt; client.post(GO) == Ok(3));
+    assert!(rt; client.sent() == 3);
 
     let two = Limits {
         orders: 2,
         ..Limits::DEFAULT
     };
     let (mut client, _hall) = lane_pair(rt.alloc(), 0, two)?;
-    assert_eq!(rt; client.post(GO), Ok(1));
-    assert_eq!(rt; client.post(GO), Err(PostFault::NumbersSpent(GO)));
-    assert_eq!(rt; client.close(), Ok(2));
+    assert!(rt; client.post(GO) == Ok(1));
+    assert!(rt; client.post(GO) == Err(PostFault::NumbersSpent(GO)));
+    assert!(rt; client.close() == Ok(2));
     Ok(())
 }
 
@@ -69,14 +69,14 @@ fn lane_and_numbers(rt: HostRuntime) -> Result<(), Fail> {
 fn a_thousand_rounds(rt: HostRuntime) -> Result<(), Fail> {
     let (mut client, mut hall) = lane_pair(rt.alloc(), 0, limits(1, 2))?;
     for k in 1..=1_000 {
-        assert_eq!(rt; client.post(GO), Ok(k));
-        assert_eq!(rt; hall.take(), Some(GO));
-        assert_eq!(rt; hall.take(), None);
-        assert_eq!(rt; hall.give(accepted(2 * k - 1, k)), Ok(()));
-        assert_eq!(rt; hall.give(arrived(2 * k, k)), Ok(()));
-        assert_eq!(rt; client.collect(), Some(accepted(2 * k - 1, k)));
-        assert_eq!(rt; client.collect(), Some(arrived(2 * k, k)));
-        assert_eq!(rt; client.collect(), None);
+        assert!(rt; client.post(GO) == Ok(k));
+        assert!(rt; hall.take() == Some(GO));
+        assert!(rt; hall.take() == None);
+        assert!(rt; hall.give(accepted(2 * k - 1, k)) == Ok(()));
+        assert!(rt; hall.give(arrived(2 * k, k)) == Ok(()));
+        assert!(rt; client.collect() == Some(accepted(2 * k - 1, k)));
+        assert!(rt; client.collect() == Some(arrived(2 * k, k)));
+        assert!(rt; client.collect() == None);
     }
     Ok(())
 }
@@ -84,60 +84,60 @@ fn a_thousand_rounds(rt: HostRuntime) -> Result<(), Fail> {
 #[test]
 fn nothing_behind_close(rt: HostRuntime) -> Result<(), Fail> {
     let (mut client, mut hall) = lane_pair(rt.alloc(), 0, limits(1, 1))?;
-    assert_eq!(rt; client.post(GO), Ok(1));
-    assert_eq!(rt; client.close(), Err(PostFault::LaneFull(Order::Close)));
+    assert!(rt; client.post(GO) == Ok(1));
+    assert!(rt; client.close() == Err(PostFault::LaneFull(Order::Close)));
     assert!(rt; !client.is_closed(), "a full lane leaves it open");
-    assert_eq!(rt; hall.take(), Some(GO));
-    assert_eq!(rt; client.post(Order::Close), Ok(2));
+    assert!(rt; hall.take() == Some(GO));
+    assert!(rt; client.post(Order::Close) == Ok(2));
     assert!(rt; client.is_closed());
-    assert_eq!(rt; hall.take(), Some(Order::Close));
-    assert_eq!(rt; client.post(GO), Err(PostFault::Closed));
-    assert_eq!(rt; client.close(), Err(PostFault::Closed));
-    assert_eq!(rt; client.sent(), 2);
-    assert_eq!(rt; hall.take(), None);
+    assert!(rt; hall.take() == Some(Order::Close));
+    assert!(rt; client.post(GO) == Err(PostFault::Closed));
+    assert!(rt; client.close() == Err(PostFault::Closed));
+    assert!(rt; client.sent() == 2);
+    assert!(rt; hall.take() == None);
     Ok(())
 }
 
 #[test]
 fn full_outlet(rt: HostRuntime) -> Result<(), Fail> {
     let (mut client, mut hall) = lane_pair(rt.alloc(), 0, limits(1, 2))?;
-    assert_eq!(rt; hall.give(arrived(1, 1)), Ok(()));
-    assert_eq!(rt; hall.give(arrived(2, 2)), Ok(()));
-    assert_eq!(rt; hall.give(arrived(3, 3)), Err(arrived(3, 3)));
-    assert_eq!(rt; client.collect(), Some(arrived(1, 1)));
-    assert_eq!(rt; hall.give(arrived(3, 3)), Ok(()));
-    assert_eq!(rt; client.collect(), Some(arrived(2, 2)));
-    assert_eq!(rt; client.collect(), Some(arrived(3, 3)));
-    assert_eq!(rt; client.collect(), None);
+    assert!(rt; hall.give(arrived(1, 1)) == Ok(()));
+    assert!(rt; hall.give(arrived(2, 2)) == Ok(()));
+    assert!(rt; hall.give(arrived(3, 3)) == Err(arrived(3, 3)));
+    assert!(rt; client.collect() == Some(arrived(1, 1)));
+    assert!(rt; hall.give(arrived(3, 3)) == Ok(()));
+    assert!(rt; client.collect() == Some(arrived(2, 2)));
+    assert!(rt; client.collect() == Some(arrived(3, 3)));
+    assert!(rt; client.collect() == None);
     Ok(())
 }
 
 #[test]
 fn peek_shows_the_next(rt: HostRuntime) -> Result<(), Fail> {
     let (mut client, mut hall) = lane_pair(rt.alloc(), 0, limits(4, 4))?;
-    assert_eq!(rt; hall.peek(), None);
-    assert_eq!(rt; client.post(GO), Ok(1));
-    assert_eq!(rt; client.close(), Ok(2));
-    assert_eq!(rt; hall.peek(), Some(GO));
-    assert_eq!(rt; hall.take(), Some(GO));
-    assert_eq!(rt; hall.peek(), Some(Order::Close));
-    assert_eq!(rt; hall.peek(), Some(Order::Close));
+    assert!(rt; hall.peek() == None);
+    assert!(rt; client.post(GO) == Ok(1));
+    assert!(rt; client.close() == Ok(2));
+    assert!(rt; hall.peek() == Some(GO));
+    assert!(rt; hall.take() == Some(GO));
+    assert!(rt; hall.peek() == Some(Order::Close));
+    assert!(rt; hall.peek() == Some(Order::Close));
     Ok(())
 }
 
 #[test]
 fn both_ends_in_one_thread(rt: HostRuntime) -> Result<(), Fail> {
     let (mut client, mut hall) = lane_pair(rt.alloc(), 0, limits(4, 4))?;
-    assert_eq!(rt; client.post(GO), Ok(1));
-    assert_eq!(rt; client.close(), Ok(2));
-    assert_eq!(rt; hall.give(arrived(1, 1)), Ok(()));
+    assert!(rt; client.post(GO) == Ok(1));
+    assert!(rt; client.close() == Ok(2));
+    assert!(rt; hall.give(arrived(1, 1)) == Ok(()));
     hall.beside(&mut client);
-    assert_eq!(rt; hall.known(), 2);
-    assert_eq!(rt; hall.peek_known(), GO);
-    assert_eq!(rt; hall.take_known(), GO);
-    assert_eq!(rt; hall.known(), 1);
-    assert_eq!(rt; client.known(), 1);
-    assert_eq!(rt; client.collect_known(), arrived(1, 1));
+    assert!(rt; hall.known() == 2);
+    assert!(rt; hall.peek_known() == GO);
+    assert!(rt; hall.take_known() == GO);
+    assert!(rt; hall.known() == 1);
+    assert!(rt; client.known() == 1);
+    assert!(rt; client.collect_known() == arrived(1, 1));
     Ok(())
 }
 
@@ -199,14 +199,14 @@ fn refused_growths(rt: HostRuntime) -> Result<(), Fail> {
     for units in 0..64 {
         let heap = LocalHeap::new(rt.alloc(), 16 * units)?;
         let Ok((mut client, mut hall)) = lane_pair(&heap, 0, limits(2, 2)) else {
-            assert_eq!(rt; heap.used(), 0);
+            assert!(rt; heap.used() == 0);
             refused = units;
             continue;
         };
-        assert_eq!(rt; client.post(GO), Ok(1));
-        assert_eq!(rt; hall.take(), Some(GO));
+        assert!(rt; client.post(GO) == Ok(1));
+        assert!(rt; hall.take() == Some(GO));
     }
     // Two rings of two slots take 896 bytes.
-    assert_eq!(rt; refused, 55);
+    assert!(rt; refused == 55);
     Ok(())
 }

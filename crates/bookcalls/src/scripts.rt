@@ -9,13 +9,10 @@ fn script_of_each_line(rt: HostRuntime) -> Result<(), Fail> {
     let text =
         b"# a comment\n\n robots 0 2\t\nclients 2\r\nlane 3\npost 1 go 0 7\ntake 1\ntick 2\ngive 1\ncollect 1";
     let script = read_script(rt.alloc(), text).ok().ok_or("a script")?;
-    assert_eq!(rt; script.starts.as_slice(), [0, 2].as_slice());
-    assert_eq!(rt;
-        (script.clients, script.limits.lane, script.limits.queue),
-        (2, 3, 16)
-    );
-    assert_eq!(rt; script.lines.as_slice(), [6, 7, 8, 8, 9, 10].as_slice());
-    assert_eq!(rt; script.events.len(), 6);
+    assert!(rt; script.starts.as_slice() == [0, 2].as_slice());
+    assert!(rt; (script.clients, script.limits.lane, script.limits.queue) == (2, 3, 16));
+    assert!(rt; script.lines.as_slice() == [6, 7, 8, 8, 9, 10].as_slice());
+    assert!(rt; script.events.len() == 6);
     assert!(rt; script.events[1] == Event::Take(1));
     Ok(())
 }
@@ -25,7 +22,7 @@ fn script_of_closing_lines(rt: HostRuntime) -> Result<(), Fail> {
     let text = b"ties south\nrobots 0\npost 1 close\nshut 3\n";
     let script = read_script(rt.alloc(), text).ok().ok_or("a script")?;
     assert!(rt; script.south);
-    assert_eq!(rt; script.events.len(), 2);
+    assert!(rt; script.events.len() == 2);
     assert!(rt; script.events[0] == Event::Post(1, Order::Close));
     assert!(rt; script.events[1] == Event::Shut(3));
     Ok(())
@@ -44,46 +41,31 @@ fn refused_at(rt: &HostRuntime, text: &[u8]) -> Option<u32> {
 
 #[test]
 fn script_faults(rt: HostRuntime) {
-    assert_eq!(rt; refused_at(&rt, b""), Some(1));
-    assert_eq!(rt; refused_at(&rt, b"robots 0\ntick 0\n"), Some(2));
-    assert_eq!(rt; refused_at(&rt, b"robots 0\ntick 1000001\n"), Some(2));
-    assert_eq!(rt;
-        refused_at(&rt, b"robots 0\nlife 111111111111111111111\n"),
-        Some(2)
-    );
-    assert_eq!(rt;
-        refused_at(&rt, b"robots 0\nlife 18446744073709551616\n"),
-        Some(2)
-    );
-    assert_eq!(rt; refused_at(&rt, b"tick\nrobots 0\n"), Some(2));
-    assert_eq!(rt;
-        refused_at(&rt, b"robots 1 2 3 4 5 6 7 8 9 10 11 12 13 14 15 16 17\n"),
-        Some(1)
-    );
-    assert_eq!(rt; refused_at(&rt, b"robots 0\nrobots 1\n"), Some(2));
-    assert_eq!(rt; refused_at(&rt, b"robots 4294967296\n"), Some(1));
-    assert_eq!(rt; refused_at(&rt, b"robots 0\n#\nwait\n"), Some(3));
+    assert!(rt; refused_at(&rt, b"") == Some(1));
+    assert!(rt; refused_at(&rt, b"robots 0\ntick 0\n") == Some(2));
+    assert!(rt; refused_at(&rt, b"robots 0\ntick 1000001\n") == Some(2));
+    assert!(rt; refused_at(&rt, b"robots 0\nlife 111111111111111111111\n") == Some(2));
+    assert!(rt; refused_at(&rt, b"robots 0\nlife 18446744073709551616\n") == Some(2));
+    assert!(rt; refused_at(&rt, b"tick\nrobots 0\n") == Some(2));
+    assert!(rt; refused_at(&rt, b"robots 1 2 3 4 5 6 7 8 9 10 11 12 13 14 15 16 17\n") == Some(1));
+    assert!(rt; refused_at(&rt, b"robots 0\nrobots 1\n") == Some(2));
+    assert!(rt; refused_at(&rt, b"robots 4294967296\n") == Some(1));
+    assert!(rt; refused_at(&rt, b"robots 0\n#\nwait\n") == Some(3));
 }
 
 #[test]
 fn faults_of_closing_lines(rt: HostRuntime) {
-    assert_eq!(rt; refused_at(&rt, b"ties south\nties plain\n"), Some(2));
-    assert_eq!(rt; refused_at(&rt, b"ties east\nrobots 0\n"), Some(1));
-    assert_eq!(rt; refused_at(&rt, b"robots 0\npost 0 close 0\n"), Some(2));
-    assert_eq!(rt; refused_at(&rt, b"robots 0\npost 0 withdraw\n"), Some(2));
-    assert_eq!(rt;
-        refused_at(&rt, b"robots 0\npost 0 withdraw 1 2\n"),
-        Some(2)
-    );
-    assert_eq!(rt;
-        refused_at(&rt, b"robots 0\npost 0 withdraw 18446744073709551615\n"),
-        None
-    );
-    assert_eq!(rt; refused_at(&rt, b"robots 0\nturns 1000000\n"), None);
-    assert_eq!(rt; refused_at(&rt, b"robots 0\nturns 0\n"), Some(2));
-    assert_eq!(rt; refused_at(&rt, b"robots 0\nturns 1000001\n"), Some(2));
-    assert_eq!(rt; refused_at(&rt, b"turns 1\nturns 1\n"), Some(2));
-    assert_eq!(rt; refused_at(&rt, b"robots 0\nshut\n"), Some(2));
+    assert!(rt; refused_at(&rt, b"ties south\nties plain\n") == Some(2));
+    assert!(rt; refused_at(&rt, b"ties east\nrobots 0\n") == Some(1));
+    assert!(rt; refused_at(&rt, b"robots 0\npost 0 close 0\n") == Some(2));
+    assert!(rt; refused_at(&rt, b"robots 0\npost 0 withdraw\n") == Some(2));
+    assert!(rt; refused_at(&rt, b"robots 0\npost 0 withdraw 1 2\n") == Some(2));
+    assert!(rt; refused_at(&rt, b"robots 0\npost 0 withdraw 18446744073709551615\n") == None);
+    assert!(rt; refused_at(&rt, b"robots 0\nturns 1000000\n") == None);
+    assert!(rt; refused_at(&rt, b"robots 0\nturns 0\n") == Some(2));
+    assert!(rt; refused_at(&rt, b"robots 0\nturns 1000001\n") == Some(2));
+    assert!(rt; refused_at(&rt, b"turns 1\nturns 1\n") == Some(2));
+    assert!(rt; refused_at(&rt, b"robots 0\nshut\n") == Some(2));
 }
 
 #[test]

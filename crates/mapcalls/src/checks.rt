@@ -92,7 +92,7 @@ fn refused_growths(rt: HostRuntime) -> Result<(), Fail> {
             break;
         }
     }
-    assert_eq!(rt; unrefused, Some(1));
+    assert!(rt; unrefused == Some(1));
     // What comes before the conflicts is named without memory.
     let heap = Refusing::after(rt.alloc(), 0);
     assert!(rt; check_step(&heap, &grid, &from, &[1, 3, 1, 0]) == Err(StepFault::Length));

@@ -42,7 +42,7 @@ fn ring_distances(rt: HostRuntime) -> Result<(), Fail> {
     let first = store.hold(&grid, 0)?;
     assert!(rt; store.can_hold(0));
     let second = store.hold(&grid, 0)?;
-    assert_eq!(rt; first, second);
+    assert!(rt; first == second);
     assert!(rt; store.is_held(first));
     for (cell, away) in AROUND.iter().enumerate() {
         if cell < 9 {

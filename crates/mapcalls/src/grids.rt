@@ -37,35 +37,32 @@ fn blank_behind_a_row(rt: HostRuntime) -> Result<(), Fail> {
         b"type octile\r\nwidth 2\r\nheight 1\r\nmap\r\n.G ",
     )?;
     let grid = grid_of_text(map)?.ok_or("a map")?;
-    assert_eq!(rt; (grid.height(), grid.width()), (1, 2));
-    assert_eq!(rt; (grid.floor_count(), grid.edge_count()), (2, 1));
+    assert!(rt; (grid.height(), grid.width()) == (1, 2));
+    assert!(rt; (grid.floor_count(), grid.edge_count()) == (2, 1));
     Ok(())
 }
 
 #[test]
 fn ring_of_eight(rt: HostRuntime) -> Result<(), Fail> {
     let grid = grid_of(rt.alloc(), 3, 3, b"....@....")?.ok_or("a map")?;
-    assert_eq!(rt;
-        (grid.floor_count(), grid.edge_count(), grid.cell_count()),
-        (8, 8, 9)
-    );
+    assert!(rt; (grid.floor_count(), grid.edge_count(), grid.cell_count()) == (8, 8, 9));
     assert!(rt; grid.is_floor(3) && !grid.is_floor(4) && !grid.is_floor(9));
-    assert_eq!(rt; grid.neighbour(0, Dir::North), None);
-    assert_eq!(rt; grid.neighbour(0, Dir::East), Some(1));
-    assert_eq!(rt; grid.neighbour(0, Dir::South), Some(3));
-    assert_eq!(rt; grid.neighbour(0, Dir::West), None);
-    assert_eq!(rt; grid.neighbour(2, Dir::East), None, "the row ends");
-    assert_eq!(rt; grid.neighbour(3, Dir::West), None, "the row begins");
-    assert_eq!(rt; grid.neighbour(1, Dir::South), None, "a wall");
-    assert_eq!(rt; grid.neighbour(4, Dir::South), None, "from a wall");
-    assert_eq!(rt; grid.neighbour(8, Dir::North), Some(5));
+    assert!(rt; grid.neighbour(0, Dir::North) == None);
+    assert!(rt; grid.neighbour(0, Dir::East) == Some(1));
+    assert!(rt; grid.neighbour(0, Dir::South) == Some(3));
+    assert!(rt; grid.neighbour(0, Dir::West) == None);
+    assert!(rt; grid.neighbour(2, Dir::East) == None, "the row ends");
+    assert!(rt; grid.neighbour(3, Dir::West) == None, "the row begins");
+    assert!(rt; grid.neighbour(1, Dir::South) == None, "a wall");
+    assert!(rt; grid.neighbour(4, Dir::South) == None, "from a wall");
+    assert!(rt; grid.neighbour(8, Dir::North) == Some(5));
     Ok(())
 }
 
 #[test]
 fn water_parts_the_floor(rt: HostRuntime) -> Result<(), Fail> {
     let grid = grid_of(rt.alloc(), 1, 5, b".W.@.")?.ok_or("a map")?;
-    assert_eq!(rt; (grid.floor_count(), grid.edge_count()), (3, 0));
+    assert!(rt; (grid.floor_count(), grid.edge_count()) == (3, 0));
     let ring = grid_of(rt.alloc(), 3, 3, b"....@....")?.ok_or("a map")?;
     if ring.is_floor(0) && ring.is_floor(8) {
         assert!(rt; ring.same_part(0, 8));
@@ -79,10 +76,7 @@ fn water_parts_the_floor(rt: HostRuntime) -> Result<(), Fail> {
 #[test]
 fn map_without_cells(rt: HostRuntime) -> Result<(), Fail> {
     let grid = grid_of(rt.alloc(), 0, 7, b"")?.ok_or("a map")?;
-    assert_eq!(rt;
-        (grid.floor_count(), grid.edge_count(), grid.cell_count()),
-        (0, 0, 0)
-    );
+    assert!(rt; (grid.floor_count(), grid.edge_count(), grid.cell_count()) == (0, 0, 0));
     assert!(rt; !grid.is_floor(0));
     Ok(())
 }
@@ -91,11 +85,11 @@ fn map_without_cells(rt: HostRuntime) -> Result<(), Fail> {
 fn padded_form(rt: HostRuntime) -> Result<(), Fail> {
     let grid = grid_of(rt.alloc(), 1, 3, b".@.")?.ok_or("a map")?;
     let (stride, places) = grid.padded();
-    assert_eq!(rt; stride, 20);
-    assert_eq!(rt; places.len(), 60);
-    assert_eq!(rt; places.iter().filter(|place| **place == FAR).count(), 2);
-    assert_eq!(rt; places.iter().filter(|place| **place == WALL).count(), 58);
-    assert_eq!(rt; place_of(3, 20, 2), 22);
+    assert!(rt; stride == 20);
+    assert!(rt; places.len() == 60);
+    assert!(rt; places.iter().filter(|place| **place == FAR).count() == 2);
+    assert!(rt; places.iter().filter(|place| **place == WALL).count() == 58);
+    assert!(rt; place_of(3, 20, 2) == 22);
     Ok(())
 }
 
@@ -152,10 +146,7 @@ fn ends_meet(grid: &Grid) -> bool {
 #[test]
 fn large_open_map(rt: HostRuntime) -> Result<(), Fail> {
     let grid = grid_of_text(large(rt.alloc(), |_row, _col| true)?)?.ok_or("a map")?;
-    assert_eq!(rt;
-        (grid.floor_count(), grid.edge_count()),
-        (1_048_576, 2_095_104)
-    );
+    assert!(rt; (grid.floor_count(), grid.edge_count()) == (1_048_576, 2_095_104));
     assert!(rt; ends_meet(&grid));
     Ok(())
 }
@@ -166,7 +157,7 @@ fn large_border(rt: HostRuntime) -> Result<(), Fail> {
         row == 0 || row == 1023 || col == 0 || col == 1023
     })?)?
     .ok_or("a map")?;
-    assert_eq!(rt; (grid.floor_count(), grid.edge_count()), (4_092, 4_092));
+    assert!(rt; (grid.floor_count(), grid.edge_count()) == (4_092, 4_092));
     assert!(rt; ends_meet(&grid));
     Ok(())
 }
@@ -177,7 +168,7 @@ fn large_border_blocked_once(rt: HostRuntime) -> Result<(), Fail> {
         (row == 0 || row == 1023 || col == 0 || col == 1023) && (row != 0 || col != 5)
     })?)?
     .ok_or("a map")?;
-    assert_eq!(rt; (grid.floor_count(), grid.edge_count()), (4_091, 4_090));
+    assert!(rt; (grid.floor_count(), grid.edge_count()) == (4_091, 4_090));
     assert!(rt; ends_meet(&grid));
     Ok(())
 }
@@ -189,8 +180,8 @@ fn large_snake(rt: HostRuntime) -> Result<(), Fail> {
         row % 2 == 0 || (row % 4 == 1 && col == 1023) || (row % 4 == 3 && col == 0)
     })?)?
     .ok_or("a map")?;
-    assert_eq!(rt; grid.floor_count(), 512 * 1024 + 512);
-    assert_eq!(rt; grid.edge_count(), grid.floor_count() - 1);
+    assert!(rt; grid.floor_count() == 512 * 1024 + 512);
+    assert!(rt; grid.edge_count() == grid.floor_count() - 1);
     assert!(rt; ends_meet(&grid));
     Ok(())
 }
@@ -199,10 +190,7 @@ fn large_snake(rt: HostRuntime) -> Result<(), Fail> {
 fn large_stripes(rt: HostRuntime) -> Result<(), Fail> {
     // Each other row is floor, and no two are joined.
     let grid = grid_of_text(large(rt.alloc(), |row, _col| row % 2 == 0)?)?.ok_or("a map")?;
-    assert_eq!(rt;
-        (grid.floor_count(), grid.edge_count()),
-        (512 * 1024, 512 * 1023)
-    );
+    assert!(rt; (grid.floor_count(), grid.edge_count()) == (512 * 1024, 512 * 1023));
     assert!(rt; !ends_meet(&grid));
     Ok(())
 }
@@ -223,12 +211,12 @@ fn refused_growths(rt: HostRuntime) -> Result<(), Fail> {
             continue;
         }
         if let Ok(grid) = Grid::new(map) {
-            assert_eq!(rt; (grid.floor_count(), grid.edge_count()), (3, 2));
+            assert!(rt; (grid.floor_count(), grid.edge_count()) == (3, 2));
             unrefused = Some(before);
             break;
         }
     }
     // A grid takes memory for its padded form, its ways, its labels and its search.
-    assert_eq!(rt; unrefused, Some(5));
+    assert!(rt; unrefused == Some(5));
     Ok(())
 }

@@ -10,8 +10,8 @@ use std::test::Fail;
 fn blank_behind_a_row(rt: HostRuntime) -> Result<(), Fail> {
     let text = b"type octile\r\nwidth 2\r\nheight 1\r\nmap\r\n.G ";
     let map = read_map(rt.alloc(), text)?;
-    assert_eq!(rt; (map.height, map.width), (1, 2));
-    assert_eq!(rt; map.cells.as_slice(), b".G".as_slice());
+    assert!(rt; (map.height, map.width) == (1, 2));
+    assert!(rt; map.cells.as_slice() == b".G".as_slice());
     Ok(())
 }
 
@@ -114,13 +114,13 @@ fn fault_of_front(kept: usize) -> Option<MapFault> {
 
 #[test]
 fn truncated_map(rt: HostRuntime) {
-    assert_eq!(rt; WHOLE.len(), 37);
+    assert!(rt; WHOLE.len() == 37);
     for kept in 0..=WHOLE.len() {
         let fault = match read_map(rt.alloc(), &WHOLE[..kept]) {
             Ok(_) => None,
             Err(fault) => Some(fault),
         };
-        assert_eq!(rt; fault, fault_of_front(kept), "{kept} bytes");
+        assert!(rt; fault == fault_of_front(kept), "{kept} bytes");
     }
 }
 
@@ -138,13 +138,10 @@ fn open_floor(alloc: Global, height: u64, width: u64) -> Result<String, AllocErr
 
 #[test]
 fn side_limits(rt: HostRuntime) -> Result<(), Fail> {
-    assert_eq!(rt; MOST_SIDE, 1024);
+    assert!(rt; MOST_SIDE == 1024);
     let text = open_floor(rt.alloc(), 1024, 1024)?;
     let map = read_map(rt.alloc(), text.as_bytes())?;
-    assert_eq!(rt;
-        (map.height, map.width, map.cells.len()),
-        (1024, 1024, 1_048_576)
-    );
+    assert!(rt; (map.height, map.width, map.cells.len()) == (1024, 1024, 1_048_576));
     for (height, width) in [(1025, 1), (1, 1025), (0, 1), (1, 0)] {
         let text = open_floor(rt.alloc(), height, width)?;
         let read = read_map(rt.alloc(), text.as_bytes());
@@ -155,15 +152,12 @@ fn side_limits(rt: HostRuntime) -> Result<(), Fail> {
 
 #[test]
 fn single_carriage_return(rt: HostRuntime) -> Result<(), Fail> {
-    assert_eq!(rt;
-        read_map(rt.alloc(), b"\r").err(),
-        Some(MapFault::Header(1))
-    );
+    assert!(rt; read_map(rt.alloc(), b"\r").err() == Some(MapFault::Header(1)));
     let (line, rest) = first_line(b"\r").ok_or("one line")?;
     assert!(rt; line.is_empty() && rest.is_empty());
     // Behind the rows it is one blank line.
     let map = read_map(rt.alloc(), b"type octile\nheight 1\nwidth 1\nmap\n.\r\n\r")?;
-    assert_eq!(rt; map.cells.as_slice(), b".".as_slice());
+    assert!(rt; map.cells.as_slice() == b".".as_slice());
     Ok(())
 }
 
@@ -172,22 +166,22 @@ fn tabs_and_leading_zeros(rt: HostRuntime) -> Result<(), Fail> {
     let text =
         b"type\t \xff\x00  \t\nheight\t\t002 \nwidth 0000000000000000000000003\t\nmap \t\nG.S\t\n@TW \n\n \t";
     let map = read_map(rt.alloc(), text)?;
-    assert_eq!(rt; (map.height, map.width), (2, 3));
-    assert_eq!(rt; map.cells.as_slice(), b"G.S@TW".as_slice());
+    assert!(rt; (map.height, map.width) == (2, 3));
+    assert!(rt; map.cells.as_slice() == b"G.S@TW".as_slice());
     Ok(())
 }
 
 #[test]
 fn lines_words_and_numbers(rt: HostRuntime) -> Result<(), Fail> {
     let (line, rest) = first_line(b" ab\tc \r\nd").ok_or("a line")?;
-    assert_eq!(rt; (line, rest), (b" ab\tc ".as_slice(), b"d".as_slice()));
-    assert_eq!(rt; trimmed_line(line), b" ab\tc".as_slice());
+    assert!(rt; (line, rest) == (b" ab\tc ".as_slice(), b"d".as_slice()));
+    assert!(rt; trimmed_line(line) == b" ab\tc".as_slice());
     let (word, rest) = first_word(line).ok_or("a word")?;
-    assert_eq!(rt; (word, rest), (b"ab".as_slice(), b"c ".as_slice()));
+    assert!(rt; (word, rest) == (b"ab".as_slice(), b"c ".as_slice()));
     assert!(rt; first_word(b" \t").is_none());
-    assert_eq!(rt; number_up_to(b"0017", 1025), Some(17));
-    assert_eq!(rt; number_up_to(b"4294967297", 1025), Some(1025));
-    assert_eq!(rt; number_up_to(b"1-7", 1025), None);
+    assert!(rt; number_up_to(b"0017", 1025) == Some(17));
+    assert!(rt; number_up_to(b"4294967297", 1025) == Some(1025));
+    assert!(rt; number_up_to(b"1-7", 1025) == None);
     assert!(rt; is_blank_byte(b'\t') && !is_blank_byte(b'\r'));
     Ok(())
 }
@@ -206,16 +200,13 @@ fn refused_growths(rt: HostRuntime) -> Result<(), Fail> {
             break;
         }
         let map = map?;
-        assert_eq!(rt; (map.height, map.width), (1, 3));
-        assert_eq!(rt; map.cells.as_slice(), b"...".as_slice());
+        assert!(rt; (map.height, map.width) == (1, 3));
+        assert!(rt; map.cells.as_slice() == b"...".as_slice());
     }
     // A read grows once.
-    assert_eq!(rt; unrefused, Some(1));
+    assert!(rt; unrefused == Some(1));
     // A fault of the head is named without memory.
     let heap = Refusing::after(rt.alloc(), 0);
-    assert_eq!(rt;
-        read_map(&heap, b"type octile\n").err(),
-        Some(MapFault::Header(2))
-    );
+    assert!(rt; read_map(&heap, b"type octile\n").err() == Some(MapFault::Header(2)));
     Ok(())
 }

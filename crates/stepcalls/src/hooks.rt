@@ -42,14 +42,14 @@ fn rank_is_the_closure_s_answer_of_one_call(rt: HostRuntime) -> Result<(), Alloc
         dir: Dir::South,
         tick: 1,
     };
-    assert_eq!(rt; hook.rank(view), 0);
+    assert!(rt; hook.rank(view) == 0);
     let east = TieView {
         neighbour: 5,
         dir: Dir::East,
         ..view
     };
-    assert_eq!(rt; hook.rank(east), 4);
-    assert_eq!(rt; calls.load(Ordering::SeqCst), 2);
+    assert!(rt; hook.rank(east) == 4);
+    assert!(rt; calls.load(Ordering::SeqCst) == 2);
     Ok(())
 }
 
@@ -73,8 +73,8 @@ fn stamp_is_the_closure_s_answer_of_one_call(rt: HostRuntime) -> Result<(), Allo
         cell: 1,
         tick: 2026,
     };
-    assert_eq!(rt; hook.stamp(view), 26);
-    assert_eq!(rt; calls.load(Ordering::SeqCst), 1);
+    assert!(rt; hook.stamp(view) == 26);
+    assert!(rt; calls.load(Ordering::SeqCst) == 1);
     Ok(())
 }
 
@@ -96,8 +96,8 @@ fn farewell_is_the_closure_s_answer_of_its_one_call(rt: HostRuntime) -> Result<(
         cell: 7,
         tick: 3,
     };
-    assert_eq!(rt; farewell.call(view), 7);
-    assert_eq!(rt; calls.load(Ordering::SeqCst), 1);
+    assert!(rt; farewell.call(view) == 7);
+    assert!(rt; calls.load(Ordering::SeqCst) == 1);
     Ok(())
 }
 
@@ -115,10 +115,7 @@ fn cut_keeps_the_first_hooks(rt: HostRuntime) -> Result<(), AllocError> {
     }
     hooks.ties.truncate(1);
     let kept = hooks.cut(2);
-    assert_eq!(rt;
-        (kept.ties.len(), kept.arrivals.len(), kept.farewells.len()),
-        (1, 2, 2)
-    );
+    assert!(rt; (kept.ties.len(), kept.arrivals.len(), kept.farewells.len()) == (1, 2, 2));
     assert!(rt; kept.arrivals.iter().all(|hook| hook.law().high < 9));
     Ok(())
 }

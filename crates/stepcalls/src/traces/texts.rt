@@ -98,18 +98,18 @@ fn fault_of(alloc: Global, bytes: &[u8]) -> Option<TraceFault> {
 #[test]
 fn one_cell_trace(rt: HostRuntime) -> Result<(), Fail> {
     let chapter = one_cell(rt.alloc())?;
-    assert_eq!(rt; write_trace(rt.alloc(), &chapter)?.as_str(), ONE_CELL);
+    assert!(rt; write_trace(rt.alloc(), &chapter)?.as_str() == ONE_CELL);
     let again = write_and_read(rt.alloc(), &chapter)?;
-    assert_eq!(rt; write_trace(rt.alloc(), &again)?.as_str(), ONE_CELL);
+    assert!(rt; write_trace(rt.alloc(), &again)?.as_str() == ONE_CELL);
     // A text of version 1 tells the same chapter.
-    assert_eq!(rt; rewritten(rt.alloc(), ONE_CELL_FIRST)?.as_str(), ONE_CELL);
+    assert!(rt; rewritten(rt.alloc(), ONE_CELL_FIRST)?.as_str() == ONE_CELL);
     Ok(())
 }
 
 #[test]
 fn texts_read_back(rt: HostRuntime) -> Result<(), Fail> {
     for text in [ONE_CELL, SECOND_CHAPTER, WITHDRAWALS, SHUTS] {
-        assert_eq!(rt; rewritten(rt.alloc(), text)?.as_str(), text);
+        assert!(rt; rewritten(rt.alloc(), text)?.as_str() == text);
     }
     Ok(())
 }
@@ -117,7 +117,7 @@ fn texts_read_back(rt: HostRuntime) -> Result<(), Fail> {
 /// White space and the order of keys are free.
 #[test]
 fn loose_text(rt: HostRuntime) -> Result<(), Fail> {
-    assert_eq!(rt; rewritten(rt.alloc(), LOOSE)?.as_str(), ONE_CELL);
+    assert!(rt; rewritten(rt.alloc(), LOOSE)?.as_str() == ONE_CELL);
     Ok(())
 }
 
