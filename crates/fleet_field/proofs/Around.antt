@@ -9,10 +9,17 @@ use Rattle.fleet_grid.specs.declared.dir.Dir.TheVariants.{North, East, South, We
 use Rattle.fleet_grid.specs.Direction.{dir_number}
 use Rattle.fleet_grid.specs.Padded.{IsOpen}
 use Rattle.fleet_field.specs.inside.Search.{IsBeside, Search, Keeps, Extends}
-use Rattle.fleet_field.specs.inside.Bytes.{toward, back, IsLook, IsFound, Marks, IsLeft, Goes}
+use Rattle.fleet_field.specs.inside.Bytes.{toward, back, AreFurther, IsLook, IsFound, Marks, IsLeft, Goes}
 use Rattle.fleet_field.proofs.Spread.{kept, keeps_same, keeps_set, was_open, stays_open, extends_same, visited}
 use Rattle.fleet_field.proofs.Halves.{there_and_back}
 use Rattle.fleet_field.proofs.Looks.{left_on, grown, marked, marks_on}
+
+-- a way that does not lead one further is shut, or leads nearer
+not_further : (byte further : ℕ) (dir : Dir) → AreFurther byte further → bit_at further (dir_number dir) ≢ 1 → (bit_at byte (dir_number dir + 4) ≢ 1) ⊎ (bit_at byte (dir_number dir) ≡ 1)
+not_further byte further dir f shut = elim (cases_eq (bit_at byte (dir_number dir)) 1) [
+  | inl near ↦ inr near
+  | inr other ↦ inl (λ free. shut ((f dir).1 (free, other)))
+]
 
 -- the place `at` of the level, and what was known when it was taken
 module _ (shade : ℕ → ℕ) (stride level at : ℕ) (old from ways0 : List ℕ) (small : level + 1 < 4294967294) (here : slice_index old at ≡ level) (inside : at < length old)
@@ -122,26 +129,26 @@ module _ (shade : ℕ → ℕ) (stride level at : ℕ) (old from ways0 : List �
           let r = on dist next x (keeps_same dist (level + 1)) (λ v ne. refl) (next_level reached) in
           (dist, r.0, r.1, r.2)
 
-    pub looked : (news next : List ℕ) → IsLook ways front (slice_index ways0 at) (dir_number dir) (2 ^ dir_number (back dir)) (toward stride dir at) news next
+    pub looked : (further : ℕ) → AreFurther (slice_index ways0 at) further → (news next : List ℕ) → IsLook ways front further (dir_number dir) (2 ^ dir_number (back dir)) (toward stride dir at) news next
         → (new : List ℕ) × Goes shade stride level old from ways0 new next news × IsLeft stride level at new news dir × ((d : Dir) → IsLeft stride level at dist ways d → IsLeft stride level at new news d)
-    looked news next (inl p) =
+    looked further f news next (inl p) =
         subst (λ (w : List ℕ). (new : List ℕ) × Goes shade stride level old from ways0 new next w × IsLeft stride level at new w dir × ((d : Dir) → IsLeft stride level at dist ways d → IsLeft stride level at new w d)) (sym p.1)
         (subst (λ (n : List ℕ). (new : List ℕ) × Goes shade stride level old from ways0 new n ways × IsLeft stride level at new ways dir × ((d : Dir) → IsLeft stride level at dist ways d → IsLeft stride level at new ways d)) (sym p.2)
-        (dist, g, skipped p.0, λ d left. left))
-    looked news next (inr p) =
-        subst (λ (w : List ℕ). (new : List ℕ) × Goes shade stride level old from ways0 new next w × IsLeft stride level at new w dir × ((d : Dir) → IsLeft stride level at dist ways d → IsLeft stride level at new w d)) (sym p.2)
-        (found p.0 p.1 next p.3)
+        (dist, g, skipped (not_further (slice_index ways0 at) further dir f p.0), λ d left. left))
+    looked further f news next (inr p) =
+        subst (λ (w : List ℕ). (new : List ℕ) × Goes shade stride level old from ways0 new next w × IsLeft stride level at new w dir × ((d : Dir) → IsLeft stride level at dist ways d → IsLeft stride level at new w d)) (sym p.1)
+        (let way = (f dir).0 p.0 in found way.0 way.1 next p.2)
 
   -- all four
-  module _ (s : Search old stride level (level + 1) from) (step : 0 < stride) (above : stride ≤ at) (below : at + stride < length old) (ways1 next1 ways2 next2 ways3 next3 ways4 next4 : List ℕ)
-      (north : IsLook ways0 from (slice_index ways0 at) 0 4 (at - stride) ways1 next1) (east : IsLook ways1 next1 (slice_index ways0 at) 1 8 (at + 1) ways2 next2)
-      (south : IsLook ways2 next2 (slice_index ways0 at) 2 1 (at + stride) ways3 next3) (west : IsLook ways3 next3 (slice_index ways0 at) 3 2 (at - 1) ways4 next4) where
+  module _ (s : Search old stride level (level + 1) from) (step : 0 < stride) (above : stride ≤ at) (below : at + stride < length old) (further : ℕ) (f : AreFurther (slice_index ways0 at) further)
+      (ways1 next1 ways2 next2 ways3 next3 ways4 next4 : List ℕ) (north : IsLook ways0 from further 0 4 (at - stride) ways1 next1) (east : IsLook ways1 next1 further 1 8 (at + 1) ways2 next2)
+      (south : IsLook ways2 next2 further 2 1 (at + stride) ways3 next3) (west : IsLook ways3 next3 further 3 2 (at - 1) ways4 next4) where
     pub left_around : (new : List ℕ) × Goes shade stride level old from ways0 new next4 ways4 × ((dir : Dir) → IsLeft stride level at new ways4 dir)
     left_around =
-        let a = looked North old from ways0 (begun s) (omega (arith, below)) (inr (inl (omega (arith, above)))) (there_and_back stride at North step above) ways1 next1 north in
-        let b = looked East a.0 next1 ways1 a.1 (omega (arith, below, step)) (inr (inr refl)) (there_and_back stride at East step above) ways2 next2 east in
-        let c = looked South b.0 next2 ways2 b.1 below (inl (inl refl)) (there_and_back stride at South step above) ways3 next3 south in
-        let d = looked West c.0 next3 ways3 c.1 (omega (arith, below)) (inl (inr (omega (arith, above, step)))) (there_and_back stride at West step above) ways4 next4 west in
+        let a = looked North old from ways0 (begun s) (omega (arith, below)) (inr (inl (omega (arith, above)))) (there_and_back stride at North step above) further f ways1 next1 north in
+        let b = looked East a.0 next1 ways1 a.1 (omega (arith, below, step)) (inr (inr refl)) (there_and_back stride at East step above) further f ways2 next2 east in
+        let c = looked South b.0 next2 ways2 b.1 below (inl (inl refl)) (there_and_back stride at South step above) further f ways3 next3 south in
+        let d = looked West c.0 next3 ways3 c.1 (omega (arith, below)) (inl (inr (omega (arith, above, step)))) (there_and_back stride at West step above) further f ways4 next4 west in
         (d.0, d.1, each d.0 (d.3 North (c.3 North (b.3 North a.2))) (d.3 East (c.3 East b.2)) (d.3 South c.2) d.2)
       where
         each : (new : List ℕ) → IsLeft stride level at new ways4 North → IsLeft stride level at new ways4 East → IsLeft stride level at new ways4 South → IsLeft stride level at new ways4 West → (dir : Dir) → IsLeft stride level at new ways4 dir

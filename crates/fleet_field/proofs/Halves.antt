@@ -1,8 +1,9 @@
 -- The bits of a byte's low half.
-use Rattle.std.proofs.Common.{◌≡◌, ◌≢◌, ℕ, ◌*◌, ◌%◌, ◌+◌, ◌<◌, ◌≤◌, ◌^◌, max, min, inl, inr, ◌⊎◌, refl, sym, ap, ◌∙◌, arith}
+use Rattle.std.proofs.Common.{◌≡◌, ◌≢◌, ℕ, ◌*◌, ◌/◌, ◌%◌, ◌+◌, ◌-◌, ◌<◌, ◌≤◌, ◌^◌, ◌↔◌, max, min, inl, inr, ◌⊎◌, refl, sym, ap, ◌∙◌, arith}
 use Rattle.std.specs.Int.{bit_at}
-use Rattle.std.specs.Int.Bits.{bit_or}
+use Rattle.std.specs.Int.Bits.{bit_and, bit_or}
 use Rattle.std.proofs.lemmas.Nat.Bits.{bit_at_and, bit_at_or, bit_at_ones, bit_at-lt, bit_at-pow_same, bit_at-pow_other, bit_at-zero}
+use Rattle.std.proofs.lemmas.Bool.{cases_lt}
 use Rattle.std.proofs.lemmas.Nat.{and_mask}
 use Rattle.fleet_grid.specs.declared.dir.Dir.{Dir}
 use Rattle.fleet_grid.specs.declared.dir.Dir.TheVariants.{North, East, South, West}
@@ -92,3 +93,21 @@ high_bit x West = omega arith
 
 pub low_high : (x : ℕ) → low (high x) ≡ 0
 low_high x = and_mask (x * 16 % 256) 4 ∙ omega arith
+
+-- both halves of a byte at once: what is set in the high half and not in the low one
+further_bit : (x k both a b : ℕ) → both ≡ min a b → a ≡ bit_at x (k + 4) → b ≡ 1 - bit_at x k → (both ≡ 1) ↔ ((bit_at x (k + 4) ≡ 1) × (bit_at x k ≢ 1))
+further_bit x k both a b e high_one low_none =
+    let few = bit_at-lt x k in
+    let few_high = bit_at-lt x (k + 4) in
+    (λ w. (grind (arith, e, w, high_one, low_none, few, few_high), λ z. grind (arith, e, w, high_one, low_none, few, z)), λ p. further p.0 p.1)
+  where
+    further : bit_at x (k + 4) ≡ 1 → bit_at x k ≢ 1 → both ≡ 1
+    further one other =
+        let zero : bit_at x k ≡ 0 = elim (cases_lt (bit_at x k) 1) [ inl less ↦ omega (arith, less) | inr more ↦ absurd (other (omega (arith, more, bit_at-lt x k))) ] in
+        grind (arith, e, high_one, low_none, one, zero)
+
+pub further_bits : (x : ℕ) (dir : Dir) → x < 256 → (bit_at (bit_and (x / 16) (255 - x)) (dir_number dir) ≡ 1) ↔ ((bit_at x (dir_number dir + 4) ≡ 1) × (bit_at x (dir_number dir) ≢ 1))
+further_bits x North small = further_bit x 0 (bit_at (bit_and (x / 16) (255 - x)) 0) (bit_at (x / 16) 0) (bit_at (255 - x) 0) (bit_at_and (x / 16) (255 - x) 0) (omega arith) (omega (arith, small))
+further_bits x East small = further_bit x 1 (bit_at (bit_and (x / 16) (255 - x)) 1) (bit_at (x / 16) 1) (bit_at (255 - x) 1) (bit_at_and (x / 16) (255 - x) 1) (omega arith) (omega (arith, small))
+further_bits x South small = further_bit x 2 (bit_at (bit_and (x / 16) (255 - x)) 2) (bit_at (x / 16) 2) (bit_at (255 - x) 2) (bit_at_and (x / 16) (255 - x) 2) (omega arith) (omega (arith, small))
+further_bits x West small = further_bit x 3 (bit_at (bit_and (x / 16) (255 - x)) 3) (bit_at (x / 16) 3) (bit_at (255 - x) 3) (bit_at_and (x / 16) (255 - x) 3) (omega arith) (omega (arith, small))

@@ -1,85 +1,86 @@
 //! The search, level by level, over a padded list in which walls and distances stand side by side.
 
-ghost use Rattle.std.specs.Prelude.{◌≡◌, ℕ, ◌+◌, ◌<◌, ◌≤◌, [], length, slice_index, OnOk, IfOk};
+ghost use Rattle.std.specs.Prelude.{◌≡◌, ℕ, ◌+◌, ◌*◌, ◌<◌, ◌≤◌, [], length, slice_index, take, IfOk};
 ghost use Rattle.fleet_grid.specs.Padded.{IsOpen};
 ghost use Rattle.fleet_field.specs.inside.Search.{IsVisit, IsLink, IsWalled, Search, Keeps, Extends, far_count, AreLevels, SameWalls};
 
+use crate::fronts::make_room;
 use fleet_grid::FAR;
 use std::alloc::{AllocError, Allocator};
 use std::mem;
 
-/// Marks a place that was not reached, and adds it to the next front.
+/// Marks a place that was not reached, and writes it at the end of the next front, which has so many places.
 #[inline(always)]
-fn visit<A: Allocator + Copy>(
-    dist: &mut [u32],
-    next: &mut Vec<u32, A>,
-    cell: usize,
-    level: u32,
-) -> Result<(), AllocError>
+fn visit(dist: &mut [u32], next: &mut [u32], count: usize, cell: usize, level: u32) -> usize
     requires inside { cell < length dist.old }
     requires small { length dist.old < 1073741824 }
+    requires room { count < length next.old }
     ensures len { length dist.new ≡ length dist.old }
-    ensures ok { OnOk result (IsVisit dist.old next.old.items cell level dist.new next.new.items) }
+    ensures kept { length next.new ≡ length next.old }
+    ensures most { result ≤ count + 1 }
+    ensures visit { IsVisit dist.old (take count next.old) cell level dist.new (take result next.new) }
 {
-    if dist[cell] == FAR {
-        dist[cell] = level;
-        next.push(cell as u32)?;
+    if dist[cell] != FAR {
+        return count;
     }
-    Ok(())
+    dist[cell] = level;
+    next[count] = cell as u32;
+    count + 1
 }
 
 /// Visits the four places beside a place of the front.
 #[inline(always)]
-fn around<A: Allocator + Copy>(
+fn around(
     dist: &mut [u32],
-    next: &mut Vec<u32, A>,
+    next: &mut [u32],
+    count: usize,
     stride: usize,
     cell: usize,
     level: u32,
-) -> Result<(), AllocError>
+) -> usize
     requires size { length dist.old < 1073741824 }
     requires small { level + 1 < 4294967294 }
     requires step { 0 < stride }
     requires inside { (stride ≤ cell) × (cell + stride < length dist.old) }
     requires at { slice_index dist.old cell ≡ level }
-    requires search { Search dist.old stride level (level + 1) next.old.items }
+    requires room { count + 4 ≤ length next.old }
+    requires search { Search dist.old stride level (level + 1) (take count next.old) }
     ensures len { length dist.new ≡ length dist.old }
-    ensures ok { OnOk result (Extends stride level dist.old next.old.items dist.new next.new.items) }
-    ensures reached { OnOk result ((v : ℕ) → IsLink dist.new stride cell v → slice_index dist.new v ≤ level + 1) }
+    ensures kept { length next.new ≡ length next.old }
+    ensures most { result ≤ count + 4 }
+    ensures extends { Extends stride level dist.old (take count next.old) dist.new (take result next.new) }
+    ensures reached { (v : ℕ) → IsLink dist.new stride cell v → slice_index dist.new v ≤ level + 1 }
 {
     let after = level + 1;
-    visit(dist, next, cell - stride, after)?;
-    visit(dist, next, cell + 1, after)?;
-    visit(dist, next, cell + stride, after)?;
-    visit(dist, next, cell - 1, after)?;
-    Ok(())
+    let north = visit(dist, next, count, cell - stride, after);
+    let east = visit(dist, next, north, cell + 1, after);
+    let south = visit(dist, next, east, cell + stride, after);
+    visit(dist, next, south, cell - 1, after)
 }
 
-/// One level: from the places of `now` to those beside them that were not reached before.
-fn spread<A: Allocator + Copy>(
-    dist: &mut [u32],
-    now: &[u32],
-    next: &mut Vec<u32, A>,
-    stride: usize,
-    level: u32,
-) -> Result<(), AllocError>
+/// One level: from the places of `now` to those beside them that were not reached before, and how many these are.
+fn spread(dist: &mut [u32], now: &[u32], next: &mut [u32], stride: usize, level: u32) -> usize
     requires size { length dist.old < 1073741824 }
     requires small { level + 1 < 4294967294 }
     requires step { 0 < stride }
     requires search { Search dist.old stride level level now.now }
-    requires next { next.old.items ≡ [] }
+    requires room { 4 * length now.now ≤ length next.old }
     ensures len { length dist.new ≡ length dist.old }
-    ensures search { OnOk result (Search dist.new stride (level + 1) (level + 1) next.new.items) }
-    ensures keeps { OnOk result (Keeps dist.old dist.new (level + 1)) }
-    ensures count { OnOk result (length next.new.items + far_count dist.new ≡ far_count dist.old) }
+    ensures kept { length next.new ≡ length next.old }
+    ensures most { result ≤ length next.new }
+    ensures search { Search dist.new stride (level + 1) (level + 1) (take result next.new) }
+    ensures keeps { Keeps dist.old dist.new (level + 1) }
+    ensures count { result + far_count dist.new ≡ far_count dist.old }
 {
+    let mut count = 0;
     for cell in now {
-        around(dist, next, stride, *cell as usize, level)?;
+        count = around(dist, next, count, stride, *cell as usize, level);
     }
-    Ok(())
+    count
 }
 
-/// The distances to the goal: a front is left in all directions, and what it reaches is the next front.
+/// The distances to the goal: a front is left in all directions, and what it reaches is the next front. The fronts' room is kept
+/// from level to level.
 pub(crate) fn flood<A: Allocator + Copy>(
     alloc: A,
     blank: &[u32],
@@ -99,11 +100,12 @@ pub(crate) fn flood<A: Allocator + Copy>(
     let mut next = Vec::new(alloc);
     dist[goal as usize] = 0;
     now.push(goal)?;
+    let mut count = 1;
     let mut level = 0u32;
-    while !now.is_empty() {
-        spread(&mut dist, &now, &mut next, stride, level)?;
+    while count > 0 {
+        make_room(&mut next, count)?;
+        count = spread(&mut dist, &now[..count], &mut next, stride, level);
         level += 1;
-        now.clear();
         mem::swap(&mut now, &mut next);
     }
     Ok(dist)

@@ -7,6 +7,7 @@ mod compass;
 mod compasses;
 mod field;
 mod flood;
+mod fronts;
 mod holds;
 mod search;
 mod several;

@@ -2,21 +2,23 @@
 //! those that lead nearer. A way that is open and does not lead nearer leads one further, since no two places side by side
 //! are equally far.
 
-ghost use Rattle.std.specs.Prelude.{◌≡◌, ℕ, ◌+◌, ◌*◌, ◌%◌, ◌^◌, ◌<◌, ◌≤◌, List, length, slice_index, take, OnOk, IfOk};
+ghost use Rattle.std.specs.Prelude.{◌≡◌, ℕ, ◌+◌, ◌*◌, ◌%◌, ◌^◌, ◌<◌, ◌≤◌, List, length, slice_index, take, IfOk};
 ghost use Rattle.fleet_field.specs.inside.Bytes.{IsLook, IsAround, IsSpread, IsReady, IsSearched};
 
-use crate::ways::is_way;
+use crate::fronts::make_room;
+use crate::ways::{further_ways, is_way};
 use std::alloc::{AllocError, Allocator};
 use std::mem;
 
-/// Looks in one direction from a place whose byte is `seen`. The place there, if it is one further, gets the way back. It is
-/// written at the end of the next front each time, and counted if it had no way yet: so nothing is hard to foretell.
+/// Looks in one direction from a place where the ways in `further` lead one further. The place there, if such a way leads to
+/// it, gets the way back. It is written at the end of the next front each time, and counted if it had no way yet: so nothing is
+/// hard to foretell.
 #[inline(always)]
 fn look(
     ways: &mut [u8],
     next: &mut [u32],
     count: usize,
-    seen: u8,
+    further: u8,
     number: u8,
     place: usize,
 ) -> usize
@@ -27,12 +29,9 @@ fn look(
     ensures len { length ways.new ≡ length ways.old }
     ensures kept { length next.new ≡ length next.old }
     ensures most { result ≤ count + 1 }
-    ensures look { IsLook ways.old (take count next.old) seen number (2 ^ ((number + 2) % 4)) place ways.new (take result next.new) }
+    ensures look { IsLook ways.old (take count next.old) further number (2 ^ ((number + 2) % 4)) place ways.new (take result next.new) }
 {
-    if !is_way(seen, number + 4) {
-        return count;
-    }
-    if is_way(seen, number) {
+    if !is_way(further, number) {
         return count;
     }
     let byte = ways[place];
@@ -53,11 +52,11 @@ fn around(ways: &mut [u8], next: &mut [u32], count: usize, stride: usize, place:
     ensures most { result ≤ count + 4 }
     ensures around { IsAround ways.old (take count next.old) stride place ways.new (take result next.new) }
 {
-    let seen = ways[place];
-    let north = look(ways, next, count, seen, 0, place - stride);
-    let east = look(ways, next, north, seen, 1, place + 1);
-    let south = look(ways, next, east, seen, 2, place + stride);
-    look(ways, next, south, seen, 3, place - 1)
+    let further = further_ways(ways[place]);
+    let north = look(ways, next, count, further, 0, place - stride);
+    let east = look(ways, next, north, further, 1, place + 1);
+    let south = look(ways, next, east, further, 2, place + stride);
+    look(ways, next, south, further, 3, place - 1)
 }
 
 /// One level: from the places of `now` to those beside them that are one further, and how many these are.
@@ -76,17 +75,6 @@ fn spread(ways: &mut [u8], now: &[u32], next: &mut [u32], stride: usize) -> usiz
         count = around(ways, next, count, stride, *place as usize);
     }
     count
-}
-
-/// Makes room for the front after one of so many places: each has four beside it.
-fn make_room<A: Allocator + Copy>(next: &mut Vec<u32, A>, count: usize) -> Result<(), AllocError>
-    requires { count < 1073741824 }
-    ensures { OnOk result (4 * count ≤ length next.new.items) }
-{
-    if next.len() < 4 * count {
-        next.resize(4 * count, 0)?;
-    }
-    Ok(())
 }
 
 /// The ways that lead nearer to the goal, in the low halves of the places' bytes: a front is left in all directions, and what it

@@ -70,11 +70,15 @@ pub record IsReady (blank : List ℕ) (stride goal : ℕ) (ways : List ℕ) : Ty
 abbrev pub IsFound : ℕ → List ℕ → ℕ → List ℕ → Type 0
 IsFound byte front place next = ((low byte ≡ 0) × (next ≡ front ++ place ∷ [])) ⊎ ((low byte ≢ 0) × (next ≡ front))
 
--- what a look in one direction makes of the bytes and of the next front, where `seen` is the byte of the place that is left
+-- the ways that lead one further from a place with this byte: they are open and do not lead nearer
+abbrev pub AreFurther : ℕ → ℕ → Type 0
+AreFurther byte further = (dir : Dir) → (bit_at further (dir_number dir) ≡ 1) ↔ ((bit_at byte (dir_number dir + 4) ≡ 1) × (bit_at byte (dir_number dir) ≢ 1))
+
+-- what a look in one direction makes of the bytes and of the next front, where the ways in `further` lead one further
 abbrev pub IsLook : List ℕ → List ℕ → ℕ → ℕ → ℕ → ℕ → List ℕ → List ℕ → Type 0
-IsLook old front seen number mark place new next =
-    (((bit_at seen (number + 4) ≢ 1) ⊎ (bit_at seen number ≡ 1)) × (new ≡ old) × (next ≡ front))
-    ⊎ ((bit_at seen (number + 4) ≡ 1) × (bit_at seen number ≢ 1) × (new ≡ slice_set old place (bit_or (slice_index old place) mark)) × IsFound (slice_index old place) front place next)
+IsLook old front further number mark place new next =
+    ((bit_at further number ≢ 1) × (new ≡ old) × (next ≡ front))
+    ⊎ ((bit_at further number ≡ 1) × (new ≡ slice_set old place (bit_or (slice_index old place) mark)) × IsFound (slice_index old place) front place next)
 
 -- The bytes tell of the distances. Each place below `closed` has been left in all directions.
 pub record Marks (shade : ℕ → ℕ) (stride closed : ℕ) (dist ways : List ℕ) : Type 0 where

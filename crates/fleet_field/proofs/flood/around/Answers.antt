@@ -1,14 +1,15 @@
+use Rattle.std.proofs.Common.{take}
 use Rattle.fleet_field.proofs.Spread.{around_extends, around_reached}
 use Rattle.fleet_field.proofs.flood.around.Goals as goal
 
-pub returns-clause-ok : goal.returns-clause-ok
-returns-clause-ok g c =
-    around_extends c.args.stride c.args.level c.args.cell c.args.dist.now c.args.next.now.items c.visit.new.dist c.visit.new.next.items c.visit-2.new.dist c.visit-2.new.next.items
-    c.visit-3.new.dist c.visit-3.new.next.items c.visit-4.new.dist c.visit-4.new.next.items c.requires.small c.requires.step c.requires.inside.0 c.requires.inside.1
-    c.visit.ensures.len c.visit-2.ensures.len c.visit-3.ensures.len c.in_ok-visit.ensures.ok c.in_ok-visit-2.ensures.ok c.in_ok-visit-3.ensures.ok c.in_ok-visit-4.ensures.ok c.requires.search c.requires.at
+pub returns-clause-extends : goal.returns-clause-extends
+returns-clause-extends c =
+    around_extends c.args.stride c.args.level c.args.cell c.args.dist.now (take c.args.count c.args.next.now) c.visit-north.new.dist (take c.visit-north.result c.visit-north.new.next) c.visit-east.new.dist (take c.visit-east.result c.visit-east.new.next)
+    c.visit-south.new.dist (take c.visit-south.result c.visit-south.new.next) c.visit.new.dist (take c.visit.result c.visit.new.next) c.requires.small c.requires.step c.requires.inside.0 c.requires.inside.1
+    c.visit-north.ensures.len c.visit-east.ensures.len c.visit-south.ensures.len c.visit-north.ensures.visit c.visit-east.ensures.visit c.visit-south.ensures.visit c.visit.ensures.visit c.requires.search c.requires.at
 
 pub returns-clause-reached : goal.returns-clause-reached
-returns-clause-reached g c =
-    around_reached c.args.stride c.args.level c.args.cell c.args.dist.now c.args.next.now.items c.visit.new.dist c.visit.new.next.items c.visit-2.new.dist c.visit-2.new.next.items
-    c.visit-3.new.dist c.visit-3.new.next.items c.visit-4.new.dist c.visit-4.new.next.items c.requires.small c.requires.step c.requires.inside.0 c.requires.inside.1
-    c.visit.ensures.len c.visit-2.ensures.len c.visit-3.ensures.len c.in_ok-visit.ensures.ok c.in_ok-visit-2.ensures.ok c.in_ok-visit-3.ensures.ok c.in_ok-visit-4.ensures.ok c.requires.search c.requires.at
+returns-clause-reached c =
+    around_reached c.args.stride c.args.level c.args.cell c.args.dist.now (take c.args.count c.args.next.now) c.visit-north.new.dist (take c.visit-north.result c.visit-north.new.next) c.visit-east.new.dist (take c.visit-east.result c.visit-east.new.next)
+    c.visit-south.new.dist (take c.visit-south.result c.visit-south.new.next) c.visit.new.dist (take c.visit.result c.visit.new.next) c.requires.small c.requires.step c.requires.inside.0 c.requires.inside.1
+    c.visit-north.ensures.len c.visit-east.ensures.len c.visit-south.ensures.len c.visit-north.ensures.visit c.visit-east.ensures.visit c.visit-south.ensures.visit c.visit.ensures.visit c.requires.search c.requires.at

@@ -1,0 +1,19 @@
+//! Lists with room for the fronts of a search.
+
+ghost use Rattle.std.specs.Prelude.{◌*◌, ◌<◌, ◌≤◌, length, OnOk};
+
+use std::alloc::{AllocError, Allocator};
+
+/// Makes room for the front after one of so many places: each has four beside it.
+pub(crate) fn make_room<A: Allocator + Copy>(
+    next: &mut Vec<u32, A>,
+    count: usize,
+) -> Result<(), AllocError>
+    requires { count < 1073741824 }
+    ensures { OnOk result (4 * count ≤ length next.new.items) }
+{
+    if next.len() < 4 * count {
+        next.resize(4 * count, 0)?;
+    }
+    Ok(())
+}
