@@ -40,15 +40,20 @@ entry-tells (Some x) n = elim (eqb_tells x n) [
   | inr p ↦ (λ e. absurd (cc (p.0, e)), λ e. absurd (p.1 (cc (e))))
 ]
 
+pub stander_known : (s : Setting) (standing : List (Option ℕ)) (cell other : ℕ) → IsStanding s standing → Some other ≡ table standing cell → other < robots s
+stander_known s standing cell other is at = (is.stands cell other (sym at)).0
+
 -- whether the one who stands on a cell has decided on another's cell
-pub meets-tells : (s : Setting) → IsScene s → (target : List (Option ℕ)) (robot cell other : ℕ) → Stands s other cell → (o : Option ℕ) (own : ℕ) (b : Bool) → o ≡ table target other → own ≡ cell_of s robot → b ≡ option_eq eqb o (Some own) →
-    IsTrue b ↔ ((k : ℕ) × Stands s k cell × (table target k ≡ Some (cell_of s robot)))
-meets-tells s scene target robot cell other stands o own b got is tells = (
-  λ yes. (let found : o ≡ Some own = (entry-tells o own).0 (sym tells ∙ yes) in (other, stands, cc (found, got, is))),
-  λ w. (let same : w.0 ≡ other = scene-distinct s scene w.0 other w.1.0 stands.0 (w.1.1 ∙ sym stands.1) in
-      let found : o ≡ Some own = cc (w.2, got, is, ap (table target) same) in
-      tells ∙ (entry-tells o own).1 found),
-)
+pub meets_tells : (s : Setting) (standing target : List (Option ℕ)) (robot cell other own : ℕ) (o : Option ℕ) (b : Bool) → IsScene s → IsStanding s standing → Some other ≡ table standing cell →
+    o ≡ table target other → own ≡ cell_of s robot → b ≡ option_eq eqb o (Some own) → IsTrue b ↔ ((k : ℕ) × Stands s k cell × (table target k ≡ Some (cell_of s robot)))
+meets_tells s standing target robot cell other own o b scene is at got here tells =
+    let stands : Stands s other cell = is.stands cell other (sym at) in (
+      (λ yes. (other, stands, cc ((entry-tells o own).0 (sym tells ∙ yes), got, here))),
+      (λ w.
+          let same : w.0 ≡ other = scene-distinct s scene w.0 other w.1.0 stands.0 (w.1.1 ∙ sym stands.1) in
+          let found : o ≡ Some own = cc (w.2, got, here, ap (table target) same) in
+          tells ∙ (entry-tells o own).1 found),
+    )
 
 -- there are few cells
 pub cells-few : (m : Floor) → HasForm m → length m.letters ≤ 1048576

@@ -9,6 +9,7 @@ use crate::sight::Sight;
 use std::alloc::Allocator;
 
 /// Whether the robot that stands on the cell has decided to take this robot's cell, so that the two would swap.
+#[tactic(auto, using(crate::proofs::Planning::stander_known, crate::proofs::Planning::meets_tells))]
 fn meets<S: Sight, A: Allocator + Copy>(scene: &S, board: &Board<A>, robot: u32, cell: u32) -> bool
     requires whole { S.is_whole scene.now }
     requires known { robot < robots (S.setting scene.now) }
