@@ -1,8 +1,8 @@
 -- Tables most of whose entries are empty.
-use Rattle.std.proofs.Common.{Bool, zero, suc, map, replicate, ◌≡◌, ◌≢◌, ℕ, ◌+◌, ◌<◌, ◌≤◌, inl, inr, Option, Some, None, List, length, get_or, slice_index, slice_set, sym, subst, refl, ap, ◌∙◌, arith}
+use Rattle.std.proofs.Common.{Bool, zero, suc, map, replicate, ◌≡◌, ◌≢◌, ℕ, ◌+◌, ◌<◌, ◌≤◌, inl, inr, Option, Some, None, List, [], ◌∷◌, length, get_or, slice_index, slice_set, sym, subst, refl, ap, ◌∙◌, arith}
 use Rattle.std.proofs.lemmas.Bool.{cases_eq, cases_lt}
-use Rattle.std.proofs.lemmas.List.{get_or-set_same, get_or-set_other, get_or_past}
-use Rattle.std.proofs.Math.ListN.{length-set}
+use Rattle.std.proofs.lemmas.List.{get_or-set_same, get_or-set_other, get_or_past, map-set}
+use Rattle.std.proofs.Math.ListN.{length-set, set}
 use Rattle.fleet_pibt.specs.inside.Plan.{Distinct}
 use Rattle.std.proofs.lemmas.Bool.Decides.{eqb_tells}
 use Rattle.fleet_pibt.specs.inside.Entry.{entry_beside, entry_by, table, IsEmpty}
@@ -133,11 +133,11 @@ settle-empty target0 holder0 target holder to k matched l settled = (
   ],
 )
 
-pub standing-from : (from : List ℕ) (cells : ℕ) (standing : List (Option ℕ)) → length standing ≡ cells → IsPlaced from standing (length from) → IsStanding from cells standing
-standing-from from cells standing l placed = record {
+pub standing-from : (s : Setting) (standing : List (Option ℕ)) → length standing ≡ length s.floor.letters → IsPlaced s.from standing (robots s) → IsStanding s standing
+standing-from s standing l placed = record {
   all = l;
   stands = placed.stands;
-  known = λ c none r m at. cc (placed.placed r m, none, ap (table standing) at);
+  known = λ c none r m at. cc (placed.placed r m, none, at);
 }
 
 pub planned-decided : (s : Setting) (target0 holder0 target holder : List (Option ℕ)) (queue : List ℕ) → NamesAll s queue → IsPlanned s target0 holder0 target holder queue (length queue) → (r : ℕ) → r < robots s → table target r ≢ None
@@ -160,18 +160,32 @@ pub lift-next : (from : List ℕ) (standing standing' standing0 : List (Option �
     (length standing' ≡ length standing0) × Rests from standing' (k + 1)
 lift-next from standing standing' standing0 k same rests e = rw e (length-set standing (slice_index from k) None ∙ same, lift-more from standing k rests)
 
--- a new table is empty
-entry-none : (nothing : ℕ) → entry_beside nothing nothing ≡ None
+pub entry-none : (nothing : ℕ) → entry_beside nothing nothing ≡ None
 entry-none nothing = elim (eqb_tells nothing nothing) [ inl p ↦ ap (λ (b : Bool). entry_by b nothing) p.0 | inr p ↦ absurd (p.1 refl) ]
 
-blank-at : (nothing n k : ℕ) → table (map (entry_beside nothing) (replicate n nothing)) k ≡ None
-blank-at nothing zero k = refl
-blank-at nothing (suc n) zero = entry-none nothing
-blank-at nothing (suc n) (suc k) = blank-at nothing n k
+-- a new table is empty
+module _ {X : Type 0} (read : X → Option ℕ) (x : X) (none : read x ≡ None) where
+  blank-at : (n k : ℕ) → table (map read (replicate n x)) k ≡ None
+  blank-at zero k = refl
+  blank-at (suc n) zero = none
+  blank-at (suc n) (suc k) = blank-at n k
 
-blank-length : (nothing n : ℕ) → length (map (entry_beside nothing) (replicate n nothing)) ≡ n
-blank-length nothing zero = refl
-blank-length nothing (suc n) = ap suc (blank-length nothing n)
+  blank-length : (n : ℕ) → length (map read (replicate n x)) ≡ n
+  blank-length zero = refl
+  blank-length (suc n) = ap suc (blank-length n)
 
-pub blank-empty : (nothing n : ℕ) (xs : List ℕ) → xs ≡ replicate n nothing → (length (map (entry_beside nothing) xs) ≡ n) × IsEmpty (map (entry_beside nothing) xs)
-blank-empty nothing n xs e = rw e (blank-length nothing n, blank-at nothing n)
+  pub blank-empty : (n : ℕ) (xs : List X) → xs ≡ replicate n x → (length (map read xs) ≡ n) × IsEmpty (map read xs)
+  blank-empty n xs e = rw e (blank-length n, blank-at n)
+
+-- an entry is written, of which this is read
+pub read-written : {X : Type 0} (read : X → Option ℕ) (xs : List X) (k : ℕ) (y : X) (o : Option ℕ) (ys : List (Option ℕ)) → read y ≡ o → map read xs ≡ ys → map read (set xs k y) ≡ set ys k o
+read-written read xs k y o ys is same = map-set read xs k y ∙ ap (λ (p : Option ℕ). set (map read xs) k p) is ∙ ap (λ (zs : List (Option ℕ)). set zs k o) same
+
+read-kept-from : {X : Type 0} (read : X → Option ℕ) (xs : List X) (k : ℕ) (x y : X) → x ≡ get_or xs k x → read y ≡ read x → map read (set xs k y) ≡ map read xs
+read-kept-from read [] k x y e same = refl
+read-kept-from read (z ∷ xs) zero x y e same = ap (λ (o : Option ℕ). o ∷ map read xs) (same ∙ ap read e)
+read-kept-from read (z ∷ xs) (suc k) x y e same = ap (λ (os : List (Option ℕ)). read z ∷ os) (read-kept-from read xs k x y e same)
+
+-- an entry is written where what is read of it stays
+pub read-kept : {X : Type 0} (read : X → Option ℕ) (xs : List X) (k : ℕ) (x y : X) (ys : List (Option ℕ)) → x ≡ get_or xs k x → read y ≡ read x → map read xs ≡ ys → map read (set xs k y) ≡ ys
+read-kept read xs k x y ys e same is = read-kept-from read xs k x y e same ∙ is

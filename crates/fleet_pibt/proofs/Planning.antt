@@ -1,7 +1,9 @@
 -- A plan as it goes from robot to robot, over lists.
-use Rattle.std.proofs.Common.{◌≡◌, ◌≢◌, ℕ, ◌+◌, ◌<◌, ◌≤◌, ◌*◌, ◌⊎◌, inl, inr, Option, Some, None, List, length, slice_index, slice_set, sym, subst, ap, ◌∙◌, arith}
+use Rattle.std.proofs.Common.{Bool, IsTrue, eqb, ◌↔◌, ◌≡◌, ◌≢◌, ℕ, ◌+◌, ◌<◌, ◌≤◌, ◌*◌, ◌⊎◌, inl, inr, Option, Some, None, List, length, slice_index, slice_set, sym, subst, ap, ◌∙◌, arith}
 use Rattle.std.proofs.Math.ListN.{set}
+use Rattle.std.specs.Option.{option_eq}
 use Rattle.std.proofs.lemmas.Bool.{cases_eq, cases_lt}
+use Rattle.std.proofs.lemmas.Bool.Decides.{eqb_tells}
 use Rattle.std.proofs.lemmas.List.{get_or-set_same, get_or-set_other}
 use Rattle.std.proofs.lemmas.Nat.{mul-le}
 use Rattle.fleet_pibt.specs.inside.Plan.{Written, Distinct}
@@ -9,7 +11,7 @@ use Rattle.fleet_grid.specs.Floor.{Floor, HasForm, IsFloor}
 use Rattle.fleet_grid.proofs.Forms.{floor_inside}
 use Rattle.fleet_pibt.proofs.Grow.{Grown-trans, Shut-keep}
 use Rattle.fleet_pibt.specs.inside.Entry.{table}
-use Rattle.fleet_pibt.specs.inside.Setting.{Setting, robots, cell_of, near, cost, Unmoved, IsScene, IsReady, HasFailed, HasGrown, IsShut, Refused, IsChoice, IsChoices, HasTried}
+use Rattle.fleet_pibt.specs.inside.Setting.{Setting, robots, cell_of, near, cost, Stands, Unmoved, IsScene, IsStanding, IsReady, HasFailed, HasGrown, IsShut, Refused, IsChoice, IsChoices, HasTried}
 use Rattle.fleet_pibt.proofs.Reserve.{none_or_some}
 
 -- distinct robots stand on distinct cells
@@ -21,6 +23,37 @@ scene-distinct s scene a b la lb e = elim (cases_lt a b) [
     | inr apart ↦ absurd (scene.placed.distinct b a (omega arith) la (sym e))
   ]
 ]
+
+-- who stands on a cell, as a table tells that has stayed as it was
+module _ (s : Setting) (old : List (Option ℕ)) (standing : IsStanding s old) (new : List (Option ℕ)) (same : new ≡ old) (cell : ℕ) where
+  pub standing-some : (robot : ℕ) → Some robot ≡ table new cell → Stands s robot cell
+  standing-some robot e = standing.stands cell robot (cc (e, same))
+
+  pub standing-none : None ≡ table new cell → Unmoved s cell
+  standing-none e = standing.known cell (cc (e, same))
+
+-- whether an entry is that number
+entry-tells : (o : Option ℕ) (n : ℕ) → IsTrue (option_eq eqb o (Some n)) ↔ (o ≡ Some n)
+entry-tells None n = (λ e. absurd (cc (e)), λ e. absurd (cc (e)))
+entry-tells (Some x) n = elim (eqb_tells x n) [
+  | inl p ↦ (λ e. ap Some p.1, λ e. p.0)
+  | inr p ↦ (λ e. absurd (cc (p.0, e)), λ e. absurd (p.1 (cc (e))))
+]
+
+pub stander_known : (s : Setting) (standing : List (Option ℕ)) (cell other : ℕ) → IsStanding s standing → Some other ≡ table standing cell → other < robots s
+stander_known s standing cell other is at = (is.stands cell other (sym at)).0
+
+-- whether the one who stands on a cell has decided on another's cell
+pub meets_tells : (s : Setting) (standing target : List (Option ℕ)) (robot cell other own : ℕ) (o : Option ℕ) (b : Bool) → IsScene s → IsStanding s standing → Some other ≡ table standing cell →
+    o ≡ table target other → own ≡ cell_of s robot → b ≡ option_eq eqb o (Some own) → IsTrue b ↔ ((k : ℕ) × Stands s k cell × (table target k ≡ Some (cell_of s robot)))
+meets_tells s standing target robot cell other own o b scene is at got here tells =
+    let stands : Stands s other cell = is.stands cell other (sym at) in (
+      (λ yes. (other, stands, cc ((entry-tells o own).0 (sym tells ∙ yes), got, here))),
+      (λ w.
+          let same : w.0 ≡ other = scene-distinct s scene w.0 other w.1.0 stands.0 (w.1.1 ∙ sym stands.1) in
+          let found : o ≡ Some own = cc (w.2, got, here, ap (table target) same) in
+          tells ∙ (entry-tells o own).1 found),
+    )
 
 -- there are few cells
 pub cells-few : (m : Floor) → HasForm m → length m.letters ≤ 1048576

@@ -4,5 +4,6 @@ pub mod Plan
 pub mod Around
 pub mod Candidate
 pub mod Entry
+pub mod Seating
 pub mod Tables
 pub mod Turn

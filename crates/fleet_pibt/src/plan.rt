@@ -2,22 +2,24 @@
 
 ghost use Rattle.std.specs.Prelude.{◌≡◌, ◌≢◌, ℕ, ◌+◌, ◌<◌, ◌≤◌, ◌↔◌, ◌⊎◌, length, slice_index, IsTrue, MatchBool, Option, Some, None};
 ghost use Rattle.fleet_pibt.specs.inside.Entry.{table, IsEmpty};
-ghost use Rattle.fleet_pibt.specs.inside.Setting.{robots, Stands, cell_of, IsReady, IsDone, HasFailed, HasGrown, IsShut, Refused, IsChoice, HasTried, NamesAll, IsPlanned};
+ghost use Rattle.fleet_pibt.specs.inside.Setting.{robots, Stands, cell_of, IsStanding, IsReady, IsDone, HasFailed, HasGrown, IsShut, Refused, IsChoice, HasTried, NamesAll, IsPlanned};
 
 use crate::board::Board;
 use crate::sight::Sight;
 use std::alloc::Allocator;
 
 /// Whether the robot that stands on the cell has decided to take this robot's cell, so that the two would swap.
+#[tactic(auto, using(crate::proofs::Planning::stander_known, crate::proofs::Planning::meets_tells))]
 fn meets<S: Sight, A: Allocator + Copy>(scene: &S, board: &Board<A>, robot: u32, cell: u32) -> bool
     requires whole { S.is_whole scene.now }
     requires known { robot < robots (S.setting scene.now) }
     requires inside { cell < length (S.setting scene.now).floor.letters }
     requires targets { length board.now.target ≡ robots (S.setting scene.now) }
+    requires standing { IsStanding (S.setting scene.now) board.now.seats.standing }
     ensures { let s = S.setting scene.now in
         IsTrue result ↔ ((k : ℕ) × Stands s k cell × (table board.now.target k ≡ Some (cell_of s robot))) }
 {
-    match scene.stander(cell) {
+    match board.seats.stander(cell) {
         Some(other) => board.target.get(other) == Some(scene.cell_of(robot)),
         None => false,
     }
@@ -33,23 +35,25 @@ fn attempt<S: Sight, A: Allocator + Copy>(
     cell: u32,
 ) -> bool
     requires whole { S.is_whole scene.now }
-    requires ready { let s = S.setting scene.now in IsReady s board.old.target board.old.holder robot }
-    requires choice { let s = S.setting scene.now in IsChoice s board.old.target board.old.holder robot cell }
+    requires standing { IsStanding (S.setting scene.now) board.old.seats.standing }
+    requires ready { let s = S.setting scene.now in IsReady s board.old.target board.old.seats.holder robot }
+    requires choice { let s = S.setting scene.now in IsChoice s board.old.target board.old.seats.holder robot cell }
     ensures targets { length board.new.target ≡ length board.old.target }
-    ensures holders { length board.new.holder ≡ length board.old.holder }
+    ensures holders { length board.new.seats.holder ≡ length board.old.seats.holder }
+    ensures standing { board.new.seats.standing ≡ board.old.seats.standing }
     ensures done { let s = S.setting scene.now in
         MatchBool result
-        (IsDone s board.old.target board.old.holder board.new.target board.new.holder robot
+        (IsDone s board.old.target board.old.seats.holder board.new.target board.new.seats.holder robot
         × (table board.new.target robot ≡ Some cell))
-        (HasGrown s board.old.target board.old.holder board.new.target board.new.holder robot
-        × IsShut s board.new.target board.new.holder robot cell
-        × Refused s board.old.target board.old.holder robot cell) }
+        (HasGrown s board.old.target board.old.seats.holder board.new.target board.new.seats.holder robot
+        × IsShut s board.new.target board.new.seats.holder robot cell
+        × Refused s board.old.target board.old.seats.holder robot cell) }
 {
-    if board.holder.get(cell).is_some() || meets(scene, board, robot, cell) {
+    if board.seats.holder(cell).is_some() || meets(scene, board, robot, cell) {
         return false;
     }
     board.reserve(robot, cell);
-    let Some(other) = scene.stander(cell) else {
+    let Some(other) = board.seats.stander(cell) else {
         return true;
     };
     if board.target.get(other).is_some() || plan(scene, board, other) {
@@ -63,15 +67,17 @@ fn attempt<S: Sight, A: Allocator + Copy>(
 #[cycle(plan)]
 fn plan<S: Sight, A: Allocator + Copy>(scene: &S, board: &mut Board<A>, robot: u32) -> bool
     requires whole { S.is_whole scene.now }
-    requires ready { let s = S.setting scene.now in IsReady s board.old.target board.old.holder robot }
+    requires standing { IsStanding (S.setting scene.now) board.old.seats.standing }
+    requires ready { let s = S.setting scene.now in IsReady s board.old.target board.old.seats.holder robot }
     ensures targets { length board.new.target ≡ length board.old.target }
-    ensures holders { length board.new.holder ≡ length board.old.holder }
+    ensures holders { length board.new.seats.holder ≡ length board.old.seats.holder }
+    ensures standing { board.new.seats.standing ≡ board.old.seats.standing }
     ensures done { let s = S.setting scene.now in
         MatchBool result
-        (IsDone s board.old.target board.old.holder board.new.target board.new.holder robot)
-        (HasFailed s board.old.target board.old.holder board.new.target board.new.holder robot) }
+        (IsDone s board.old.target board.old.seats.holder board.new.target board.new.seats.holder robot)
+        (HasFailed s board.old.target board.old.seats.holder board.new.target board.new.seats.holder robot) }
     ensures tried { let s = S.setting scene.now in
-        IsTrue result → HasTried s board.old.target board.old.holder board.new.target robot }
+        IsTrue result → HasTried s board.old.target board.old.seats.holder board.new.target robot }
 {
     let cells = scene.choices(robot);
     for cell in cells {
@@ -91,11 +97,13 @@ pub(crate) fn plan_all<S: Sight, A: Allocator + Copy>(
     requires whole { S.is_whole scene.now }
     requires queue { NamesAll (S.setting scene.now) queue.now }
     requires targets { length board.old.target ≡ robots (S.setting scene.now) }
-    requires holders { length board.old.holder ≡ length (S.setting scene.now).floor.letters }
+    requires holders { length board.old.seats.holder ≡ length (S.setting scene.now).floor.letters }
     requires no_target { IsEmpty board.old.target }
-    requires no_holder { IsEmpty board.old.holder }
-    ensures { let s = S.setting scene.now in
-        IsPlanned s board.old.target board.old.holder board.new.target board.new.holder queue.now (length queue.now) }
+    requires standing { IsStanding (S.setting scene.now) board.old.seats.standing }
+    requires no_holder { IsEmpty board.old.seats.holder }
+    ensures standing { board.new.seats.standing ≡ board.old.seats.standing }
+    ensures planned { let s = S.setting scene.now in
+        IsPlanned s board.old.target board.old.seats.holder board.new.target board.new.seats.holder queue.now (length queue.now) }
 {
     for robot in queue {
         if board.target.get(*robot).is_none() {

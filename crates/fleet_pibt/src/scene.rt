@@ -9,7 +9,6 @@ ghost use Rattle.fleet_pibt.specs.inside.Candidate.{IsCandidate};
 use crate::around::Around;
 use crate::choice::{Candidate, cells, in_order};
 use crate::goals::Goals;
-use crate::roster::Roster;
 use crate::sight::Sight;
 use crate::ways::is_way;
 use fleet_grid::{Dir, Grid};
@@ -38,8 +37,6 @@ pub(crate) struct Scene<'a, G, A: Allocator + Copy> {
     pub(crate) goals: &'a G,
     pub(crate) from: &'a [u32],
     pub(crate) ties: &'a [TieHook],
-    /// The robot on each cell.
-    pub(crate) standing: &'a Roster<A>,
     /// What each robot sees.
     pub(crate) arounds: &'a [Around],
     pub(crate) tick: u64,
@@ -51,14 +48,9 @@ impl<'a, G: Goals, A: Allocator + Copy> Sight for Scene<'a, G, A> {
     ghost is_whole = { λ s.
         IsWhole
         (setting s.grid.now s.from.now (G.goal_of s.goals.now) (G.distance s.goals.now) (map (λ h. h.law) s.ties.now))
-        s.standing.now
         s.arounds.now };
 
     ghost is_scene = { λ s whole. whole.scene };
-
-    fn stander(&self, cell: u32) -> Option<u32> {
-        self.standing.get(cell)
-    }
 
     fn cell_of(&self, robot: u32) -> u32 {
         self.from[robot as usize]
@@ -86,7 +78,7 @@ impl<'a, G: Goals, A: Allocator + Copy> Scene<'a, G, A> {
             (G.goal_of self.now.goals.now)
             (G.distance self.now.goals.now)
             (map (λ h. h.law) self.now.ties.now)
-            in IsWhole s self.now.standing.now self.now.arounds.now }
+            in IsWhole s self.now.arounds.now }
         requires known { robot < length self.now.from.now }
         requires seen { slice_get self.now.arounds.now robot ≡ Some around }
         ensures candidate { let s = setting
@@ -115,7 +107,7 @@ impl<'a, G: Goals, A: Allocator + Copy> Scene<'a, G, A> {
             (G.goal_of self.now.goals.now)
             (G.distance self.now.goals.now)
             (map (λ h. h.law) self.now.ties.now)
-            in IsWhole s self.now.standing.now self.now.arounds.now }
+            in IsWhole s self.now.arounds.now }
         requires known { robot < length self.now.from.now }
         requires seen { slice_get self.now.arounds.now robot ≡ Some around }
         ensures candidate { let s = setting

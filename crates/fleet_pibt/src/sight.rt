@@ -1,19 +1,13 @@
 //! What the plan of one step sees, without the map, the goals and the closures behind it.
 
-ghost use Rattle.std.specs.Prelude.{◌≡◌, ℕ, ◌<◌, length, MatchOption};
-ghost use Rattle.fleet_pibt.specs.inside.Setting.{Setting, cell_of, robots, Stands, Unmoved, IsScene, IsChoices};
+ghost use Rattle.std.specs.Prelude.{◌≡◌, ℕ, ◌<◌};
+ghost use Rattle.fleet_pibt.specs.inside.Setting.{Setting, cell_of, robots, IsScene, IsChoices};
 
 /// What the plan of one step sees.
 pub(crate) trait Sight {
     ghost setting: { Self → Setting };
 
     ghost is_whole: { Self → Type 0 };
-
-    /// The robot that stands on the cell before the step.
-    fn stander(&self, cell: u32) -> Option<u32>
-        requires whole { is_whole self.now }
-        requires inside { cell < length (setting self.now).floor.letters }
-        ensures { MatchOption result (Unmoved (setting self.now) cell) (λ robot. Stands (setting self.now) robot cell) };
 
     /// The robot's cell before the step.
     fn cell_of(&self, robot: u32) -> u32

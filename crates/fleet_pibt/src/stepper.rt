@@ -15,8 +15,8 @@ use crate::board::Board;
 use crate::goals::Goals;
 use crate::plan::plan_all;
 use crate::priority::{number, put_in_order};
-use crate::roster::Roster;
 use crate::scene::Scene;
+use crate::seats::Seats;
 use crate::table::Table;
 use crate::tables::{fetch, lift, place, settle};
 use fleet_grid::Grid;
@@ -28,7 +28,6 @@ use std::marker::Model;
 /// between two steps.
 #[derive(Drop)]
 pub struct Stepper<A: Allocator + Copy = Global> {
-    standing: Roster<A>,
     board: Board<A>,
     /// The robots, in the order of the last step.
     queue: Vec<u32, A>,
@@ -43,15 +42,15 @@ impl<A: Allocator + Copy> Model for Stepper<A> {
 
     ghost Value = { Size };
 
-    ghost view = { λ s. record { cells = length s.standing; robots = vec_len s.queue } };
+    ghost view = { λ s. record { cells = length s.board.seats.standing; robots = vec_len s.queue } };
 
     ghost invariant = { λ s.
         (length s.board.target ≡ vec_len s.queue)
         × (vec_len s.arounds ≡ vec_len s.queue)
-        × (length s.board.holder ≡ length s.standing)
-        × IsEmpty s.standing
+        × (length s.board.seats.holder ≡ length s.board.seats.standing)
+        × IsEmpty s.board.seats.standing
         × IsEmpty s.board.target
-        × IsEmpty s.board.holder
+        × IsEmpty s.board.seats.holder
         × IsRoll s.queue.items };
 }
 
@@ -63,10 +62,9 @@ impl<A: Allocator + Copy> Stepper<A> {
         let mut queue = vec![in alloc; 0; robots as usize]?;
         number(&mut queue);
         Ok(Stepper {
-            standing: Roster::new(alloc, cells)?,
             board: Board {
                 target: Table::new(alloc, robots)?,
-                holder: Roster::new(alloc, cells)?,
+                seats: Seats::new(alloc, cells)?,
             },
             queue,
             arounds: vec![in alloc; Around::NOWHERE; robots as usize]?,
@@ -110,20 +108,18 @@ impl<A: Allocator + Copy> Stepper<A> {
         let _cells = grid.cell_count();
         put_in_order(waits, &mut self.queue);
         gather(grid, from, goals, &mut self.arounds);
-        fetch(&self.arounds, &mut self.standing);
-        fetch(&self.arounds, &mut self.board.holder);
-        place(from, &mut self.standing);
+        fetch(&self.arounds, &mut self.board.seats);
+        place(from, &mut self.board.seats);
         let scene = Scene {
             grid,
             goals,
             from,
             ties,
-            standing: &self.standing,
             arounds: &self.arounds,
             tick,
         };
         plan_all(&scene, &mut self.board, &self.queue);
-        lift(from, &mut self.standing);
+        lift(from, &mut self.board.seats);
         settle(&mut self.board, to);
     }
 }

@@ -4,7 +4,7 @@ use Rattle.fleet_grid.specs.Floor.{Floor, IsNeighbourIn}
 use Rattle.fleet_grid.specs.Ways.{IsWay, AreNearer}
 use Rattle.fleet_grid.specs.declared.dir.Dir.{Dir}
 use Rattle.fleet_grid.specs.declared.dir.Dir.TheVariants.{North, East, South, West}
-use Rattle.fleet_pibt.specs.inside.Setting.{Setting, cell_of, cost, IsScene, IsStanding}
+use Rattle.fleet_pibt.specs.inside.Setting.{Setting, cell_of, cost, IsScene}
 use Rattle.fleet_pibt.specs.declared.around.Around.{Around}
 
 -- the floor neighbour of the cell `own` in a direction, or where there is none `own` itself
@@ -48,10 +48,9 @@ AreRated s arounds =
     (r : ℕ) (around : Around) → slice_get arounds r ≡ Some around →
     (dir : Dir) (w : ℕ) → IsNeighbourIn s.floor dir (cell_of s r) w → IsRated around.nearer dir (cost s r w) (cost s r (cell_of s r))
 
--- a step's setting, with its tables
-pub record IsWhole (s : Setting) (standing : List (Option ℕ)) (arounds : List Around) : Type 0 where
+-- a step's setting, with what its robots see
+pub record IsWhole (s : Setting) (arounds : List Around) : Type 0 where
   pub scene : IsScene s
   pub tied : length s.laws ≡ length s.from
-  pub stands : IsStanding s.from (length s.floor.letters) standing
   pub gathered : AreArounds s.floor s.goals s.distance s.from arounds
   pub rated : AreRated s arounds

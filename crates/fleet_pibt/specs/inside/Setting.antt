@@ -54,10 +54,10 @@ pub record IsScene (s : Setting) : Type 0 where
   pub placed : IsPlacement s.floor s.from
 
 -- the table of who stands where
-pub record IsStanding (from : List ℕ) (cells : ℕ) (standing : List (Option ℕ)) : Type 0 where
-  pub all : length standing ≡ cells
-  pub stands : (c r : ℕ) → table standing c ≡ Some r → (r < length from) × (slice_index from r ≡ c)
-  pub known : (c : ℕ) → table standing c ≡ None → Vacant (length from) (slice_index from) c
+pub record IsStanding (s : Setting) (standing : List (Option ℕ)) : Type 0 where
+  pub all : length standing ≡ length s.floor.letters
+  pub stands : (c r : ℕ) → table standing c ≡ Some r → Stands s r c
+  pub known : (c : ℕ) → table standing c ≡ None → Unmoved s c
 
 abbrev pub TidyBoard : Setting → List (Option ℕ) → List (Option ℕ) → Type 0
 TidyBoard s target holder = Tidy (near s) (robots s) (cell_of s) (cost s) (table target) (table holder)

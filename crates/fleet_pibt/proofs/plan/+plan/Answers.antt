@@ -1,10 +1,10 @@
-use Rattle.std.proofs.Common.{ap, ◌≡◌, ℕ, ◌+◌, length, Option, Some, None, true, false, List, slice_set, arith, refl, sym}
+use Rattle.std.proofs.Common.{ap, ◌≡◌, ◌∙◌, ℕ, ◌+◌, length, Option, Some, None, true, false, List, slice_set, arith, refl, sym}
 use Rattle.std.specs.Option.{is_some}
 use Rattle.std.proofs.Math.ListN.{length-set}
 use Rattle.fleet_pibt.specs.inside.Entry.{table}
 use Rattle.fleet_pibt.specs.inside.Setting.{robots, Stands, cell_of}
 use Rattle.fleet_pibt.proofs.Count.{open_count, open_count-set, open_count-keep}
-use Rattle.fleet_pibt.proofs.Planning.{cells-few, scene-distinct, trying-ready, trying-choice, trying-failed, trying-more, trying-tried, choice-inside}
+use Rattle.fleet_pibt.proofs.Planning.{standing-some, standing-none, cells-few, scene-distinct, trying-ready, trying-choice, trying-failed, trying-more, trying-tried, choice-inside}
 use Rattle.fleet_pibt.proofs.Attempt.{attempt-done, attempt-ready, attempt-passed, attempt-failed}
 use Rattle.fleet_pibt.proofs.plan.+plan.Goals as goal
 use Rattle.fleet_pibt.proofs.plan.+plan.Goals.{attempt-then-is_some-2-via-then-is_some-2, attempt-then-is_some-2-via-else-is_some-2+then-plan}
@@ -23,12 +23,13 @@ attempt-returns-in_default-clause-done g t c =
     let scene = g.met.S.Sight.is_scene c.args.scene.now c.requires.whole in
     let b = c.args.board.now in
     let r = c.requires in
-    let free = none_from c.get.result c.if-is_some.ensures in
-    let none : table b.holder c.args.cell ≡ None = cc (c.get.ensures, free) in
+    let free = none_from c.holder.result c.if-is_some.ensures in
+    let none : table b.seats.holder c.args.cell ≡ None = cc (c.holder.ensures, free) in
+    let unmoved = standing-none s b.seats.standing r.standing c.reserve.new.self.seats.standing c.reserve.ensures.standing c.args.cell c.in_default.ensures in
     rw (c.reserve.ensures.target, c.reserve.ensures.holder)
-    (attempt-done s scene b.target b.holder c.args.robot c.args.cell r.ready r.choice (choice-inside s scene _ _ _ _ r.ready.known r.choice) none
-    (λ k stands e. cc (c.if-meets.ensures.1 (k, stands, e)))
-    (λ k stands e. c.in_default.ensures k stands.0 stands.1))
+    (attempt-done s scene b.target b.seats.holder c.args.robot c.args.cell r.ready r.choice (choice-inside s scene _ _ _ _ r.ready.known r.choice) none
+    (λ k at e. cc (c.if-meets.ensures.1 (k, at, e)))
+    (λ k at e. unmoved k at.0 at.1))
 
 pub attempt-plan-requires : goal.attempt-plan-requires
 attempt-plan-requires g t c κs within =
@@ -36,10 +37,11 @@ attempt-plan-requires g t c κs within =
     let scene = g.met.S.Sight.is_scene c.args.scene.now c.requires.whole in
     let b = c.args.board.now in
     let r = c.requires in
-    let free = none_from c.get.result c.if-is_some.ensures in
-    let none : table b.holder c.args.cell ≡ None = cc (c.get.ensures, free) in
-    let idle = none_from c.get-2.result c.if-is_some-2.ensures in
-    let idle2 : table (slice_set b.target c.args.robot (Some c.args.cell)) c.in-Some.other ≡ None = cc (c.get-2.ensures, idle, ap (λ (x : List (Option ℕ)). table x c.in-Some.other) c.reserve.ensures.target) in
+    let free = none_from c.holder.result c.if-is_some.ensures in
+    let none : table b.seats.holder c.args.cell ≡ None = cc (c.holder.ensures, free) in
+    let stands : Stands s c.in-Some.other c.args.cell = standing-some s b.seats.standing r.standing c.reserve.new.self.seats.standing c.reserve.ensures.standing c.args.cell c.in-Some.other c.in-Some.ensures in
+    let idle = none_from c.get.result c.if-is_some-2.ensures in
+    let idle2 : table (slice_set b.target c.args.robot (Some c.args.cell)) c.in-Some.other ≡ None = cc (c.get.ensures, idle, ap (λ (x : List (Option ℕ)). table x c.in-Some.other) c.reserve.ensures.target) in
     let count = open_count-set b.target c.args.robot c.args.cell (omega (arith, r.ready.known, r.ready.targets)) r.ready.idle in
     let count2 : open_count c.reserve.new.self.target + 1 ≡ open_count b.target = rw c.reserve.ensures.target (omega arith) in (
       omega arith,
@@ -49,9 +51,12 @@ attempt-plan-requires g t c κs within =
           within.1,
           (
             c.requires.whole,
-            rw (c.reserve.ensures.target, c.reserve.ensures.holder)
-                (attempt-ready s scene b.target b.holder c.args.robot c.args.cell r.ready r.choice (choice-inside s scene _ _ _ _ r.ready.known r.choice) none
-                (λ k stands e. cc (c.if-meets.ensures.1 (k, stands, e))) c.in-Some.other c.in-Some.ensures idle2),
+            (
+              rw c.reserve.ensures.standing c.requires.standing,
+              rw (c.reserve.ensures.target, c.reserve.ensures.holder)
+                  (attempt-ready s scene b.target b.seats.holder c.args.robot c.args.cell r.ready r.choice (choice-inside s scene _ _ _ _ r.ready.known r.choice) none
+                  (λ k at e. cc (c.if-meets.ensures.1 (k, at, e))) c.in-Some.other stands idle2),
+            ),
           ),
         ),
       ),
@@ -63,23 +68,24 @@ attempt-returns-then-is_some-2-clause-done g t c =
     let scene = g.met.S.Sight.is_scene c.args.scene.now c.requires.whole in
     let b = c.args.board.now in
     let r = c.requires in
-    let free = none_from c.get.result c.if-is_some.ensures in
-    let none : table b.holder c.args.cell ≡ None = cc (c.get.ensures, free) in
-    let clear : (k : ℕ) → Stands s k c.args.cell → table b.target k ≡ Some (cell_of s c.args.robot) → ⊥ = λ k stands e. cc (c.if-meets.ensures.1 (k, stands, e)) in
+    let free = none_from c.holder.result c.if-is_some.ensures in
+    let none : table b.seats.holder c.args.cell ≡ None = cc (c.holder.ensures, free) in
+    let clear : (k : ℕ) → Stands s k c.args.cell → table b.target k ≡ Some (cell_of s c.args.robot) → ⊥ = λ k at e. cc (c.if-meets.ensures.1 (k, at, e)) in
+    let stands : Stands s c.in-Some.other c.args.cell = standing-some s b.seats.standing r.standing c.reserve.new.self.seats.standing c.reserve.ensures.standing c.args.cell c.in-Some.other c.in-Some.ensures in
     let t1 : List (Option ℕ) = slice_set b.target c.args.robot (Some c.args.cell) in
     let other : ℕ = c.in-Some.other in
-    let found : table t1 other ≡ c.get-2.result = cc (c.get-2.ensures, ap (λ (x : List (Option ℕ)). table x other) c.reserve.ensures.target) in
+    let found : table t1 other ≡ c.get.result = cc (c.get.ensures, ap (λ (x : List (Option ℕ)). table x other) c.reserve.ensures.target) in
     elim c.then-is_some-2.branch [
       | attempt-then-is_some-2-via-then-is_some-2 w ↦ rw (w.board-is, c.reserve.ensures.target, c.reserve.ensures.holder)
-          (attempt-done s scene b.target b.holder c.args.robot c.args.cell r.ready r.choice (choice-inside s scene _ _ _ _ r.ready.known r.choice) none clear
-          (λ k stands e.
-          let same : k ≡ other = scene-distinct s scene k other stands.0 c.in-Some.ensures.0 (cc (stands.1, c.in-Some.ensures.1)) in
-          not_none c.get-2.result w.if-is_some-2.ensures (cc (found, e, ap (table t1) same))))
+          (attempt-done s scene b.target b.seats.holder c.args.robot c.args.cell r.ready r.choice (choice-inside s scene _ _ _ _ r.ready.known r.choice) none clear
+          (λ k at e.
+          let same : k ≡ other = scene-distinct s scene k other at.0 stands.0 (cc (at.1, stands.1)) in
+          not_none c.get.result w.if-is_some-2.ensures (cc (found, e, ap (table t1) same))))
       | attempt-then-is_some-2-via-else-is_some-2+then-plan w ↦
-          let free2 = none_from c.get-2.result w.if-is_some-2.ensures in
+          let free2 = none_from c.get.result w.if-is_some-2.ensures in
           rw w.board-is
-          (attempt-passed s scene b.target b.holder c.args.robot c.args.cell r.ready r.choice (choice-inside s scene _ _ _ _ r.ready.known r.choice) none clear
-          other c.in-Some.ensures (cc (found, free2)) w.plan.new.board.target w.plan.new.board.holder
+          (attempt-passed s scene b.target b.seats.holder c.args.robot c.args.cell r.ready r.choice (choice-inside s scene _ _ _ _ r.ready.known r.choice) none clear
+          other stands (cc (found, free2)) w.plan.new.board.target w.plan.new.board.seats.holder
           (rw (c.reserve.ensures.target, c.reserve.ensures.holder) at w.if-plan.ensures.done))
     ]
 
@@ -89,26 +95,27 @@ attempt-returns-clause-done g t c =
     let scene = g.met.S.Sight.is_scene c.args.scene.now c.requires.whole in
     let b = c.args.board.now in
     let r = c.requires in
-    let free = none_from c.get.result c.if-is_some.ensures in
-    let none : table b.holder c.args.cell ≡ None = cc (c.get.ensures, free) in
-    let clear : (k : ℕ) → Stands s k c.args.cell → table b.target k ≡ Some (cell_of s c.args.robot) → ⊥ = λ k stands e. cc (c.if-meets.ensures.1 (k, stands, e)) in
+    let free = none_from c.holder.result c.if-is_some.ensures in
+    let none : table b.seats.holder c.args.cell ≡ None = cc (c.holder.ensures, free) in
+    let clear : (k : ℕ) → Stands s k c.args.cell → table b.target k ≡ Some (cell_of s c.args.robot) → ⊥ = λ k at e. cc (c.if-meets.ensures.1 (k, at, e)) in
+    let stands : Stands s c.in-Some.other c.args.cell = standing-some s b.seats.standing r.standing c.reserve.new.self.seats.standing c.reserve.ensures.standing c.args.cell c.in-Some.other c.in-Some.ensures in
     let t1 : List (Option ℕ) = slice_set b.target c.args.robot (Some c.args.cell) in
-    let h1 : List (Option ℕ) = slice_set b.holder c.args.cell (Some c.args.robot) in
+    let h1 : List (Option ℕ) = slice_set b.seats.holder c.args.cell (Some c.args.robot) in
     let other : ℕ = c.in-Some.other in
     let p = c.plan.new.board in
-    let idle : table t1 other ≡ None = cc (c.get-2.ensures, ap (λ (x : List (Option ℕ)). table x other) c.reserve.ensures.target, none_from c.get-2.result c.if-is_some-2.ensures) in
+    let idle : table t1 other ≡ None = cc (c.get.ensures, ap (λ (x : List (Option ℕ)). table x other) c.reserve.ensures.target, none_from c.get.result c.if-is_some-2.ensures) in
     let lt : length p.target ≡ robots s = omega (arith, c.plan.ensures.targets, ap length c.reserve.ensures.target, length-set b.target c.args.robot (Some c.args.cell), r.ready.targets) in
-    let lh : length p.holder ≡ length s.floor.letters = omega (arith, c.plan.ensures.holders, ap length c.reserve.ensures.holder, length-set b.holder c.args.cell (Some c.args.robot), r.ready.holders) in
+    let lh : length p.seats.holder ≡ length s.floor.letters = omega (arith, c.plan.ensures.holders, ap length c.reserve.ensures.holder, length-set b.seats.holder c.args.cell (Some c.args.robot), r.ready.holders) in
     rw (c.hand_back.ensures.target, c.hand_back.ensures.holder)
-    (attempt-failed s scene b.target b.holder c.args.robot c.args.cell r.ready r.choice (choice-inside s scene _ _ _ _ r.ready.known r.choice) none clear
-    other c.in-Some.ensures idle p.target p.holder lt lh
+    (attempt-failed s scene b.target b.seats.holder c.args.robot c.args.cell r.ready r.choice (choice-inside s scene _ _ _ _ r.ready.known r.choice) none clear
+    other stands idle p.target p.seats.holder lt lh
     (rw (c.reserve.ensures.target, c.reserve.ensures.holder) at c.if-plan.ensures.done))
 
 pub plan-attempt-requires : goal.plan-attempt-requires
 plan-attempt-requires g t c κs within =
     let s = g.S.Sight.setting c.args.scene.now in
     let scene = g.met.S.Sight.is_scene c.args.scene.now c.requires.whole in
-    let trying = c.loop-cell.invariant in
+    let trying = c.loop-cell.invariant.trying in
     let choices = c.choices-cells.ensures in
     let b = c.args.board.now in
     let d = c.loop-cell.board in
@@ -121,8 +128,11 @@ plan-attempt-requires g t c κs within =
           (
             c.requires.whole,
             (
-              trying-ready s scene b.target b.holder d.target d.holder c.args.robot _ _ c.requires.ready choices trying,
-              trying-choice s scene b.target b.holder d.target d.holder c.args.robot _ _ c.requires.ready choices trying (omega (arith, choices.five, c.loop-cell-test.true)),
+              rw c.loop-cell.invariant.standing c.requires.standing,
+              (
+                trying-ready s scene b.target b.seats.holder d.target d.seats.holder c.args.robot _ _ c.requires.ready choices trying,
+                trying-choice s scene b.target b.seats.holder d.target d.seats.holder c.args.robot _ _ c.requires.ready choices trying (omega (arith, choices.five, c.loop-cell-test.true)),
+              ),
             ),
           ),
         ),
@@ -135,7 +145,7 @@ plan-returns-then-attempt-clause-tried g t c =
     let b = c.args.board.now in
     let d = c.loop-cell.board in
     let e = c.attempt.new.board in
-    λ _. trying-tried s b.target b.holder d.target d.holder c.args.robot _ _ c.loop-cell.invariant e.target e.holder c.choices-cells.ensures c.if-attempt.ensures.done.1
+    λ _. trying-tried s b.target b.seats.holder d.target d.seats.holder c.args.robot _ _ c.loop-cell.invariant.trying e.target e.seats.holder c.choices-cells.ensures c.if-attempt.ensures.done.1
 
 pub plan-loop-cell-preserved : goal.plan-loop-cell-preserved
 plan-loop-cell-preserved g t c =
@@ -145,18 +155,21 @@ plan-loop-cell-preserved g t c =
     let e = c.attempt.new.board in
     let a = c.if-attempt.ensures in
     let lt : length e.target ≡ length d.target = omega (arith, a.targets) in
-    let lh : length e.holder ≡ length d.holder = omega (arith, a.holders) in
-    trying-more s b.target b.holder d.target d.holder c.args.robot _ _ c.loop-cell.invariant e.target e.holder lt lh a.done
+    let lh : length e.seats.holder ≡ length d.seats.holder = omega (arith, a.holders) in
+    record {
+      standing = a.standing ∙ c.loop-cell.invariant.standing;
+      trying = trying-more s b.target b.seats.holder d.target d.seats.holder c.args.robot _ _ c.loop-cell.invariant.trying e.target e.seats.holder lt lh a.done;
+    }
 
 pub plan-returns-clause-done : goal.plan-returns-clause-done
 plan-returns-clause-done g t c =
     let s = g.S.Sight.setting c.args.scene.now in
     let scene = g.met.S.Sight.is_scene c.args.scene.now c.requires.whole in
-    let trying = c.loop-cell.invariant in
+    let trying = c.loop-cell.invariant.trying in
     let choices = c.choices-cells.ensures in
     let b = c.args.board.now in
     let d = c.loop-cell.board in
-    trying-failed s scene b.target b.holder d.target d.holder c.args.robot _ _ c.requires.ready choices trying (omega (arith, choices.five, c.loop-cell-test.false))
+    trying-failed s scene b.target b.seats.holder d.target d.seats.holder c.args.robot _ _ c.requires.ready choices trying (omega (arith, choices.five, c.loop-cell-test.false))
 
 pub attempt-reserve-requires-clause-few_cells : goal.attempt-reserve-requires-clause-few_cells
 attempt-reserve-requires-clause-few_cells g t c =
@@ -171,3 +184,17 @@ attempt-hand_back-requires-clause-few_cells g t c =
     let scene = g.met.S.Sight.is_scene c.args.scene.now c.requires.whole in
     let inside = choice-inside s scene _ _ _ _ c.requires.ready.known c.requires.choice in
     omega (arith, inside, cells-few s.floor scene.form)
+
+pub attempt-get-requires : goal.attempt-get-requires
+attempt-get-requires g t c =
+    let s = g.S.Sight.setting c.args.scene.now in
+    let b = c.args.board.now in
+    let stands : Stands s c.in-Some.other c.args.cell = standing-some s c.args.board.now.seats.standing c.requires.standing c.reserve.new.self.seats.standing c.reserve.ensures.standing c.args.cell c.in-Some.other c.in-Some.ensures in
+    omega (arith, stands.0, ap length c.reserve.ensures.target, length-set b.target c.args.robot (Some c.args.cell), c.requires.ready.targets)
+
+pub attempt-hand_back-requires-clause-few_robots : goal.attempt-hand_back-requires-clause-few_robots
+attempt-hand_back-requires-clause-few_robots g t c =
+    let s = g.S.Sight.setting c.args.scene.now in
+    let scene = g.met.S.Sight.is_scene c.args.scene.now c.requires.whole in
+    let stands : Stands s c.in-Some.other c.args.cell = standing-some s c.args.board.now.seats.standing c.requires.standing c.reserve.new.self.seats.standing c.reserve.ensures.standing c.args.cell c.in-Some.other c.in-Some.ensures in
+    omega (arith, stands.0, scene.few)

@@ -1,4 +1,4 @@
-use Rattle.std.proofs.Common.{◌≡◌, ◌≢◌, ℕ, Option, Some, None, length, slice_index, refl, true, false, arith}
+use Rattle.std.proofs.Common.{◌≡◌, ◌≢◌, ◌∙◌, ℕ, Option, Some, None, length, slice_index, refl, true, false, arith}
 use Rattle.std.specs.Option.{is_some}
 use Rattle.fleet_pibt.specs.inside.Entry.{table}
 use Rattle.fleet_pibt.proofs.Whole.{planned-skip, planned-call}
@@ -25,9 +25,9 @@ loop-robot-preserved g c =
           let p = w.plan.new.board in
           let none : table d.target (slice_index c.args.queue.now c.loop-robot.robot-index) ≡ None = cc (c.get.ensures, is_open c.get.result w.if-is_none.ensures) in
           let lt : length p.target ≡ length d.target = omega (arith, w.plan.ensures.targets) in
-          let lh : length p.holder ≡ length d.holder = omega (arith, w.plan.ensures.holders) in
-          rw w.board-is (planned-call s b.target b.holder c.args.queue.now d.target d.holder c.loop-robot.robot-index r.queue c.loop-robot-test.true c.loop-robot.invariant scene p.target p.holder none w.plan.result w.plan.ensures.done w.plan.ensures.tried lt lh)
+          let lh : length p.seats.holder ≡ length d.seats.holder = omega (arith, w.plan.ensures.holders) in
+          rw w.board-is (record { standing = w.plan.ensures.standing ∙ c.loop-robot.invariant.standing; planned = planned-call s b.target b.seats.holder c.args.queue.now d.target d.seats.holder c.loop-robot.robot-index r.queue c.loop-robot-test.true c.loop-robot.invariant.planned scene p.target p.seats.holder none w.plan.result w.plan.ensures.done w.plan.ensures.tried lt lh })
       | else-is_none w ↦
           let some : table d.target (slice_index c.args.queue.now c.loop-robot.robot-index) ≢ None = λ e. is_taken c.get.result w.if-is_none.ensures (cc (c.get.ensures)) in
-          rw w.board-is (planned-skip s b.target b.holder c.args.queue.now d.target d.holder c.loop-robot.robot-index r.queue c.loop-robot-test.true c.loop-robot.invariant some r.no_target)
+          rw w.board-is (record { standing = c.loop-robot.invariant.standing; planned = planned-skip s b.target b.seats.holder c.args.queue.now d.target d.seats.holder c.loop-robot.robot-index r.queue c.loop-robot-test.true c.loop-robot.invariant.planned some r.no_target })
     ]

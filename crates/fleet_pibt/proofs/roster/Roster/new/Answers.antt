@@ -1,5 +1,0 @@
-use Rattle.fleet_pibt.proofs.Entries.{blank-empty}
-use Rattle.fleet_pibt.proofs.roster.Roster.new.Goals as goal
-
-pub returns : goal.returns
-returns g c = blank-empty 65535 c.args.len c.in_ok-vec.field-0.items (c.in_ok-vec.ensures.items_if_clones_equal (λ y e. e))
