@@ -151,7 +151,7 @@ fn refused_growths(rt: HostRuntime) -> Result<(), Fail> {
         }
         let _stepper = later?;
     }
-    // Three tables, the queue and what the robots see.
-    assert!(rt; unrefused == Some(5));
+    // Two tables, the queue and what the robots see.
+    assert!(rt; unrefused == Some(4));
     Ok(())
 }
