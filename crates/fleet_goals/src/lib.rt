@@ -7,6 +7,3 @@ mod turns;
 
 pub use aims::Aims;
 pub use turns::Turn;
-
-#[cfg(test)]
-mod tests;

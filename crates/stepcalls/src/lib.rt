@@ -1,6 +1,8 @@
-//! Calls on hooks, the step of all robots, what a fleet goes by, and traces: tests alone.
+//! Calls on hooks, robots' goals, the step of all robots, what a fleet goes by, and traces: tests alone.
 #![tactic(auto)]
 
+#[cfg(test)]
+mod goals;
 #[cfg(test)]
 mod hooks;
 #[cfg(test)]

@@ -1,6 +1,6 @@
 use Rattle.std.proofs.Common.{◌≡◌, ℕ, ◌<◌, Some, None, get_or}
 use Rattle.fleet_grid.specs.Floor.{IsFloor}
-use Rattle.fleet_goals.proofs.tests.allowed.are_allowed.Given as goal
+use Rattle.stepcalls.proofs.goals.allowed.are_allowed.Given as goal
 
 abbrev pub invariant-loop-turn : goal.invariant-loop-turn
 invariant-loop-turn l = record {

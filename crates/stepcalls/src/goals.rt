@@ -2,9 +2,9 @@
 
 mod allowed;
 
-use crate::{Aims, Turn};
 use allowed::are_allowed;
 use fleet_field::Shelf;
+use fleet_goals::{Aims, Turn};
 use fleet_grid::Grid;
 use fleet_map::MapText;
 use fleet_pibt::Goals;
@@ -29,17 +29,14 @@ fn aimed_and_turned(rt: HostRuntime) -> Result<(), Fail> {
     let grid = ring(rt.alloc())?;
     let mut aims = Aims::new(rt.alloc(), 2)?;
     let mut shelf = Shelf::new(rt.alloc(), 4096);
-    assert_eq!(rt; aims.goal(0), None);
-    assert_eq!(rt; aims.at(0, 8), None);
+    assert!(rt; aims.goal(0) == None);
+    assert!(rt; aims.at(0, 8) == None);
     assert!(rt; grid.is_floor(8));
     aims.aim(&mut shelf, &grid, 0, 8)?;
-    assert_eq!(rt; (aims.goal(0), aims.goal(1)), (Some(8), None));
-    assert_eq!(rt;
-        (aims.at(0, 0), aims.at(0, 5), aims.at(0, 4)),
-        (Some(4), Some(1), None)
-    );
+    assert!(rt; (aims.goal(0), aims.goal(1)) == (Some(8), None));
+    assert!(rt; (aims.at(0, 0), aims.at(0, 5), aims.at(0, 4)) == (Some(4), Some(1), None));
     // East and south.
-    assert_eq!(rt; (aims.ways(&grid, 0, 0), aims.ways(&grid, 1, 0)), (6, 0));
+    assert!(rt; (aims.ways(&grid, 0, 0), aims.ways(&grid, 1, 0)) == (6, 0));
     aims.aim(&mut shelf, &grid, 1, 8)?;
     let turns = [
         Turn {
@@ -53,8 +50,8 @@ fn aimed_and_turned(rt: HostRuntime) -> Result<(), Fail> {
     ];
     assert!(rt; are_allowed(&grid, 2, &turns));
     aims.turn(&mut shelf, &grid, &turns)?;
-    assert_eq!(rt; (aims.goal(0), aims.goal(1)), (Some(1), Some(8)));
-    assert_eq!(rt; (aims.at(0, 8), aims.at(1, 1)), (Some(3), Some(3)));
+    assert!(rt; (aims.goal(0), aims.goal(1)) == (Some(1), Some(8)));
+    assert!(rt; (aims.at(0, 8), aims.at(1, 1)) == (Some(3), Some(3)));
     Ok(())
 }
 

@@ -3,7 +3,7 @@
 ghost use Rattle.std.specs.Bool.{OnTrue};
 ghost use Rattle.fleet_goals.specs.Turned.{AreFloorTurns, AreKnownTurns};
 
-use crate::Turn;
+use fleet_goals::Turn;
 use fleet_grid::Grid;
 
 /// Whether each turn is one of these robots, to a floor cell or to nothing.
