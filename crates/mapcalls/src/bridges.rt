@@ -4,31 +4,45 @@ use crate::floor::grid_of;
 use fleet_bridge::{first_bridge, is_bridge};
 use fleet_grid::{Dir, Grid};
 use refusing::Refusing;
-use std::alloc::Global;
+use std::alloc::{Allocator, Global};
 use std::process::Abort;
 use std::test::Fail;
 
+/// The first bridge of a map whose letters fill its sides.
+fn first_of(
+    rt: &impl Abort,
+    alloc: Global,
+    height: u32,
+    width: u32,
+    cells: &[u8],
+) -> Result<Option<(u32, u32)>, Fail> {
+    let grid = grid_of(rt, alloc, height, width, cells)?;
+    Ok(first_bridge(alloc, &grid)?)
+}
+
 #[test]
 fn full_cycle(rt: HostRuntime) -> Result<(), Fail> {
-    let grid = grid_of(&rt, rt.alloc(), 2, 2, b"....")?;
-    assert!(rt; first_bridge(rt.alloc(), &grid)? == None);
+    assert!(rt; first_of(&rt, rt.alloc(), 2, 2, b"....")? == None);
     Ok(())
 }
 
 #[test]
 fn corridor_standoff(rt: HostRuntime) -> Result<(), Fail> {
-    let grid = grid_of(&rt, rt.alloc(), 1, 3, b"...")?;
-    assert!(rt; first_bridge(rt.alloc(), &grid)? == Some((0, 1)));
+    assert!(rt; first_of(&rt, rt.alloc(), 1, 3, b"...")? == Some((0, 1)));
+    Ok(())
+}
+
+fn tail_is_the_bridge(rt: &impl Abort, alloc: Global, grid: &Grid) -> Result<(), Fail> {
+    assert!(rt; first_bridge(alloc, grid)? == Some((4, 5)));
+    assert!(rt; edge_is_bridge(alloc, grid, 0, Dir::East)? == Some(false));
+    assert!(rt; edge_is_bridge(alloc, grid, 5, Dir::West)? == Some(true));
     Ok(())
 }
 
 #[test]
 fn failed_push(rt: HostRuntime) -> Result<(), Fail> {
     let grid = grid_of(&rt, rt.alloc(), 2, 3, b"..@...")?;
-    assert!(rt; first_bridge(rt.alloc(), &grid)? == Some((4, 5)));
-    assert!(rt; edge_is_bridge(rt.alloc(), &grid, 0, Dir::East)? == Some(false));
-    assert!(rt; edge_is_bridge(rt.alloc(), &grid, 5, Dir::West)? == Some(true));
-    Ok(())
+    tail_is_the_bridge(&rt, rt.alloc(), &grid)
 }
 
 #[test]
@@ -50,8 +64,11 @@ fn edge_is_bridge(alloc: Global, grid: &Grid, cell: u32, dir: Dir) -> Result<Opt
 fn first_by_search(alloc: Global, grid: &Grid) -> Result<Option<(u32, u32)>, Fail> {
     for cell in 0..grid.cell_count() {
         for dir in [Dir::East, Dir::South] {
-            if edge_is_bridge(alloc, grid, cell, dir)? == Some(true) {
-                return Ok(grid.neighbour(cell, dir).map(|next| (cell, next)));
+            let Some(next) = grid.neighbour(cell, dir) else {
+                continue;
+            };
+            if is_bridge(alloc, grid, cell, next)? {
+                return Ok(Some((cell, next)));
             }
         }
     }
@@ -68,16 +85,31 @@ fn drawn(alloc: Global, count: u32, mut bits: u32) -> Result<Vec<u8>, Fail> {
     Ok(cells)
 }
 
+fn is_as_searched(alloc: Global, grid: &Grid) -> Result<bool, Fail> {
+    let plain = first_by_search(alloc, grid)?;
+    Ok(first_bridge(alloc, grid)? == plain)
+}
+
+/// Whether the first bridge of such a map is the one that a search for each edge finds.
+fn is_map_as_searched(
+    rt: &impl Abort,
+    alloc: Global,
+    height: u32,
+    width: u32,
+    cells: &[u8],
+) -> Result<bool, Fail> {
+    let grid = grid_of(rt, alloc, height, width, cells)?;
+    is_as_searched(alloc, &grid)
+}
+
 #[test]
 fn small_maps_beside_the_plain_search(rt: HostRuntime) -> Result<(), Fail> {
     for (height, width) in [(3u32, 3u32), (2, 5), (1, 4), (4, 3)] {
         for bits in 0..4096u32 {
             if bits < 1 << (height * width) {
                 let cells = drawn(rt.alloc(), height * width, bits)?;
-                let grid = grid_of(&rt, rt.alloc(), height, width, &cells)?;
-                let plain = first_by_search(rt.alloc(), &grid)?;
                 assert!(rt;
-                    first_bridge(rt.alloc(), &grid)? == plain,
+                    is_map_as_searched(&rt, rt.alloc(), height, width, &cells)?,
                     "{height} {width} {bits}"
                 );
             }
@@ -89,8 +121,7 @@ fn small_maps_beside_the_plain_search(rt: HostRuntime) -> Result<(), Fail> {
 #[test]
 fn large_open_map(rt: HostRuntime) -> Result<(), Fail> {
     let cells = vec![in rt.alloc(); b'.'; 1048576]?;
-    let grid = grid_of(&rt, rt.alloc(), 1024, 1024, &cells)?;
-    assert!(rt; first_bridge(rt.alloc(), &grid)? == None);
+    assert!(rt; first_of(&rt, rt.alloc(), 1024, 1024, &cells)? == None);
     Ok(())
 }
 
@@ -106,16 +137,18 @@ fn border(alloc: Global, side: u32) -> Result<Vec<u8>, Fail> {
     Ok(cells)
 }
 
+fn cut_border(rt: &impl Abort, alloc: Global, cells: &mut [u8]) -> Result<(), Fail> {
+    assert!(rt; first_of(rt, alloc, 1024, 1024, cells)? == None);
+    assert!(rt; cells.len() > 5);
+    cells[5] = b'@';
+    assert!(rt; first_of(rt, alloc, 1024, 1024, cells)? == Some((0, 1)));
+    Ok(())
+}
+
 #[test]
 fn large_border(rt: HostRuntime) -> Result<(), Fail> {
     let mut cells = border(rt.alloc(), 1024)?;
-    let grid = grid_of(&rt, rt.alloc(), 1024, 1024, &cells)?;
-    assert!(rt; first_bridge(rt.alloc(), &grid)? == None);
-    assert!(rt; cells.len() > 5);
-    cells[5] = b'@';
-    let grid = grid_of(&rt, rt.alloc(), 1024, 1024, &cells)?;
-    assert!(rt; first_bridge(rt.alloc(), &grid)? == Some((0, 1)));
-    Ok(())
+    cut_border(&rt, rt.alloc(), &mut cells)
 }
 
 /// A ring of 76 cells, and beside cell 200 the cell 201, to which no other way leads.
@@ -133,6 +166,21 @@ fn bridge_behind_a_long_ring(rt: HostRuntime) -> Result<(), Fail> {
     Ok(())
 }
 
+/// Whether a growth is refused. The next call over the same memory finds the first bridge then.
+fn is_refused(
+    rt: &impl Abort,
+    heap: impl Allocator + Copy,
+    grid: &Grid,
+    first: (u32, u32),
+) -> Result<bool, Fail> {
+    let met = first_bridge(heap, grid).is_err();
+    let found = first_bridge(heap, grid);
+    if met {
+        assert!(rt; found? == Some(first));
+    }
+    Ok(met)
+}
+
 /// Refuses each growth in turn, until none is refused.
 fn refuse_growths<R: Alloc<A = Global> + Abort>(
     rt: &R,
@@ -141,22 +189,23 @@ fn refuse_growths<R: Alloc<A = Global> + Abort>(
 ) -> Result<(), Fail> {
     let mut unrefused = None;
     for before in 0..64 {
-        let heap = Refusing::after(rt.alloc(), before);
-        let met = first_bridge(&heap, grid).is_err();
-        let found = first_bridge(&heap, grid);
-        if !met {
+        if !is_refused(rt, &Refusing::after(rt.alloc(), before), grid, first)? {
             unrefused = Some(before);
             break;
         }
-        assert!(rt; found? == Some(first));
     }
     assert!(rt; unrefused.is_some());
     Ok(())
 }
 
+fn refuse_growths_of_ring<R: Alloc<A = Global> + Abort>(rt: &R) -> Result<(), Fail> {
+    let grid = ring_with_tail(rt, rt.alloc())?;
+    refuse_growths(rt, &grid, (200, 201))
+}
+
 #[test]
 fn refused_growths(rt: HostRuntime) -> Result<(), Fail> {
+    refuse_growths_of_ring(&rt)?;
     let grid = grid_of(&rt, rt.alloc(), 2, 3, b"..@...")?;
-    refuse_growths(&rt, &grid, (4, 5))?;
-    refuse_growths(&rt, &ring_with_tail(&rt, rt.alloc())?, (200, 201))
+    refuse_growths(&rt, &grid, (4, 5))
 }

@@ -1,11 +1,14 @@
 //! The worked steps, a whole fleet, and each growth refused in turn.
 
+ghost use Rattle.fleet_grid.specs.Step.{IsPlacement};
+
 use crate::placement::is_placement;
 use fleet_check::{StepFault, check_step};
 use fleet_grid::Grid;
 use fleet_map::MapText;
 use refusing::Refusing;
-use std::alloc::Global;
+use std::alloc::{AllocError, Allocator, Global};
+use std::process::Abort;
 use std::test::Fail;
 
 /// The map `../..`.
@@ -30,11 +33,9 @@ fn hall(alloc: Global) -> Result<Grid, Fail> {
     Ok(Grid::new(map)?)
 }
 
-#[test]
-fn step_faults(rt: HostRuntime) -> Result<(), Fail> {
-    let grid = square(rt.alloc())?;
-    let from = [0, 1];
-    assert!(rt; is_placement(&grid, &from));
+/// Steps of two robots that stand on cells 0 and 1.
+fn check_steps(rt: &impl Abort, alloc: Global, grid: &Grid) {
+    assert!(rt; is_placement(grid, &[0, 1]));
     let cases: [(&[u32], Result<(), StepFault>); 6] = [
         (&[1, 0], Err(StepFault::Swap(0, 1))),
         (&[1, 1], Err(StepFault::Vertex(0, 1))),
@@ -45,10 +46,50 @@ fn step_faults(rt: HostRuntime) -> Result<(), Fail> {
     ];
     for (to, outcome) in cases {
         assert!(rt;
-            check_step(rt.alloc(), &grid, &from, to) == outcome,
+            check_step(alloc, grid, &[0, 1], to) == outcome,
             "{outcome:?}"
         );
     }
+}
+
+#[test]
+fn step_faults(rt: HostRuntime) -> Result<(), Fail> {
+    let grid = square(rt.alloc())?;
+    check_steps(&rt, rt.alloc(), &grid);
+    Ok(())
+}
+
+/// The numbers of these cells, of which robot 0 stands on the first.
+fn cells_between(alloc: Global, first: u32, end: u32) -> Result<Vec<u32>, AllocError> {
+    let mut cells = Vec::new(alloc);
+    for cell in first..end {
+        cells.push(cell)?;
+    }
+    Ok(cells)
+}
+
+/// The last two robots to one cell, then across one edge, and robots 0 and 32 across another.
+fn change_cells(rt: &impl Abort, alloc: Global, grid: &Grid, from: &[u32], to: &mut [u32])
+    requires { IsPlacement grid.now from.now }
+{
+    assert!(rt; to.len() == 512);
+    to[511] = 510;
+    assert!(rt; check_step(alloc, grid, from, to) == Err(StepFault::Vertex(510, 511)));
+    to[510] = 511;
+    assert!(rt; check_step(alloc, grid, from, to) == Err(StepFault::Swap(510, 511)));
+    to[0] = 32;
+    to[32] = 0;
+    assert!(rt; check_step(alloc, grid, from, to) == Err(StepFault::Swap(0, 32)));
+}
+
+fn move_fleet(rt: &impl Abort, alloc: Global, grid: &Grid, from: &[u32]) -> Result<(), Fail>
+    requires { IsPlacement grid.now from.now }
+{
+    assert!(rt; check_step(alloc, grid, from, from) == Ok(()));
+    let south = cells_between(alloc, 32, 544)?;
+    assert!(rt; check_step(alloc, grid, from, &south) == Ok(()));
+    let mut last = from.to_vec(alloc)?;
+    change_cells(rt, alloc, grid, from, &mut last);
     Ok(())
 }
 
@@ -56,25 +97,26 @@ fn step_faults(rt: HostRuntime) -> Result<(), Fail> {
 #[test]
 fn whole_fleet(rt: HostRuntime) -> Result<(), Fail> {
     let grid = hall(rt.alloc())?;
-    let mut from = Vec::new(rt.alloc());
-    let mut south = Vec::new(rt.alloc());
-    for robot in 0..512u32 {
-        from.push(robot)?;
-        south.push(robot + 32)?;
-    }
+    let from = cells_between(rt.alloc(), 0, 512)?;
     assert!(rt; is_placement(&grid, &from));
-    assert!(rt; check_step(rt.alloc(), &grid, &from, &from) == Ok(()));
-    assert!(rt; check_step(rt.alloc(), &grid, &from, &south) == Ok(()));
-    let mut last = from.clone()?;
-    assert!(rt; last.len() == 512);
-    last[511] = 510;
-    assert!(rt; check_step(rt.alloc(), &grid, &from, &last) == Err(StepFault::Vertex(510, 511)));
-    last[510] = 511;
-    assert!(rt; check_step(rt.alloc(), &grid, &from, &last) == Err(StepFault::Swap(510, 511)));
-    last[0] = 32;
-    last[32] = 0;
-    assert!(rt; check_step(rt.alloc(), &grid, &from, &last) == Err(StepFault::Swap(0, 32)));
-    Ok(())
+    move_fleet(&rt, rt.alloc(), &grid, &from)
+}
+
+/// Whether a growth is refused while a step is checked. A second check of it meets no refusal then.
+fn is_refused(rt: &impl Abort, heap: impl Allocator + Copy, grid: &Grid, from: &[u32]) -> bool
+    requires { IsPlacement grid.now from.now }
+{
+    let met = check_step(heap, grid, from, &[1, 3, 0]) == Err(StepFault::NoMemory);
+    assert!(rt; check_step(heap, grid, from, &[1, 3, 0]) == Ok(()) || !met);
+    met
+}
+
+/// What comes before the conflicts is named without memory.
+fn name_without_memory(rt: &impl Abort, heap: impl Allocator + Copy, grid: &Grid, from: &[u32])
+    requires { IsPlacement grid.now from.now }
+{
+    assert!(rt; check_step(heap, grid, from, &[1, 3, 1, 0]) == Err(StepFault::Length));
+    assert!(rt; check_step(heap, grid, from, &[3, 3, 3]) == Err(StepFault::NotAdjacent(0)));
 }
 
 #[test]
@@ -84,43 +126,50 @@ fn refused_growths(rt: HostRuntime) -> Result<(), Fail> {
     assert!(rt; is_placement(&grid, &from));
     let mut unrefused = None;
     for before in 0..8 {
-        let heap = Refusing::after(rt.alloc(), before);
-        let met = check_step(&heap, &grid, &from, &[1, 3, 0]) == Err(StepFault::NoMemory);
-        assert!(rt; check_step(&heap, &grid, &from, &[1, 3, 0]) == Ok(()) || !met);
-        if !met {
+        if !is_refused(&rt, &Refusing::after(rt.alloc(), before), &grid, &from) {
             unrefused = Some(before);
             break;
         }
     }
     assert!(rt; unrefused == Some(1));
-    // What comes before the conflicts is named without memory.
-    let heap = Refusing::after(rt.alloc(), 0);
-    assert!(rt; check_step(&heap, &grid, &from, &[1, 3, 1, 0]) == Err(StepFault::Length));
-    assert!(rt; check_step(&heap, &grid, &from, &[3, 3, 3]) == Err(StepFault::NotAdjacent(0)));
+    name_without_memory(&rt, &Refusing::after(rt.alloc(), 0), &grid, &from);
     Ok(())
+}
+
+/// How many growths are refused in turn before one check of the step meets no refusal; 16 at most.
+fn count_refused(rt: &impl Abort, alloc: Global, grid: &Grid, from: &[u32], to: &[u32]) -> u64
+    requires { IsPlacement grid.now from.now }
+{
+    for before in 0..16 {
+        let said = check_step(&Refusing::after(alloc, before), grid, from, to);
+        if said == Ok(()) {
+            return before;
+        }
+        assert!(rt; said == Err(StepFault::NoMemory));
+    }
+    16
+}
+
+/// How many growths are refused in turn while the first robots move a row to the south.
+fn count_refused_south(
+    rt: &impl Abort,
+    alloc: Global,
+    grid: &Grid,
+    from: &[u32],
+) -> Result<u64, AllocError>
+    requires { IsPlacement grid.now from.now }
+{
+    let south = cells_between(alloc, 32, 56)?;
+    Ok(count_refused(rt, alloc, grid, from, &south))
 }
 
 /// A step of 24 robots: the table of seats grows more than once, and each growth is refused in turn.
 #[test]
 fn refused_growths_of_a_fleet(rt: HostRuntime) -> Result<(), Fail> {
     let grid = hall(rt.alloc())?;
-    let mut from = Vec::new(rt.alloc());
-    let mut south = Vec::new(rt.alloc());
-    for robot in 0..24u32 {
-        from.push(robot)?;
-        south.push(robot + 32)?;
-    }
+    let from = cells_between(rt.alloc(), 0, 24)?;
     assert!(rt; is_placement(&grid, &from));
-    let mut refused = 0;
-    for before in 0..16 {
-        let heap = Refusing::after(rt.alloc(), before);
-        let said = check_step(&heap, &grid, &from, &south);
-        if said == Ok(()) {
-            break;
-        }
-        assert!(rt; said == Err(StepFault::NoMemory));
-        refused = before + 1;
-    }
+    let refused = count_refused_south(&rt, rt.alloc(), &grid, &from)?;
     assert!(rt; refused >= 2 && refused < 16);
     Ok(())
 }

@@ -1,23 +1,53 @@
 //! The worked map, shared fields, many goals, a large map, and each growth refused in turn.
 
 mod kept;
+mod large;
+mod refused;
+
+ghost use Rattle.std.specs.Prelude.{◌≡◌, [], IfOk, IsSome};
+ghost use Rattle.fleet_grid.specs.Floor.{IsFloor};
+ghost use Rattle.fleet_field.specs.Store.{Serves, shown};
 
 use crate::floor::{are_floor, grid_of};
 use fleet_field::{Compass, Field, FieldStore, fields};
 use fleet_grid::Grid;
-use refusing::Refusing;
-use std::alloc::Global;
+use std::alloc::{AllocError, Allocator, Global};
 use std::process::Abort;
 use std::test::Fail;
 use std::thread::Threads;
 
-/// The map `.../.@./...`.
-fn ring(rt: &impl Abort, alloc: Global) -> Result<Grid, Fail> {
-    grid_of(rt, alloc, 3, 3, b"....@....")
+/// The map `.../.@./...`. Its corners 0, 2 and 8 are goals.
+fn ring(rt: &impl Abort, alloc: Global) -> Result<Grid, Fail>
+    ensures { IfOk result (λ grid. IsFloor grid 0 × IsFloor grid 2 × IsFloor grid 8) }
+{
+    let grid = grid_of(rt, alloc, 3, 3, b"....@....")?;
+    assert!(rt; grid.is_floor(0) && grid.is_floor(2) && grid.is_floor(8));
+    Ok(grid)
 }
 
-/// The distances of the ring's cells to cell 0.
-const AROUND: [Option<u32>; 9] = [
+/// Holds a goal once more. Its key is held.
+fn hold<A: Allocator + Copy>(
+    store: &mut FieldStore<A>,
+    grid: &Grid,
+    goal: u32,
+) -> Result<usize, AllocError>
+    requires floor { IsFloor grid.now goal }
+    requires serves { Serves grid.now store.old }
+    ensures held { IfOk result (λ key. IsSome (shown store.new key)) }
+    ensures serves { Serves grid.now store.new }
+{
+    if !store.can_hold(goal) {
+        return Err(AllocError);
+    }
+    let key = store.hold(grid, goal)?;
+    if !store.is_held(key) {
+        return Err(AllocError);
+    }
+    Ok(key)
+}
+
+/// The distances of the ring's cells to cell 0. There is no cell 9.
+const AROUND: [Option<u32>; 10] = [
     Some(0),
     Some(1),
     Some(2),
@@ -27,31 +57,68 @@ const AROUND: [Option<u32>; 9] = [
     Some(2),
     Some(3),
     Some(4),
+    None,
 ];
+
+fn distances(field: &Field) -> [Option<u32>; 10] {
+    let mut away = [None; 10];
+    for cell in 0..10 {
+        away[cell] = field.at(cell as u32);
+    }
+    away
+}
+
+fn distances_alone(alloc: Global, grid: &Grid) -> Result<[Option<u32>; 10], Fail>
+    requires { IsFloor grid.now 0 }
+{
+    let field = Field::from(alloc, grid, 0)?;
+    Ok(distances(&field))
+}
+
+fn distances_together(
+    rt: &(impl Abort + Threads + Sync),
+    alloc: Global,
+    grid: &Grid,
+) -> Result<[Option<u32>; 10], Fail> {
+    assert!(rt; are_floor(grid, &[0]));
+    let several = fields(rt, alloc, grid, &[0])?;
+    assert!(rt; several.len() == 1);
+    Ok(distances(&several[0]))
+}
+
+/// The distances that a store gives for a goal that is held twice.
+fn distances_shared(
+    rt: &impl Abort,
+    store: &mut FieldStore,
+    grid: &Grid,
+) -> Result<[Option<u32>; 10], Fail>
+    requires floor { IsFloor grid.now 0 }
+    requires serves { Serves grid.now store.old }
+{
+    let first = hold(store, grid, 0)?;
+    assert!(rt; hold(store, grid, 0)? == first);
+    assert!(rt; store.is_held(first));
+    let mut away = [None; 10];
+    for cell in 0..10 {
+        away[cell] = store.at(first, cell as u32);
+    }
+    Ok(away)
+}
+
+fn distances_held(rt: &impl Abort, alloc: Global, grid: &Grid) -> Result<[Option<u32>; 10], Fail>
+    requires { IsFloor grid.now 0 }
+{
+    let mut store = FieldStore::new(alloc)?;
+    distances_shared(rt, &mut store, grid)
+}
 
 #[test]
 fn ring_distances(rt: HostRuntime) -> Result<(), Fail> {
     let grid = ring(&rt, rt.alloc())?;
-    assert!(rt; grid.is_floor(0));
-    let field = Field::from(rt.alloc(), &grid, 0)?;
-    assert!(rt; are_floor(&grid, &[0]));
-    let several = fields(&rt, rt.alloc(), &grid, &[0])?;
-    assert!(rt; several.len() == 1);
-    let mut store = FieldStore::new(rt.alloc())?;
-    assert!(rt; store.can_hold(0));
-    let first = store.hold(&grid, 0)?;
-    assert!(rt; store.can_hold(0));
-    let second = store.hold(&grid, 0)?;
-    assert!(rt; first == second);
-    assert!(rt; store.is_held(first));
-    for (cell, away) in AROUND.iter().enumerate() {
-        if cell < 9 {
-            assert!(rt; field.at(cell as u32) == *away, "at {cell}");
-            assert!(rt; several[0].at(cell as u32) == *away, "at {cell}");
-            assert!(rt; store.at(first, cell as u32) == *away, "at {cell}");
-        }
-    }
-    assert!(rt; field.at(9).is_none());
+    let alone = distances_alone(rt.alloc(), &grid)?;
+    let together = distances_together(&rt, rt.alloc(), &grid)?;
+    let held = distances_held(&rt, rt.alloc(), &grid)?;
+    assert!(rt; [alone, together, held] == [AROUND; 3]);
     Ok(())
 }
 
@@ -67,181 +134,166 @@ const WAYS: [(u32, u8); 8] = [
     (8, 9),
 ];
 
+fn ways_by_field(rt: &impl Abort, grid: &Grid, field: &Field) {
+    for (cell, ways) in WAYS {
+        assert!(rt; field.ways(grid, cell) == ways, "at {cell}");
+    }
+}
+
+fn ways_by_compass(rt: &impl Abort, grid: &Grid, compass: &Compass, field: &Field) {
+    assert!(rt; compass.goal() == 0);
+    for (cell, ways) in WAYS {
+        assert!(rt;
+            (compass.ways(grid, cell), compass.at(cell)) == (ways, field.at(cell)),
+            "at {cell}"
+        );
+    }
+}
+
+fn ways_by_store(rt: &impl Abort, grid: &Grid, store: &mut FieldStore) -> Result<(), Fail>
+    requires floor { IsFloor grid.now 0 }
+    requires serves { Serves grid.now store.old }
+{
+    let key = hold(store, grid, 0)?;
+    for (cell, ways) in WAYS {
+        assert!(rt; store.ways(grid, key, cell) == ways, "at {cell}");
+    }
+    Ok(())
+}
+
+fn ways_of_searched(rt: &impl Abort, alloc: Global, grid: &Grid) -> Result<(), Fail>
+    requires { IsFloor grid.now 0 }
+{
+    let field = Field::from(alloc, grid, 0)?;
+    let compass = Compass::from(alloc, grid, 0)?;
+    ways_by_field(rt, grid, &field);
+    ways_by_compass(rt, grid, &compass, &field);
+    Ok(())
+}
+
 #[test]
 fn ring_ways(rt: HostRuntime) -> Result<(), Fail> {
     let grid = ring(&rt, rt.alloc())?;
-    assert!(rt; grid.is_floor(0));
-    let field = Field::from(rt.alloc(), &grid, 0)?;
-    let compass = Compass::from(rt.alloc(), &grid, 0)?;
-    assert!(rt; compass.goal() == 0);
+    ways_of_searched(&rt, rt.alloc(), &grid)?;
     let mut store = FieldStore::new(rt.alloc())?;
-    assert!(rt; store.can_hold(0));
-    let key = store.hold(&grid, 0)?;
+    ways_by_store(&rt, &grid, &mut store)
+}
+
+/// Gives back one of two holds of a key, and the other.
+fn release_both(rt: &impl Abort, store: &mut FieldStore, grid: &Grid, key: usize)
+    requires held { IsSome (shown store.old key) }
+    requires serves { Serves grid.now store.old }
+    ensures { Serves grid.now store.new }
+{
+    store.release(key);
     assert!(rt; store.is_held(key));
-    for (cell, ways) in WAYS {
-        assert!(rt; field.ways(&grid, cell) == ways, "at {cell}");
-        assert!(rt; compass.ways(&grid, cell) == ways, "at {cell}");
-        assert!(rt; compass.at(cell) == field.at(cell), "at {cell}");
-        assert!(rt; store.ways(&grid, key, cell) == ways, "at {cell}");
-    }
+    assert!(rt; store.at(key, 8) == Some(4));
+    store.release(key);
+    assert!(rt; !store.is_held(key));
+}
+
+fn hold_again_and_anew(rt: &impl Abort, store: &mut FieldStore, grid: &Grid) -> Result<(), Fail>
+    requires floor { IsFloor grid.now 0 × IsFloor grid.now 8 }
+    requires serves { Serves grid.now store.old }
+{
+    let first = hold(store, grid, 0)?;
+    let key = hold(store, grid, 0)?;
+    assert!(rt; key == first);
+    release_both(rt, store, grid, key);
+    let key = hold(store, grid, 8)?;
+    assert!(rt; (store.goal(key), store.at(key, 0)) == (8, Some(4)));
     Ok(())
 }
 
 #[test]
 fn held_and_released(rt: HostRuntime) -> Result<(), Fail> {
     let grid = ring(&rt, rt.alloc())?;
-    assert!(rt; grid.is_floor(0));
-    assert!(rt; grid.is_floor(8));
     let mut store = FieldStore::new(rt.alloc())?;
-    assert!(rt; store.can_hold(0));
-    let key = store.hold(&grid, 0)?;
-    assert!(rt; store.can_hold(0));
-    assert!(rt; store.hold(&grid, 0)? == key);
-    assert!(rt; store.is_held(key));
-    store.release(key);
-    assert!(rt; store.is_held(key));
-    assert!(rt; store.at(key, 8) == Some(4));
-    store.release(key);
-    assert!(rt; !store.is_held(key));
-    assert!(rt; store.can_hold(8));
-    let key = store.hold(&grid, 8)?;
-    assert!(rt; store.is_held(key));
-    assert!(rt; store.goal(key) == 8);
-    assert!(rt; store.at(key, 0) == Some(4));
+    hold_again_and_anew(&rt, &mut store, &grid)
+}
+
+const SHARED: [u32; 3] = [0, 8, 0];
+
+fn check_goals(rt: &impl Abort, store: &FieldStore, keys: &[usize]) {
+    assert!(rt; keys.len() == 3);
+    assert!(rt; keys[0] == keys[2] && keys[0] != keys[1]);
+    for at in 0..3 {
+        assert!(rt; store.is_held(keys[at]));
+        assert!(rt; store.goal(keys[at]) == SHARED[at]);
+    }
+}
+
+fn hold_shared(
+    rt: &(impl Abort + Threads + Sync),
+    store: &mut FieldStore,
+    grid: &Grid,
+) -> Result<(), Fail>
+    requires { store.old ≡ [] }
+{
+    assert!(rt; are_floor(grid, &SHARED));
+    let keys = store.hold_all(rt, grid, &SHARED)?;
+    check_goals(rt, store, &keys);
     Ok(())
 }
 
 #[test]
 fn held_together(rt: HostRuntime) -> Result<(), Fail> {
     let grid = ring(&rt, rt.alloc())?;
-    let goals = [0, 8, 0];
-    assert!(rt; are_floor(&grid, &goals));
     let mut store = FieldStore::new(rt.alloc())?;
-    let keys = store.hold_all(&rt, &grid, &goals)?;
-    assert!(rt; keys.len() == 3);
-    assert!(rt; keys[0] == keys[2] && keys[0] != keys[1]);
-    for (at, key) in keys.iter().enumerate() {
-        if at < 3 {
-            assert!(rt; store.is_held(*key));
-            assert!(rt; store.goal(*key) == goals[at]);
-        }
+    hold_shared(&rt, &mut store, &grid)
+}
+
+/// Goals on the ring's floor: the numbers to 3,000 by nine, with 0 for the wall.
+fn goals_around(alloc: Global) -> Result<Vec<u32>, AllocError> {
+    let mut goals = Vec::new(alloc);
+    for number in 0..3000u32 {
+        let goal = number % 9;
+        goals.push(if goal == 4 { 0 } else { goal })?;
+    }
+    Ok(goals)
+}
+
+/// Whether the field is the one that a single call makes.
+fn is_like_single(alloc: Global, grid: &Grid, goal: u32, field: &Field) -> Result<bool, AllocError>
+    requires { IsFloor grid.now goal }
+{
+    let single = Field::from(alloc, grid, goal)?;
+    Ok(field.goal() == goal && distances(field) == distances(&single))
+}
+
+fn are_like_singles(
+    rt: &impl Abort,
+    alloc: Global,
+    grid: &Grid,
+    goals: &[u32],
+    several: &[Field],
+) -> Result<(), Fail> {
+    assert!(rt; several.len() == 3000 && goals.len() == 3000);
+    for at in 0..3000 {
+        assert!(rt; grid.is_floor(goals[at]));
+        assert!(rt;
+            is_like_single(alloc, grid, goals[at], &several[at])?,
+            "at {at}"
+        );
     }
     Ok(())
+}
+
+fn search_together(
+    rt: &(impl Abort + Threads + Sync),
+    alloc: Global,
+    grid: &Grid,
+    goals: &[u32],
+) -> Result<(), Fail> {
+    assert!(rt; are_floor(grid, goals));
+    let several = fields(rt, alloc, grid, goals)?;
+    are_like_singles(rt, alloc, grid, goals, &several)
 }
 
 /// Each field beside the one that a single call makes.
 #[test]
 fn many_goals(rt: HostRuntime) -> Result<(), Fail> {
     let grid = ring(&rt, rt.alloc())?;
-    let mut goals = Vec::new(rt.alloc());
-    for number in 0..3000u32 {
-        let goal = number % 9;
-        goals.push(if goal == 4 { 0 } else { goal })?;
-    }
-    assert!(rt; are_floor(&grid, &goals));
-    let several = fields(&rt, rt.alloc(), &grid, &goals)?;
-    assert!(rt; several.len() == 3000 && goals.len() == 3000);
-    for at in 0..3000 {
-        let goal = goals[at];
-        assert!(rt; grid.is_floor(goal));
-        let single = Field::from(rt.alloc(), &grid, goal)?;
-        assert!(rt; several[at].goal() == goal);
-        for cell in 0..10 {
-            assert!(rt; several[at].at(cell) == single.at(cell), "{goal} {cell}");
-        }
-    }
-    Ok(())
-}
-
-/// The distance of a cell to cell 0.
-fn distance_from(
-    rt: &impl Abort,
-    alloc: Global,
-    grid: &Grid,
-    cell: u32,
-) -> Result<Option<u32>, Fail> {
-    assert!(rt; grid.is_floor(0));
-    let field = Field::from(alloc, grid, 0)?;
-    Ok(field.at(cell))
-}
-
-#[test]
-fn large_open_map(rt: HostRuntime) -> Result<(), Fail> {
-    let cells = vec![in rt.alloc(); b'.'; 1048576]?;
-    let grid = grid_of(&rt, rt.alloc(), 1024, 1024, &cells)?;
-    assert!(rt; distance_from(&rt, rt.alloc(), &grid, 1048575)? == Some(2046));
-    Ok(())
-}
-
-/// The distances between two cells, from two fields that are searched side by side.
-fn distances_between(
-    rt: &(impl Abort + Threads + Sync),
-    alloc: Global,
-    grid: &Grid,
-    a: u32,
-    b: u32,
-) -> Result<[Option<u32>; 2], Fail> {
-    let goals = [a, b];
-    assert!(rt; are_floor(grid, &goals));
-    let both = fields(rt, alloc, grid, &goals)?;
-    assert!(rt; both.len() == 2);
-    Ok([both[0].at(b), both[1].at(a)])
-}
-
-#[test]
-fn large_map_side_by_side(rt: HostRuntime) -> Result<(), Fail> {
-    let cells = vec![in rt.alloc(); b'.'; 1048576]?;
-    let grid = grid_of(&rt, rt.alloc(), 1024, 1024, &cells)?;
-    let both = distances_between(&rt, rt.alloc(), &grid, 0, 1048575)?;
-    assert!(rt; both == [Some(2046), Some(2046)]);
-    Ok(())
-}
-
-#[test]
-fn refused_growths(rt: HostRuntime) -> Result<(), Fail> {
-    let grid = ring(&rt, rt.alloc())?;
-    assert!(rt; grid.is_floor(0));
-    let mut unrefused = None;
-    for before in 0..32 {
-        let heap = Refusing::after(rt.alloc(), before);
-        let mut store = FieldStore::new(&heap)?;
-        assert!(rt; store.can_hold(0));
-        let met = store.hold(&grid, 0).is_err();
-        assert!(rt; store.can_hold(0));
-        let key = store.hold(&grid, 0)?;
-        assert!(rt; store.is_held(key));
-        assert!(rt; store.at(key, 8) == Some(4));
-        if !met {
-            unrefused = Some(before);
-            break;
-        }
-    }
-    assert!(rt; unrefused.is_some());
-    Ok(())
-}
-
-/// Holds all goals of a list, while one growth is refused, and once more where it was.
-#[test]
-fn refused_growths_of_several(rt: HostRuntime) -> Result<(), Fail> {
-    let grid = ring(&rt, rt.alloc())?;
-    let goals = [0, 8, 0];
-    assert!(rt; are_floor(&grid, &goals));
-    let mut unrefused = None;
-    for before in 0..32 {
-        let heap = Refusing::after(rt.alloc(), before);
-        let mut store = FieldStore::new(&heap)?;
-        match store.hold_all(&rt, &grid, &goals) {
-            Ok(_) => {
-                unrefused = Some(before);
-                break;
-            }
-            Err(_) => {
-                let keys = store.hold_all(&rt, &grid, &goals)?;
-                assert!(rt; keys.len() == 3 && keys[0] == keys[2]);
-                assert!(rt; store.is_held(keys[1]) && store.at(keys[1], 0) == Some(4));
-            }
-        }
-    }
-    assert!(rt; unrefused.is_some());
-    Ok(())
+    let goals = goals_around(rt.alloc())?;
+    search_together(&rt, rt.alloc(), &grid, &goals)
 }

@@ -3,7 +3,8 @@
 use fleet_map::text::{first_line, first_word, is_blank_byte, number_up_to, trimmed_line};
 use fleet_map::{MOST_SIDE, MapFault, read_map};
 use refusing::Refusing;
-use std::alloc::{AllocError, Global};
+use std::alloc::{AllocError, Allocator, Global};
+use std::process::Abort;
 use std::test::Fail;
 
 #[test]
@@ -136,16 +137,26 @@ fn open_floor(alloc: Global, height: u64, width: u64) -> Result<String, AllocErr
     Ok(text)
 }
 
+/// The sides and the number of cells that are read of an open map, or its fault.
+fn read_sides(
+    alloc: Global,
+    height: u64,
+    width: u64,
+) -> Result<Result<(u32, u32, usize), MapFault>, AllocError> {
+    let text = open_floor(alloc, height, width)?;
+    match read_map(alloc, text.as_bytes()) {
+        Ok(map) => Ok(Ok((map.height, map.width, map.cells.len()))),
+        Err(fault) => Ok(Err(fault)),
+    }
+}
+
 #[test]
 fn side_limits(rt: HostRuntime) -> Result<(), Fail> {
     assert!(rt; MOST_SIDE == 1024);
-    let text = open_floor(rt.alloc(), 1024, 1024)?;
-    let map = read_map(rt.alloc(), text.as_bytes())?;
-    assert!(rt; (map.height, map.width, map.cells.len()) == (1024, 1024, 1_048_576));
+    assert!(rt; read_sides(rt.alloc(), 1024, 1024)? == Ok((1024, 1024, 1_048_576)));
     for (height, width) in [(1025, 1), (1, 1025), (0, 1), (1, 0)] {
-        let text = open_floor(rt.alloc(), height, width)?;
-        let read = read_map(rt.alloc(), text.as_bytes());
-        assert!(rt; matches!(read, Err(MapFault::Size)), "{height} by {width}");
+        let read = read_sides(rt.alloc(), height, width)?;
+        assert!(rt; read == Err(MapFault::Size), "{height} by {width}");
     }
     Ok(())
 }
@@ -179,29 +190,33 @@ fn lines_words_and_numbers(rt: HostRuntime) -> Result<(), Fail> {
     let (word, rest) = first_word(line).ok_or("a word")?;
     assert!(rt; (word, rest) == (b"ab".as_slice(), b"c ".as_slice()));
     assert!(rt; first_word(b" \t").is_none());
-    assert!(rt; number_up_to(b"0017", 1025) == Some(17));
-    assert!(rt; number_up_to(b"4294967297", 1025) == Some(1025));
-    assert!(rt; number_up_to(b"1-7", 1025) == None);
+    let whole = number_up_to(b"0017", 1025);
+    let large = number_up_to(b"4294967297", 1025);
+    assert!(rt; [whole, large, number_up_to(b"1-7", 1025)] == [Some(17), Some(1025), None]);
     assert!(rt; is_blank_byte(b'\t') && !is_blank_byte(b'\r'));
     Ok(())
 }
 
-/// Each growth is refused in turn, until a read meets no refusal. The next read over the same
-/// memory gives the map.
+/// Whether a read meets a refused growth. The next read over the same memory gives the map then.
+fn is_refused(rt: &impl Abort, heap: impl Allocator + Copy) -> Result<bool, Fail> {
+    let met = matches!(read_map(heap, WHOLE), Err(MapFault::NoMemory));
+    let map = read_map(heap, WHOLE);
+    if met {
+        let map = map?;
+        assert!(rt; (map.height, map.width, map.cells.as_slice()) == (1, 3, b"...".as_slice()));
+    }
+    Ok(met)
+}
+
+/// Each growth is refused in turn, until a read meets no refusal.
 #[test]
 fn refused_growths(rt: HostRuntime) -> Result<(), Fail> {
     let mut unrefused = None;
     for before in 0..8 {
-        let heap = Refusing::after(rt.alloc(), before);
-        let met = matches!(read_map(&heap, WHOLE), Err(MapFault::NoMemory));
-        let map = read_map(&heap, WHOLE);
-        if !met {
+        if !is_refused(&rt, &Refusing::after(rt.alloc(), before))? {
             unrefused = Some(before);
             break;
         }
-        let map = map?;
-        assert!(rt; (map.height, map.width) == (1, 3));
-        assert!(rt; map.cells.as_slice() == b"...".as_slice());
     }
     // A read grows once.
     assert!(rt; unrefused == Some(1));

@@ -9,8 +9,10 @@ use crate::floor::are_floor;
 use fleet_field::{FieldStore, Shelf};
 use fleet_grid::Grid;
 use refusing::Refusing;
-use std::alloc::{AllocError, Allocator};
+use std::alloc::{AllocError, Allocator, Global};
+use std::process::Abort;
 use std::test::Fail;
+use std::thread::Threads;
 
 /// Holds the goal, asks how far the cell is, and releases the goal.
 fn visit<A: Allocator + Copy>(
@@ -38,39 +40,107 @@ fn visit<A: Allocator + Copy>(
     Ok(away)
 }
 
-#[test]
-fn held_again_without_memory(rt: HostRuntime) -> Result<(), Fail> {
-    let grid = ring(&rt, rt.alloc())?;
-    assert!(rt; grid.is_floor(0));
-    for before in 0..16 {
-        let heap = Refusing::after(rt.alloc(), before);
-        let Ok(mut store) = FieldStore::new(&heap) else {
-            continue;
-        };
-        let mut shelf = Shelf::new(&heap, 4096);
-        if visit(&mut store, &mut shelf, &grid, 0, 8).is_err() {
-            continue;
-        }
-        // Where no growth was left behind the first visit, one here would be refused.
-        assert!(rt; visit(&mut store, &mut shelf, &grid, 0, 8)? == Some(4));
+/// Where no growth was left behind the first visit, one in the second would be refused.
+fn visit_again<A: Allocator + Copy>(
+    rt: &impl Abort,
+    store: &mut FieldStore<A>,
+    shelf: &mut Shelf<A>,
+    grid: &Grid,
+) -> Result<(), Fail>
+    requires floor { IsFloor grid.now 0 }
+    requires serves { Serves grid.now store.old }
+    requires keeps { Keeps grid.now shelf.old }
+{
+    if visit(store, shelf, grid, 0, 8).is_ok() {
+        assert!(rt; visit(store, shelf, grid, 0, 8)? == Some(4));
     }
     Ok(())
 }
 
+fn visit_again_after(rt: &impl Abort, alloc: Global, before: u64, grid: &Grid) -> Result<(), Fail>
+    requires { IsFloor grid.now 0 }
+{
+    let heap = Refusing::after(alloc, before);
+    let mut store = FieldStore::new(&heap)?;
+    let mut shelf = Shelf::new(&heap, 4096);
+    visit_again(rt, &mut store, &mut shelf, grid)
+}
+
+#[test]
+fn held_again_without_memory(rt: HostRuntime) -> Result<(), Fail> {
+    let grid = ring(&rt, rt.alloc())?;
+    for before in 0..16 {
+        visit_again_after(&rt, rt.alloc(), before, &grid)?;
+    }
+    Ok(())
+}
+
+/// Whether the fields of cells 2, 0 and 8 are kept.
+fn take_corners(shelf: &mut Shelf) -> [bool; 3] {
+    let two = shelf.take(2).is_some();
+    let zero = shelf.take(0).is_some();
+    [two, zero, shelf.take(8).is_some()]
+}
+
+/// Visits cells 0 and 2, then cell 0 again, and then cell 8.
+fn visit_corners(alloc: Global, shelf: &mut Shelf, grid: &Grid) -> Result<(), AllocError>
+    requires zero { IsFloor grid.now 0 }
+    requires two { IsFloor grid.now 2 }
+    requires eight { IsFloor grid.now 8 }
+    requires keeps { Keeps grid.now shelf.old }
+{
+    let mut store = FieldStore::new(alloc)?;
+    let _first = visit(&mut store, shelf, grid, 0, 8)?;
+    let _second = visit(&mut store, shelf, grid, 2, 8)?;
+    let _again = visit(&mut store, shelf, grid, 0, 8)?;
+    let _third = visit(&mut store, shelf, grid, 8, 8)?;
+    Ok(())
+}
+
+/// Two fields of nine cells have place.
 #[test]
 fn longest_unused_goes_first(rt: HostRuntime) -> Result<(), Fail> {
     let grid = ring(&rt, rt.alloc())?;
-    assert!(rt; grid.is_floor(0) && grid.is_floor(2) && grid.is_floor(8));
-    let mut store = FieldStore::new(rt.alloc())?;
-    // Two fields of nine cells.
     let mut shelf = Shelf::new(rt.alloc(), 26);
-    let _first = visit(&mut store, &mut shelf, &grid, 0, 8)?;
-    let _second = visit(&mut store, &mut shelf, &grid, 2, 8)?;
-    let _again = visit(&mut store, &mut shelf, &grid, 0, 8)?;
-    let _third = visit(&mut store, &mut shelf, &grid, 8, 8)?;
-    assert!(rt; shelf.take(2).is_none());
-    assert!(rt; shelf.take(0).is_some());
-    assert!(rt; shelf.take(8).is_some());
+    visit_corners(rt.alloc(), &mut shelf, &grid)?;
+    assert!(rt; take_corners(&mut shelf) == [false, true, true]);
+    Ok(())
+}
+
+/// Whether two goals, and then three, have a kept field where two fields have place.
+fn search_corners(
+    rt: &(impl Abort + Threads + Sync),
+    shelf: &mut Shelf,
+    grid: &Grid,
+) -> Result<[bool; 2], Fail>
+    requires { Keeps grid.now shelf.old }
+    ensures { Keeps grid.now shelf.new }
+{
+    assert!(rt; are_floor(grid, &[0, 2]) && are_floor(grid, &[0, 8, 2]));
+    let both = shelf.search_ahead(rt, grid, &[0, 2])?;
+    Ok([both, shelf.search_ahead(rt, grid, &[0, 8, 2])?])
+}
+
+fn visit_searched(alloc: Global, shelf: &mut Shelf, grid: &Grid) -> Result<Option<u32>, AllocError>
+    requires floor { IsFloor grid.now 8 }
+    requires keeps { Keeps grid.now shelf.old }
+{
+    let mut store = FieldStore::new(alloc)?;
+    visit(&mut store, shelf, grid, 8, 0)
+}
+
+fn search_and_visit(
+    rt: &(impl Abort + Threads + Sync),
+    alloc: Global,
+    shelf: &mut Shelf,
+    grid: &Grid,
+) -> Result<(), Fail>
+    requires floor { IsFloor grid.now 8 }
+    requires keeps { Keeps grid.now shelf.old }
+{
+    assert!(rt; search_corners(rt, shelf, grid)? == [true, false]);
+    assert!(rt; visit_searched(alloc, shelf, grid)? == Some(4));
+    assert!(rt; take_corners(shelf) == [false, true, true]);
     Ok(())
 }
 
@@ -79,52 +149,83 @@ fn longest_unused_goes_first(rt: HostRuntime) -> Result<(), Fail> {
 fn searched_ahead(rt: HostRuntime) -> Result<(), Fail> {
     let grid = ring(&rt, rt.alloc())?;
     let mut shelf = Shelf::new(rt.alloc(), 26);
-    assert!(rt; are_floor(&grid, &[0, 2]));
-    assert!(rt; shelf.search_ahead(&rt, &grid, &[0, 2])?);
-    assert!(rt; are_floor(&grid, &[0, 8, 2]));
-    assert!(rt; !shelf.search_ahead(&rt, &grid, &[0, 8, 2])?);
-    let mut store = FieldStore::new(rt.alloc())?;
-    assert!(rt; grid.is_floor(8));
-    assert!(rt; visit(&mut store, &mut shelf, &grid, 8, 0)? == Some(4));
-    assert!(rt; shelf.take(2).is_none());
-    assert!(rt; shelf.take(0).is_some());
-    assert!(rt; shelf.take(8).is_some());
-    Ok(())
+    search_and_visit(&rt, rt.alloc(), &mut shelf, &grid)
+}
+
+/// Whether a field is kept until fewer bytes are.
+fn keep_less(alloc: Global, store: &mut FieldStore, grid: &Grid) -> Result<bool, AllocError>
+    requires floor { IsFloor grid.now 0 }
+    requires serves { Serves grid.now store.old }
+    ensures serves { Serves grid.now store.new }
+{
+    let mut shelf = Shelf::new(alloc, 4096);
+    let _kept = visit(store, &mut shelf, grid, 0, 8)?;
+    shelf.keep(8);
+    Ok(shelf.take(0).is_some())
+}
+
+/// Whether a field is kept in too few bytes for one.
+fn keep_none(alloc: Global, store: &mut FieldStore, grid: &Grid) -> Result<bool, AllocError>
+    requires floor { IsFloor grid.now 2 }
+    requires serves { Serves grid.now store.old }
+{
+    let mut small = Shelf::new(alloc, 8);
+    let _gone = visit(store, &mut small, grid, 2, 8)?;
+    Ok(small.take(2).is_some())
+}
+
+fn are_kept(alloc: Global, grid: &Grid) -> Result<[bool; 2], AllocError>
+    requires zero { IsFloor grid.now 0 }
+    requires two { IsFloor grid.now 2 }
+{
+    let mut store = FieldStore::new(alloc)?;
+    let kept = keep_less(alloc, &mut store, grid)?;
+    Ok([kept, keep_none(alloc, &mut store, grid)?])
 }
 
 #[test]
 fn nothing_is_kept(rt: HostRuntime) -> Result<(), Fail> {
     let grid = ring(&rt, rt.alloc())?;
-    assert!(rt; grid.is_floor(0) && grid.is_floor(2));
-    let mut store = FieldStore::new(rt.alloc())?;
-    let mut shelf = Shelf::new(rt.alloc(), 4096);
-    let _kept = visit(&mut store, &mut shelf, &grid, 0, 8)?;
-    shelf.keep(8);
-    assert!(rt; shelf.take(0).is_none());
-    // Too few bytes for one field.
-    let mut small = Shelf::new(rt.alloc(), 8);
-    let _gone = visit(&mut store, &mut small, &grid, 2, 8)?;
-    assert!(rt; small.take(2).is_none());
+    assert!(rt; are_kept(rt.alloc(), &grid)? == [false, false]);
     Ok(())
+}
+
+/// Whether the field of cell 0, which was kept, went before the one of cell 2 was searched.
+fn visit_other<A: Allocator + Copy>(
+    rt: &impl Abort,
+    store: &mut FieldStore<A>,
+    shelf: &mut Shelf<A>,
+    grid: &Grid,
+) -> Result<bool, Fail>
+    requires zero { IsFloor grid.now 0 }
+    requires two { IsFloor grid.now 2 }
+    requires serves { Serves grid.now store.old }
+    requires keeps { Keeps grid.now shelf.old }
+{
+    if visit(store, shelf, grid, 0, 8).is_err() {
+        return Ok(false);
+    }
+    assert!(rt; visit(store, shelf, grid, 2, 8)? == Some(2));
+    Ok(shelf.take(0).is_none())
+}
+
+fn visit_other_after(rt: &impl Abort, alloc: Global, before: u64, grid: &Grid) -> Result<bool, Fail>
+    requires zero { IsFloor grid.now 0 }
+    requires two { IsFloor grid.now 2 }
+{
+    let heap = Refusing::after(alloc, before);
+    let mut store = FieldStore::new(&heap)?;
+    let mut shelf = Shelf::new(&heap, 4096);
+    visit_other(rt, &mut store, &mut shelf, grid)
 }
 
 /// Whatever growth of a search is refused, the search is made where a field was kept, which goes.
 #[test]
 fn kept_goes_before_want_of_memory(rt: HostRuntime) -> Result<(), Fail> {
     let grid = ring(&rt, rt.alloc())?;
-    assert!(rt; grid.is_floor(0) && grid.is_floor(2));
     let mut gone = 0;
     for before in 0..16 {
-        let heap = Refusing::after(rt.alloc(), before);
-        let Ok(mut store) = FieldStore::new(&heap) else {
-            continue;
-        };
-        let mut shelf = Shelf::new(&heap, 4096);
-        if visit(&mut store, &mut shelf, &grid, 0, 8).is_err() {
-            continue;
-        }
-        assert!(rt; visit(&mut store, &mut shelf, &grid, 2, 8)? == Some(2));
-        if shelf.take(0).is_none() {
+        if visit_other_after(&rt, rt.alloc(), before, &grid)? {
             gone = before;
         }
     }
