@@ -20,7 +20,7 @@ use fleet_goals::{Aims, Turn};
 use fleet_grid::Grid;
 use fleet_hooks::TieHook;
 use fleet_pibt::Stepper;
-use fleet_plan::plan;
+use fleet_plan::{Moment, plan};
 use fleet_state::FleetState;
 use std::alloc::{AllocError, Allocator, Global};
 use std::marker::Model;
@@ -102,16 +102,12 @@ impl<A: Allocator + Copy> Planner<A> {
         ensures conflict_free { IfOk result (λ to. IsConflictFree grid.now state.now.cells to.items) }
         ensures planned { IfOk result (λ to. IsPlannedBy grid.now (map (λ h. h.law) ties.now) state.now.waits (goals_of self.old.aims) state.now.cells to.items) }
     {
-        plan(
-            alloc,
-            grid,
-            state.place(),
-            state.waits(),
-            &self.aims,
-            &mut self.stepper,
-            ties,
-            state.clock() + 1,
-        )
+        let moment = Moment {
+            cells: state.place(),
+            waits: state.waits(),
+            tick: state.clock() + 1,
+        };
+        plan(alloc, grid, moment, &self.aims, &mut self.stepper, ties)
     }
 
     /// Aims the robot of an accepted order at its cell, if the errand is the robot's first. The state is that before the

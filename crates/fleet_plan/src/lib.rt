@@ -4,5 +4,5 @@
 mod mover;
 mod waits;
 
-pub use mover::plan;
+pub use mover::{Moment, plan};
 pub use waits::eldest;
