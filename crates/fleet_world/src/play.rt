@@ -42,6 +42,8 @@ pub struct Played<A: Allocator + Copy = Global> {
 /// The pure core over any list of events, from the opening of a world; lanes and outlets are lists, bounded by `lane` and
 /// `outlet`. A refused event changes nothing and is answered in the replies; only want of memory ends the run, at the index
 /// of its event. What was sent, taken, given and collected is told by this chapter alone (`rings`), and as in any (`each_ring`).
+/// `end_of` reckons what was sent and taken from the history: the clause `run` ties these to the events. Each call meets the
+/// condition, without which no call may hand closures out to another crate.
 pub fn run<A: Allocator + Copy + Send + Sync, R: Alloc<A = A> + Threads + Sync>(
     rt: &R,
     grid: Grid<A>,
@@ -51,12 +53,9 @@ pub fn run<A: Allocator + Copy + Send + Sync, R: Alloc<A = A> + Threads + Sync>(
     hooks: Hooks<A>,
     events: &[Event],
 ) -> Result<Played<A>, RunFault>
-    // Of each call: only a call with a condition may hand closures out to another crate.
     requires { clients < 2 ^ 32 }
     ensures refused { (fault : _) → IsNamed fault → ((result ≡ Err (RunFault.Opening fault)) ↔ IsRefused grid starts.items clients limits (laws_of hooks) fault) }
     ensures memory { (i : ℕ) → result ≡ Err (RunFault.NoMemory i) → i < length events.now }
-    // The replies, what is left and the history are those of a run of the core. `end_of` reckons what was sent and taken
-    // from the history, so this is what ties the two to the events.
     ensures run { IfOk result (λ p. Run (opened_state grid starts.items clients limits (laws_of hooks)) events.now p.replies.items (end_of p)) }
     ensures same { IfOk result (λ p. IsSameGround (opened_world grid starts.items clients limits (laws_of hooks)) p.world.core) }
     ensures counts { IfOk result (λ p. (vec_len p.lanes ≡ clients) × (vec_len p.outlets ≡ clients) × (vec_len p.collected ≡ clients)) }
