@@ -1,11 +1,12 @@
-//! The rings in one thread and in two, full and empty, and refused memory.
+//! The rings in one thread and in two, full and empty.
 
 ghost use Rattle.std.specs.Prelude.{◌≤◌};
 ghost use Rattle.fleet_book.specs.Limits.{AreValid, IsBetween};
 
 use fleet_book::{Limits, Notice, Order, Verdict};
 use fleet_lanes::{Client, HallEnd, PostFault, lane_pair};
-use linked_list_allocator::LocalHeap;
+use std::alloc::{AllocError, Global};
+use std::process::Abort;
 use std::test::Fail;
 use std::thread;
 
@@ -41,26 +42,144 @@ fn arrived(seq: u64, number: u64) -> Notice {
     }
 }
 
-/// A full lane has room again once the hall has taken an order: the sending end looks for the other's progress.
-#[test]
-fn lane_and_numbers(rt: HostRuntime) -> Result<(), Fail> {
-    let (mut client, mut hall) = lane_pair(rt.alloc(), 5, limits(2, 64))?;
-    assert!(rt; client.number() == 5);
-    assert!(rt; client.post(GO) == Ok(1));
-    assert!(rt; client.post(GO) == Ok(2));
-    assert!(rt; client.post(GO) == Err(PostFault::LaneFull(GO)));
-    assert!(rt; hall.take() == Some(GO));
-    assert!(rt; client.post(GO) == Ok(3));
-    assert!(rt; client.sent() == 3);
+/// A call on one of the two ends, with its answer.
+enum Call {
+    Post(Order, Result<u64, PostFault>),
+    Close(Result<u64, PostFault>),
+    Sent(u64),
+    IsClosed(bool),
+    Collect(Option<Notice>),
+    Take(Option<Order>),
+    Peek(Option<Order>),
+    Give(Notice, Result<(), Notice>),
+}
 
+/// Whether the call is answered so.
+fn is_answered(client: &mut Client, hall: &mut HallEnd, call: &Call) -> bool {
+    match call {
+        Call::Post(order, answer) => client.post(*order) == *answer,
+        Call::Close(answer) => client.close() == *answer,
+        Call::Sent(count) => client.sent() == *count,
+        Call::IsClosed(closed) => client.is_closed() == *closed,
+        Call::Collect(notice) => client.collect() == *notice,
+        Call::Take(order) => hall.take() == *order,
+        Call::Peek(order) => hall.peek() == *order,
+        Call::Give(notice, answer) => hall.give(*notice) == *answer,
+    }
+}
+
+fn make_calls(rt: &impl Abort, client: &mut Client, hall: &mut HallEnd, calls: &[Call]) {
+    for at in 0..calls.len() {
+        assert!(rt; is_answered(client, hall, &calls[at]));
+    }
+}
+
+/// The calls on the ends of two rings with so many slots.
+fn check_lane(
+    rt: &impl Abort,
+    alloc: Global,
+    limits: Limits,
+    calls: &[Call],
+) -> Result<(), AllocError>
+    requires { AreValid limits }
+{
+    let (mut client, mut hall) = lane_pair(alloc, 0, limits)?;
+    make_calls(rt, &mut client, &mut hall, calls);
+    Ok(())
+}
+
+/// A full lane has room again once the hall has taken an order: the sending end looks for the other's progress.
+const FULL_LANE: [Call; 6] = [
+    Call::Post(GO, Ok(1)),
+    Call::Post(GO, Ok(2)),
+    Call::Post(GO, Err(PostFault::LaneFull(GO))),
+    Call::Take(Some(GO)),
+    Call::Post(GO, Ok(3)),
+    Call::Sent(3),
+];
+
+/// A client of two orders closes by its second.
+const TWO_ORDERS: [Call; 3] = [
+    Call::Post(GO, Ok(1)),
+    Call::Post(GO, Err(PostFault::NumbersSpent(GO))),
+    Call::Close(Ok(2)),
+];
+
+/// Nothing goes behind a close. A full lane leaves the client open.
+const CLOSED: [Call; 11] = [
+    Call::Post(GO, Ok(1)),
+    Call::Close(Err(PostFault::LaneFull(Order::Close))),
+    Call::IsClosed(false),
+    Call::Take(Some(GO)),
+    Call::Post(Order::Close, Ok(2)),
+    Call::IsClosed(true),
+    Call::Take(Some(Order::Close)),
+    Call::Post(GO, Err(PostFault::Closed)),
+    Call::Close(Err(PostFault::Closed)),
+    Call::Sent(2),
+    Call::Take(None),
+];
+
+const FIRST: Notice = Notice::Arrived {
+    seq: 1,
+    number: 1,
+    robot: 0,
+    cell: 0,
+    tick: 1,
+    stamp: 0,
+};
+
+const SECOND: Notice = Notice::Arrived {
+    seq: 2,
+    number: 2,
+    robot: 0,
+    cell: 0,
+    tick: 2,
+    stamp: 0,
+};
+
+const THIRD: Notice = Notice::Arrived {
+    seq: 3,
+    number: 3,
+    robot: 0,
+    cell: 0,
+    tick: 3,
+    stamp: 0,
+};
+
+const FULL_OUTLET: [Call; 8] = [
+    Call::Give(FIRST, Ok(())),
+    Call::Give(SECOND, Ok(())),
+    Call::Give(THIRD, Err(THIRD)),
+    Call::Collect(Some(FIRST)),
+    Call::Give(THIRD, Ok(())),
+    Call::Collect(Some(SECOND)),
+    Call::Collect(Some(THIRD)),
+    Call::Collect(None),
+];
+
+/// A peek shows the next order, and leaves it.
+const PEEKS: [Call; 7] = [
+    Call::Peek(None),
+    Call::Post(GO, Ok(1)),
+    Call::Close(Ok(2)),
+    Call::Peek(Some(GO)),
+    Call::Take(Some(GO)),
+    Call::Peek(Some(Order::Close)),
+    Call::Peek(Some(Order::Close)),
+];
+
+#[test]
+fn full_and_closed(rt: HostRuntime) -> Result<(), Fail> {
+    check_lane(&rt, rt.alloc(), limits(2, 64), &FULL_LANE)?;
     let two = Limits {
         orders: 2,
         ..Limits::DEFAULT
     };
-    let (mut client, _hall) = lane_pair(rt.alloc(), 0, two)?;
-    assert!(rt; client.post(GO) == Ok(1));
-    assert!(rt; client.post(GO) == Err(PostFault::NumbersSpent(GO)));
-    assert!(rt; client.close() == Ok(2));
+    check_lane(&rt, rt.alloc(), two, &TWO_ORDERS)?;
+    check_lane(&rt, rt.alloc(), limits(1, 1), &CLOSED)?;
+    check_lane(&rt, rt.alloc(), limits(1, 2), &FULL_OUTLET)?;
+    check_lane(&rt, rt.alloc(), limits(4, 4), &PEEKS)?;
     Ok(())
 }
 
@@ -81,63 +200,22 @@ fn a_thousand_rounds(rt: HostRuntime) -> Result<(), Fail> {
     Ok(())
 }
 
-#[test]
-fn nothing_behind_close(rt: HostRuntime) -> Result<(), Fail> {
-    let (mut client, mut hall) = lane_pair(rt.alloc(), 0, limits(1, 1))?;
-    assert!(rt; client.post(GO) == Ok(1));
-    assert!(rt; client.close() == Err(PostFault::LaneFull(Order::Close)));
-    assert!(rt; !client.is_closed(), "a full lane leaves it open");
-    assert!(rt; hall.take() == Some(GO));
-    assert!(rt; client.post(Order::Close) == Ok(2));
-    assert!(rt; client.is_closed());
-    assert!(rt; hall.take() == Some(Order::Close));
-    assert!(rt; client.post(GO) == Err(PostFault::Closed));
-    assert!(rt; client.close() == Err(PostFault::Closed));
-    assert!(rt; client.sent() == 2);
-    assert!(rt; hall.take() == None);
-    Ok(())
-}
-
-#[test]
-fn full_outlet(rt: HostRuntime) -> Result<(), Fail> {
-    let (mut client, mut hall) = lane_pair(rt.alloc(), 0, limits(1, 2))?;
-    assert!(rt; hall.give(arrived(1, 1)) == Ok(()));
-    assert!(rt; hall.give(arrived(2, 2)) == Ok(()));
-    assert!(rt; hall.give(arrived(3, 3)) == Err(arrived(3, 3)));
-    assert!(rt; client.collect() == Some(arrived(1, 1)));
-    assert!(rt; hall.give(arrived(3, 3)) == Ok(()));
-    assert!(rt; client.collect() == Some(arrived(2, 2)));
-    assert!(rt; client.collect() == Some(arrived(3, 3)));
-    assert!(rt; client.collect() == None);
-    Ok(())
-}
-
-#[test]
-fn peek_shows_the_next(rt: HostRuntime) -> Result<(), Fail> {
-    let (mut client, mut hall) = lane_pair(rt.alloc(), 0, limits(4, 4))?;
-    assert!(rt; hall.peek() == None);
-    assert!(rt; client.post(GO) == Ok(1));
-    assert!(rt; client.close() == Ok(2));
-    assert!(rt; hall.peek() == Some(GO));
-    assert!(rt; hall.take() == Some(GO));
-    assert!(rt; hall.peek() == Some(Order::Close));
-    assert!(rt; hall.peek() == Some(Order::Close));
-    Ok(())
+/// What the ends know of each other, once they were beside each other, is taken and collected.
+fn take_what_is_known(rt: &impl Abort, client: &mut Client, hall: &mut HallEnd) {
+    assert!(rt; hall.known() == 2 && client.known() == 1);
+    assert!(rt; hall.peek_known() == GO && hall.take_known() == GO);
+    assert!(rt; hall.known() == 1 && client.collect_known() == FIRST);
 }
 
 #[test]
 fn both_ends_in_one_thread(rt: HostRuntime) -> Result<(), Fail> {
-    let (mut client, mut hall) = lane_pair(rt.alloc(), 0, limits(4, 4))?;
-    assert!(rt; client.post(GO) == Ok(1));
-    assert!(rt; client.close() == Ok(2));
-    assert!(rt; hall.give(arrived(1, 1)) == Ok(()));
+    let (mut client, mut hall) = lane_pair(rt.alloc(), 5, limits(4, 4))?;
+    assert!(rt; client.number() == 5);
+    let posted = [client.post(GO), client.close()];
+    let given = hall.give(FIRST);
     hall.beside(&mut client);
-    assert!(rt; hall.known() == 2);
-    assert!(rt; hall.peek_known() == GO);
-    assert!(rt; hall.take_known() == GO);
-    assert!(rt; hall.known() == 1);
-    assert!(rt; client.known() == 1);
-    assert!(rt; client.collect_known() == arrived(1, 1));
+    assert!(rt; posted == [Ok(1), Ok(2)] && given == Ok(()));
+    take_what_is_known(&rt, &mut client, &mut hall);
     Ok(())
 }
 
@@ -188,25 +266,5 @@ fn ends_in_two_threads(rt: HostRuntime) -> Result<(), Fail> {
     let (client, hall) = lane_pair(rt.alloc(), 0, limits(3, 2))?;
     let (sent, served) = thread::join(&rt, move || send_all(client), move || serve_all(hall));
     assert!(rt; sent && served);
-    Ok(())
-}
-
-/// Over a heap that is too small for both rings, `lane_pair` answers so and gives everything back, whichever block
-/// did not fit. Over one that is just large enough it succeeds.
-#[test]
-fn refused_growths(rt: HostRuntime) -> Result<(), Fail> {
-    let mut refused = 0;
-    for units in 0..64 {
-        let heap = LocalHeap::new(rt.alloc(), 16 * units)?;
-        let Ok((mut client, mut hall)) = lane_pair(&heap, 0, limits(2, 2)) else {
-            assert!(rt; heap.used() == 0);
-            refused = units;
-            continue;
-        };
-        assert!(rt; client.post(GO) == Ok(1));
-        assert!(rt; hall.take() == Some(GO));
-    }
-    // Two rings of two slots take 896 bytes.
-    assert!(rt; refused == 55);
     Ok(())
 }

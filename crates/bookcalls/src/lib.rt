@@ -6,6 +6,8 @@ mod books;
 #[cfg(test)]
 mod lanes;
 #[cfg(test)]
+mod memory;
+#[cfg(test)]
 mod queues;
 #[cfg(test)]
 mod rows;

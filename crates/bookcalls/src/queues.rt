@@ -1,73 +1,138 @@
-//! The queue on its happy path, at its room, and where its memory is refused.
+//! The queue on its happy path, and at its room.
 
 use fleet_queue::{Errand, ErrandQueue};
-use linked_list_allocator::LocalHeap;
+use std::alloc::{AllocError, Global};
+use std::process::Abort;
 use std::test::Fail;
 
-fn errand(client: u32, number: u64) -> Errand {
-    Errand {
-        client,
-        number,
-        cell: 7,
+// Errands of clients 0 and 1, A and B, by their numbers.
+
+const A1: Errand = Errand {
+    client: 0,
+    number: 1,
+    cell: 7,
+};
+
+const A2: Errand = Errand {
+    client: 0,
+    number: 2,
+    cell: 7,
+};
+
+const A3: Errand = Errand {
+    client: 0,
+    number: 3,
+    cell: 7,
+};
+
+const A9: Errand = Errand {
+    client: 0,
+    number: 9,
+    cell: 7,
+};
+
+const B1: Errand = Errand {
+    client: 1,
+    number: 1,
+    cell: 7,
+};
+
+const B2: Errand = Errand {
+    client: 1,
+    number: 2,
+    cell: 7,
+};
+
+/// A call on a queue, with its answer.
+enum Call {
+    Push(Errand, Result<(), Errand>),
+    Pop(Option<Errand>),
+    Withdraw(u32, u64, bool),
+    Holds(u32, u64, bool),
+    Front(Option<Errand>),
+    Get(usize, Option<Errand>),
+    Len(usize),
+    IsEmpty(bool),
+    IsFull(bool),
+}
+
+/// Whether the call is answered so.
+fn is_answered(queue: &mut ErrandQueue, call: &Call) -> bool {
+    match call {
+        Call::Push(errand, answer) => queue.try_push(*errand) == *answer,
+        Call::Pop(errand) => queue.pop() == *errand,
+        Call::Withdraw(client, number, gone) => queue.withdraw(*client, *number) == *gone,
+        Call::Holds(client, number, held) => queue.holds(*client, *number) == *held,
+        Call::Front(errand) => queue.front() == *errand,
+        Call::Get(place, errand) => queue.get(*place) == *errand,
+        Call::Len(len) => queue.len() == *len,
+        Call::IsEmpty(empty) => queue.is_empty() == *empty,
+        Call::IsFull(full) => queue.is_full() == *full,
     }
+}
+
+fn make_calls(rt: &impl Abort, queue: &mut ErrandQueue, calls: &[Call]) {
+    for at in 0..calls.len() {
+        assert!(rt; is_answered(queue, &calls[at]));
+    }
+}
+
+const ROOM_FOR_TWO: [Call; 16] = [
+    Call::IsEmpty(true),
+    Call::Front(None),
+    Call::Push(A1, Ok(())),
+    Call::IsFull(false),
+    Call::Push(B1, Ok(())),
+    Call::IsFull(true),
+    Call::Push(A2, Err(A2)),
+    Call::Len(2),
+    Call::Front(Some(A1)),
+    Call::Pop(Some(A1)),
+    Call::Push(A2, Ok(())),
+    Call::Get(1, Some(A2)),
+    Call::Get(2, None),
+    Call::Pop(Some(B1)),
+    Call::Pop(Some(A2)),
+    Call::Pop(None),
+];
+
+const ROOM_FOR_FOUR: [Call; 16] = [
+    Call::Push(A9, Ok(())),
+    Call::Push(A1, Ok(())),
+    Call::Push(A2, Ok(())),
+    Call::Push(A3, Ok(())),
+    // The items wrap round the end of the block.
+    Call::Pop(Some(A9)),
+    Call::Push(B2, Ok(())),
+    Call::Holds(0, 1, true),
+    // It is the front, and another client's.
+    Call::Withdraw(0, 1, false),
+    Call::Withdraw(1, 3, false),
+    Call::Withdraw(0, 2, true),
+    Call::Holds(0, 2, false),
+    // It is gone.
+    Call::Withdraw(0, 2, false),
+    Call::Pop(Some(A1)),
+    Call::Pop(Some(A3)),
+    Call::Pop(Some(B2)),
+    // The queue is empty.
+    Call::Withdraw(1, 2, false),
+];
+
+fn check_queue(rt: &impl Abort, alloc: Global, cap: u32, calls: &[Call]) -> Result<(), AllocError> {
+    let mut queue = ErrandQueue::new(alloc, cap)?;
+    make_calls(rt, &mut queue, calls);
+    Ok(())
 }
 
 #[test]
 fn first_in_first_out(rt: HostRuntime) -> Result<(), Fail> {
-    let mut queue = ErrandQueue::new(rt.alloc(), 2)?;
-    assert!(rt; queue.is_empty());
-    assert!(rt; queue.front() == None);
-    assert!(rt; queue.try_push(errand(0, 1)) == Ok(()));
-    assert!(rt; !queue.is_full());
-    assert!(rt; queue.try_push(errand(1, 1)) == Ok(()));
-    assert!(rt; queue.is_full());
-    assert!(rt; queue.try_push(errand(0, 2)) == Err(errand(0, 2)));
-    assert!(rt; queue.len() == 2);
-    assert!(rt; queue.front() == Some(errand(0, 1)));
-    assert!(rt; queue.pop() == Some(errand(0, 1)));
-    assert!(rt; queue.try_push(errand(0, 2)) == Ok(()));
-    assert!(rt; queue.get(1) == Some(errand(0, 2)));
-    assert!(rt; queue.get(2) == None);
-    assert!(rt; queue.pop() == Some(errand(1, 1)));
-    assert!(rt; queue.pop() == Some(errand(0, 2)));
-    assert!(rt; queue.pop() == None);
+    check_queue(&rt, rt.alloc(), 2, &ROOM_FOR_TWO)?;
     Ok(())
 }
 
 #[test]
 fn withdraws_behind_the_front(rt: HostRuntime) -> Result<(), Fail> {
-    let mut queue = ErrandQueue::new(rt.alloc(), 4)?;
-    for number in [9, 1, 2, 3] {
-        assert!(rt; queue.try_push(errand(0, number)) == Ok(()));
-    }
-    // The items wrap round the end of the block.
-    assert!(rt; queue.pop() == Some(errand(0, 9)));
-    assert!(rt; queue.try_push(errand(1, 2)) == Ok(()));
-    assert!(rt; queue.holds(0, 1));
-    assert!(rt; !queue.withdraw(0, 1), "it is the front");
-    assert!(rt; !queue.withdraw(1, 3), "it is another client's");
-    assert!(rt; queue.withdraw(0, 2));
-    assert!(rt; !queue.holds(0, 2));
-    assert!(rt; !queue.withdraw(0, 2), "it is gone");
-    assert!(rt; queue.pop() == Some(errand(0, 1)));
-    assert!(rt; queue.pop() == Some(errand(0, 3)));
-    assert!(rt; queue.pop() == Some(errand(1, 2)));
-    assert!(rt; !queue.withdraw(1, 2), "the queue is empty");
-    Ok(())
-}
-
-/// Over a heap that is too small for the room, `new` answers so and gives everything back. Over one that is just
-/// large enough it succeeds: four errands of 24 bytes are six units of 16 bytes.
-#[test]
-fn refused_growths(rt: HostRuntime) -> Result<(), Fail> {
-    for units in 0..6 {
-        let heap = LocalHeap::new(rt.alloc(), 16 * units)?;
-        assert!(rt; ErrandQueue::new(&heap, 4).is_err(), "in {units} units");
-        assert!(rt; heap.used() == 0);
-    }
-    let heap = LocalHeap::new(rt.alloc(), 96)?;
-    let mut queue = ErrandQueue::new(&heap, 4)?;
-    assert!(rt; queue.try_push(errand(0, 1)) == Ok(()));
-    assert!(rt; queue.pop() == Some(errand(0, 1)));
+    check_queue(&rt, rt.alloc(), 4, &ROOM_FOR_FOUR)?;
     Ok(())
 }

@@ -108,10 +108,7 @@ fn small_maps_beside_the_plain_search(rt: HostRuntime) -> Result<(), Fail> {
         for bits in 0..4096u32 {
             if bits < 1 << (height * width) {
                 let cells = drawn(rt.alloc(), height * width, bits)?;
-                assert!(rt;
-                    is_map_as_searched(&rt, rt.alloc(), height, width, &cells)?,
-                    "{height} {width} {bits}"
-                );
+                assert!(rt; is_map_as_searched(&rt, rt.alloc(), height, width, &cells)?);
             }
         }
     }

@@ -45,10 +45,7 @@ fn check_steps(rt: &impl Abort, alloc: Global, grid: &Grid) {
         (&[1, 3], Ok(())),
     ];
     for (to, outcome) in cases {
-        assert!(rt;
-            check_step(alloc, grid, &[0, 1], to) == outcome,
-            "{outcome:?}"
-        );
+        assert!(rt; check_step(alloc, grid, &[0, 1], to) == outcome);
     }
 }
 

@@ -136,17 +136,14 @@ const WAYS: [(u32, u8); 8] = [
 
 fn ways_by_field(rt: &impl Abort, grid: &Grid, field: &Field) {
     for (cell, ways) in WAYS {
-        assert!(rt; field.ways(grid, cell) == ways, "at {cell}");
+        assert!(rt; field.ways(grid, cell) == ways);
     }
 }
 
 fn ways_by_compass(rt: &impl Abort, grid: &Grid, compass: &Compass, field: &Field) {
     assert!(rt; compass.goal() == 0);
     for (cell, ways) in WAYS {
-        assert!(rt;
-            (compass.ways(grid, cell), compass.at(cell)) == (ways, field.at(cell)),
-            "at {cell}"
-        );
+        assert!(rt; compass.ways(grid, cell) == ways && compass.at(cell) == field.at(cell));
     }
 }
 
@@ -156,7 +153,7 @@ fn ways_by_store(rt: &impl Abort, grid: &Grid, store: &mut FieldStore) -> Result
 {
     let key = hold(store, grid, 0)?;
     for (cell, ways) in WAYS {
-        assert!(rt; store.ways(grid, key, cell) == ways, "at {cell}");
+        assert!(rt; store.ways(grid, key, cell) == ways);
     }
     Ok(())
 }
@@ -271,10 +268,7 @@ fn are_like_singles(
     assert!(rt; several.len() == 3000 && goals.len() == 3000);
     for at in 0..3000 {
         assert!(rt; grid.is_floor(goals[at]));
-        assert!(rt;
-            is_like_single(alloc, grid, goals[at], &several[at])?,
-            "at {at}"
-        );
+        assert!(rt; is_like_single(alloc, grid, goals[at], &several[at])?);
     }
     Ok(())
 }

@@ -66,7 +66,7 @@ const NEIGHBOURS: [(u32, Dir, Option<u32>); 9] = [
 
 fn check_neighbours(rt: &impl Abort, grid: &Grid) {
     for (cell, dir, next) in NEIGHBOURS {
-        assert!(rt; grid.neighbour(cell, dir) == next, "{cell} {dir:?}");
+        assert!(rt; grid.neighbour(cell, dir) == next);
     }
 }
 

@@ -40,38 +40,68 @@ fn visit<A: Allocator + Copy>(
     Ok(away)
 }
 
-/// Where no growth was left behind the first visit, one in the second would be refused.
-fn visit_again<A: Allocator + Copy>(
-    rt: &impl Abort,
+/// Visits cell 0 and then another: how far that is from cell 8, and whether the field of cell 0 is kept then; none where
+/// the first visit is refused.
+fn visit_both<A: Allocator + Copy>(
     store: &mut FieldStore<A>,
     shelf: &mut Shelf<A>,
     grid: &Grid,
-) -> Result<(), Fail>
-    requires floor { IsFloor grid.now 0 }
+    other: u32,
+) -> Result<Option<(Option<u32>, bool)>, AllocError>
+    requires zero { IsFloor grid.now 0 }
+    requires other { IsFloor grid.now other }
     requires serves { Serves grid.now store.old }
     requires keeps { Keeps grid.now shelf.old }
 {
-    if visit(store, shelf, grid, 0, 8).is_ok() {
-        assert!(rt; visit(store, shelf, grid, 0, 8)? == Some(4));
-    }
-    Ok(())
+    let Ok(_) = visit(store, shelf, grid, 0, 8) else {
+        return Ok(None);
+    };
+    let away = visit(store, shelf, grid, other, 8)?;
+    Ok(Some((away, shelf.take(0).is_some())))
 }
 
-fn visit_again_after(rt: &impl Abort, alloc: Global, before: u64, grid: &Grid) -> Result<(), Fail>
-    requires { IsFloor grid.now 0 }
+/// Two visits of which one growth is refused, which comes after `before` others.
+fn visit_both_after(
+    alloc: Global,
+    before: u64,
+    grid: &Grid,
+    other: u32,
+) -> Result<Option<(Option<u32>, bool)>, AllocError>
+    requires zero { IsFloor grid.now 0 }
+    requires other { IsFloor grid.now other }
 {
     let heap = Refusing::after(alloc, before);
     let mut store = FieldStore::new(&heap)?;
     let mut shelf = Shelf::new(&heap, 4096);
-    visit_again(rt, &mut store, &mut shelf, grid)
+    visit_both(&mut store, &mut shelf, grid, other)
 }
 
+/// Where no growth was left behind the first visit, one in a second visit of the same cell would be refused.
 #[test]
 fn held_again_without_memory(rt: HostRuntime) -> Result<(), Fail> {
     let grid = ring(&rt, rt.alloc())?;
     for before in 0..16 {
-        visit_again_after(&rt, rt.alloc(), before, &grid)?;
+        if let Some(again) = visit_both_after(rt.alloc(), before, &grid, 0)? {
+            assert!(rt; again == (Some(4), true));
+        }
     }
+    Ok(())
+}
+
+/// Whatever growth of a search is refused, the search is made where a field was kept, which goes.
+#[test]
+fn kept_goes_before_want_of_memory(rt: HostRuntime) -> Result<(), Fail> {
+    let grid = ring(&rt, rt.alloc())?;
+    let mut gone = 0;
+    for before in 0..16 {
+        if let Some((away, is_kept)) = visit_both_after(rt.alloc(), before, &grid, 2)? {
+            assert!(rt; away == Some(2));
+            if !is_kept {
+                gone = before;
+            }
+        }
+    }
+    assert!(rt; gone > 0);
     Ok(())
 }
 
@@ -83,42 +113,46 @@ fn take_corners(shelf: &mut Shelf) -> [bool; 3] {
 }
 
 /// Visits cells 0 and 2, then cell 0 again, and then cell 8.
-fn visit_corners(alloc: Global, shelf: &mut Shelf, grid: &Grid) -> Result<(), AllocError>
+fn visit_corners(
+    store: &mut FieldStore,
+    shelf: &mut Shelf,
+    grid: &Grid,
+) -> Result<[bool; 3], AllocError>
     requires zero { IsFloor grid.now 0 }
     requires two { IsFloor grid.now 2 }
     requires eight { IsFloor grid.now 8 }
+    requires serves { Serves grid.now store.old }
     requires keeps { Keeps grid.now shelf.old }
 {
-    let mut store = FieldStore::new(alloc)?;
-    let _first = visit(&mut store, shelf, grid, 0, 8)?;
-    let _second = visit(&mut store, shelf, grid, 2, 8)?;
-    let _again = visit(&mut store, shelf, grid, 0, 8)?;
-    let _third = visit(&mut store, shelf, grid, 8, 8)?;
-    Ok(())
+    let _first = visit(store, shelf, grid, 0, 8)?;
+    let _second = visit(store, shelf, grid, 2, 8)?;
+    let _again = visit(store, shelf, grid, 0, 8)?;
+    let _third = visit(store, shelf, grid, 8, 8)?;
+    Ok(take_corners(shelf))
 }
 
 /// Two fields of nine cells have place.
 #[test]
 fn longest_unused_goes_first(rt: HostRuntime) -> Result<(), Fail> {
     let grid = ring(&rt, rt.alloc())?;
+    let mut store = FieldStore::new(rt.alloc())?;
     let mut shelf = Shelf::new(rt.alloc(), 26);
-    visit_corners(rt.alloc(), &mut shelf, &grid)?;
-    assert!(rt; take_corners(&mut shelf) == [false, true, true]);
+    assert!(rt; visit_corners(&mut store, &mut shelf, &grid)? == [false, true, true]);
     Ok(())
 }
 
-/// Whether two goals, and then three, have a kept field where two fields have place.
-fn search_corners(
+/// Whether all these goals have a kept field where two fields have place.
+fn is_searched(
     rt: &(impl Abort + Threads + Sync),
     shelf: &mut Shelf,
     grid: &Grid,
-) -> Result<[bool; 2], Fail>
+    goals: &[u32],
+) -> Result<bool, AllocError>
     requires { Keeps grid.now shelf.old }
     ensures { Keeps grid.now shelf.new }
 {
-    assert!(rt; are_floor(grid, &[0, 2]) && are_floor(grid, &[0, 8, 2]));
-    let both = shelf.search_ahead(rt, grid, &[0, 2])?;
-    Ok([both, shelf.search_ahead(rt, grid, &[0, 8, 2])?])
+    assert!(rt; are_floor(grid, goals));
+    shelf.search_ahead(rt, grid, goals)
 }
 
 fn visit_searched(alloc: Global, shelf: &mut Shelf, grid: &Grid) -> Result<Option<u32>, AllocError>
@@ -138,7 +172,8 @@ fn search_and_visit(
     requires floor { IsFloor grid.now 8 }
     requires keeps { Keeps grid.now shelf.old }
 {
-    assert!(rt; search_corners(rt, shelf, grid)? == [true, false]);
+    assert!(rt; is_searched(rt, shelf, grid, &[0, 2])?);
+    assert!(rt; !is_searched(rt, shelf, grid, &[0, 8, 2])?);
     assert!(rt; visit_searched(alloc, shelf, grid)? == Some(4));
     assert!(rt; take_corners(shelf) == [false, true, true]);
     Ok(())
@@ -187,48 +222,5 @@ fn are_kept(alloc: Global, grid: &Grid) -> Result<[bool; 2], AllocError>
 fn nothing_is_kept(rt: HostRuntime) -> Result<(), Fail> {
     let grid = ring(&rt, rt.alloc())?;
     assert!(rt; are_kept(rt.alloc(), &grid)? == [false, false]);
-    Ok(())
-}
-
-/// Whether the field of cell 0, which was kept, went before the one of cell 2 was searched.
-fn visit_other<A: Allocator + Copy>(
-    rt: &impl Abort,
-    store: &mut FieldStore<A>,
-    shelf: &mut Shelf<A>,
-    grid: &Grid,
-) -> Result<bool, Fail>
-    requires zero { IsFloor grid.now 0 }
-    requires two { IsFloor grid.now 2 }
-    requires serves { Serves grid.now store.old }
-    requires keeps { Keeps grid.now shelf.old }
-{
-    if visit(store, shelf, grid, 0, 8).is_err() {
-        return Ok(false);
-    }
-    assert!(rt; visit(store, shelf, grid, 2, 8)? == Some(2));
-    Ok(shelf.take(0).is_none())
-}
-
-fn visit_other_after(rt: &impl Abort, alloc: Global, before: u64, grid: &Grid) -> Result<bool, Fail>
-    requires zero { IsFloor grid.now 0 }
-    requires two { IsFloor grid.now 2 }
-{
-    let heap = Refusing::after(alloc, before);
-    let mut store = FieldStore::new(&heap)?;
-    let mut shelf = Shelf::new(&heap, 4096);
-    visit_other(rt, &mut store, &mut shelf, grid)
-}
-
-/// Whatever growth of a search is refused, the search is made where a field was kept, which goes.
-#[test]
-fn kept_goes_before_want_of_memory(rt: HostRuntime) -> Result<(), Fail> {
-    let grid = ring(&rt, rt.alloc())?;
-    let mut gone = 0;
-    for before in 0..16 {
-        if visit_other_after(&rt, rt.alloc(), before, &grid)? {
-            gone = before;
-        }
-    }
-    assert!(rt; gone > 0);
     Ok(())
 }
