@@ -170,7 +170,7 @@ const PEEKS: [Call; 7] = [
 ];
 
 #[test]
-fn full_and_closed(rt: HostRuntime) -> Result<(), Fail> {
+fn lane_and_numbers(rt: HostRuntime) -> Result<(), Fail> {
     check_lane(&rt, rt.alloc(), limits(2, 64), &FULL_LANE)?;
     let two = Limits {
         orders: 2,

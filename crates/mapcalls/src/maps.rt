@@ -95,6 +95,7 @@ const FAULTS: [(&[u8], MapFault); 18] = [
         b"type octile\nheight 2\nwidth 2\nmap\n..\n...\n",
         MapFault::Row(1),
     ),
+    // bad_cell_and_trailing: a letter that is none of the seven, and a line behind the rows.
     (
         b"type octile\nheight 1\nwidth 2\nmap\n.x\n",
         MapFault::Cell(0, 1),
