@@ -229,9 +229,7 @@ impl<A: Allocator + Copy> Robots<A> {
         let queue = &mut self.queues[robot];
         let _ = queue.try_push(errand);
         self.fronts[robot] = front_cell(queue);
-        if let None = self.waits[robot] {
-            self.waits[robot] = Some(0);
-        }
+        self.waits[robot] = Some(self.waits[robot].unwrap_or(0));
     }
 
     /// Takes the client's errand of this number out, wherever it stands behind a front.
