@@ -130,3 +130,10 @@ joined-inside x y r e q p pushing w n same read l room ok wait is =
     let full : p ≡ record q { items = q.items ++ e ∷ [] } = pushed q p e pushing (rw read l) room ok in
     let begun : Some n ≡ wait_taken (e ∷ []) (slice_index_or x.waits r None) = ap Some is ∙ taken-wait e w ∙ ap (wait_taken (e ∷ [])) wait in
     rw (begun, full, read, same) refl
+
+-- ---- a robot steps
+
+-- where the errand that it lands on is taken out of its queue
+pub stepped-inside : (x y : Robots) (r cell : ℕ) (q p : Queue) (w v : Option ℕ) → x ≡ y → q ≡ queue_at x.queues r → p ≡ without_landed cell q → w ≡ slice_index_or x.waits r None → v ≡ wait_on cell q.items w →
+    ◌≡◌ {A = Robots} (record { cells = slice_set x.cells r cell; queues = slice_set x.queues r p; waits = slice_set x.waits r v }) (stepped y r cell)
+stepped-inside x y r cell q p w v same read rest was waited = rw (waited, rest, was, read, same) refl

@@ -8,7 +8,7 @@ ghost use Rattle.fleet_state.specs.Landed.{landing, is_last};
 ghost use Rattle.fleet_state.specs.Opened.{HaveRooms, robots_in};
 ghost use Rattle.fleet_state.specs.Robots.{queue_at, stepped, joined, without_errand, HasPlace, AreTaken, IsPlaceAmong};
 
-use crate::landing::{front_cell, is_leaving, landing, one_more, wait_on};
+use crate::landing::{front_cell, is_leaving, landing, one_more, take_landed, wait_on};
 use crate::queues::{fronts_of, queues_of};
 use fleet_book::{Order, Place, Verdict};
 use fleet_history::RobotState;
@@ -185,12 +185,11 @@ impl<A: Allocator + Copy> Robots<A> {
         ensures stepped { self.new ≡ stepped self.old robot cell }
     {
         self.cells[robot] = cell;
-        let queue = &mut self.queues[robot];
-        self.waits[robot] = wait_on(queue, cell, self.waits[robot]);
-        let landed = landing(queue, cell)?;
-        let _ = queue.pop();
-        self.fronts[robot] = front_cell(queue);
-        Some(landed)
+        let errands = &mut self.queues[robot];
+        self.waits[robot] = wait_on(errands, cell, self.waits[robot]);
+        let landed = take_landed(errands, cell);
+        self.fronts[robot] = front_cell(errands);
+        landed
     }
 
     /// Lets an accepted errand join its robot's queue, where it may be the first and begin to wait, and a withdrawn one
