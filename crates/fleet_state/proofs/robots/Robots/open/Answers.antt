@@ -1,5 +1,5 @@
-use Rattle.std.proofs.Common.{arith, ◌≡◌, ◌<◌, ◌∙◌, sym, ap, length, List, subst}
-use Rattle.std.proofs.lemmas.Grind.{common_steps}
+use Rattle.std.proofs.Common.{arith, ◌≡◌, ◌<◌, ◌∙◌, sym, ap, length, take, List, subst}
+use Rattle.std.proofs.lemmas.List.{length-map, take_all}
 use Rattle.fleet_queue.specs.Queue.{Queue}
 use Rattle.fleet_state.specs.Opened.{queue_in}
 use Rattle.fleet_state.specs.inside.Fronts.{AreFronts}
@@ -20,8 +20,9 @@ loop-robot-preserved g c =
 
 pub invariant_of-result : goal.invariant_of-result
 invariant_of-result g c =
-    let many : length c.in_ok-queues.queues.items ≡ length c.args.states.now = ap length c.in_ok-queues.ensures ∙ length-by (queue_in c.args.rooms.now c.args.states.now) (length c.args.states.now) in (
-      grind (arith, common_steps, many),
-      grind (arith, common_steps, many),
-      subst (λ (queues : List Queue). AreFronts queues c.in_ok-fronts.fronts.items) c.as_slice.ensures.value c.in_ok-fronts.ensures,
-    )
+    let xs = c.args.states.now in
+    let whole = ap length (take_all c.loop-robot.robot-index xs c.loop-robot-test.false) in
+    let many : length c.in_ok-queues.queues.items ≡ length xs = ap length c.in_ok-queues.ensures ∙ length-by (queue_in c.args.rooms.now xs) (length xs) in
+    let cells : length c.loop-robot.cells.items ≡ length xs = ap length c.loop-robot.invariant.cells ∙ length-map (take c.loop-robot.robot-index xs) _ ∙ whole in
+    let waits : length c.loop-robot.waits.items ≡ length xs = ap length c.loop-robot.invariant.waits ∙ length-map (take c.loop-robot.robot-index xs) _ ∙ whole in
+    (cells ∙ sym many, waits ∙ sym many, subst (λ (queues : List Queue). AreFronts queues c.in_ok-fronts.fronts.items) c.as_slice.ensures.value c.in_ok-fronts.ensures)
