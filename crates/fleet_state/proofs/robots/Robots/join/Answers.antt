@@ -1,7 +1,6 @@
-use Rattle.std.proofs.Common.{arith, ap, sym, length, None, get_or, ◌≡◌, ◌∙◌, ◌<◌}
-use Rattle.std.specs.Prelude.{slice_set, slice_index_or}
+use Rattle.std.proofs.Common.{arith, ap, sym, length, None, ◌∙◌, ◌<◌}
 use Rattle.std.proofs.lemmas.List.{length-set, get_or_read}
-use Rattle.fleet_state.specs.Robots.{Robots, queue_at, no_queue}
+use Rattle.fleet_state.specs.Robots.{Robots, no_queue}
 use Rattle.fleet_state.proofs.Fronts.{fronts-set, has-room, joined-inside}
 use Rattle.fleet_state.proofs.robots.Robots.join.Goals as goal
 
