@@ -1,14 +1,14 @@
 -- The list of the cells of the queues' first errands, as the queues change.
 use Rattle.std.proofs.Common.{◌≡◌, ℕ, ◌+◌, ◌<◌, ◌≤◌, List, [], ◌∷◌, ◌++◌, length, cond, eqb, Bool, true, false, Option, Some, None, sym, refl, ap, ◌∙◌, subst, arith, inl, inr, ext_get_or}
-use Rattle.std.specs.Prelude.{slice_get, slice_set, slice_index, slice_index_or}
+use Rattle.std.specs.Prelude.{slice_get, slice_set, slice_index, slice_index_or, Result, Ok, Err, IsOk, OnOk, ◌↔◌, unwrap_or}
 use Rattle.std.proofs.lemmas.List.{length-set, get_or-set_same, get_or-set_other, get_or_past, get_or_append_left}
 use Rattle.std.proofs.Math.Seq.{get_or-append_seam}
 use Rattle.std.proofs.lemmas.Bool.{cases_eq, cases_lt}
 use Rattle.fleet_queue.specs.declared.errand.Errand.{Errand}
 use Rattle.fleet_queue.specs.Queue.{Queue, is_of, without_behind_front}
-use Rattle.fleet_history.specs.Waited.{one_more}
+use Rattle.fleet_history.specs.Waited.{one_more, wait_taken}
 use Rattle.fleet_state.specs.Landed.{landing, wait_on, rest_on, without_landed}
-use Rattle.fleet_state.specs.Robots.{Robots, queue_at, no_queue, stepped, without_errand}
+use Rattle.fleet_state.specs.Robots.{Robots, queue_at, no_queue, stepped, joined, without_errand}
 use Rattle.fleet_state.specs.inside.Fronts.{AreFronts}
 
 -- ---- the queues change
@@ -108,3 +108,32 @@ stepped-past x r cell l e =
     let items = rest-none cell (queue_at x.queues r).items e in
     let same : without_landed cell (queue_at x.queues r) ≡ queue_at x.queues r = ap (λ u. record (queue_at x.queues r) { items = u }) items in
     rw (same_set x.queues r (without_landed cell (queue_at x.queues r)) same l, wait-none cell (queue_at x.queues r).items (slice_index_or x.waits r None) e) refl
+
+-- ---- an errand joins
+
+taken-wait : (e : Errand) (w : Option ℕ) → Some (unwrap_or w 0) ≡ wait_taken (e ∷ []) w
+taken-wait e None = refl
+taken-wait e (Some n) = refl
+
+pushed : {E : Type 0} (q p : Queue) (e : Errand) (pushing : Result (Unit {0}) E) → length q.items < q.capacity → (IsOk pushing ↔ (length q.items < q.capacity)) →
+    OnOk pushing (p ≡ record q { items = q.items ++ e ∷ [] }) → p ≡ record q { items = q.items ++ e ∷ [] }
+pushed q p e (Ok x) l room ok = ok
+pushed q p e (Err x) l room ok = let refused : false ≡ true = room.1 l in cc
+
+-- where a queue has room and the errand is pushed, and a missing wait begins
+pub joined-inside : {E : Type 0} (x y : Robots) (r : ℕ) (e : Errand) (q p : Queue) (pushing : Result (Unit {0}) E) (w : Option ℕ) (n : ℕ) → x ≡ y → q ≡ queue_at x.queues r →
+    length (queue_at y.queues r).items < (queue_at y.queues r).capacity → (IsOk pushing ↔ (length q.items < q.capacity)) → OnOk pushing (p ≡ record q { items = q.items ++ e ∷ [] }) →
+    w ≡ slice_index_or x.waits r None → n ≡ unwrap_or w 0 →
+    ◌≡◌ {A = Robots} (record { cells = x.cells; queues = slice_set x.queues r p; waits = slice_set x.waits r (Some n) }) (joined y r e)
+joined-inside x y r e q p pushing w n same read l room ok wait is =
+    let read : q ≡ queue_at y.queues r = read ∙ ap (λ (z : Robots). queue_at z.queues r) same in
+    let full : p ≡ record q { items = q.items ++ e ∷ [] } = pushed q p e pushing (rw read l) room ok in
+    let begun : Some n ≡ wait_taken (e ∷ []) (slice_index_or x.waits r None) = ap Some is ∙ taken-wait e w ∙ ap (wait_taken (e ∷ [])) wait in
+    rw (begun, full, read, same) refl
+
+-- ---- a robot steps
+
+-- where the errand that it lands on is taken out of its queue
+pub stepped-inside : (x y : Robots) (r cell : ℕ) (q p : Queue) (w v : Option ℕ) → x ≡ y → q ≡ queue_at x.queues r → p ≡ without_landed cell q → w ≡ slice_index_or x.waits r None → v ≡ wait_on cell q.items w →
+    ◌≡◌ {A = Robots} (record { cells = slice_set x.cells r cell; queues = slice_set x.queues r p; waits = slice_set x.waits r v }) (stepped y r cell)
+stepped-inside x y r cell q p w v same read rest was waited = rw (waited, rest, was, read, same) refl

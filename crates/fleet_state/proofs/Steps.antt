@@ -39,14 +39,14 @@ stepped-none to x = record {
   waiting = λ k l. refl;
 }
 
-set-before : {X : Type 0} (d : X) (xs : List X) (n k : ℕ) (v : X) (g : ℕ → X) → n < length xs → v ≡ g n → (k < n → get_or xs k d ≡ g k) → k < n + 1 → get_or (slice_set xs n v) k d ≡ g k
+pub set-before : {X : Type 0} (d : X) (xs : List X) (n k : ℕ) (v : X) (g : ℕ → X) → n < length xs → v ≡ g n → (k < n → get_or xs k d ≡ g k) → k < n + 1 → get_or (slice_set xs n v) k d ≡ g k
 set-before d xs n k v g l here earlier m =
     elim (cases_eq n k) [
       | inl e ↦ subst (λ k. get_or (slice_set xs n v) k d ≡ g k) e (get_or-set_same xs n v d l ∙ here)
       | inr ne ↦ get_or-set_other xs n k v d (λ e. ne (sym e)) ∙ earlier (omega (arith, ne))
     ]
 
-set-behind : {X : Type 0} (d : X) (xs : List X) (n k : ℕ) (v : X) → n + 1 ≤ k → get_or (slice_set xs n v) k d ≡ get_or xs k d
+pub set-behind : {X : Type 0} (d : X) (xs : List X) (n k : ℕ) (v : X) → n + 1 ≤ k → get_or (slice_set xs n v) k d ≡ get_or xs k d
 set-behind d xs n k v l = get_or-set_other xs n k v d (λ e. omega arith)
 
 pub stepped-more : (to : List ℕ) (n : ℕ) (x y : Robots) → AreStepped to n x y → n < length x.cells → n < length x.queues → n < length x.waits → AreStepped to (n + 1) x (stepped y n (slice_index to n))

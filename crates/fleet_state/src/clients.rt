@@ -7,7 +7,7 @@ ghost use Rattle.fleet_book.specs.Rule.{verdict_of};
 ghost use Rattle.fleet_grid.specs.Floor.{Floor};
 ghost use Rattle.fleet_history.specs.Legal.{IsInOrder};
 ghost use Rattle.fleet_state.specs.Clients.{tally_at, with_verdict, with_arrival, client_known};
-ghost use Rattle.fleet_state.specs.Opened.{account_in, owed_in, clients_in};
+ghost use Rattle.fleet_state.specs.Opened.{account_in, owed_in, clients_in, tally_in};
 
 use fleet_book::{Account, Book, Facts, Order, Verdict};
 use fleet_history::{ClientState, Opening, RobotState};
@@ -40,6 +40,37 @@ impl<A: Allocator + Copy> Model for Clients<A> {
     ghost invariant = { λ x. length x.book.accounts ≡ length x.tallies.items };
 }
 
+/// What each client's orders and notices come to.
+fn tallies_of<A: Allocator + Copy>(
+    alloc: A,
+    clients: &[ClientState],
+) -> Result<Vec<Tally, A>, AllocError>
+    ensures { IfOk result (λ tallies. tallies.items ≡ map tally_in clients.now) }
+{
+    let mut tallies = Vec::new(alloc);
+    for client in clients {
+        tallies.push(Tally {
+            taken: client.taken,
+            noticed: client.noticed,
+        })?;
+    }
+    Ok(tallies)
+}
+
+/// Which robots are shut.
+fn shut_of<A: Allocator + Copy>(
+    alloc: A,
+    robots: &[RobotState<A>],
+) -> Result<Vec<bool, A>, AllocError>
+    ensures { IfOk result (λ shut. shut.items ≡ map (λ x. x.shut) robots.now) }
+{
+    let mut shut = Vec::new(alloc);
+    for robot in robots {
+        shut.push(robot.shut)?;
+    }
+    Ok(shut)
+}
+
 impl<A: Allocator + Copy> Clients<A> {
     /// The clients of an opening.
     pub(crate) fn open(alloc: A, opening: &Opening<A>) -> Result<Self, AllocError>
@@ -48,17 +79,8 @@ impl<A: Allocator + Copy> Clients<A> {
     {
         let clients = opening.clients.as_slice();
         let robots = opening.robots.as_slice();
-        let mut tallies = Vec::new(alloc);
-        for client in clients {
-            tallies.push(Tally {
-                taken: client.taken,
-                noticed: client.noticed,
-            })?;
-        }
-        let mut shut = Vec::new(alloc);
-        for robot in robots {
-            shut.push(robot.shut)?;
-        }
+        let tallies = tallies_of(alloc, clients)?;
+        let shut = shut_of(alloc, robots)?;
         let accounts = accounts_of(alloc, clients, robots)?;
         Ok(Clients {
             book: Book::of_accounts(accounts, shut, opening.life),

@@ -1,6 +1,6 @@
 //! The robots of a state: their cells, errands and waits.
 
-ghost use Rattle.std.specs.Prelude.{◌≡◌, ◌≢◌, ◌+◌, ◌<◌, ◌^◌, ◌&&◌, ℕ, None, Some, IfOk, true, false, length, slice_index, slice_index_or};
+ghost use Rattle.std.specs.Prelude.{◌≡◌, ◌≢◌, ◌+◌, ◌<◌, ◌^◌, ◌&&◌, ℕ, None, Some, IfOk, true, false, length, map, slice_index, slice_index_or};
 ghost use Rattle.std.specs.List.{list_any};
 ghost use Rattle.fleet_queue.specs.Queue.{is_of};
 ghost use Rattle.fleet_history.specs.Verdicts.{place_in};
@@ -8,7 +8,7 @@ ghost use Rattle.fleet_state.specs.Landed.{landing, is_last};
 ghost use Rattle.fleet_state.specs.Opened.{HaveRooms, robots_in};
 ghost use Rattle.fleet_state.specs.Robots.{queue_at, stepped, joined, without_errand, HasPlace, AreTaken, IsPlaceAmong};
 
-use crate::landing::{front_cell, is_leaving, landing, one_more, wait_on};
+use crate::landing::{front_cell, is_leaving, landing, one_more, take_landed, wait_on};
 use crate::queues::{fronts_of, queues_of};
 use fleet_book::{Order, Place, Verdict};
 use fleet_history::RobotState;
@@ -39,6 +39,34 @@ impl<A: Allocator + Copy> Model for Robots<A> {
     ghost invariant = { λ x. (length x.cells.items ≡ length x.queues.items) × (length x.waits.items ≡ length x.queues.items) × AreFronts x.queues.items x.fronts.items };
 }
 
+/// Where robots stand.
+fn cells_of<A: Allocator + Copy>(
+    alloc: A,
+    states: &[RobotState<A>],
+) -> Result<Vec<u32, A>, AllocError>
+    ensures { IfOk result (λ cells. cells.items ≡ map (λ x. x.cell) states.now) }
+{
+    let mut cells = Vec::new(alloc);
+    for robot in states {
+        cells.push(robot.cell)?;
+    }
+    Ok(cells)
+}
+
+/// How long robots have waited.
+fn waits_of<A: Allocator + Copy>(
+    alloc: A,
+    states: &[RobotState<A>],
+) -> Result<Vec<Option<u64>, A>, AllocError>
+    ensures { IfOk result (λ waits. waits.items ≡ map (λ x. x.wait) states.now) }
+{
+    let mut waits = Vec::new(alloc);
+    for robot in states {
+        waits.push(robot.wait)?;
+    }
+    Ok(waits)
+}
+
 impl<A: Allocator + Copy> Robots<A> {
     /// The robots of an opening, where each one's queue has memory for so many errands.
     pub(crate) fn open(
@@ -49,14 +77,10 @@ impl<A: Allocator + Copy> Robots<A> {
         requires { HaveRooms rooms.now states.now }
         ensures { IfOk result (λ x. x ≡ robots_in rooms.now states.now) }
     {
+        let cells = cells_of(alloc, states)?;
+        let waits = waits_of(alloc, states)?;
         let queues = queues_of(alloc, states, rooms)?;
         let fronts = fronts_of(alloc, queues.as_slice())?;
-        let mut cells = Vec::new(alloc);
-        let mut waits = Vec::new(alloc);
-        for robot in states {
-            cells.push(robot.cell)?;
-            waits.push(robot.wait)?;
-        }
         Ok(Robots {
             cells,
             queues,
@@ -185,12 +209,11 @@ impl<A: Allocator + Copy> Robots<A> {
         ensures stepped { self.new ≡ stepped self.old robot cell }
     {
         self.cells[robot] = cell;
-        let queue = &mut self.queues[robot];
-        self.waits[robot] = wait_on(queue, cell, self.waits[robot]);
-        let landed = landing(queue, cell)?;
-        let _ = queue.pop();
-        self.fronts[robot] = front_cell(queue);
-        Some(landed)
+        let errands = &mut self.queues[robot];
+        self.waits[robot] = wait_on(errands, cell, self.waits[robot]);
+        let landed = take_landed(errands, cell);
+        self.fronts[robot] = front_cell(errands);
+        landed
     }
 
     /// Lets an accepted errand join its robot's queue, where it may be the first and begin to wait, and a withdrawn one
@@ -229,9 +252,7 @@ impl<A: Allocator + Copy> Robots<A> {
         let queue = &mut self.queues[robot];
         let _ = queue.try_push(errand);
         self.fronts[robot] = front_cell(queue);
-        if let None = self.waits[robot] {
-            self.waits[robot] = Some(0);
-        }
+        self.waits[robot] = Some(self.waits[robot].unwrap_or(0));
     }
 
     /// Takes the client's errand of this number out, wherever it stands behind a front.

@@ -1,5 +1,5 @@
 use Rattle.fleet_history.specs.declared.history.RobotState.{RobotState}
-use Rattle.std.proofs.Common.{◌≡◌, ℕ, get_or, ◌++◌, ◌∷◌, [], ◌<◌, List, length, map, slice_index, sym, ap}
+use Rattle.std.proofs.Common.{arith, ◌≡◌, ◌∙◌, ℕ, get_or, ◌++◌, ◌∷◌, [], ◌<◌, List, length, map, slice_index, sym, ap}
 use Rattle.std.specs.List.{range_with_len}
 use Rattle.std.proofs.lemmas.List.{get_or-map}
 use Rattle.fleet_queue.specs.declared.errand.Errand.{Errand}
@@ -17,3 +17,12 @@ loop-r-preserved g c =
     let e = here c.args.states.now c.loop-r.r c.index-states-r.result c.loop-r-test.true in
     rw (c.in_ok-push.ensures.items, c.loop-r.invariant, map-range_more f c.loop-r.r, c.in_ok-queue_of.ensures, c.as_slice.ensures)
     (ap (λ (u : List Errand). map f (range_with_len 0 c.loop-r.r) ++ record { items = u; capacity = slice_index c.args.rooms.now c.loop-r.r } ∷ []) e)
+
+pub queue_of-requires : goal.queue_of-requires
+queue_of-requires g c =
+    omega (arith, ap length (c.as_slice.ensures ∙ here c.args.states.now c.loop-r.r c.index-states-r.result c.loop-r-test.true), c.requires.each c.loop-r.r c.loop-r-test.true)
+
+pub returns : goal.returns
+returns g c =
+    let last : c.loop-r.r ≡ length c.args.states.now = omega (arith, c.loop-r.auto.r-end) in
+    c.loop-r.invariant ∙ ap (λ n. map (queue_in c.args.rooms.now c.args.states.now) (range_with_len 0 n)) last

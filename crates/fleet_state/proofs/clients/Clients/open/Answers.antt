@@ -1,5 +1,5 @@
-use Rattle.std.proofs.Common.{arith, length, take}
-use Rattle.std.proofs.lemmas.List.{length-map, length-take-le}
+use Rattle.std.proofs.Common.{arith, length}
+use Rattle.std.proofs.lemmas.List.{length-map}
 use Rattle.fleet_state.specs.Opened.{account_in, tally_in}
 use Rattle.fleet_state.proofs.Opened.{are-within}
 use Rattle.fleet_state.proofs.Parts.{length-by}
@@ -11,5 +11,5 @@ of_accounts-requires-clause-within g c = rw (c.in_ok-accounts.ensures, c.as_slic
 pub invariant_of-result : goal.invariant_of-result
 invariant_of-result g c =
     let clients = c.as_slice-clients.result.now in
-    rw (c.of_accounts.ensures, c.in_ok-accounts.ensures, c.loop-client.invariant)
-    (omega (arith, c.loop-client-test.false, c.loop-client.auto.client-index-end, length-by (account_in clients c.as_slice-robots.result.now) (length clients), length-map (take c.loop-client.client-index clients) tally_in, length-take-le c.loop-client.client-index clients c.loop-client.auto.client-index-end))
+    rw (c.of_accounts.ensures, c.in_ok-accounts.ensures, c.in_ok-tallies.ensures)
+    (omega (arith, length-by (account_in clients c.as_slice-robots.result.now) (length clients), length-map clients tally_in))

@@ -1,11 +1,25 @@
 use Rattle.std.proofs.Common.{◌≡◌, ◌∙◌, ◌<◌, None, arith, ap, length, subst, sym}
 use Rattle.std.specs.Prelude.{slice_set, slice_index_or}
-use Rattle.std.proofs.lemmas.List.{get_or_read}
+use Rattle.std.proofs.lemmas.List.{length-set, get_or_read}
 use Rattle.fleet_history.specs.Waited.{one_more}
 use Rattle.fleet_state.specs.Landed.{landing}
 use Rattle.fleet_state.specs.Robots.{Robots, queue_at, stepped}
 use Rattle.fleet_state.proofs.Fronts.{stepped-past}
 use Rattle.fleet_state.proofs.robots.Robots.step.Goals as goal
+
+pub one_more-requires : goal.one_more-requires
+one_more-requires g c = record {
+  small = λ w e. c.requires.small w
+      (sym (get_or_read c.self.inside.waits.items c.args.robot c.index.result.now (omega (arith, c.requires.known, ap (λ (x : Robots). length x.queues) c.self.view_is, c.self.invariant.1)) c.index.ensures None
+      ∙ ap (λ (x : Robots). slice_index_or x.waits c.args.robot None) c.self.view_is) ∙ e);
+}
+
+pub invariant_of-self : goal.invariant_of-self
+invariant_of-self g c = (
+  length-set c.self.inside.cells.items c.args.robot c.args.cell ∙ c.self.invariant.0,
+  length-set c.self.inside.waits.items c.args.robot c.one_more.result ∙ c.self.invariant.1,
+  c.self.invariant.2,
+)
 
 pub returns-clause-stepped : goal.returns-clause-stepped
 returns-clause-stepped g c =
