@@ -148,6 +148,7 @@ fn counts(rt: HostRuntime) -> Result<(), Fail> {
     book.settle(1);
     assert!(rt; [next, later] == [1, 3]);
     assert!(rt; [entered, withdrawn, counts_of(&book, 1)] == [[2, 2], [2, 1], [2, 0]]);
+    assert!(rt; !book.is_closed(1) && book.account(0) == Account::BLANK);
     Ok(())
 }
 
