@@ -1,4 +1,4 @@
-use Rattle.std.proofs.Common.{◌≡◌, ◌∙◌, ap, get_or, arith, ℕ, List}
+use Rattle.std.proofs.Common.{◌∙◌, ap, arith, ℕ, List}
 use Rattle.std.specs.Prelude.{count_by, ◌==◌}
 use Rattle.std.proofs.lemmas.List.Sums.{sum_by_more, sum_by_more_le}
 use Rattle.fleet_queue.specs.declared.errand.Errand.{Errand}
