@@ -10,3 +10,4 @@ pub mod EntryByEntry
 pub mod Alike
 pub mod Calmed
 pub mod Rooms
+pub mod Shutting

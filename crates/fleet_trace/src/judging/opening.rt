@@ -1,6 +1,6 @@
 //! Whether an opening is in order.
 
-ghost use Rattle.std.specs.Prelude.{◌≡◌, ◌↔◌, IsTrue, IfOk};
+ghost use Rattle.std.specs.Prelude.{◌≡◌, ◌↔◌, ◌≤◌, IsTrue, IfOk};
 ghost use Rattle.fleet_history.specs.Legal.{IsInOrder};
 ghost use Rattle.fleet_trace.specs.Opened.{AreSizesInOrder};
 
@@ -11,21 +11,20 @@ use fleet_grid::Grid;
 use fleet_history::Opening;
 use std::alloc::{AllocError, Allocator};
 
+fn is_between(number: u64, least: u64, greatest: u64) -> bool
+    ensures { IsTrue result ↔ (least ≤ number) × (number ≤ greatest) }
+{
+    least <= number && number <= greatest
+}
+
 /// Whether the numbers of robots and clients, and what they may have, are in their ranges.
 fn are_sizes_in_order<A: Allocator + Copy>(opening: &Opening<A>) -> bool
     ensures { IsTrue result ↔ AreSizesInOrder opening.now }
 {
-    let (robots, clients) = (opening.robots.len(), opening.clients.len());
-    if robots < 1 || robots > 512 {
-        return false;
-    }
-    if clients < 1 || clients > 64 {
-        return false;
-    }
-    if opening.queue < 1 || opening.queue > 65_536 {
-        return false;
-    }
-    opening.life >= 1 && opening.life <= 1 << 40
+    is_between(opening.robots.len() as u64, 1, 512)
+        && is_between(opening.clients.len() as u64, 1, 64)
+        && is_between(u64::from(opening.queue), 1, 65_536)
+        && is_between(opening.life, 1, 1 << 40)
 }
 
 /// Whether the opening is in order on the map. The error is want of memory.

@@ -39,12 +39,19 @@ fn is_stamp(law: StampLaw, stamp: u32) -> bool
     law.low <= stamp && stamp <= law.high
 }
 
+/// Whether the stamp of an arrival lies within its robot's law.
+fn is_arrival_stamp<A: Allocator + Copy>(robots: &[RobotState<A>], robot: u32, stamp: u32) -> bool
+    ensures { IsTrue result ↔ IsStamp (slice_index_or (map (λ x. x.arrival_law) robots.now) robot no_law) stamp }
+{
+    is_stamp(arrival_law_of(robots, robot), stamp)
+}
+
 /// Whether the stamps of arrivals lie within the laws of their robots.
 pub(crate) fn are_stamps<A: Allocator + Copy>(robots: &[RobotState<A>], arrived: &[Arrival]) -> bool
     ensures { IsTrue result ↔ All (λ a. IsStamp (slice_index_or (map (λ x. x.arrival_law) robots.now) a.robot no_law) a.stamp) arrived.now }
 {
     for arrival in arrived {
-        if !is_stamp(arrival_law_of(robots, arrival.robot), arrival.stamp) {
+        if !is_arrival_stamp(robots, arrival.robot, arrival.stamp) {
             return false;
         }
     }
