@@ -172,23 +172,36 @@ fn bridge_from<A: Allocator + Copy, B: Allocator + Copy>(
     Ok(None)
 }
 
+/// The first bridge, by a tree and whether it passed its check.
+#[tactic(auto, using(crate::proofs::Rounds::first_is))]
+fn first_by<A: Allocator + Copy, B: Allocator + Copy>(
+    alloc: A,
+    sides: &Sides<'_, A, B>,
+    tree: &Tree<A>,
+    is_sound: bool,
+) -> Result<Option<(u32, u32)>, AllocError>
+    requires { is_sound ≡ true → IsSpanning sides.now tree.now }
+    ensures { IfOk result (λ found. MatchOption found (IsBridgeless (IsNeighbour sides.now)) (λ it. IsFirstBridge (IsNeighbour sides.now) it.0 it.1)) }
+{
+    let count = sides.grid().cell_count();
+    for cell in 0..count {
+        if let Some(upper) = bridge_from(alloc, sides, tree, is_sound, cell)? {
+            return Ok(Some((cell, upper)));
+        }
+    }
+    Ok(None)
+}
+
 /// The first bridge, from the tree.
-#[tactic(auto, using(crate::proofs::Rounds::first_is, crate::proofs::Rounds::none_is))]
 fn first_by_tree<A: Allocator + Copy, B: Allocator + Copy>(
     alloc: A,
     grid: &Grid<B>,
 ) -> Result<Option<(u32, u32)>, AllocError>
     ensures { IfOk result (λ found. MatchOption found (IsBridgeless (IsNeighbour grid.now)) (λ it. IsFirstBridge (IsNeighbour grid.now) it.0 it.1)) }
 {
-    let count = grid.cell_count();
     let sides = Sides::new(alloc, grid)?;
     let (tree, is_sound) = spanning_tree(alloc, &sides)?;
-    for cell in 0..count {
-        if let Some(upper) = bridge_from(alloc, &sides, &tree, is_sound, cell)? {
-            return Ok(Some((cell, upper)));
-        }
-    }
-    Ok(None)
+    first_by(alloc, &sides, &tree, is_sound)
 }
 
 /// The bridge of least lower cell, then least upper cell. Edges beside squares of floor, or on short rounds, are passed over;

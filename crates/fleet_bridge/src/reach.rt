@@ -1,6 +1,6 @@
 //! How far the edges off a tree reach, and from which cell of each subtree the furthest one leads.
 
-ghost use Rattle.std.specs.Prelude.{◌≡◌, ◌<◌, vec_len, IfOk};
+ghost use Rattle.std.specs.Prelude.{ℕ, ◌<◌, IfOk};
 ghost use Rattle.fleet_bridge.specs.inside.Tree.{AreUnder};
 
 use crate::growth::Growth;
@@ -42,16 +42,34 @@ fn reach<A: Allocator + Copy, B: Allocator + Copy>(
 }
 
 /// Gives the parent the cell of the child's subtree.
-#[tactic(auto, using(crate::proofs::Inner::under_set))]
 fn hand_up<A: Allocator + Copy>(up: &Vec<u32, A>, inner: &mut Vec<u32, A>, cell: u32)
-    requires inside { cell < vec_len inner.old }
-    requires under { AreUnder up.now.items (vec_len inner.old) inner.old.items }
-    ensures size { vec_len inner.new ≡ vec_len inner.old }
-    ensures under { AreUnder up.now.items (vec_len inner.old) inner.new.items }
+    ensures { (n : ℕ) → cell < n → AreUnder up.now.items n inner.old.items → AreUnder up.now.items n inner.new.items }
 {
     let parent = read(up, cell);
     let found = read(inner, cell);
     write(inner, parent, found);
+}
+
+/// Hands the furthest reach of each subtree up to the parent: children come behind their parents in the order, so this goes
+/// backward.
+fn hand_all_up<A: Allocator + Copy>(
+    growth: &Growth<A>,
+    far: &mut Vec<u32, A>,
+    inner: &mut Vec<u32, A>,
+    count: u32,
+)
+    requires { AreUnder growth.now.up.items count inner.old.items }
+    ensures { AreUnder growth.now.up.items count inner.new.items }
+{
+    for cell in growth.order.iter().rev() {
+        let cell = *cell;
+        let parent = read(&growth.up, cell);
+        let mine = read(far, cell);
+        if mine < read(far, parent) && cell < count {
+            write(far, parent, mine);
+            hand_up(&growth.up, inner, cell);
+        }
+    }
 }
 
 /// Each cell's own reach.
@@ -82,14 +100,6 @@ pub(crate) fn furthest<A: Allocator + Copy, B: Allocator + Copy>(
 {
     let mut far = reaches(alloc, sides, &growth.up, number, count)?;
     let mut inner = own_numbers(alloc, count)?;
-    for cell in growth.order.iter().rev() {
-        let cell = *cell;
-        let parent = read(&growth.up, cell);
-        let mine = read(&far, cell);
-        if mine < read(&far, parent) && cell < count {
-            write(&mut far, parent, mine);
-            hand_up(&growth.up, &mut inner, cell);
-        }
-    }
+    hand_all_up(growth, &mut far, &mut inner, count);
     Ok(inner)
 }

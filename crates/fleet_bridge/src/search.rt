@@ -68,7 +68,6 @@ fn visit_beside<A: Allocator + Copy, B: Allocator + Copy>(
 }
 
 /// Visits all neighbours.
-#[tactic(auto, using(crate::proofs::Fronts::later_on))]
 fn visit_around<A: Allocator + Copy, B: Allocator + Copy>(
     grid: &Grid<B>,
     from: u32,
@@ -90,8 +89,31 @@ fn visit_around<A: Allocator + Copy, B: Allocator + Copy>(
     Ok(())
 }
 
-/// The cells that a walk from `from` comes to without crossing the edge.
+/// Marks the cells that a walk from `from` comes to without crossing the edge.
 #[tactic(auto, using(crate::proofs::Fronts::queue_le, crate::proofs::Fronts::reach, crate::proofs::Fronts::done_more))]
+fn spread<A: Allocator + Copy, B: Allocator + Copy>(
+    grid: &Grid<B>,
+    from: u32,
+    to: u32,
+    seen: &mut Vec<bool, A>,
+    queue: &mut Vec<u32, A>,
+) -> Result<(), AllocError>
+    requires inside { from < length grid.now.letters }
+    requires front { IsFront (NearWithout grid.now from to) from (length grid.now.letters) seen.old.items queue.old.items }
+    ensures size { IfOk result (λ u. vec_len seen.new ≡ length grid.now.letters) }
+    ensures reach { IfOk result (λ u. IsReach (NearWithout grid.now from to) from seen.new.items) }
+{
+    visit(grid, from, to, seen, queue, from)?;
+    let mut head = 0;
+    while head < queue.len() {
+        let cell = queue[head];
+        visit_around(grid, from, to, seen, queue, cell)?;
+        head += 1;
+    }
+    Ok(())
+}
+
+/// The cells that a walk from `from` comes to without crossing the edge.
 fn search<A: Allocator + Copy, B: Allocator + Copy>(
     alloc: A,
     grid: &Grid<B>,
@@ -105,13 +127,7 @@ fn search<A: Allocator + Copy, B: Allocator + Copy>(
     let count = grid.cell_count() as usize;
     let mut seen = vec![in alloc; false; count]?;
     let mut queue = Vec::new(alloc);
-    visit(grid, from, to, &mut seen, &mut queue, from)?;
-    let mut head = 0;
-    while head < queue.len() {
-        let cell = queue[head];
-        visit_around(grid, from, to, &mut seen, &mut queue, cell)?;
-        head += 1;
-    }
+    spread(grid, from, to, &mut seen, &mut queue)?;
     Ok(seen)
 }
 

@@ -1,17 +1,11 @@
-use Rattle.std.proofs.Common.{◌≡◌, ◌<◌, length, arith, subst, ℕ, get_or, refl}
-use Rattle.std.proofs.lemmas.List.{get_or_read_under}
-use Rattle.fleet_bridge.specs.inside.Search.{NearWithout, IsMarked}
-use Rattle.fleet_bridge.proofs.Fronts.{done_more}
+use Rattle.std.proofs.Common.{◌≡◌, ℕ, length, false, ap, ◌∙◌}
+use Rattle.std.proofs.Math.ListN.{replicate}
+use Rattle.fleet_bridge.specs.inside.Search.{NearWithout}
+use Rattle.fleet_bridge.proofs.Fronts.{front_none}
 use Rattle.fleet_bridge.proofs.search.search.Goals as goal
 
-pub loop-head-preserved : goal.loop-head-preserved
-loop-head-preserved g c =
-    let inside : c.loop-head.head < length c.loop-head.queue.items = omega arith in
-    let read : c.index-cell.result.now ≡ get_or c.loop-head.queue.items c.loop-head.head 0 = get_or_read_under _ _ _ _ 0 c.index-cell.ensures inside refl in
-    record {
-      size = c.in_ok-visit_around.ensures.front.size;
-      start = c.in_ok-visit_around.ensures.later.keeps c.args.from c.loop-head.invariant.start;
-      front = c.in_ok-visit_around.ensures.front;
-      done = done_more (NearWithout c.args.grid.now c.args.from c.args.to) c.loop-head.seen.items c.loop-head.queue.items c.visit_around.new.seen.items c.visit_around.new.queue.items c.loop-head.head inside c.in_ok-visit_around.ensures.later c.loop-head.invariant.done
-          (subst (λ (x : ℕ). (d : ℕ) → NearWithout c.args.grid.now c.args.from c.args.to x d → IsMarked c.visit_around.new.seen.items d) read c.in_ok-visit_around.ensures.marked);
-    }
+pub spread-requires-clause-front : goal.spread-requires-clause-front
+spread-requires-clause-front g c =
+    let n = length c.args.grid.now.letters in
+    let blank : c.in_ok-seen.seen.items ≡ replicate n false = c.in_ok-seen.ensures.items_if_clones_equal (λ y e. e) ∙ ap (λ (k : ℕ). replicate k false) c.cell_count-count.ensures.value in
+    rw (c.new-queue.ensures.items, blank) (front_none (NearWithout c.args.grid.now c.args.from c.args.to) c.args.from n)

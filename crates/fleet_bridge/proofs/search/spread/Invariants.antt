@@ -1,7 +1,7 @@
 use Rattle.std.proofs.Common.{◌≡◌, ◌-◌, length}
 use Rattle.fleet_bridge.specs.inside.Search.{NearWithout, IsMarked, IsFront}
 use Rattle.fleet_bridge.proofs.Fronts.{AreDone}
-use Rattle.fleet_bridge.proofs.search.search.Given as goal
+use Rattle.fleet_bridge.proofs.search.spread.Given as goal
 
 abbrev pub invariant-loop-head : goal.invariant-loop-head
 invariant-loop-head g l = record {

@@ -1,0 +1,17 @@
+use Rattle.std.proofs.Common.{ℕ, ◌≤◌, length, Option, MatchOption, below_more, subst, ap, arith}
+use Rattle.fleet_grid.specs.Floor.{Floor, HasForm}
+use Rattle.fleet_bridge.specs.inside.First.{HasNone, IsFirstFrom}
+use Rattle.fleet_bridge.proofs.Rounds.{none_is, none_left}
+use Rattle.fleet_bridge.proofs.first.first_by.Goals as goal
+
+pub loop-cell-preserved : goal.loop-cell-preserved
+loop-cell-preserved g c =
+    let m = c.args.sides.now in
+    below_more (HasNone m) c.loop-cell.cell c.loop-cell.invariant
+    (subst (λ (o : Option ℕ). MatchOption o (HasNone m c.loop-cell.cell) (IsFirstFrom m c.loop-cell.cell)) (none_left c.in_ok-upper.field-0 c.in_default.not-Some) c.in_ok-upper.ensures)
+
+pub returns : goal.returns
+returns g c =
+    let m = c.args.sides.now in
+    let le : length m.letters ≤ c.loop-cell.cell = omega (arith, ap (λ (f : Floor). length f.letters) c.grid.ensures, c.cell_count-count.ensures.value, c.loop-cell-test.false) in
+    none_is m c.loop-cell.cell (subst HasForm c.grid.ensures c.cell_count-count.ensures.form) le c.loop-cell.invariant

@@ -1,0 +1,26 @@
+use Rattle.std.proofs.Common.{◌≡◌, ◌<◌, length, arith, subst, ℕ, get_or, refl}
+use Rattle.std.proofs.lemmas.List.{get_or_read_under}
+use Rattle.fleet_bridge.specs.inside.Search.{NearWithout, IsMarked}
+use Rattle.fleet_bridge.proofs.Fronts.{queue_le, reach, done_more}
+use Rattle.fleet_bridge.proofs.search.spread.Goals as goal
+
+pub overflow_add-head : goal.overflow_add-head
+overflow_add-head g c =
+    omega (arith, queue_le (NearWithout c.args.grid.now c.args.from c.args.to) c.args.from (length c.args.grid.now.letters) c.loop-head.seen.items c.loop-head.queue.items c.loop-head.invariant.front)
+
+pub returns-clause-reach : goal.returns-clause-reach
+returns-clause-reach g c =
+    reach (NearWithout c.args.grid.now c.args.from c.args.to) c.args.from (length c.args.grid.now.letters) c.loop-head.seen.items c.loop-head.queue.items c.loop-head.head
+    c.loop-head.invariant.start c.loop-head.invariant.front (omega arith) c.loop-head.invariant.done
+
+pub loop-head-preserved : goal.loop-head-preserved
+loop-head-preserved g c =
+    let inside : c.loop-head.head < length c.loop-head.queue.items = omega arith in
+    let read : c.index-cell.result.now ≡ get_or c.loop-head.queue.items c.loop-head.head 0 = get_or_read_under _ _ _ _ 0 c.index-cell.ensures inside refl in
+    record {
+      size = c.in_ok-visit_around.ensures.front.size;
+      start = c.in_ok-visit_around.ensures.later.keeps c.args.from c.loop-head.invariant.start;
+      front = c.in_ok-visit_around.ensures.front;
+      done = done_more (NearWithout c.args.grid.now c.args.from c.args.to) c.loop-head.seen.items c.loop-head.queue.items c.visit_around.new.seen.items c.visit_around.new.queue.items c.loop-head.head inside c.in_ok-visit_around.ensures.later c.loop-head.invariant.done
+          (subst (λ (x : ℕ). (d : ℕ) → NearWithout c.args.grid.now c.args.from c.args.to x d → IsMarked c.visit_around.new.seen.items d) read c.in_ok-visit_around.ensures.marked);
+    }
