@@ -47,24 +47,36 @@ fn grid_of(alloc: Global, case: Case<'_>) -> Result<Option<Grid>, AllocError> {
     }
 }
 
+/// What is found of the steps of a row. None where the program writes no chapter.
+fn find<R: Alloc<A = Global> + Threads + Sync + Wait>(
+    rt: &R,
+    case: Case<'_>,
+) -> Result<Option<Finding>, AllocError> {
+    let alloc = rt.alloc();
+    let Some(grid) = grid_of(alloc, case)? else {
+        return Ok(None);
+    };
+    match chapter_of(rt, case)? {
+        Some(chapter) => Ok(Some(walk(alloc, &grid, &chapter)?)),
+        None => Ok(None),
+    }
+}
+
 /// Tells of the steps of a row.
 pub(crate) fn tell<R: Alloc<A = Global> + Threads + Sync + Wait>(
     rt: &R,
     case: Case<'_>,
     told: &mut String,
 ) -> Result<(), AllocError> {
-    let alloc = rt.alloc();
     let name = case.name;
-    let (Some(grid), Some(chapter)) = (grid_of(alloc, case)?, chapter_of(rt, case)?) else {
-        return writeln!(told, "{name}: no chapter");
-    };
-    match walk(alloc, &grid, &chapter)? {
-        Finding::ConflictFree { steps, arrivals } => {
+    match find(rt, case)? {
+        None => writeln!(told, "{name}: no chapter"),
+        Some(Finding::ConflictFree { steps, arrivals }) => {
             writeln!(
                 told,
                 "{name}: ticks {steps}, each conflict-free, arrivals {arrivals}"
             )
         }
-        finding => writeln!(told, "{name}: {finding:?}"),
+        Some(finding) => writeln!(told, "{name}: {finding:?}"),
     }
 }
