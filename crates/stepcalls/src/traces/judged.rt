@@ -104,7 +104,7 @@ fn each_rule(rt: HostRuntime) -> Result<(), Fail> {
     let row = open_map(rt.alloc(), 1, 3)?;
     for (text, at, rule) in BROKEN {
         let fault = Err(JudgeFault::Illegal { at, rule });
-        assert!(rt; judged(rt.alloc(), &row, text)? == fault, "{text}");
+        assert!(rt; judged(rt.alloc(), &row, text)? == fault);
     }
     Ok(())
 }

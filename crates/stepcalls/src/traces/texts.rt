@@ -4,7 +4,7 @@ use fleet_book::{Order, Verdict};
 use fleet_history::{Arrival, Chapter, ClientState, Entry, Opening, RobotState, Row};
 use fleet_hooks::StampLaw;
 use fleet_trace::{TraceFault, read_trace, write_and_read, write_trace};
-use std::alloc::Global;
+use std::alloc::{AllocError, Global};
 use std::test::Fail;
 
 const ONE_CELL: &str =
@@ -36,117 +36,160 @@ const FIRST_TOO_LATE: &str =
 const FURTHER_KEY: &str =
     "{\"chapter\":0,\"entries\":[],\"note\":1,\"opening\":{\"clients\":[[0,0,0,false]],\"life\":1000000,\"queue\":16,\"robots\":[[0,false,null,[],[0,0],[0,0]]],\"tick\":0},\"version\":2}";
 
-/// The one cell's chapter: an errand is taken, and arrives at the first tick.
-fn one_cell(alloc: Global) -> Result<Chapter, Fail> {
-    let law = StampLaw { low: 0, high: 0 };
-    let client = ClientState {
-        taken: 0,
-        accepted: 0,
-        noticed: 0,
-        closed: false,
-    };
-    let robot = RobotState {
+const LAW: StampLaw = StampLaw { low: 0, high: 0 };
+
+const CLIENT: ClientState = ClientState {
+    taken: 0,
+    accepted: 0,
+    noticed: 0,
+    closed: false,
+};
+
+const ARRIVAL: Arrival = Arrival {
+    robot: 0,
+    client: 0,
+    number: 1,
+    stamp: 0,
+};
+
+/// One robot, on cell 0.
+fn lone_robot(alloc: Global) -> Result<Row<RobotState>, AllocError> {
+    let mut robots = Vec::with_capacity(alloc, 1)?;
+    robots.push_reserved(RobotState {
         cell: 0,
         shut: false,
         wait: None,
         errands: Row::new(alloc),
-        arrival_law: law,
-        farewell_law: law,
-    };
-    let arrival = Arrival {
-        robot: 0,
-        client: 0,
-        number: 1,
-        stamp: 0,
-    };
-    let mut robots = Vec::new(alloc);
-    robots.push(robot)?;
-    let mut entries = Vec::new(alloc);
-    entries.push(Entry::Take {
+        arrival_law: LAW,
+        farewell_law: LAW,
+    });
+    Ok(Row::from_vec(robots))
+}
+
+/// The tick of an arrival.
+fn arrival_tick(alloc: Global) -> Result<Entry, AllocError> {
+    let to = Vec::from_slice(alloc, &[0])?;
+    let arrived = Vec::from_slice(alloc, &[ARRIVAL])?;
+    Ok(Entry::Tick {
+        to: Row::from_vec(to),
+        arrived: Row::from_vec(arrived),
+        farewells: Row::new(alloc),
+    })
+}
+
+/// An errand is taken, and arrives at the first tick.
+fn errand_and_arrival(alloc: Global) -> Result<Vec<Entry>, AllocError> {
+    let mut entries = Vec::with_capacity(alloc, 2)?;
+    let tick = arrival_tick(alloc)?;
+    entries.push_reserved(Entry::Take {
         client: 0,
         order: Order::Go { robot: 0, cell: 0 },
         verdict: Verdict::Accepted(1),
-    })?;
-    entries.push(Entry::Tick {
-        to: Row::from_vec([0].to_vec(alloc)?),
-        arrived: Row::from_vec([arrival].to_vec(alloc)?),
-        farewells: Row::new(alloc),
-    })?;
+    });
+    entries.push_reserved(tick);
+    Ok(entries)
+}
+
+/// The one cell's chapter.
+fn one_cell(alloc: Global) -> Result<Chapter, AllocError> {
+    let clients = Row::from_vec(Vec::from_slice(alloc, &[CLIENT])?);
+    let robots = lone_robot(alloc)?;
+    let entries = errand_and_arrival(alloc)?;
     Ok(Chapter {
         number: 0,
         opening: Opening {
             tick: 0,
             queue: 16,
             life: 1_000_000,
-            clients: Row::from_vec([client].to_vec(alloc)?),
-            robots: Row::from_vec(robots),
+            clients,
+            robots,
         },
         entries,
     })
-}
-
-/// What is written of the chapter that the text tells.
-fn rewritten(alloc: Global, text: &str) -> Result<String, Fail> {
-    let chapter = read_trace(alloc, text.as_bytes())?;
-    Ok(write_trace(alloc, &chapter)?)
 }
 
 fn fault_of(alloc: Global, bytes: &[u8]) -> Option<TraceFault> {
     read_trace(alloc, bytes).err()
 }
 
+/// Whether that is written of the chapter.
+fn is_written_as(alloc: Global, chapter: &Chapter, text: &str) -> Result<bool, Fail> {
+    Ok(write_trace(alloc, chapter)?.as_str() == text)
+}
+
+/// Whether that is written of a chapter that was written and read.
+fn is_written_again_as(alloc: Global, chapter: &Chapter, text: &str) -> Result<bool, Fail> {
+    let again = write_and_read(alloc, chapter)?;
+    is_written_as(alloc, &again, text)
+}
+
 #[test]
 fn one_cell_trace(rt: HostRuntime) -> Result<(), Fail> {
     let chapter = one_cell(rt.alloc())?;
-    assert!(rt; write_trace(rt.alloc(), &chapter)?.as_str() == ONE_CELL);
-    let again = write_and_read(rt.alloc(), &chapter)?;
-    assert!(rt; write_trace(rt.alloc(), &again)?.as_str() == ONE_CELL);
-    // A text of version 1 tells the same chapter.
-    assert!(rt; rewritten(rt.alloc(), ONE_CELL_FIRST)?.as_str() == ONE_CELL);
+    let first = is_written_as(rt.alloc(), &chapter, ONE_CELL)?;
+    assert!(rt; first && is_written_again_as(rt.alloc(), &chapter, ONE_CELL)?);
     Ok(())
+}
+
+/// Texts, and what is written of the chapters that they tell: white space and the order of keys are free, and a text of
+/// version 1 tells the same chapter.
+const WRITTEN: [(&str, &str); 6] = [
+    (ONE_CELL, ONE_CELL),
+    (ONE_CELL_FIRST, ONE_CELL),
+    (LOOSE, ONE_CELL),
+    (SECOND_CHAPTER, SECOND_CHAPTER),
+    (WITHDRAWALS, WITHDRAWALS),
+    (SHUTS, SHUTS),
+];
+
+fn is_rewritten_as(alloc: Global, text: &str, written: &str) -> Result<bool, Fail> {
+    let chapter = read_trace(alloc, text.as_bytes())?;
+    is_written_as(alloc, &chapter, written)
 }
 
 #[test]
 fn texts_read_back(rt: HostRuntime) -> Result<(), Fail> {
-    for text in [ONE_CELL, SECOND_CHAPTER, WITHDRAWALS, SHUTS] {
-        assert!(rt; rewritten(rt.alloc(), text)?.as_str() == text);
+    for (text, written) in WRITTEN {
+        assert!(rt; is_rewritten_as(rt.alloc(), text, written)?);
     }
     Ok(())
 }
 
-/// White space and the order of keys are free.
 #[test]
-fn loose_text(rt: HostRuntime) -> Result<(), Fail> {
-    assert!(rt; rewritten(rt.alloc(), LOOSE)?.as_str() == ONE_CELL);
-    Ok(())
-}
-
-#[test]
-fn hostile_traces(rt: HostRuntime) -> Result<(), Fail> {
+fn truncated_trace(rt: HostRuntime) {
     let bytes = ONE_CELL.as_bytes();
     for end in 0..bytes.len() {
         assert!(rt; fault_of(rt.alloc(), &bytes[..end]) == Some(TraceFault::NotJson));
     }
+}
+
+const HOSTILE: [(&str, TraceFault); 10] = [
+    ("[]", TraceFault::Shape),
+    ("{\"version\":1}", TraceFault::Shape),
+    ("{\"version\":\"1\"}", TraceFault::Shape),
+    ("{\"version\":1.0}", TraceFault::Shape),
+    ("{\"version\":9}", TraceFault::Version),
+    ("{\"version\":-1}", TraceFault::Version),
+    ("{\"version\":1,\"version\":9}", TraceFault::Version),
+    (FIRST_WITHDRAWS, TraceFault::Shape),
+    (FIRST_TOO_LATE, TraceFault::Shape),
+    (FURTHER_KEY, TraceFault::Shape),
+];
+
+#[test]
+fn hostile_traces(rt: HostRuntime) {
+    for (text, fault) in HOSTILE {
+        assert!(rt; fault_of(rt.alloc(), text.as_bytes()) == Some(fault));
+    }
+    assert!(rt; fault_of(rt.alloc(), b"\xff") == Some(TraceFault::NotJson));
+}
+
+#[test]
+fn nested_too_deep(rt: HostRuntime) -> Result<(), Fail> {
     let mut nested = vec![in rt.alloc(); b'['; 128]?;
     for _ in 0..128 {
         nested.push(b']')?;
     }
-    let cases: [(&[u8], TraceFault); 12] = [
-        (&nested, TraceFault::NotJson),
-        (b"\xff", TraceFault::NotJson),
-        (b"[]", TraceFault::Shape),
-        (b"{\"version\":1}", TraceFault::Shape),
-        (b"{\"version\":\"1\"}", TraceFault::Shape),
-        (b"{\"version\":1.0}", TraceFault::Shape),
-        (b"{\"version\":9}", TraceFault::Version),
-        (b"{\"version\":-1}", TraceFault::Version),
-        (b"{\"version\":1,\"version\":9}", TraceFault::Version),
-        (FIRST_WITHDRAWS.as_bytes(), TraceFault::Shape),
-        (FIRST_TOO_LATE.as_bytes(), TraceFault::Shape),
-        (FURTHER_KEY.as_bytes(), TraceFault::Shape),
-    ];
-    for (text, fault) in cases {
-        assert!(rt; fault_of(rt.alloc(), text) == Some(fault));
-    }
+    assert!(rt; fault_of(rt.alloc(), &nested) == Some(TraceFault::NotJson));
     Ok(())
 }
