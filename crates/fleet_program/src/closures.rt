@@ -74,14 +74,12 @@ fn run_with_closures<R: Alloc<A = Global> + Threads + Sync + Wait, I: Read, W: W
         let arrival = |view: ArrivalView| -> u32
             ensures { result < 1000 }
         { (view.tick % 1000) as u32 };
-        let farewell = |view: FarewellView| view.cell;
         let tie = TieHook::new(SOUTH_FIRST, Box::new(alloc, tie)?);
         let arrival = ArrivalHook::new(BELOW_THOUSAND, Box::new(alloc, arrival)?);
-        let farewell = Farewell::new(ANY, Box::new(alloc, farewell)?);
+        let farewell = Farewell::new(ANY, Box::new(alloc, |view: FarewellView| view.cell)?);
         south.push(tie, arrival, farewell)?;
     }
-    let kit = HookKit { plain, south };
-    Ok(run_program(rt, job, map, other, output, error, kit))
+    Ok(run_program(rt, job, map, other, output, error, HookKit { plain, south }))
 }
 
 /// Does the job with the program's closures. The result is the status, 7 where they could not be made.
