@@ -5,6 +5,7 @@ pub mod Distance
 pub mod Transfer
 pub mod Shares
 pub mod Uses
+pub mod Together
 pub mod Made
 pub mod Inverse
 pub mod Marks
