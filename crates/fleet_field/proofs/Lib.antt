@@ -6,6 +6,7 @@ pub mod Transfer
 pub mod Shares
 pub mod Uses
 pub mod Together
+pub mod Sides
 pub mod Made
 pub mod Inverse
 pub mod Marks
