@@ -15,7 +15,7 @@ pub returns-then-dist-cell-clause-most : goal.returns-then-dist-cell-clause-most
 returns-then-dist-cell-clause-most c = omega arith
 
 pub returns-then-dist-cell-clause-visit : goal.returns-then-dist-cell-clause-visit
-returns-then-dist-cell-clause-visit c = inl (c.if-dist-cell.true, refl, refl)
+returns-then-dist-cell-clause-visit c = inl (λ e. omega (arith, e), refl, refl)
 
 pub bounds-dist-cell-2 : goal.bounds-dist-cell-2
 bounds-dist-cell-2 c = c.requires.inside
@@ -33,4 +33,4 @@ pub returns-clause-most : goal.returns-clause-most
 returns-clause-most c = omega arith
 
 pub returns-clause-visit : goal.returns-clause-visit
-returns-clause-visit c = inr (c.if-dist-cell.false, refl, take_more_set c.args.next.now c.args.count c.args.cell c.requires.room)
+returns-clause-visit c = inr (omega arith, refl, take_more_set c.args.next.now c.args.count c.args.cell c.requires.room)

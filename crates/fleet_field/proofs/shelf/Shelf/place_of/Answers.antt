@@ -1,4 +1,4 @@
-use Rattle.std.proofs.Common.{◌≤◌, List, length, sym, subst, ◌∙◌, arith}
+use Rattle.std.proofs.Common.{◌≤◌, List, length, subst, arith}
 use Rattle.fleet_field.specs.Field.{Aim}
 use Rattle.fleet_field.proofs.Ahead.{place_found, place_more, place_none}
 use Rattle.fleet_field.proofs.shelf.Shelf.place_of.Goals as goal
@@ -11,11 +11,11 @@ index-requires g c = omega (arith, c.loop-at-test.true, c.len-at-end.ensures)
 
 pub returns-then-goal : goal.returns-then-goal
 returns-then-goal g c =
-    place_found c.self.inside.kept.items c.args.self.now c.self.view_is c.args.goal c.loop-at.at c.index.result.now (omega (arith, c.loop-at-test.true, c.len-at-end.ensures)) c.index.ensures (sym c.goal.ensures ∙ c.if-goal.true)
+    place_found c.self.inside.kept.items c.args.self.now c.self.view_is c.args.goal c.loop-at.at c.index.result.now (omega (arith, c.loop-at-test.true, c.len-at-end.ensures)) c.index.ensures (omega (arith, c.goal.ensures))
 
 pub loop-at-preserved : goal.loop-at-preserved
 loop-at-preserved g c =
-    place_more c.self.inside.kept.items c.args.self.now c.self.view_is c.args.goal c.loop-at.at c.index.result.now (omega (arith, c.loop-at-test.true, c.len-at-end.ensures)) c.index.ensures (λ e. c.if-goal.false (c.goal.ensures ∙ e))
+    place_more c.self.inside.kept.items c.args.self.now c.self.view_is c.args.goal c.loop-at.at c.index.result.now (omega (arith, c.loop-at-test.true, c.len-at-end.ensures)) c.index.ensures (λ e. omega (arith, c.goal.ensures, e))
     c.loop-at.invariant
 
 pub returns : goal.returns
