@@ -81,3 +81,7 @@ found_beside m a b next dir n t = (dir, subst (IsNeighbourIn m dir a) (eqb-true 
 -- nor is there another cell in that direction
 pub no_bridge : (m : Floor) (a next : ℕ) (dir : Dir) → IsNeighbourIn m dir a next → (IsBridge (IsNeighbour m) a next → ⊥) → HasNoneBeside m a dir
 no_bridge m a next dir n none b at bridge = none (subst (IsBridge (IsNeighbour m) a) (beside_once m.width dir a b next at.beside n.beside) bridge)
+
+-- and so the two ends have one top
+pub one_top : (m : Floor) (top : ℕ → ℕ) (cell next : ℕ) (dir : Dir) (x y : ℕ) → x ≡ top cell → y ≡ top next → IsNeighbourIn m dir cell next → x == y ≡ true → (d : ℕ) → IsNeighbourIn m dir cell d → top cell ≡ top d
+one_top m top cell next dir x y ex ey n same d at = sym ex ∙ (eqb-true x y same ∙ (ey ∙ ap top (beside_once m.width dir cell next d n.beside at.beside)))
