@@ -1,13 +1,13 @@
-use Rattle.std.proofs.Common.{ℕ, ◌<◌, List, Option, length, slice_index, sym, ap, subst, ◌∙◌}
+use Rattle.std.proofs.Common.{◌≡◌, ℕ, ◌<◌, List, Option, length, slice_index, refl, sym, ap, subst, ◌∙◌}
 use Rattle.std.specs.Prelude.{IfOk}
-use Rattle.std.proofs.lemmas.Result.{on_err_weaker}
+use Rattle.std.proofs.lemmas.Result.{on_err_weaker, IfOk-from_err}
 use Rattle.fleet_grid.specs.Floor.{IsFloor}
 use Rattle.fleet_field.specs.Field.{Aim}
 use Rattle.fleet_field.specs.Several.{AreFields, AreHeld}
 use Rattle.fleet_field.specs.Store.{shown, Serves, IsOnce}
 use Rattle.fleet_field.specs.declared.store.Held.{Held}
 use Rattle.fleet_field.proofs.Uses.{floor_missing}
-use Rattle.fleet_field.proofs.Together.{each_with, held_with, served_with, once_with, on_ok}
+use Rattle.fleet_field.proofs.Together.{each_with, held_with, served_with, once_with, on_ok, on_err}
 use Rattle.fleet_field.proofs.store.FieldStore.hold_all.Goals as goal
 
 pub compasses-requires-after_bounds : goal.compasses-requires-after_bounds
@@ -47,3 +47,30 @@ returns-clause-once g c = on_ok (IsOnce c.hold_with.new.held.slots) c.hold_with.
 
 pub returns-clause-refused : goal.returns-clause-refused
 returns-clause-refused g c = on_err_weaker c.hold_with.result (λ same. same ∙ c.self.view_is) c.hold_with.ensures.refused
+
+pub hold_with-requires-clause-few : goal.hold_with-requires-clause-few
+hold_with-requires-clause-few g c = c.requires.few
+
+pub returns-in_err-missing-clause-held : goal.returns-in_err-missing-clause-held
+returns-in_err-missing-clause-held g c = IfOk-from_err c.from_residual.result _ c.from_residual.ensures.0
+
+pub returns-in_err-missing-clause-serves : goal.returns-in_err-missing-clause-serves
+returns-in_err-missing-clause-serves g c = c.requires.serves
+
+pub returns-in_err-missing-clause-once : goal.returns-in_err-missing-clause-once
+returns-in_err-missing-clause-once g c = IfOk-from_err c.from_residual.result _ c.from_residual.ensures.0
+
+pub returns-in_err-missing-clause-refused : goal.returns-in_err-missing-clause-refused
+returns-in_err-missing-clause-refused g c = on_err (c.args.self.now ≡ c.args.self.now) c.from_residual.result refl
+
+pub returns-in_err-fresh-clause-held : goal.returns-in_err-fresh-clause-held
+returns-in_err-fresh-clause-held g c = IfOk-from_err c.from_residual-in_err-fresh.result _ c.from_residual-in_err-fresh.ensures.0
+
+pub returns-in_err-fresh-clause-serves : goal.returns-in_err-fresh-clause-serves
+returns-in_err-fresh-clause-serves g c = c.requires.serves
+
+pub returns-in_err-fresh-clause-once : goal.returns-in_err-fresh-clause-once
+returns-in_err-fresh-clause-once g c = IfOk-from_err c.from_residual-in_err-fresh.result _ c.from_residual-in_err-fresh.ensures.0
+
+pub returns-in_err-fresh-clause-refused : goal.returns-in_err-fresh-clause-refused
+returns-in_err-fresh-clause-refused g c = on_err (c.args.self.now ≡ c.args.self.now) c.from_residual-in_err-fresh.result refl
