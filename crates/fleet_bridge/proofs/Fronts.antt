@@ -1,6 +1,7 @@
 -- Steps of a search.
-use Rattle.std.proofs.Common.{◌≡◌, ℕ, zero, suc, ◌+◌, cond, ◌<◌, ◌≤◌, inl, inr, Bool, true, false, not, List, [], ◌∷◌, ◌++◌, length, get_or, set, refl, sym, ap, subst, ◌∙◌, arith, length-append}
-use Rattle.std.specs.Prelude.{slice_index, count_by}
+use Rattle.std.proofs.Common.{◌≡◌, ℕ, zero, suc, ◌+◌, cond, ◌<◌, ◌≤◌, ◌⊎◌, Result, inl, inr, Bool, true, false, not, List, [], ◌∷◌, ◌++◌, length, get_or, set, refl, sym, ap, subst, ◌∙◌, arith, length-append}
+use Rattle.std.specs.Prelude.{slice_index, count_by, IfOk}
+use Rattle.std.proofs.lemmas.Result.{IfOk-weaker}
 use Rattle.std.proofs.Math.ListN.{get_or-append}
 use Rattle.std.proofs.Math.Seq.{get_or-append_seam}
 use Rattle.std.proofs.lemmas.List.{length-set, get_or-set_same, get_or-set_other, length-replicate, get_or-replicate}
@@ -12,6 +13,7 @@ use Rattle.fleet_grid.specs.Floor.{Floor}
 use Rattle.fleet_grid.specs.declared.dir.Dir.{Dir}
 use Rattle.fleet_grid.specs.declared.dir.Dir.TheVariants.{North, East, South, West}
 use Rattle.fleet_grid.specs.Floor.{IsNeighbourIn}
+use Rattle.fleet_grid.proofs.Edges.{beside_once}
 use Rattle.fleet_grid.specs.Walk.{AreJoined, IsBridge}
 use Rattle.fleet_grid.specs.Floor.{IsNeighbour}
 use Rattle.fleet_bridge.specs.inside.Search.{NearWithout, IsMarked, IsFront, IsLater, IsReach}
@@ -153,3 +155,15 @@ bridge_is m a b seen edge it false e = (
   λ t. record { edge = edge; alone = λ j. (let marked = reach_is (NearWithout m a b) a seen it b j in cc) },
   λ bridge. refl,
 )
+
+-- the one neighbour in a direction, where the step to it is left out
+pub crossed_out : (m : Floor) (a b cell next d : ℕ) (dir : Dir) → IsNeighbourIn m dir cell next → IsNeighbourIn m dir cell d → ((cell ≡ a) × (next ≡ b)) ⊎ ((cell ≡ b) × (next ≡ a)) → NearWithout m a b cell d → ⊥
+crossed_out m a b cell next d dir n at across edge =
+    let same : d ≡ next = beside_once m.width dir cell d next at.beside n.beside in
+    elim across [ inl there ↦ edge.there there.0 (same ∙ there.1) | inr back ↦ edge.back back.0 (same ∙ back.1) ]
+
+-- and where it was visited
+pub marked_beside : (m : Floor) (a b cell next : ℕ) (dir : Dir) (seen : List Bool) {E : Type 0} (r : Result (Unit {0}) E) → IsNeighbourIn m dir cell next → IfOk r (λ u. IsMarked seen next)
+    → IfOk r (λ u. (d : ℕ) → IsNeighbourIn m dir cell d → NearWithout m a b cell d → IsMarked seen d)
+marked_beside m a b cell next dir seen r n marked = IfOk-weaker r (λ u. IsMarked seen next) (λ u. (d : ℕ) → IsNeighbourIn m dir cell d → NearWithout m a b cell d → IsMarked seen d)
+    (λ u here d at edge. subst (IsMarked seen) (beside_once m.width dir cell next d n.beside at.beside) here) marked

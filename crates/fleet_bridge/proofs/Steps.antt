@@ -146,6 +146,20 @@ module _ (m : Floor) (s : ℕ) (list : List ℕ) (form : HasForm m) (p : IsPadde
       let some : 0 < s = omega (arith, pos, p.apart) in
       rw w (c, x.2, x.3, some, e, f, cell_of m.width c, small)
 
+  -- its row, and the numbers on the way to its cell
+  pub spot_fits : (width v : ℕ) → width ≡ m.width → IsOpen list v → (0 < s) × (1 ≤ v / s) × ((v / s - 1) * width < 1048577) × ((v / s - 1) * width + v % s < 1048577)
+  spot_fits width v w o =
+      let x = spot_of width v w o in
+      let row : v / s - 1 ≡ x.0 / width = omega (arith, x.4) in
+      let rows : (v / s - 1) * width ≡ x.0 / width * width = ap (λ (r : ℕ). r * width) row in
+      (x.3, omega (arith, x.4), omega (arith, rows, x.6, x.7), omega (arith, rows, x.5, x.6, x.7))
+
+  -- what lies around a spot is in the list, and a row around its cell is a number
+  pub spot_around : (c v : ℕ) → IsFloor m c → v ≡ place m.width s c → (s ≤ v) × (1 ≤ v) × (v + s + 1 < 1073741824) × (c < 1048576) × (m.width ≤ 1024)
+  spot_around c v f at =
+      let i = spot_inside c v f at in
+      (i.0, i.1, omega (arith, i.2, p.small), omega (arith, floor_inside m c f, few_cells m form), form.slim)
+
 -- a walk that follows the walls
 
 pub way_on : (m : Floor) (s from to : ℕ) (dir : Dir) (spot next : Spot) → IsOnWay m s from to spot → IsStep m s dir spot.cell next

@@ -32,9 +32,9 @@ pub(crate) fn own_numbers<A: Allocator + Copy>(
     ensures size { IfOk result (λ own. vec_len own ≡ count) }
     ensures own { IfOk result (λ own. (k : ℕ) → k < count → slice_index own.items k ≡ k) }
 {
-    let mut own = Vec::new(alloc);
+    let mut own = Vec::with_capacity(alloc, count as usize)?;
     for cell in 0..count {
-        own.push(cell)?;
+        own.push_reserved(cell);
     }
     Ok(own)
 }

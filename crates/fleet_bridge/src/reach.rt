@@ -19,7 +19,10 @@ fn reach_beside<A: Allocator + Copy, B: Allocator + Copy>(
     dir: Dir,
 ) -> Option<u32> {
     let next = sides.beside(cell, dir)?;
-    if read(up, cell) == next || read(up, next) == cell {
+    if read(up, cell) == next {
+        return None;
+    }
+    if read(up, next) == cell {
         return None;
     }
     Some(read(number, next))

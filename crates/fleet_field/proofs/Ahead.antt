@@ -1,5 +1,5 @@
 -- What a search ahead puts on a shelf.
-use Rattle.std.proofs.Common.{◌≡◌, ℕ, ◌+◌, ◌<◌, ◌⊎◌, inl, inr, List, [], ◌∷◌, ◌++◌, length, get_or, slice_index, refl, sym, ap, subst, ◌∙◌, arith}
+use Rattle.std.proofs.Common.{◌≡◌, ℕ, ◌+◌, ◌<◌, ◌≤◌, ◌⊎◌, inl, inr, List, [], ◌∷◌, ◌++◌, length, get_or, slice_index, refl, sym, ap, subst, ◌∙◌, arith}
 use Rattle.std.specs.List.{All, Contains}
 use Rattle.std.proofs.lemmas.Bool.{cases_eq}
 use Rattle.std.proofs.lemmas.List.{get_or_default, length_push}
@@ -62,3 +62,25 @@ each_pushed P xs x each here i below = elim (cases_eq i (length xs)) [
 -- one missing goal more
 pub missing_more : (goals missing : List ℕ) (n : ℕ) → n < length goals → ((i : ℕ) → i < length missing → IsOneOf goals (slice_index missing i)) → (i : ℕ) → i < length (missing ++ slice_index goals n ∷ []) → IsOneOf goals (slice_index (missing ++ slice_index goals n ∷ []) i)
 missing_more goals missing n less only = each_pushed (IsOneOf goals) missing (slice_index goals n) only (n, less, refl)
+
+-- the place of the field of a goal, looked for from the front
+module _ (items kept : List Aim) (same : items ≡ kept) (aimed i : ℕ) where
+  pub place_found : (x : Aim) → i < length items → x ≡ get_or items i x → x.goal ≡ aimed → (i < length kept) × ((field : Aim) → field ≡ get_or kept i field → field.goal ≡ aimed)
+  place_found x less at is =
+      let inside : i < length kept = subst (λ (xs : List Aim). i < length xs) same less in
+      let here : x ≡ get_or kept i x = at ∙ ap (λ (xs : List Aim). get_or xs i x) same in
+      (inside, λ field e. ap (λ (f : Aim). f.goal) (e ∙ (get_or_default kept i field x inside ∙ sym here)) ∙ is)
+
+  pub place_more : (x : Aim) → i < length items → x ≡ get_or items i x → (x.goal ≡ aimed → ⊥) → ((k : ℕ) → k < i → (field : Aim) → get_or kept k field ≡ field → field.goal ≡ aimed → ⊥)
+      → (k : ℕ) → k < i + 1 → (field : Aim) → get_or kept k field ≡ field → field.goal ≡ aimed → ⊥
+  place_more x less at off before k below field e is = elim (cases_eq k i) [
+    | inl ki ↦ (
+        let inside : i < length kept = subst (λ (xs : List Aim). i < length xs) same less in
+        let here : get_or kept i x ≡ x = sym (at ∙ ap (λ (xs : List Aim). get_or xs i x) same) in
+        let f : field ≡ x = sym e ∙ (ap (λ (n : ℕ). get_or kept n field) ki ∙ (get_or_default kept i field x inside ∙ here)) in
+        off (ap (λ (f : Aim). f.goal) (sym f) ∙ is))
+    | inr ne ↦ before k (omega (arith, below, ne)) field e is
+  ]
+
+pub place_none : (kept : List Aim) (aimed i : ℕ) → length kept ≤ i → ((k : ℕ) → k < i → (field : Aim) → get_or kept k field ≡ field → field.goal ≡ aimed → ⊥) → HasKept kept aimed → ⊥
+place_none kept aimed i past before h = let k = h.1 in before k.0 (let less = k.1 in omega (arith, less, past)) h.0 k.2 h.2

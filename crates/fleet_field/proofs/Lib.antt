@@ -5,6 +5,8 @@ pub mod Distance
 pub mod Transfer
 pub mod Shares
 pub mod Uses
+pub mod Together
+pub mod Sides
 pub mod Made
 pub mod Inverse
 pub mod Marks

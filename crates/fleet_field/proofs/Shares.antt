@@ -68,6 +68,10 @@ uses_left store key aimed at once e same less k held ek eg =
     let uses : held.uses ≡ at.uses = ap (λ (h : Held Aim). h.uses) is in
     omega (arith, uses, less)
 
+pub fewer_at : (store : List (Option (Held Aim))) (key aimed : ℕ) (at : Held Aim) → shown store key ≡ Some at → at.field.goal ≡ aimed → HasUsesLeft store aimed 1 → (h : Held Aim) → shown store key ≡ Some h → h.uses + 1 < 4294967296
+fewer_at store key aimed at e same left h f =
+    left key h f (sym (ap (λ (x : Held Aim). x.field.goal) (some_once at h (sym e ∙ f))) ∙ same)
+
 pub none_left : (store : List (Option (Held Aim))) (aimed : ℕ) → ((k : ℕ) (at : Held Aim) → shown store k ≡ Some at → at.field.goal ≡ aimed → ⊥) → HasUsesLeft store aimed 1
 none_left store aimed none k held ek eg = absurd (none k held ek eg)
 

@@ -12,8 +12,9 @@ pub(crate) fn make_room<A: Allocator + Copy>(
     requires { count < 1073741824 }
     ensures { OnOk result (4 * count ≤ length next.new.items) }
 {
-    if next.len() < 4 * count {
-        next.resize(4 * count, 0)?;
+    let room = 4 * count;
+    if room <= next.len() {
+        return Ok(());
     }
-    Ok(())
+    next.resize(room, 0)
 }

@@ -1,9 +1,9 @@
 //! What is held: fields in a slab, each with the number of its holds.
 
-ghost use Rattle.std.specs.Prelude.{◌≡◌, ◌≢◌, ◌≤◌, ◌⊎◌, ℕ, ◌+◌, ◌<◌, ◌^◌, [], ◌∷◌, None, Some, true, false, length, vec_len, vec_capacity, slice_index, IfOk, IsSome, MatchOption};
+ghost use Rattle.std.specs.Prelude.{◌≡◌, ◌≢◌, ◌≤◌, ◌⊎◌, ℕ, ◌+◌, ◌<◌, ◌^◌, [], ◌∷◌, None, Some, true, false, length, vec_len, vec_capacity, slice_index, IfOk, OnErr, IsSome, MatchOption};
 ghost use Rattle.fleet_field.specs.Field.{Aim};
 ghost use Rattle.fleet_field.specs.Store.{IsOnce};
-ghost use Rattle.fleet_field.specs.inside.Uses.{HasGoal, IsOneOf, IsFilled, IsUsed, IsUsedOnce, AreShown};
+ghost use Rattle.fleet_field.specs.inside.Uses.{HasGoal, HasFieldOf, IsOneOf, IsFilled, IsUsed, IsUsedOnce, AreShown, AreUsed};
 ghost use Rattle.slab.specs.Slab.{get, slab_len, HasRoomFor};
 ghost use Rattle.std.specs.List.{Contains};
 ghost use Rattle.fleet_field.specs.declared.store.Held.{Held as HeldView};
@@ -106,7 +106,7 @@ fn put<A: Allocator + Copy>(held: &mut Slab<Held<Compass<A>>, A>, field: Compass
 }
 
 /// Puts fields in without a use, but for those whose goals are there.
-pub(crate) fn put_all<A: Allocator + Copy>(
+fn put_all<A: Allocator + Copy>(
     held: &mut Slab<Held<Compass<A>>, A>,
     mut fields: Vec<Compass<A>, A>,
 )
@@ -138,7 +138,7 @@ fn use_goal<A: Allocator + Copy>(held: &mut Slab<Held<Compass<A>>, A>, goal: u32
 }
 
 /// Counts one use more for each goal, and appends the keys.
-pub(crate) fn use_all<A: Allocator + Copy>(
+fn use_all<A: Allocator + Copy>(
     held: &mut Slab<Held<Compass<A>>, A>,
     goals: &[u32],
     keys: &mut Vec<usize, A>,
@@ -154,4 +154,26 @@ pub(crate) fn use_all<A: Allocator + Copy>(
     for goal in goals {
         keys.push_reserved(use_goal(held, *goal));
     }
+}
+
+/// Puts in the fields that were missing, counts one use more for each goal, and gives the keys in turn. Where memory is
+/// refused, all stays as it was.
+pub(crate) fn hold_with<A: Allocator + Copy>(
+    alloc: A,
+    held: &mut Slab<Held<Compass<A>>, A>,
+    fields: Vec<Compass<A>, A>,
+    goals: &[u32],
+) -> Result<Vec<usize, A>, AllocError>
+    requires once { IsOnce held.old.slots }
+    requires each { (i : ℕ) → i < length goals.now → HasGoal held.old.slots (slice_index goals.now i) ⊎ HasFieldOf fields.items (slice_index goals.now i) }
+    requires few { length goals.now < 2 ^ 32 }
+    requires fewer { (key : ℕ) → (at : HeldView Aim) → get held.old key ≡ Some at → at.uses + length goals.now < 2 ^ 32 }
+    ensures used { IfOk result (λ keys. AreUsed fields.items goals.now held.old.slots held.new.slots keys.items) }
+    ensures refused { OnErr result (held.new.slots ≡ held.old.slots) }
+{
+    let mut keys = Vec::with_capacity(alloc, goals.len())?;
+    held.reserve(fields.len())?;
+    put_all(held, fields);
+    use_all(held, goals, &mut keys);
+    Ok(keys)
 }

@@ -35,7 +35,7 @@ fn fields_in_turn<A: Allocator + Copy, B: Allocator + Copy>(
     let mut fields = Vec::with_capacity(alloc, goals.len())?;
     for goal in goals {
         let field = Field::from(alloc, grid, *goal)?;
-        fields.push(field)?;
+        fields.push_reserved(field);
     }
     Ok(fields)
 }

@@ -171,7 +171,7 @@ impl<A: Allocator + Copy> Shelf<A> {
         let mut fields = Vec::with_capacity(*self.kept.allocator(), goals.len())?;
         for goal in goals {
             let field = self.field(grid, *goal, out)?;
-            fields.push(field)?;
+            fields.push_reserved(field);
         }
         Ok(fields)
     }

@@ -10,7 +10,7 @@ ghost use Rattle.fleet_field.specs.declared.store.Held.{Held as HeldView};
 
 use crate::compass::Compass;
 use crate::compasses::compasses;
-use crate::holds::{key_of, missing_of, put_all, use_again, use_all};
+use crate::holds::{hold_with, key_of, missing_of, use_again};
 use crate::shelf::Shelf;
 use fleet_grid::Grid;
 use slab::Slab;
@@ -185,11 +185,7 @@ impl<A: Allocator + Copy + Send + Sync> FieldStore<A> {
     {
         let missing = missing_of(self.alloc, &self.held, goals)?;
         let fresh = compasses(rt, self.alloc, grid, &missing)?;
-        let mut keys = Vec::with_capacity(self.alloc, goals.len())?;
-        self.held.reserve(fresh.len())?;
-        put_all(&mut self.held, fresh);
-        use_all(&mut self.held, goals, &mut keys);
-        Ok(keys)
+        hold_with(self.alloc, &mut self.held, fresh, goals)
     }
 }
 
@@ -234,10 +230,6 @@ impl<A: Allocator + Copy> FieldStore<A> {
         let missing = missing_of(self.alloc, &self.held, goals)?;
         let out = self.held.len().saturating_add(missing.len());
         let fresh = shelf.fields(grid, &missing, out)?;
-        let mut keys = Vec::with_capacity(self.alloc, goals.len())?;
-        self.held.reserve(fresh.len())?;
-        put_all(&mut self.held, fresh);
-        use_all(&mut self.held, goals, &mut keys);
-        Ok(keys)
+        hold_with(self.alloc, &mut self.held, fresh, goals)
     }
 }

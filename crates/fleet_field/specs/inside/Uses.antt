@@ -36,3 +36,14 @@ pub record IsUsedOnce (aimed : ℕ) (old new : List (Option (Held Aim))) : Type 
 pub record AreShown (goals : List ℕ) (store : List (Option (Held Aim))) (keys : List ℕ) : Type 0 where
   pub count : length keys ≡ length goals
   pub shows : (i : ℕ) → i < length goals → (held : Held Aim) × (shown store (slice_index keys i) ≡ Some held) × (held.field.goal ≡ slice_index goals i)
+
+-- one of the fields is that of the goal
+abbrev pub HasFieldOf : List Aim → ℕ → Type 0
+HasFieldOf fields aimed = (field : Aim) × Contains fields field × (field.goal ≡ aimed)
+
+-- the fields are put in, and then each goal has one use more under its key
+pub record AreUsed (fields : List Aim) (goals : List ℕ) (old new : List (Option (Held Aim))) (keys : List ℕ) : Type 0 where
+  pub all : List (Option (Held Aim))
+  pub filled : IsFilled fields old all
+  pub used : IsUsed goals all new
+  pub shown : AreShown goals new keys

@@ -15,3 +15,9 @@ returns g c =
     let m = c.args.sides.now in
     let le : length m.letters ≤ c.loop-cell.cell = omega (arith, ap (λ (f : Floor). length f.letters) c.grid.ensures, c.cell_count-count.ensures.value, c.loop-cell-test.false) in
     none_is m c.loop-cell.cell (subst HasForm c.grid.ensures c.cell_count-count.ensures.form) le c.loop-cell.invariant
+
+pub loop-cell-init : goal.loop-cell-init
+loop-cell-init g c = λ cell less. absurd (omega (arith, less))
+
+pub bridge_from-requires : goal.bridge_from-requires
+bridge_from-requires g c = record { tree = c.requires }

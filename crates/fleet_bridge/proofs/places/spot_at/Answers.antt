@@ -1,7 +1,7 @@
-use Rattle.std.proofs.Common.{◌≡◌, ℕ, ◌+◌, ◌-◌, ◌*◌, ◌/◌, ◌%◌, sym, ap, subst, ◌∙◌, arith}
+use Rattle.std.proofs.Common.{◌≡◌, ℕ, ◌+◌, ◌-◌, ◌*◌, ◌/◌, ◌%◌, refl, sym, ap, subst, ◌∙◌, arith}
 use Rattle.fleet_grid.specs.Floor.{IsFloor}
 use Rattle.fleet_grid.specs.Padded.{place}
-use Rattle.fleet_bridge.proofs.Steps.{spot_of}
+use Rattle.fleet_bridge.proofs.Steps.{spot_of, spot_fits}
 use Rattle.fleet_bridge.proofs.places.spot_at.Goals as goal
 
 pub returns-clause-spot : goal.returns-clause-spot
@@ -15,3 +15,42 @@ returns-clause-spot g c =
       floor = subst (IsFloor p.grid.now) (sym e) x.1;
       at = x.2 ∙ ap (place p.grid.now.width p.stride) (sym e);
     }
+
+pub nonzero_div-row : goal.nonzero_div-row
+nonzero_div-row g c =
+    let p = c.args.places.now in
+    let x = spot_fits p.grid.now p.stride p.list.now c.requires.laid_out.form c.requires.laid_out.padded p.width c.args.at c.requires.laid_out.wide c.requires.open in
+    omega (arith, x)
+
+pub nonzero_rem-cell : goal.nonzero_rem-cell
+nonzero_rem-cell g c =
+    let p = c.args.places.now in
+    let x = spot_fits p.grid.now p.stride p.list.now c.requires.laid_out.form c.requires.laid_out.padded p.width c.args.at c.requires.laid_out.wide c.requires.open in
+    omega (arith, x)
+
+pub overflow_sub-row : goal.overflow_sub-row
+overflow_sub-row g c =
+    let p = c.args.places.now in
+    let x = spot_fits p.grid.now p.stride p.list.now c.requires.laid_out.form c.requires.laid_out.padded p.width c.args.at c.requires.laid_out.wide c.requires.open in
+    omega (arith, x)
+
+pub overflow_mul-cell : goal.overflow_mul-cell
+overflow_mul-cell g c =
+    let p = c.args.places.now in
+    let x = spot_fits p.grid.now p.stride p.list.now c.requires.laid_out.form c.requires.laid_out.padded p.width c.args.at c.requires.laid_out.wide c.requires.open in
+    omega (arith, x)
+
+pub overflow_add-cell : goal.overflow_add-cell
+overflow_add-cell g c =
+    let p = c.args.places.now in
+    let x = spot_fits p.grid.now p.stride p.list.now c.requires.laid_out.form c.requires.laid_out.padded p.width c.args.at c.requires.laid_out.wide c.requires.open in
+    omega (arith, x)
+
+pub overflow_cast-result : goal.overflow_cast-result
+overflow_cast-result g c =
+    let p = c.args.places.now in
+    let x = spot_fits p.grid.now p.stride p.list.now c.requires.laid_out.form c.requires.laid_out.padded p.width c.args.at c.requires.laid_out.wide c.requires.open in
+    omega (arith, x)
+
+pub returns-clause-at : goal.returns-clause-at
+returns-clause-at g c = refl

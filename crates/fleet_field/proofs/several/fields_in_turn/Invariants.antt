@@ -1,6 +1,11 @@
-use Rattle.std.proofs.Common.{take}
+use Rattle.std.proofs.Common.{◌≡◌, ◌≤◌, length, take}
+use Rattle.std.specs.Vec.{vec_len, vec_capacity}
 use Rattle.fleet_field.specs.Several.{AreFields}
 use Rattle.fleet_field.proofs.several.fields_in_turn.Given as goal
 
 abbrev pub invariant-loop-goal : goal.invariant-loop-goal
-invariant-loop-goal g l = AreFields l.grid (take l.goal-index l.goals) l.fields.items
+invariant-loop-goal g l = record {
+  made : AreFields l.grid (take l.goal-index l.goals) l.fields.items;
+  count : vec_len l.fields ≡ l.goal-index;
+  room : length l.goals ≤ vec_capacity l.fields;
+}

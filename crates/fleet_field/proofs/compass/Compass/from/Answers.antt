@@ -1,7 +1,41 @@
 use Rattle.std.proofs.Common.{◌∙◌}
+use Rattle.fleet_field.proofs.Sides.{is_slim, is_within, is_wide, is_low, has_step, is_apart, is_small, is_few, has_cells}
 use Rattle.fleet_field.proofs.Unsearched.{ready_by}
 use Rattle.fleet_field.proofs.Nearer.{searched_out, compass_by}
 use Rattle.fleet_field.proofs.compass.Compass.from.Goals as goal
+
+pub new-columns-requires-clause-wide : goal.new-columns-requires-clause-wide
+new-columns-requires-clause-wide g c = is_wide c.args.grid.now c.width.result c.args.goal c.width.ensures.value c.width.ensures.form c.requires
+
+pub new-columns-requires-clause-slim : goal.new-columns-requires-clause-slim
+new-columns-requires-clause-slim g c = is_slim c.args.grid.now c.width.result c.width.ensures.value c.width.ensures.form
+
+pub place-start-requires-clause-few : goal.place-start-requires-clause-few
+place-start-requires-clause-few g c = is_within c.args.grid.now c.args.goal c.width.ensures.form c.requires
+
+pub place-start-requires-clause-small : goal.place-start-requires-clause-small
+place-start-requires-clause-small g c =
+    is_low c.args.grid.now c.new-columns.result.width c.args.goal (c.new-columns.ensures ∙ c.width.ensures.value) c.width.ensures.form c.requires c.padded-stride.result.0 c.padded-stride.result.1.now c.padded-stride.ensures.padded
+
+pub free_ways-requires-clause-wide : goal.free_ways-requires-clause-wide
+free_ways-requires-clause-wide g c = is_wide c.args.grid.now c.new-columns.result.width c.args.goal (c.new-columns.ensures ∙ c.width.ensures.value) c.width.ensures.form c.requires
+
+pub free_ways-requires-clause-apart : goal.free_ways-requires-clause-apart
+free_ways-requires-clause-apart g c = is_apart c.args.grid.now c.padded-stride.result.0 c.padded-stride.result.1.now c.padded-stride.ensures.padded c.height-height.result c.new-columns.result.width c.height-height.ensures.value (c.new-columns.ensures ∙ c.width.ensures.value)
+
+pub free_ways-requires-clause-few : goal.free_ways-requires-clause-few
+free_ways-requires-clause-few g c = is_few c.args.grid.now c.padded-stride.result.0 c.padded-stride.result.1.now c.padded-stride.ensures.padded c.height-height.result c.new-columns.result.width c.height-height.ensures.value (c.new-columns.ensures ∙ c.width.ensures.value) c.width.ensures.form
+
+pub free_ways-requires-clause-small : goal.free_ways-requires-clause-small
+free_ways-requires-clause-small g c = is_small c.args.grid.now c.padded-stride.result.0 c.padded-stride.result.1.now c.padded-stride.ensures.padded c.height-height.result c.new-columns.result.width c.height-height.ensures.value (c.new-columns.ensures ∙ c.width.ensures.value)
+
+pub free_ways-requires-clause-cells : goal.free_ways-requires-clause-cells
+free_ways-requires-clause-cells g c =
+    has_cells c.args.grid.now c.padded-stride.result.0 c.padded-stride.result.1.now c.padded-stride.ensures.padded c.height-height.result c.new-columns.result.width c.height-height.ensures.value (c.new-columns.ensures ∙ c.width.ensures.value)
+    c.ways.result.now c.ways.ensures.ways c.width.ensures.form
+
+pub search-requires-clause-step : goal.search-requires-clause-step
+search-requires-clause-step g c = has_step c.args.grid.now c.padded-stride.result.0 c.padded-stride.result.1.now c.padded-stride.ensures.padded
 
 pub search-requires-clause-ready : goal.search-requires-clause-ready
 search-requires-clause-ready g c = (

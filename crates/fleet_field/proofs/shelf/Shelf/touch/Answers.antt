@@ -9,3 +9,6 @@ returns-in-Some g c =
     let old = c.args.self.now in
     all_among (Contains old) (c.in-Some.field ∷ c.take.new.self) c.put.new.self c.put.ensures
     (All-cons (Contains old) c.in-Some.field c.take.new.self c.in-Some.ensures.kept c.in-Some.ensures.others)
+
+pub returns-in_default : goal.returns-in_default
+returns-in_default g c = c.take.ensures.others

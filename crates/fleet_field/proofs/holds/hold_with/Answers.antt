@@ -1,0 +1,41 @@
+use Rattle.std.proofs.Common.{◌≡◌, List, Option, length, sym, ap, subst}
+use Rattle.fleet_field.specs.Field.{Aim}
+use Rattle.fleet_field.specs.inside.Uses.{IsFilled}
+use Rattle.fleet_field.specs.Store.{IsOnce}
+use Rattle.fleet_field.specs.declared.store.Held.{Held}
+use Rattle.fleet_field.proofs.Uses.{few_filled}
+use Rattle.fleet_field.proofs.Together.{there_with, on_err}
+use Rattle.slab.specs.Slab.{HasRoomFor}
+use Rattle.fleet_field.proofs.holds.hold_with.Goals as goal
+
+pub put_all-requires-clause-room : goal.put_all-requires-clause-room
+put_all-requires-clause-room g c = subst (HasRoomFor c.reserve.new.self) c.len.ensures c.in_ok-reserve.ensures.room
+
+pub put_all-requires-clause-once : goal.put_all-requires-clause-once
+put_all-requires-clause-once g c = subst IsOnce (sym (ap (λ s. s.slots) c.reserve.ensures.rest_kept)) c.requires.once
+
+pub use_all-requires-clause-there : goal.use_all-requires-clause-there
+use_all-requires-clause-there g c =
+    let same : c.reserve.new.self.slots ≡ c.args.held.now.slots = ap (λ s. s.slots) c.reserve.ensures.rest_kept in
+    there_with c.args.goals.now c.args.fields.items c.args.held.now.slots c.put_all.new.held.slots
+    (subst (λ (s : List (Option (Held Aim))). IsFilled c.args.fields.items s c.put_all.new.held.slots) same c.put_all.ensures.filled) c.put_all.ensures.there c.requires.each
+
+pub use_all-requires-clause-fewer : goal.use_all-requires-clause-fewer
+use_all-requires-clause-fewer g c =
+    let same : c.reserve.new.self.slots ≡ c.args.held.now.slots = ap (λ s. s.slots) c.reserve.ensures.rest_kept in
+    few_filled c.args.fields.items (length c.args.goals.now) c.args.held.now.slots c.put_all.new.held.slots
+    (subst (λ (s : List (Option (Held Aim))). IsFilled c.args.fields.items s c.put_all.new.held.slots) same c.put_all.ensures.filled) c.requires.few c.requires.fewer
+
+pub returns-clause-used : goal.returns-clause-used
+returns-clause-used g c =
+    let same : c.reserve.new.self.slots ≡ c.args.held.now.slots = ap (λ s. s.slots) c.reserve.ensures.rest_kept in
+    record {
+      all = c.put_all.new.held.slots;
+      filled = subst (λ (s : List (Option (Held Aim))). IsFilled c.args.fields.items s c.put_all.new.held.slots) same c.put_all.ensures.filled;
+      used = c.use_all.ensures.used;
+      shown = c.use_all.ensures.shown;
+    }
+
+pub returns-in_err-reserve-clause-refused : goal.returns-in_err-reserve-clause-refused
+returns-in_err-reserve-clause-refused g c =
+    on_err (c.reserve.new.self.slots ≡ c.args.held.now.slots) c.from_residual-in_err-reserve.result (ap (λ s. s.slots) c.reserve.ensures.rest_kept)
