@@ -2,7 +2,7 @@
 use Rattle.std.proofs.Common.{◌≡◌, ℕ, zero, suc, ◌+◌, ◌*◌, ◌<◌, ◌≤◌, inl, inr, List, [], ◌∷◌, ◌++◌, length, get_or, take, map, slice_index, refl, sym, ap, subst, ◌∙◌, arith, Bool, true, false}
 use Rattle.std.specs.Prelude.{All, count_by, ◌==◌}
 use Rattle.std.proofs.lemmas.Bool.{cases_eq}
-use Rattle.std.proofs.lemmas.List.{get_or_default, get_or_past, length-map, map_more}
+use Rattle.std.proofs.lemmas.List.{get_or_default, get_or_past, length-map, map_more, take_all}
 use Rattle.std.proofs.lemmas.List.Sums.{sum_by-le, count_by-le-length}
 use Rattle.fleet_grid.specs.Floor.{Floor}
 use Rattle.fleet_history.specs.declared.history.RobotState.{RobotState}
@@ -33,6 +33,9 @@ module _ {X : Type 0} (P : X → Type 0) where
 pub map_push : {X Y : Type 0} (f : X → Y) (xs : List X) (i : ℕ) (x : X) (y : Y) (ys zs : List Y) → i < length xs → x ≡ get_or xs i x → y ≡ f x → ys ≡ map f (take i xs) → zs ≡ ys ++ y ∷ [] → zs ≡ map f (take (i + 1) xs)
 map_push f xs i x y ys zs within is gives before more =
     more ∙ ap (λ (l : List _). l ++ y ∷ []) before ∙ ap (λ (z : _). map f (take i xs) ++ z ∷ []) (gives ∙ ap f is) ∙ sym (map_more f xs i x within)
+
+pub map_done : {X Y : Type 0} (f : X → Y) (xs : List X) (i : ℕ) (ys : List Y) → length xs ≤ i → ys ≡ map f (take i xs) → ys ≡ map f xs
+map_done f xs i ys past is = is ∙ ap (λ (l : List _). map f l) (take_all i xs past)
 
 pub get_or-map_past : {X Y : Type 0} (f : X → Y) (xs : List X) (i : ℕ) (e : Y) → length xs ≤ i → get_or (map f xs) i e ≡ e
 get_or-map_past f xs i e past = get_or_past (map f xs) i e (omega (arith, length-map xs f, past))

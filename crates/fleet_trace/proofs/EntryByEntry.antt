@@ -1,16 +1,19 @@
 -- What a state says of the rules, and how a trace is judged entry by entry.
 use Rattle.std.proofs.Common.{◌≡◌, ℕ, zero, suc, ◌+◌, ◌^◌, ◌<◌, ◌≤◌, inl, inr, List, [], ◌∷◌, ◌++◌, length, get_or, map, take, drop, Option, Some, None, refl, sym, ap, subst, ◌∙◌, arith}
-use Rattle.std.specs.Prelude.{MatchOption}
+use Rattle.std.specs.Prelude.{MatchOption, All}
+use Rattle.std.specs.List.{slice_index_or}
 use Rattle.std.proofs.lemmas.List.{get_or-map, take_more}
 use Rattle.std.proofs.lemmas.List.Sums.{count_by-le-length}
 use Rattle.fleet_grid.specs.Floor.{Floor}
 use Rattle.fleet_grid.specs.Step.{IsPlacement, IsConflictFree}
+use Rattle.fleet_hooks.specs.Law.{IsStamp}
 use Rattle.fleet_history.specs.declared.history.Arrival.{Arrival}
 use Rattle.fleet_history.specs.declared.history.Bye.{Bye}
 use Rattle.fleet_history.specs.declared.history.Entry.{Entry}
+use Rattle.fleet_history.specs.declared.history.RobotState.{RobotState}
 use Rattle.fleet_history.specs.declared.history.Entry.TheVariants.{Take, Tick, Shut}
 use Rattle.fleet_history.specs.History.{History, with_entries, place, is_tick}
-use Rattle.fleet_history.specs.Legal.{IsLegal, Fits}
+use Rattle.fleet_history.specs.Legal.{IsLegal, Fits, no_law}
 use Rattle.fleet_history.proofs.Legal.{legal-placement, length-place, fits-at, legal-opening}
 use Rattle.fleet_state.specs.State.{State, IsStateOf, robot_count}
 use Rattle.fleet_state.specs.Follows.{Follows, MayFollow}
@@ -39,6 +42,23 @@ tick_judged m h to arrived farewells step (Some n) shown = inr (step, shown)
 pub same_tick : {A : Type 0} (to to2 : List ℕ) (arrived arrived2 : List Arrival) (farewells farewells2 : List Bye) (e : Entry A) → to ≡ to2 → arrived ≡ arrived2 → farewells ≡ farewells2 → e ≡ Tick to2 arrived2 farewells2
     → Tick to arrived farewells ≡ e
 same_tick to to2 arrived arrived2 farewells farewells2 e a b c is = rw (a, b, c) (sym is)
+
+-- the stamps of arrivals and farewells, by the laws of these robots
+abbrev ArrivedBy : {A : Type 0} → List (RobotState A) → List Arrival → Type 0
+ArrivedBy robots arrived = All (λ a. IsStamp (slice_index_or (map (λ x. x.arrival_law) robots) a.robot no_law) a.stamp) arrived
+
+abbrev LeftBy : {A : Type 0} → List (RobotState A) → List Bye → Type 0
+LeftBy robots farewells = All (λ b. IsStamp (slice_index_or (map (λ x. x.farewell_law) robots) b.robot no_law) b.stamp) farewells
+
+module _ {A : Type 0} (h : History A) (robots : List (RobotState A)) (same : h.opening.robots ≡ robots) (arrived : List Arrival) (farewells : List Bye) where
+  pub stamps_fine : ArrivedBy robots arrived → LeftBy robots farewells → AreStamps h arrived farewells
+  stamps_fine came left = (subst (λ (xs : List (RobotState A)). ArrivedBy xs arrived) (sym same) came, subst (λ (xs : List (RobotState A)). LeftBy xs farewells) (sym same) left)
+
+  pub arrivals_tested : AreStamps h arrived farewells → ArrivedBy robots arrived
+  arrivals_tested fine = subst (λ (xs : List (RobotState A)). ArrivedBy xs arrived) same fine.0
+
+  pub farewells_tested : AreStamps h arrived farewells → LeftBy robots farewells
+  farewells_tested fine = subst (λ (xs : List (RobotState A)). LeftBy xs farewells) same fine.1
 
 -- ---- an entry that breaks a rule does not fit
 

@@ -1,6 +1,7 @@
 -- Lists that are written item by item and read item by item.
-use Rattle.std.proofs.Common.{◌≡◌, ℕ, ◌+◌, ◌<◌, ◌≤◌, List, [], ◌∷◌, ◌++◌, length, get_or, drop, drop-cons, add-one, map, Option, Some, None, refl, sym, ap, ◌∙◌, append_assoc, append-nil, arith}
+use Rattle.std.proofs.Common.{◌≡◌, ℕ, ◌+◌, ◌<◌, ◌≤◌, List, [], ◌∷◌, ◌++◌, length, get_or, take, drop, drop-cons, add-one, map, Option, Some, None, refl, sym, ap, subst, ◌∙◌, append_assoc, append-nil, arith}
 use Rattle.std.proofs.Math.ListN.{drop_of_length-le}
+use Rattle.std.proofs.lemmas.List.{map-append, map_more, take_more}
 use Rattle.std.specs.Option.{option_map, option_and_then}
 use Rattle.std.specs.List.{AllByRecursion}
 use Rattle.serde_json.specs.Data.{Data, null, boolean, number, string, array, object, depth, items_depth}
@@ -48,6 +49,22 @@ module _ {X : Type 0} (data_of : X → Data) (n : ℕ) where
   pub list_shallow : ((x : X) → depth (data_of x) ≤ n) → (xs : List X) → items_depth (items_of (map data_of xs)) ≤ n
   list_shallow shallow [] = omega arith
   list_shallow shallow (x ∷ xs) = omega (arith, shallow x, list_shallow shallow xs)
+
+-- ---- one more item is written
+
+pub written_more : {X Y : Type 0} (see : Y → Data) (data_of : X → Data) (xs : List X) (i : ℕ) (x : X) (y : Y) (ys zs : List Y) → i < length xs → x ≡ get_or xs i x → see y ≡ data_of x
+    → map see ys ≡ map data_of (take i xs) → zs ≡ ys ++ y ∷ [] → map see zs ≡ map data_of (take (i + 1) xs)
+written_more see data_of xs i x y ys zs within is gives before more =
+    ap (λ (l : List _). map see l) more ∙ map-append see ys (y ∷ []) ∙ ap (λ (l : List Data). l ++ see y ∷ []) before
+    ∙ ap (λ (d : Data). map data_of (take i xs) ++ d ∷ []) (gives ∙ ap data_of is) ∙ sym (map_more data_of xs i x within)
+
+all_push : {X : Type 0} (Fits : X → Type 0) (xs : List X) (x : X) → AllByRecursion Fits xs → Fits x → AllByRecursion Fits (xs ++ x ∷ [])
+all_push Fits [] x before here = (here, tt)
+all_push Fits (y ∷ xs) x before here = (before.0, all_push Fits xs x before.1 here)
+
+pub fits_more : {X : Type 0} (Fits : X → Type 0) (xs : List X) (i : ℕ) (x : X) → i < length xs → x ≡ get_or xs i x → Fits x → AllByRecursion Fits (take i xs) → AllByRecursion Fits (take (i + 1) xs)
+fits_more Fits xs i x within is here before =
+    subst (λ (l : List _). AllByRecursion Fits l) (sym (take_more xs i x within)) (all_push Fits (take i xs) (get_or xs i x) before (subst Fits is here))
 
 -- ---- what is read
 

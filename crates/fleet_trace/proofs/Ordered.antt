@@ -1,5 +1,5 @@
 -- An opening is in order where each of its parts is.
-use Rattle.std.proofs.Common.{◌≡◌, ℕ, ◌<◌, inl, inr, List, [], ◌∷◌, length, get_or, map, Option, Some, refl, sym, ap, subst, ◌∙◌, arith}
+use Rattle.std.proofs.Common.{◌≡◌, ℕ, ◌<◌, ◌≤◌, inl, inr, List, [], ◌∷◌, length, get_or, map, Option, Some, refl, sym, ap, subst, ◌∙◌, arith}
 use Rattle.std.specs.Prelude.{All}
 use Rattle.std.specs.List.{slice_get, slice_index_or}
 use Rattle.std.specs.Option.{unwrap_or}
@@ -7,11 +7,13 @@ use Rattle.std.proofs.lemmas.Bool.{cases_lt}
 use Rattle.fleet_grid.specs.Floor.{Floor}
 use Rattle.fleet_grid.specs.Step.{IsPlacement}
 use Rattle.fleet_queue.specs.declared.errand.Errand.{Errand}
+use Rattle.fleet_history.specs.declared.history.ClientState.{ClientState}
 use Rattle.fleet_history.specs.declared.history.RobotState.{RobotState}
 use Rattle.fleet_history.specs.declared.history.Opening.{Opening}
 use Rattle.fleet_history.specs.History.{unknown_client}
 use Rattle.fleet_history.specs.Legal.{IsRobotInOrder, IsClientInOrder, AreNamesInOrder, IsInOrder, owed_at}
-use Rattle.fleet_trace.specs.Opened.{errands_in, AreClientNamesInOrder, AreSizesInOrder}
+use Rattle.fleet_trace.specs.Opened.{errands_in, owed_in, AreClientNamesInOrder, AreSizesInOrder}
+use Rattle.fleet_trace.proofs.Alls.{owed-small}
 use Rattle.fleet_trace.proofs.Naming.{get-slice, get-within, errands_at_robot, none_past}
 
 pub client_names : {A : Type 0} (o : Opening A) → AreNamesInOrder o → (c : ℕ) → AreClientNamesInOrder o.robots c
@@ -55,3 +57,36 @@ in_order m o sizes placed robots clients names = record {
   clients = clients;
   names = names_from m o robots names;
 }
+
+-- ---- a client is tested beside what it is owed
+
+module _ {A : Type 0} (m : Floor) (o : Opening A) (robots : List (RobotState A)) (clients : List ClientState) (c owed : ℕ) (of_robots : robots ≡ o.robots) (of_clients : clients ≡ o.clients) (counted : owed ≡ owed_in robots c) where
+  owed-here : owed ≡ owed_at o c
+  owed-here = counted ∙ ap (λ (xs : List (RobotState A)). owed_in xs c) of_robots
+
+  pub owed-few : AreSizesInOrder o → All (IsRobotInOrder m o) o.robots → owed ≤ 2199023255552
+  owed-few sizes fine = subst (λ (n : ℕ). n ≤ 2199023255552) (sym owed-here) (owed-small m o c sizes.few_robots sizes.queue.1 fine)
+
+  pub client_fine : IsClientInOrder o.life owed (slice_index_or clients c unknown_client) → IsClientInOrder o.life (owed_at o c) (slice_index_or o.clients c unknown_client)
+  client_fine h =
+      subst (λ (cs : List ClientState). IsClientInOrder o.life (owed_at o c) (slice_index_or cs c unknown_client)) of_clients
+      (subst (λ (n : ℕ). IsClientInOrder o.life n (slice_index_or clients c unknown_client)) owed-here h)
+
+  pub client_tested : c < length clients → IsInOrder m o → IsClientInOrder o.life owed (slice_index_or clients c unknown_client)
+  client_tested less fine =
+      subst (λ (n : ℕ). IsClientInOrder o.life n (slice_index_or clients c unknown_client)) (sym owed-here)
+      (subst (λ (cs : List ClientState). IsClientInOrder o.life (owed_at o c) (slice_index_or cs c unknown_client)) (sym of_clients)
+      (fine.clients c (subst (λ (cs : List ClientState). c < length cs) of_clients less)))
+
+  pub names_fine : AreClientNamesInOrder robots c → AreClientNamesInOrder o.robots c
+  names_fine h = subst (λ (xs : List (RobotState A)). AreClientNamesInOrder xs c) of_robots h
+
+  pub names_tested : IsInOrder m o → AreClientNamesInOrder robots c
+  names_tested fine = subst (λ (xs : List (RobotState A)). AreClientNamesInOrder xs c) (sym of_robots) (client_names o fine.names c)
+
+module _ {A : Type 0} (m : Floor) (o : Opening A) (robots : List (RobotState A)) (of_robots : robots ≡ o.robots) where
+  pub placed_fine : IsPlacement m (map (λ x. x.cell) robots) → IsPlacement m (map (λ x. x.cell) o.robots)
+  placed_fine h = subst (λ (xs : List (RobotState A)). IsPlacement m (map (λ x. x.cell) xs)) of_robots h
+
+  pub placed_tested : IsInOrder m o → IsPlacement m (map (λ x. x.cell) robots)
+  placed_tested fine = subst (λ (xs : List (RobotState A)). IsPlacement m (map (λ x. x.cell) xs)) (sym of_robots) fine.placed

@@ -6,7 +6,7 @@ ghost use Rattle.fleet_trace.specs.Opened.{AreSizesInOrder};
 
 use super::clients::{is_client_in_order, owed_of};
 use super::names::are_names_in_order;
-use super::robots::{are_robots_in_order, cells_of, is_placement};
+use super::robots::{are_robots_in_order, is_placed};
 use fleet_grid::Grid;
 use fleet_history::Opening;
 use std::alloc::{AllocError, Allocator};
@@ -38,11 +38,11 @@ pub(crate) fn is_in_order<A: Allocator + Copy, B: Allocator + Copy>(
     if !are_sizes_in_order(opening) {
         return Ok(false);
     }
-    let cells = cells_of(alloc, opening.robots.as_slice())?;
-    if !is_placement(grid, &cells) || !are_robots_in_order(grid, opening) {
+    let (robots, clients) = (opening.robots.as_slice(), opening.clients.as_slice());
+    let placed = is_placed(alloc, grid, robots)?;
+    if !placed || !are_robots_in_order(grid, opening) {
         return Ok(false);
     }
-    let (robots, clients) = (opening.robots.as_slice(), opening.clients.as_slice());
     for c in 0..clients.len() {
         let client = c as u32;
         if !is_client_in_order(opening.life, owed_of(robots, client), &clients[c]) {

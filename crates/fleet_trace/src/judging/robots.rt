@@ -14,7 +14,7 @@ use fleet_queue::Errand;
 use std::alloc::{AllocError, Allocator};
 
 /// Where the robots stand.
-pub(crate) fn cells_of<A: Allocator + Copy>(
+fn cells_of<A: Allocator + Copy>(
     alloc: A,
     robots: &[RobotState<A>],
 ) -> Result<Vec<u32, A>, AllocError>
@@ -62,10 +62,22 @@ fn are_distinct(cells: &[u32]) -> bool
 }
 
 /// Whether robots may stand on these cells.
-pub(crate) fn is_placement<B: Allocator + Copy>(grid: &Grid<B>, cells: &[u32]) -> bool
+fn is_placement<B: Allocator + Copy>(grid: &Grid<B>, cells: &[u32]) -> bool
     ensures { IsTrue result ↔ IsPlacement grid.now cells.now }
 {
     are_on_floor(grid, cells) && are_distinct(cells)
+}
+
+/// Whether the robots stand on a placement.
+pub(crate) fn is_placed<A: Allocator + Copy, B: Allocator + Copy>(
+    alloc: A,
+    grid: &Grid<B>,
+    robots: &[RobotState<A>],
+) -> Result<bool, AllocError>
+    ensures { IfOk result (λ placed. IsTrue placed ↔ IsPlacement grid.now (map (λ x. x.cell) robots.now)) }
+{
+    let cells = cells_of(alloc, robots)?;
+    Ok(is_placement(grid, &cells))
 }
 
 /// Whether the errand of a robot on the cell is in order.

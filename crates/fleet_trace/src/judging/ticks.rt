@@ -1,7 +1,8 @@
 //! The rules of a tick.
 
-ghost use Rattle.std.specs.Prelude.{◌≡◌, ◌↔◌, IsTrue, IfOk, length, map, MatchOption, MatchResult};
+ghost use Rattle.std.specs.Prelude.{◌≡◌, ◌↔◌, List, IsTrue, IfOk, length, map, MatchOption, MatchResult};
 ghost use Rattle.fleet_grid.specs.Step.{IsConflictFree};
+ghost use Rattle.fleet_history.specs.declared.history.Arrival.{Arrival};
 ghost use Rattle.fleet_history.specs.History.{History, place};
 ghost use Rattle.fleet_history.specs.Legal.{due_of, due, IsTickAfter};
 ghost use Rattle.fleet_state.specs.State.{IsStateOf, Of, robot_count};
@@ -66,6 +67,34 @@ fn are_same_robots(farewells: &[Bye], others: &[Bye]) -> bool
     true
 }
 
+/// Whether a tick shows the arrivals that are due.
+fn shows_due<A: Allocator + Copy>(
+    alloc: A,
+    state: &FleetState<A>,
+    to: &[u32],
+    arrived: &[Arrival],
+) -> Result<bool, AllocError>
+    requires { length to.now ≡ robot_count state.now }
+    ensures { IfOk result (λ fine. Of state.now (λ h. IsTrue fine ↔ ShowsDue h to.now arrived.now)) }
+{
+    let dues = state.dues(alloc, to)?;
+    Ok(are_same_dues(arrived, &dues))
+}
+
+/// Whether a tick whose arrivals are due shows the farewells of those that take their leave.
+fn shows_leaving<A: Allocator + Copy>(
+    alloc: A,
+    state: &FleetState<A>,
+    to: &[u32],
+    farewells: &[Bye],
+) -> Result<bool, AllocError>
+    requires { length to.now ≡ robot_count state.now }
+    ensures { IfOk result (λ fine. (arrived : List Arrival) → Of state.now (λ h. ShowsDue h to.now arrived → IsTrue fine ↔ ShowsLeaving h to.now arrived farewells.now)) }
+{
+    let leaving = state.leaving(alloc, to)?;
+    Ok(are_same_robots(farewells, &leaving))
+}
+
 /// The first rule that what a tick shows breaks.
 pub(crate) fn broken_shown<A: Allocator + Copy>(
     alloc: A,
@@ -78,12 +107,10 @@ pub(crate) fn broken_shown<A: Allocator + Copy>(
     requires { length to.now ≡ robot_count state.now }
     ensures { IfOk result (λ rule. Of state.now (λ h. h.opening.robots ≡ robots.now → MatchOption rule (ShowsDue h to.now arrived.now × ShowsLeaving h to.now arrived.now farewells.now × AreStamps h arrived.now farewells.now) (λ n. ShownBreaks h to.now arrived.now farewells.now n))) }
 {
-    let dues = state.dues(alloc, to)?;
-    if !are_same_dues(arrived, &dues) {
+    if !shows_due(alloc, state, to, arrived)? {
         return Ok(Some(5));
     }
-    let leaving = state.leaving(alloc, to)?;
-    if !are_same_robots(farewells, &leaving) {
+    if !shows_leaving(alloc, state, to, farewells)? {
         return Ok(Some(6));
     }
     if !are_stamps(robots, arrived) || !are_last_stamps(robots, farewells) {

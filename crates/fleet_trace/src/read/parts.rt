@@ -73,9 +73,9 @@ pub(crate) fn read_all<T: ReadValue>(
 ) -> Result<Vec<T>, TraceFault>
     ensures { Gives (λ xs. xs.items) result (all_in (T.told version) (map view values.now)) }
 {
-    let mut items = Vec::new(alloc);
+    let mut items = Vec::with_capacity(alloc, values.len())?;
     for value in values {
-        items.push(T::read_value(alloc, version, value)?)?;
+        items.push_reserved(T::read_value(alloc, version, value)?);
     }
     Ok(items)
 }

@@ -6,10 +6,10 @@ ghost use Rattle.std.specs.List.{AllByRecursion};
 ghost use Rattle.fleet_trace.specs.Text.{order_data, verdict_data, refused, take_data, tick_data, shut_data, entry_data};
 ghost use Rattle.fleet_trace.specs.Fits.{Fits32, OrderFits, VerdictFits, ArrivalFits, ByeFits, StampFits, EntryFits};
 
-use super::values::{WriteValue, write_list};
+use super::values::{WriteValue, array_of, word, write_list};
 use fleet_book::{Order, Verdict};
 use fleet_history::{Arrival, Bye, Entry};
-use serde_json::{Value, json};
+use serde_json::Value;
 use std::alloc::{AllocError, Allocator, Global};
 
 impl WriteValue for Order {
@@ -19,9 +19,15 @@ impl WriteValue for Order {
 
     fn write_value(&self, alloc: Global) -> Result<Value, AllocError> {
         match *self {
-            Order::Go { robot, cell } => json!(in alloc; ["go", robot, cell]),
-            Order::Close => json!(in alloc; ["close"]),
-            Order::Withdraw { number } => json!(in alloc; ["withdraw", number]),
+            Order::Go { robot, cell } => array_of(
+                alloc,
+                [word(alloc, "go")?, Value::from(robot), Value::from(cell)],
+            ),
+            Order::Close => array_of(alloc, [word(alloc, "close")?]),
+            Order::Withdraw { number } => array_of(
+                alloc,
+                [word(alloc, "withdraw")?, Value::from(number)],
+            ),
         }
     }
 }
@@ -29,7 +35,7 @@ impl WriteValue for Order {
 fn refused_value(alloc: Global, code: u32) -> Result<Value, AllocError>
     ensures { IfOk result (λ v. view v ≡ refused code) }
 {
-    json!(in alloc; ["refused", code])
+    array_of(alloc, [word(alloc, "refused")?, Value::from(code)])
 }
 
 impl WriteValue for Verdict {
@@ -39,9 +45,12 @@ impl WriteValue for Verdict {
 
     fn write_value(&self, alloc: Global) -> Result<Value, AllocError> {
         match *self {
-            Verdict::Accepted(number) => json!(in alloc; ["accepted", number]),
-            Verdict::Closed => json!(in alloc; ["closed"]),
-            Verdict::Withdrawn => json!(in alloc; ["withdrawn"]),
+            Verdict::Accepted(number) => array_of(
+                alloc,
+                [word(alloc, "accepted")?, Value::from(number)],
+            ),
+            Verdict::Closed => array_of(alloc, [word(alloc, "closed")?]),
+            Verdict::Withdrawn => array_of(alloc, [word(alloc, "withdrawn")?]),
             Verdict::ClientClosed => refused_value(alloc, 1),
             Verdict::NoRobot => refused_value(alloc, 2),
             Verdict::RobotShut => refused_value(alloc, 3),
@@ -61,8 +70,11 @@ fn shut_value(alloc: Global, robot: u32, farewell: Option<u32>) -> Result<Value,
     ensures fits { OnOk result (Fits32 robot × StampFits farewell) }
 {
     match farewell {
-        None => json!(in alloc; ["shut", robot]),
-        Some(stamp) => json!(in alloc; ["shut", robot, stamp]),
+        None => array_of(alloc, [word(alloc, "shut")?, Value::from(robot)]),
+        Some(stamp) => array_of(
+            alloc,
+            [word(alloc, "shut")?, Value::from(robot), Value::from(stamp)],
+        ),
     }
 }
 
@@ -75,9 +87,10 @@ fn take_value(
     ensures value { IfOk result (λ v. view v ≡ take_data client order.now verdict.now) }
     ensures fits { OnOk result (Fits32 client × OrderFits order.now × VerdictFits verdict.now) }
 {
+    let name = word(alloc, "take")?;
     let order = order.write_value(alloc)?;
     let verdict = verdict.write_value(alloc)?;
-    json!(in alloc; ["take", client, order, verdict])
+    array_of(alloc, [name, Value::from(client), order, verdict])
 }
 
 fn tick_value(
@@ -89,10 +102,11 @@ fn tick_value(
     ensures value { IfOk result (λ v. view v ≡ tick_data to.now arrived.now farewells.now) }
     ensures fits { OnOk result (AllByRecursion Fits32 to.now × AllByRecursion ArrivalFits arrived.now × AllByRecursion ByeFits farewells.now) }
 {
+    let name = word(alloc, "tick")?;
     let to = write_list(alloc, to)?;
     let arrived = write_list(alloc, arrived)?;
     let farewells = write_list(alloc, farewells)?;
-    json!(in alloc; ["tick", to, arrived, farewells])
+    array_of(alloc, [name, to, arrived, farewells])
 }
 
 impl<A: Allocator + Copy> WriteValue for Entry<A> {

@@ -4,13 +4,13 @@ ghost use Rattle.std.specs.Prelude.{◌≡◌, ℕ, IfOk, OnOk, map};
 ghost use Rattle.std.specs.List.{AllByRecursion};
 ghost use Rattle.serde_json.specs.Data.{Data};
 ghost use Rattle.serde_json.specs.View.{view};
-ghost use Rattle.fleet_trace.specs.Text.{counted, listed, client_data, errand_data, law_data, wait_data, robot_data, arrival_data, bye_data};
+ghost use Rattle.fleet_trace.specs.Text.{counted, listed, word, client_data, errand_data, law_data, wait_data, robot_data, arrival_data, bye_data};
 ghost use Rattle.fleet_trace.specs.Fits.{Fits32, ClientFits, ErrandFits, LawFits, WaitFits, RobotFits, ArrivalFits, ByeFits};
 
 use fleet_history::{Arrival, Bye, ClientState, RobotState};
 use fleet_hooks::StampLaw;
 use fleet_queue::Errand;
-use serde_json::{Value, json};
+use serde_json::Value;
 use std::alloc::{AllocError, Allocator, Global};
 
 /// What a trace shows as a JSON value.
@@ -29,11 +29,28 @@ pub(crate) fn write_list<T: WriteValue>(alloc: Global, items: &[T]) -> Result<Va
     ensures value { IfOk result (λ v. view v ≡ listed (map T.written items.now)) }
     ensures fits { OnOk result (AllByRecursion T.fits items.now) }
 {
-    let mut values = Vec::new(alloc);
+    let mut values = Vec::with_capacity(alloc, items.len())?;
     for item in items {
-        values.push(item.write_value(alloc)?)?;
+        values.push_reserved(item.write_value(alloc)?);
     }
     Ok(Value::Array(values))
+}
+
+/// The array of the values.
+pub(crate) fn array_of<const N: usize>(
+    alloc: Global,
+    values: [Value; N],
+) -> Result<Value, AllocError>
+    ensures { IfOk result (λ v. view v ≡ listed (map view values.entry)) }
+{
+    Ok(Value::Array(Vec::from_array(alloc, values)?))
+}
+
+/// The word as a value.
+pub(crate) fn word(alloc: Global, letters: &str) -> Result<Value, AllocError>
+    ensures { IfOk result (λ v. view v ≡ word letters.now) }
+{
+    Ok(Value::String(String::from_str(alloc, letters)?))
 }
 
 impl WriteValue for u32 {
@@ -52,7 +69,15 @@ impl WriteValue for ClientState {
     ghost fits = { ClientFits };
 
     fn write_value(&self, alloc: Global) -> Result<Value, AllocError> {
-        json!(in alloc; [self.taken, self.accepted, self.noticed, self.closed])
+        array_of(
+            alloc,
+            [
+                Value::from(self.taken),
+                Value::from(self.accepted),
+                Value::from(self.noticed),
+                Value::from(self.closed),
+            ],
+        )
     }
 }
 
@@ -62,7 +87,14 @@ impl WriteValue for Errand {
     ghost fits = { ErrandFits };
 
     fn write_value(&self, alloc: Global) -> Result<Value, AllocError> {
-        json!(in alloc; [self.client, self.number, self.cell])
+        array_of(
+            alloc,
+            [
+                Value::from(self.client),
+                Value::from(self.number),
+                Value::from(self.cell),
+            ],
+        )
     }
 }
 
@@ -72,7 +104,7 @@ impl WriteValue for StampLaw {
     ghost fits = { LawFits };
 
     fn write_value(&self, alloc: Global) -> Result<Value, AllocError> {
-        json!(in alloc; [self.low, self.high])
+        array_of(alloc, [Value::from(self.low), Value::from(self.high)])
     }
 }
 
@@ -82,7 +114,15 @@ impl WriteValue for Arrival {
     ghost fits = { ArrivalFits };
 
     fn write_value(&self, alloc: Global) -> Result<Value, AllocError> {
-        json!(in alloc; [self.robot, self.client, self.number, self.stamp])
+        array_of(
+            alloc,
+            [
+                Value::from(self.robot),
+                Value::from(self.client),
+                Value::from(self.number),
+                Value::from(self.stamp),
+            ],
+        )
     }
 }
 
@@ -92,7 +132,7 @@ impl WriteValue for Bye {
     ghost fits = { ByeFits };
 
     fn write_value(&self, alloc: Global) -> Result<Value, AllocError> {
-        json!(in alloc; [self.robot, self.stamp])
+        array_of(alloc, [Value::from(self.robot), Value::from(self.stamp)])
     }
 }
 
@@ -112,10 +152,19 @@ impl<A: Allocator + Copy> WriteValue for RobotState<A> {
     ghost fits = { RobotFits };
 
     fn write_value(&self, alloc: Global) -> Result<Value, AllocError> {
-        let wait = wait_value(self.wait);
         let errands = write_list(alloc, self.errands.as_slice())?;
         let arrival_law = self.arrival_law.write_value(alloc)?;
         let farewell_law = self.farewell_law.write_value(alloc)?;
-        json!(in alloc; [self.cell, self.shut, wait, errands, arrival_law, farewell_law])
+        array_of(
+            alloc,
+            [
+                Value::from(self.cell),
+                Value::from(self.shut),
+                wait_value(self.wait),
+                errands,
+                arrival_law,
+                farewell_law,
+            ],
+        )
     }
 }

@@ -1,9 +1,12 @@
-use Rattle.std.proofs.Common.{◌≡◌, map, drop}
+use Rattle.std.proofs.Common.{◌≡◌, ◌≤◌, length, map, drop, vec_len, vec_capacity}
 use Rattle.serde_json.specs.View.{view}
 use Rattle.fleet_trace.specs.Told.{all_in}
 use Rattle.fleet_trace.proofs.Lists.{with_front}
 use Rattle.fleet_trace.proofs.read.parts.read_all.Given as goal
 
 abbrev pub invariant-loop-value : goal.invariant-loop-value
-invariant-loop-value g l =
-    with_front (g.T.ReadValue.told l.version) l.items.items (all_in (g.T.ReadValue.told l.version) (map view (drop l.value-index l.values))) ≡ all_in (g.T.ReadValue.told l.version) (map view l.values)
+invariant-loop-value g l = record {
+  told : with_front (g.T.ReadValue.told l.version) l.items.items (all_in (g.T.ReadValue.told l.version) (map view (drop l.value-index l.values))) ≡ all_in (g.T.ReadValue.told l.version) (map view l.values);
+  len : vec_len l.items ≡ l.value-index;
+  room : length l.values ≤ vec_capacity l.items;
+}

@@ -1,0 +1,17 @@
+use Rattle.std.proofs.Common.{arith}
+use Rattle.serde_json.specs.View.{view}
+use Rattle.fleet_trace.proofs.Lists.{written_more, fits_more}
+use Rattle.fleet_trace.proofs.write.values.write_list.Goals as goal
+
+pub loop-item-preserved : goal.loop-item-preserved
+loop-item-preserved g c =
+    let xs = c.args.items.now in
+    let i = c.loop-item.item-index in
+    let x = c.item-item.result in
+    record {
+      values = written_more view g.T.WriteValue.written xs i x c.in_ok-write_value.field-0 c.loop-item.values.items c.push_reserved.new.self.items
+          c.loop-item-test.true c.item-item.is c.in_ok-write_value.ensures.value c.loop-item.invariant.values c.push_reserved.ensures.items;
+      fits = fits_more g.T.WriteValue.fits xs i x c.loop-item-test.true c.item-item.is c.in_ok-write_value.ensures.fits c.loop-item.invariant.fits;
+      len = omega (arith, c.loop-item.invariant.len, c.push_reserved.ensures.len);
+      room = omega (arith, c.loop-item.invariant.room, c.push_reserved.ensures.capacity);
+    }
