@@ -1,13 +1,31 @@
 -- Lists that are alike at each place, as far as a loop has seen them.
-use Rattle.std.proofs.Common.{◌≡◌, ℕ, suc, ◌+◌, ◌<◌, List, [], ◌∷◌, length, map, Some, None, Option, refl, ap, sym, ◌∙◌, subst, arith, inl, inr, false, true, Bool}
-use Rattle.std.specs.Prelude.{slice_get, slice_index_or, is_some}
-use Rattle.std.proofs.lemmas.Option.{get_or_from_slice_get}
-use Rattle.std.proofs.lemmas.List.{length-map, get_or_past}
+use Rattle.std.proofs.Common.{◌≡◌, ℕ, suc, ◌+◌, ◌<◌, ◌≤◌, List, [], ◌∷◌, ◌++◌, length, get_or, map, take, Some, None, Option, refl, ap, sym, ◌∙◌, subst, arith, inl, inr, false, true, Bool}
+use Rattle.std.specs.Prelude.{All, slice_get, slice_index_or, is_some}
+use Rattle.std.specs.Option.{option_map}
+use Rattle.std.proofs.lemmas.Option.{slice_get-map, slice_get-get_or, get_or_from_slice_get}
+use Rattle.std.proofs.lemmas.List.{length-map, map_more, take_all, get_or_past}
+use Rattle.std.proofs.lemmas.List.Elements.{All-push}
 use Rattle.std.proofs.lemmas.Bool.{cases_eq, cases_lt}
 use Rattle.fleet_hooks.specs.declared.law.StampLaw.{StampLaw}
 use Rattle.fleet_history.specs.History.{History, robots}
 use Rattle.fleet_history.specs.Legal.{is_done, farewell_law, no_law}
 use Rattle.fleet_core.specs.Hooks.{AreFarewells, AreArrivals, IsLeft}
+
+-- a word of the item at a place
+pub word_there : {X Z : Type 0} (f : X → Z) (xs : List X) (r : ℕ) (x : X) (z : Z) → r < length xs → z ≡ f (get_or xs r x) → slice_get (map f xs) r ≡ Some z
+word_there f xs r x z within is = slice_get-map f xs r ∙ ap (option_map f) (slice_get-get_or xs r x within) ∙ ap Some (sym is)
+
+-- a word of each item, as the list of it grows
+pub word_more : {X Z : Type 0} (f : X → Z) (xs : List X) (i : ℕ) (x : X) (z : Z) (before behind : List Z) → i < length xs → x ≡ get_or xs i x → z ≡ f x →
+    before ≡ map f (take i xs) → behind ≡ before ++ z ∷ [] → behind ≡ map f (take (i + 1) xs)
+word_more f xs i x z before behind within is gives so more =
+    more ∙ ap (λ (l : List _). l ++ z ∷ []) so ∙ ap (λ (y : _). map f (take i xs) ++ y ∷ []) (gives ∙ ap f is) ∙ sym (map_more f xs i x within)
+
+pub words_all : {X Z : Type 0} (f : X → Z) (xs : List X) (i : ℕ) (zs : List Z) → length xs ≤ i → zs ≡ map f (take i xs) → zs ≡ map f xs
+words_all f xs i zs past so = so ∙ ap (map f) (take_all i xs past)
+
+pub all_more : {Z : Type 0} (P : Z → Type 0) (before behind : List Z) (z : Z) → All P before → P z → behind ≡ before ++ z ∷ [] → All P behind
+all_more P before behind z all one more = subst (All P) (sym more) (All-push P before z all one)
 
 pub alike-more : {Z : Type 0} (ys zs : List Z) (r : ℕ) (y z : Z) → slice_get ys r ≡ Some y → slice_get zs r ≡ Some z → y ≡ z →
     ((j : ℕ) → j < r → slice_get ys j ≡ slice_get zs j) → (j : ℕ) → j < r + 1 → slice_get ys j ≡ slice_get zs j

@@ -1,9 +1,9 @@
 -- Farewells that are called one by one.
-use Rattle.std.proofs.Common.{◌≡◌, ℕ, zero, suc, ◌+◌, ◌<◌, ◌≤◌, List, [], ◌∷◌, ◌++◌, length, map, cond, Bool, true, false, Option, None, sym, refl, ◌∙◌, subst, arith, inl, inr}
+use Rattle.std.proofs.Common.{◌≡◌, ℕ, zero, suc, ◌+◌, ◌<◌, ◌≤◌, List, [], ◌∷◌, ◌++◌, length, get_or, map, cond, Bool, true, false, Option, None, sym, refl, ap, ◌∙◌, subst, arith, inl, inr}
 use Rattle.std.specs.Prelude.{slice_set, slice_index, slice_index_or, All}
 use Rattle.std.specs.List.{flat_map, range_with_len}
 use Rattle.std.specs.Option.{option_map}
-use Rattle.std.proofs.lemmas.List.{append-nil, get_or-set_same, get_or-set_other, map-set, length-set, length_push, get_or_push}
+use Rattle.std.proofs.lemmas.List.{append-nil, get_or-set_same, get_or-set_other, get_or-map, map-set, length-set, length_push, get_or_push}
 use Rattle.std.proofs.Math.ListN.{get_or-append}
 use Rattle.std.proofs.lemmas.List.Elements.{All-nil, All-append}
 use Rattle.std.proofs.lemmas.Bool.{cases_eq, cases_Bool}
@@ -15,6 +15,10 @@ use Rattle.fleet_core.specs.Hooks.{without_all, DoRise}
 
 abbrev pub spare_law : List (Option StampLaw) → ℕ → Option StampLaw
 spare_law spare k = slice_index_or spare k None
+
+-- the law of a farewell that is read
+pub spare-is : {X : Type 0} (f : X → StampLaw) (xs : List (Option X)) (r : ℕ) (x : Option X) → r < length xs → x ≡ get_or xs r x → slice_index_or (map (λ o. option_map f o) xs) r None ≡ option_map f x
+spare-is f xs r x within is = get_or-map (λ o. option_map f o) xs r x None within ∙ ap (λ o. option_map f o) (sym is)
 
 -- one more robot took its leave
 pub spent-before : (spare spare₀ : List (Option StampLaw)) (p : ℕ → Bool) (r : ℕ) → r < length spare → p r ≡ true →

@@ -117,6 +117,37 @@ begins-take m h queues c (Go robot cell) v legal is queued = begins_none m h c (
 begins-take m h queues c Close v legal is queued = begins_none m h c Close v legal is (λ r. refl)
 begins-take m h queues c (Withdraw number) v legal is queued = begins_none m h c (Withdraw number) v legal is (λ r. refl)
 
+-- whose errand an accepted order begins: none where the robot has one already
+begun_if : (queues : List Queue) (order : Order) (v : Verdict) (robot cell n : ℕ) → order ≡ Go robot cell → v ≡ Accepted n →
+    begun queues order v ≡ cond {A = Option (ℕ × ℕ)} (is_none_left (queue_at queues robot).items) (Some (robot, cell)) None
+begun_if queues order v robot cell n goes accepted = ap (λ (o : Order). begun queues o v) goes ∙ ap (λ (w : Verdict). begun queues (Go robot cell) w) accepted
+
+pub begun-behind : (queues : List Queue) (order : Order) (v : Verdict) (robot cell n : ℕ) (f : Errand) → order ≡ Go robot cell → v ≡ Accepted n → Some f ≡ slice_get (queue_at queues robot).items 0 → begun queues order v ≡ None
+begun-behind queues order v robot cell n f goes accepted has = begun_if queues order v robot cell n goes accepted ∙ behind (queue_at queues robot).items has
+  where
+    behind : (u : List Errand) → Some f ≡ slice_get u 0 → cond {A = Option (ℕ × ℕ)} (is_none_left u) (Some (robot, cell)) None ≡ None
+    behind [] e = absurd (none_some f (sym e))
+    behind (x ∷ u) e = refl
+
+pub begun-first : (queues : List Queue) (order : Order) (v : Verdict) (robot cell n : ℕ) → order ≡ Go robot cell → v ≡ Accepted n → None ≡ slice_get (queue_at queues robot).items 0 → begun queues order v ≡ Some (robot, cell)
+begun-first queues order v robot cell n goes accepted none = begun_if queues order v robot cell n goes accepted ∙ first (queue_at queues robot).items none
+  where
+    first : (u : List Errand) → None ≡ slice_get u 0 → cond {A = Option (ℕ × ℕ)} (is_none_left u) (Some (robot, cell)) None ≡ Some (robot, cell)
+    first [] e = refl
+    first (x ∷ u) e = absurd (none_some x e)
+
+-- no errand begins by another order, nor where it is not accepted
+pub begun-other : (queues : List Queue) (order : Order) (v : Verdict) → ((robot cell : ℕ) → order ≡ Go robot cell → ⊥) → begun queues order v ≡ None
+begun-other queues (Go robot cell) v not = absurd (not robot cell refl)
+begun-other queues Close v not = refl
+begun-other queues (Withdraw number) v not = refl
+
+pub begun-refused : (queues : List Queue) (order : Order) (v : Verdict) → ((n : ℕ) → v ≡ Accepted n → ⊥) → begun queues order v ≡ None
+begun-refused queues (Go robot cell) (Accepted n) not = absurd (not n refl)
+begun-refused queues (Go robot cell) v not = refl
+begun-refused queues Close v not = refl
+begun-refused queues (Withdraw number) v not = refl
+
 -- the robot of a first errand is one, and its cell is floor
 pub begun-known : {A : Type 0} (m : Floor) (h : History A) (queues : List Queue) (c : ℕ) (order : Order) (v : Verdict) (robot cell : ℕ) → IsVerdict m h c order v → begun queues order v ≡ Some (robot, cell) →
     (robot < robots h) × IsFloor m cell

@@ -9,3 +9,5 @@ pub mod Hooked
 pub mod Ticked
 pub mod Bounded
 pub mod Alike
+pub mod Boxed
+pub mod Refused

@@ -9,6 +9,7 @@ ghost use Rattle.fleet_core.specs.Core.{Takes, Ticks, Shuts, HasRoom, HasNoRoom,
 use crate::faults::{ShutFault, TakeFault, TickFault, TickReport};
 use crate::kernel::Core;
 use crate::stamps::{arrive, last_word, take_leave};
+use crate::step::{Step, make_ready, step_of};
 use fleet_book::{Notice, Order, Verdict};
 use fleet_history::{Arrival, Bye, Entry, Row};
 use fleet_hooks::{ArrivalHook, Farewell, FarewellView, TieHook};
@@ -131,12 +132,19 @@ impl<A: Allocator + Copy> Core<A> {
         if self.is_full() {
             return Err(TickFault::ChapterFull);
         }
-        let alloc = rt.alloc();
-        let to = self.planner.plan(alloc, &self.grid, &self.state, ties)?;
-        let mut arrived = self.state.dues(alloc, to.as_slice())?;
-        let mut leaving = self.state.leaving(alloc, to.as_slice())?;
-        self.chapter.entries.reserve(1)?;
-        self.planner.turn(&self.grid, &self.state, to.as_slice())?;
+        let step = step_of(rt.alloc(), &self.grid, &self.state, &mut self.planner, ties)?;
+        make_ready(
+            &mut self.chapter.entries,
+            &mut self.planner,
+            &self.grid,
+            &self.state,
+            step.to.as_slice(),
+        )?;
+        let Step {
+            to,
+            mut arrived,
+            mut leaving,
+        } = step;
         let report = TickReport::of(self.state.clock() + 1, arrived.len(), leaving.len());
         arrive(&mut arrived, arrivals, to.as_slice(), report.tick);
         take_leave(&mut leaving, farewells, to.as_slice(), report.tick);

@@ -51,9 +51,9 @@ impl<A: Allocator + Copy> HookLaws<A> {
 fn tie_laws<A: Allocator + Copy>(alloc: A, hooks: &[TieHook]) -> Result<Vec<TieLaw, A>, AllocError>
     ensures { IfOk result (λ laws. laws.items ≡ map (λ h. h.law) hooks.now) }
 {
-    let mut laws = Vec::new(alloc);
+    let mut laws = Vec::with_capacity(alloc, hooks.len())?;
     for hook in hooks {
-        laws.push(hook.law())?;
+        laws.push_reserved(hook.law());
     }
     Ok(laws)
 }
@@ -65,9 +65,9 @@ fn arrival_laws<A: Allocator + Copy>(
     ensures laws { IfOk result (λ laws. laws.items ≡ map (λ h. h.law) hooks.now) }
     ensures orderly { IfOk result (λ laws. All IsStampLaw laws.items) }
 {
-    let mut laws = Vec::new(alloc);
+    let mut laws = Vec::with_capacity(alloc, hooks.len())?;
     for hook in hooks {
-        laws.push(hook.law())?;
+        laws.push_reserved(hook.law());
     }
     Ok(laws)
 }
@@ -79,9 +79,9 @@ fn farewell_laws<A: Allocator + Copy>(
     ensures laws { IfOk result (λ laws. laws.items ≡ map (λ h. h.law) hooks.now) }
     ensures orderly { IfOk result (λ laws. All IsStampLaw laws.items) }
 {
-    let mut laws = Vec::new(alloc);
+    let mut laws = Vec::with_capacity(alloc, hooks.len())?;
     for hook in hooks {
-        laws.push(hook.law())?;
+        laws.push_reserved(hook.law());
     }
     Ok(laws)
 }

@@ -14,6 +14,7 @@ mod opening;
 mod planner;
 mod robots;
 mod stamps;
+mod step;
 
 pub use crate::faults::{ChapterFault, ShutFault, TakeFault, TickFault, TickReport};
 pub use crate::hook_laws::HookLaws;

@@ -61,12 +61,16 @@ impl<A: Allocator + Copy> Planner<A> {
         ensures bridge { IfOk result (λ p. IsTrue p.bridgeless ↔ IsBridgeless (IsNeighbour grid.now)) }
         ensures keeps { IfOk result (λ p. Keeps grid.now p.kept) }
     {
+        let bridgeless = has_no_bridge(alloc, grid)?;
+        let turns = Vec::with_capacity(alloc, robots)?;
+        let aims = Aims::new(alloc, robots)?;
+        let stepper = Stepper::new(alloc, grid.cell_count(), robots as u32)?;
         Ok(Planner {
-            aims: Aims::new(alloc, robots)?,
-            stepper: Stepper::new(alloc, grid.cell_count(), robots as u32)?,
-            bridgeless: has_no_bridge(alloc, grid)?,
+            aims,
+            stepper,
+            bridgeless,
             shelf: Shelf::new(alloc, KEPT_BYTES),
-            turns: Vec::with_capacity(alloc, robots)?,
+            turns,
         })
     }
 
@@ -179,10 +183,25 @@ impl<A: Allocator + Copy + Send + Sync> Planner<A> {
         ensures keeps { Keeps grid.now self.new.kept }
         ensures refused { OnErr result (self.new ≡ self.old) }
     {
-        let goals = goals_ahead(alloc, grid, state.queues())?;
-        let _have_all_place = self.shelf.search_ahead(rt, grid, &goals)?;
+        let _have_all_place = search_goals(rt, alloc, grid, state, &mut self.shelf)?;
         Ok(())
     }
+}
+
+/// Searches the fields of the robots' next goals side by side, and answers whether all have place on the shelf.
+fn search_goals<A: Allocator + Copy + Send + Sync>(
+    rt: &(impl Threads + Sync),
+    alloc: A,
+    grid: &Grid<A>,
+    state: &FleetState<A>,
+    shelf: &mut Shelf<A>,
+) -> Result<bool, AllocError>
+    requires { Keeps grid.now shelf.old }
+    ensures keeps { Keeps grid.now shelf.new }
+    ensures refused { OnErr result (shelf.new ≡ shelf.old) }
+{
+    let goals = goals_ahead(alloc, grid, state.queues())?;
+    shelf.search_ahead(rt, grid, &goals)
 }
 
 /// The turns that a tick to these cells brings, by rising robot, in place of what the list held.

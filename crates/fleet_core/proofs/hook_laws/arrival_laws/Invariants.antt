@@ -1,4 +1,4 @@
-use Rattle.std.proofs.Common.{◌≡◌, map, take}
+use Rattle.std.proofs.Common.{◌≡◌, ◌≤◌, length, map, take, vec_len, vec_capacity}
 use Rattle.std.specs.Prelude.{All}
 use Rattle.fleet_hooks.specs.Law.{IsStampLaw}
 use Rattle.fleet_core.proofs.hook_laws.arrival_laws.Given as goal
@@ -7,4 +7,6 @@ abbrev pub invariant-loop-hook : goal.invariant-loop-hook
 invariant-loop-hook g l = record {
   laws : l.laws.items ≡ map (λ h. h.law) (take l.hook-index l.hooks);
   orderly : All IsStampLaw l.laws.items;
+  len : vec_len l.laws ≡ l.hook-index;
+  room : length l.hooks ≤ vec_capacity l.laws;
 }

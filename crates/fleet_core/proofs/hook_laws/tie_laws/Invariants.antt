@@ -1,5 +1,9 @@
-use Rattle.std.proofs.Common.{◌≡◌, map, take}
+use Rattle.std.proofs.Common.{◌≡◌, ◌≤◌, length, map, take, vec_len, vec_capacity}
 use Rattle.fleet_core.proofs.hook_laws.tie_laws.Given as goal
 
 abbrev pub invariant-loop-hook : goal.invariant-loop-hook
-invariant-loop-hook g l = l.laws.items ≡ map (λ h. h.law) (take l.hook-index l.hooks)
+invariant-loop-hook g l = record {
+  laws : l.laws.items ≡ map (λ h. h.law) (take l.hook-index l.hooks);
+  len : vec_len l.laws ≡ l.hook-index;
+  room : length l.hooks ≤ vec_capacity l.laws;
+}

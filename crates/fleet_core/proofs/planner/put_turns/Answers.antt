@@ -1,4 +1,4 @@
-use Rattle.std.proofs.Common.{arith, ◌∙◌, ap, length}
+use Rattle.std.proofs.Common.{arith, ap, length}
 use Rattle.fleet_core.proofs.Turning.{turns-few, turns-land, turns-stay}
 use Rattle.fleet_core.proofs.planner.put_turns.Goals as goal
 use Rattle.fleet_core.proofs.planner.put_turns.Goals.{in-Some, in_default}

@@ -1,4 +1,4 @@
-use Rattle.std.proofs.Common.{◌≡◌, ◌∙◌, ◌+◌, sym, refl, subst}
+use Rattle.std.proofs.Common.{◌≡◌, ◌∙◌, ◌+◌, arith, sym, refl, subst}
 use Rattle.fleet_history.specs.History.{History, history_of, start}
 use Rattle.fleet_history.specs.Next.{next_opening}
 use Rattle.fleet_history.proofs.Next.{next-robots}
@@ -64,3 +64,26 @@ returns-clause-farewells g c = λ spare k.
 
 pub returns-clause-bounded : goal.returns-clause-bounded
 returns-clause-bounded g c = rw (← c.self.view_is) (waits-kept c.self.invariant)
+
+pub returns-then-self : goal.returns-then-self
+returns-then-self g c =
+    let spent = subst (λ w. w.number + 1 ≡ w.limits.chapters) c.self.view_is (omega (arith, c.if-self.true, c.self.invariant.within.numbered)) in
+    record {
+      book_spent = (λ e. spent, λ q. refl);
+      history = tt;
+      number = tt;
+      legal = tt;
+      planned = tt;
+      advancing = tt;
+      bounded = tt;
+      next = tt;
+      arrivals = λ laws k. k;
+      farewells = λ spare k. k;
+      err = refl;
+    }
+
+pub returns-clause-book_spent : goal.returns-clause-book_spent
+returns-clause-book_spent g c = (λ e. cc, λ q. absurd (omega (arith, c.if-self.false, subst (λ w. w.number + 1 ≡ w.limits.chapters) (sym c.self.view_is) q)))
+
+pub returns-clause-legal : goal.returns-clause-legal
+returns-clause-legal g c = rw (← c.self.view_is) c.self.invariant.is.legal

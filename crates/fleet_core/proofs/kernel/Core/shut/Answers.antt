@@ -1,4 +1,4 @@
-use Rattle.std.proofs.Common.{arith, ◌≡◌, ◌∙◌, ◌<◌, [], false, length, ap, sym, refl, subst}
+use Rattle.std.proofs.Common.{arith, ◌≡◌, ◌∙◌, ◌<◌, ◌≤◌, [], true, false, length, ap, sym, refl, subst}
 use Rattle.std.specs.Option.{option_map}
 use Rattle.std.proofs.lemmas.List.{length-map}
 use Rattle.fleet_history.specs.declared.history.Entry.TheVariants as entry
@@ -112,3 +112,57 @@ enter_shut-requires g c =
         few = omega (arith, k.within.entries, k.within.valid.chapter.1);
       };
     }
+
+pub returns-then-robot-robots : goal.returns-then-robot-robots
+returns-then-robot-robots g c =
+    let k = c.self.invariant in
+    let h = history_of c.self.inside.chapter in
+    let past : robots h ≤ c.args.robot = omega (arith, c.if-robot-robots.true, c.robots.ensures.of c.self.inside.grid h k.is) in
+    let many = subst (λ w. robots w.history ≤ c.args.robot) c.self.view_is past in
+    record {
+      no_robot = (λ e. many, λ l. refl);
+      already = (λ e. cc, λ p. absurd (omega (arith, p.0, many)));
+      chapter_full = (λ e. cc, λ p. absurd (omega (arith, p.0, many)));
+      entries = tt;
+      ok = tt;
+      err = refl;
+      farewells = c.requires.farewells;
+    }
+
+pub returns-then-is_shut : goal.returns-then-is_shut
+returns-then-is_shut g c =
+    let k = c.self.invariant in
+    let h = history_of c.self.inside.chapter in
+    let inside : c.args.robot < robots h = omega (arith, c.if-robot-robots.false, c.robots.ensures.of c.self.inside.grid h k.is) in
+    let known = subst (λ w. c.args.robot < robots w.history) c.self.view_is inside in
+    let shut = ap (λ w. is_shut w.history c.args.robot) (sym c.self.view_is) ∙ sym (c.is_shut.ensures c.self.inside.grid h k.is) ∙ c.if-is_shut.true in
+    record {
+      no_robot = (λ e. cc, λ l. absurd (omega (arith, l, known)));
+      already = (λ e. (known, shut), λ p. refl);
+      chapter_full = (λ e. cc, λ p. let bad : true ≡ false = sym shut ∙ p.1 in cc);
+      entries = tt;
+      ok = tt;
+      err = refl;
+      farewells = c.requires.farewells;
+    }
+
+pub returns-then-is_full : goal.returns-then-is_full
+returns-then-is_full g c =
+    let k = c.self.invariant in
+    let h = history_of c.self.inside.chapter in
+    let inside : c.args.robot < robots h = omega (arith, c.if-robot-robots.false, c.robots.ensures.of c.self.inside.grid h k.is) in
+    let known = subst (λ w. c.args.robot < robots w.history) c.self.view_is inside in
+    let opened = ap (λ w. is_shut w.history c.args.robot) (sym c.self.view_is) ∙ sym (c.is_shut.ensures c.self.inside.grid h k.is) ∙ c.if-is_shut.false in
+    let full = c.if-is_full.ensures.full refl in
+    record {
+      no_robot = (λ e. cc, λ l. absurd (omega (arith, l, known)));
+      already = (λ e. cc, λ p. let bad : true ≡ false = sym p.1 ∙ opened in cc);
+      chapter_full = (λ e. (known, opened, full), λ p. refl);
+      entries = tt;
+      ok = tt;
+      err = refl;
+      farewells = c.requires.farewells;
+    }
+
+pub returns-clause-chapter_full : goal.returns-clause-chapter_full
+returns-clause-chapter_full g c = let room = c.if-is_full.ensures.room refl in (λ e. cc, λ p. absurd (omega (arith, p.2, room)))

@@ -87,3 +87,46 @@ returns-clause-arrives g c =
     let k = c.self.invariant in
     rw (← c.self.view_is)
     (accepted-gone c.self.inside.grid (history_of c.self.inside.chapter) c.args.client c.args.order c.judge-verdict.result k.is.legal (c.judge-verdict.ensures.verdict (history_of c.self.inside.chapter) k.is))
+
+pub push-requires-clause-room : goal.push-requires-clause-room
+push-requires-clause-room g c =
+    let room = subst (λ w. HasRoom w c.args.client) (sym c.self.view_is) (c.if-not-has_room.ensures.yes refl) in
+    omega (arith, room)
+
+pub enter_take-requires-clause-place : goal.enter_take-requires-clause-place
+enter_take-requires-clause-place g c = c.judge-verdict.ensures.place (history_of c.self.inside.chapter) c.self.invariant.is c.self.invariant.room
+
+pub returns-then-not-has_room : goal.returns-then-not-has_room
+returns-then-not-has_room g c =
+    let no = c.if-not-has_room.ensures.no refl in
+    record {
+      mailbox_full = (λ e. no, λ n. refl);
+      chapter_full = (λ e. cc, λ p. absurd (omega (arith, no, p.0)));
+      room = tt;
+      entries = tt;
+      ok = tt;
+      arrives = tt;
+      err = refl;
+      farewells = λ spare k. k;
+    }
+
+pub returns-then-is_full : goal.returns-then-is_full
+returns-then-is_full g c =
+    let yes = c.if-not-has_room.ensures.yes refl in
+    let full = c.if-is_full.ensures.full refl in
+    record {
+      mailbox_full = (λ e. cc, λ no. absurd (omega (arith, no, yes)));
+      chapter_full = (λ e. (yes, full), λ p. refl);
+      room = tt;
+      entries = tt;
+      ok = tt;
+      arrives = tt;
+      err = refl;
+      farewells = λ spare k. k;
+    }
+
+pub returns-clause-mailbox_full : goal.returns-clause-mailbox_full
+returns-clause-mailbox_full g c = let yes = c.if-not-has_room.ensures.yes refl in (λ e. cc, λ no. absurd (omega (arith, no, yes)))
+
+pub returns-clause-chapter_full : goal.returns-clause-chapter_full
+returns-clause-chapter_full g c = let room = c.if-is_full.ensures.room refl in (λ e. cc, λ p. absurd (omega (arith, p.1, room)))

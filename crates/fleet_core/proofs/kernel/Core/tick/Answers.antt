@@ -20,34 +20,27 @@ use Rattle.fleet_core.proofs.Hooked.{stamps-are, last_stamps-are}
 use Rattle.fleet_core.proofs.Kept.{noticed-of, noticed-small, room-kept, boxes-tick, ticked-boxes, within-tick}
 use Rattle.fleet_core.proofs.Ticked.{arrived-clients, arrived-robots, arrived-few, arrived-owed, leaving-few, leaving-rise, leaving-robots, leaving-has, farewells-tick}
 use Rattle.fleet_core.proofs.kernel.Core.tick.Goals as goal
-use Rattle.fleet_core.proofs.kernel.Core.tick.Goals.{After-len-2, After-as_slice-7, After-add}
+use Rattle.fleet_core.proofs.kernel.Core.tick.Goals.{After-len-2, After-as_slice-5, After-add}
 
-pub plan-requires-clause-tied : goal.plan-requires-clause-tied
-plan-requires-clause-tied g c =
+pub step_of-requires-clause-tied : goal.step_of-requires-clause-tied
+step_of-requires-clause-tied g c =
     omega (arith, queue-count c.self.invariant.is, length-map c.args.ties.now (λ h. h.law), ap length c.requires.ties, ap (λ w. length w.ties) c.self.view_is, c.self.invariant.tied.count)
 
-pub dues-requires : goal.dues-requires
-dues-requires g c = omega (arith, ap length c.as_slice.ensures.value, c.in_ok-to.ensures.conflict_free.same_length, cell-count c.self.invariant.is, queue-count c.self.invariant.is)
-
-pub leaving-requires : goal.leaving-requires
-leaving-requires g c = omega (arith, ap length c.as_slice-2.ensures.value, c.in_ok-to.ensures.conflict_free.same_length, cell-count c.self.invariant.is, queue-count c.self.invariant.is)
-
-pub turn-requires-clause-same : goal.turn-requires-clause-same
-turn-requires-clause-same g c = omega (arith, ap length c.as_slice-3.ensures.value, c.in_ok-to.ensures.conflict_free.same_length, cell-count c.self.invariant.is, queue-count c.self.invariant.is)
+pub make_ready-requires-clause-same : goal.make_ready-requires-clause-same
+make_ready-requires-clause-same g c = omega (arith, ap length c.as_slice.ensures.value, c.in_ok-step.ensures.conflict_free.same_length, cell-count c.self.invariant.is, queue-count c.self.invariant.is)
 
 -- whom the planned step lets arrive, and who leaves with whatever stamps
-shows_is : (g : _) (c : After-len-2 g) → map due_of c.in_ok-arrived.arrived.items ≡ due (history_of c.self.inside.chapter) c.in_ok-to.to.items
-shows_is g c = let h = history_of c.self.inside.chapter in c.in_ok-arrived.ensures c.self.inside.grid h c.self.invariant.is ∙ ap (due h) c.as_slice.ensures.value
+shows_is : (g : _) (c : After-len-2 g) → map due_of c.in_ok-step.step.arrived.items ≡ due (history_of c.self.inside.chapter) c.in_ok-step.step.to.items
+shows_is g c = let h = history_of c.self.inside.chapter in c.in_ok-step.ensures.arrived c.self.inside.grid h c.self.invariant.is
 
-leaves_is : (g : _) (c : After-len-2 g) (arrived : _) (others : _) → map due_of arrived ≡ due (history_of c.self.inside.chapter) c.in_ok-to.to.items →
-    map (λ b. b.robot) c.in_ok-leaving.leaving.items ≡ leaving (history_of c.self.inside.chapter) (after (history_of c.self.inside.chapter) (entry.Tick c.in_ok-to.to.items arrived others))
+leaves_is : (g : _) (c : After-len-2 g) (arrived : _) (others : _) → map due_of arrived ≡ due (history_of c.self.inside.chapter) c.in_ok-step.step.to.items →
+    map (λ b. b.robot) c.in_ok-step.step.leaving.items ≡ leaving (history_of c.self.inside.chapter) (after (history_of c.self.inside.chapter) (entry.Tick c.in_ok-step.step.to.items arrived others))
 leaves_is g c arrived others shows =
     let h = history_of c.self.inside.chapter in
-    c.in_ok-leaving.ensures arrived others c.self.inside.grid h c.self.invariant.is (shows ∙ ap (due h) (sym c.as_slice-2.ensures.value))
-    ∙ ap (λ to. leaving h (after h (entry.Tick to arrived others))) c.as_slice-2.ensures.value
+    c.in_ok-step.ensures.leaving arrived others c.self.inside.grid h c.self.invariant.is shows
 
-robots_is : (g : _) (c : After-len-2 g) → length c.in_ok-to.to.items ≡ robots (history_of c.self.inside.chapter)
-robots_is g c = omega (arith, c.in_ok-to.ensures.conflict_free.same_length, cell-count c.self.invariant.is)
+robots_is : (g : _) (c : After-len-2 g) → length c.in_ok-step.step.to.items ≡ robots (history_of c.self.inside.chapter)
+robots_is g c = omega (arith, c.in_ok-step.ensures.conflict_free.same_length, cell-count c.self.invariant.is)
 
 spare_is : (g : _) (c : After-len-2 g) → AreFarewells (history_of c.self.inside.chapter) (spare_laws c.args.farewells.now.items)
 spare_is g c = subst (λ w. AreFarewells w.history (spare_laws c.args.farewells.now.items)) (sym c.self.view_is) c.requires.farewells
@@ -64,25 +57,25 @@ arrivals_count g c = sym (length-map c.args.arrivals.now (λ h. h.law)) ∙ (arr
 pub of-report-requires-clause-arrived : goal.of-report-requires-clause-arrived
 of-report-requires-clause-arrived g c =
     let h = history_of c.self.inside.chapter in
-    let shows : map due_of c.in_ok-arrived.arrived.items ≡ due h c.in_ok-to.to.items = c.in_ok-arrived.ensures c.self.inside.grid h c.self.invariant.is ∙ ap (due h) c.as_slice.ensures.value in
-    omega (arith, c.len.ensures, c.in_ok-arrived.arrived.ok.0, arrived-few c.self.inside.grid h c.self.invariant.is.legal c.in_ok-to.to.items c.in_ok-arrived.arrived.items shows)
+    let shows : map due_of c.in_ok-step.step.arrived.items ≡ due h c.in_ok-step.step.to.items = c.in_ok-step.ensures.arrived c.self.inside.grid h c.self.invariant.is in
+    omega (arith, c.len.ensures, c.in_ok-step.step.arrived.ok.0, arrived-few c.self.inside.grid h c.self.invariant.is.legal c.in_ok-step.step.to.items c.in_ok-step.step.arrived.items shows)
 
 pub of-report-requires-clause-farewells : goal.of-report-requires-clause-farewells
 of-report-requires-clause-farewells g c =
     let h = history_of c.self.inside.chapter in
     let shows = shows_is g c in
-    omega (arith, c.len-2.ensures, c.in_ok-leaving.leaving.ok.0, leaving-few c.self.inside.grid h c.self.invariant.is.legal c.in_ok-to.to.items c.in_ok-arrived.arrived.items shows [] c.in_ok-leaving.leaving.items (leaves_is g c c.in_ok-arrived.arrived.items [] shows))
+    omega (arith, c.len-2.ensures, c.in_ok-step.step.leaving.ok.0, leaving-few c.self.inside.grid h c.self.invariant.is.legal c.in_ok-step.step.to.items c.in_ok-step.step.arrived.items shows [] c.in_ok-step.step.leaving.items (leaves_is g c c.in_ok-step.step.arrived.items [] shows))
 
 pub arrive-requires-clause-known : goal.arrive-requires-clause-known
 arrive-requires-clause-known g c =
     let p = (goal.at.arrive-requires-clause-known g c).After-len-2 in
     let h = history_of c.self.inside.chapter in
-    rw (arrivals_count g p) (arrived-robots c.self.inside.grid h c.self.invariant.is.legal c.in_ok-to.to.items c.in_ok-arrived.arrived.items (shows_is g p))
+    rw (arrivals_count g p) (arrived-robots c.self.inside.grid h c.self.invariant.is.legal c.in_ok-step.step.to.items c.in_ok-step.step.arrived.items (shows_is g p))
 
 pub arrive-requires-clause-same : goal.arrive-requires-clause-same
 arrive-requires-clause-same g c =
     let p = (goal.at.arrive-requires-clause-same g c).After-len-2 in
-    omega (arith, ap length c.as_slice-4.ensures.value, robots_is g p, arrivals_count g p)
+    omega (arith, ap length c.as_slice-2.ensures.value, robots_is g p, arrivals_count g p)
 
 pub take_leave-requires-clause-known : goal.take_leave-requires-clause-known
 take_leave-requires-clause-known g c =
@@ -90,83 +83,82 @@ take_leave-requires-clause-known g c =
     let h = history_of c.self.inside.chapter in
     let shows = shows_is g p in
     rw (c.args.farewells.now.ok.0, spare_count g p)
-    (leaving-robots c.self.inside.grid h c.self.invariant.is.legal c.in_ok-to.to.items c.in_ok-arrived.arrived.items shows [] c.in_ok-leaving.leaving.items (leaves_is g p c.in_ok-arrived.arrived.items [] shows))
+    (leaving-robots c.self.inside.grid h c.self.invariant.is.legal c.in_ok-step.step.to.items c.in_ok-step.step.arrived.items shows [] c.in_ok-step.step.leaving.items (leaves_is g p c.in_ok-step.step.arrived.items [] shows))
 
 pub take_leave-requires-clause-same : goal.take_leave-requires-clause-same
 take_leave-requires-clause-same g c =
     let p = (goal.at.take_leave-requires-clause-same g c).After-len-2 in
-    omega (arith, ap length c.as_slice-5.ensures.value, robots_is g p, spare_count g p, c.args.farewells.now.ok.0)
+    omega (arith, ap length c.as_slice-3.ensures.value, robots_is g p, spare_count g p, c.args.farewells.now.ok.0)
 
 pub take_leave-requires-clause-rising : goal.take_leave-requires-clause-rising
 take_leave-requires-clause-rising g c =
     let p = (goal.at.take_leave-requires-clause-rising g c).After-len-2 in
     let h = history_of c.self.inside.chapter in
     let shows = shows_is g p in
-    (leaving-rise c.self.inside.grid h c.self.invariant.is.legal c.in_ok-to.to.items c.in_ok-arrived.arrived.items shows [] c.in_ok-leaving.leaving.items (leaves_is g p c.in_ok-arrived.arrived.items [] shows))
+    (leaving-rise c.self.inside.grid h c.self.invariant.is.legal c.in_ok-step.step.to.items c.in_ok-step.step.arrived.items shows [] c.in_ok-step.step.leaving.items (leaves_is g p c.in_ok-step.step.arrived.items [] shows))
 
 pub take_leave-requires-clause-unspent : goal.take_leave-requires-clause-unspent
 take_leave-requires-clause-unspent g c =
     let p = (goal.at.take_leave-requires-clause-unspent g c).After-len-2 in
     let h = history_of c.self.inside.chapter in
     let shows = shows_is g p in
-    (leaving-has c.self.inside.grid h c.self.invariant.is.legal c.in_ok-to.to.items c.in_ok-arrived.arrived.items shows [] c.in_ok-leaving.leaving.items (leaves_is g p c.in_ok-arrived.arrived.items [] shows) (spare_laws c.args.farewells.now.items) (spare_is g p))
+    (leaving-has c.self.inside.grid h c.self.invariant.is.legal c.in_ok-step.step.to.items c.in_ok-step.step.arrived.items shows [] c.in_ok-step.step.leaving.items (leaves_is g p c.in_ok-step.step.arrived.items [] shows) (spare_laws c.args.farewells.now.items) (spare_is g p))
 
 -- the arrivals and the farewells with their stamps
-stamped_is : (g : _) (c : After-as_slice-7 g) → c.as_slice-6.result.now ≡ c.arrive.new.arrived.items
-stamped_is g c = c.as_slice-6.ensures.value
+stamped_is : (g : _) (c : After-as_slice-5 g) → c.as_slice-4.result.now ≡ c.arrive.new.arrived.items
+stamped_is g c = c.as_slice-4.ensures.value
 
-shown_is : (g : _) (c : After-as_slice-7 g) → map due_of c.arrive.new.arrived.items ≡ due (history_of c.self.inside.chapter) c.in_ok-to.to.items
-shown_is g c = c.arrive.ensures.shows ∙ c.in_ok-arrived.ensures c.self.inside.grid (history_of c.self.inside.chapter) c.self.invariant.is ∙ ap (due (history_of c.self.inside.chapter)) c.as_slice.ensures.value
+shown_is : (g : _) (c : After-as_slice-5 g) → map due_of c.arrive.new.arrived.items ≡ due (history_of c.self.inside.chapter) c.in_ok-step.step.to.items
+shown_is g c = c.arrive.ensures.shows ∙ c.in_ok-step.ensures.arrived c.self.inside.grid (history_of c.self.inside.chapter) c.self.invariant.is
 
 -- the tick fits, whatever stamps the closures gave
-fits_is : (g : _) (c : After-as_slice-7 g) (q : After-len-2 g) → IsTickAfter c.self.inside.grid (history_of c.self.inside.chapter) c.in_ok-to.to.items c.arrive.new.arrived.items c.take_leave.new.leaving.items
+fits_is : (g : _) (c : After-as_slice-5 g) (q : After-len-2 g) → IsTickAfter c.self.inside.grid (history_of c.self.inside.chapter) c.in_ok-step.step.to.items c.arrive.new.arrived.items c.take_leave.new.leaving.items
 fits_is g c q =
     let k = c.self.invariant in
     let h = history_of c.self.inside.chapter in
     let shows = shown_is g c in
-    let leaves = c.in_ok-leaving.ensures c.arrive.new.arrived.items c.take_leave.new.leaving.items c.self.inside.grid h k.is (shows ∙ ap (due h) (sym c.as_slice-2.ensures.value))
-    ∙ ap (λ to. leaving h (after h (entry.Tick to c.arrive.new.arrived.items c.take_leave.new.leaving.items))) c.as_slice-2.ensures.value in
+    let leaves = c.in_ok-step.ensures.leaving c.arrive.new.arrived.items c.take_leave.new.leaving.items c.self.inside.grid h k.is shows in
     let laws = map (λ h. h.law) c.args.arrivals.now in
     let arrivals : AreArrivals h laws = subst (λ w. AreArrivals w.history laws) (sym c.self.view_is) c.requires.arrivals in
     let spare = spare_laws c.args.farewells.now.items in
     let left : AreFarewells h spare = subst (λ w. AreFarewells w.history spare) (sym c.self.view_is) c.requires.farewells in
     record {
-      step = rw (← cells-of k.is) c.in_ok-to.ensures.conflict_free;
+      step = rw (← cells-of k.is) c.in_ok-step.ensures.conflict_free;
       shows = shows;
-      stamps = stamps-are h laws arrivals c.arrive.new.arrived.items (arrived-robots c.self.inside.grid h k.is.legal c.in_ok-to.to.items c.arrive.new.arrived.items shows) c.arrive.ensures.stamps;
+      stamps = stamps-are h laws arrivals c.arrive.new.arrived.items (arrived-robots c.self.inside.grid h k.is.legal c.in_ok-step.step.to.items c.arrive.new.arrived.items shows) c.arrive.ensures.stamps;
       leaves = c.take_leave.ensures.robots ∙ leaves;
       last_stamps = last_stamps-are h spare left c.take_leave.new.leaving.items c.take_leave.ensures.stamps;
     }
 
 pub deliver-requires-clause-known : goal.deliver-requires-clause-known
 deliver-requires-clause-known g c =
-    let p = (goal.at.deliver-requires-clause-known g c).After-as_slice-7 in
-    rw (stamped_is g p, c.self.invariant.boxed.count) (arrived-clients c.self.inside.grid (history_of c.self.inside.chapter) c.self.invariant.is.legal c.in_ok-to.to.items c.arrive.new.arrived.items (shown_is g p))
+    let p = (goal.at.deliver-requires-clause-known g c).After-as_slice-5 in
+    rw (stamped_is g p, c.self.invariant.boxed.count) (arrived-clients c.self.inside.grid (history_of c.self.inside.chapter) c.self.invariant.is.legal c.in_ok-step.step.to.items c.arrive.new.arrived.items (shown_is g p))
 
 pub deliver-requires-clause-on_map : goal.deliver-requires-clause-on_map
 deliver-requires-clause-on_map g c =
-    let p = (goal.at.deliver-requires-clause-on_map g c).After-as_slice-7 in
-    rw (stamped_is g p, c.as_slice-7.ensures.value, robots_is g (goal.at.deliver-requires-clause-on_map g c).After-len-2) (arrived-robots c.self.inside.grid (history_of c.self.inside.chapter) c.self.invariant.is.legal c.in_ok-to.to.items c.arrive.new.arrived.items (shown_is g p))
+    let p = (goal.at.deliver-requires-clause-on_map g c).After-as_slice-5 in
+    rw (stamped_is g p, c.as_slice-5.ensures.value, robots_is g (goal.at.deliver-requires-clause-on_map g c).After-len-2) (arrived-robots c.self.inside.grid (history_of c.self.inside.chapter) c.self.invariant.is.legal c.in_ok-step.step.to.items c.arrive.new.arrived.items (shown_is g p))
 
 pub deliver-requires-clause-small : goal.deliver-requires-clause-small
 deliver-requires-clause-small g c j l =
-    let p = (goal.at.deliver-requires-clause-small g c).After-as_slice-7 in
+    let p = (goal.at.deliver-requires-clause-small g c).After-as_slice-5 in
     let k = c.self.invariant in
     let h = history_of c.self.inside.chapter in
-    omega (arith, ap length (stamped_is g p), arrived-few c.self.inside.grid h k.is.legal c.in_ok-to.to.items c.arrive.new.arrived.items (shown_is g p), noticed-of k.boxed j (omega (arith, k.boxed.count)), noticed-small k.within c.self.inside.grid k.is.legal j (omega (arith, k.boxed.count)))
+    omega (arith, ap length (stamped_is g p), arrived-few c.self.inside.grid h k.is.legal c.in_ok-step.step.to.items c.arrive.new.arrived.items (shown_is g p), noticed-of k.boxed j (omega (arith, k.boxed.count)), noticed-small k.within c.self.inside.grid k.is.legal j (omega (arith, k.boxed.count)))
 
 pub deliver-requires-clause-room : goal.deliver-requires-clause-room
 deliver-requires-clause-room g c j l =
-    let p = (goal.at.deliver-requires-clause-room g c).After-as_slice-7 in
+    let p = (goal.at.deliver-requires-clause-room g c).After-as_slice-5 in
     let k = c.self.invariant in
     let h = history_of c.self.inside.chapter in
-    rw (stamped_is g p) (omega (arith, k.boxed.room j (omega (arith, k.boxed.count)), arrived-owed c.self.inside.grid h k.is.legal c.in_ok-to.to.items c.arrive.new.arrived.items (shown_is g p) j))
+    rw (stamped_is g p) (omega (arith, k.boxed.room j (omega (arith, k.boxed.count)), arrived-owed c.self.inside.grid h k.is.legal c.in_ok-step.step.to.items c.arrive.new.arrived.items (shown_is g p) j))
 
 pub enter_tick-requires : goal.enter_tick-requires
 enter_tick-requires g c =
     let k = c.self.invariant in
     let h = history_of c.self.inside.chapter in
-    let p = (goal.at.enter_tick-requires g c).After-as_slice-7 in
+    let p = (goal.at.enter_tick-requires g c).After-as_slice-5 in
     let q = (goal.at.enter_tick-requires g c).After-len-2 in
     record {
       arrived = c.arrive.new.arrived.items;
@@ -175,41 +167,41 @@ enter_tick-requires g c =
         floor = c.self.inside.grid;
         history = h;
         is = k.is;
-        fits = rw c.as_slice-8.ensures.value (fits_is g p q);
+        fits = rw c.as_slice-6.ensures.value (fits_is g p q);
         early = omega (arith, k.within.clock, k.within.valid.clock.1);
         few = omega (arith, k.within.entries, k.within.valid.chapter.1);
       };
     }
 
-next_is : (g : _) (c : After-add g) (p : After-as_slice-7 g) → IsTickAfter c.self.inside.grid (history_of c.self.inside.chapter) c.in_ok-to.to.items c.arrive.new.arrived.items c.take_leave.new.leaving.items →
-    IsStateOf c.self.inside.grid (after (history_of c.self.inside.chapter) (entry.Tick c.in_ok-to.to.items c.arrive.new.arrived.items c.take_leave.new.leaving.items)) c.enter_tick.new.self
+next_is : (g : _) (c : After-add g) (p : After-as_slice-5 g) → IsTickAfter c.self.inside.grid (history_of c.self.inside.chapter) c.in_ok-step.step.to.items c.arrive.new.arrived.items c.take_leave.new.leaving.items →
+    IsStateOf c.self.inside.grid (after (history_of c.self.inside.chapter) (entry.Tick c.in_ok-step.step.to.items c.arrive.new.arrived.items c.take_leave.new.leaving.items)) c.enter_tick.new.self
 next_is g c p fits =
     let h = history_of c.self.inside.chapter in
-    subst (λ to. IsStateOf c.self.inside.grid (after h (entry.Tick to c.arrive.new.arrived.items c.take_leave.new.leaving.items)) c.enter_tick.new.self) c.as_slice-8.ensures.value
-    (c.enter_tick.ensures.follows c.arrive.new.arrived.items c.take_leave.new.leaving.items c.self.inside.grid h c.self.invariant.is (subst (λ to. IsTickAfter c.self.inside.grid h to c.arrive.new.arrived.items c.take_leave.new.leaving.items) (sym c.as_slice-8.ensures.value) fits))
+    subst (λ to. IsStateOf c.self.inside.grid (after h (entry.Tick to c.arrive.new.arrived.items c.take_leave.new.leaving.items)) c.enter_tick.new.self) c.as_slice-6.ensures.value
+    (c.enter_tick.ensures.follows c.arrive.new.arrived.items c.take_leave.new.leaving.items c.self.inside.grid h c.self.invariant.is (subst (λ to. IsTickAfter c.self.inside.grid h to c.arrive.new.arrived.items c.take_leave.new.leaving.items) (sym c.as_slice-6.ensures.value) fits))
 
 -- the report's clock is that of the tick
 clock_is : (g : _) (c : After-add g) → c.of-report.result.tick ≡ clock (history_of c.self.inside.chapter) + 1
 clock_is g c =
     ap (λ (r : TickReport). r.tick) c.of-report.ensures ∙ ap (λ n. n + 1) (c.clock.ensures.of c.self.inside.grid (history_of c.self.inside.chapter) c.self.invariant.is)
 
-planned_is : (g : _) (c : After-add g) → IsPlanned c.self.inside.grid c.self.inside.ties.items (history_of c.self.inside.chapter) c.in_ok-to.to.items
+planned_is : (g : _) (c : After-add g) → IsPlanned c.self.inside.grid c.self.inside.ties.items (history_of c.self.inside.chapter) c.in_ok-step.step.to.items
 planned_is g c =
     let k = c.self.invariant in
     let laws : map (λ h. h.law) c.args.ties.now ≡ c.self.inside.ties.items = c.requires.ties ∙ ap (λ w. w.ties) (sym c.self.view_is) in
-    rw (laws, waits-of k.is, k.aimed.aimed, cells-of k.is) at c.in_ok-to.ensures.planned
+    rw (laws, waits-of k.is, k.aimed.aimed, cells-of k.is) at c.in_ok-step.ensures.planned
 
-delivered_is : (g : _) (c : After-add g) (p : After-as_slice-7 g) → AreDelivered c.arrive.new.arrived.items c.in_ok-to.to.items c.of-report.result.tick c.self.inside.mailboxes c.deliver.new.self
+delivered_is : (g : _) (c : After-add g) (p : After-as_slice-5 g) → AreDelivered c.arrive.new.arrived.items c.in_ok-step.step.to.items c.of-report.result.tick c.self.inside.mailboxes c.deliver.new.self
 delivered_is g c p =
-    subst (λ xs. AreDelivered xs c.in_ok-to.to.items c.of-report.result.tick c.self.inside.mailboxes c.deliver.new.self) c.as_slice-6.ensures.value
-    (subst (λ to. AreDelivered c.as_slice-6.result.now to c.of-report.result.tick c.self.inside.mailboxes c.deliver.new.self) c.as_slice-7.ensures.value c.deliver.ensures)
+    subst (λ xs. AreDelivered xs c.in_ok-step.step.to.items c.of-report.result.tick c.self.inside.mailboxes c.deliver.new.self) c.as_slice-4.ensures.value
+    (subst (λ to. AreDelivered c.as_slice-4.result.now to c.of-report.result.tick c.self.inside.mailboxes c.deliver.new.self) c.as_slice-5.ensures.value c.deliver.ensures)
 
 pub invariant_of-self-2 : goal.invariant_of-self-2
 invariant_of-self-2 g c =
     let k = c.self.invariant in
     let h = history_of c.self.inside.chapter in
     let a = (goal.at.invariant_of-self-2 g c).After-add in
-    let p = (goal.at.invariant_of-self-2 g c).After-as_slice-7 in
+    let p = (goal.at.invariant_of-self-2 g c).After-as_slice-5 in
     let q = (goal.at.invariant_of-self-2 g c).After-len-2 in
     let fits = fits_is g p q in
     let next = next_is g a p fits in
@@ -217,15 +209,15 @@ invariant_of-self-2 g c =
     let early : clock h < c.self.inside.limits.clock = subst (λ w. clock w.history < w.limits.clock) (sym c.self.view_is) (c.if-is_spent.ensures.early refl) in
     let shows = shown_is g p in
     let tick = clock_is g a in
-    rw (c.add.ensures, c.reserve.ensures.items, c.tick_entry.ensures)
+    rw (c.add.ensures, c.make_ready.ensures.items, c.tick_entry.ensures)
     record {
       is = next;
       room = room-kept k.is next refl c.enter_tick.ensures.rooms k.room;
-      within = within-tick k.within c.in_ok-to.to.items c.arrive.new.arrived.items c.take_leave.new.leaving.items few early;
-      boxed = boxes-tick k.is.legal k.boxed c.in_ok-to.to.items c.arrive.new.arrived.items c.take_leave.new.leaving.items c.of-report.result.tick tick (delivered_is g a p) shows;
-      aimed = aimed-tick k.is k.aimed c.in_ok-to.to.items c.arrive.new.arrived.items c.take_leave.new.leaving.items shows (rw c.as_slice-3.ensures.value at c.in_ok-turn.ensures.goals ∙ refl) c.turn.ensures.on
-          (c.turn.ensures.size ∙ ap (λ (x : Planner). x.size) c.plan.ensures.same) (c.turn.ensures.bridge ∙ ap (λ (x : Planner). x.bridgeless) c.plan.ensures.same) c.turn.ensures.keeps;
-      tied = record { count = k.tied.count; planned = each_tick-tick (IsPlanned c.self.inside.grid c.self.inside.ties.items) h c.in_ok-to.to.items c.arrive.new.arrived.items c.take_leave.new.leaving.items k.tied.planned (planned_is g a) };
+      within = within-tick k.within c.in_ok-step.step.to.items c.arrive.new.arrived.items c.take_leave.new.leaving.items few early;
+      boxed = boxes-tick k.is.legal k.boxed c.in_ok-step.step.to.items c.arrive.new.arrived.items c.take_leave.new.leaving.items c.of-report.result.tick tick (delivered_is g a p) shows;
+      aimed = aimed-tick k.is k.aimed c.in_ok-step.step.to.items c.arrive.new.arrived.items c.take_leave.new.leaving.items shows (rw c.as_slice.ensures.value at c.in_ok-make_ready.ensures.goals ∙ refl) c.make_ready.ensures.on
+          (c.make_ready.ensures.size ∙ ap (λ (x : Planner). x.size) c.step_of.ensures.same) (c.make_ready.ensures.bridge ∙ ap (λ (x : Planner). x.bridgeless) c.step_of.ensures.same) c.make_ready.ensures.keeps;
+      tied = record { count = k.tied.count; planned = each_tick-tick (IsPlanned c.self.inside.grid c.self.inside.ties.items) h c.in_ok-step.step.to.items c.arrive.new.arrived.items c.take_leave.new.leaving.items k.tied.planned (planned_is g a) };
       bounded = k.bounded;
     }
 
@@ -234,23 +226,23 @@ returns-clause-ok g c =
     let k = c.self.invariant in
     let h = history_of c.self.inside.chapter in
     let a = (goal.at.returns-clause-ok g c).After-add in
-    let p = (goal.at.returns-clause-ok g c).After-as_slice-7 in
+    let p = (goal.at.returns-clause-ok g c).After-as_slice-5 in
     let q = (goal.at.returns-clause-ok g c).After-len-2 in
     let tick = clock_is g a in
     rw (← c.self.view_is)
     record {
-      to = c.in_ok-to.to.items;
+      to = c.in_ok-step.step.to.items;
       arrived = c.arrive.new.arrived.items;
       farewells = c.take_leave.new.leaving.items;
       fits = fits_is g p q;
       planned = planned_is g a;
       advancing = λ none. planned-advances c.self.inside.grid c.self.inside.ties.items _ _ _ _ none (planned_is g a);
-      world = rw (c.add.ensures, c.reserve.ensures.items, c.tick_entry.ensures)
-          (ap (λ b. record { floor = c.self.inside.grid; limits = c.self.inside.limits; ties = c.self.inside.ties.items; number = c.self.inside.chapter.number; history = after h (entry.Tick c.in_ok-to.to.items c.arrive.new.arrived.items c.take_leave.new.leaving.items); mailboxes = b })
-          (ticked-boxes k.is.legal k.boxed c.in_ok-to.to.items c.arrive.new.arrived.items c.take_leave.new.leaving.items c.of-report.result.tick tick (delivered_is g a p)));
+      world = rw (c.add.ensures, c.make_ready.ensures.items, c.tick_entry.ensures)
+          (ap (λ b. record { floor = c.self.inside.grid; limits = c.self.inside.limits; ties = c.self.inside.ties.items; number = c.self.inside.chapter.number; history = after h (entry.Tick c.in_ok-step.step.to.items c.arrive.new.arrived.items c.take_leave.new.leaving.items); mailboxes = b })
+          (ticked-boxes k.is.legal k.boxed c.in_ok-step.step.to.items c.arrive.new.arrived.items c.take_leave.new.leaving.items c.of-report.result.tick tick (delivered_is g a p)));
       tick = tick;
-      arrived_count = omega (arith, ap (λ (r : TickReport). r.arrived) c.of-report.ensures, c.len.ensures, c.in_ok-arrived.arrived.ok.0, sym (length-map c.arrive.new.arrived.items due_of) ∙ ap length c.arrive.ensures.shows ∙ length-map c.in_ok-arrived.arrived.items due_of);
-      farewell_count = omega (arith, ap (λ (r : TickReport). r.farewells) c.of-report.ensures, c.len-2.ensures, c.in_ok-leaving.leaving.ok.0, sym (length-map c.take_leave.new.leaving.items (λ (b : Bye). b.robot)) ∙ ap length c.take_leave.ensures.robots ∙ length-map c.in_ok-leaving.leaving.items (λ (b : Bye). b.robot));
+      arrived_count = omega (arith, ap (λ (r : TickReport). r.arrived) c.of-report.ensures, c.len.ensures, c.in_ok-step.step.arrived.ok.0, sym (length-map c.arrive.new.arrived.items due_of) ∙ ap length c.arrive.ensures.shows ∙ length-map c.in_ok-step.step.arrived.items due_of);
+      farewell_count = omega (arith, ap (λ (r : TickReport). r.farewells) c.of-report.ensures, c.len-2.ensures, c.in_ok-step.step.leaving.ok.0, sym (length-map c.take_leave.new.leaving.items (λ (b : Bye). b.robot)) ∙ ap length c.take_leave.ensures.robots ∙ length-map c.in_ok-step.step.leaving.items (λ (b : Bye). b.robot));
     }
 
 pub returns-clause-farewells : goal.returns-clause-farewells
@@ -258,12 +250,12 @@ returns-clause-farewells g c =
     let k = c.self.invariant in
     let h = history_of c.self.inside.chapter in
     let a = (goal.at.returns-clause-farewells g c).After-add in
-    let p = (goal.at.returns-clause-farewells g c).After-as_slice-7 in
+    let p = (goal.at.returns-clause-farewells g c).After-as_slice-5 in
     let q = (goal.at.returns-clause-farewells g c).After-len-2 in
     let leaves = leaves_is g q c.arrive.new.arrived.items c.take_leave.new.leaving.items (shown_is g p) in
     let spent = c.take_leave.ensures.spent in
-    rw (c.add.ensures, c.reserve.ensures.items, c.tick_entry.ensures)
-    (farewells-tick c.self.inside.grid h k.is.legal c.in_ok-to.to.items c.arrive.new.arrived.items (shown_is g p) c.take_leave.new.leaving.items c.in_ok-leaving.leaving.items leaves (spare_laws c.args.farewells.now.items) (spare_is g q)
+    rw (c.add.ensures, c.make_ready.ensures.items, c.tick_entry.ensures)
+    (farewells-tick c.self.inside.grid h k.is.legal c.in_ok-step.step.to.items c.arrive.new.arrived.items (shown_is g p) c.take_leave.new.leaving.items c.in_ok-step.step.leaving.items leaves (spare_laws c.args.farewells.now.items) (spare_is g q)
     (spare_laws c.take_leave.new.farewells.items) spent
     (omega (
       arith,
@@ -273,3 +265,39 @@ returns-clause-farewells g c =
       c.take_leave.new.farewells.ok.0,
       c.take_leave.ensures.count,
     )))
+
+pub returns-then-is_spent : goal.returns-then-is_spent
+returns-then-is_spent g c =
+    let spent = c.if-is_spent.ensures.spent refl in
+    record {
+      clock_spent = (λ e. spent, λ q. refl);
+      chapter_full = (λ e. cc, λ p. absurd (omega (arith, p.0, spent)));
+      early = tt;
+      entries = tt;
+      ok = tt;
+      err = refl;
+      farewells = c.requires.farewells;
+    }
+
+pub returns-then-is_full : goal.returns-then-is_full
+returns-then-is_full g c =
+    let early = c.if-is_spent.ensures.early refl in
+    let full = c.if-is_full.ensures.full refl in
+    record {
+      clock_spent = (λ e. cc, λ q. absurd (omega (arith, q, early)));
+      chapter_full = (λ e. (early, full), λ p. refl);
+      early = tt;
+      entries = tt;
+      ok = tt;
+      err = refl;
+      farewells = c.requires.farewells;
+    }
+
+pub returns-clause-clock_spent : goal.returns-clause-clock_spent
+returns-clause-clock_spent g c = let early = c.if-is_spent.ensures.early refl in (λ e. cc, λ q. absurd (omega (arith, q, early)))
+
+pub returns-clause-chapter_full : goal.returns-clause-chapter_full
+returns-clause-chapter_full g c = let room = c.if-is_full.ensures.room refl in (λ e. cc, λ p. absurd (omega (arith, p.1, room)))
+
+pub step_of-requires-clause-may : goal.step_of-requires-clause-may
+step_of-requires-clause-may g c = record { history = history_of c.self.inside.chapter; is = c.self.invariant.is; aimed = c.self.invariant.aimed }

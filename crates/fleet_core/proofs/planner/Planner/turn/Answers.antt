@@ -1,5 +1,4 @@
 use Rattle.std.proofs.Common.{arith, ◌∙◌, List, length, ap, sym, subst}
-use Rattle.std.specs.Prelude.{Ok, Err, Result, OnOk}
 use Rattle.fleet_goals.specs.Aims.{goals_of}
 use Rattle.fleet_goals.specs.Turned.{turned}
 use Rattle.fleet_goals.specs.declared.turns.Turn.{Turn}
@@ -7,6 +6,7 @@ use Rattle.fleet_state.proofs.Parts.{queue-count, robots-few}
 use Rattle.fleet_core.specs.Aimed.{IsAimed}
 use Rattle.fleet_core.proofs.Goaled.{aims-count}
 use Rattle.fleet_core.proofs.Turning.{turns-few, turns-known, turns-floor, turned-goals}
+use Rattle.fleet_core.proofs.Refused.{on_ok_map}
 use Rattle.fleet_core.proofs.planner.Planner.turn.Goals as goal
 
 pub put_turns-requires-clause-few : goal.put_turns-requires-clause-few
@@ -42,10 +42,6 @@ pub turn-requires-clause-on : goal.turn-requires-clause-on
 turn-requires-clause-on g c =
     let may = c.requires.may in
     let a = subst (IsAimed c.args.grid.now may.history) (sym c.self.view_is) may.aimed in a.on
-
-on_ok_map : {X E : Type 0} {P Q : Type 0} (r : Result X E) → (P → Q) → OnOk r P → OnOk r Q
-on_ok_map (Ok x) f p = f p
-on_ok_map (Err e) f p = tt
 
 pub returns-clause-goals : goal.returns-clause-goals
 returns-clause-goals g c =
