@@ -1,6 +1,7 @@
 //! The worked maps, small maps beside a plain search, large maps, and each growth refused in turn.
 
 use crate::floor::grid_of;
+use crate::squares::{Shape, letters};
 use fleet_bridge::{first_bridge, is_bridge};
 use fleet_grid::{Dir, Grid};
 use refusing::Refusing;
@@ -10,46 +11,46 @@ use std::test::Fail;
 
 /// The first bridge of a map whose letters fill its sides.
 fn first_of(
-    rt: &impl Abort,
     alloc: Global,
     height: u32,
     width: u32,
     cells: &[u8],
 ) -> Result<Option<(u32, u32)>, Fail> {
-    let grid = grid_of(rt, alloc, height, width, cells)?;
+    let grid = grid_of(alloc, height, width, cells)?;
     Ok(first_bridge(alloc, &grid)?)
 }
 
+/// Maps by their sides and letters, and their first bridge.
+const MAPS: [(u32, u32, &[u8], Option<(u32, u32)>); 4] = [
+    // full_cycle
+    (2, 2, b"....", None),
+    // corridor_standoff
+    (1, 3, b"...", Some((0, 1))),
+    // failed_push
+    (2, 3, b"..@...", Some((4, 5))),
+    // ring_of_eight
+    (3, 3, b"....@....", None),
+];
+
 #[test]
-fn full_cycle(rt: HostRuntime) -> Result<(), Fail> {
-    assert!(rt; first_of(&rt, rt.alloc(), 2, 2, b"....")? == None);
+fn worked_maps(rt: HostRuntime) -> Result<(), Fail> {
+    for (height, width, cells, first) in MAPS {
+        assert!(rt; first_of(rt.alloc(), height, width, cells)? == first);
+    }
     Ok(())
 }
 
-#[test]
-fn corridor_standoff(rt: HostRuntime) -> Result<(), Fail> {
-    assert!(rt; first_of(&rt, rt.alloc(), 1, 3, b"...")? == Some((0, 1)));
-    Ok(())
-}
-
-fn tail_is_the_bridge(rt: &impl Abort, alloc: Global, grid: &Grid) -> Result<(), Fail> {
-    assert!(rt; first_bridge(alloc, grid)? == Some((4, 5)));
-    assert!(rt; edge_is_bridge(alloc, grid, 0, Dir::East)? == Some(false));
-    assert!(rt; edge_is_bridge(alloc, grid, 5, Dir::West)? == Some(true));
+fn check_edges(rt: &impl Abort, alloc: Global, grid: &Grid) -> Result<(), Fail> {
+    for (cell, dir, is_bridge) in [(0, Dir::East, false), (5, Dir::West, true)] {
+        assert!(rt; edge_is_bridge(alloc, grid, cell, dir)? == Some(is_bridge));
+    }
     Ok(())
 }
 
 #[test]
 fn failed_push(rt: HostRuntime) -> Result<(), Fail> {
-    let grid = grid_of(&rt, rt.alloc(), 2, 3, b"..@...")?;
-    tail_is_the_bridge(&rt, rt.alloc(), &grid)
-}
-
-#[test]
-fn ring_of_eight(rt: HostRuntime) -> Result<(), Fail> {
-    let grid = grid_of(&rt, rt.alloc(), 3, 3, b"....@....")?;
-    assert!(rt; first_bridge(rt.alloc(), &grid)? == None);
-    Ok(())
+    let grid = grid_of(rt.alloc(), 2, 3, b"..@...")?;
+    check_edges(&rt, rt.alloc(), &grid)
 }
 
 /// Whether the edge in that direction is a bridge; none where no edge leads there.
@@ -91,69 +92,52 @@ fn is_as_searched(alloc: Global, grid: &Grid) -> Result<bool, Fail> {
 }
 
 /// Whether the first bridge of such a map is the one that a search for each edge finds.
-fn is_map_as_searched(
-    rt: &impl Abort,
-    alloc: Global,
-    height: u32,
-    width: u32,
-    cells: &[u8],
-) -> Result<bool, Fail> {
-    let grid = grid_of(rt, alloc, height, width, cells)?;
+fn is_map_as_searched(alloc: Global, height: u32, width: u32, cells: &[u8]) -> Result<bool, Fail> {
+    let grid = grid_of(alloc, height, width, cells)?;
     is_as_searched(alloc, &grid)
 }
 
+/// The sides of small maps, how many cells they have, and how many such maps there are.
+const SIDES: [(u32, u32, u32, u32); 4] = [
+    (3, 3, 9, 512),
+    (2, 5, 10, 1024),
+    (1, 4, 4, 16),
+    (4, 3, 12, 4096),
+];
+
 #[test]
 fn small_maps_beside_the_plain_search(rt: HostRuntime) -> Result<(), Fail> {
-    for (height, width) in [(3u32, 3u32), (2, 5), (1, 4), (4, 3)] {
-        for bits in 0..4096u32 {
-            if bits < 1 << (height * width) {
-                let cells = drawn(rt.alloc(), height * width, bits)?;
-                assert!(rt; is_map_as_searched(&rt, rt.alloc(), height, width, &cells)?);
-            }
+    for (height, width, count, maps) in SIDES {
+        for bits in 0..maps {
+            let cells = drawn(rt.alloc(), count, bits)?;
+            assert!(rt; is_map_as_searched(rt.alloc(), height, width, &cells)?);
         }
     }
     Ok(())
 }
 
-#[test]
-fn large_open_map(rt: HostRuntime) -> Result<(), Fail> {
-    let cells = vec![in rt.alloc(); b'.'; 1048576]?;
-    assert!(rt; first_of(&rt, rt.alloc(), 1024, 1024, &cells)? == None);
-    Ok(())
-}
+/// Maps of 1,024 cells a side, and their first bridge.
+const LARGE: [(Shape, Option<(u32, u32)>); 3] = [
+    (Shape::Open, None),
+    (Shape::Border, None),
+    (Shape::BlockedBorder, Some((0, 1))),
+];
 
-/// The letters of a square map of which the border is floor.
-fn border(alloc: Global, side: u32) -> Result<Vec<u8>, Fail> {
-    let mut cells = Vec::new(alloc);
-    for row in 0..side {
-        for col in 0..side {
-            let is_border = row == 0 || row + 1 == side || col == 0 || col + 1 == side;
-            cells.push(if is_border { b'.' } else { b'@' })?;
-        }
+#[test]
+fn large_maps(rt: HostRuntime) -> Result<(), Fail> {
+    for (shape, first) in LARGE {
+        let cells = letters(rt.alloc(), 1024, shape)?;
+        assert!(rt; first_of(rt.alloc(), 1024, 1024, &cells)? == first);
     }
-    Ok(cells)
-}
-
-fn cut_border(rt: &impl Abort, alloc: Global, cells: &mut [u8]) -> Result<(), Fail> {
-    assert!(rt; first_of(rt, alloc, 1024, 1024, cells)? == None);
-    assert!(rt; cells.len() > 5);
-    cells[5] = b'@';
-    assert!(rt; first_of(rt, alloc, 1024, 1024, cells)? == Some((0, 1)));
     Ok(())
-}
-
-#[test]
-fn large_border(rt: HostRuntime) -> Result<(), Fail> {
-    let mut cells = border(rt.alloc(), 1024)?;
-    cut_border(&rt, rt.alloc(), &mut cells)
 }
 
 /// A ring of 76 cells, and beside cell 200 the cell 201, to which no other way leads.
 fn ring_with_tail<R: Alloc + Abort>(rt: &R, alloc: Global) -> Result<Grid, Fail> {
-    let mut cells = border(alloc, 20)?;
+    let mut cells = letters(alloc, 20, Shape::Border)?;
     assert!(rt; cells.len() > 201);
     cells[201] = b'.';
-    grid_of(rt, alloc, 20, 20, &cells)
+    grid_of(alloc, 20, 20, &cells)
 }
 
 #[test]
@@ -203,6 +187,6 @@ fn refuse_growths_of_ring<R: Alloc<A = Global> + Abort>(rt: &R) -> Result<(), Fa
 #[test]
 fn refused_growths(rt: HostRuntime) -> Result<(), Fail> {
     refuse_growths_of_ring(&rt)?;
-    let grid = grid_of(&rt, rt.alloc(), 2, 3, b"..@...")?;
+    let grid = grid_of(rt.alloc(), 2, 3, b"..@...")?;
     refuse_growths(&rt, &grid, (4, 5))
 }

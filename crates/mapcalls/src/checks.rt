@@ -2,10 +2,11 @@
 
 ghost use Rattle.fleet_grid.specs.Step.{IsPlacement};
 
+use crate::floor::grid_of;
 use crate::placement::is_placement;
+use crate::squares::{Shape, letters};
 use fleet_check::{StepFault, check_step};
 use fleet_grid::Grid;
-use fleet_map::MapText;
 use refusing::Refusing;
 use std::alloc::{AllocError, Allocator, Global};
 use std::process::Abort;
@@ -13,24 +14,13 @@ use std::test::Fail;
 
 /// The map `../..`.
 fn square(alloc: Global) -> Result<Grid, Fail> {
-    let cells = vec![in alloc; b'.'; 4]?;
-    let map = MapText {
-        height: 2,
-        width: 2,
-        cells,
-    };
-    Ok(Grid::new(map)?)
+    grid_of(alloc, 2, 2, b"....")
 }
 
 /// An open map with 32 cells a side.
 fn hall(alloc: Global) -> Result<Grid, Fail> {
-    let cells = vec![in alloc; b'.'; 1024]?;
-    let map = MapText {
-        height: 32,
-        width: 32,
-        cells,
-    };
-    Ok(Grid::new(map)?)
+    let cells = letters(alloc, 32, Shape::Open)?;
+    grid_of(alloc, 32, 32, &cells)
 }
 
 /// Steps of two robots that stand on cells 0 and 1.
@@ -79,13 +69,20 @@ fn change_cells(rt: &impl Abort, alloc: Global, grid: &Grid, from: &[u32], to: &
     assert!(rt; check_step(alloc, grid, from, to) == Err(StepFault::Swap(0, 32)));
 }
 
+fn move_south(rt: &impl Abort, alloc: Global, grid: &Grid, from: &[u32]) -> Result<(), Fail>
+    requires { IsPlacement grid.now from.now }
+{
+    let south = cells_between(alloc, 32, 544)?;
+    assert!(rt; check_step(alloc, grid, from, &south) == Ok(()));
+    Ok(())
+}
+
 fn move_fleet(rt: &impl Abort, alloc: Global, grid: &Grid, from: &[u32]) -> Result<(), Fail>
     requires { IsPlacement grid.now from.now }
 {
     assert!(rt; check_step(alloc, grid, from, from) == Ok(()));
-    let south = cells_between(alloc, 32, 544)?;
-    assert!(rt; check_step(alloc, grid, from, &south) == Ok(()));
-    let mut last = from.to_vec(alloc)?;
+    move_south(rt, alloc, grid, from)?;
+    let mut last = cells_between(alloc, 0, 512)?;
     change_cells(rt, alloc, grid, from, &mut last);
     Ok(())
 }
@@ -147,26 +144,19 @@ fn count_refused(rt: &impl Abort, alloc: Global, grid: &Grid, from: &[u32], to: 
     16
 }
 
-/// How many growths are refused in turn while the first robots move a row to the south.
-fn count_refused_south(
-    rt: &impl Abort,
-    alloc: Global,
-    grid: &Grid,
-    from: &[u32],
-) -> Result<u64, AllocError>
-    requires { IsPlacement grid.now from.now }
-{
+/// How many growths are refused in turn while the first 24 robots move a row to the south.
+fn count_refused_south(rt: &impl Abort, alloc: Global, grid: &Grid) -> Result<u64, Fail> {
+    let from = cells_between(alloc, 0, 24)?;
     let south = cells_between(alloc, 32, 56)?;
-    Ok(count_refused(rt, alloc, grid, from, &south))
+    assert!(rt; is_placement(grid, &from));
+    Ok(count_refused(rt, alloc, grid, &from, &south))
 }
 
 /// A step of 24 robots: the table of seats grows more than once, and each growth is refused in turn.
 #[test]
 fn refused_growths_of_a_fleet(rt: HostRuntime) -> Result<(), Fail> {
     let grid = hall(rt.alloc())?;
-    let from = cells_between(rt.alloc(), 0, 24)?;
-    assert!(rt; is_placement(&grid, &from));
-    let refused = count_refused_south(&rt, rt.alloc(), &grid, &from)?;
+    let refused = count_refused_south(&rt, rt.alloc(), &grid)?;
     assert!(rt; refused >= 2 && refused < 16);
     Ok(())
 }

@@ -20,7 +20,7 @@ use std::thread::Threads;
 fn ring(rt: &impl Abort, alloc: Global) -> Result<Grid, Fail>
     ensures { IfOk result (λ grid. IsFloor grid 0 × IsFloor grid 2 × IsFloor grid 8) }
 {
-    let grid = grid_of(rt, alloc, 3, 3, b"....@....")?;
+    let grid = grid_of(alloc, 3, 3, b"....@....")?;
     assert!(rt; grid.is_floor(0) && grid.is_floor(2) && grid.is_floor(8));
     Ok(grid)
 }
@@ -46,79 +46,79 @@ fn hold<A: Allocator + Copy>(
     Ok(key)
 }
 
-/// The distances of the ring's cells to cell 0. There is no cell 9.
-const AROUND: [Option<u32>; 10] = [
-    Some(0),
-    Some(1),
-    Some(2),
-    Some(1),
-    None,
-    Some(3),
-    Some(2),
-    Some(3),
-    Some(4),
-    None,
+/// The ring's cells and their distances to cell 0. There is no cell 9.
+const AROUND: [(u32, Option<u32>); 10] = [
+    (0, Some(0)),
+    (1, Some(1)),
+    (2, Some(2)),
+    (3, Some(1)),
+    (4, None),
+    (5, Some(3)),
+    (6, Some(2)),
+    (7, Some(3)),
+    (8, Some(4)),
+    (9, None),
 ];
 
-fn distances(field: &Field) -> [Option<u32>; 10] {
-    let mut away = [None; 10];
-    for cell in 0..10 {
-        away[cell] = field.at(cell as u32);
+/// Whether the field has these distances.
+fn is_around(field: &Field) -> bool {
+    for (cell, away) in AROUND {
+        if field.at(cell) != away {
+            return false;
+        }
     }
-    away
+    true
 }
 
-fn distances_alone(alloc: Global, grid: &Grid) -> Result<[Option<u32>; 10], Fail>
+/// Whether a field that is searched alone has these distances.
+fn is_around_alone(alloc: Global, grid: &Grid) -> Result<bool, Fail>
     requires { IsFloor grid.now 0 }
 {
     let field = Field::from(alloc, grid, 0)?;
-    Ok(distances(&field))
+    Ok(is_around(&field))
 }
 
-fn distances_together(
+/// Whether a field that is searched as one of several has these distances.
+fn is_around_together(
     rt: &(impl Abort + Threads + Sync),
     alloc: Global,
     grid: &Grid,
-) -> Result<[Option<u32>; 10], Fail> {
+) -> Result<bool, Fail> {
     assert!(rt; are_floor(grid, &[0]));
     let several = fields(rt, alloc, grid, &[0])?;
     assert!(rt; several.len() == 1);
-    Ok(distances(&several[0]))
+    Ok(is_around(&several[0]))
 }
 
-/// The distances that a store gives for a goal that is held twice.
-fn distances_shared(
-    rt: &impl Abort,
-    store: &mut FieldStore,
-    grid: &Grid,
-) -> Result<[Option<u32>; 10], Fail>
+/// Whether a store gives these distances for a goal that is held twice.
+fn is_around_shared(rt: &impl Abort, store: &mut FieldStore, grid: &Grid) -> Result<bool, Fail>
     requires floor { IsFloor grid.now 0 }
     requires serves { Serves grid.now store.old }
 {
     let first = hold(store, grid, 0)?;
     assert!(rt; hold(store, grid, 0)? == first);
     assert!(rt; store.is_held(first));
-    let mut away = [None; 10];
-    for cell in 0..10 {
-        away[cell] = store.at(first, cell as u32);
+    for (cell, away) in AROUND {
+        if store.at(first, cell) != away {
+            return Ok(false);
+        }
     }
-    Ok(away)
+    Ok(true)
 }
 
-fn distances_held(rt: &impl Abort, alloc: Global, grid: &Grid) -> Result<[Option<u32>; 10], Fail>
+fn is_around_held(rt: &impl Abort, alloc: Global, grid: &Grid) -> Result<bool, Fail>
     requires { IsFloor grid.now 0 }
 {
     let mut store = FieldStore::new(alloc)?;
-    distances_shared(rt, &mut store, grid)
+    is_around_shared(rt, &mut store, grid)
 }
 
 #[test]
 fn ring_distances(rt: HostRuntime) -> Result<(), Fail> {
     let grid = ring(&rt, rt.alloc())?;
-    let alone = distances_alone(rt.alloc(), &grid)?;
-    let together = distances_together(&rt, rt.alloc(), &grid)?;
-    let held = distances_held(&rt, rt.alloc(), &grid)?;
-    assert!(rt; [alone, together, held] == [AROUND; 3]);
+    assert!(rt; is_around_alone(rt.alloc(), &grid)?);
+    assert!(rt; is_around_together(&rt, rt.alloc(), &grid)?);
+    assert!(rt; is_around_held(&rt, rt.alloc(), &grid)?);
     Ok(())
 }
 
@@ -134,16 +134,11 @@ const WAYS: [(u32, u8); 8] = [
     (8, 9),
 ];
 
-fn ways_by_field(rt: &impl Abort, grid: &Grid, field: &Field) {
-    for (cell, ways) in WAYS {
-        assert!(rt; field.ways(grid, cell) == ways);
-    }
-}
-
-fn ways_by_compass(rt: &impl Abort, grid: &Grid, compass: &Compass, field: &Field) {
+fn check_ways(rt: &impl Abort, grid: &Grid, field: &Field, compass: &Compass) {
     assert!(rt; compass.goal() == 0);
     for (cell, ways) in WAYS {
-        assert!(rt; compass.ways(grid, cell) == ways && compass.at(cell) == field.at(cell));
+        assert!(rt; field.ways(grid, cell) == ways && compass.ways(grid, cell) == ways);
+        assert!(rt; compass.at(cell) == field.at(cell));
     }
 }
 
@@ -163,8 +158,7 @@ fn ways_of_searched(rt: &impl Abort, alloc: Global, grid: &Grid) -> Result<(), F
 {
     let field = Field::from(alloc, grid, 0)?;
     let compass = Compass::from(alloc, grid, 0)?;
-    ways_by_field(rt, grid, &field);
-    ways_by_compass(rt, grid, &compass, &field);
+    check_ways(rt, grid, &field, &compass);
     Ok(())
 }
 
@@ -250,12 +244,22 @@ fn goals_around(alloc: Global) -> Result<Vec<u32>, AllocError> {
     Ok(goals)
 }
 
+/// Whether the fields have the same distances.
+fn are_alike(field: &Field, other: &Field) -> bool {
+    for cell in 0..10 {
+        if field.at(cell) != other.at(cell) {
+            return false;
+        }
+    }
+    true
+}
+
 /// Whether the field is the one that a single call makes.
 fn is_like_single(alloc: Global, grid: &Grid, goal: u32, field: &Field) -> Result<bool, AllocError>
     requires { IsFloor grid.now goal }
 {
     let single = Field::from(alloc, grid, goal)?;
-    Ok(field.goal() == goal && distances(field) == distances(&single))
+    Ok(field.goal() == goal && are_alike(field, &single))
 }
 
 fn are_like_singles(

@@ -6,26 +6,30 @@ ghost use Rattle.fleet_grid.specs.Floor.{IsFloor};
 
 use fleet_grid::Grid;
 use fleet_map::MapText;
-use std::alloc::Global;
-use std::process::Abort;
+use std::alloc::{AllocError, Allocator, Global};
 use std::test::Fail;
 
+/// The grid of a map; none where its letters do not fill its sides.
+pub(crate) fn grid_of_text<A: Allocator + Copy>(
+    map: MapText<A>,
+) -> Result<Option<Grid<A>>, AllocError> {
+    if map.height > 1024
+        || map.width > 1024
+        || map.cells.len() != (map.height * map.width) as usize
+    {
+        return Ok(None);
+    }
+    Ok(Some(Grid::new(map)?))
+}
+
 /// The grid of a map whose letters fill its sides.
-pub(crate) fn grid_of(
-    rt: &impl Abort,
-    alloc: Global,
-    height: u32,
-    width: u32,
-    cells: &[u8],
-) -> Result<Grid, Fail> {
-    assert!(rt; height <= 1024 && width <= 1024);
-    assert!(rt; cells.len() == height as usize * width as usize);
+pub(crate) fn grid_of(alloc: Global, height: u32, width: u32, cells: &[u8]) -> Result<Grid, Fail> {
     let map = MapText {
         height,
         width,
         cells: Vec::from_slice(alloc, cells)?,
     };
-    Ok(Grid::new(map)?)
+    Ok(grid_of_text(map)?.ok_or("a map")?)
 }
 
 /// Whether all these cells are floor.

@@ -1,23 +1,13 @@
 //! Maps of known counts and parts, and a refused growth.
 
-use crate::floor::grid_of;
+use crate::floor::{grid_of, grid_of_text};
+use crate::squares::{Shape, letters};
 use fleet_grid::{Dir, FAR, Grid, WALL, place_of};
-use fleet_map::{MapText, read_map};
+use fleet_map::read_map;
 use refusing::Refusing;
-use std::alloc::{Alloc, AllocError, Allocator, Global};
+use std::alloc::{Alloc, Allocator, Global};
 use std::process::Abort;
 use std::test::Fail;
-
-/// The grid of a map whose letters fill its sides.
-fn grid_of_text<A: Allocator + Copy>(map: MapText<A>) -> Result<Option<Grid<A>>, AllocError> {
-    if map.height > 1024
-        || map.width > 1024
-        || map.cells.len() != (map.height * map.width) as usize
-    {
-        return Ok(None);
-    }
-    Ok(Some(Grid::new(map)?))
-}
 
 /// How many cells, floor cells and edges there are.
 fn counts<A: Allocator + Copy>(grid: &Grid<A>) -> [u32; 3] {
@@ -70,30 +60,48 @@ fn check_neighbours(rt: &impl Abort, grid: &Grid) {
     }
 }
 
+fn check_floor(rt: &impl Abort, grid: &Grid) {
+    for (cell, is_floor) in [(3, true), (4, false), (9, false)] {
+        assert!(rt; grid.is_floor(cell) == is_floor);
+    }
+}
+
 #[test]
 fn ring_of_eight(rt: HostRuntime) -> Result<(), Fail> {
-    let grid = grid_of(&rt, rt.alloc(), 3, 3, b"....@....")?;
-    assert!(rt; counts(&grid) == [9, 8, 8]);
-    let floor = [grid.is_floor(3), grid.is_floor(4), grid.is_floor(9)];
-    assert!(rt; floor == [true, false, false]);
+    let grid = grid_of(rt.alloc(), 3, 3, b"....@....")?;
+    check_floor(&rt, &grid);
     check_neighbours(&rt, &grid);
-    assert!(rt; are_joined(&grid, 0, 8) == Some(true));
     Ok(())
 }
 
-#[test]
-fn water_parts_the_floor(rt: HostRuntime) -> Result<(), Fail> {
-    let grid = grid_of(&rt, rt.alloc(), 1, 5, b".W.@.")?;
-    assert!(rt; counts(&grid) == [5, 3, 0]);
-    assert!(rt; are_joined(&grid, 0, 2) == Some(false));
-    Ok(())
+/// Maps by their sides and letters, how many cells, floor cells and edges they have, and whether a walk joins two cells.
+const MAPS: [(u32, u32, &[u8], [u32; 3], (u32, u32), Option<bool>); 3] = [
+    // ring_of_eight
+    (3, 3, b"....@....", [9, 8, 8], (0, 8), Some(true)),
+    // water_parts_the_floor
+    (1, 5, b".W.@.", [5, 3, 0], (0, 2), Some(false)),
+    // map_without_cells
+    (0, 7, b"", [0, 0, 0], (0, 0), None),
+];
+
+/// The counts of a map, and whether a walk joins these two cells.
+fn counted_and_joined(
+    alloc: Global,
+    height: u32,
+    width: u32,
+    cells: &[u8],
+    ends: (u32, u32),
+) -> Result<([u32; 3], Option<bool>), Fail> {
+    let grid = grid_of(alloc, height, width, cells)?;
+    Ok((counts(&grid), are_joined(&grid, ends.0, ends.1)))
 }
 
 #[test]
-fn map_without_cells(rt: HostRuntime) -> Result<(), Fail> {
-    let grid = grid_of(&rt, rt.alloc(), 0, 7, b"")?;
-    assert!(rt; counts(&grid) == [0, 0, 0]);
-    assert!(rt; !grid.is_floor(0));
+fn worked_maps(rt: HostRuntime) -> Result<(), Fail> {
+    for (height, width, cells, counts, ends, joined) in MAPS {
+        let found = counted_and_joined(rt.alloc(), height, width, cells, ends)?;
+        assert!(rt; found == (counts, joined));
+    }
     Ok(())
 }
 
@@ -114,7 +122,7 @@ fn padding(grid: &Grid) -> (u32, [usize; 3]) {
 #[test]
 fn padded_form(rt: HostRuntime) -> Result<(), Fail> {
     assert!(rt; place_of(3, 20, 2) == 22);
-    let grid = grid_of(&rt, rt.alloc(), 1, 3, b".@.")?;
+    let grid = grid_of(rt.alloc(), 1, 3, b".@.")?;
     assert!(rt; padding(&grid) == (20, [60, 2, 58]));
     Ok(())
 }
@@ -122,7 +130,7 @@ fn padded_form(rt: HostRuntime) -> Result<(), Fail> {
 #[test]
 fn ways_from_each_cell(rt: HostRuntime) -> Result<(), Fail> {
     // North is 1, east 2, south 4 and west 8. The wall is beside the first cell, and the last row is open.
-    let grid = grid_of(&rt, rt.alloc(), 2, 3, b".@....")?;
+    let grid = grid_of(rt.alloc(), 2, 3, b".@....")?;
     assert!(rt; grid.ways() == [4, 0, 4, 3, 10, 9].as_slice());
     Ok(())
 }
@@ -139,82 +147,55 @@ fn directions_in_order(rt: HostRuntime) {
     assert!(rt; Dir::ALL == [Dir::North, Dir::East, Dir::South, Dir::West]);
 }
 
-/// The letters of a square map of side 1,024, which a test of row and column gives.
-fn letters<F: Fn(u32, u32) -> bool>(alloc: Global, is_floor: F) -> Result<Vec<u8>, AllocError>
-    requires { F.IsAlwaysCallable is_floor }
-{
-    let mut cells = Vec::with_capacity(alloc, 1024 * 1024)?;
-    for row in 0..1024 {
-        for col in 0..1024 {
-            cells.push(if is_floor(row, col) { b'.' } else { b'@' })?;
+fn first_floor(grid: &Grid) -> Option<u32> {
+    for cell in 0..grid.cell_count() {
+        if grid.is_floor(cell) {
+            return Some(cell);
         }
     }
-    Ok(cells)
+    None
 }
 
-/// The first and the last floor cell, which are in one part.
-fn ends_meet(grid: &Grid) -> bool {
+fn last_floor(grid: &Grid) -> Option<u32> {
     let count = grid.cell_count();
-    let first = (0..count).find(|cell| grid.is_floor(*cell));
-    let last = (0..count).rev().find(|cell| grid.is_floor(*cell));
-    match (first, last) {
+    for behind in 0..count {
+        let cell = count - 1 - behind;
+        if grid.is_floor(cell) {
+            return Some(cell);
+        }
+    }
+    None
+}
+
+/// Whether the first and the last floor cell are in one part.
+fn ends_meet(grid: &Grid) -> bool {
+    match (first_floor(grid), last_floor(grid)) {
         (Some(first), Some(last)) => are_joined(grid, first, last) == Some(true),
         _ => false,
     }
 }
 
 /// How many floor cells and edges a square map of side 1,024 has, and whether its ends meet.
-fn large<R, F>(rt: &R, is_floor: F) -> Result<(u32, u32, bool), Fail>
-where
-    R: Alloc<A = Global> + Abort,
-    F: Fn(u32, u32) -> bool,
-    requires { F.IsAlwaysCallable is_floor }
-{
-    let cells = letters(rt.alloc(), is_floor)?;
-    let grid = grid_of(rt, rt.alloc(), 1024, 1024, &cells)?;
+fn large(alloc: Global, shape: Shape) -> Result<(u32, u32, bool), Fail> {
+    let cells = letters(alloc, 1024, shape)?;
+    let grid = grid_of(alloc, 1024, 1024, &cells)?;
     Ok((grid.floor_count(), grid.edge_count(), ends_meet(&grid)))
 }
 
-#[test]
-fn large_open_map(rt: HostRuntime) -> Result<(), Fail> {
-    let open = large(&rt, |_row, _col| true)?;
-    assert!(rt; open == (1_048_576, 2_095_104, true));
-    Ok(())
-}
+/// Maps of 1,024 cells a side, how many floor cells and edges they have, and whether their ends meet.
+const LARGE: [(Shape, (u32, u32, bool)); 5] = [
+    (Shape::Open, (1_048_576, 2_095_104, true)),
+    (Shape::Border, (4_092, 4_092, true)),
+    (Shape::BlockedBorder, (4_091, 4_090, true)),
+    (Shape::Snake, (512 * 1024 + 512, 512 * 1024 + 511, true)),
+    (Shape::Stripes, (512 * 1024, 512 * 1023, false)),
+];
 
 #[test]
-fn large_border(rt: HostRuntime) -> Result<(), Fail> {
-    let border = large(&rt, |row, col| {
-        row == 0 || row == 1023 || col == 0 || col == 1023
-    })?;
-    assert!(rt; border == (4_092, 4_092, true));
-    Ok(())
-}
-
-#[test]
-fn large_border_blocked_once(rt: HostRuntime) -> Result<(), Fail> {
-    let blocked = large(&rt, |row, col| {
-        (row == 0 || row == 1023 || col == 0 || col == 1023) && (row != 0 || col != 5)
-    })?;
-    assert!(rt; blocked == (4_091, 4_090, true));
-    Ok(())
-}
-
-#[test]
-fn large_snake(rt: HostRuntime) -> Result<(), Fail> {
-    // Each other row is floor, and the rows are joined at alternating ends: one part, one long corridor.
-    let snake = large(&rt, |row, col| {
-        row % 2 == 0 || (row % 4 == 1 && col == 1023) || (row % 4 == 3 && col == 0)
-    })?;
-    assert!(rt; snake == (512 * 1024 + 512, 512 * 1024 + 511, true));
-    Ok(())
-}
-
-#[test]
-fn large_stripes(rt: HostRuntime) -> Result<(), Fail> {
-    // Each other row is floor, and no two are joined.
-    let stripes = large(&rt, |row, _col| row % 2 == 0)?;
-    assert!(rt; stripes == (512 * 1024, 512 * 1023, false));
+fn large_maps(rt: HostRuntime) -> Result<(), Fail> {
+    for (shape, counts) in LARGE {
+        assert!(rt; large(rt.alloc(), shape)? == counts);
+    }
     Ok(())
 }
 

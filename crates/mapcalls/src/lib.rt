@@ -15,3 +15,5 @@ mod grids;
 mod maps;
 #[cfg(test)]
 mod placement;
+#[cfg(test)]
+mod squares;

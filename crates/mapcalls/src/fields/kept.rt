@@ -40,6 +40,11 @@ fn visit<A: Allocator + Copy>(
     Ok(away)
 }
 
+/// Whether the goal's field is kept. It is taken out.
+fn is_kept<A: Allocator + Copy>(shelf: &mut Shelf<A>, goal: u32) -> bool {
+    shelf.take(goal).is_some()
+}
+
 /// Visits cell 0 and then another: how far that is from cell 8, and whether the field of cell 0 is kept then; none where
 /// the first visit is refused.
 fn visit_both<A: Allocator + Copy>(
@@ -57,7 +62,7 @@ fn visit_both<A: Allocator + Copy>(
         return Ok(None);
     };
     let away = visit(store, shelf, grid, other, 8)?;
-    Ok(Some((away, shelf.take(0).is_some())))
+    Ok(Some((away, is_kept(shelf, 0))))
 }
 
 /// Two visits of which one growth is refused, which comes after `before` others.
@@ -107,9 +112,7 @@ fn kept_goes_before_want_of_memory(rt: HostRuntime) -> Result<(), Fail> {
 
 /// Whether the fields of cells 2, 0 and 8 are kept.
 fn take_corners(shelf: &mut Shelf) -> [bool; 3] {
-    let two = shelf.take(2).is_some();
-    let zero = shelf.take(0).is_some();
-    [two, zero, shelf.take(8).is_some()]
+    [is_kept(shelf, 2), is_kept(shelf, 0), is_kept(shelf, 8)]
 }
 
 /// Visits cells 0 and 2, then cell 0 again, and then cell 8.
@@ -196,7 +199,7 @@ fn keep_less(alloc: Global, store: &mut FieldStore, grid: &Grid) -> Result<bool,
     let mut shelf = Shelf::new(alloc, 4096);
     let _kept = visit(store, &mut shelf, grid, 0, 8)?;
     shelf.keep(8);
-    Ok(shelf.take(0).is_some())
+    Ok(is_kept(&mut shelf, 0))
 }
 
 /// Whether a field is kept in too few bytes for one.
@@ -206,7 +209,7 @@ fn keep_none(alloc: Global, store: &mut FieldStore, grid: &Grid) -> Result<bool,
 {
     let mut small = Shelf::new(alloc, 8);
     let _gone = visit(store, &mut small, grid, 2, 8)?;
-    Ok(small.take(2).is_some())
+    Ok(is_kept(&mut small, 2))
 }
 
 fn are_kept(alloc: Global, grid: &Grid) -> Result<[bool; 2], AllocError>

@@ -1,6 +1,7 @@
 //! Distances on a map of 1,024 by 1,024 cells.
 
 use crate::floor::{are_floor, grid_of};
+use crate::squares::{Shape, letters};
 use fleet_field::{Field, fields};
 use fleet_grid::Grid;
 use std::alloc::Global;
@@ -8,9 +9,9 @@ use std::process::Abort;
 use std::test::Fail;
 use std::thread::Threads;
 
-fn open_map(rt: &impl Abort, alloc: Global) -> Result<Grid, Fail> {
-    let cells = vec![in alloc; b'.'; 1048576]?;
-    grid_of(rt, alloc, 1024, 1024, &cells)
+fn open_map(alloc: Global) -> Result<Grid, Fail> {
+    let cells = letters(alloc, 1024, Shape::Open)?;
+    grid_of(alloc, 1024, 1024, &cells)
 }
 
 /// The distance of a cell to cell 0.
@@ -27,7 +28,7 @@ fn distance_from(
 
 #[test]
 fn large_open_map(rt: HostRuntime) -> Result<(), Fail> {
-    let grid = open_map(&rt, rt.alloc())?;
+    let grid = open_map(rt.alloc())?;
     assert!(rt; distance_from(&rt, rt.alloc(), &grid, 1048575)? == Some(2046));
     Ok(())
 }
@@ -49,7 +50,7 @@ fn distances_between(
 
 #[test]
 fn large_map_side_by_side(rt: HostRuntime) -> Result<(), Fail> {
-    let grid = open_map(&rt, rt.alloc())?;
+    let grid = open_map(rt.alloc())?;
     let both = distances_between(&rt, rt.alloc(), &grid, 0, 1048575)?;
     assert!(rt; both == [Some(2046), Some(2046)]);
     Ok(())
