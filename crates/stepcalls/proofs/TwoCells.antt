@@ -1,6 +1,7 @@
--- The map `..` with cell 1 as the goal, over which a test steps.
-use Rattle.std.proofs.Common.{◌≡◌, ℕ, zero, suc, ◌<◌, ◌↔◌, cond, ◌==◌, Some, IsSome, List, [], ◌∷◌, slice_index, refl, subst, arith}
+-- The map `..` with a lone robot, which has no goal or cell 1 as its goal.
+use Rattle.std.proofs.Common.{◌≡◌, ℕ, zero, suc, ◌<◌, ◌↔◌, cond, ◌==◌, Some, None, IsSome, List, [], ◌∷◌, slice_index, refl, subst, arith}
 use Rattle.fleet_grid.specs.Floor.{Floor, floor_of, IsFloor, IsNeighbour}
+use Rattle.fleet_grid.specs.Step.{IsPlacement}
 use Rattle.fleet_grid.specs.Walk.{AreJoined, IsDistance}
 use Rattle.fleet_grid.specs.declared.dir.Dir.TheVariants.{East}
 use Rattle.fleet_grid.proofs.Forms.{floor_inside}
@@ -43,3 +44,23 @@ two-goals m letters e is a w l =
       reached = two-reached a l;
       measured = λ r g c k here floor. two-measured g c here floor;
     })
+
+two-floor : (a : ℕ) → a < 2 → (r : ℕ) → r < 1 → IsFloor two (slice_index (a ∷ []) r)
+two-floor zero l zero m = refl
+two-floor (suc zero) l zero m = refl
+two-floor (suc (suc a)) l zero m = absurd (omega arith)
+two-floor a l (suc r) m = absurd (omega arith)
+
+pub two-placed : (m : Floor) → m ≡ two → (a : ℕ) → a < 2 → IsPlacement m (a ∷ [])
+two-placed m e a l = rw e (record { on_floor = two-floor a l; distinct = λ i j below short. absurd (omega arith) })
+
+idle-waited : (r : ℕ) → r < 1 → IsSome {T = ℕ} None ↔ IsSome (wait_of (None ∷ []) r)
+idle-waited zero l = (λ h. h, λ h. h)
+idle-waited (suc r) l = absurd (omega arith)
+
+pub no-goals : (m : Floor) (a : ℕ) → AreGoals m (a ∷ []) (None ∷ []) (λ r. None) (λ r c. None)
+no-goals m a = record {
+  waited = idle-waited;
+  reached = λ r g l e. cc (e);
+  measured = λ r g c l e floor. cc (e);
+}

@@ -2,30 +2,24 @@
 
 mod allowed;
 
-ghost use Rattle.std.specs.Prelude.{◌≡◌, length};
+ghost use Rattle.std.specs.Prelude.{◌≡◌, ◌<◌, length};
 ghost use Rattle.fleet_field.specs.Store.{Keeps};
 ghost use Rattle.fleet_goals.specs.Aims.{AreOn};
 
+use crate::floor::grid_of;
 use allowed::are_allowed;
 use fleet_field::Shelf;
 use fleet_goals::{Aims, Turn};
 use fleet_grid::Grid;
-use fleet_map::MapText;
 use fleet_pibt::Goals;
 use refusing::Refusing;
 use std::alloc::{AllocError, Allocator, Global};
 use std::process::Abort;
 use std::test::Fail;
-use std::thread::Threads;
 
 /// The map `.../.@./...`.
 fn ring(alloc: Global) -> Result<Grid, Fail> {
-    let map = MapText {
-        height: 3,
-        width: 3,
-        cells: Vec::from_slice(alloc, b"....@....")?,
-    };
-    Ok(Grid::new(map)?)
+    grid_of(alloc, 3, 3, b"....@....")
 }
 
 /// A turn of each of two robots.
@@ -42,9 +36,48 @@ fn both(first: Option<u32>, second: Option<u32>) -> [Turn; 2] {
     ]
 }
 
+/// Gives the robot, one of two, the goal 8.
+fn aim_at_corner<A: Allocator + Copy>(
+    rt: &impl Abort,
+    aims: &mut Aims<A>,
+    shelf: &mut Shelf<A>,
+    grid: &Grid,
+    robot: u32,
+) -> Result<(), AllocError>
+    requires known { robot < 2 }
+    requires robots { length aims.old ≡ 2 }
+    requires on { AreOn grid.now aims.old }
+    requires keeps { Keeps grid.now shelf.old }
+    ensures robots { length aims.new ≡ 2 }
+    ensures on { AreOn grid.now aims.new }
+    ensures keeps { Keeps grid.now shelf.new }
+{
+    assert!(rt; grid.is_floor(8));
+    aims.aim(shelf, grid, robot, 8)
+}
+
+/// Turns two robots.
+fn turn_both<A: Allocator + Copy>(
+    rt: &impl Abort,
+    aims: &mut Aims<A>,
+    shelf: &mut Shelf<A>,
+    grid: &Grid,
+    turns: &[Turn; 2],
+) -> Result<(), AllocError>
+    requires robots { length aims.old ≡ 2 }
+    requires on { AreOn grid.now aims.old }
+    requires keeps { Keeps grid.now shelf.old }
+    ensures robots { length aims.new ≡ 2 }
+    ensures on { AreOn grid.now aims.new }
+    ensures keeps { Keeps grid.now shelf.new }
+{
+    assert!(rt; are_allowed(grid, 2, turns));
+    aims.turn(shelf, grid, turns)
+}
+
 /// Robot 0 is given the goal 8, then robot 1, and then robot 0 is turned to cell 1.
 fn aim_and_turn(
-    rt: &(impl Abort + Threads + Sync),
+    rt: &impl Abort,
     aims: &mut Aims,
     shelf: &mut Shelf,
     grid: &Grid,
@@ -54,16 +87,13 @@ fn aim_and_turn(
     requires keeps { Keeps grid.now shelf.old }
 {
     assert!(rt; (aims.goal(0), aims.at(0, 8)) == (None, None));
-    assert!(rt; grid.is_floor(8));
-    aims.aim(shelf, grid, 0, 8)?;
+    aim_at_corner(rt, aims, shelf, grid, 0)?;
     assert!(rt; (aims.goal(0), aims.goal(1)) == (Some(8), None));
     assert!(rt; [aims.at(0, 0), aims.at(0, 5), aims.at(0, 4)] == [Some(4), Some(1), None]);
     // East and south.
     assert!(rt; (aims.ways(grid, 0, 0), aims.ways(grid, 1, 0)) == (6, 0));
-    aims.aim(shelf, grid, 1, 8)?;
-    let turns = both(Some(1), Some(8));
-    assert!(rt; are_allowed(grid, 2, &turns));
-    aims.turn(shelf, grid, &turns)?;
+    aim_at_corner(rt, aims, shelf, grid, 1)?;
+    turn_both(rt, aims, shelf, grid, &both(Some(1), Some(8)))?;
     assert!(rt; (aims.goal(0), aims.goal(1)) == (Some(1), Some(8)));
     assert!(rt; (aims.at(0, 8), aims.at(1, 1)) == (Some(3), Some(3)));
     Ok(())
@@ -78,9 +108,14 @@ fn aimed_and_turned(rt: HostRuntime) -> Result<(), Fail> {
     Ok(())
 }
 
+/// What robot 0 aims at behind a turn to cell 1, which may be refused.
+fn goal_after(refused: bool) -> u32 {
+    if refused { 8 } else { 1 }
+}
+
 /// Whether a growth is refused while robots are given goals and turned to others. What is refused changes nothing.
 fn is_turn_refused<A: Allocator + Copy>(
-    rt: &(impl Abort + Threads + Sync),
+    rt: &impl Abort,
     aims: &mut Aims<A>,
     shelf: &mut Shelf<A>,
     grid: &Grid,
@@ -89,21 +124,19 @@ fn is_turn_refused<A: Allocator + Copy>(
     requires on { AreOn grid.now aims.old }
     requires keeps { Keeps grid.now shelf.old }
 {
-    assert!(rt; grid.is_floor(8));
-    let first = aims.aim(shelf, grid, 0, 8).is_err();
+    let first = aim_at_corner(rt, aims, shelf, grid, 0).is_err();
     assert!(rt; aims.goal(0).is_none() == first);
-    aims.aim(shelf, grid, 0, 8)?;
+    aim_at_corner(rt, aims, shelf, grid, 0)?;
     let turns = both(Some(1), Some(5));
-    assert!(rt; are_allowed(grid, 2, &turns));
-    let second = aims.turn(shelf, grid, &turns).is_err();
-    assert!(rt; aims.goal(0) == Some(if second { 8 } else { 1 }));
-    aims.turn(shelf, grid, &turns)?;
-    assert!(rt; aims.at(0, 0) == Some(1) && aims.at(1, 8) == Some(1));
+    let second = turn_both(rt, aims, shelf, grid, &turns).is_err();
+    assert!(rt; aims.goal(0) == Some(goal_after(second)));
+    turn_both(rt, aims, shelf, grid, &turns)?;
+    assert!(rt; (aims.at(0, 0), aims.at(1, 8)) == (Some(1), Some(1)));
     Ok(first || second)
 }
 
 fn is_refused(
-    rt: &(impl Abort + Threads + Sync),
+    rt: &impl Abort,
     alloc: Global,
     before: u64,
     grid: &Grid,
@@ -133,7 +166,7 @@ fn refused_growths(rt: HostRuntime) -> Result<(), Fail> {
 /// Turns a robot to the goal that it has, and to none. Where no growth was left behind the goal's own, one here would be
 /// refused.
 fn turn_without_memory<A: Allocator + Copy>(
-    rt: &(impl Abort + Threads + Sync),
+    rt: &impl Abort,
     aims: &mut Aims<A>,
     shelf: &mut Shelf<A>,
     grid: &Grid,
@@ -142,18 +175,14 @@ fn turn_without_memory<A: Allocator + Copy>(
     requires on { AreOn grid.now aims.old }
     requires keeps { Keeps grid.now shelf.old }
 {
-    assert!(rt; grid.is_floor(8));
-    let Ok(()) = aims.aim(shelf, grid, 0, 8) else {
+    let Ok(()) = aim_at_corner(rt, aims, shelf, grid, 0) else {
         return;
     };
-    let same = both(Some(8), None);
-    let none = both(None, None);
-    assert!(rt; are_allowed(grid, 2, &same) && are_allowed(grid, 2, &none));
-    assert!(rt; aims.turn(shelf, grid, &same) == Ok(()));
-    assert!(rt; aims.turn(shelf, grid, &none) == Ok(()));
+    assert!(rt; turn_both(rt, aims, shelf, grid, &both(Some(8), None)).is_ok());
+    assert!(rt; turn_both(rt, aims, shelf, grid, &both(None, None)).is_ok());
 }
 
-fn turn_after(rt: &(impl Abort + Threads + Sync), alloc: Global, before: u64, grid: &Grid) {
+fn turn_after(rt: &impl Abort, alloc: Global, before: u64, grid: &Grid) {
     let heap = Refusing::after(alloc, before);
     let Ok(mut aims) = Aims::new(&heap, 2) else {
         return;

@@ -7,6 +7,7 @@ use fleet_hooks::{
     ArrivalHook, ArrivalView, Farewell, FarewellView, Hooks, StampLaw, TieHook, TieLaw, TieView,
 };
 use std::alloc::AllocError;
+use std::process::Abort;
 use std::sync::Arc;
 use std::sync::atomic::{AtomicU64, Ordering};
 
@@ -16,6 +17,10 @@ const SOUTH_FIRST: TieLaw = TieLaw {
 };
 
 const THOUSAND: StampLaw = StampLaw { low: 0, high: 999 };
+
+const SEVENS: StampLaw = StampLaw { low: 0, high: 7 };
+
+const EIGHTS: StampLaw = StampLaw { low: 0, high: 8 };
 
 const ANY: StampLaw = StampLaw {
     low: 0,
@@ -101,6 +106,11 @@ fn farewell_is_the_closure_s_answer_of_its_one_call(rt: HostRuntime) -> Result<(
     Ok(())
 }
 
+fn check_kept(rt: &impl Abort, kept: &Hooks) {
+    assert!(rt; (kept.ties.len(), kept.arrivals.len(), kept.farewells.len()) == (1, 2, 2));
+    assert!(rt; [kept.arrivals[0].law(), kept.arrivals[1].law()] == [SEVENS, EIGHTS]);
+}
+
 #[test]
 fn cut_keeps_the_first_hooks(rt: HostRuntime) -> Result<(), AllocError> {
     let alloc = rt.alloc();
@@ -115,7 +125,6 @@ fn cut_keeps_the_first_hooks(rt: HostRuntime) -> Result<(), AllocError> {
     }
     hooks.ties.truncate(1);
     let kept = hooks.cut(2);
-    assert!(rt; (kept.ties.len(), kept.arrivals.len(), kept.farewells.len()) == (1, 2, 2));
-    assert!(rt; kept.arrivals.iter().all(|hook| hook.law().high < 9));
+    check_kept(&rt, &kept);
     Ok(())
 }

@@ -2,6 +2,8 @@
 #![tactic(auto)]
 
 #[cfg(test)]
+mod floor;
+#[cfg(test)]
 mod goals;
 #[cfg(test)]
 mod hooks;

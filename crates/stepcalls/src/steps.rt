@@ -1,13 +1,13 @@
 //! Worked orders, the smallest steps, how often a tie closure is asked, and each growth refused in turn. Whole runs are
 //! tested above, over proved distances.
 
-ghost use Rattle.std.specs.Prelude.{◌≡◌, ℕ, ◌↔◌, IsTrue, Option, Some, None, cond, ◌==◌};
-ghost use Rattle.fleet_grid.specs.Floor.{IsNeighbourIn};
+ghost use Rattle.std.specs.Prelude.{◌≡◌, ℕ, ◌↔◌, IsTrue, Option, Some, None, cond, ◌==◌, ◌<◌, [], ◌∷◌, length};
+ghost use Rattle.fleet_grid.specs.Floor.{IsNeighbourIn, floor_of};
 ghost use Rattle.fleet_grid.specs.Ways.{IsLess};
 
+use crate::floor::grid_of;
 use fleet_grid::{Dir, Grid};
 use fleet_hooks::{TieHook, TieLaw, TieView};
-use fleet_map::MapText;
 use fleet_pibt::{Goals, Stepper, order};
 use refusing::Refusing;
 use std::alloc::{AllocError, Allocator};
@@ -95,30 +95,60 @@ fn order_by_wait_then_number(rt: HostRuntime) {
     order(&[], &mut out);
 }
 
-#[test]
-fn idle_robot_stays(rt: HostRuntime) -> Result<(), AllocError> {
-    let alloc = rt.alloc();
-    let grid = Grid::new(MapText {
-        height: 1,
-        width: 2,
-        cells: Vec::from_slice(alloc, b"..")?,
-    })?;
-    let ties = [TieHook::new(ANY, Box::new(alloc, |_view: TieView| 0)?)];
-    let mut stepper = Stepper::new(alloc, 2, 1)?;
+/// Where the idle robot of the map `..` goes from its first cell.
+fn step_idle(grid: &Grid, stepper: &mut Stepper, ties: &[TieHook]) -> u32
+    requires map { grid.now ≡ floor_of 1 2 (46 ∷ 46 ∷ []) }
+    requires tied { length ties.now ≡ 1 }
+    requires made { stepper.old ≡ record { cells = 2; robots = 1 } }
+{
     let mut to = [9];
-    stepper.step(&grid, &[0], &[None], &NoGoals, &ties, 1, &mut to);
-    assert!(rt; to == [0]);
-    Ok(())
+    stepper.step(grid, &[0], &[None], &NoGoals, ties, 1, &mut to);
+    to[0]
 }
 
 #[test]
-fn lone_robot_takes_its_goal(rt: HostRuntime) -> Result<(), AllocError> {
+fn idle_robot_stays(rt: HostRuntime) -> Result<(), Fail> {
     let alloc = rt.alloc();
-    let grid = Grid::new(MapText {
-        height: 1,
-        width: 2,
-        cells: Vec::from_slice(alloc, b"..")?,
-    })?;
+    let grid = grid_of(alloc, 1, 2, b"..")?;
+    let mut stepper = Stepper::new(alloc, 2, 1)?;
+    let ties = [TieHook::new(ANY, Box::new(alloc, |_view: TieView| 0)?)];
+    assert!(rt; step_idle(&grid, &mut stepper, &ties) == 0);
+    Ok(())
+}
+
+/// Where the lone robot of the map `..` goes from this cell, where it has waited so long. Its goal is cell 1.
+fn step_east(
+    grid: &Grid,
+    stepper: &mut Stepper,
+    ties: &[TieHook],
+    from: u32,
+    wait: u64,
+    tick: u64,
+) -> u32
+    requires map { grid.now ≡ floor_of 1 2 (46 ∷ 46 ∷ []) }
+    requires inside { from < 2 }
+    requires tied { length ties.now ≡ 1 }
+    requires made { stepper.old ≡ record { cells = 2; robots = 1 } }
+    ensures { stepper.new ≡ stepper.old }
+{
+    let mut to = [9];
+    stepper.step(
+        grid,
+        &[from],
+        &[Some(wait)],
+        &ToTheEast,
+        ties,
+        tick,
+        &mut to,
+    );
+    to[0]
+}
+
+#[test]
+fn lone_robot_takes_its_goal(rt: HostRuntime) -> Result<(), Fail> {
+    let alloc = rt.alloc();
+    let grid = grid_of(alloc, 1, 2, b"..")?;
+    let mut stepper = Stepper::new(alloc, 2, 1)?;
     let calls = Arc::new(alloc, AtomicU64::new(0))?;
     let counted = Arc::try_clone(&calls)?;
     let asked = move |_view: TieView| {
@@ -126,15 +156,20 @@ fn lone_robot_takes_its_goal(rt: HostRuntime) -> Result<(), AllocError> {
         7
     };
     let ties = [TieHook::new(ANY, Box::new(alloc, asked)?)];
-    let mut stepper = Stepper::new(alloc, 2, 1)?;
-    let mut to = [9];
-    stepper.step(&grid, &[0], &[Some(3)], &ToTheEast, &ties, 1, &mut to);
-    assert!(rt; to == [1]);
+    assert!(rt; step_east(&grid, &mut stepper, &ties, 0, 3, 1) == 1);
     // The tie closure is asked once, about the one neighbour.
     assert!(rt; calls.load(Ordering::SeqCst) == 1);
-    stepper.step(&grid, &[1], &[Some(4)], &ToTheEast, &ties, 2, &mut to);
-    assert!(rt; to == [1]);
+    assert!(rt; step_east(&grid, &mut stepper, &ties, 1, 4, 2) == 1);
     Ok(())
+}
+
+/// Whether a growth is refused while the tables are made. They are made again then.
+fn is_refused(heap: impl Allocator + Copy) -> Result<bool, AllocError> {
+    if Stepper::new(heap, 9, 2).is_ok() {
+        return Ok(false);
+    }
+    let _stepper = Stepper::new(heap, 9, 2)?;
+    Ok(true)
 }
 
 /// Each growth is refused in turn, until the tables are made without a refusal.
@@ -142,14 +177,10 @@ fn lone_robot_takes_its_goal(rt: HostRuntime) -> Result<(), AllocError> {
 fn refused_growths(rt: HostRuntime) -> Result<(), Fail> {
     let mut unrefused = None;
     for before in 0..9 {
-        let heap = Refusing::after(rt.alloc(), before);
-        let met = Stepper::new(&heap, 9, 2).is_err();
-        let later = Stepper::new(&heap, 9, 2);
-        if !met {
+        if !is_refused(&Refusing::after(rt.alloc(), before))? {
             unrefused = Some(before);
             break;
         }
-        let _stepper = later?;
     }
     // Two tables, the queue and what the robots see.
     assert!(rt; unrefused == Some(4));

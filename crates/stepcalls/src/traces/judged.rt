@@ -1,11 +1,10 @@
 //! Traces judged on small maps.
 
-ghost use Rattle.std.specs.Prelude.{◌≤◌};
-
+use crate::floor::grid_of;
 use fleet_grid::Grid;
-use fleet_map::MapText;
 use fleet_trace::{JudgeFault, judge, read_trace};
 use std::alloc::Global;
+use std::process::Abort;
 use std::test::Fail;
 
 /// An errand to the robot's own cell, and its arrival.
@@ -32,40 +31,38 @@ const SHUT: &str =
 const LATE: &str =
     "{\"chapter\":4294967295,\"entries\":[[\"tick\",[1],[[0,0,1,0]],[]],[\"tick\",[1],[],[]]],\"opening\":{\"clients\":[[1,1,1,false]],\"life\":1,\"queue\":65536,\"robots\":[[0,false,18446744073709551615,[[0,1,1]],[0,0],[0,0]]],\"tick\":18446744073709551615},\"version\":2}";
 
-/// A map of so many rows and columns, all floor.
-fn open_map(alloc: Global, height: u32, width: u32) -> Result<Grid, Fail>
-    requires low { height ≤ 2 }
-    requires slim { width ≤ 1024 }
-{
-    let cells = vec![in alloc; b'.'; (height * width) as usize]?;
-    let map = MapText {
-        height,
-        width,
-        cells,
-    };
-    Ok(Grid::new(map)?)
-}
-
 /// What is judged of the trace on a map.
 fn judged(alloc: Global, grid: &Grid, text: &str) -> Result<Result<(), JudgeFault>, Fail> {
     let chapter = read_trace(alloc, text.as_bytes())?;
     Ok(judge(alloc, grid, &chapter))
 }
 
-#[test]
-fn legal_traces(rt: HostRuntime) -> Result<(), Fail> {
-    let dot = open_map(rt.alloc(), 1, 1)?;
-    assert!(rt; judged(rt.alloc(), &dot, ONE_CELL)? == Ok(()));
-    let row = open_map(rt.alloc(), 1, 3)?;
-    for text in [SECOND_CHAPTER, WITHDRAWALS, SHUT, LATE] {
-        assert!(rt; judged(rt.alloc(), &row, text)? == Ok(()));
+/// Legal traces on a row of three cells.
+const LEGAL: [&str; 4] = [SECOND_CHAPTER, WITHDRAWALS, SHUT, LATE];
+
+fn check_legal(
+    rt: &impl Abort,
+    alloc: Global,
+    width: u32,
+    cells: &[u8],
+    texts: &[&str],
+) -> Result<(), Fail> {
+    let row = grid_of(alloc, 1, width, cells)?;
+    for at in 0..texts.len() {
+        assert!(rt; judged(alloc, &row, texts[at])? == Ok(()));
     }
     Ok(())
 }
 
 #[test]
+fn legal_traces(rt: HostRuntime) -> Result<(), Fail> {
+    check_legal(&rt, rt.alloc(), 1, b".", &[ONE_CELL])?;
+    check_legal(&rt, rt.alloc(), 3, b"...", &LEGAL)
+}
+
+#[test]
 fn judged_swap(rt: HostRuntime) -> Result<(), Fail> {
-    let square = open_map(rt.alloc(), 2, 2)?;
+    let square = grid_of(rt.alloc(), 2, 2, b"....")?;
     let fault = Err(JudgeFault::Illegal { at: 1, rule: 4 });
     assert!(rt; judged(rt.alloc(), &square, SWAP)? == fault);
     Ok(())
@@ -87,21 +84,32 @@ fn crowd(alloc: Global, clients: &str) -> Result<String, Fail> {
     Ok(text)
 }
 
+fn judged_crowd(alloc: Global, grid: &Grid, clients: &str) -> Result<Result<(), JudgeFault>, Fail> {
+    let text = crowd(alloc, clients)?;
+    judged(alloc, grid, &text)
+}
+
+/// Clients of a crowd, and what is judged.
+const CROWDS: [(&str, Result<(), JudgeFault>); 2] = [
+    ("[[0,0,0,false]]", Ok(())),
+    (
+        "[[18446744073709551615,18446744073709551615,18446744073709551615,true]]",
+        Err(JudgeFault::Illegal { at: 0, rule: 1 }),
+    ),
+];
+
 #[test]
 fn hostile_openings(rt: HostRuntime) -> Result<(), Fail> {
-    let long = open_map(rt.alloc(), 1, 512)?;
-    let text = crowd(rt.alloc(), "[[0,0,0,false]]")?;
-    assert!(rt; judged(rt.alloc(), &long, &text)? == Ok(()));
-    let most = "[[18446744073709551615,18446744073709551615,18446744073709551615,true]]";
-    let text = crowd(rt.alloc(), most)?;
-    let fault = Err(JudgeFault::Illegal { at: 0, rule: 1 });
-    assert!(rt; judged(rt.alloc(), &long, &text)? == fault);
+    let long = grid_of(rt.alloc(), 1, 512, &[b'.'; 512])?;
+    for (clients, said) in CROWDS {
+        assert!(rt; judged_crowd(rt.alloc(), &long, clients)? == said);
+    }
     Ok(())
 }
 
 #[test]
 fn each_rule(rt: HostRuntime) -> Result<(), Fail> {
-    let row = open_map(rt.alloc(), 1, 3)?;
+    let row = grid_of(rt.alloc(), 1, 3, b"...")?;
     for (text, at, rule) in BROKEN {
         let fault = Err(JudgeFault::Illegal { at, rule });
         assert!(rt; judged(rt.alloc(), &row, text)? == fault);

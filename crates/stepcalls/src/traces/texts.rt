@@ -5,6 +5,7 @@ use fleet_history::{Arrival, Chapter, ClientState, Entry, Opening, RobotState, R
 use fleet_hooks::StampLaw;
 use fleet_trace::{TraceFault, read_trace, write_and_read, write_trace};
 use std::alloc::{AllocError, Global};
+use std::process::Abort;
 use std::test::Fail;
 
 const ONE_CELL: &str =
@@ -176,11 +177,16 @@ const HOSTILE: [(&str, TraceFault); 10] = [
     (FURTHER_KEY, TraceFault::Shape),
 ];
 
+fn check_faults(rt: &impl Abort, alloc: Global, texts: &[(&str, TraceFault)]) {
+    for at in 0..texts.len() {
+        let (text, fault) = texts[at];
+        assert!(rt; fault_of(alloc, text.as_bytes()) == Some(fault));
+    }
+}
+
 #[test]
 fn hostile_traces(rt: HostRuntime) {
-    for (text, fault) in HOSTILE {
-        assert!(rt; fault_of(rt.alloc(), text.as_bytes()) == Some(fault));
-    }
+    check_faults(&rt, rt.alloc(), &HOSTILE);
     assert!(rt; fault_of(rt.alloc(), b"\xff") == Some(TraceFault::NotJson));
 }
 
