@@ -1,0 +1,14 @@
+-- The subcommand `map`.
+use Rattle.std.proofs.Common.{◌∙◌, ap, codes}
+use Rattle.std.proofs.lemmas.Result.{IfOk-weaker}
+use Rattle.clap.specs.Words.{App, with_rule}
+use Rattle.errands_words.specs.Command.{file_rule}
+use Rattle.errands_words.proofs.words.map_command.Goals as goal
+
+pub returns-clause-app : goal.returns-clause-app
+returns-clause-app c =
+    IfOk-weaker c.with_file.result _ _ (λ m h. h ∙ ap (λ (a : App). with_rule a (file_rule (codes "FILE"))) c.subcommand-command.ensures.app) c.with_file.ensures.app
+
+pub returns-clause-own : goal.returns-clause-own
+returns-clause-own c =
+    IfOk-weaker c.with_file.result _ _ (λ m h. h ∙ c.subcommand-command.ensures.own) c.with_file.ensures.own
