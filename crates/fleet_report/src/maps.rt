@@ -9,7 +9,7 @@ use std::alloc::{AllocError, Allocator};
 use std::fmt::{self, Write};
 
 /// The ends of a map's first bridge, where it has one.
-#[derive(Clone, Copy, Debug)]
+#[derive(Clone, Copy)]
 struct BridgeText(Option<(u32, u32)>);
 
 impl fmt::Display for BridgeText {
@@ -24,7 +24,7 @@ impl fmt::Display for BridgeText {
 }
 
 /// What there is to print of a map: its sides, how many floor cells and edges it has, and its first bridge.
-#[derive(Clone, Copy, Debug)]
+#[derive(Clone, Copy)]
 struct MapLines {
     height: u32,
     width: u32,

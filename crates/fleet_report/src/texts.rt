@@ -11,82 +11,86 @@ use fleet_world::{OpenFault, ShutFault, TakeFault, TickFault};
 use std::fmt;
 
 /// A verdict as the program prints it.
-#[derive(Clone, Copy, Debug)]
+#[derive(Clone, Copy)]
 pub(crate) struct VerdictText(pub(crate) Verdict);
 
 impl fmt::Display for VerdictText {
     ghost output = { λ v. Some (verdict_text v.0) };
 
     fn fmt<W: fmt::Write>(&self, f: &mut fmt::Formatter<W>) -> fmt::Result {
-        match self.0 {
-            Verdict::Accepted(number) => write!(f, "accepted {number}"),
-            Verdict::Closed => write!(f, "closed"),
-            Verdict::Withdrawn => write!(f, "withdrawn"),
-            Verdict::ClientClosed => write!(f, "refused 1 client-closed"),
-            Verdict::NoRobot => write!(f, "refused 2 no-robot"),
-            Verdict::RobotShut => write!(f, "refused 3 robot-shut"),
-            Verdict::NoCell => write!(f, "refused 4 no-cell"),
-            Verdict::Blocked => write!(f, "refused 5 blocked"),
-            Verdict::Unreachable => write!(f, "refused 6 unreachable"),
-            Verdict::QueueFull => write!(f, "refused 7 queue-full"),
-            Verdict::LifeSpent => write!(f, "refused 8 life-spent"),
-            Verdict::NoErrand => write!(f, "refused 9 no-errand"),
-            Verdict::TooLate => write!(f, "refused 10 too-late"),
-        }
+        let text = match self.0 {
+            Verdict::Accepted(number) => return write!(f, "accepted {number}"),
+            Verdict::Closed => "closed",
+            Verdict::Withdrawn => "withdrawn",
+            Verdict::ClientClosed => "refused 1 client-closed",
+            Verdict::NoRobot => "refused 2 no-robot",
+            Verdict::RobotShut => "refused 3 robot-shut",
+            Verdict::NoCell => "refused 4 no-cell",
+            Verdict::Blocked => "refused 5 blocked",
+            Verdict::Unreachable => "refused 6 unreachable",
+            Verdict::QueueFull => "refused 7 queue-full",
+            Verdict::LifeSpent => "refused 8 life-spent",
+            Verdict::NoErrand => "refused 9 no-errand",
+            Verdict::TooLate => "refused 10 too-late",
+        };
+        f.write_str(text)
     }
 }
 
 /// Why an order was not taken, as the program prints it.
-#[derive(Clone, Copy, Debug)]
+#[derive(Clone, Copy)]
 pub(crate) struct TakeFaultText(pub(crate) TakeFault);
 
 impl fmt::Display for TakeFaultText {
     ghost output = { λ t. Some (take_fault_text t.0) };
 
     fn fmt<W: fmt::Write>(&self, f: &mut fmt::Formatter<W>) -> fmt::Result {
-        match self.0 {
-            TakeFault::MailboxFull => write!(f, "1 mailbox-full"),
-            TakeFault::ChapterFull => write!(f, "2 chapter-full"),
-            TakeFault::NoMemory => write!(f, "3 no-memory"),
-        }
+        let text = match self.0 {
+            TakeFault::MailboxFull => "1 mailbox-full",
+            TakeFault::ChapterFull => "2 chapter-full",
+            TakeFault::NoMemory => "3 no-memory",
+        };
+        f.write_str(text)
     }
 }
 
 /// Why no tick was made, as the program prints it.
-#[derive(Clone, Copy, Debug)]
+#[derive(Clone, Copy)]
 pub(crate) struct TickFaultText(pub(crate) TickFault);
 
 impl fmt::Display for TickFaultText {
     ghost output = { λ t. Some (tick_fault_text t.0) };
 
     fn fmt<W: fmt::Write>(&self, f: &mut fmt::Formatter<W>) -> fmt::Result {
-        match self.0 {
-            TickFault::ClockSpent => write!(f, "1 clock-spent"),
-            TickFault::ChapterFull => write!(f, "2 chapter-full"),
-            TickFault::NoMemory => write!(f, "3 no-memory"),
-        }
+        let text = match self.0 {
+            TickFault::ClockSpent => "1 clock-spent",
+            TickFault::ChapterFull => "2 chapter-full",
+            TickFault::NoMemory => "3 no-memory",
+        };
+        f.write_str(text)
     }
 }
 
 /// Why a robot was not shut, as the program prints it.
-#[derive(Clone, Copy, Debug)]
+#[derive(Clone, Copy)]
 pub(crate) struct ShutFaultText(pub(crate) ShutFault);
 
 impl fmt::Display for ShutFaultText {
     ghost output = { λ t. Some (shut_fault_text t.0) };
 
     fn fmt<W: fmt::Write>(&self, f: &mut fmt::Formatter<W>) -> fmt::Result {
-        match self.0 {
-            ShutFault::NoRobot => write!(f, "1 no-robot"),
-            ShutFault::Already => write!(f, "2 already"),
-            ShutFault::ChapterFull => write!(f, "3 chapter-full"),
-            ShutFault::NoMemory => write!(f, "4 no-memory"),
-        }
+        let text = match self.0 {
+            ShutFault::NoRobot => "1 no-robot",
+            ShutFault::Already => "2 already",
+            ShutFault::ChapterFull => "3 chapter-full",
+            ShutFault::NoMemory => "4 no-memory",
+        };
+        f.write_str(text)
     }
 }
 
 /// What a notice tells, as the program prints it.
-#[derive(Clone, Copy, Debug)]
+#[derive(Clone, Copy)]
 pub(crate) struct NoticeText(pub(crate) Notice);
 
 impl fmt::Display for NoticeText {
@@ -118,7 +122,7 @@ impl fmt::Display for NoticeText {
 }
 
 /// The line of an arrival at a cell.
-#[derive(Clone, Copy, Debug)]
+#[derive(Clone, Copy)]
 pub(crate) struct ArrivalLine {
     pub(crate) arrival: Arrival,
     pub(crate) cell: u32,
@@ -141,7 +145,7 @@ impl fmt::Display for ArrivalLine {
 }
 
 /// The line of a farewell.
-#[derive(Clone, Copy, Debug)]
+#[derive(Clone, Copy)]
 pub(crate) struct FarewellLine {
     pub(crate) robot: u32,
     pub(crate) stamp: u32,
@@ -158,7 +162,7 @@ impl fmt::Display for FarewellLine {
 }
 
 /// The fault of a map, as the program names it.
-#[derive(Clone, Copy, Debug)]
+#[derive(Clone, Copy)]
 pub(crate) struct MapFaultText(pub(crate) MapFault);
 
 impl fmt::Display for MapFaultText {
@@ -177,37 +181,39 @@ impl fmt::Display for MapFaultText {
 }
 
 /// Why a world was not opened, as the program names it.
-#[derive(Clone, Copy, Debug)]
+#[derive(Clone, Copy)]
 pub(crate) struct OpenFaultText(pub(crate) OpenFault);
 
 impl fmt::Display for OpenFaultText {
     ghost output = { λ t. Some (open_fault_text t.0) };
 
     fn fmt<W: fmt::Write>(&self, f: &mut fmt::Formatter<W>) -> fmt::Result {
-        match self.0 {
-            OpenFault::Limits => write!(f, "1 limits"),
-            OpenFault::NoRobots => write!(f, "2 no-robots"),
-            OpenFault::Start(_) => write!(f, "3 start"),
-            OpenFault::Shared(_, _) => write!(f, "4 shared"),
-            OpenFault::Hooks => write!(f, "5 hooks"),
-            OpenFault::NoMemory => write!(f, "6 no-memory"),
-        }
+        let text = match self.0 {
+            OpenFault::Limits => "1 limits",
+            OpenFault::NoRobots => "2 no-robots",
+            OpenFault::Start(_) => "3 start",
+            OpenFault::Shared(_, _) => "4 shared",
+            OpenFault::Hooks => "5 hooks",
+            OpenFault::NoMemory => "6 no-memory",
+        };
+        f.write_str(text)
     }
 }
 
 /// Why a file tells no trace, as the program names it.
-#[derive(Clone, Copy, Debug)]
+#[derive(Clone, Copy)]
 pub(crate) struct TraceFaultText(pub(crate) TraceFault);
 
 impl fmt::Display for TraceFaultText {
     ghost output = { λ t. Some (trace_fault_text t.0) };
 
     fn fmt<W: fmt::Write>(&self, f: &mut fmt::Formatter<W>) -> fmt::Result {
-        match self.0 {
-            TraceFault::NotJson => write!(f, "1 not-json"),
-            TraceFault::Version => write!(f, "2 version"),
-            TraceFault::Shape => write!(f, "3 shape"),
-            TraceFault::NoMemory => write!(f, "4 no-memory"),
-        }
+        let text = match self.0 {
+            TraceFault::NotJson => "1 not-json",
+            TraceFault::Version => "2 version",
+            TraceFault::Shape => "3 shape",
+            TraceFault::NoMemory => "4 no-memory",
+        };
+        f.write_str(text)
     }
 }
