@@ -1,34 +1,30 @@
-//! `worldbook` plays worked rows through the calls of `World`, one by one, and writes what each call answers and what the world
-//! shows behind it.
+//! `worldbook` plays rows through worlds and writes down what comes of it, in three parts: what each call of `World` answers
+//! and what the world shows behind it, what a run shows its closures, and what each call answers where memory is refused.
 #![tactic(auto)]
 
-mod busy;
-mod play;
-mod row;
-mod show;
+mod answers;
+mod refusals;
+mod site;
+mod views;
 
-use play::play;
-use row::ROWS;
 use std::alloc::{Alloc, AllocError, Global};
-use std::process::ExitCode;
+use std::io;
+use std::thread::Threads;
 
-/// What the rows come to, a line for each call.
-fn tell_all<R: Alloc<A = Global>>(rt: &R) -> Result<String, AllocError> {
-    let mut text = String::new(rt.alloc());
-    for row in &ROWS {
-        text.push_str(play(rt, row)?.as_str())?;
-    }
-    Ok(text)
+/// What each part tells. The rows of refusals stand in the text.
+fn tell_all<R: Alloc<A = Global> + Threads + Sync>(
+    rt: &R,
+    text: &[u8],
+) -> Result<String, AllocError> {
+    let mut told = String::new(rt.alloc());
+    answers::tell(rt, &mut told)?;
+    views::tell(rt, &mut told)?;
+    refusals::tell(rt, text, &mut told)?;
+    Ok(told)
 }
 
-fn main(rt: HostRuntime) -> ExitCode {
-    match tell_all(&rt) {
-        Err(AllocError) => ExitCode::from(7),
-        Ok(text) => {
-            if print!(rt; "{text}").is_err() {
-                return ExitCode::from(3);
-            }
-            ExitCode::SUCCESS
-        }
-    }
+fn main(rt: HostRuntime) -> io::Result<()> {
+    let text = io::read_to_string(rt.alloc(), rt.stdin())?;
+    let told = tell_all(&rt, text.as_bytes())?;
+    print!(rt; "{told}")
 }

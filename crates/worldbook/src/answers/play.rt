@@ -1,42 +1,13 @@
 //! A row through the calls of a world.
 
-use crate::busy::greatest_wait;
-use crate::row::{Call, Row, go};
-use crate::show::{busy_line, give_line, shut_line, take_line, tick_line, world_line};
-use fleet_grid::Grid;
-use fleet_hooks::{
-    ArrivalHook, ArrivalView, Farewell, FarewellView, Hooks, StampLaw, TieHook, TieLaw, TieView,
-};
-use fleet_map::MapText;
+use crate::answers::busy::greatest_wait;
+use crate::answers::row::{Call, Row, go};
+use crate::answers::show::{busy_line, give_line, shut_line, take_line, tick_line, world_line};
+use crate::site::{RANKS, STAMPS, grid_of};
+use fleet_hooks::{ArrivalHook, ArrivalView, Farewell, FarewellView, Hooks, TieHook, TieView};
 use fleet_world::World;
 use std::alloc::{Alloc, AllocError, Global};
 use std::mem;
-
-/// Every robot's law: ranks of any kind.
-const RANKS: TieLaw = TieLaw {
-    low: [0, 0, 0, 0],
-    high: [255, 255, 255, 255],
-};
-
-/// Every robot's law: stamps of any kind.
-const STAMPS: StampLaw = StampLaw {
-    low: 0,
-    high: 4_294_967_295,
-};
-
-/// The row's grid. None where the letters do not fill the sides.
-fn grid_of(alloc: Global, row: &Row) -> Result<Option<Grid>, AllocError> {
-    let (height, width) = row.sides;
-    if height > 1_024 || width > 1_024 || row.letters.len() != height as usize * width as usize {
-        return Ok(None);
-    }
-    let map = MapText {
-        height,
-        width,
-        cells: Vec::from_slice(alloc, row.letters)?,
-    };
-    Ok(Some(Grid::new(map)?))
-}
 
 /// The lines of so many ticks.
 fn ticks<R: Alloc<A = Global>>(
@@ -87,7 +58,7 @@ fn answers<R: Alloc<A = Global>>(
 /// Plays a row: its name, and the lines of its calls.
 pub(crate) fn play<R: Alloc<A = Global>>(rt: &R, row: &Row) -> Result<String, AllocError> {
     let alloc = rt.alloc();
-    let Some(grid) = grid_of(alloc, row)? else {
+    let Some(grid) = grid_of(alloc, row.sides, row.letters)? else {
         return format!(in alloc; "{}: no map\n", row.name);
     };
     let mut hooks = Hooks::new(alloc);

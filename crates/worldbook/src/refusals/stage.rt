@@ -1,6 +1,6 @@
 //! What stands before the first call of a world.
 
-use crate::case::Case;
+use crate::refusals::case::Case;
 use fleet_grid::Grid;
 use fleet_map::{MapFault, read_map};
 use fleet_script::{Script, ScriptFault, read_script};

@@ -1,31 +1,17 @@
 //! A row as a run, with closures that note what they are shown.
 
-use crate::note::Shown;
-use crate::row::Row;
+use crate::site::{RANKS, STAMPS, grid_of};
+use crate::views::note::Shown;
+use crate::views::row::Row;
 use findings::{Finding, Noted};
 use fleet_grid::{Dir, Grid};
-use fleet_hooks::{
-    ArrivalHook, ArrivalView, Farewell, FarewellView, Hooks, StampLaw, TieHook, TieLaw, TieView,
-};
-use fleet_map::MapText;
+use fleet_hooks::{ArrivalHook, ArrivalView, Farewell, FarewellView, Hooks, TieHook, TieView};
 use fleet_world::{Entry, run};
 use std::alloc::{Alloc, AllocError, Global};
 use std::mem;
 use std::sync::Arc;
 use std::sync::atomic::{AtomicU64, Ordering};
 use std::thread::Threads;
-
-/// Every robot's law: ranks of any kind.
-const RANKS: TieLaw = TieLaw {
-    low: [0, 0, 0, 0],
-    high: [255, 255, 255, 255],
-};
-
-/// Every robot's law: stamps of any kind.
-const STAMPS: StampLaw = StampLaw {
-    low: 0,
-    high: 4_294_967_295,
-};
 
 /// The rank of a direction by the robot's own closure: even robots go south first, odd ones west.
 fn rank_of(robot: u32, dir: Dir) -> u8 {
@@ -98,20 +84,6 @@ fn compare(
     Ok(met.beside(wanted))
 }
 
-/// The row's grid. None where the letters do not fill the sides.
-fn grid_of(alloc: Global, row: &Row) -> Result<Option<Grid>, AllocError> {
-    let (height, width) = row.sides;
-    if height > 1_024 || width > 1_024 || row.letters.len() != height as usize * width as usize {
-        return Ok(None);
-    }
-    let map = MapText {
-        height,
-        width,
-        cells: Vec::from_slice(alloc, row.letters)?,
-    };
-    Ok(Some(Grid::new(map)?))
-}
-
 /// Runs a row with these closures, and compares what they noted.
 fn find<R: Alloc<A = Global> + Threads + Sync>(
     rt: &R,
@@ -164,7 +136,7 @@ pub(crate) fn play<R: Alloc<A = Global> + Threads + Sync>(
     row: &Row,
 ) -> Result<Finding, AllocError> {
     let alloc = rt.alloc();
-    let Some(grid) = grid_of(alloc, row)? else {
+    let Some(grid) = grid_of(alloc, row.sides, row.letters)? else {
         return Ok(Finding::NotPlayed);
     };
     let note = Arc::new(alloc, AtomicU64::new(0))?;

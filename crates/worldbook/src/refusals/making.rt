@@ -1,7 +1,7 @@
 //! What a world answers to a call, as text, where it does not want for memory.
 
-use crate::calls::Call;
-use crate::clients::Clients;
+use crate::refusals::calls::Call;
+use crate::refusals::clients::Clients;
 use fleet_trace::write_trace;
 use fleet_world::{ChapterFault, Event, ShutFault, TakeFault, TickFault, World};
 use std::alloc::{Alloc, AllocError, Allocator, Global};

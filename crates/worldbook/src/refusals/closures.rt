@@ -2,11 +2,11 @@
 
 ghost use Rattle.std.specs.Prelude.{◌≡◌};
 
-use crate::calls::Call;
-use crate::case::Case;
-use crate::play::{Played, play_calls};
-use crate::runs::{Run, end_run};
-use crate::stage::{Stage, read};
+use crate::refusals::calls::Call;
+use crate::refusals::case::Case;
+use crate::refusals::play::{Played, play_calls};
+use crate::refusals::runs::{Run, end_run};
+use crate::refusals::stage::{Stage, read};
 use fleet_hooks::{
     ArrivalHook, ArrivalView, Farewell, FarewellView, Hooks, StampLaw, TieHook, TieLaw, TieView,
 };

@@ -1,6 +1,6 @@
 //! Rows of robots under one law, whose closures tell them apart.
 
-use crate::note::Shown;
+use crate::views::note::Shown;
 use fleet_grid::Dir;
 use fleet_hooks::{ArrivalView, FarewellView, TieView};
 use fleet_world::{Event, Limits, Order};

@@ -1,6 +1,6 @@
 //! How often what a row does was refused memory.
 
-use crate::stage::Stage;
+use crate::refusals::stage::Stage;
 use std::alloc::{AllocError, Global};
 use std::fmt::Write;
 

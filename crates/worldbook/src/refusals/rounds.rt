@@ -2,12 +2,12 @@
 
 ghost use Rattle.std.specs.Prelude.{◌≡◌, IsTrue, string_bytes};
 
-use crate::calls::{Call, calls_of};
-use crate::case::Case;
-use crate::closures::play;
-use crate::play::Played;
-use crate::stage::read;
-use crate::tally::{Sheet, tell_end};
+use crate::refusals::calls::{Call, calls_of};
+use crate::refusals::case::Case;
+use crate::refusals::closures::play;
+use crate::refusals::play::Played;
+use crate::refusals::stage::read;
+use crate::refusals::tally::{Sheet, tell_end};
 use std::alloc::{AllocError, Global};
 use std::fmt::Write;
 

@@ -1,6 +1,6 @@
 //! Robots that never rest.
 
-use crate::row::go;
+use crate::answers::row::go;
 use fleet_world::World;
 use std::alloc::{Alloc, Global};
 

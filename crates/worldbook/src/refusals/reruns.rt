@@ -1,11 +1,11 @@
 //! A row by a run, again and again, until no growth is refused.
 
-use crate::case::Case;
-use crate::closures::run_row;
-use crate::rounds::MANY;
-use crate::runs::Run;
-use crate::stage::{Stage, read};
-use crate::tally::{Sheet, Tally, tell_end};
+use crate::refusals::case::Case;
+use crate::refusals::closures::run_row;
+use crate::refusals::rounds::MANY;
+use crate::refusals::runs::Run;
+use crate::refusals::stage::{Stage, read};
+use crate::refusals::tally::{Sheet, Tally, tell_end};
 use findings::Ending;
 use fleet_world::Event;
 use std::alloc::{Alloc, AllocError, Global};

@@ -1,9 +1,9 @@
 //! A row by its world's own calls.
 
-use crate::calls::Call;
-use crate::clients::Clients;
-use crate::making::make;
-use crate::shown::{held, shown};
+use crate::refusals::calls::Call;
+use crate::refusals::clients::Clients;
+use crate::refusals::making::make;
+use crate::refusals::shown::{held, shown};
 use findings::Showing;
 use fleet_trace::write_trace;
 use fleet_world::World;

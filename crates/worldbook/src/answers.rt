@@ -1,0 +1,18 @@
+//! Worked rows through the calls of `World`, one by one: what each call answers, and what the world shows behind it.
+
+mod busy;
+mod play;
+mod row;
+mod show;
+
+use play::play;
+use row::ROWS;
+use std::alloc::{Alloc, AllocError, Global};
+
+/// A line for each call of each row.
+pub(crate) fn tell<R: Alloc<A = Global>>(rt: &R, told: &mut String) -> Result<(), AllocError> {
+    for row in &ROWS {
+        told.push_str(play(rt, row)?.as_str())?;
+    }
+    Ok(())
+}

@@ -1,0 +1,50 @@
+//! Each growth of memory of a world's calls refused in turn, and what each call answered.
+//!
+//! The rows stand in a text. A line `= NAME` begins a row, and a bundle of a map and a script stands behind it. The script is
+//! played twice, by a world's own calls and by a run, over an allocator that refuses one growth: the first, then the second,
+//! until none is refused. Two comments of a script are calls of the world: `#next` begins the next chapter, and
+//! `#widen CLIENT NUMBER` widens the client's mailbox. A row that has them is played by the world's calls alone.
+//!
+//! A line tells what a call answered and how many growths it was refused. It ends with `same` where each refused call showed
+//! and held afterwards what it did before, called no arrival or farewell closure, and answered alike when it was made again.
+
+mod calls;
+mod case;
+mod clients;
+mod closures;
+mod making;
+mod play;
+mod reruns;
+mod rounds;
+mod runs;
+mod shown;
+mod stage;
+mod tally;
+
+use case::next_case;
+use reruns::tell_runs;
+use rounds::tell_calls;
+use std::alloc::{Alloc, AllocError, Global};
+use std::fmt::Write;
+use std::thread::Threads;
+
+/// What is told of each row of the text.
+pub(crate) fn tell<R: Alloc<A = Global> + Threads + Sync>(
+    rt: &R,
+    text: &[u8],
+    told: &mut String,
+) -> Result<(), AllocError> {
+    let mut rest = text;
+    for _row in 0..text.len() {
+        let Some((case, after)) = next_case(rest) else {
+            break;
+        };
+        writeln!(told, "= {}", case.name)?;
+        tell_calls(rt.alloc(), case, told)?;
+        if case.is_run() {
+            tell_runs(rt, case, told)?;
+        }
+        rest = after;
+    }
+    Ok(())
+}
