@@ -45,13 +45,12 @@ fn play_over<A: Allocator + Copy, R: Alloc<A = A>>(
     calls: &[Call],
     last: usize,
 ) -> Result<Result<Played, Stage>, AllocError> {
-    let heap = rt.alloc();
-    let (grid, script) = match read(heap, case) {
+    let (grid, script) = match read(rt.alloc(), case) {
         Ok(read) => read,
         Err(stage) => return Ok(Err(stage)),
     };
     let stamped = Arc::new(alloc, AtomicU64::new(0))?;
-    let mut hooks = Hooks::new(heap);
+    let mut hooks = Hooks::new(rt.alloc());
     for _robot in 0..script.starts.len() {
         let (arrivals, farewells) = (Arc::try_clone(&stamped)?, Arc::try_clone(&stamped)?);
         let tie = |_view: TieView| -> u8
@@ -71,7 +70,7 @@ fn play_over<A: Allocator + Copy, R: Alloc<A = A>>(
         }
     }
     let (starts, clients, limits) = (script.starts, script.clients, script.limits);
-    let mut world = match World::open(heap, grid, starts, clients, limits, hooks) {
+    let mut world = match World::open(rt.alloc(), grid, starts, clients, limits, hooks) {
         Ok(world) => world,
         Err(fault) => return Ok(Err(stage_of(fault))),
     };
