@@ -1,6 +1,6 @@
 //! Seeded maps and scripts.
 
-use crate::random::Random;
+use super::random::Random;
 use std::alloc::{AllocError, Global};
 use std::fmt::Write;
 

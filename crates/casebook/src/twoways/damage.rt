@@ -1,6 +1,6 @@
 //! Damages of a text.
 
-use crate::random::Random;
+use super::random::Random;
 use fleet_map::text::number_up_to;
 use std::alloc::{AllocError, Global};
 

@@ -1,6 +1,6 @@
 //! A later chapter of a world, as the rules reckon its opening.
 
-use crate::fleet::Fleet;
+use super::fleet::Fleet;
 use fleet_history::{Chapter, Opening, RobotState, Row};
 use std::alloc::{AllocError, Global};
 
