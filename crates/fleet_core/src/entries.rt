@@ -133,24 +133,18 @@ impl<A: Allocator + Copy> Core<A> {
             return Err(TickFault::ChapterFull);
         }
         let step = step_of(rt.alloc(), &self.grid, &self.state, &mut self.planner, ties)?;
-        make_ready(
-            &mut self.chapter.entries,
-            &mut self.planner,
-            &self.grid,
-            &self.state,
-            step.to.as_slice(),
-        )?;
+        let room = &mut self.chapter.entries;
+        make_ready(room, &mut self.planner, &self.grid, &self.state, &step.to)?;
         let Step {
             to,
             mut arrived,
             mut leaving,
         } = step;
         let report = TickReport::of(self.state.clock() + 1, arrived.len(), leaving.len());
-        arrive(&mut arrived, arrivals, to.as_slice(), report.tick);
-        take_leave(&mut leaving, farewells, to.as_slice(), report.tick);
-        self.mailboxes
-            .deliver(arrived.as_slice(), to.as_slice(), report.tick);
-        self.state.enter_tick(to.as_slice());
+        arrive(&mut arrived, arrivals, &to, report.tick);
+        take_leave(&mut leaving, farewells, &to, report.tick);
+        self.mailboxes.deliver(&arrived, &to, report.tick);
+        self.state.enter_tick(&to);
         add(&mut self.chapter.entries, tick_entry(to, arrived, leaving));
         Ok(report)
     }

@@ -78,12 +78,8 @@ impl<A: Allocator + Copy> Core<A> {
         requires { CanOpen grid starts.items clients limits laws }
         ensures { IfOk result (λ w. w ≡ opened_world grid starts.items clients limits laws) }
     {
-        let robots = robots_at(
-            alloc,
-            starts.as_slice(),
-            laws.arrivals.as_slice(),
-            laws.farewells.as_slice(),
-        )?;
+        let (arrivals, farewells) = (laws.arrivals.as_slice(), laws.farewells.as_slice());
+        let robots = robots_at(alloc, starts.as_slice(), arrivals, farewells)?;
         let opening = Opening {
             tick: 0,
             queue: limits.queue,

@@ -23,7 +23,7 @@ open-requires-clause-order g c =
     let can : CanOpen c.args.grid c.args.starts.items c.args.clients c.args.limits laws = subst (λ (l : HookLaws). CanOpen c.args.grid c.args.starts.items c.args.clients c.args.limits l) (sym c.laws.view_is) c.requires in
     let o : Opening g.row.A.Denot = opening_of c.args.starts.items c.args.clients c.args.limits laws in
     let known : c.from_vec.result ≡ replicate c.args.clients unknown_client = c.from_vec.ensures ∙ c.in_ok-nobodies.ensures in
-    let robots = c.from_vec-2.ensures ∙ (rw (c.as_slice.ensures.value, c.as_slice-2.ensures.value, c.as_slice-3.ensures.value) at c.in_ok-robots.ensures) in
+    let robots = c.from_vec-2.ensures ∙ (rw (c.as_slice.ensures.value, c.as_slice-arrivals.ensures.value, c.as_slice-farewells.ensures.value) at c.in_ok-robots.ensures) in
     (c.args.grid, rw (known, robots) (legal-opening c.args.grid (start o) (legal-opened c.args.grid c.args.starts.items c.args.clients c.args.limits laws can c.laws.invariant)))
 
 pub open-requires-clause-room : goal.open-requires-clause-room
@@ -31,7 +31,7 @@ open-requires-clause-room g c =
     let laws : HookLaws = record { ties = c.laws.inside.ties.items; arrivals = c.laws.inside.arrivals.items; farewells = c.laws.inside.farewells.items } in
     let can : CanOpen c.args.grid c.args.starts.items c.args.clients c.args.limits laws = subst (λ (l : HookLaws). CanOpen c.args.grid c.args.starts.items c.args.clients c.args.limits l) (sym c.laws.view_is) c.requires in
     let o : Opening g.row.A.Denot = opening_of c.args.starts.items c.args.clients c.args.limits laws in
-    let robots = c.from_vec-2.ensures ∙ (rw (c.as_slice.ensures.value, c.as_slice-2.ensures.value, c.as_slice-3.ensures.value) at c.in_ok-robots.ensures) in
+    let robots = c.from_vec-2.ensures ∙ (rw (c.as_slice.ensures.value, c.as_slice-arrivals.ensures.value, c.as_slice-farewells.ensures.value) at c.in_ok-robots.ensures) in
     let i : IsInOrder c.args.grid o = legal-opening c.args.grid (start o) (legal-opened c.args.grid c.args.starts.items c.args.clients c.args.limits laws can c.laws.invariant) in
     rw robots (λ k d l. (i.robots k d l).room)
 
@@ -42,7 +42,7 @@ invariant_of-result g c =
     let o : Opening g.row.A.Denot = opening_of c.args.starts.items c.args.clients c.args.limits laws in
     let n = length c.args.starts.items in
     let known : c.from_vec.result ≡ replicate c.args.clients unknown_client = c.from_vec.ensures ∙ c.in_ok-nobodies.ensures in
-    let robots = c.from_vec-2.ensures ∙ (rw (c.as_slice.ensures.value, c.as_slice-2.ensures.value, c.as_slice-3.ensures.value) at c.in_ok-robots.ensures) in
+    let robots = c.from_vec-2.ensures ∙ (rw (c.as_slice.ensures.value, c.as_slice-arrivals.ensures.value, c.as_slice-farewells.ensures.value) at c.in_ok-robots.ensures) in
     let many = robot_count g.row.A.Denot c.args.starts.items laws.arrivals laws.farewells in
     let orderly : AreOrderly laws = c.laws.invariant in
     let i : IsInOrder c.args.grid o = legal-opening c.args.grid (start o) (legal-opened c.args.grid c.args.starts.items c.args.clients c.args.limits laws can orderly) in
@@ -66,5 +66,5 @@ invariant_of-result g c =
 pub returns : goal.returns
 returns g c =
     let known : c.from_vec.result ≡ replicate c.args.clients unknown_client = c.from_vec.ensures ∙ c.in_ok-nobodies.ensures in
-    let robots = c.from_vec-2.ensures ∙ (rw (c.as_slice.ensures.value, c.as_slice-2.ensures.value, c.as_slice-3.ensures.value) at c.in_ok-robots.ensures) in
+    let robots = c.from_vec-2.ensures ∙ (rw (c.as_slice.ensures.value, c.as_slice-arrivals.ensures.value, c.as_slice-farewells.ensures.value) at c.in_ok-robots.ensures) in
     rw (← c.laws.view_is, c.new.ensures.items, known, robots, c.in_ok-mailboxes.ensures) refl

@@ -20,14 +20,14 @@ use Rattle.fleet_core.proofs.Hooked.{stamps-are, last_stamps-are}
 use Rattle.fleet_core.proofs.Kept.{noticed-of, noticed-small, room-kept, boxes-tick, ticked-boxes, within-tick}
 use Rattle.fleet_core.proofs.Ticked.{arrived-clients, arrived-robots, arrived-few, arrived-owed, leaving-few, leaving-rise, leaving-robots, leaving-has, farewells-tick}
 use Rattle.fleet_core.proofs.kernel.Core.tick.Goals as goal
-use Rattle.fleet_core.proofs.kernel.Core.tick.Goals.{After-len-2, After-as_slice-5, After-add}
+use Rattle.fleet_core.proofs.kernel.Core.tick.Goals.{After-len-2, After-deref-5, After-add}
 
 pub step_of-requires-clause-tied : goal.step_of-requires-clause-tied
 step_of-requires-clause-tied g c =
     omega (arith, queue-count c.self.invariant.is, length-map c.args.ties.now (λ h. h.law), ap length c.requires.ties, ap (λ w. length w.ties) c.self.view_is, c.self.invariant.tied.count)
 
 pub make_ready-requires-clause-same : goal.make_ready-requires-clause-same
-make_ready-requires-clause-same g c = omega (arith, ap length c.as_slice.ensures.value, c.in_ok-step.ensures.conflict_free.same_length, cell-count c.self.invariant.is, queue-count c.self.invariant.is)
+make_ready-requires-clause-same g c = omega (arith, ap length c.deref.ensures.value, c.in_ok-step.ensures.conflict_free.same_length, cell-count c.self.invariant.is, queue-count c.self.invariant.is)
 
 -- whom the planned step lets arrive, and who leaves with whatever stamps
 shows_is : (g : _) (c : After-len-2 g) → map due_of c.in_ok-step.step.arrived.items ≡ due (history_of c.self.inside.chapter) c.in_ok-step.step.to.items
@@ -75,7 +75,7 @@ arrive-requires-clause-known g c =
 pub arrive-requires-clause-same : goal.arrive-requires-clause-same
 arrive-requires-clause-same g c =
     let p = (goal.at.arrive-requires-clause-same g c).After-len-2 in
-    omega (arith, ap length c.as_slice-2.ensures.value, robots_is g p, arrivals_count g p)
+    omega (arith, ap length c.deref-2.ensures.value, robots_is g p, arrivals_count g p)
 
 pub take_leave-requires-clause-known : goal.take_leave-requires-clause-known
 take_leave-requires-clause-known g c =
@@ -88,7 +88,7 @@ take_leave-requires-clause-known g c =
 pub take_leave-requires-clause-same : goal.take_leave-requires-clause-same
 take_leave-requires-clause-same g c =
     let p = (goal.at.take_leave-requires-clause-same g c).After-len-2 in
-    omega (arith, ap length c.as_slice-3.ensures.value, robots_is g p, spare_count g p, c.args.farewells.now.ok.0)
+    omega (arith, ap length c.deref-3.ensures.value, robots_is g p, spare_count g p, c.args.farewells.now.ok.0)
 
 pub take_leave-requires-clause-rising : goal.take_leave-requires-clause-rising
 take_leave-requires-clause-rising g c =
@@ -105,51 +105,49 @@ take_leave-requires-clause-unspent g c =
     (leaving-has c.self.inside.grid h c.self.invariant.is.legal c.in_ok-step.step.to.items c.in_ok-step.step.arrived.items shows [] c.in_ok-step.step.leaving.items (leaves_is g p c.in_ok-step.step.arrived.items [] shows) (spare_laws c.args.farewells.now.items) (spare_is g p))
 
 -- the arrivals and the farewells with their stamps
-stamped_is : (g : _) (c : After-as_slice-5 g) → c.as_slice-4.result.now ≡ c.arrive.new.arrived.items
-stamped_is g c = c.as_slice-4.ensures.value
+stamped_is : (g : _) (c : After-deref-5 g) → c.deref-4.result.now ≡ c.arrive.new.arrived.items
+stamped_is g c = c.deref-4.ensures.value
 
-shown_is : (g : _) (c : After-as_slice-5 g) → map due_of c.arrive.new.arrived.items ≡ due (history_of c.self.inside.chapter) c.in_ok-step.step.to.items
+shown_is : (g : _) (c : After-deref-5 g) → map due_of c.arrive.new.arrived.items ≡ due (history_of c.self.inside.chapter) c.in_ok-step.step.to.items
 shown_is g c = c.arrive.ensures.shows ∙ c.in_ok-step.ensures.arrived c.self.inside.grid (history_of c.self.inside.chapter) c.self.invariant.is
 
 -- the tick fits, whatever stamps the closures gave
-fits_is : (g : _) (c : After-as_slice-5 g) (q : After-len-2 g) → IsTickAfter c.self.inside.grid (history_of c.self.inside.chapter) c.in_ok-step.step.to.items c.arrive.new.arrived.items c.take_leave.new.leaving.items
+fits_is : (g : _) (c : After-deref-5 g) (q : After-len-2 g) → IsTickAfter c.self.inside.grid (history_of c.self.inside.chapter) c.in_ok-step.step.to.items c.arrive.new.arrived.items c.take_leave.new.leaving.items
 fits_is g c q =
     let k = c.self.invariant in
     let h = history_of c.self.inside.chapter in
     let shows = shown_is g c in
     let leaves = c.in_ok-step.ensures.leaving c.arrive.new.arrived.items c.take_leave.new.leaving.items c.self.inside.grid h k.is shows in
     let laws = map (λ h. h.law) c.args.arrivals.now in
-    let arrivals : AreArrivals h laws = subst (λ w. AreArrivals w.history laws) (sym c.self.view_is) c.requires.arrivals in
     let spare = spare_laws c.args.farewells.now.items in
-    let left : AreFarewells h spare = subst (λ w. AreFarewells w.history spare) (sym c.self.view_is) c.requires.farewells in
     record {
       step = rw (← cells-of k.is) c.in_ok-step.ensures.conflict_free;
       shows = shows;
-      stamps = stamps-are h laws arrivals c.arrive.new.arrived.items (arrived-robots c.self.inside.grid h k.is.legal c.in_ok-step.step.to.items c.arrive.new.arrived.items shows) c.arrive.ensures.stamps;
+      stamps = stamps-are h laws (subst (λ w. AreArrivals w.history laws) (sym c.self.view_is) c.requires.arrivals) c.arrive.new.arrived.items (arrived-robots c.self.inside.grid h k.is.legal c.in_ok-step.step.to.items c.arrive.new.arrived.items shows) c.arrive.ensures.stamps;
       leaves = c.take_leave.ensures.robots ∙ leaves;
-      last_stamps = last_stamps-are h spare left c.take_leave.new.leaving.items c.take_leave.ensures.stamps;
+      last_stamps = last_stamps-are h spare (subst (λ w. AreFarewells w.history spare) (sym c.self.view_is) c.requires.farewells) c.take_leave.new.leaving.items c.take_leave.ensures.stamps;
     }
 
 pub deliver-requires-clause-known : goal.deliver-requires-clause-known
 deliver-requires-clause-known g c =
-    let p = (goal.at.deliver-requires-clause-known g c).After-as_slice-5 in
+    let p = (goal.at.deliver-requires-clause-known g c).After-deref-5 in
     rw (stamped_is g p, c.self.invariant.boxed.count) (arrived-clients c.self.inside.grid (history_of c.self.inside.chapter) c.self.invariant.is.legal c.in_ok-step.step.to.items c.arrive.new.arrived.items (shown_is g p))
 
 pub deliver-requires-clause-on_map : goal.deliver-requires-clause-on_map
 deliver-requires-clause-on_map g c =
-    let p = (goal.at.deliver-requires-clause-on_map g c).After-as_slice-5 in
-    rw (stamped_is g p, c.as_slice-5.ensures.value, robots_is g (goal.at.deliver-requires-clause-on_map g c).After-len-2) (arrived-robots c.self.inside.grid (history_of c.self.inside.chapter) c.self.invariant.is.legal c.in_ok-step.step.to.items c.arrive.new.arrived.items (shown_is g p))
+    let p = (goal.at.deliver-requires-clause-on_map g c).After-deref-5 in
+    rw (stamped_is g p, c.deref-5.ensures.value, robots_is g (goal.at.deliver-requires-clause-on_map g c).After-len-2) (arrived-robots c.self.inside.grid (history_of c.self.inside.chapter) c.self.invariant.is.legal c.in_ok-step.step.to.items c.arrive.new.arrived.items (shown_is g p))
 
 pub deliver-requires-clause-small : goal.deliver-requires-clause-small
 deliver-requires-clause-small g c j l =
-    let p = (goal.at.deliver-requires-clause-small g c).After-as_slice-5 in
+    let p = (goal.at.deliver-requires-clause-small g c).After-deref-5 in
     let k = c.self.invariant in
     let h = history_of c.self.inside.chapter in
     omega (arith, ap length (stamped_is g p), arrived-few c.self.inside.grid h k.is.legal c.in_ok-step.step.to.items c.arrive.new.arrived.items (shown_is g p), noticed-of k.boxed j (omega (arith, k.boxed.count)), noticed-small k.within c.self.inside.grid k.is.legal j (omega (arith, k.boxed.count)))
 
 pub deliver-requires-clause-room : goal.deliver-requires-clause-room
 deliver-requires-clause-room g c j l =
-    let p = (goal.at.deliver-requires-clause-room g c).After-as_slice-5 in
+    let p = (goal.at.deliver-requires-clause-room g c).After-deref-5 in
     let k = c.self.invariant in
     let h = history_of c.self.inside.chapter in
     rw (stamped_is g p) (omega (arith, k.boxed.room j (omega (arith, k.boxed.count)), arrived-owed c.self.inside.grid h k.is.legal c.in_ok-step.step.to.items c.arrive.new.arrived.items (shown_is g p) j))
@@ -158,7 +156,7 @@ pub enter_tick-requires : goal.enter_tick-requires
 enter_tick-requires g c =
     let k = c.self.invariant in
     let h = history_of c.self.inside.chapter in
-    let p = (goal.at.enter_tick-requires g c).After-as_slice-5 in
+    let p = (goal.at.enter_tick-requires g c).After-deref-5 in
     let q = (goal.at.enter_tick-requires g c).After-len-2 in
     record {
       arrived = c.arrive.new.arrived.items;
@@ -167,18 +165,18 @@ enter_tick-requires g c =
         floor = c.self.inside.grid;
         history = h;
         is = k.is;
-        fits = rw c.as_slice-6.ensures.value (fits_is g p q);
+        fits = rw c.deref-6.ensures.value (fits_is g p q);
         early = omega (arith, k.within.clock, k.within.valid.clock.1);
         few = omega (arith, k.within.entries, k.within.valid.chapter.1);
       };
     }
 
-next_is : (g : _) (c : After-add g) (p : After-as_slice-5 g) → IsTickAfter c.self.inside.grid (history_of c.self.inside.chapter) c.in_ok-step.step.to.items c.arrive.new.arrived.items c.take_leave.new.leaving.items →
+next_is : (g : _) (c : After-add g) (p : After-deref-5 g) → IsTickAfter c.self.inside.grid (history_of c.self.inside.chapter) c.in_ok-step.step.to.items c.arrive.new.arrived.items c.take_leave.new.leaving.items →
     IsStateOf c.self.inside.grid (after (history_of c.self.inside.chapter) (entry.Tick c.in_ok-step.step.to.items c.arrive.new.arrived.items c.take_leave.new.leaving.items)) c.enter_tick.new.self
 next_is g c p fits =
     let h = history_of c.self.inside.chapter in
-    subst (λ to. IsStateOf c.self.inside.grid (after h (entry.Tick to c.arrive.new.arrived.items c.take_leave.new.leaving.items)) c.enter_tick.new.self) c.as_slice-6.ensures.value
-    (c.enter_tick.ensures.follows c.arrive.new.arrived.items c.take_leave.new.leaving.items c.self.inside.grid h c.self.invariant.is (subst (λ to. IsTickAfter c.self.inside.grid h to c.arrive.new.arrived.items c.take_leave.new.leaving.items) (sym c.as_slice-6.ensures.value) fits))
+    subst (λ to. IsStateOf c.self.inside.grid (after h (entry.Tick to c.arrive.new.arrived.items c.take_leave.new.leaving.items)) c.enter_tick.new.self) c.deref-6.ensures.value
+    (c.enter_tick.ensures.follows c.arrive.new.arrived.items c.take_leave.new.leaving.items c.self.inside.grid h c.self.invariant.is (subst (λ to. IsTickAfter c.self.inside.grid h to c.arrive.new.arrived.items c.take_leave.new.leaving.items) (sym c.deref-6.ensures.value) fits))
 
 -- the report's clock is that of the tick
 clock_is : (g : _) (c : After-add g) → c.of-report.result.tick ≡ clock (history_of c.self.inside.chapter) + 1
@@ -191,31 +189,30 @@ planned_is g c =
     let laws : map (λ h. h.law) c.args.ties.now ≡ c.self.inside.ties.items = c.requires.ties ∙ ap (λ w. w.ties) (sym c.self.view_is) in
     rw (laws, waits-of k.is, k.aimed.aimed, cells-of k.is) at c.in_ok-step.ensures.planned
 
-delivered_is : (g : _) (c : After-add g) (p : After-as_slice-5 g) → AreDelivered c.arrive.new.arrived.items c.in_ok-step.step.to.items c.of-report.result.tick c.self.inside.mailboxes c.deliver.new.self
+delivered_is : (g : _) (c : After-add g) (p : After-deref-5 g) → AreDelivered c.arrive.new.arrived.items c.in_ok-step.step.to.items c.of-report.result.tick c.self.inside.mailboxes c.deliver.new.self
 delivered_is g c p =
-    subst (λ xs. AreDelivered xs c.in_ok-step.step.to.items c.of-report.result.tick c.self.inside.mailboxes c.deliver.new.self) c.as_slice-4.ensures.value
-    (subst (λ to. AreDelivered c.as_slice-4.result.now to c.of-report.result.tick c.self.inside.mailboxes c.deliver.new.self) c.as_slice-5.ensures.value c.deliver.ensures)
+    subst (λ xs. AreDelivered xs c.in_ok-step.step.to.items c.of-report.result.tick c.self.inside.mailboxes c.deliver.new.self) c.deref-4.ensures.value
+    (subst (λ to. AreDelivered c.deref-4.result.now to c.of-report.result.tick c.self.inside.mailboxes c.deliver.new.self) c.deref-5.ensures.value c.deliver.ensures)
 
 pub invariant_of-self-2 : goal.invariant_of-self-2
 invariant_of-self-2 g c =
     let k = c.self.invariant in
     let h = history_of c.self.inside.chapter in
     let a = (goal.at.invariant_of-self-2 g c).After-add in
-    let p = (goal.at.invariant_of-self-2 g c).After-as_slice-5 in
+    let p = (goal.at.invariant_of-self-2 g c).After-deref-5 in
     let q = (goal.at.invariant_of-self-2 g c).After-len-2 in
     let fits = fits_is g p q in
     let next = next_is g a p fits in
     let few : length h.entries < c.self.inside.limits.chapter = subst HasEntries (sym c.self.view_is) (c.if-is_full.ensures.room refl) in
     let early : clock h < c.self.inside.limits.clock = subst (λ w. clock w.history < w.limits.clock) (sym c.self.view_is) (c.if-is_spent.ensures.early refl) in
     let shows = shown_is g p in
-    let tick = clock_is g a in
     rw (c.add.ensures, c.make_ready.ensures.items, c.tick_entry.ensures)
     record {
       is = next;
       room = room-kept k.is next refl c.enter_tick.ensures.rooms k.room;
       within = within-tick k.within c.in_ok-step.step.to.items c.arrive.new.arrived.items c.take_leave.new.leaving.items few early;
-      boxed = boxes-tick k.is.legal k.boxed c.in_ok-step.step.to.items c.arrive.new.arrived.items c.take_leave.new.leaving.items c.of-report.result.tick tick (delivered_is g a p) shows;
-      aimed = aimed-tick k.is k.aimed c.in_ok-step.step.to.items c.arrive.new.arrived.items c.take_leave.new.leaving.items shows (rw c.as_slice.ensures.value at c.in_ok-make_ready.ensures.goals ∙ refl) c.make_ready.ensures.on
+      boxed = boxes-tick k.is.legal k.boxed c.in_ok-step.step.to.items c.arrive.new.arrived.items c.take_leave.new.leaving.items c.of-report.result.tick (clock_is g a) (delivered_is g a p) shows;
+      aimed = aimed-tick k.is k.aimed c.in_ok-step.step.to.items c.arrive.new.arrived.items c.take_leave.new.leaving.items shows (rw c.deref.ensures.value at c.in_ok-make_ready.ensures.goals ∙ refl) c.make_ready.ensures.on
           (c.make_ready.ensures.size ∙ ap (λ (x : Planner). x.size) c.step_of.ensures.same) (c.make_ready.ensures.bridge ∙ ap (λ (x : Planner). x.bridgeless) c.step_of.ensures.same) c.make_ready.ensures.keeps;
       tied = record { count = k.tied.count; planned = each_tick-tick (IsPlanned c.self.inside.grid c.self.inside.ties.items) h c.in_ok-step.step.to.items c.arrive.new.arrived.items c.take_leave.new.leaving.items k.tied.planned (planned_is g a) };
       bounded = k.bounded;
@@ -226,7 +223,7 @@ returns-clause-ok g c =
     let k = c.self.invariant in
     let h = history_of c.self.inside.chapter in
     let a = (goal.at.returns-clause-ok g c).After-add in
-    let p = (goal.at.returns-clause-ok g c).After-as_slice-5 in
+    let p = (goal.at.returns-clause-ok g c).After-deref-5 in
     let q = (goal.at.returns-clause-ok g c).After-len-2 in
     let tick = clock_is g a in
     rw (← c.self.view_is)
@@ -250,7 +247,7 @@ returns-clause-farewells g c =
     let k = c.self.invariant in
     let h = history_of c.self.inside.chapter in
     let a = (goal.at.returns-clause-farewells g c).After-add in
-    let p = (goal.at.returns-clause-farewells g c).After-as_slice-5 in
+    let p = (goal.at.returns-clause-farewells g c).After-deref-5 in
     let q = (goal.at.returns-clause-farewells g c).After-len-2 in
     let leaves = leaves_is g q c.arrive.new.arrived.items c.take_leave.new.leaving.items (shown_is g p) in
     let spent = c.take_leave.ensures.spent in
