@@ -4,7 +4,7 @@ use fleet_map::text::first_line;
 use std::alloc::{AllocError, Global};
 
 /// What a line that begins with a mark says behind it, and the text up to the next such line.
-#[derive(Clone, Copy, Debug)]
+#[derive(Clone, Copy)]
 pub(crate) struct Block<'a> {
     pub(crate) name: &'a str,
     pub(crate) text: &'a [u8],

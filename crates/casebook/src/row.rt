@@ -3,7 +3,7 @@
 use crate::block::{Block, split_at};
 
 /// A row: its name, and a bundle of a map and a script.
-#[derive(Clone, Copy, Debug)]
+#[derive(Clone, Copy)]
 pub(crate) struct Row<'a> {
     pub(crate) name: &'a str,
     pub(crate) map: &'a [u8],

@@ -20,10 +20,10 @@ pub(crate) fn run_job(alloc: Global, trace: bool) -> Result<Job, AllocError>
 }
 
 /// The trace that the program writes of a script on a map.
-pub(crate) fn trace_of<R: Alloc<A = Global> + Threads + Sync + Wait>(
+pub(crate) fn trace_of<'x, R: Alloc<A = Global> + Threads + Sync + Wait>(
     rt: &R,
-    map: &[u8],
-    script: &[u8],
+    map: &'x [u8],
+    script: &'x [u8],
 ) -> Result<Vec<u8>, AllocError> {
     let alloc = rt.alloc();
     let job = run_job(alloc, true)?;

@@ -21,7 +21,12 @@ fn line_of(alloc: Global, name: &str, found: Option<Finding>) -> Result<String, 
         Some(Finding::ConflictFree { steps, arrivals }) => format!(in alloc;
             "{name}: ticks {steps}, each conflict-free, arrivals {arrivals}\n"
         ),
-        Some(finding) => format!(in alloc; "{name}: {finding:?}\n"),
+        Some(Finding::Refused { step, fault }) => {
+            format!(in alloc; "{name}: tick {step} is refused, {fault:?}\n")
+        }
+        Some(Finding::Misplaced { step }) => {
+            format!(in alloc; "{name}: tick {step} begins with no placement\n")
+        }
     }
 }
 

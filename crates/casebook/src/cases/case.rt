@@ -4,14 +4,14 @@ use crate::block::Block;
 use std::alloc::{AllocError, Global};
 
 /// A file that the words of a case name.
-#[derive(Debug, Drop)]
+#[derive(Drop)]
 pub(crate) struct CaseFile {
     pub(crate) name: Vec<u8>,
     pub(crate) bytes: Vec<u8>,
 }
 
 /// A case.
-#[derive(Debug, Drop)]
+#[derive(Drop)]
 pub(crate) struct Case<'a> {
     pub(crate) name: &'a str,
     /// The program's words, its own name first.

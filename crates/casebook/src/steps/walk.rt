@@ -7,7 +7,7 @@ use fleet_history::{Chapter, Entry};
 use std::alloc::{AllocError, Global};
 
 /// What is found of a chapter's steps.
-#[derive(Clone, Copy, Debug, PartialEq, Eq)]
+#[derive(Clone, Copy)]
 pub(crate) enum Finding {
     /// Each of so many is conflict-free, and they bring so many arrivals.
     ConflictFree { steps: u32, arrivals: u64 },

@@ -11,7 +11,7 @@ use std::sync::Wait;
 use std::thread::Threads;
 
 /// What a run reads, and how much room there is for what it writes.
-#[derive(Clone, Copy, Debug)]
+#[derive(Clone, Copy)]
 pub(crate) struct Streams<'a> {
     pub(crate) map: Source<'a>,
     pub(crate) script: Source<'a>,

@@ -4,7 +4,7 @@ use std::alloc::Global;
 use std::io::{self, ErrorKind, Write};
 
 /// How many writes a writer has room for. At one more it fails, or takes no byte.
-#[derive(Clone, Copy, Debug)]
+#[derive(Clone, Copy)]
 pub(crate) struct Room {
     pub(crate) writes: u64,
     pub(crate) fails: bool,

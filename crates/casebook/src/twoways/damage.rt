@@ -5,7 +5,7 @@ use fleet_map::text::number_up_to;
 use std::alloc::{AllocError, Global};
 
 /// A stretch of a text.
-#[derive(Clone, Copy, Debug)]
+#[derive(Clone, Copy)]
 pub(crate) struct Stretch {
     pub(crate) from: usize,
     pub(crate) to: usize,
