@@ -10,8 +10,8 @@
 #![tactic(auto)]
 
 mod block;
+mod bundle;
 mod cases;
-mod row;
 mod run;
 mod steps;
 mod streams;

@@ -3,6 +3,7 @@
 ghost use Rattle.std.specs.Prelude.{◌≡◌, true, IfOk};
 ghost use Rattle.fleet_program.specs.Told.{names_two};
 
+use crate::bundle::Bundle;
 use fleet_program::{Job, run_with_kit};
 use std::alloc::{Alloc, AllocError, Global};
 use std::sync::Wait;
@@ -20,14 +21,16 @@ pub(crate) fn run_job(alloc: Global, trace: bool) -> Result<Job, AllocError>
 }
 
 /// The trace that the program writes of a script on a map.
-pub(crate) fn trace_of<'x, R: Alloc<A = Global> + Threads + Sync + Wait>(
+pub(crate) fn trace_of<R: Alloc<A = Global> + Threads + Sync + Wait>(
     rt: &R,
-    map: &'x [u8],
-    script: &'x [u8],
+    bundle: Bundle<'_>,
 ) -> Result<Vec<u8>, AllocError> {
     let alloc = rt.alloc();
     let job = run_job(alloc, true)?;
-    let (mut map, mut script) = (map, script);
+    let Bundle {
+        mut map,
+        mut script,
+    } = bundle;
     let mut output = Vec::new(alloc);
     let mut complaint = Vec::new(alloc);
     run_with_kit(

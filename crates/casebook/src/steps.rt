@@ -7,7 +7,7 @@ mod find;
 mod walk;
 
 use crate::block::blocks_of;
-use crate::row::Row;
+use crate::bundle::Bundle;
 use find::find;
 use std::alloc::{Alloc, AllocError, Global};
 use std::sync::Wait;
@@ -38,8 +38,8 @@ pub(crate) fn tell<R: Alloc<A = Global> + Threads + Sync + Wait>(
 ) -> Result<(), AllocError> {
     let alloc = rt.alloc();
     for block in &blocks_of(alloc, text, b"= ")? {
-        if let Some(row) = Row::of(*block) {
-            let line = line_of(alloc, row.name, find(rt, row)?)?;
+        if let Some(bundle) = Bundle::of(block.text) {
+            let line = line_of(alloc, block.name, find(rt, bundle)?)?;
             told.extend_from_slice(line.as_bytes())?;
         }
     }

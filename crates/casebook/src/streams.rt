@@ -9,7 +9,7 @@ mod source;
 mod trial;
 
 use crate::block::blocks_of;
-use crate::row::Row;
+use crate::bundle::Bundle;
 use std::alloc::{Alloc, AllocError, Global};
 use std::sync::Wait;
 use std::thread::Threads;
@@ -22,8 +22,8 @@ pub(crate) fn tell<R: Alloc<A = Global> + Threads + Sync + Wait>(
     told: &mut Vec<u8>,
 ) -> Result<(), AllocError> {
     for block in &blocks_of(rt.alloc(), text, b"= ")? {
-        if let Some(row) = Row::of(*block) {
-            tell_row(rt, row, told)?;
+        if let Some(bundle) = Bundle::of(block.text) {
+            tell_row(rt, block.name, bundle, told)?;
         }
     }
     Ok(())

@@ -2,7 +2,7 @@
 
 use super::sink::{Room, Sink};
 use super::source::Source;
-use crate::row::Row;
+use crate::bundle::Bundle;
 use crate::run::run_job;
 use findings::Outcome;
 use fleet_program::run_with_kit;
@@ -20,11 +20,11 @@ pub(crate) struct Streams<'a> {
 }
 
 impl<'a> Streams<'a> {
-    /// A row's, none of which fails.
-    pub(crate) fn of(row: Row<'a>) -> Streams<'a> {
+    /// A bundle's, none of which fails.
+    pub(crate) fn of(bundle: Bundle<'a>) -> Streams<'a> {
         Streams {
-            map: Source::of(row.map),
-            script: Source::of(row.script),
+            map: Source::of(bundle.map),
+            script: Source::of(bundle.script),
             output: Room::ALL,
             error: Room::ALL,
         }

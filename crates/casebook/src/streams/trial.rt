@@ -3,7 +3,7 @@
 use super::job::{Streams, outcome_of};
 use super::sink::Room;
 use super::source::Source;
-use crate::row::Row;
+use crate::bundle::Bundle;
 use findings::Outcome;
 use std::alloc::{Alloc, AllocError, Global};
 use std::sync::Wait;
@@ -248,10 +248,11 @@ fn tell_trials<R: Alloc<A = Global> + Threads + Sync + Wait>(
 /// Tells of a row, by its lines and by its trace.
 pub(crate) fn tell_row<R: Alloc<A = Global> + Threads + Sync + Wait>(
     rt: &R,
-    row: Row<'_>,
+    name: &str,
+    bundle: Bundle<'_>,
     told: &mut Vec<u8>,
 ) -> Result<(), AllocError> {
-    let streams = Streams::of(row);
+    let streams = Streams::of(bundle);
     for trace in [false, true] {
         let wanted = outcome_of(rt, trace, streams)?;
         let good = Good {
@@ -259,7 +260,7 @@ pub(crate) fn tell_row<R: Alloc<A = Global> + Threads + Sync + Wait>(
             streams,
             wanted: &wanted,
         };
-        tell_trials(rt, row.name, good, told)?;
+        tell_trials(rt, name, good, told)?;
     }
     Ok(())
 }

@@ -80,7 +80,7 @@ pub(crate) fn try_seed<R: Alloc<A = Global> + Threads + Sync + Wait>(
     let alloc = rt.alloc();
     let mut random = Random::from_seed(seed);
     let texts = texts_of(alloc, &mut random)?;
-    let text = trace_of(rt, texts.map.as_bytes(), texts.script.as_bytes())?;
+    let text = trace_of(rt, texts.as_bundle())?;
     let Ok(map) = read_map(alloc, texts.map.as_bytes()) else {
         return Ok(());
     };
