@@ -21,7 +21,10 @@ fn run_on<R: Alloc<A = Global> + Threads + Sync + Wait>(
 ) -> u8
     requires { true ≡ names_two job.now }
 {
-    let (Some(mut map), Some(mut other)) = (case.file(names.0), case.file(names.1)) else {
+    let Some(mut map) = case.file(names.0) else {
+        return fail(InputFault::File, complaint);
+    };
+    let Some(mut other) = case.file(names.1) else {
         return fail(InputFault::File, complaint);
     };
     run_with_kit(rt, job, &mut map, Some(&mut other), output, complaint)
@@ -81,15 +84,16 @@ fn outcome_of<R: Alloc<A = Global> + Threads + Sync + Wait>(
 
 /// Writes the lines of a text, each behind the mark.
 fn write_marked(told: &mut Vec<u8>, mark: u8, text: &[u8]) -> Result<(), AllocError> {
-    let mut begins = true;
-    for byte in text {
-        if begins {
-            told.push(mark)?;
-        }
-        told.push(*byte)?;
-        begins = *byte == b'\n';
+    if text.is_empty() {
+        return Ok(());
     }
-    if !begins {
+    let lines = match text.strip_suffix(b"\n".as_slice()) {
+        Some(lines) => lines,
+        None => text,
+    };
+    for line in lines.split(|byte| *byte == b'\n') {
+        told.push(mark)?;
+        told.extend_from_slice(line)?;
         told.push(b'\n')?;
     }
     Ok(())

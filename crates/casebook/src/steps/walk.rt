@@ -19,11 +19,8 @@ pub(crate) enum Finding {
 
 /// Where the robots stand at the opening.
 fn cells_of(alloc: Global, chapter: &Chapter) -> Result<Vec<u32>, AllocError> {
-    let mut cells = Vec::new(alloc);
-    for robot in chapter.opening.robots.as_slice() {
-        cells.push(robot.cell)?;
-    }
-    Ok(cells)
+    let robots = chapter.opening.robots.as_slice();
+    robots.iter().map(|robot| robot.cell).collect(alloc)
 }
 
 /// Judges each step of a chapter by itself.
