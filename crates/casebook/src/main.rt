@@ -1,39 +1,59 @@
-//! `casebook` tells what the program `errands` answers to many cases, which it reads from standard input.
+//! `casebook` tells what the program `errands` makes of stored rows, which it reads from standard input. A line `== NAME` begins
+//! a section there, and what is told of the section stands behind the same line:
 //!
-//! A line `= NAME` begins a case. Behind it `$ WORD ..` has the program's words and `< NAME` begins a file that they name. The
-//! other lines are the file's, or standard input's where no file has begun: `|TEXT` is a line, `:TEXT` one without its line
-//! end. What came out is written alike, with `!` before a line for the error writer, and last `? STATUS`.
+//! - `== cases`: what the program answers to words, input and files.
+//! - `== steps`: whether `check_step` finds each tick of a row's trace conflict-free.
+//! - `== streams`: whether the program ends as it should where each read and each write fails in turn.
+//! - `== twoways`: whether two ways of judging traces come to one answer, on seeded worlds and damaged traces. It has no rows.
+//!
+//! A line `= NAME` begins a row of a section. What the rows hold is told where the modules begin.
 #![tactic(auto)]
 
-mod case;
-mod outcome;
+mod block;
+mod bundle;
+mod cases;
+mod run;
+mod steps;
+mod streams;
+mod twoways;
 
-use case::Case;
+use block::{Block, blocks_of};
 use fleet_program::{InputFault, read_whole, write_whole};
-use outcome::tell;
 use std::alloc::{Alloc, AllocError, Global};
 use std::process::ExitCode;
 use std::sync::Wait;
 use std::thread::Threads;
 
-/// What came out of each case of the text.
+/// Tells of a section, by its name.
+fn tell<R: Alloc<A = Global> + Threads + Sync + Wait>(
+    rt: &R,
+    section: Block<'_>,
+    told: &mut Vec<u8>,
+    notes: &mut String,
+) -> Result<(), AllocError> {
+    match section.name {
+        "cases" => cases::tell(rt, section.text, told),
+        "steps" => steps::tell(rt, section.text, told),
+        "streams" => streams::tell(rt, section.text, told),
+        "twoways" => twoways::tell(rt, told, notes),
+        _ => Ok(()),
+    }
+}
+
+/// Tells of each section of the text.
 fn tell_all<R: Alloc<A = Global> + Threads + Sync + Wait>(
     rt: &R,
     text: &[u8],
-) -> Result<Vec<u8>, AllocError> {
-    let alloc = rt.alloc();
-    let mut told = Vec::new(alloc);
-    let mut case = Case::new(alloc, b"")?;
-    for line in text.split(|byte| *byte == b'\n') {
-        if let Some(name) = line.strip_prefix(b"= ".as_slice()) {
-            tell(rt, &case, &mut told)?;
-            case = Case::new(alloc, name)?;
-        } else {
-            case.read(alloc, line)?;
-        }
+    told: &mut Vec<u8>,
+    notes: &mut String,
+) -> Result<(), AllocError> {
+    for section in &blocks_of(rt.alloc(), text, b"== ")? {
+        told.extend_from_slice(b"== ")?;
+        told.extend_from_slice(section.name.as_bytes())?;
+        told.extend_from_slice(b"\n")?;
+        tell(rt, *section, told, notes)?;
     }
-    tell(rt, &case, &mut told)?;
-    Ok(told)
+    Ok(())
 }
 
 fn main(rt: HostRuntime) -> ExitCode {
@@ -42,9 +62,12 @@ fn main(rt: HostRuntime) -> ExitCode {
         Err(InputFault::File) => return ExitCode::from(3),
         Err(InputFault::NoMemory) => return ExitCode::from(7),
     };
-    match tell_all(&rt, &text) {
-        Ok(told) if write_whole(&mut rt.stdout(), &told) => ExitCode::from(0),
-        Ok(_) => ExitCode::from(3),
-        Err(AllocError) => ExitCode::from(7),
+    let mut told = Vec::new(rt.alloc());
+    let mut notes = String::new(rt.alloc());
+    if let Err(AllocError) = tell_all(&rt, &text, &mut told, &mut notes) {
+        return ExitCode::from(7);
     }
+    let is_written = write_whole(&mut rt.stdout(), &told)
+        && write_whole(&mut rt.stderr(), notes.as_bytes());
+    ExitCode::from(if is_written { 0 } else { 3 })
 }

@@ -3,24 +3,17 @@
 ghost use Rattle.std.specs.Prelude.{◌≡◌, true};
 ghost use Rattle.fleet_program.specs.Told.{names_two};
 
-use crate::case::Case;
+use super::case::Case;
+use findings::Outcome;
 use fleet_program::{InputFault, Job, WordFault, fail, parse_words, run_with_kit};
 use std::alloc::{Alloc, AllocError, Global};
 use std::sync::Wait;
 use std::thread::Threads;
 
-/// What the program wrote, and its status.
-#[derive(Drop)]
-struct Outcome {
-    output: Vec<u8>,
-    complaint: Vec<u8>,
-    status: u8,
-}
-
 /// Does a job on the files of these names. The result is the status.
 fn run_on<R: Alloc<A = Global> + Threads + Sync + Wait>(
     rt: &R,
-    case: &Case,
+    case: &Case<'_>,
     job: &Job,
     names: (&str, &str),
     output: &mut Vec<u8>,
@@ -28,16 +21,19 @@ fn run_on<R: Alloc<A = Global> + Threads + Sync + Wait>(
 ) -> u8
     requires { true ≡ names_two job.now }
 {
-    let (Some(mut map), Some(mut other)) = (case.file(names.0), case.file(names.1)) else {
+    let Some(mut map) = case.file(names.0) else {
+        return fail(InputFault::File, complaint);
+    };
+    let Some(mut other) = case.file(names.1) else {
         return fail(InputFault::File, complaint);
     };
     run_with_kit(rt, job, &mut map, Some(&mut other), output, complaint)
 }
 
 /// Does the job of a case. The result is the status.
-fn run_job<R: Alloc<A = Global> + Threads + Sync + Wait>(
+fn run_case<R: Alloc<A = Global> + Threads + Sync + Wait>(
     rt: &R,
-    case: &Case,
+    case: &Case<'_>,
     job: &Job,
     output: &mut Vec<u8>,
     complaint: &mut Vec<u8>,
@@ -69,51 +65,49 @@ fn run_job<R: Alloc<A = Global> + Threads + Sync + Wait>(
 /// What comes out of a case. The text of words that are refused is `clap`'s own, and left out.
 fn outcome_of<R: Alloc<A = Global> + Threads + Sync + Wait>(
     rt: &R,
-    case: &Case,
+    case: &Case<'_>,
 ) -> Result<Outcome, AllocError> {
     let alloc = rt.alloc();
     let mut output = Vec::new(alloc);
     let mut complaint = Vec::new(alloc);
     let status = match parse_words(alloc, &case.words) {
-        Ok(job) => run_job(rt, case, &job, &mut output, &mut complaint),
+        Ok(job) => run_case(rt, case, &job, &mut output, &mut complaint),
         Err(WordFault::Words(_text)) => 2,
         Err(WordFault::NoMemory) => return Err(AllocError),
     };
     Ok(Outcome {
+        status,
         output,
         complaint,
-        status,
     })
 }
 
 /// Writes the lines of a text, each behind the mark.
 fn write_marked(told: &mut Vec<u8>, mark: u8, text: &[u8]) -> Result<(), AllocError> {
-    let mut begins = true;
-    for byte in text {
-        if begins {
-            told.push(mark)?;
-        }
-        told.push(*byte)?;
-        begins = *byte == b'\n';
+    if text.is_empty() {
+        return Ok(());
     }
-    if !begins {
+    let lines = match text.strip_suffix(b"\n".as_slice()) {
+        Some(lines) => lines,
+        None => text,
+    };
+    for line in lines.split(|byte| *byte == b'\n') {
+        told.push(mark)?;
+        told.extend_from_slice(line)?;
         told.push(b'\n')?;
     }
     Ok(())
 }
 
-/// Tells what came out of a case, where it is one.
-pub(crate) fn tell<R: Alloc<A = Global> + Threads + Sync + Wait>(
+/// Tells what came out of a case.
+pub(crate) fn tell_outcome<R: Alloc<A = Global> + Threads + Sync + Wait>(
     rt: &R,
-    case: &Case,
+    case: &Case<'_>,
     told: &mut Vec<u8>,
 ) -> Result<(), AllocError> {
-    if case.name.is_empty() {
-        return Ok(());
-    }
     let outcome = outcome_of(rt, case)?;
     told.extend_from_slice(b"= ")?;
-    told.extend_from_slice(&case.name)?;
+    told.extend_from_slice(case.name.as_bytes())?;
     told.push(b'\n')?;
     write_marked(told, b'|', &outcome.output)?;
     write_marked(told, b'!', &outcome.complaint)?;

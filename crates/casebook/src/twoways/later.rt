@@ -1,27 +1,39 @@
 //! A later chapter of a world, as the rules reckon its opening.
 
-use crate::fleet::Fleet;
+use super::fleet::{Fleet, Robot};
 use fleet_history::{Chapter, Opening, RobotState, Row};
 use std::alloc::{AllocError, Global};
 
+/// A robot as an opening states it.
+fn state_of(alloc: Global, robot: &Robot) -> Result<RobotState, AllocError> {
+    let errands = Vec::from_slice(alloc, &robot.errands)?;
+    Ok(RobotState {
+        cell: robot.cell,
+        shut: robot.shut,
+        wait: robot.wait,
+        errands: Row::from_vec(errands),
+        arrival_law: robot.arrival_law,
+        farewell_law: robot.farewell_law,
+    })
+}
+
+fn states_of(alloc: Global, robots: &[Robot]) -> Result<Vec<RobotState>, AllocError> {
+    let mut states = Vec::new(alloc);
+    for robot in robots {
+        states.push(state_of(alloc, robot)?)?;
+    }
+    Ok(states)
+}
+
 /// The opening of a fleet under way.
 fn opening_of(alloc: Global, fleet: &Fleet) -> Result<Opening, AllocError> {
-    let mut robots = Vec::new(alloc);
-    for robot in &fleet.robots {
-        robots.push(RobotState {
-            cell: robot.cell,
-            shut: robot.shut,
-            wait: robot.wait,
-            errands: Row::from_vec(Vec::from_slice(alloc, &robot.errands)?),
-            arrival_law: robot.arrival_law,
-            farewell_law: robot.farewell_law,
-        })?;
-    }
+    let clients = Vec::from_slice(alloc, &fleet.clients)?;
+    let robots = states_of(alloc, &fleet.robots)?;
     Ok(Opening {
         tick: fleet.tick,
         queue: fleet.queue,
         life: fleet.life,
-        clients: Row::from_vec(Vec::from_slice(alloc, &fleet.clients)?),
+        clients: Row::from_vec(clients),
         robots: Row::from_vec(robots),
     })
 }

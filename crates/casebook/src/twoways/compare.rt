@@ -3,8 +3,8 @@
 ghost use Rattle.std.specs.Prelude.{◌≡◌, ℕ, None, Some, Ok, Err};
 ghost use Rattle.fleet_trace.specs.declared.fault.JudgeFault.TheVariants.{Illegal};
 
-use crate::rules::first_fault;
-use crate::site::Site;
+use super::rules::first_fault;
+use super::site::Site;
 use findings::Answer;
 use fleet_grid::Grid;
 use fleet_trace::{JudgeFault, TraceFault, judge, read_trace};

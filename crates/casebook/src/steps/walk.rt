@@ -7,7 +7,7 @@ use fleet_history::{Chapter, Entry};
 use std::alloc::{AllocError, Global};
 
 /// What is found of a chapter's steps.
-#[derive(Clone, Copy, Debug, PartialEq, Eq)]
+#[derive(Clone, Copy)]
 pub(crate) enum Finding {
     /// Each of so many is conflict-free, and they bring so many arrivals.
     ConflictFree { steps: u32, arrivals: u64 },
@@ -19,11 +19,8 @@ pub(crate) enum Finding {
 
 /// Where the robots stand at the opening.
 fn cells_of(alloc: Global, chapter: &Chapter) -> Result<Vec<u32>, AllocError> {
-    let mut cells = Vec::new(alloc);
-    for robot in chapter.opening.robots.as_slice() {
-        cells.push(robot.cell)?;
-    }
-    Ok(cells)
+    let robots = chapter.opening.robots.as_slice();
+    robots.iter().map(|robot| robot.cell).collect(alloc)
 }
 
 /// Judges each step of a chapter by itself.

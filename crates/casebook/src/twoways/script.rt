@@ -1,6 +1,7 @@
 //! Seeded maps and scripts.
 
-use crate::random::Random;
+use super::random::Random;
+use crate::bundle::Bundle;
 use std::alloc::{AllocError, Global};
 use std::fmt::Write;
 
@@ -9,6 +10,16 @@ use std::fmt::Write;
 pub(crate) struct Texts {
     pub(crate) map: String,
     pub(crate) script: String,
+}
+
+impl Texts {
+    /// Their bytes.
+    pub(crate) fn as_bundle(&self) -> Bundle<'_> {
+        Bundle {
+            map: self.map.as_bytes(),
+            script: self.script.as_bytes(),
+        }
+    }
 }
 
 /// A seeded map of so many rows and columns, three quarters of it floor.

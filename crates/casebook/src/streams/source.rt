@@ -3,7 +3,7 @@
 use std::io::{self, ErrorKind, Read};
 
 /// Reads a text and then so many line feeds, so many bytes at each read. It fails when so many reads were made.
-#[derive(Clone, Copy, Debug)]
+#[derive(Clone, Copy)]
 pub(crate) struct Source<'a> {
     pub(crate) bytes: &'a [u8],
     pub(crate) line_feeds: u64,

@@ -1,39 +1,43 @@
 //! One case: the program's words, its standard input, and the files that the words name.
 
+use crate::block::Block;
 use std::alloc::{AllocError, Global};
 
 /// A file that the words of a case name.
-#[derive(Debug, Drop)]
+#[derive(Drop)]
 pub(crate) struct CaseFile {
     pub(crate) name: Vec<u8>,
     pub(crate) bytes: Vec<u8>,
 }
 
-/// A case. Without a name it is no case.
-#[derive(Debug, Drop)]
-pub(crate) struct Case {
-    pub(crate) name: Vec<u8>,
+/// A case.
+#[derive(Drop)]
+pub(crate) struct Case<'a> {
+    pub(crate) name: &'a str,
     /// The program's words, its own name first.
     pub(crate) words: Vec<String>,
     pub(crate) input: Vec<u8>,
     pub(crate) files: Vec<CaseFile>,
 }
 
-impl Case {
-    /// A case without words, input and files.
-    pub(crate) fn new(alloc: Global, name: &[u8]) -> Result<Case, AllocError> {
-        let mut words = Vec::new(alloc);
-        words.push(String::from_str(alloc, "errands")?)?;
-        Ok(Case {
-            name: Vec::from_slice(alloc, name)?,
-            words,
+impl<'a> Case<'a> {
+    /// The case that a block tells.
+    pub(crate) fn of(alloc: Global, block: Block<'a>) -> Result<Case<'a>, AllocError> {
+        let mut case = Case {
+            name: block.name,
+            words: Vec::new(alloc),
             input: Vec::new(alloc),
             files: Vec::new(alloc),
-        })
+        };
+        case.add_words(alloc, b"errands")?;
+        for line in block.text.split(|byte| *byte == b'\n') {
+            case.read(alloc, line)?;
+        }
+        Ok(case)
     }
 
     /// Takes in one more line of the case, which its first byte marks.
-    pub(crate) fn read(&mut self, alloc: Global, line: &[u8]) -> Result<(), AllocError> {
+    fn read(&mut self, alloc: Global, line: &[u8]) -> Result<(), AllocError> {
         let Some((mark, text)) = line.split_first() else {
             return Ok(());
         };

@@ -1,15 +1,15 @@
 //! The trials of a seed.
 
-use crate::compare::compare;
-use crate::count::Count;
-use crate::damage::{numbers_in, with_other_bytes, with_other_number};
-use crate::later::later_chapter;
-use crate::random::Random;
-use crate::script::{Texts, texts_of};
-use crate::site::Site;
+use super::compare::compare;
+use super::count::Count;
+use super::damage::{numbers_in, with_other_bytes, with_other_number};
+use super::later::later_chapter;
+use super::random::Random;
+use super::script::texts_of;
+use super::site::Site;
+use crate::run::trace_of;
 use fleet_grid::Grid;
 use fleet_map::read_map;
-use fleet_program::{Job, run_with_kit};
 use fleet_trace::{read_trace, write_trace};
 use std::alloc::{Alloc, AllocError, Global};
 use std::sync::Wait;
@@ -17,31 +17,6 @@ use std::thread::Threads;
 
 /// How often the bytes of each trace are damaged.
 const BYTE_DAMAGES: u32 = 10;
-
-/// The trace that the program writes of a world.
-fn trace_of<R: Alloc<A = Global> + Threads + Sync + Wait>(
-    rt: &R,
-    texts: &Texts,
-) -> Result<Vec<u8>, AllocError> {
-    let alloc = rt.alloc();
-    let job = Job::Run {
-        first: String::from_str(alloc, "map")?,
-        second: String::from_str(alloc, "script")?,
-        trace: true,
-    };
-    let (mut map, mut script) = (texts.map.as_bytes(), texts.script.as_bytes());
-    let mut output = Vec::new(alloc);
-    let mut complaint = Vec::new(alloc);
-    run_with_kit(
-        rt,
-        &job,
-        &mut map,
-        Some(&mut script),
-        &mut output,
-        &mut complaint,
-    );
-    Ok(output)
-}
 
 /// Damages each number of a trace once, and its bytes several times.
 fn damage(
@@ -105,7 +80,7 @@ pub(crate) fn try_seed<R: Alloc<A = Global> + Threads + Sync + Wait>(
     let alloc = rt.alloc();
     let mut random = Random::from_seed(seed);
     let texts = texts_of(alloc, &mut random)?;
-    let text = trace_of(rt, &texts)?;
+    let text = trace_of(rt, texts.as_bundle())?;
     let Ok(map) = read_map(alloc, texts.map.as_bytes()) else {
         return Ok(());
     };

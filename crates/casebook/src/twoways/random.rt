@@ -1,7 +1,7 @@
 //! Numbers that look as if they were thrown, and are the same in each run.
 
 /// A linear congruential sequence.
-#[derive(Clone, Copy, Debug)]
+#[derive(Clone, Copy)]
 pub(crate) struct Random {
     seed: u64,
 }

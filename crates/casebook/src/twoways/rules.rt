@@ -1,9 +1,9 @@
 //! The rules of entries, each as it is told.
 
-use crate::fleet::{Fleet, Robot};
-use crate::opening::is_in_order;
-use crate::site::Site;
-use crate::take::verdict_on;
+use super::fleet::{Fleet, Robot};
+use super::opening::is_in_order;
+use super::site::Site;
+use super::take::verdict_on;
 use fleet_history::{Arrival, Bye, Chapter, Entry};
 use fleet_hooks::StampLaw;
 use std::alloc::{AllocError, Global};

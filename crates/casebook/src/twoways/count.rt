@@ -77,24 +77,16 @@ impl Count {
         self.broken.iter().skip(1).all(|broken| *broken > 0)
     }
 
-    /// Whether the two ways came to one answer everywhere, on so many worlds and each kind of fault.
-    pub(crate) fn is_good(&self, worlds: u64) -> bool {
-        self.worlds == worlds
-            && self.later == worlds
-            && self.unlike == 0
-            && self.not_json == 0
-            && self.legal > 0
-            && self.refused > 0
-            && self.has_each_rule()
-    }
-
-    /// What is told of it.
-    pub(crate) fn text(&self) -> &'static str {
+    /// What is told of it, where so many worlds were tried.
+    pub(crate) fn text(&self, worlds: u64) -> &'static str {
         if self.unlike > 0 || self.not_json > 0 {
             return "the two ways differ\n";
         }
         if !self.has_each_rule() {
             return "a rule was broken by no trace\n";
+        }
+        if self.worlds != worlds || self.later != worlds || self.legal == 0 || self.refused == 0 {
+            return "a world, a legal or a refused trace is missing\n";
         }
         "each chapter and each later chapter is legal in both ways\n\
          each damaged trace is refused by name, or has one answer in both ways\n\

@@ -1,11 +1,11 @@
 //! Damages of a text.
 
-use crate::random::Random;
+use super::random::Random;
 use fleet_map::text::number_up_to;
 use std::alloc::{AllocError, Global};
 
 /// A stretch of a text.
-#[derive(Clone, Copy, Debug)]
+#[derive(Clone, Copy)]
 pub(crate) struct Stretch {
     pub(crate) from: usize,
     pub(crate) to: usize,

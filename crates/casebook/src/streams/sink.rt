@@ -3,34 +3,47 @@
 use std::alloc::Global;
 use std::io::{self, ErrorKind, Write};
 
-/// Takes one byte at each write. When so many writes were made it fails, or takes no byte.
+/// How many writes a writer has room for. At one more it fails, or takes no byte.
+#[derive(Clone, Copy)]
+pub(crate) struct Room {
+    pub(crate) writes: u64,
+    pub(crate) fails: bool,
+}
+
+impl Room {
+    /// More room than anything takes.
+    pub(crate) const ALL: Room = Room {
+        writes: 1 << 40,
+        fails: true,
+    };
+}
+
+/// Takes one byte at each write, as long as there is room.
 #[derive(Drop)]
 pub(crate) struct Sink {
     pub(crate) bytes: Vec<u8>,
-    pub(crate) good_writes: u64,
-    pub(crate) fails: bool,
+    room: Room,
 }
 
 impl Sink {
     /// A writer without bytes.
-    pub(crate) fn new(alloc: Global, good_writes: u64, fails: bool) -> Sink {
+    pub(crate) fn new(alloc: Global, room: Room) -> Sink {
         Sink {
             bytes: Vec::new(alloc),
-            good_writes,
-            fails,
+            room,
         }
     }
 }
 
 impl Write for Sink {
     fn write(&mut self, buf: &[u8]) -> io::Result<usize> {
-        if self.good_writes == 0 {
-            if self.fails {
+        if self.room.writes == 0 {
+            if self.room.fails {
                 return Err(io::Error::from(ErrorKind::Other));
             }
             return Ok(0);
         }
-        self.good_writes -= 1;
+        self.room.writes -= 1;
         if buf.is_empty() {
             return Ok(0);
         }

@@ -1,0 +1,57 @@
+//! Blocks of a text: its sections, and the rows of a section.
+
+use fleet_map::text::first_line;
+use std::alloc::{AllocError, Global};
+
+/// What a line that begins with a mark says behind it, and the text up to the next such line.
+#[derive(Clone, Copy)]
+pub(crate) struct Block<'a> {
+    pub(crate) name: &'a str,
+    pub(crate) text: &'a [u8],
+}
+
+/// The text before the first line that begins so, that line behind its beginning, and the text behind the line.
+pub(crate) fn split_at<'a>(text: &'a [u8], start: &[u8]) -> Option<(&'a [u8], &'a [u8], &'a [u8])> {
+    let mut rest = text;
+    for _line in 0..text.len() {
+        let (line, after) = first_line(rest)?;
+        if let Some(tail) = line.strip_prefix(start) {
+            let before = text.len().saturating_sub(rest.len());
+            return Some((&text[..before.min(text.len())], tail, after));
+        }
+        rest = after;
+    }
+    None
+}
+
+/// The first block, and the text behind it.
+fn next_block<'a>(text: &'a [u8], mark: &[u8]) -> Option<(Block<'a>, &'a [u8])> {
+    let (_, name, behind) = split_at(text, mark)?;
+    let block = match split_at(behind, mark) {
+        Some((block, _, _)) => block,
+        None => behind,
+    };
+    let name = str::from_utf8(name).ok()?;
+    Some((
+        Block { name, text: block },
+        &behind[block.len().min(behind.len())..],
+    ))
+}
+
+/// The blocks of a text that lines with this mark begin.
+pub(crate) fn blocks_of<'a>(
+    alloc: Global,
+    text: &'a [u8],
+    mark: &[u8],
+) -> Result<Vec<Block<'a>>, AllocError> {
+    let mut blocks = Vec::new(alloc);
+    let mut rest = text;
+    for _block in 0..text.len() {
+        let Some((block, after)) = next_block(rest, mark) else {
+            break;
+        };
+        blocks.push(block)?;
+        rest = after;
+    }
+    Ok(blocks)
+}

@@ -1,0 +1,28 @@
+//! What the program answers to many cases.
+//!
+//! Behind a case's name `$ WORD ..` has the program's words and `< NAME` begins a file that they name. The other lines are the
+//! file's, or standard input's where no file has begun: `|TEXT` is a line, `:TEXT` one without its line end. What came out is
+//! written alike, with `!` before a line for the error writer, and last `? STATUS`.
+
+mod case;
+mod outcome;
+
+use crate::block::blocks_of;
+use case::Case;
+use outcome::tell_outcome;
+use std::alloc::{Alloc, AllocError, Global};
+use std::sync::Wait;
+use std::thread::Threads;
+
+/// Tells what came out of each case.
+pub(crate) fn tell<R: Alloc<A = Global> + Threads + Sync + Wait>(
+    rt: &R,
+    text: &[u8],
+    told: &mut Vec<u8>,
+) -> Result<(), AllocError> {
+    for block in &blocks_of(rt.alloc(), text, b"= ")? {
+        let case = Case::of(rt.alloc(), *block)?;
+        tell_outcome(rt, &case, told)?;
+    }
+    Ok(())
+}

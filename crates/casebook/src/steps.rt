@@ -1,0 +1,47 @@
+//! Each tick of rows, judged by itself.
+//!
+//! A row is a bundle of a map and a script. Its line tells how many steps the row has, that each of them is conflict-free, or which is
+//! not, and how many arrivals they bring.
+
+mod find;
+mod walk;
+
+use crate::block::blocks_of;
+use crate::bundle::Bundle;
+use find::find;
+use std::alloc::{Alloc, AllocError, Global};
+use std::sync::Wait;
+use std::thread::Threads;
+use walk::Finding;
+
+/// The line of a row. Without a finding the program writes no chapter of it.
+fn line_of(alloc: Global, name: &str, found: Option<Finding>) -> Result<String, AllocError> {
+    match found {
+        None => format!(in alloc; "{name}: no chapter\n"),
+        Some(Finding::ConflictFree { steps, arrivals }) => format!(in alloc;
+            "{name}: ticks {steps}, each conflict-free, arrivals {arrivals}\n"
+        ),
+        Some(Finding::Refused { step, fault }) => {
+            format!(in alloc; "{name}: tick {step} is refused, {fault:?}\n")
+        }
+        Some(Finding::Misplaced { step }) => {
+            format!(in alloc; "{name}: tick {step} begins with no placement\n")
+        }
+    }
+}
+
+/// Tells of the steps of each row.
+pub(crate) fn tell<R: Alloc<A = Global> + Threads + Sync + Wait>(
+    rt: &R,
+    text: &[u8],
+    told: &mut Vec<u8>,
+) -> Result<(), AllocError> {
+    let alloc = rt.alloc();
+    for block in &blocks_of(alloc, text, b"= ")? {
+        if let Some(bundle) = Bundle::of(block.text) {
+            let line = line_of(alloc, block.name, find(rt, bundle)?)?;
+            told.extend_from_slice(line.as_bytes())?;
+        }
+    }
+    Ok(())
+}
