@@ -230,13 +230,9 @@ impl<N: OfficeName<A>, A: Allocator + Copy> Rest<N, A> {
         ensures entries { OnOk result (HasEntries self.old.world) }
         ensures err { OnErr result ((self.new ≡ self.old) × (ticker.new ≡ ticker.old)) }
     {
-        match self.core.tick_by(rt, by) {
-            Ok(report) => {
-                ticker.count_tick(&mut self.book);
-                Ok(report)
-            }
-            Err(fault) => Err(fault),
-        }
+        let report = self.core.tick_by(rt, by)?;
+        ticker.count_tick(&mut self.book);
+        Ok(report)
     }
 
     /// A turn: gives all notices, takes the orders, makes one tick, and gives all notices.
