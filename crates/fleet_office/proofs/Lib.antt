@@ -17,3 +17,4 @@ pub mod Rested
 pub mod ChapterSteps
 pub mod Guests
 pub mod Counted
+pub mod TurnSteps

@@ -33,3 +33,12 @@ some-world P (Err e) w h = (w, h)
 pub some-outcome : {W X E : Type 0} {R : X → Type 0} (P : W → X → Type 0) (w : W) (r : Result X E) → ((x : X) → R x → P w x) → IfOk r R → IfOk r (λ x. (v : W) × P v x)
 some-outcome P w (Ok x) says h = (w, says x h)
 some-outcome P w (Err e) says h = tt
+
+-- what a call does between two worlds of a kind, it does between some of that kind
+pub some-step : {W X E : Type 0} (L : W → Type 0) (P : W → X → W → Type 0) (h g : W) (r : Result X E) → L h → IfOk r (λ x. P h x g) → IfOk r (λ x. (v u : W) × L v × P v x u)
+some-step L P h g (Ok x) l p = (h, g, l, p)
+some-step L P h g (Err e) l p = tt
+
+pub some-stop : {W X E : Type 0} (L : W → Type 0) (P : W → E → W → Type 0) (h g : W) (r : Result X E) → L h → IfErr r (λ e. P h e g) → IfErr r (λ e. (v u : W) × L v × P v e u)
+some-stop L P h g (Ok x) l p = tt
+some-stop L P h g (Err e) l p = (h, g, l, p)

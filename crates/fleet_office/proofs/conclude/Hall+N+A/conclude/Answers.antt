@@ -1,30 +1,30 @@
-use Rattle.std.proofs.Common.{◌≡◌, length, rules, sym, ap, ◌∙◌, subst, arith, inr}
+use Rattle.std.proofs.Common.{◌≡◌, length, sym, ap, ◌∙◌, subst, arith, inl, inr}
 use Rattle.fleet_history.specs.History.{history_of, clock}
 use Rattle.fleet_history.specs.Laws.{EachTick}
 use Rattle.fleet_plan.specs.Planned.{IsPlanned}
 use Rattle.fleet_office.specs.Views.{AreOn, AreDistinct, AreSettled, cores}
 use Rattle.fleet_office.specs.Draining.{DrainsFirst}
 use Rattle.fleet_office.specs.inside.Rests.{AreRooms}
-use Rattle.fleet_office.specs.Concluded.{AreHome, DrainsPart, AreTold}
+use Rattle.fleet_office.specs.Concluded.{AreHome, IsAway, DrainsPart, AreTold}
 use Rattle.fleet_office.proofs.Settling.{first_frame, lent_back}
 use Rattle.fleet_office.proofs.Ended.{told-same}
 use Rattle.fleet_office.proofs.conclude.Hall+N+A.conclude.Goals as goal
 
 pub come_to_rest-requires-clause-on : goal.come_to_rest-requires-clause-on
 come_to_rest-requires-clause-on g c =
-    let e : c.as_mut_slice.result.now ≡ c.args.clients.items = search rules in
+    let e = c.as_mut_slice.ensures.value in
     subst (λ xs. AreOn g.N.OfficeName.rings (cores xs)) (sym e) c.requires.on
 
 pub come_to_rest-requires-clause-distinct : goal.come_to_rest-requires-clause-distinct
 come_to_rest-requires-clause-distinct g c =
-    let e : c.as_mut_slice.result.now ≡ c.args.clients.items = search rules in
-    let a : c.as_slice.result.now ≡ c.args.clients.items = search rules in
+    let e = c.as_mut_slice.ensures.value in
+    let a = c.as_slice.ensures.value in
     subst (λ xs. AreDistinct (cores xs)) (a ∙ sym e) c.in_default.ensures.ok.distinct
 
 pub returns-in-Err-come_to_rest-clause-err : goal.returns-in-Err-come_to_rest-clause-err
 returns-in-Err-come_to_rest-clause-err g c =
     let count = length g.N.OfficeName.rings in
-    let a : c.as_slice.result.now ≡ c.args.clients.items = search rules in
+    let a = c.as_slice.ensures.value in
     let home : AreHome count c.args.clients.items c.args.tickers.items (clock c.args.self.rest.world.history) =
     subst (λ xs. AreHome count xs c.args.tickers.items (clock c.args.self.rest.world.history)) a c.in_default.ensures.ok in
     let f = c.in-Err-come_to_rest.ensures in
@@ -33,7 +33,7 @@ returns-in-Err-come_to_rest-clause-err g c =
 pub returns-in-Err-come_to_rest-clause-back : goal.returns-in-Err-come_to_rest-clause-back
 returns-in-Err-come_to_rest-clause-back g c =
     let items = c.args.clients.items in
-    let e : c.as_mut_slice.result.now ≡ items = search rules in
+    let e = c.as_mut_slice.ensures.value in
     let same : cores c.come_to_rest.new.clients ≡ cores items = c.come_to_rest.ensures.clients ∙ ap cores e in
     let now = lent_back c.come_to_rest.new.clients items c.args.clients.len (omega (arith, c.args.clients.ok.0)) same in
     let h = c.come_home-in-Err-come_to_rest.ensures in
@@ -42,7 +42,7 @@ returns-in-Err-come_to_rest-clause-back g c =
 pub finish-grid-requires-clause-on : goal.finish-grid-requires-clause-on
 finish-grid-requires-clause-on g c =
     let items = c.args.clients.items in
-    let e : c.as_mut_slice.result.now ≡ items = search rules in
+    let e = c.as_mut_slice.ensures.value in
     let same : cores c.come_to_rest.new.clients ≡ cores items = c.come_to_rest.ensures.clients ∙ ap cores e in
     let now = lent_back c.come_to_rest.new.clients items c.args.clients.len (omega (arith, c.args.clients.ok.0)) same in
     subst (AreOn g.N.OfficeName.rings) (sym (ap cores now ∙ same)) c.requires.on
@@ -50,8 +50,8 @@ finish-grid-requires-clause-on g c =
 pub finish-grid-requires-clause-distinct : goal.finish-grid-requires-clause-distinct
 finish-grid-requires-clause-distinct g c =
     let items = c.args.clients.items in
-    let e : c.as_mut_slice.result.now ≡ items = search rules in
-    let a : c.as_slice.result.now ≡ items = search rules in
+    let e = c.as_mut_slice.ensures.value in
+    let a = c.as_slice.ensures.value in
     let same : cores c.come_to_rest.new.clients ≡ cores items = c.come_to_rest.ensures.clients ∙ ap cores e in
     let now = lent_back c.come_to_rest.new.clients items c.args.clients.len (omega (arith, c.args.clients.ok.0)) same in
     subst AreDistinct (ap cores a ∙ sym (ap cores now ∙ same)) c.in_default.ensures.ok.distinct
@@ -59,7 +59,7 @@ finish-grid-requires-clause-distinct g c =
 pub finish-grid-requires-clause-settled : goal.finish-grid-requires-clause-settled
 finish-grid-requires-clause-settled g c =
     let items = c.args.clients.items in
-    let e : c.as_mut_slice.result.now ≡ items = search rules in
+    let e = c.as_mut_slice.ensures.value in
     let same : cores c.come_to_rest.new.clients ≡ cores items = c.come_to_rest.ensures.clients ∙ ap cores e in
     let now = lent_back c.come_to_rest.new.clients items c.args.clients.len (omega (arith, c.args.clients.ok.0)) same in
     subst (AreSettled c.come_to_rest.new.self.ends) (sym now) c.in-Ok.ensures.settled
@@ -67,7 +67,7 @@ finish-grid-requires-clause-settled g c =
 pub finish-grid-requires-clause-rooms : goal.finish-grid-requires-clause-rooms
 finish-grid-requires-clause-rooms g c =
     let items = c.args.clients.items in
-    let e : c.as_mut_slice.result.now ≡ items = search rules in
+    let e = c.as_mut_slice.ensures.value in
     let same : cores c.come_to_rest.new.clients ≡ cores items = c.come_to_rest.ensures.clients ∙ ap cores e in
     let now = lent_back c.come_to_rest.new.clients items c.args.clients.len (omega (arith, c.args.clients.ok.0)) same in
     subst (AreRooms c.in-Ok.rooms.items c.come_to_rest.new.self.world) (sym now) c.in-Ok.ensures.rooms
@@ -93,7 +93,7 @@ pub returns-clause-told : goal.returns-clause-told
 returns-clause-told g c =
     let items = c.args.clients.items in
     let f = c.finish-grid in
-    let e : c.as_mut_slice.result.now ≡ items = search rules in
+    let e = c.as_mut_slice.ensures.value in
     let same : cores c.come_to_rest.new.clients ≡ cores items = c.come_to_rest.ensures.clients ∙ ap cores e in
     let now = lent_back c.come_to_rest.new.clients items c.args.clients.len (omega (arith, c.args.clients.ok.0)) same in
     told-same f.result.1.number (history_of f.result.1) items c.come_to_rest.new.clients f.result.2.items same
@@ -102,7 +102,71 @@ returns-clause-told g c =
 pub returns-clause-all : goal.returns-clause-all
 returns-clause-all g c =
     let count = length g.N.OfficeName.rings in
-    let a : c.as_slice.result.now ≡ c.args.clients.items = search rules in
+    let a = c.as_slice.ensures.value in
     let home : AreHome count c.args.clients.items c.args.tickers.items (clock c.args.self.rest.world.history) =
     subst (λ xs. AreHome count xs c.args.tickers.items (clock c.args.self.rest.world.history)) a c.in_default.ensures.ok in
     home.all
+
+pub returns-in-Err : goal.returns-in-Err
+returns-in-Err g c =
+    let count = length g.N.OfficeName.rings in
+    let h = c.come_home.ensures in
+    record {
+      drains = tt;
+      legal = tt;
+      planned = tt;
+      advancing = tt;
+      told = tt;
+      tick = tt;
+      all = tt;
+      home = tt;
+      err = inl (subst (λ xs. IsAway count xs c.args.tickers.items (clock c.args.self.rest.world.history) c.in-Err.fault) c.as_slice.ensures.value c.in-Err.ensures.err);
+      back = (ap cores h.0, h.1 ∙ c.see_home.ensures.tickers);
+    }
+
+pub returns-clause-legal : goal.returns-clause-legal
+returns-clause-legal g c = c.finish-grid.ensures.legal
+
+pub returns-clause-advancing : goal.returns-clause-advancing
+returns-clause-advancing g c = c.finish-grid.ensures.advancing
+
+pub returns-clause-tick : goal.returns-clause-tick
+returns-clause-tick g c =
+    let was = c.in_default.ensures.ok.counted in
+    let total = c.come_to_rest.ensures.total ∙ ap (λ v. v.total) c.see_home.ensures.same in
+    let made = c.clock-tick.ensures in
+    (made ∙ ap clock (sym c.finish-grid.ensures.history), made ∙ sym c.lawful-2.ensures.clock ∙ total ∙ c.lawful.ensures.clock ∙ sym was)
+
+pub returns-clause-home : goal.returns-clause-home
+returns-clause-home g c =
+    subst (λ xs. AreHome (length g.N.OfficeName.rings) xs c.args.tickers.items (clock c.args.self.rest.world.history)) c.as_slice.ensures.value c.in_default.ensures.ok
+
+pub returns-clause-err : goal.returns-clause-err
+returns-clause-err g c = tt
+
+pub returns-clause-back : goal.returns-clause-back
+returns-clause-back g c = tt
+
+pub returns-in-Err-come_to_rest-clause-drains : goal.returns-in-Err-come_to_rest-clause-drains
+returns-in-Err-come_to_rest-clause-drains g c = tt
+
+pub returns-in-Err-come_to_rest-clause-legal : goal.returns-in-Err-come_to_rest-clause-legal
+returns-in-Err-come_to_rest-clause-legal g c = tt
+
+pub returns-in-Err-come_to_rest-clause-planned : goal.returns-in-Err-come_to_rest-clause-planned
+returns-in-Err-come_to_rest-clause-planned g c = tt
+
+pub returns-in-Err-come_to_rest-clause-advancing : goal.returns-in-Err-come_to_rest-clause-advancing
+returns-in-Err-come_to_rest-clause-advancing g c = tt
+
+pub returns-in-Err-come_to_rest-clause-told : goal.returns-in-Err-come_to_rest-clause-told
+returns-in-Err-come_to_rest-clause-told g c = tt
+
+pub returns-in-Err-come_to_rest-clause-tick : goal.returns-in-Err-come_to_rest-clause-tick
+returns-in-Err-come_to_rest-clause-tick g c = tt
+
+pub returns-in-Err-come_to_rest-clause-all : goal.returns-in-Err-come_to_rest-clause-all
+returns-in-Err-come_to_rest-clause-all g c = tt
+
+pub returns-in-Err-come_to_rest-clause-home : goal.returns-in-Err-come_to_rest-clause-home
+returns-in-Err-come_to_rest-clause-home g c = tt

@@ -1,3 +1,4 @@
+use Rattle.fleet_office.specs.Views.{core}
 use Rattle.std.proofs.Common.{◌≡◌, ◌<◌, length, set, Some, refl, sym, ◌∙◌, ap, arith}
 use Rattle.std.specs.Prelude.{slice_get}
 use Rattle.std.proofs.lemmas.Option.{slice_get_read, slice_get_within}
@@ -39,3 +40,13 @@ returns-clause-met g c = λ e at.
     let s = c.self.inside in
     let is = is_set s.ends.items c.number-c.result c.beside.new.self e (ap (slice_get (set s.ends.items c.number-c.result c.beside.new.self)) c.number-c.ensures ∙ at) in
     rw (← is) (c.beside.ensures.orders, c.beside.ensures.notices, c.known.ensures)
+
+pub index_mut-end-requires : goal.index_mut-end-requires
+index_mut-end-requires g c =
+    omega (arith, slice_get_within g.N.OfficeName.rings c.args.client.now.number c.args.client.now.lane c.requires, c.self.invariant.ring_count, c.number-c.ensures, c.self.inside.ends.ok.0)
+
+pub returns-clause-client : goal.returns-clause-client
+returns-clause-client g c = ap core c.beside.ensures.client
+
+pub returns-clause-world : goal.returns-clause-world
+returns-clause-world g c = rw (← c.self.view_is) (refl, refl)

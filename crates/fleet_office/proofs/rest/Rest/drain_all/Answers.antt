@@ -1,4 +1,5 @@
-use Rattle.std.proofs.Common.{◌∙◌, arith}
+use Rattle.std.proofs.Common.{◌≡◌, ◌∙◌, length, refl, subst, arith}
+use Rattle.fleet_office.specs.Draining.{DrainsFirst}
 use Rattle.fleet_office.proofs.Settling.{settled_next, settled_all, first_more}
 use Rattle.fleet_office.proofs.rest.Rest.drain_all.Goals as goal
 
@@ -17,3 +18,12 @@ pub returns-clause-ok : goal.returns-clause-ok
 returns-clause-ok g c =
     let i = c.loop-number.invariant in
     settled_all g.N.OfficeName.rings c.loop-number.self.ends c.loop-number.clients c.args.clients.now c.loop-number.number (omega (arith, c.loop-number-test.false, c.ring_count-number-end.ensures)) i.0 c.requires.on i.2
+
+pub loop-number-init : goal.loop-number-init
+loop-number-init g c = (refl, refl, (λ k x less at. absurd (omega (arith, less))), refl)
+
+pub returns-clause-drains : goal.returns-clause-drains
+returns-clause-drains g c =
+    let i = c.loop-number.invariant in
+    let all : c.loop-number.number ≡ length g.N.OfficeName.rings = omega (arith, c.loop-number-test.false, c.loop-number.auto.number-end, c.ring_count-number-end.ensures) in
+    subst (λ n. DrainsFirst n c.args.self.now.world c.loop-number.self.world) all i.3

@@ -1,4 +1,4 @@
-use Rattle.std.proofs.Common.{◌≡◌, Some, rules, sym, ap, ◌∙◌, subst, arith}
+use Rattle.std.proofs.Common.{◌≡◌, Some, sym, ap, ◌∙◌, subst, arith}
 use Rattle.std.specs.Prelude.{slice_get}
 use Rattle.std.proofs.lemmas.Option.{slice_get_within}
 use Rattle.fleet_history.specs.History.{history_of}
@@ -10,7 +10,7 @@ use Rattle.fleet_office.proofs.rest.Rest.finish.Goals as goal
 
 pub fill-requires-clause-inside : goal.fill-requires-clause-inside
 fill-requires-clause-inside g c = λ k x at.
-    let e : c.as_mut_slice.result.now ≡ c.args.clients.items = search rules in
+    let e = c.as_mut_slice.ensures.value in
     let there : slice_get c.args.clients.items k ≡ Some x = sym (ap (λ xs. slice_get xs k) e) ∙ at in
     let ring = c.requires.on k (core x) (map_at core c.args.clients.items k x there) in
     let i = c.self.invariant in
@@ -18,12 +18,12 @@ fill-requires-clause-inside g c = λ k x at.
 
 pub fill-requires-clause-distinct : goal.fill-requires-clause-distinct
 fill-requires-clause-distinct g c =
-    let e : c.as_mut_slice.result.now ≡ c.args.clients.items = search rules in
+    let e = c.as_mut_slice.ensures.value in
     subst (λ xs. AreDistinct (cores xs)) (sym e) c.requires.distinct
 
 pub fill-requires-clause-rooms : goal.fill-requires-clause-rooms
 fill-requires-clause-rooms g c =
-    let e : c.as_mut_slice.result.now ≡ c.args.clients.items = search rules in
+    let e = c.as_mut_slice.ensures.value in
     let rooms : AreRooms c.args.rooms.items c.self.inside.core c.args.clients.items = subst (λ v. AreRooms c.args.rooms.items v.world c.args.clients.items) (sym c.self.view_is) c.requires.rooms in
     subst (AreRooms c.args.rooms.items c.self.inside.core) (sym e) rooms
 
@@ -42,7 +42,7 @@ returns-clause-told g c =
     let f = c.finish-grid in
     let s = c.self.inside in
     let cs = c.args.clients.items in
-    let e : c.as_mut_slice.result.now ≡ cs = search rules in
+    let e = c.as_mut_slice.ensures.value in
     let settled : AreSettled s.ends.items cs = subst (λ v. AreSettled v.ends cs) (sym c.self.view_is) c.requires.settled in
     let rests : RestsAre c.fill.new.rooms.items s.core cs = subst (RestsAre c.fill.new.rooms.items s.core) e c.fill.ensures.rests in
     told-ended g.N.OfficeName.rings s.core s.ends.items s.book.total c.self.invariant f.result.1.number (history_of f.result.1) cs c.fill.new.rooms.items

@@ -1,4 +1,5 @@
-use Rattle.std.proofs.Common.{◌∙◌, arith}
+use Rattle.std.proofs.Common.{◌≡◌, ◌∙◌, length, refl, subst, arith}
+use Rattle.fleet_office.specs.Hall.{GivesFrom}
 use Rattle.fleet_office.proofs.Counted.{one-given, one-length, from-more}
 use Rattle.fleet_office.proofs.rest.Rest.give_all.Goals as goal
 
@@ -16,3 +17,20 @@ loop-client-preserved g c =
       one-length c.loop-client.self o.new.self c.loop-client.client o.result o.ensures ∙ i.1,
       omega (arith, i.2, one-given c.loop-client.self o.new.self c.loop-client.client o.result o.ensures),
     )
+
+pub loop-client-init : goal.loop-client-init
+loop-client-init g c = ((refl, refl), refl, omega arith)
+
+pub give_one-given-requires : goal.give_one-given-requires
+give_one-given-requires g c = omega (arith, c.loop-client-test.true, c.clients-client-end.ensures.count, c.loop-client.invariant.1)
+
+pub returns : goal.returns
+returns g c =
+    let i = c.loop-client.invariant in
+    let all : c.loop-client.client ≡ length c.args.self.now.ends = omega (arith, c.loop-client-test.false, c.loop-client.auto.client-end, c.clients-client-end.ensures.count) in
+    record {
+      all = subst (λ n. GivesFrom n c.args.self.now c.loop-client.count c.loop-client.self) all i.0;
+      as_many = i.1;
+      counted = i.2;
+      few = c.is_countable-2.ensures;
+    }

@@ -14,3 +14,6 @@ returns-clause-idle_within g c = rw (← c.self.view_is) c.idle_within.ensures.e
 
 pub returns-clause-within : goal.returns-clause-within
 returns-clause-within g c = rw (← c.self.view_is) c.idle_within.ensures.idle
+
+pub returns-clause-chapter : goal.returns-clause-chapter
+returns-clause-chapter g c = rw (← c.self.view_is) c.chapter-chapter.ensures.number

@@ -7,26 +7,19 @@ invariant_of-self g c =
     let n = c.next_chapter-handed in
     kept-next g.N.OfficeName.rings s.core n.new.self s.ends.items s.book.total n.result n.ensures.next n.ensures.err c.chapter.ensures.legal c.self.invariant
 
-pub returns-clause-planned : goal.returns-clause-planned
-returns-clause-planned g c = rw (← c.self.view_is) c.next_chapter-handed.ensures.planned
-
-pub returns-clause-advancing : goal.returns-clause-advancing
-returns-clause-advancing g c = rw (← c.self.view_is) c.next_chapter-handed.ensures.advancing
-
-pub returns-clause-history : goal.returns-clause-history
-returns-clause-history g c = rw (← c.self.view_is) c.next_chapter-handed.ensures.history
-
-pub returns-clause-number : goal.returns-clause-number
-returns-clause-number g c = rw (← c.self.view_is) c.next_chapter-handed.ensures.number
-
-pub returns-clause-next : goal.returns-clause-next
-returns-clause-next g c =
+pub returns : goal.returns
+returns g c =
     let s = c.self.inside in
     let n = c.next_chapter-handed in
-    rw (← c.self.view_is) (hall-next s.core n.new.self s.ends.items s.book.total n.result n.ensures.next)
-
-pub returns-clause-err : goal.returns-clause-err
-returns-clause-err g c =
-    let s = c.self.inside in
-    let n = c.next_chapter-handed in
-    rw (← c.self.view_is) (hall-stays s.core n.new.self s.ends.items s.book.total n.result n.ensures.err)
+    let e = n.ensures in
+    rw (← c.self.view_is)
+    record {
+      book_spent = e.book_spent;
+      history = e.history;
+      number = e.number;
+      legal = e.legal;
+      planned = e.planned;
+      advancing = e.advancing;
+      next = hall-next s.core n.new.self s.ends.items s.book.total n.result e.next;
+      err = hall-stays s.core n.new.self s.ends.items s.book.total n.result e.err;
+    }
