@@ -1,0 +1,52 @@
+//! The floor of a drawn map, and whether cells are floor.
+
+ghost use Rattle.std.specs.Prelude.{ℕ, ◌≡◌, ◌<◌, length, slice_index, IfOk, IfSome};
+ghost use Rattle.std.specs.Bool.{OnTrue};
+ghost use Rattle.fleet_grid.specs.Floor.{IsFloor, floor_of};
+
+use fleet_grid::Grid;
+use fleet_map::MapText;
+use std::alloc::{AllocError, Allocator, Global};
+use std::test::Fail;
+
+/// The grid of a map; none where its letters do not fill its sides.
+pub(crate) fn grid_of_text<A: Allocator + Copy>(
+    map: MapText<A>,
+) -> Result<Option<Grid<A>>, AllocError>
+    ensures { IfOk result (λ grid. IfSome grid (λ grid. grid ≡ floor_of map.height map.width map.cells.items)) }
+{
+    if map.height > 1024
+        || map.width > 1024
+        || map.cells.len() != (map.height * map.width) as usize
+    {
+        return Ok(None);
+    }
+    Ok(Some(Grid::new(map)?))
+}
+
+/// The grid of a map whose letters fill its sides.
+pub(crate) fn grid_of(alloc: Global, height: u32, width: u32, cells: &[u8]) -> Result<Grid, Fail>
+    ensures { IfOk result (λ grid. grid ≡ floor_of height width cells.now) }
+{
+    let map = MapText {
+        height,
+        width,
+        cells: Vec::from_slice(alloc, cells)?,
+    };
+    match grid_of_text(map)? {
+        Some(grid) => Ok(grid),
+        None => Err(Fail::new("no map")),
+    }
+}
+
+/// Whether all these cells are floor.
+pub(crate) fn are_floor(grid: &Grid, cells: &[u32]) -> bool
+    ensures { OnTrue result ((i : ℕ) → i < length cells.now → IsFloor grid.now (slice_index cells.now i)) }
+{
+    for at in 0..cells.len() {
+        if !grid.is_floor(cells[at]) {
+            return false;
+        }
+    }
+    true
+}

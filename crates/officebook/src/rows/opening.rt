@@ -1,0 +1,138 @@
+//! A row's opening: its floor, its robots with their closures, and the names of its office.
+
+ghost use Rattle.std.specs.Prelude.{◌≡◌};
+
+use crate::rows::case::Case;
+use crate::rows::plan::{Call, Plan};
+use crate::rows::play::play;
+use crate::rows::stage::Fleet;
+use crate::rows::telling::Telling;
+use fleet_calls::OpenFault;
+use fleet_grid::Grid;
+use fleet_hooks::{
+    ArrivalHook, ArrivalView, Farewell, FarewellView, Hooks, StampLaw, TieHook, TieLaw, TieView,
+};
+use fleet_map::MapText;
+use fleet_office::Desk;
+use refusing::Refusing;
+use std::alloc::{AllocError, Allocator, Global};
+use std::marker::Brand;
+use std::sync::Wait;
+
+/// What all of an office lies on.
+type Heap<'a> = &'a Refusing<Global>;
+
+/// Ranks of any kind.
+const ANY: TieLaw = TieLaw {
+    low: [0; 4],
+    high: [255; 4],
+};
+
+/// Stamps of any kind.
+const STAMPS: StampLaw = StampLaw {
+    low: 0,
+    high: 4_294_967_295,
+};
+
+/// A row's grid. None where the letters do not fill the sides.
+fn grid_of<A: Allocator + Copy>(heap: A, case: &Case) -> Result<Option<Grid<A>>, AllocError> {
+    let (height, width) = case.sides;
+    if height > 1_024 || width > 1_024 || case.letters.len() != height as usize * width as usize {
+        return Ok(None);
+    }
+    let map = MapText {
+        height,
+        width,
+        cells: Vec::from_slice(heap, case.letters)?,
+    };
+    Ok(Some(Grid::new(map)?))
+}
+
+/// A row's grid, and where its robots start. None where the letters do not fill the sides.
+fn floor_of<A: Allocator + Copy>(
+    heap: A,
+    case: &Case,
+) -> Result<Option<(Grid<A>, Vec<u32, A>)>, AllocError> {
+    let starts = Vec::from_slice(heap, case.starts)?;
+    match grid_of(heap, case)? {
+        Some(grid) => Ok(Some((grid, starts))),
+        None => Ok(None),
+    }
+}
+
+/// Plays a row with this fleet, or says why its office was not opened.
+fn fleet_play<'a, R: Wait>(
+    rt: &'a R,
+    fleet: Fleet<Heap<'a>>,
+    case: &Case,
+    plan: Plan<'a>,
+    book: &mut Telling,
+) -> Result<Result<(), OpenFault>, AllocError> {
+    let heap = plan.heap;
+    plan.begin(Call::Desk);
+    let desk = Desk::new(heap, case.clients, case.limits);
+    plan.end();
+    let (lent, course) = ((rt, heap), case.course());
+    match desk {
+        Ok(desk) => play::<Brand, Heap<'_>, (&R, Heap<'_>)>(&lent, desk, fleet, course, plan, book),
+        Err(fault) => Ok(Err(fault)),
+    }
+}
+
+/// Plays a row with closures that answer 0, or says why it was not opened.
+fn opened_play<'a, R: Wait>(
+    rt: &'a R,
+    case: &Case,
+    plan: Plan<'a>,
+    book: &mut Telling,
+) -> Result<Result<(), OpenFault>, AllocError> {
+    let (alloc, heap) = (book.alloc, plan.heap);
+    let Some((grid, starts)) = floor_of(heap, case)? else {
+        return Ok(Err(OpenFault::NoRobots));
+    };
+    let mut hooks = Hooks::new(heap);
+    let mut complete = true;
+    for _robot in case.starts {
+        let tie = Box::new(alloc, |_view: TieView| 0);
+        let arrival = Box::new(alloc, |_view: ArrivalView| 0);
+        let farewell = Box::new(alloc, |_view: FarewellView| 0);
+        if let (Ok(tie), Ok(arrival), Ok(farewell)) = (tie, arrival, farewell) {
+            let tie = TieHook::new(ANY, tie);
+            let arrival = ArrivalHook::new(STAMPS, arrival);
+            let farewell = Farewell::new(STAMPS, farewell);
+            complete &= hooks.push(tie, arrival, farewell).is_ok();
+        } else {
+            complete = false;
+        }
+    }
+    let fleet = Fleet {
+        grid,
+        starts,
+        hooks,
+    };
+    if complete {
+        fleet_play(rt, fleet, case, plan, book)
+    } else {
+        Err(AllocError)
+    }
+}
+
+/// Plays a row, and where memory was refused to its opening, once more.
+pub(crate) fn perform<R: Wait>(
+    rt: &R,
+    case: &Case,
+    plan: Plan<'_>,
+    book: &mut Telling,
+) -> Result<(), AllocError> {
+    let played = match opened_play(rt, case, plan, book)? {
+        Err(OpenFault::NoMemory) => opened_play(rt, case, plan, book)?,
+        played => played,
+    };
+    match played {
+        Ok(()) => Ok(()),
+        Err(fault) => {
+            let line = format!(in book.alloc; "not opened: {fault:?}")?;
+            book.line(&line)
+        }
+    }
+}

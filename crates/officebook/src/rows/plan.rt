@@ -1,0 +1,37 @@
+//! Which growth is refused.
+
+use refusing::Refusing;
+use std::alloc::Global;
+
+/// A call of a row.
+#[derive(Clone, Copy, Debug, PartialEq, Eq)]
+pub(crate) enum Call {
+    /// None.
+    None,
+    Desk,
+    Open,
+    /// The step of this number, from 0.
+    Step(usize),
+}
+
+/// The call that meets a refused growth, and how many growths come before that one in it.
+#[derive(Clone, Copy)]
+pub(crate) struct Plan<'a> {
+    pub(crate) heap: &'a Refusing<Global>,
+    pub(crate) call: Call,
+    pub(crate) before: u64,
+}
+
+impl Plan<'_> {
+    /// Before a call: refuses its growth where it is the one.
+    pub(crate) fn begin(&self, call: Call) {
+        if self.call == call {
+            self.heap.refuse(self.before);
+        }
+    }
+
+    /// After a call.
+    pub(crate) fn end(&self) {
+        self.heap.rest();
+    }
+}

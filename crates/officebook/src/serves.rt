@@ -1,0 +1,28 @@
+//! Scripts that are served, and what came of them: rows whose gate holds clients' threads where it matters, rows of bounded
+//! waits, and a thousand scripts from seeds. A line for each row and one for the thousand, the same ones in each run.
+
+mod came;
+mod gate;
+mod lines;
+mod play;
+mod random;
+mod row;
+mod seeds;
+mod yard;
+
+use lines::{line_of, thousand_line};
+use row::ROWS;
+use std::alloc::{Alloc, AllocError, Global};
+use std::sync::Wait;
+use std::thread::Threads;
+
+/// What is told of the serves.
+pub(crate) fn tell<R: Alloc<A = Global> + Threads + Sync + Wait>(
+    rt: &R,
+    told: &mut String,
+) -> Result<(), AllocError> {
+    for row in &ROWS {
+        told.push_str(&line_of(rt, row)?)?;
+    }
+    told.push_str(&thousand_line(rt)?)
+}

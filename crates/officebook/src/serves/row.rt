@@ -1,0 +1,101 @@
+//! The rows: a script on a yard, who is held, and what is told of it.
+
+use crate::serves::gate::Hold;
+use crate::serves::yard::{CORRIDOR, RING, TWO_CELLS, Yard};
+
+/// A fact that a row tells.
+#[derive(Clone, Copy, Debug, PartialEq, Eq)]
+pub(crate) enum Fact {
+    /// Whether those who were held were let go by a flag, none by the number of tries.
+    Held,
+    LaneFull,
+    Takes,
+    Arrivals,
+    Unfinished,
+    SameMap,
+    Legal,
+    Told,
+}
+
+/// A script on a yard.
+#[derive(Clone, Copy, Debug)]
+pub(crate) struct Row {
+    pub(crate) name: &'static str,
+    pub(crate) yard: Yard,
+    pub(crate) script: &'static [u8],
+    pub(crate) hold: Hold,
+    pub(crate) facts: &'static [Fact],
+}
+
+/// Two clients, whose threads have to run at the same time.
+const SIDE_BY_SIDE: Row = Row {
+    name: "clients_side_by_side",
+    yard: TWO_CELLS,
+    script: b"robots 0\nclients 2\npost 0 go 0 1\npost 1 go 0 0\n",
+    hold: Hold::FirstLines,
+    facts: &[
+        Fact::Held,
+        Fact::LaneFull,
+        Fact::Takes,
+        Fact::SameMap,
+        Fact::Legal,
+        Fact::Told,
+    ],
+};
+
+/// A tick stands in a closure while the client posts twice into a lane of one.
+const LANE_OF_ONE: Row = Row {
+    name: "lane_of_one",
+    yard: TWO_CELLS,
+    script: b"robots 0\nlane 1\nturns 1\npost 0 go 0 1\npost 0 go 0 1\ncollect 0\n",
+    hold: Hold::LineAndTick,
+    facts: &[
+        Fact::Held,
+        Fact::LaneFull,
+        Fact::Takes,
+        Fact::Legal,
+        Fact::Told,
+    ],
+};
+
+/// Where no map has a bridge, all errands are done at the end.
+const IDLE_AT_THE_END: Row = Row {
+    name: "idle_at_the_end",
+    yard: RING,
+    script: b"robots 0 8\nclients 2\nturns 1\npost 0 go 0 1\npost 0 go 0 2\npost 1 go 1 0\n",
+    hold: Hold::Nobody,
+    facts: &[Fact::Arrivals, Fact::Unfinished, Fact::Legal, Fact::Told],
+};
+
+/// Two robots stand in each other's way for ever.
+const STANDOFF: Row = Row {
+    name: "standoff",
+    yard: CORRIDOR,
+    script: b"robots 0 2\nturns 1\npost 0 go 0 2\npost 0 go 1 0\n",
+    hold: Hold::Nobody,
+    facts: &[Fact::Takes, Fact::Arrivals, Fact::Legal, Fact::Told],
+};
+
+/// The second order waits for an arrival that never comes.
+const NEVER_DRAINED: Row = Row {
+    name: "never_drained",
+    script: b"robots 0 2\nturns 1\nmailbox 2\nclock 2000000\nchapter 2000000\npost 0 go 0 2\npost 0 go 1 0\n",
+    ..STANDOFF
+};
+
+/// The same under a clock that ends before.
+const CLOCK_SPENT: Row = Row {
+    name: "clock_spent",
+    script: b"robots 0 2\nturns 1\nmailbox 2\nclock 100\npost 0 go 0 2\npost 0 go 1 0\n",
+    ..STANDOFF
+};
+
+/// All rows.
+pub(crate) const ROWS: [Row; 6] = [
+    SIDE_BY_SIDE,
+    LANE_OF_ONE,
+    IDLE_AT_THE_END,
+    STANDOFF,
+    NEVER_DRAINED,
+    CLOCK_SPENT,
+];

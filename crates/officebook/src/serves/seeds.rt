@@ -1,0 +1,81 @@
+//! Scripts from seeds.
+
+use crate::serves::random::Random;
+use crate::serves::yard::{CORRIDOR, RING, SHELVES, SQUARE, Yard};
+use std::alloc::{AllocError, Global};
+use std::fmt::Write;
+
+/// A script's text, and where it is served.
+#[derive(Drop)]
+pub(crate) struct Seeded {
+    pub(crate) yard: Yard,
+    pub(crate) script: String,
+}
+
+fn yard_of(random: &mut Random) -> Yard {
+    match random.below(4) {
+        0 => RING,
+        1 => SQUARE,
+        2 => SHELVES,
+        _ => CORRIDOR,
+    }
+}
+
+/// The header line of the robots, on floor cells from the first on. The result is how many they are.
+fn write_robots(text: &mut String, random: &mut Random, yard: &Yard) -> Result<u32, AllocError> {
+    let wanted = 1 + random.below(16);
+    let mut robots = 0u32;
+    text.push_str("robots")?;
+    for (cell, letter) in yard.letters.iter().enumerate() {
+        if robots < wanted && *letter == b'.' {
+            write!(text, " {cell}")?;
+            robots += 1;
+        }
+    }
+    text.push_str("\n")?;
+    Ok(robots)
+}
+
+/// A line of a client: a collect, a withdrawal, or an errand, now and then for no robot or to no cell.
+fn write_line(
+    text: &mut String,
+    random: &mut Random,
+    client: u32,
+    robots: u32,
+    cells: u32,
+) -> Result<(), AllocError> {
+    match random.below(8) {
+        0 => write!(text, "collect {client}\n"),
+        1 => {
+            let number = 1 + random.below(4);
+            write!(text, "post {client} withdraw {number}\n")
+        }
+        _ => {
+            let robot = random.below(robots.saturating_add(1));
+            let cell = random.below(cells.saturating_add(1));
+            write!(text, "post {client} go {robot} {cell}\n")
+        }
+    }
+}
+
+/// The script of a seed, with 1 to 64 clients, some of whom close with their last line.
+pub(crate) fn script_from(alloc: Global, seed: u32) -> Result<Seeded, AllocError> {
+    let mut random = Random::from_seed(u64::from(seed));
+    let yard = yard_of(&mut random);
+    let mut script = String::new(alloc);
+    let robots = write_robots(&mut script, &mut random, &yard)?;
+    let clients = 1 + seed % 64;
+    let (lane, turns) = (1 + random.below(8), 1 + random.below(4));
+    let cells = yard.height.saturating_mul(yard.width);
+    write!(script, "clients {clients}\nlane {lane}\nturns {turns}\n")?;
+    for _ in 0..clients.saturating_mul(1 + random.below(6)) {
+        let client = random.below(clients);
+        write_line(&mut script, &mut random, client, robots, cells)?;
+    }
+    for client in 0..clients {
+        if random.below(4) == 0 {
+            write!(script, "post {client} close\n")?;
+        }
+    }
+    Ok(Seeded { yard, script })
+}

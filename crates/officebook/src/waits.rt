@@ -1,0 +1,54 @@
+//! Clients that work without the office's lock: while a turn stands in a robot's closure, clients post and collect, and another
+//! ticker's turn waits. The closure goes on when they are done. A line a case tells what came out.
+
+mod flags;
+mod opening;
+mod play;
+mod staff;
+
+use opening::{Case, played};
+use play::Outcome;
+use std::alloc::{Alloc, AllocError, Global};
+use std::fmt::Write;
+use std::sync::Wait;
+use std::thread::Threads;
+
+/// One client posts once.
+const POSTS: Case = Case {
+    name: "posts_while_a_hook_waits",
+    clients: 1,
+    posts: 1,
+    turns: 0,
+};
+
+/// Two clients post until their lanes are full, and the other ticker makes a turn.
+const BLOCKED: Case = Case {
+    name: "blocked_hook",
+    clients: 2,
+    posts: 1_000,
+    turns: 1,
+};
+
+/// The line of a case that came to an outcome.
+fn tell_outcome(told: &mut String, case: &Case, outcome: &Outcome) -> Result<(), AllocError> {
+    let flag = if outcome.seen { "seen" } else { "missed" };
+    writeln!(
+        told,
+        "{}: flag {flag} posted {} collected {} tick {}",
+        case.name, outcome.posted, outcome.collected, outcome.tick
+    )
+}
+
+/// What is told of both cases.
+pub(crate) fn tell<R: Alloc<A = Global> + Threads + Sync + Wait>(
+    rt: &R,
+    told: &mut String,
+) -> Result<(), AllocError> {
+    for case in [POSTS, BLOCKED] {
+        match played(rt, &case) {
+            Ok(outcome) => tell_outcome(told, &case, &outcome)?,
+            Err(fault) => writeln!(told, "{}: {fault:?}", case.name)?,
+        }
+    }
+    Ok(())
+}
