@@ -6,6 +6,7 @@ mod calls;
 mod case;
 mod faults;
 mod hall;
+mod meter;
 mod opening;
 mod plan;
 mod play;
@@ -14,23 +15,19 @@ mod stage;
 mod table;
 mod telling;
 
+use meter::Meter;
 use opening::perform;
 use plan::{Call, Plan};
 use refused::{find_lanes, tell_refused};
-use refusing::Refusing;
 use std::alloc::{Alloc, AllocError, Global};
 use std::sync::Wait;
 use table::{REFUSED, ROWS};
 use telling::Telling;
 
 /// Tells of all rows.
-fn tell_rows<R: Wait>(
-    rt: &R,
-    heap: &Refusing<Global>,
-    book: &mut Telling,
-) -> Result<(), AllocError> {
+fn tell_rows<R: Wait>(rt: &R, meter: &Meter<Global>, book: &mut Telling) -> Result<(), AllocError> {
     let plan = Plan {
-        heap,
+        meter,
         call: Call::None,
         before: 0,
     };
@@ -45,15 +42,15 @@ fn tell_rows<R: Wait>(
 /// Tells of the rows in which growths are refused.
 fn tell_all_refused<R: Wait>(
     rt: &R,
-    heap: &Refusing<Global>,
+    meter: &Meter<Global>,
     book: &mut Telling,
 ) -> Result<(), AllocError> {
     for case in &REFUSED {
         let line = format!(in book.alloc; "= refused {}", case.name)?;
         book.line(&line)?;
-        tell_refused(rt, heap, case, book)?;
+        tell_refused(rt, meter, case, book)?;
     }
-    let finding = find_lanes(heap);
+    let finding = find_lanes(meter);
     let line = format!(in book.alloc; "= refused lane_pair\n{finding:?}")?;
     book.line(&line)
 }
@@ -64,8 +61,8 @@ pub(crate) fn tell<R: Alloc<A = Global> + Wait>(
     told: &mut String,
 ) -> Result<(), AllocError> {
     let mut book = Telling::new(rt.alloc());
-    let heap = Refusing::at_rest(rt.alloc());
-    tell_rows(rt, &heap, &mut book)?;
-    tell_all_refused(rt, &heap, &mut book)?;
+    let meter = Meter::new(rt.alloc());
+    tell_rows(rt, &meter, &mut book)?;
+    tell_all_refused(rt, &meter, &mut book)?;
     told.push_str(&book.text)
 }

@@ -1,4 +1,4 @@
-//! An allocator for tests: it refuses one allocation, and can be told which, so that a test can see what a call answers then.
+//! An allocator for tests: it refuses one allocation, so that a test can see what a call answers then.
 #![tactic(auto)]
 
 mod refusing;

@@ -3,9 +3,6 @@
 use std::alloc::{AllocError, Allocator};
 use std::sync::atomic::{AtomicU64, Ordering};
 
-/// So many allocations come before the next refused one that no test meets it.
-const FAR: u64 = 1 << 62;
-
 /// Passes each call on to `inner`, but for the one allocation that comes after so many others.
 pub struct Refusing<B: Allocator> {
     inner: B,
@@ -19,33 +16,6 @@ impl<B: Allocator> Refusing<B> {
             inner,
             left: AtomicU64::new(before),
         }
-    }
-
-    /// Refuses nothing yet.
-    pub fn at_rest(inner: B) -> Refusing<B> {
-        Refusing::after(inner, FAR)
-    }
-
-    /// Refuses the allocation that comes after `before` others from now on, where none was refused yet.
-    pub fn refuse(&self, before: u64) {
-        if !self.has_refused() {
-            self.left.store(before, Ordering::SeqCst);
-        }
-    }
-
-    /// Refuses nothing from now on.
-    pub fn rest(&self) {
-        self.refuse(FAR);
-    }
-
-    /// Forgets what was refused, and refuses nothing.
-    pub fn forget(&self) {
-        self.left.store(FAR, Ordering::SeqCst);
-    }
-
-    /// Whether an allocation was refused.
-    pub fn has_refused(&self) -> bool {
-        self.left.load(Ordering::SeqCst) > FAR
     }
 }
 

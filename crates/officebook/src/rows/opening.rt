@@ -3,6 +3,7 @@
 ghost use Rattle.std.specs.Prelude.{◌≡◌};
 
 use crate::rows::case::Case;
+use crate::rows::meter::Meter;
 use crate::rows::plan::{Call, Plan};
 use crate::rows::play::play;
 use crate::rows::stage::Fleet;
@@ -13,14 +14,19 @@ use fleet_hooks::{
     ArrivalHook, ArrivalView, Farewell, FarewellView, Hooks, StampLaw, TieHook, TieLaw, TieView,
 };
 use fleet_map::MapText;
-use fleet_office::Desk;
-use refusing::Refusing;
+use fleet_office::{Desk, OfficeName};
 use std::alloc::{AllocError, Allocator, Global};
 use std::marker::Brand;
 use std::sync::Wait;
 
 /// What all of an office lies on.
-type Heap<'a> = &'a Refusing<Global>;
+type Heap<'a> = &'a Meter<Global>;
+
+impl<'a> OfficeName<Heap<'a>> for Brand {
+    ghost use Rattle.std.specs.Prelude.{[]};
+
+    ghost rings = { [] };
+}
 
 /// Ranks of any kind.
 const ANY: TieLaw = TieLaw {
@@ -68,7 +74,7 @@ fn fleet_play<'a, R: Wait>(
     plan: Plan<'a>,
     book: &mut Telling,
 ) -> Result<Result<(), OpenFault>, AllocError> {
-    let heap = plan.heap;
+    let heap = plan.meter;
     plan.begin(Call::Desk);
     let desk = Desk::new(heap, case.clients, case.limits);
     plan.end();
@@ -86,7 +92,7 @@ fn opened_play<'a, R: Wait>(
     plan: Plan<'a>,
     book: &mut Telling,
 ) -> Result<Result<(), OpenFault>, AllocError> {
-    let (alloc, heap) = (book.alloc, plan.heap);
+    let (alloc, heap) = (book.alloc, plan.meter);
     let Some((grid, starts)) = floor_of(heap, case)? else {
         return Ok(Err(OpenFault::NoRobots));
     };

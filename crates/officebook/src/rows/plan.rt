@@ -1,6 +1,6 @@
 //! Which growth is refused.
 
-use refusing::Refusing;
+use crate::rows::meter::Meter;
 use std::alloc::Global;
 
 /// A call of a row.
@@ -17,7 +17,7 @@ pub(crate) enum Call {
 /// The call that meets a refused growth, and how many growths come before that one in it.
 #[derive(Clone, Copy)]
 pub(crate) struct Plan<'a> {
-    pub(crate) heap: &'a Refusing<Global>,
+    pub(crate) meter: &'a Meter<Global>,
     pub(crate) call: Call,
     pub(crate) before: u64,
 }
@@ -26,12 +26,12 @@ impl Plan<'_> {
     /// Before a call: refuses its growth where it is the one.
     pub(crate) fn begin(&self, call: Call) {
         if self.call == call {
-            self.heap.refuse(self.before);
+            self.meter.refuse(self.before);
         }
     }
 
     /// After a call.
     pub(crate) fn end(&self) {
-        self.heap.rest();
+        self.meter.rest();
     }
 }

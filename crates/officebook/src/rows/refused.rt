@@ -3,12 +3,12 @@
 ghost use Rattle.std.specs.Prelude.{◌≡◌};
 
 use crate::rows::case::Case;
+use crate::rows::meter::Meter;
 use crate::rows::opening::perform;
 use crate::rows::plan::{Call, Plan};
 use crate::rows::telling::Telling;
 use fleet_book::{Limits, Order};
 use fleet_lanes::lane_pair;
-use refusing::Refusing;
 use std::alloc::{AllocError, Global};
 use std::sync::Wait;
 
@@ -38,20 +38,24 @@ fn found(before: u64) -> Finding {
 /// Plays a row with each growth of a call refused in turn, and made again.
 fn find<R: Wait>(
     rt: &R,
-    heap: &Refusing<Global>,
+    meter: &Meter<Global>,
     case: &Case,
     call: Call,
     row: &Telling,
 ) -> Result<Finding, AllocError> {
     for before in 0..MOST {
-        heap.forget();
+        meter.forget();
         let mut book = Telling::new(row.alloc);
-        let plan = Plan { heap, call, before };
+        let plan = Plan {
+            meter,
+            call,
+            before,
+        };
         perform(rt, case, plan, &mut book)?;
         if book.text.as_str() != row.text.as_str() {
             return Ok(Finding::Otherwise);
         }
-        if !heap.has_refused() {
+        if !meter.has_refused() {
             return Ok(found(before));
         }
     }
@@ -70,26 +74,26 @@ fn tell_finding(call: &str, finding: Finding, book: &mut Telling) -> Result<(), 
 /// Tells of each call of a row that took memory, and was refused it.
 pub(crate) fn tell_refused<R: Wait>(
     rt: &R,
-    heap: &Refusing<Global>,
+    meter: &Meter<Global>,
     case: &Case,
     book: &mut Telling,
 ) -> Result<(), AllocError> {
     let mut row = Telling::new(book.alloc);
-    heap.forget();
+    meter.forget();
     let plan = Plan {
-        heap,
+        meter,
         call: Call::None,
         before: 0,
     };
     perform(rt, case, plan, &mut row)?;
     for call in [Call::Desk, Call::Open] {
-        let finding = find(rt, heap, case, call, &row)?;
+        let finding = find(rt, meter, case, call, &row)?;
         let name = format!(in book.alloc; "{call:?}")?;
         tell_finding(&name, finding, book)?;
     }
     for (number, step) in case.steps.iter().enumerate() {
         if step.grows() {
-            let finding = find(rt, heap, case, Call::Step(number), &row)?;
+            let finding = find(rt, meter, case, Call::Step(number), &row)?;
             let name = format!(in book.alloc; "{step:?}")?;
             tell_finding(&name, finding, book)?;
         }
@@ -98,31 +102,31 @@ pub(crate) fn tell_refused<R: Wait>(
 }
 
 /// Whether a lane is made, and takes its first order.
-fn is_laned(heap: &Refusing<Global>, limits: Limits) -> bool {
+fn is_laned(meter: &Meter<Global>, limits: Limits) -> bool {
     if !limits.is_valid() {
         return false;
     }
-    let Ok((mut client, _end)) = lane_pair(heap, 0, limits) else {
+    let Ok((mut client, _end)) = lane_pair(meter, 0, limits) else {
         return false;
     };
     client.post(Order::Go { robot: 0, cell: 1 }) == Ok(1)
 }
 
 /// Makes a lane with each growth refused in turn, and made again.
-pub(crate) fn find_lanes(heap: &Refusing<Global>) -> Finding {
+pub(crate) fn find_lanes(meter: &Meter<Global>) -> Finding {
     for before in 0..MOST {
-        heap.forget();
-        heap.refuse(before);
-        let first = is_laned(heap, Limits::DEFAULT);
-        heap.rest();
-        if !heap.has_refused() {
+        meter.forget();
+        meter.refuse(before);
+        let first = is_laned(meter, Limits::DEFAULT);
+        meter.rest();
+        if !meter.has_refused() {
             return if first {
                 found(before)
             } else {
                 Finding::Otherwise
             };
         }
-        if first || !is_laned(heap, Limits::DEFAULT) {
+        if first || !is_laned(meter, Limits::DEFAULT) {
             return Finding::Otherwise;
         }
     }
