@@ -1,3 +1,4 @@
+use Rattle.std.proofs.Common.{rules}
 use Rattle.fleet_office.proofs.rest.Rest.look.Goals as goal
 
 pub returns-clause-idle : goal.returns-clause-idle
@@ -17,3 +18,6 @@ returns-clause-within g c = rw (← c.self.view_is) c.idle_within.ensures.idle
 
 pub returns-clause-chapter : goal.returns-clause-chapter
 returns-clause-chapter g c = rw (← c.self.view_is) c.chapter-chapter.ensures.number
+
+pub returns-clause-tick : goal.returns-clause-tick
+returns-clause-tick g c = search rules
