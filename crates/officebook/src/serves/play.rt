@@ -35,7 +35,7 @@ pub(crate) enum PlayFault {
 
 impl From<AllocError> for PlayFault {
     ghost use Rattle.std.specs.Prelude.{◌≡◌};
-    ghost use Rattle.servebook.specs.declared.play.PlayFault.TheVariants.{NoMemory};
+    ghost use Rattle.officebook.specs.declared.serves.play.PlayFault.TheVariants.{NoMemory};
 
     ghost from_gives = { λ _ e. e ≡ NoMemory };
 
