@@ -1,4 +1,4 @@
-use Rattle.std.proofs.Common.{◌≡◌, ℕ, ◌+◌, ◌<◌, ◌∙◌, List, ◌∷◌, Option, Some, None, length, drop, sym, subst, arith}
+use Rattle.std.proofs.Common.{◌≡◌, ℕ, ◌+◌, ◌<◌, ◌∙◌, List, ◌∷◌, Option, Some, None, length, drop, refl, sym, subst, arith}
 use Rattle.std.proofs.lemmas.List.{drop_all, get_or_read}
 use Rattle.fleet_field.specs.Field.{Aim}
 use Rattle.fleet_field.specs.Store.{Keeps}
@@ -9,6 +9,13 @@ use Rattle.fleet_goals.proofs.Fields.{serves_kept}
 use Rattle.fleet_goals.proofs.Turned.{next_spare}
 use Rattle.fleet_goals.proofs.turns.give_back.Goals as goal
 use Rattle.fleet_goals.proofs.turns.give_back.Goals.{in-Some, in_default}
+
+pub loop-at-init : goal.loop-at-init
+loop-at-init g c = record {
+  counted = λ keys counted. counted;
+  kept = λ key held is. (held, is, refl);
+  keeps = λ m serves keeps. keeps;
+}
 
 pub release_to-requires : goal.release_to-requires
 release_to-requires g c =

@@ -1,0 +1,8 @@
+-- Whether the robot on the cell comes the other way.
+use Rattle.fleet_pibt.proofs.Planning.{meets_tells}
+use Rattle.fleet_pibt.proofs.plan.meets.Goals as goal
+
+pub returns-in-Some : goal.returns-in-Some
+returns-in-Some g c =
+    meets_tells (g.S.Sight.setting c.args.scene.now) c.args.board.now.seats.standing c.args.board.now.target c.args.robot c.args.cell c.in-Some.other c.cell_of.result c.get.result c.eq.result
+    (g.met.S.Sight.is_scene c.args.scene.now c.requires.whole) c.requires.standing c.in-Some.ensures c.get.ensures c.cell_of.ensures c.eq.ensures
