@@ -1,4 +1,6 @@
-use Rattle.std.proofs.Common.{arith}
+use Rattle.std.proofs.Common.{ℕ, slice_index, subst, arith}
+use Rattle.fleet_grid.specs.Floor.{IsFloor}
+use Rattle.fleet_check.specs.Fault.{IsFirst, IsFirstPair, Exchange}
 use Rattle.fleet_check.proofs.Steps.{few_robots}
 use Rattle.fleet_check.proofs.check.check_step.Goals as goal
 
@@ -21,3 +23,27 @@ pub first_exchange-requires-clause-few : goal.first_exchange-requires-clause-few
 first_exchange-requires-clause-few g c =
     let few = few_robots c.args.grid.now c.args.from.now c.cell_count-cells.ensures.form c.requires in
     omega (arith, few, c.if-to-from.false)
+
+pub returns-then-to-from-clause-ok : goal.returns-then-to-from-clause-ok
+returns-then-to-from-clause-ok g c = tt
+
+pub returns-then-to-from-clause-fault : goal.returns-then-to-from-clause-fault
+returns-then-to-from-clause-fault g c = c.if-to-from.true
+
+pub returns-in-Some-clause-fault : goal.returns-in-Some-clause-fault
+returns-in-Some-clause-fault g c =
+    let Leaves = λ (r : ℕ). IsFloor c.args.grid.now (slice_index c.args.to.now r) → ⊥ in
+    let e = c.if-to-from.false in
+    (e, subst (λ (n : ℕ). IsFirst Leaves n c.in-Some.robot) e c.in-Some.ensures)
+
+pub returns-in-Some-first_exchange-clause-fault : goal.returns-in-Some-first_exchange-clause-fault
+returns-in-Some-first_exchange-clause-fault g c =
+    let p = c.in-Some-first_exchange in
+    let e = c.if-to-from.false in (
+      record {
+        on_floor = record { same_length = e; on_floor = λ r less. c.in_default.ensures r (omega arith) };
+        moves = λ r less. c.in_default-first_not_adjacent.ensures r (omega arith);
+      },
+      λ k l order inner. c.in_ok-seats.ensures.apart k l order (omega arith),
+      subst (λ (n : ℕ). IsFirstPair (Exchange c.args.from.now c.args.to.now) n p.first p.second) e p.ensures,
+    )

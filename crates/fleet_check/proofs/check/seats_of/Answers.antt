@@ -1,8 +1,8 @@
-use Rattle.std.proofs.Common.{◌≡◌, ◌-◌, ◌+◌, ◌<◌, length, slice_index, Some, None, sym, subst, ◌∙◌, arith}
+use Rattle.std.proofs.Common.{◌≡◌, ℕ, ◌-◌, ◌+◌, ◌<◌, length, Option, slice_index, Some, None, sym, subst, ◌∙◌, arith}
 use Rattle.std.specs.Ordering.{nat_cmp}
 use Rattle.std.specs.BTreeMap.{get}
-use Rattle.fleet_check.specs.inside.Seats.{IsSeat}
-use Rattle.fleet_check.proofs.Seating.{is_other, none_left, seat_more, shared_same, shared_new}
+use Rattle.fleet_check.specs.inside.Seats.{IsSeat, IsShared}
+use Rattle.fleet_check.proofs.Seating.{is_other, none_left, seat_more, shared_same, shared_new, first_shared}
 use Rattle.fleet_check.proofs.check.seats_of.Goals as goal
 
 pub loop-robot-preserved-in-Some : goal.loop-robot-preserved-in-Some
@@ -32,3 +32,11 @@ loop-robot-preserved g c =
       seats = seat_more c.args.to.now low c.loop-robot.robot step inside (get nat_cmp c.loop-robot.seats) (get nat_cmp c.insert.new.self) i.seats u.1 (λ q ne. u.2 q (is_other (slice_index c.args.to.now low) q ne));
       shared = shared_same c.args.to.now low c.loop-robot.robot step inside c.loop-robot.shared (subst (IsSeat c.args.to.now c.loop-robot.robot (slice_index c.args.to.now low)) was (i.seats (slice_index c.args.to.now low))) i.shared;
     }
+
+pub returns-in-Some-shared : goal.returns-in-Some-shared
+returns-in-Some-shared g c =
+    let to = c.args.to.now in
+    let p = c.in-Some-shared in
+    let none : c.loop-robot.robot ≡ 0 = omega arith in
+    let s = subst (λ (o : Option (ℕ × ℕ)). IsShared to c.loop-robot.robot o) p.is c.loop-robot.invariant.shared in
+    first_shared to p.first p.second (subst (λ (low : ℕ). IsShared to low (Some (p.first, p.second))) none s)

@@ -1,0 +1,6 @@
+-- The law that is kept beside its closure.
+use Rattle.std.proofs.Common.{refl}
+use Rattle.fleet_hooks.proofs.tie.TieHook.new.Goals as goal
+
+pub returns : goal.returns
+returns g c = refl
