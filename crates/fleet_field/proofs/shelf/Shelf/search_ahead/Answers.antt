@@ -23,3 +23,6 @@ returns-clause-only g c =
 pub returns-clause-keeps : goal.returns-clause-keeps
 returns-clause-keeps g c =
     ahead_keeps c.args.grid.now c.args.goals.now c.args.self.now c.put_all.new.self (returns-clause-only g c) c.requires.keeps
+
+pub returns-clause-all : goal.returns-clause-all
+returns-clause-all g c = c.has_all.ensures
