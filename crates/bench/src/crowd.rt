@@ -3,11 +3,10 @@
 ghost use Rattle.std.specs.Prelude.{◌≡◌, ◌<◌, ◌≤◌, length, vec_len};
 ghost use Rattle.yardstick.specs.Fleet.{Serves, IsUnderWay};
 
-use crate::steps::ANY;
 use fleet_check::check_step;
 use fleet_field::Compass;
 use fleet_grid::Grid;
-use fleet_hooks::{TieHook, TieView};
+use fleet_hooks::{TieHook, TieLaw, TieView};
 use fleet_map::MapText;
 use fleet_pibt::Stepper;
 use std::alloc::{Alloc, AllocError, Global};
@@ -78,7 +77,7 @@ fn crowd(alloc: Global) -> Result<Option<Steps>, AllocError> {
     let starts = site.starts(alloc, ROBOTS, &mut random)?;
     let mut ties = Vec::with_capacity(alloc, ROBOTS)?;
     for _ in 0..ROBOTS {
-        ties.push(TieHook::new(ANY, Box::new(alloc, |_view: TieView| 0)?))?;
+        ties.push(TieHook::new(TieLaw::ANY, Box::new(alloc, |_view: TieView| 0)?))?;
     }
     if starts.len() != ROBOTS || ties.len() != ROBOTS {
         return Ok(None);

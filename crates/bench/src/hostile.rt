@@ -1,10 +1,11 @@
 //! Whole maps of a hostile shape: read, described, and run through by one robot.
 
-use crate::steps::ANY;
-use crate::worlds::{LIMITS, STAMPS, order_one};
+use crate::worlds::{LIMITS, order_one};
 use fleet_bridge::first_bridge;
 use fleet_grid::Grid;
-use fleet_hooks::{ArrivalHook, ArrivalView, Farewell, FarewellView, Hooks, TieHook, TieView};
+use fleet_hooks::{
+    ArrivalHook, ArrivalView, Farewell, FarewellView, Hooks, StampLaw, TieHook, TieLaw, TieView,
+};
 use fleet_map::read_map;
 use fleet_world::World;
 use std::alloc::{Alloc, Global};
@@ -66,9 +67,9 @@ fn time_run<R: Alloc<A = Global> + Clock>(rt: &R, grid: Grid) -> io::Result<u128
     let Some((first, last)) = ends(&grid) else {
         return Ok(0);
     };
-    let tie = TieHook::new(ANY, Box::new(alloc, |_view: TieView| 0)?);
-    let arrival = ArrivalHook::new(STAMPS, Box::new(alloc, |_view: ArrivalView| 0)?);
-    let farewell = Farewell::new(STAMPS, Box::new(alloc, |_view: FarewellView| 0)?);
+    let tie = TieHook::new(TieLaw::ANY, Box::new(alloc, |_view: TieView| 0)?);
+    let arrival = ArrivalHook::new(StampLaw::ANY, Box::new(alloc, |_view: ArrivalView| 0)?);
+    let farewell = Farewell::new(StampLaw::ANY, Box::new(alloc, |_view: FarewellView| 0)?);
     let mut hooks = Hooks::new(alloc);
     hooks.push(tie, arrival, farewell)?;
     let starts = Vec::from_slice(alloc, &[first])?;

@@ -18,12 +18,6 @@ pub const FLEETS: [usize; 3] = [16, 128, 512];
 /// No fleet has more.
 const MOST: usize = 512;
 
-/// A law that any rank meets.
-pub const ANY: TieLaw = TieLaw {
-    low: [0; 4],
-    high: [255; 4],
-};
-
 /// From how many fields robots take theirs.
 const FIELDS: usize = 64;
 
@@ -56,7 +50,7 @@ fn measure_fleets<R: Alloc<A = Global> + Clock + Print>(
     let fields = site.fields(alloc, FIELDS, &mut random)?;
     let mut ties = Vec::with_capacity(alloc, MOST)?;
     for _ in 0..MOST {
-        ties.push(TieHook::new(ANY, Box::new(alloc, |_view: TieView| 0)?))?;
+        ties.push(TieHook::new(TieLaw::ANY, Box::new(alloc, |_view: TieView| 0)?))?;
     }
     measure_each(rt, map, site, &fields, &ties, &mut random)
 }

@@ -3,10 +3,9 @@
 ghost use Rattle.std.specs.Prelude.{◌<◌, length};
 
 use crate::lifelong::{print_run, time_run};
-use crate::steps::ANY;
 use crate::ticks::time_ticks;
 use fleet_hooks::{
-    ArrivalHook, ArrivalView, Farewell, FarewellView, Hooks, StampLaw, TieHook, TieView,
+    ArrivalHook, ArrivalView, Farewell, FarewellView, Hooks, StampLaw, TieHook, TieLaw, TieView,
 };
 use fleet_world::{Limits, Notice, Order, World};
 use std::alloc::{Alloc, Global};
@@ -15,12 +14,6 @@ use std::mem;
 use std::thread::Threads;
 use std::time::Clock;
 use yardstick::{Kind, Random, grid_of, print_measure};
-
-/// A law that any stamp meets.
-pub const STAMPS: StampLaw = StampLaw {
-    low: 0,
-    high: 4_294_967_295,
-};
 
 /// The mailbox has room for the notices of two errands of each robot, and for those errands. The chapter has room for all ticks
 /// of several long runs.
@@ -60,9 +53,9 @@ pub(crate) fn measure_world<R: Alloc<A = Global> + Clock + Print + Threads + Syn
     let count = starts.len();
     let mut hooks = Hooks::new(alloc);
     for _robot in 0..count {
-        let tie = TieHook::new(ANY, Box::new(alloc, |_view: TieView| 0)?);
-        let arrival = ArrivalHook::new(STAMPS, Box::new(alloc, |_view: ArrivalView| 0)?);
-        let farewell = Farewell::new(STAMPS, Box::new(alloc, |_view: FarewellView| 0)?);
+        let tie = TieHook::new(TieLaw::ANY, Box::new(alloc, |_view: TieView| 0)?);
+        let arrival = ArrivalHook::new(StampLaw::ANY, Box::new(alloc, |_view: ArrivalView| 0)?);
+        let farewell = Farewell::new(StampLaw::ANY, Box::new(alloc, |_view: FarewellView| 0)?);
         hooks.push(tie, arrival, farewell)?;
     }
     let grid = grid_of(alloc, kind)?;

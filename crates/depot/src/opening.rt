@@ -18,18 +18,6 @@ use std::sync::Wait;
 use std::sync::atomic::AtomicU64;
 use std::thread::Threads;
 
-/// Ranks of any kind.
-const ANY: TieLaw = TieLaw {
-    low: [0; 4],
-    high: [255; 4],
-};
-
-/// Stamps of any kind.
-const STAMPS: StampLaw = StampLaw {
-    low: 0,
-    high: 4_294_967_295,
-};
-
 /// A robot's queue has room for all errands that the clients' mailboxes let them have at once, and one chapter for them all.
 const LIMITS: Limits = Limits {
     queue: 4_096,
@@ -67,9 +55,9 @@ fn opened_day<R: Alloc<A = Global> + Threads + Sync + Wait>(
     let starts = starts_on(alloc, &cells, settings.robots)?;
     let mut hooks = Hooks::new(alloc);
     for _robot in 0..settings.robots {
-        let tie = TieHook::new(ANY, Box::new(alloc, |_view: TieView| 0)?);
-        let arrival = ArrivalHook::new(STAMPS, Box::new(alloc, |_view: ArrivalView| 0)?);
-        let farewell = Farewell::new(STAMPS, Box::new(alloc, |_view: FarewellView| 0)?);
+        let tie = TieHook::new(TieLaw::ANY, Box::new(alloc, |_view: TieView| 0)?);
+        let arrival = ArrivalHook::new(StampLaw::ANY, Box::new(alloc, |_view: ArrivalView| 0)?);
+        let farewell = Farewell::new(StampLaw::ANY, Box::new(alloc, |_view: FarewellView| 0)?);
         hooks.push(tie, arrival, farewell)?;
     }
     let Some(shift) = shift_of(settings, cells) else {

@@ -7,9 +7,25 @@ pub struct TieLaw {
     pub high: [u8; 4],
 }
 
+impl TieLaw {
+    /// The law that each rank keeps.
+    pub const ANY: TieLaw = TieLaw {
+        low: [0; 4],
+        high: [255; 4],
+    };
+}
+
 /// The least and the greatest stamp that an arrival or farewell closure gives.
 #[derive(Clone, Copy, Debug, PartialEq, Eq)]
 pub struct StampLaw {
     pub low: u32,
     pub high: u32,
+}
+
+impl StampLaw {
+    /// The law that each stamp keeps.
+    pub const ANY: StampLaw = StampLaw {
+        low: 0,
+        high: 4_294_967_295,
+    };
 }

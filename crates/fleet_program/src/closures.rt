@@ -25,11 +25,6 @@ const NOUGHT: StampLaw = StampLaw { low: 0, high: 0 };
 
 const BELOW_THOUSAND: StampLaw = StampLaw { low: 0, high: 999 };
 
-const ANY: StampLaw = StampLaw {
-    low: 0,
-    high: 4_294_967_295,
-};
-
 const ALIKE: TieLaw = TieLaw {
     low: [0, 0, 0, 0],
     high: [0, 0, 0, 0],
@@ -76,7 +71,10 @@ fn run_with_closures<R: Alloc<A = Global> + Threads + Sync + Wait, I: Read, W: W
         { (view.tick % 1000) as u32 };
         let tie = TieHook::new(SOUTH_FIRST, Box::new(alloc, tie)?);
         let arrival = ArrivalHook::new(BELOW_THOUSAND, Box::new(alloc, arrival)?);
-        let farewell = Farewell::new(ANY, Box::new(alloc, |view: FarewellView| view.cell)?);
+        let farewell = Farewell::new(
+            StampLaw::ANY,
+            Box::new(alloc, |view: FarewellView| view.cell)?,
+        );
         south.push(tie, arrival, farewell)?;
     }
     Ok(run_program(rt, job, map, other, output, error, HookKit { plain, south }))

@@ -22,11 +22,6 @@ const SEVENS: StampLaw = StampLaw { low: 0, high: 7 };
 
 const EIGHTS: StampLaw = StampLaw { low: 0, high: 8 };
 
-const ANY: StampLaw = StampLaw {
-    low: 0,
-    high: 4294967295,
-};
-
 #[test]
 fn rank_is_the_closure_s_answer_of_one_call(rt: HostRuntime) -> Result<(), AllocError> {
     let alloc = rt.alloc();
@@ -89,13 +84,13 @@ fn farewell_is_the_closure_s_answer_of_its_one_call(rt: HostRuntime) -> Result<(
     let calls = Arc::new(alloc, AtomicU64::new(0))?;
     let counted = Arc::try_clone(&calls)?;
     let farewell = Farewell::new(
-        ANY,
+        StampLaw::ANY,
         Box::new(alloc, move |view: FarewellView| {
             counted.fetch_add(1, Ordering::SeqCst);
             view.cell
         })?,
     );
-    assert!(rt; farewell.law() == ANY);
+    assert!(rt; farewell.law() == StampLaw::ANY);
     let view = FarewellView {
         robot: 0,
         cell: 7,

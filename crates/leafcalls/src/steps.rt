@@ -15,11 +15,6 @@ use std::sync::Arc;
 use std::sync::atomic::{AtomicU64, Ordering};
 use std::test::Fail;
 
-const ANY: TieLaw = TieLaw {
-    low: [0; 4],
-    high: [255; 4],
-};
-
 /// No robot has an errand.
 struct NoGoals;
 
@@ -111,7 +106,7 @@ fn idle_robot_stays(rt: HostRuntime) -> Result<(), Fail> {
     let alloc = rt.alloc();
     let grid = grid_of(alloc, 1, 2, b"..")?;
     let mut stepper = Stepper::new(alloc, 2, 1)?;
-    let ties = [TieHook::new(ANY, Box::new(alloc, |_view: TieView| 0)?)];
+    let ties = [TieHook::new(TieLaw::ANY, Box::new(alloc, |_view: TieView| 0)?)];
     assert!(rt; step_idle(&grid, &mut stepper, &ties) == 0);
     Ok(())
 }
@@ -155,7 +150,7 @@ fn lone_robot_takes_its_goal(rt: HostRuntime) -> Result<(), Fail> {
         counted.fetch_add(1, Ordering::SeqCst);
         7
     };
-    let ties = [TieHook::new(ANY, Box::new(alloc, asked)?)];
+    let ties = [TieHook::new(TieLaw::ANY, Box::new(alloc, asked)?)];
     assert!(rt; step_east(&grid, &mut stepper, &ties, 0, 3, 1) == 1);
     // The tie closure is asked once, about the one neighbour.
     assert!(rt; calls.load(Ordering::SeqCst) == 1);

@@ -1,21 +1,8 @@
-//! Where a row is played: its map, and the laws of its robots.
+//! Where a row is played: its map.
 
 use fleet_grid::Grid;
-use fleet_hooks::{StampLaw, TieLaw};
 use fleet_map::MapText;
 use std::alloc::{AllocError, Global};
-
-/// Every robot's law: ranks of any kind.
-pub(crate) const RANKS: TieLaw = TieLaw {
-    low: [0, 0, 0, 0],
-    high: [255, 255, 255, 255],
-};
-
-/// Every robot's law: stamps of any kind.
-pub(crate) const STAMPS: StampLaw = StampLaw {
-    low: 0,
-    high: 4_294_967_295,
-};
 
 /// The grid of these sides, height first. None where the letters do not fill them, or a side is over 1,024.
 pub(crate) fn grid_of(

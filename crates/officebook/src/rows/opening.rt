@@ -28,18 +28,6 @@ impl<'a> OfficeName<Heap<'a>> for Brand {
     ghost rings = { [] };
 }
 
-/// Ranks of any kind.
-const ANY: TieLaw = TieLaw {
-    low: [0; 4],
-    high: [255; 4],
-};
-
-/// Stamps of any kind.
-const STAMPS: StampLaw = StampLaw {
-    low: 0,
-    high: 4_294_967_295,
-};
-
 /// A row's grid. None where the letters do not fill the sides.
 fn grid_of<A: Allocator + Copy>(heap: A, case: &Case) -> Result<Option<Grid<A>>, AllocError> {
     let (height, width) = case.sides;
@@ -103,9 +91,9 @@ fn opened_play<'a, R: Wait>(
         let arrival = Box::new(alloc, |_view: ArrivalView| 0);
         let farewell = Box::new(alloc, |_view: FarewellView| 0);
         if let (Ok(tie), Ok(arrival), Ok(farewell)) = (tie, arrival, farewell) {
-            let tie = TieHook::new(ANY, tie);
-            let arrival = ArrivalHook::new(STAMPS, arrival);
-            let farewell = Farewell::new(STAMPS, farewell);
+            let tie = TieHook::new(TieLaw::ANY, tie);
+            let arrival = ArrivalHook::new(StampLaw::ANY, arrival);
+            let farewell = Farewell::new(StampLaw::ANY, farewell);
             complete &= hooks.push(tie, arrival, farewell).is_ok();
         } else {
             complete = false;

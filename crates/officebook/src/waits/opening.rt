@@ -27,18 +27,6 @@ pub(crate) struct Case {
     pub(crate) turns: u64,
 }
 
-/// Ranks of any kind.
-const ANY: TieLaw = TieLaw {
-    low: [0; 4],
-    high: [255; 4],
-};
-
-/// Stamps of any kind.
-const STAMPS: StampLaw = StampLaw {
-    low: 0,
-    high: 4_294_967_295,
-};
-
 /// Two cells side by side.
 fn two_cells(alloc: Global) -> Result<Grid, AllocError> {
     Grid::new(MapText {
@@ -63,9 +51,9 @@ fn opened_play<R: Alloc<A = Global> + Threads + Sync + Wait>(
         stand(&begun, &ready, clients);
         0
     };
-    let tie = TieHook::new(ANY, Box::new(alloc, waits)?);
-    let arrival = ArrivalHook::new(STAMPS, Box::new(alloc, |_view: ArrivalView| 0)?);
-    let farewell = Farewell::new(STAMPS, Box::new(alloc, |_view: FarewellView| 0)?);
+    let tie = TieHook::new(TieLaw::ANY, Box::new(alloc, waits)?);
+    let arrival = ArrivalHook::new(StampLaw::ANY, Box::new(alloc, |_view: ArrivalView| 0)?);
+    let farewell = Farewell::new(StampLaw::ANY, Box::new(alloc, |_view: FarewellView| 0)?);
     let mut hooks = Hooks::new(alloc);
     hooks.push(tie, arrival, farewell)?;
     let grid = two_cells(alloc)?;

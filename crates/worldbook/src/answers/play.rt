@@ -3,8 +3,10 @@
 use crate::answers::busy::greatest_wait;
 use crate::answers::row::{Call, Row, go};
 use crate::answers::show::{busy_line, give_line, shut_line, take_line, tick_line, world_line};
-use crate::site::{RANKS, STAMPS, grid_of};
-use fleet_hooks::{ArrivalHook, ArrivalView, Farewell, FarewellView, Hooks, TieHook, TieView};
+use crate::site::grid_of;
+use fleet_hooks::{
+    ArrivalHook, ArrivalView, Farewell, FarewellView, Hooks, StampLaw, TieHook, TieLaw, TieView,
+};
 use fleet_world::World;
 use std::alloc::{Alloc, AllocError, Global};
 use std::mem;
@@ -63,9 +65,15 @@ pub(crate) fn play<R: Alloc<A = Global>>(rt: &R, row: &Row) -> Result<String, Al
     };
     let mut hooks = Hooks::new(alloc);
     for _robot in 0..row.hooked {
-        let tie = TieHook::new(RANKS, Box::new(alloc, |_view: TieView| 0)?);
-        let arrival = ArrivalHook::new(STAMPS, Box::new(alloc, |view: ArrivalView| view.cell)?);
-        let farewell = Farewell::new(STAMPS, Box::new(alloc, |view: FarewellView| view.cell)?);
+        let tie = TieHook::new(TieLaw::ANY, Box::new(alloc, |_view: TieView| 0)?);
+        let arrival = ArrivalHook::new(
+            StampLaw::ANY,
+            Box::new(alloc, |view: ArrivalView| view.cell)?,
+        );
+        let farewell = Farewell::new(
+            StampLaw::ANY,
+            Box::new(alloc, |view: FarewellView| view.cell)?,
+        );
         hooks.push(tie, arrival, farewell)?;
     }
     let starts = Vec::from_slice(alloc, row.starts)?;

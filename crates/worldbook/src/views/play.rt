@@ -1,11 +1,13 @@
 //! A row as a run, with closures that note what they are shown.
 
-use crate::site::{RANKS, STAMPS, grid_of};
+use crate::site::grid_of;
 use crate::views::note::Shown;
 use crate::views::row::Row;
 use findings::{Finding, Noted};
 use fleet_grid::{Dir, Grid};
-use fleet_hooks::{ArrivalHook, ArrivalView, Farewell, FarewellView, Hooks, TieHook, TieView};
+use fleet_hooks::{
+    ArrivalHook, ArrivalView, Farewell, FarewellView, Hooks, StampLaw, TieHook, TieLaw, TieView,
+};
 use fleet_world::{Entry, run};
 use std::alloc::{Alloc, AllocError, Global};
 use std::mem;
@@ -122,9 +124,9 @@ fn find_noted<R: Alloc<A = Global> + Threads + Sync>(
         };
         let arrival = move |view: ArrivalView| keep(&arrivals, Shown::Arrival(robot, view));
         let farewell = move |view: FarewellView| keep(&farewells, Shown::Farewell(robot, view));
-        let tie = TieHook::new(RANKS, Box::new(alloc, tie)?);
-        let arrival = ArrivalHook::new(STAMPS, Box::new(alloc, arrival)?);
-        let farewell = Farewell::new(STAMPS, Box::new(alloc, farewell)?);
+        let tie = TieHook::new(TieLaw::ANY, Box::new(alloc, tie)?);
+        let arrival = ArrivalHook::new(StampLaw::ANY, Box::new(alloc, arrival)?);
+        let farewell = Farewell::new(StampLaw::ANY, Box::new(alloc, farewell)?);
         hooks.push(tie, arrival, farewell)?;
     }
     find(rt, row, grid, hooks, note)
