@@ -6,10 +6,10 @@
 mod compare;
 mod count;
 mod damage;
+mod dice;
 mod fleet;
 mod later;
 mod opening;
-mod random;
 mod rules;
 mod script;
 mod site;

@@ -4,7 +4,6 @@ ghost use Rattle.std.specs.Prelude.{◌≡◌, IfOk};
 ghost use Rattle.fleet_office.specs.Views.{IsNamed, AreOn, cores};
 
 use crate::account::Account;
-use crate::random::Random;
 use crate::tally::Tally;
 use crate::work::{Shift, Worker, work_all};
 use fleet_calls::OpenFault;
@@ -18,6 +17,7 @@ use fleet_office::{
 use std::alloc::{Alloc, AllocError, Global};
 use std::sync::Wait;
 use std::thread::Threads;
+use yardstick::Random;
 
 /// How a day at the depot ended.
 #[derive(Drop)]

@@ -9,7 +9,6 @@
 mod account;
 mod depot;
 mod opening;
-mod random;
 mod settings;
 mod tally;
 mod work;

@@ -2,7 +2,6 @@
 
 ghost use Rattle.std.specs.Prelude.{◌≡◌, ◌<◌, ◌^◌, vec_len};
 
-use crate::random::Random;
 use crate::tally::Tally;
 use fleet_book::Order;
 use fleet_office::{Guest, Office, OfficeName, Ticker, TurnCause, side_by_side};
@@ -11,6 +10,7 @@ use std::sync::Wait;
 use std::sync::atomic::{AtomicU64, Ordering};
 use std::thread;
 use std::thread::{Threads, join};
+use yardstick::Random;
 
 /// How often a client looks for a free slot or a notice at most, and how many turns a ticker makes at most.
 const MOST_TRIES: u64 = 200_000_000;

@@ -4,6 +4,7 @@
 
 mod rows;
 mod serves;
+mod waiting;
 mod waits;
 
 use std::alloc::{Alloc, AllocError, Global};

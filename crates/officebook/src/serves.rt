@@ -5,7 +5,6 @@ mod came;
 mod gate;
 mod lines;
 mod play;
-mod random;
 mod row;
 mod seeds;
 mod yard;

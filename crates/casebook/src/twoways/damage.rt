@@ -1,6 +1,6 @@
 //! Damages of a text.
 
-use super::random::Random;
+use super::dice::Dice;
 use fleet_map::text::number_up_to;
 use std::alloc::{AllocError, Global};
 
@@ -29,11 +29,11 @@ pub(crate) fn numbers_in(alloc: Global, text: &[u8]) -> Result<Vec<Stretch>, All
 }
 
 /// Another number in place of one.
-fn other(random: &mut Random, number: u64) -> u64 {
-    match random.below(9) {
+fn other(dice: &mut Dice, number: u64) -> u64 {
+    match dice.below(9) {
         0 | 1 => number.saturating_add(1),
         2 | 3 => number.saturating_sub(1),
-        4 => random.below(16),
+        4 => dice.below(16),
         5 => 1 << 57,
         6 => 4_294_967_295,
         7 => 18_446_744_073_709_551_615,
@@ -63,13 +63,13 @@ fn with_bytes(
 /// The text with another number in place of one.
 pub(crate) fn with_other_number(
     alloc: Global,
-    random: &mut Random,
+    dice: &mut Dice,
     text: &[u8],
     place: Stretch,
 ) -> Result<Vec<u8>, AllocError> {
     let digits = text.get(place.from..place.to).unwrap_or(b"0");
     let number = number_up_to(digits, (1 << 60) - 1).unwrap_or(0);
-    let number = format!(in alloc; "{}", other(random, number))?;
+    let number = format!(in alloc; "{}", other(dice, number))?;
     with_bytes(alloc, text, place, number.as_bytes())
 }
 
@@ -79,19 +79,19 @@ const BYTES: &[u8] = b"0123456789[]{},:\"-. etaklu\\\x00\xff";
 /// The text with some bytes gone, changed or put in, or with its end cut off.
 pub(crate) fn with_other_bytes(
     alloc: Global,
-    random: &mut Random,
+    dice: &mut Dice,
     text: &[u8],
 ) -> Result<Vec<u8>, AllocError> {
-    let from = random.below(text.len() as u64) as usize;
-    let byte = BYTES[random.below(BYTES.len() as u64) as usize % BYTES.len()];
-    let behind = match random.below(5) {
+    let from = dice.below(text.len() as u64) as usize;
+    let byte = BYTES[dice.below(BYTES.len() as u64) as usize % BYTES.len()];
+    let behind = match dice.below(5) {
         0 => from,
         1 | 2 => from.saturating_add(1),
-        3 => from.saturating_add(random.below(8) as usize),
+        3 => from.saturating_add(dice.below(8) as usize),
         _ => text.len(),
     };
     let place = Stretch { from, to: behind };
-    if random.below(4) == 0 {
+    if dice.below(4) == 0 {
         return with_bytes(alloc, text, place, b"");
     }
     with_bytes(alloc, text, place, &[byte])

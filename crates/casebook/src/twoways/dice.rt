@@ -1,24 +1,24 @@
-//! Numbers that look as if they were thrown, and are the same in each run.
+//! The numbers that a trial throws: those of a seed, whose bounds may be 0.
 
-/// A linear congruential sequence.
+use yardstick::Random;
+
+/// A random sequence that texts are made of.
 #[derive(Clone, Copy)]
-pub(crate) struct Random {
-    seed: u64,
+pub(crate) struct Dice {
+    random: Random,
 }
 
-impl Random {
-    /// The sequence from a seed on.
-    pub(crate) fn from_seed(seed: u64) -> Random {
-        Random { seed }
+impl Dice {
+    /// The numbers from a seed on.
+    pub(crate) fn from_seed(seed: u64) -> Dice {
+        Dice {
+            random: Random::from_seed(seed),
+        }
     }
 
     /// The next number, below a bound; 0 where the bound is.
     pub(crate) fn below(&mut self, bound: u64) -> u64 {
-        self.seed = self
-            .seed
-            .wrapping_mul(6364136223846793005)
-            .wrapping_add(1442695040888963407);
-        (self.seed >> 33) % bound.max(1)
+        self.random.below((bound as usize).max(1)) as u64
     }
 
     /// The next number from a least one on, one of so many.

@@ -1,6 +1,6 @@
 //! Seeded maps and scripts.
 
-use super::random::Random;
+use super::dice::Dice;
 use crate::bundle::Bundle;
 use std::alloc::{AllocError, Global};
 use std::fmt::Write;
@@ -25,7 +25,7 @@ impl Texts {
 /// A seeded map of so many rows and columns, three quarters of it floor.
 fn map_of(
     alloc: Global,
-    random: &mut Random,
+    dice: &mut Dice,
     sides: (u64, u64),
 ) -> Result<(String, Vec<u64>), AllocError> {
     let (height, width) = sides;
@@ -34,7 +34,7 @@ fn map_of(
     let mut cell = 0u64;
     for _row in 0..height {
         for _column in 0..width {
-            let is_floor = cell == 0 || random.below(4) > 0;
+            let is_floor = cell == 0 || dice.below(4) > 0;
             text.push_str(if is_floor { "." } else { "@" })?;
             if is_floor {
                 floor.push(cell)?;
@@ -49,7 +49,7 @@ fn map_of(
 /// Up to four robots on floor cells, each on its own. The result is how many.
 fn write_robots(
     text: &mut String,
-    random: &mut Random,
+    dice: &mut Dice,
     floor: &mut Vec<u64>,
 ) -> Result<u64, AllocError> {
     text.push_str("robots")?;
@@ -58,8 +58,8 @@ fn write_robots(
         if floor.is_empty() {
             break;
         }
-        let at = random.below(floor.len() as u64) as usize;
-        if at < floor.len() && (robots == 0 || random.below(4) > 0) {
+        let at = dice.below(floor.len() as u64) as usize;
+        if at < floor.len() && (robots == 0 || dice.below(4) > 0) {
             write!(text, " {}", floor.remove(at))?;
             robots = robots.saturating_add(1);
         }
@@ -71,46 +71,46 @@ fn write_robots(
 /// One event of a client or of the world.
 fn write_event(
     text: &mut String,
-    random: &mut Random,
+    dice: &mut Dice,
     clients: u64,
     robots: u64,
     cells: u64,
 ) -> Result<(), AllocError> {
-    let client = random.below(clients);
-    match random.below(24) {
+    let client = dice.below(clients);
+    match dice.below(24) {
         0..6 => {
-            let spare = if random.below(8) == 0 { 1 } else { 0 };
-            let robot = random.below(robots.saturating_add(spare));
-            let cell = random.below(cells.saturating_add(1));
+            let spare = if dice.below(8) == 0 { 1 } else { 0 };
+            let robot = dice.below(robots.saturating_add(spare));
+            let cell = dice.below(cells.saturating_add(1));
             writeln!(text, "post {client} go {robot} {cell}")
         }
-        6 => writeln!(text, "post {client} withdraw {}", random.below(6)),
-        7 if random.below(4) == 0 => writeln!(text, "post {client} close"),
+        6 => writeln!(text, "post {client} withdraw {}", dice.below(6)),
+        7 if dice.below(4) == 0 => writeln!(text, "post {client} close"),
         8..16 => writeln!(text, "take {client}"),
         16..21 => writeln!(text, "tick"),
         21..23 => writeln!(text, "give {client}"),
-        23 if random.below(3) == 0 => writeln!(text, "shut {}", random.below(robots)),
+        23 if dice.below(3) == 0 => writeln!(text, "shut {}", dice.below(robots)),
         _ => writeln!(text, "tick 2"),
     }
 }
 
 /// The map and the script of a seed.
-pub(crate) fn texts_of(alloc: Global, random: &mut Random) -> Result<Texts, AllocError> {
-    let sides = (random.between(1, 4), random.between(1, 4));
-    let (map, mut floor) = map_of(alloc, random, sides)?;
+pub(crate) fn texts_of(alloc: Global, dice: &mut Dice) -> Result<Texts, AllocError> {
+    let sides = (dice.between(1, 4), dice.between(1, 4));
+    let (map, mut floor) = map_of(alloc, dice, sides)?;
     let mut script = String::new(alloc);
-    let robots = write_robots(&mut script, random, &mut floor)?;
-    let clients = random.between(1, 3);
+    let robots = write_robots(&mut script, dice, &mut floor)?;
+    let clients = dice.between(1, 3);
     writeln!(script, "clients {clients}")?;
-    writeln!(script, "queue {}", random.between(1, 4))?;
-    writeln!(script, "mailbox {}", random.between(4, 20))?;
-    writeln!(script, "life {}", random.between(1, 12))?;
-    if random.below(2) == 0 {
+    writeln!(script, "queue {}", dice.between(1, 4))?;
+    writeln!(script, "mailbox {}", dice.between(4, 20))?;
+    writeln!(script, "life {}", dice.between(1, 12))?;
+    if dice.below(2) == 0 {
         script.push_str("ties south\n")?;
     }
     let cells = sides.0.saturating_mul(sides.1);
     for _event in 0..50 {
-        write_event(&mut script, random, clients, robots, cells)?;
+        write_event(&mut script, dice, clients, robots, cells)?;
     }
     Ok(Texts { map, script })
 }

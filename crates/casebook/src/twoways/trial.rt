@@ -3,8 +3,8 @@
 use super::compare::compare;
 use super::count::Count;
 use super::damage::{numbers_in, with_other_bytes, with_other_number};
+use super::dice::Dice;
 use super::later::later_chapter;
-use super::random::Random;
 use super::script::texts_of;
 use super::site::Site;
 use crate::run::trace_of;
@@ -23,31 +23,27 @@ fn damage(
     alloc: Global,
     grid: &Grid,
     site: &Site,
-    random: &mut Random,
+    dice: &mut Dice,
     text: &[u8],
     count: &mut Count,
 ) -> Result<(), AllocError> {
     for place in &numbers_in(alloc, text)? {
-        let damaged = with_other_number(alloc, random, text, *place)?;
+        let damaged = with_other_number(alloc, dice, text, *place)?;
         count.add_number(compare(alloc, grid, site, &damaged)?);
     }
     for _time in 0..BYTE_DAMAGES {
-        let damaged = with_other_bytes(alloc, random, text)?;
+        let damaged = with_other_bytes(alloc, dice, text)?;
         count.add_bytes(compare(alloc, grid, site, &damaged)?);
     }
     Ok(())
 }
 
 /// The text of a later chapter of a trace. None where it is no trace.
-fn later_text(
-    alloc: Global,
-    random: &mut Random,
-    text: &[u8],
-) -> Result<Option<String>, AllocError> {
+fn later_text(alloc: Global, dice: &mut Dice, text: &[u8]) -> Result<Option<String>, AllocError> {
     let Ok(chapter) = read_trace(alloc, text) else {
         return Ok(None);
     };
-    let behind = random.below(chapter.entries.len() as u64) as usize;
+    let behind = dice.below(chapter.entries.len() as u64) as usize;
     let later = later_chapter(alloc, chapter, behind)?;
     Ok(Some(write_trace(alloc, &later)?))
 }
@@ -57,16 +53,16 @@ fn try_trace(
     alloc: Global,
     grid: &Grid,
     site: &Site,
-    random: &mut Random,
+    dice: &mut Dice,
     text: &[u8],
     count: &mut Count,
 ) -> Result<(), AllocError> {
     count.add_world(compare(alloc, grid, site, text)?);
-    damage(alloc, grid, site, random, text, count)?;
-    if let Some(later) = later_text(alloc, random, text)? {
+    damage(alloc, grid, site, dice, text, count)?;
+    if let Some(later) = later_text(alloc, dice, text)? {
         let later = later.as_bytes();
         count.add_later(compare(alloc, grid, site, later)?);
-        damage(alloc, grid, site, random, later, count)?;
+        damage(alloc, grid, site, dice, later, count)?;
     }
     Ok(())
 }
@@ -78,13 +74,13 @@ pub(crate) fn try_seed<R: Alloc<A = Global> + Threads + Sync + Wait>(
     count: &mut Count,
 ) -> Result<(), AllocError> {
     let alloc = rt.alloc();
-    let mut random = Random::from_seed(seed);
-    let texts = texts_of(alloc, &mut random)?;
+    let mut dice = Dice::from_seed(seed);
+    let texts = texts_of(alloc, &mut dice)?;
     let text = trace_of(rt, texts.as_bundle())?;
     let Ok(map) = read_map(alloc, texts.map.as_bytes()) else {
         return Ok(());
     };
     let site = Site::new(alloc, &map)?;
     let grid = Grid::new(map)?;
-    try_trace(alloc, &grid, &site, &mut random, &text, count)
+    try_trace(alloc, &grid, &site, &mut dice, &text, count)
 }

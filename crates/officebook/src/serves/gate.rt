@@ -1,11 +1,8 @@
 //! What holds the clients' threads of a row, and the closure that holds a tick.
 
+use crate::waiting::wait_for;
 use fleet_serve::Gate;
 use std::sync::atomic::{AtomicU64, Ordering};
-use std::thread;
-
-/// How often a thread looks for a flag at most.
-const MOST_TRIES: u64 = 200_000_000;
 
 /// Who is held.
 #[derive(Clone, Copy, Debug, PartialEq, Eq)]
@@ -44,13 +41,9 @@ impl Flags {
 
     /// Waits until the flag is at least so much.
     fn wait_for(&self, flag: &AtomicU64, least: u64) {
-        for _ in 0..MOST_TRIES {
-            if flag.load(Ordering::SeqCst) >= least {
-                return;
-            }
-            thread::yield_now();
+        if !wait_for(flag, least) {
+            self.missed.fetch_add(1, Ordering::SeqCst);
         }
-        self.missed.fetch_add(1, Ordering::SeqCst);
     }
 
     /// What a tie closure does: where a tick is held, its first call waits.

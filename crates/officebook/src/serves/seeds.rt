@@ -1,9 +1,9 @@
 //! Scripts from seeds.
 
-use crate::serves::random::Random;
 use crate::serves::yard::{CORRIDOR, RING, SHELVES, SQUARE, Yard};
 use std::alloc::{AllocError, Global};
 use std::fmt::Write;
+use yardstick::Random;
 
 /// A script's text, and where it is served.
 #[derive(Drop)]
@@ -22,9 +22,9 @@ fn yard_of(random: &mut Random) -> Yard {
 }
 
 /// The header line of the robots, on floor cells from the first on. The result is how many they are.
-fn write_robots(text: &mut String, random: &mut Random, yard: &Yard) -> Result<u32, AllocError> {
+fn write_robots(text: &mut String, random: &mut Random, yard: &Yard) -> Result<usize, AllocError> {
     let wanted = 1 + random.below(16);
-    let mut robots = 0u32;
+    let mut robots = 0usize;
     text.push_str("robots")?;
     for (cell, letter) in yard.letters.iter().enumerate() {
         if robots < wanted && *letter == b'.' {
@@ -40,9 +40,9 @@ fn write_robots(text: &mut String, random: &mut Random, yard: &Yard) -> Result<u
 fn write_line(
     text: &mut String,
     random: &mut Random,
-    client: u32,
-    robots: u32,
-    cells: u32,
+    client: usize,
+    robots: usize,
+    cells: usize,
 ) -> Result<(), AllocError> {
     match random.below(8) {
         0 => write!(text, "collect {client}\n"),
@@ -64,9 +64,9 @@ pub(crate) fn script_from(alloc: Global, seed: u32) -> Result<Seeded, AllocError
     let yard = yard_of(&mut random);
     let mut script = String::new(alloc);
     let robots = write_robots(&mut script, &mut random, &yard)?;
-    let clients = 1 + seed % 64;
+    let clients = 1 + seed as usize % 64;
     let (lane, turns) = (1 + random.below(8), 1 + random.below(4));
-    let cells = yard.height.saturating_mul(yard.width);
+    let cells = yard.height.saturating_mul(yard.width) as usize;
     write!(script, "clients {clients}\nlane {lane}\nturns {turns}\n")?;
     for _ in 0..clients.saturating_mul(1 + random.below(6)) {
         let client = random.below(clients);

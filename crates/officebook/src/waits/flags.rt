@@ -1,10 +1,7 @@
 //! What the closure and the clients tell each other.
 
+use crate::waiting::wait_for;
 use std::sync::atomic::{AtomicU64, Ordering};
-use std::thread;
-
-/// How often a thread looks for a flag at most.
-const MOST_TRIES: u64 = 200_000_000;
 
 /// The closure has begun.
 const BEGUN: u64 = 1;
@@ -14,17 +11,6 @@ const SEEN: u64 = 2;
 
 /// The closure has looked for the clients' flag as often as it may.
 const MISSED: u64 = 3;
-
-/// Waits until the flag is at least so much. Says whether it is.
-fn wait_for(flag: &AtomicU64, least: u64) -> bool {
-    for _ in 0..MOST_TRIES {
-        if flag.load(Ordering::SeqCst) >= least {
-            return true;
-        }
-        thread::yield_now();
-    }
-    false
-}
 
 /// What the closure does: at its first call it says that it has begun, and waits until so many clients are done.
 pub(crate) fn stand(hook: &AtomicU64, done: &AtomicU64, clients: u64) {
