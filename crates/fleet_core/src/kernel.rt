@@ -20,12 +20,12 @@ ghost use Rattle.fleet_core.specs.Core.{opened_world, pending, HasEntries, HasNo
 
 use crate::hook_laws::HookLaws;
 use crate::mailbox::Mailboxes;
-use crate::opening::{nobodies, robots_at};
+use crate::opening::beginning_at;
 use crate::planner::{Planner, is_nobody};
 use fleet_book::Limits;
 use fleet_bound::{idle_within, longest_queue};
 use fleet_grid::Grid;
-use fleet_history::{Chapter, Opening, Row};
+use fleet_history::Chapter;
 use fleet_hooks::TieLaw;
 use fleet_plan::eldest;
 use fleet_state::FleetState;
@@ -78,30 +78,19 @@ impl<A: Allocator + Copy> Core<A> {
         requires { CanOpen grid starts.items clients limits laws }
         ensures { IfOk result (λ w. w ≡ opened_world grid starts.items clients limits laws) }
     {
-        let (arrivals, farewells) = (laws.arrivals.as_slice(), laws.farewells.as_slice());
-        let robots = robots_at(alloc, starts.as_slice(), arrivals, farewells)?;
-        let opening = Opening {
-            tick: 0,
-            queue: limits.queue,
-            life: limits.life,
-            clients: Row::from_vec(nobodies(alloc, clients as usize)?),
-            robots: Row::from_vec(robots),
-        };
-        let state = FleetState::open(alloc, &opening, limits.queue)?;
-        let planner = Planner::open(alloc, &grid, starts.len())?;
-        let mailboxes = Mailboxes::open(alloc, clients as usize, limits.mailbox)?;
+        let begun = beginning_at(alloc, &grid, starts.as_slice(), clients, limits, &laws)?;
         Ok(Core {
             grid,
             limits,
             ties: laws.ties,
             chapter: Chapter {
                 number: 0,
-                opening,
+                opening: begun.opening,
                 entries: Vec::new(alloc),
             },
-            state,
-            planner,
-            mailboxes,
+            state: begun.state,
+            planner: begun.planner,
+            mailboxes: begun.mailboxes,
         })
     }
 

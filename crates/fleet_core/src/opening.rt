@@ -1,13 +1,22 @@
 //! What the core of a world begins with.
 
 ghost use Rattle.std.specs.List.{range_with_len};
-ghost use Rattle.std.specs.Prelude.{◌≡◌, length, IfOk, map, replicate};
+ghost use Rattle.std.specs.Prelude.{◌≡◌, [], length, IfOk, OnOk, map, replicate};
 ghost use Rattle.fleet_hooks.specs.Law.{IsStampLaw};
-ghost use Rattle.fleet_history.specs.History.{unknown_client};
-ghost use Rattle.fleet_core.specs.Core.{robot_at};
+ghost use Rattle.fleet_history.specs.History.{start, unknown_client};
+ghost use Rattle.fleet_core.specs.Core.{opening_of, robot_at};
+ghost use Rattle.fleet_core.specs.Hooks.{AreOrderly, HaveCount};
+ghost use Rattle.fleet_core.specs.Kept.{IsKept};
+ghost use Rattle.fleet_core.specs.Opening.{CanOpen};
 
-use fleet_history::{ClientState, RobotState, Row};
+use crate::hook_laws::HookLaws;
+use crate::mailbox::Mailboxes;
+use crate::planner::Planner;
+use fleet_book::Limits;
+use fleet_grid::Grid;
+use fleet_history::{ClientState, Opening, RobotState, Row};
 use fleet_hooks::StampLaw;
+use fleet_state::FleetState;
 use std::alloc::{AllocError, Allocator};
 
 /// A client at the opening of a world.
@@ -55,4 +64,63 @@ pub(crate) fn nobodies<A: Allocator + Copy>(
         clients.push_reserved(NOBODY);
     }
     Ok(clients)
+}
+
+/// The opening: the robots on their starts, and so many clients that did nothing.
+fn opening_at<A: Allocator + Copy>(
+    alloc: A,
+    starts: &[u32],
+    clients: u32,
+    limits: Limits,
+    laws: &HookLaws<A>,
+) -> Result<Opening<A>, AllocError>
+    requires { HaveCount (length starts.now) laws.now }
+    ensures ok { IfOk result (λ opening. opening ≡ opening_of starts.now clients limits laws.now) }
+    ensures orderly { OnOk result (AreOrderly laws.now) }
+{
+    let (arrivals, farewells) = (laws.arrivals.as_slice(), laws.farewells.as_slice());
+    let robots = robots_at(alloc, starts, arrivals, farewells)?;
+    let clients = nobodies(alloc, clients as usize)?;
+    Ok(Opening {
+        tick: 0,
+        queue: limits.queue,
+        life: limits.life,
+        clients: Row::from_vec(clients),
+        robots: Row::from_vec(robots),
+    })
+}
+
+/// What a world begins with, beside its map, its limits and its closures' laws.
+#[derive(Drop)]
+pub(crate) struct Beginning<A: Allocator + Copy> {
+    pub(crate) opening: Opening<A>,
+    pub(crate) state: FleetState<A>,
+    pub(crate) planner: Planner<A>,
+    pub(crate) mailboxes: Mailboxes<A>,
+}
+
+/// The beginning of a world that can be opened.
+pub(crate) fn beginning_at<A: Allocator + Copy>(
+    alloc: A,
+    grid: &Grid<A>,
+    starts: &[u32],
+    clients: u32,
+    limits: Limits,
+    laws: &HookLaws<A>,
+) -> Result<Beginning<A>, AllocError>
+    requires { CanOpen grid.now starts.now clients limits laws.now }
+    ensures opening { IfOk result (λ b. b.opening ≡ opening_of starts.now clients limits laws.now) }
+    ensures mailboxes { IfOk result (λ b. b.mailboxes.boxes ≡ replicate clients (record { notices = []; limit = limits.mailbox })) }
+    ensures kept { IfOk result (λ b. IsKept grid.now limits laws.now.ties 0 (start b.opening) b.state b.planner b.mailboxes) }
+{
+    let opening = opening_at(alloc, starts, clients, limits, laws)?;
+    let state = FleetState::open(alloc, &opening, limits.queue)?;
+    let planner = Planner::open(alloc, grid, starts.len())?;
+    let mailboxes = Mailboxes::open(alloc, clients as usize, limits.mailbox)?;
+    Ok(Beginning {
+        opening,
+        state,
+        planner,
+        mailboxes,
+    })
 }
