@@ -48,7 +48,6 @@ fn run_with_closures<R: Alloc<A = Global> + Threads + Sync + Wait, I: Read, W: W
 {
     let alloc = rt.alloc();
     let mut plain = Hooks::new(alloc);
-    let mut south = Hooks::new(alloc);
     for _ in 0..ROBOTS {
         let tie = |_view: TieView| -> u8
             ensures { result ≡ 0 }
@@ -63,6 +62,9 @@ fn run_with_closures<R: Alloc<A = Global> + Threads + Sync + Wait, I: Read, W: W
         let arrival = ArrivalHook::new(NOUGHT, Box::new(alloc, arrival)?);
         let farewell = Farewell::new(NOUGHT, Box::new(alloc, farewell)?);
         plain.push(tie, arrival, farewell)?;
+    }
+    let mut south = Hooks::new(alloc);
+    for _ in 0..ROBOTS {
         let tie = |view: TieView| -> u8
             ensures { IsRank SOUTH_FIRST view.dir result }
         { if view.dir == Dir::South { 0 } else { 1 } };

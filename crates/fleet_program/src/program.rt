@@ -1,6 +1,6 @@
 //! The program over any readers and writers.
 
-ghost use Rattle.std.specs.Prelude.{◌≡◌, false, true, IfOk, IfSome, is_some};
+ghost use Rattle.std.specs.Prelude.{◌≡◌, ◌≤◌, false, true, IfOk, IfSome, is_some, vec_len};
 ghost use Rattle.errands_words.specs.Asked.{is_serve};
 ghost use Rattle.fleet_report.specs.Transfer.{bytes_of};
 ghost use Rattle.fleet_program.specs.Told.{Failed, IsAnswer, IsTold, IsShown, names_two};
@@ -45,6 +45,22 @@ fn tell<W: Write, E: Write>(said: &Said, output: &mut W, error: &mut E) -> u8
     said.status
 }
 
+/// What a job's files have, which are read in their order.
+fn read_files<I: Read>(
+    alloc: Global,
+    map: &mut I,
+    other: Option<&mut I>,
+) -> Result<(Vec<u8>, Vec<u8>), InputFault>
+    ensures first { IfOk result (λ texts. IfSome (I.remaining map.old) (λ all. texts.0.items ≡ all)) }
+    ensures second { IfOk result (λ texts. IfSome (bytes_of I.remaining other.entry) (λ all. texts.1.items ≡ all)) }
+    ensures short { IfOk result (λ texts. vec_len texts.0 ≤ 16777216) }
+    ensures other_short { IfOk result (λ texts. vec_len texts.1 ≤ 16777216) }
+{
+    let first = read_whole(alloc, map)?;
+    let second = read_other(alloc, other)?;
+    Ok((first, second))
+}
+
 /// What there is to say to the files of a job that is not to serve, which are read in their order.
 fn answer_files<R: Alloc<A = Global> + Threads + Sync, I: Read>(
     rt: &R,
@@ -57,8 +73,7 @@ fn answer_files<R: Alloc<A = Global> + Threads + Sync, I: Read>(
     ensures { IfOk result (λ s. IfSome (I.remaining map.old) (λ first. IfSome (bytes_of I.remaining other.entry) (λ second.
         IsAnswer (kit_laws kit) job.now first second (said_of s)))) }
 {
-    let first = read_whole(rt.alloc(), map)?;
-    let second = read_other(rt.alloc(), other)?;
+    let (first, second) = read_files(rt.alloc(), map, other)?;
     Ok(answer(rt, job, &first, &second, kit)?)
 }
 
@@ -74,8 +89,7 @@ fn answer_served<R: Alloc<A = Global> + Threads + Sync + Wait, I: Read>(
     ensures { IfOk result (λ s. IfSome (I.remaining map.old) (λ first. IfSome (bytes_of I.remaining other.entry) (λ second.
         IsAnswer (kit_laws kit) job.now first second (said_of s)))) }
 {
-    let first = read_whole(rt.alloc(), map)?;
-    let second = read_other(rt.alloc(), other)?;
+    let (first, second) = read_files(rt.alloc(), map, other)?;
     Ok(answer_job(rt, job, &first, &second, kit)?)
 }
 

@@ -74,6 +74,16 @@ fn unserved_text(alloc: Global, fault: ServeFault) -> Result<Said, AllocError>
     }
 }
 
+/// The grid of a map twice: one to serve on, and one to judge on.
+fn two_grids(alloc: Global, map: MapText) -> Result<(Grid, Grid), AllocError>
+    requires { HasSides (view map) }
+    ensures served { IfOk result (λ grids. grids.0 ≡ floor_of_map (view map)) }
+    ensures judged { IfOk result (λ grids. grids.1 ≡ floor_of_map (view map)) }
+{
+    let judged = Grid::new(copy_of(alloc, &map)?)?;
+    Ok((Grid::new(map)?, judged))
+}
+
 /// Serves a script whose events are all posts and collects of its clients.
 fn serve_lines<R: Alloc<A = Global> + Threads + Sync + Wait>(
     rt: &R,
@@ -89,13 +99,11 @@ fn serve_lines<R: Alloc<A = Global> + Threads + Sync + Wait>(
     if script.events.len() >= 1 << 32 {
         return Err(AllocError);
     }
-    let alloc = rt.alloc();
-    let floor = Grid::new(copy_of(alloc, &map)?)?;
-    let grid = Grid::new(map)?;
+    let (grid, judged) = two_grids(rt.alloc(), map)?;
     let hooks = kit.choose(script.south).cut(script.starts.len());
     match serve(rt, grid, script, hooks, &OpenGate) {
-        Ok(served) => served_text(alloc, &floor, &served),
-        Err(fault) => unserved_text(alloc, fault),
+        Ok(served) => served_text(rt.alloc(), &judged, &served),
+        Err(fault) => unserved_text(rt.alloc(), fault),
     }
 }
 

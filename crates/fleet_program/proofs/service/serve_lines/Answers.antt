@@ -1,4 +1,4 @@
-use Rattle.std.proofs.Common.{rules, ◌≡◌, ◌∙◌, ap}
+use Rattle.std.proofs.Common.{rules, ◌≡◌}
 use Rattle.fleet_map.specs.Grammar.{view}
 use Rattle.fleet_history.specs.History.{history_of}
 use Rattle.fleet_core.specs.Hooks.{laws_of}
@@ -18,8 +18,8 @@ returns-in-Ok g c =
     (first_laws (λ x. x.law) c.len-2.result c.choose.result.arrivals.items c.cut-hooks.result.arrivals.items c.cut-hooks.ensures.arrivals)
     (first_laws (λ x. x.law) c.len-2.result c.choose.result.farewells.items c.cut-hooks.result.farewells.items c.cut-hooks.ensures.farewells) in
     let last = c.in-Ok.served.last in
-    served_is (kit_laws c.args.kit) laws (floor_of_map (view c.args.map)) c.in_ok-grid.grid script c.in_ok-grid.ensures chosen c.served_text.result c.in-Ok.served c.in_ok-floor.floor
-    last.chapter.number c.in-Ok.served.lane_full (history_of last.chapter) (c.in_ok-floor.ensures ∙ ap floor_of_map c.in_ok-copy_of.ensures) c.in-Ok.ensures.first c.in-Ok.ensures.opens
+    served_is (kit_laws c.args.kit) laws (floor_of_map (view c.args.map)) c.in_ok-grid.grid script c.in_ok-grid.ensures.served chosen c.served_text.result c.in-Ok.served c.in_ok-grid.judged
+    last.chapter.number c.in-Ok.served.lane_full (history_of last.chapter) c.in_ok-grid.ensures.judged c.in-Ok.ensures.first c.in-Ok.ensures.opens
     c.in-Ok.ensures.posted c.in-Ok.ensures.all c.served_text.ensures.legal c.served_text.ensures.said
 
 pub returns : goal.returns
@@ -30,5 +30,5 @@ returns g c =
     (first_laws (λ x. x.law) c.len-2.result c.choose.result.ties.items c.cut-hooks.result.ties.items c.cut-hooks.ensures.ties)
     (first_laws (λ x. x.law) c.len-2.result c.choose.result.arrivals.items c.cut-hooks.result.arrivals.items c.cut-hooks.ensures.arrivals)
     (first_laws (λ x. x.law) c.len-2.result c.choose.result.farewells.items c.cut-hooks.result.farewells.items c.cut-hooks.ensures.farewells) in
-    unserved_is (kit_laws c.args.kit) laws (floor_of_map (view c.args.map)) c.in_ok-grid.grid script c.in_ok-grid.ensures chosen c.unserved_text.result c.in-Err.fault c.in-Err.ensures.refused
+    unserved_is (kit_laws c.args.kit) laws (floor_of_map (view c.args.map)) c.in_ok-grid.grid script c.in_ok-grid.ensures.served chosen c.unserved_text.result c.in-Err.fault c.in-Err.ensures.refused
     c.in-Err.ensures.opens c.unserved_text.ensures
