@@ -9,3 +9,6 @@ pub loop-i-preserved : goal.loop-i-preserved
 loop-i-preserved g c =
     let st = c.in-Ok.ensures.step in
     rw (c.push.ensures.items, c.if-is_err.ensures.negation, take_more c.args.events.now c.loop-i.i (Post 0 (Go 0 0)) (omega arith)) (Run-push _ _ _ _ _ _ _ c.loop-i.invariant st)
+
+pub returns-in_default-clause-fault : goal.returns-in_default-clause-fault
+returns-in_default-clause-fault g c = c.loop-i-test.true
