@@ -1,7 +1,8 @@
 //! A full map, each of whose steps is checked.
 
 ghost use Rattle.std.specs.Prelude.{◌≡◌, ◌<◌, ◌≤◌, length, vec_len};
-ghost use Rattle.yardstick.specs.Fleet.{Serves, IsUnderWay};
+ghost use Rattle.fleet_grid.specs.Step.{IsPlacement};
+ghost use Rattle.yardstick.specs.Fleet.{AreWithin, Serves, IsUnderWay};
 
 use fleet_check::check_step;
 use fleet_field::Compass;
@@ -67,25 +68,48 @@ fn count_steps(
     steps
 }
 
-/// A robot on each cell, each with one of 32 goals; none where the starts do not fill the map.
-fn crowd(alloc: Global) -> Result<Option<Steps>, AllocError> {
-    let Some(site) = Site::new(alloc, hall(alloc)?)? else {
-        return Ok(None);
-    };
-    let mut random = Random::from_seed(3);
-    let fields = site.fields(alloc, 32, &mut random)?;
-    let starts = site.starts(alloc, ROBOTS, &mut random)?;
+/// The steps of a fleet with these starts.
+fn steps_from(
+    alloc: Global,
+    site: &Site,
+    fields: &[Compass],
+    starts: Vec<u32>,
+    ties: &[TieHook],
+) -> Result<Steps, AllocError>
+    requires some { 0 < length fields.now }
+    requires serves { Serves site.now.grid site.now.home fields.now }
+    requires tied { length ties.now ≡ ROBOTS }
+    requires full { vec_len starts ≡ ROBOTS }
+    requires placed { IsPlacement site.now.grid starts.items }
+    requires within { AreWithin site.now.grid site.now.home starts.items }
+{
+    let mut fleet = Fleet::new(alloc, site, starts, fields.len())?;
+    let mut stepper = Stepper::new(alloc, site.grid.cell_count(), ROBOTS as u32)?;
+    Ok(count_steps(alloc, site, fields, &mut fleet, &mut stepper, ties))
+}
+
+/// A robot on each cell of the site, each with one of 32 goals; none where the starts do not fill the map.
+fn crowd_on(alloc: Global, site: &Site) -> Result<Option<Steps>, AllocError> {
     let mut ties = Vec::with_capacity(alloc, ROBOTS)?;
     for _ in 0..ROBOTS {
         ties.push(TieHook::new(TieLaw::ANY, Box::new(alloc, |_view: TieView| 0)?))?;
     }
+    let mut random = Random::from_seed(3);
+    let fields = site.fields(alloc, 32, &mut random)?;
+    let starts = site.starts(alloc, ROBOTS, &mut random)?;
     if starts.len() != ROBOTS || ties.len() != ROBOTS {
         return Ok(None);
     }
-    let mut fleet = Fleet::new(alloc, &site, starts, 32)?;
-    let mut stepper = Stepper::new(alloc, site.grid.cell_count(), ROBOTS as u32)?;
-    let steps = count_steps(alloc, &site, &fields, &mut fleet, &mut stepper, &ties);
+    let steps = steps_from(alloc, site, &fields, starts, &ties)?;
     Ok(Some(steps))
+}
+
+/// A crowd in the hall; none where the starts do not fill the map.
+fn crowd(alloc: Global) -> Result<Option<Steps>, AllocError> {
+    match Site::new(alloc, hall(alloc)?)? {
+        Some(site) => crowd_on(alloc, &site),
+        None => Ok(None),
+    }
 }
 
 /// A line of the steps: how many have no conflict, and whether in three of four somebody moved.

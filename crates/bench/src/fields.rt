@@ -31,14 +31,23 @@ pub(crate) fn measure_field<R: Alloc<A = Global> + Clock + Print>(
 ) -> io::Result<()> {
     for kind in kinds {
         if let Some(site) = Site::new(rt.alloc(), grid_of(rt.alloc(), *kind)?)? {
-            let things = site.cells.len() as u64;
-            let fields = time_goals(rt, &site, Search::Field)?;
-            print_measure(rt, "field", kind.name(), 0, things, fields)?;
-            let compasses = time_goals(rt, &site, Search::Compass)?;
-            print_measure(rt, "compass", kind.name(), 0, things, compasses)?;
+            measure_each(rt, kind.name(), &site)?;
         }
     }
     Ok(())
+}
+
+/// One field, and one compass, by cell that it reaches.
+fn measure_each<R: Alloc<A = Global> + Clock + Print>(
+    rt: &R,
+    map: &str,
+    site: &Site,
+) -> io::Result<()> {
+    let things = site.cells.len() as u64;
+    let fields = time_goals(rt, site, Search::Field)?;
+    print_measure(rt, "field", map, 0, things, fields)?;
+    let compasses = time_goals(rt, site, Search::Compass)?;
+    print_measure(rt, "compass", map, 0, things, compasses)
 }
 
 /// The searches from several goals, one after another.
@@ -82,16 +91,24 @@ pub(crate) fn measure_fields<R: Alloc<A = Global> + Clock + Print + Threads + Sy
     rt: &R,
     kind: Kind,
 ) -> io::Result<()> {
-    let alloc = rt.alloc();
-    let Some(site) = Site::new(alloc, grid_of(alloc, kind)?)? else {
-        return Ok(());
-    };
-    let goals = site.goals(alloc, MANY, &mut Random::from_seed(7))?;
+    match Site::new(rt.alloc(), grid_of(rt.alloc(), kind)?)? {
+        Some(site) => measure_many(rt, kind.name(), &site),
+        None => Ok(()),
+    }
+}
+
+/// Many fields, one after another and over all processors, by cell that they reach.
+fn measure_many<R: Alloc<A = Global> + Clock + Print + Threads + Sync>(
+    rt: &R,
+    map: &str,
+    site: &Site,
+) -> io::Result<()> {
+    let goals = site.goals(rt.alloc(), MANY, &mut Random::from_seed(7))?;
     let things = (site.cells.len() as u64).saturating_mul(MANY as u64);
     let in_turn = Measure::NONE.with(time_in_turn(rt, &site.grid, &goals)?);
-    print_measure(rt, "fields_in_turn", kind.name(), 0, things, in_turn)?;
+    print_measure(rt, "fields_in_turn", map, 0, things, in_turn)?;
     let together = Measure::NONE.with(time_together(rt, &site.grid, &goals)?);
-    print_measure(rt, "fields", kind.name(), 0, things, together)
+    print_measure(rt, "fields", map, 0, things, together)
 }
 
 /// The nanoseconds that the fields of all goals take, one after another.

@@ -24,15 +24,23 @@ pub(crate) fn measure_hostile<R: Alloc<A = Global> + Clock + Print>(
 ) -> io::Result<()> {
     for shape in shapes {
         let text = shape.text(rt.alloc())?;
-        let start = Instant::now(rt)?;
-        let grid = read_grid(rt.alloc(), &text)?;
-        let read = start.elapsed(rt)?.as_millis();
-        let described = time_description(rt, &grid)?;
-        let ran = time_run(rt, grid)?;
-        let name = shape.name();
-        println!(rt; "hostile map={name} read_ms={read} describe_ms={described} run_ms={ran}")?;
+        measure_text(rt, shape.name(), &text)?;
     }
     Ok(())
+}
+
+/// The line of a map's text.
+fn measure_text<R: Alloc<A = Global> + Clock + Print>(
+    rt: &R,
+    name: &str,
+    text: &[u8],
+) -> io::Result<()> {
+    let start = Instant::now(rt)?;
+    let grid = read_grid(rt.alloc(), text)?;
+    let read = start.elapsed(rt)?.as_millis();
+    let described = time_description(rt, &grid)?;
+    let ran = time_run(rt, grid)?;
+    println!(rt; "hostile map={name} read_ms={read} describe_ms={described} run_ms={ran}")
 }
 
 /// The grid of a map's text.
@@ -62,23 +70,42 @@ fn ends(grid: &Grid) -> Option<(u32, u32)> {
 /// The milliseconds in which a world with a robot on the first floor cell is opened, the robot sent to the last one, and
 /// ticks are made.
 fn time_run<R: Alloc<A = Global> + Clock>(rt: &R, grid: Grid) -> io::Result<u128> {
-    let alloc = rt.alloc();
     let start = Instant::now(rt)?;
-    let Some((first, last)) = ends(&grid) else {
-        return Ok(0);
-    };
+    match ends(&grid) {
+        Some((first, last)) => {
+            run_through(rt, grid, first, last)?;
+            Ok(start.elapsed(rt)?.as_millis())
+        }
+        None => Ok(0),
+    }
+}
+
+/// Runs a robot from the first cell to the last one. The closures answer 0.
+fn run_through<R: Alloc<A = Global>>(rt: &R, grid: Grid, first: u32, last: u32) -> io::Result<()> {
+    let alloc = rt.alloc();
     let tie = TieHook::new(TieLaw::ANY, Box::new(alloc, |_view: TieView| 0)?);
     let arrival = ArrivalHook::new(StampLaw::ANY, Box::new(alloc, |_view: ArrivalView| 0)?);
     let farewell = Farewell::new(StampLaw::ANY, Box::new(alloc, |_view: FarewellView| 0)?);
     let mut hooks = Hooks::new(alloc);
     hooks.push(tie, arrival, farewell)?;
-    let starts = Vec::from_slice(alloc, &[first])?;
-    let Ok(mut world) = World::open(alloc, grid, starts, 1, LIMITS, hooks) else {
+    run_hooked(rt, grid, hooks, first, last)
+}
+
+/// Runs the robot of these closures from the first cell to the last one.
+fn run_hooked<R: Alloc<A = Global>>(
+    rt: &R,
+    grid: Grid,
+    hooks: Hooks,
+    first: u32,
+    last: u32,
+) -> io::Result<()> {
+    let starts = Vec::from_slice(rt.alloc(), &[first])?;
+    let Ok(mut world) = World::open(rt.alloc(), grid, starts, 1, LIMITS, hooks) else {
         return Err(io::Error::from(ErrorKind::OutOfMemory));
     };
     run_to(rt, &mut world, last);
     mem::drop(world);
-    Ok(start.elapsed(rt)?.as_millis())
+    Ok(())
 }
 
 /// Sends the robot to the cell, and makes ticks.

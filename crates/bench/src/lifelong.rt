@@ -65,12 +65,21 @@ pub(crate) fn measure_lifelong<R: Alloc<A = Global> + Clock + Print + Threads + 
 ) -> io::Result<()> {
     for kind in kinds {
         if let Some(site) = Site::new(rt.alloc(), grid_of(rt.alloc(), *kind)?)? {
-            measure_fleets(rt, *kind, &site, CELLS, &site.cells)?;
-            let stations = site.goals(rt.alloc(), STATION_COUNT, &mut Random::from_seed(13))?;
-            measure_fleets(rt, *kind, &site, STATIONS, &stations)?;
+            measure_both(rt, *kind, &site)?;
         }
     }
     Ok(())
+}
+
+/// Runs of each number of robots, with goals from all cells of the part, and from some stations in it.
+fn measure_both<R: Alloc<A = Global> + Clock + Print + Threads + Sync>(
+    rt: &R,
+    kind: Kind,
+    site: &Site,
+) -> io::Result<()> {
+    measure_fleets(rt, kind, site, CELLS, &site.cells)?;
+    let stations = site.goals(rt.alloc(), STATION_COUNT, &mut Random::from_seed(13))?;
+    measure_fleets(rt, kind, site, STATIONS, &stations)
 }
 
 /// A run of each number of robots.

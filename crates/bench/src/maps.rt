@@ -19,6 +19,19 @@ fn tell(rt: &impl Print, name: &str, grid: &Grid) -> io::Result<()> {
     )
 }
 
+/// A line of a kind of map.
+fn tell_kind<R: Alloc<A = Global> + Print>(rt: &R, kind: Kind) -> io::Result<()> {
+    let grid = grid_of(rt.alloc(), kind)?;
+    tell(rt, kind.name(), &grid)
+}
+
+/// A line of a hostile shape.
+fn tell_shape<R: Alloc<A = Global> + Print>(rt: &R, shape: Shape) -> io::Result<()> {
+    let text = shape.text(rt.alloc())?;
+    let grid = read_grid(rt.alloc(), &text)?;
+    tell(rt, shape.name(), &grid)
+}
+
 /// A line of each kind of map, and of each hostile shape.
 pub(crate) fn tell_maps<R: Alloc<A = Global> + Print>(
     rt: &R,
@@ -26,11 +39,10 @@ pub(crate) fn tell_maps<R: Alloc<A = Global> + Print>(
     shapes: &[Shape],
 ) -> io::Result<()> {
     for kind in kinds {
-        tell(rt, kind.name(), &grid_of(rt.alloc(), *kind)?)?;
+        tell_kind(rt, *kind)?;
     }
     for shape in shapes {
-        let text = shape.text(rt.alloc())?;
-        tell(rt, shape.name(), &read_grid(rt.alloc(), &text)?)?;
+        tell_shape(rt, *shape)?;
     }
     Ok(())
 }
