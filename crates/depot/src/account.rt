@@ -77,6 +77,36 @@ struct Times {
 }
 
 impl Times {
+    /// Before the first entry.
+    fn new(alloc: Global, clients: u32, robots: u32) -> Result<Times, AllocError> {
+        let mut accepted = Vec::new(alloc);
+        for _ in 0..clients {
+            accepted.push(Vec::new(alloc))?;
+        }
+        let arrived = vec![in alloc; 0u64; robots as usize]?;
+        Ok(Times { accepted, arrived })
+    }
+
+    /// Notes that an errand of the client was accepted behind so many ticks.
+    fn accept(&mut self, client: u32, tick: u64) -> Result<(), AllocError> {
+        match self.accepted.get_mut(client as usize) {
+            Some(errands) => Ok(errands.push(tick)?),
+            None => Ok(()),
+        }
+    }
+
+    /// Notes the arrivals of a tick behind so many others. The result is how long the longest of their robots had waited.
+    fn arrive(&mut self, arrived: &[Arrival], tick: u64) -> u64 {
+        let mut greatest = 0;
+        for arrival in arrived {
+            greatest = self.wait_before(arrival, tick).max(greatest);
+            if let Some(at) = self.arrived.get_mut(arrival.robot as usize) {
+                *at = tick.saturating_add(1);
+            }
+        }
+        greatest
+    }
+
     /// How long a robot that arrives at that tick had waited before.
     fn wait_before(&self, arrival: &Arrival, tick: u64) -> u64 {
         let mut since = 0;
@@ -99,33 +129,17 @@ pub(crate) fn greatest_wait(
     clients: u32,
     robots: u32,
 ) -> Result<u64, AllocError> {
-    let mut times = Times {
-        accepted: Vec::new(alloc),
-        arrived: vec![in alloc; 0u64; robots as usize]?,
-    };
-    for _ in 0..clients {
-        times.accepted.push(Vec::new(alloc))?;
-    }
-    let mut tick = 0u64;
-    let mut greatest = 0u64;
+    let mut times = Times::new(alloc, clients, robots)?;
+    let (mut tick, mut greatest) = (0u64, 0u64);
     for entry in &chapter.entries {
         match entry {
             Entry::Take {
                 client,
                 verdict: Verdict::Accepted(_),
                 ..
-            } => {
-                if let Some(errands) = times.accepted.get_mut(*client as usize) {
-                    errands.push(tick)?;
-                }
-            }
+            } => times.accept(*client, tick)?,
             Entry::Tick { arrived, .. } => {
-                for arrival in arrived.as_slice() {
-                    greatest = greatest.max(times.wait_before(arrival, tick));
-                    if let Some(at) = times.arrived.get_mut(arrival.robot as usize) {
-                        *at = tick.saturating_add(1);
-                    }
-                }
+                greatest = times.arrive(arrived.as_slice(), tick).max(greatest);
                 tick = tick.saturating_add(1);
             }
             _ => {}

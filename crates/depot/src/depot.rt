@@ -5,7 +5,7 @@ ghost use Rattle.fleet_office.specs.Views.{IsNamed, AreOn, cores};
 
 use crate::account::Account;
 use crate::tally::Tally;
-use crate::work::{Shift, Worker, work_all};
+use crate::work::{Shift, Shifted, Worker, work_all};
 use fleet_calls::OpenFault;
 use fleet_grid::Grid;
 use fleet_history::Chapter;
@@ -48,6 +48,9 @@ impl From<AllocError> for DayFault {
         DayFault::NoMemory
     }
 }
+
+/// The clients and both tickers that come home from their work.
+type Home<N> = (Vec<Worker<N>>, Shifted<N>, Shifted<N>);
 
 /// The clients at their work, each with a seed of its own.
 fn workers_of<N: OfficeName<Global>>(
@@ -117,6 +120,53 @@ fn account_of(end: &Final, tallies: &[Tally]) -> Account {
     account
 }
 
+/// Lets the clients of an office that was just opened send their orders, beside two tickers.
+fn let_work<N: OfficeName<Global> + Send + Sync, R: Alloc<A = Global> + Threads + Sync + Wait>(
+    rt: &R,
+    office: &Office<N>,
+    clients: Vec<Client>,
+    ticker: Ticker<N>,
+    shift: &Shift,
+    seed: u64,
+) -> Result<Home<N>, DayFault>
+    requires { AreOn N.rings (cores clients.items) }
+{
+    let mut first = ticker;
+    let Some(second) = first.split() else {
+        return Err(DayFault::NoMemory);
+    };
+    let workers = workers_of::<N>(rt.alloc(), clients, seed)?;
+    Ok(work_all(rt, office, workers, first, second, shift)?)
+}
+
+/// Concludes an office by the clients and the tickers that came home.
+fn conclude<N: OfficeName<Global>, R: Alloc<A = Global> + Wait>(
+    rt: &R,
+    office: Office<N>,
+    home: Home<N>,
+) -> Result<Day, DayFault> {
+    let (workers, first, second) = home;
+    if let Some(cause) = first.stopped.or(second.stopped) {
+        return Err(DayFault::Turn(cause));
+    }
+    let (clients, tallies) = home_of(rt.alloc(), workers)?;
+    let tickers = pair_of(rt.alloc(), first.ticker, second.ticker)?;
+    match office.conclude(rt.alloc(), clients, tickers) {
+        Ok(end) => Ok(day_at(end, &tallies)),
+        Err((fault, _home)) => Err(DayFault::Conclude(fault)),
+    }
+}
+
+/// The day that ended so.
+fn day_at(end: Final, tallies: &[Tally]) -> Day {
+    Day {
+        account: account_of(&end, tallies),
+        tick: end.tick,
+        reach: end.grid.floor_count(),
+        chapter: end.chapter,
+    }
+}
+
 /// Opens an office over the desk, lets clients and tickers work side by side, and concludes.
 pub(crate) fn spend_day<
     N: OfficeName<Global> + Send + Sync,
@@ -132,28 +182,11 @@ pub(crate) fn spend_day<
 ) -> Result<Day, DayFault>
     requires { IsNamed desk N.name N.parts N.rings }
 {
-    let alloc = rt.alloc();
-    let (office, clients, mut first) = match Office::<N>::open(alloc, desk, grid, starts, hooks) {
-        Ok(opened) => opened,
-        Err(fault) => return Err(DayFault::Opening(fault)),
-    };
-    let Some(second) = first.split() else {
-        return Err(DayFault::NoMemory);
-    };
-    let workers = workers_of::<N>(alloc, clients, seed)?;
-    let (workers, first, second) = work_all(rt, &office, workers, first, second, shift)?;
-    if let Some(cause) = first.stopped.or(second.stopped) {
-        return Err(DayFault::Turn(cause));
-    }
-    let (clients, tallies) = home_of(alloc, workers)?;
-    let tickers = pair_of(alloc, first.ticker, second.ticker)?;
-    match office.conclude(alloc, clients, tickers) {
-        Ok(end) => Ok(Day {
-            account: account_of(&end, &tallies),
-            tick: end.tick,
-            reach: end.grid.floor_count(),
-            chapter: end.chapter,
-        }),
-        Err((fault, _home)) => Err(DayFault::Conclude(fault)),
+    match Office::<N>::open(rt.alloc(), desk, grid, starts, hooks) {
+        Ok((office, clients, ticker)) => {
+            let home = let_work(rt, &office, clients, ticker, shift, seed)?;
+            conclude(rt, office, home)
+        }
+        Err(fault) => Err(DayFault::Opening(fault)),
     }
 }

@@ -8,6 +8,7 @@ use crate::work::Shift;
 use crate::yard::{floor_of, starts_on, warehouse};
 use fleet_book::Limits;
 use fleet_calls::OpenFault;
+use fleet_grid::Grid;
 use fleet_hooks::{
     ArrivalHook, ArrivalView, Farewell, FarewellView, Hooks, StampLaw, TieHook, TieLaw, TieView,
 };
@@ -44,15 +45,40 @@ fn shift_of(settings: &Settings, cells: Vec<u32>) -> Option<Shift> {
     })
 }
 
-/// A day at the depot of these settings, or no memory to open it. The closures answer 0.
-fn opened_day<R: Alloc<A = Global> + Threads + Sync + Wait>(
+/// Where the robots start, and what the threads share.
+fn starts_of(
+    alloc: Global,
+    grid: &Grid,
+    settings: &Settings,
+) -> Result<(Vec<u32>, Shift), DayFault> {
+    let cells = floor_of(alloc, grid)?;
+    let starts = starts_on(alloc, &cells, settings.robots)?;
+    match shift_of(settings, cells) {
+        Some(shift) => Ok((starts, shift)),
+        None => Err(DayFault::Opening(OpenFault::NoRobots)),
+    }
+}
+
+/// A day at the depot with these closures.
+fn day_with<R: Alloc<A = Global> + Threads + Sync + Wait>(
+    rt: &R,
+    settings: &Settings,
+    hooks: Hooks,
+) -> Result<Day, DayFault> {
+    let grid = warehouse(rt.alloc())?;
+    let (starts, shift) = starts_of(rt.alloc(), &grid, settings)?;
+    match Desk::new(rt.alloc(), settings.clients, LIMITS) {
+        Ok(desk) => spend_day::<Brand, R>(rt, desk, grid, starts, hooks, &shift, settings.seed),
+        Err(fault) => Err(DayFault::Opening(fault)),
+    }
+}
+
+/// A day at the depot of these settings, or no memory for its closures. They answer 0.
+fn hooked_day<R: Alloc<A = Global> + Threads + Sync + Wait>(
     rt: &R,
     settings: &Settings,
 ) -> Result<Result<Day, DayFault>, AllocError> {
     let alloc = rt.alloc();
-    let grid = warehouse(alloc)?;
-    let cells = floor_of(alloc, &grid)?;
-    let starts = starts_on(alloc, &cells, settings.robots)?;
     let mut hooks = Hooks::new(alloc);
     for _robot in 0..settings.robots {
         let tie = TieHook::new(TieLaw::ANY, Box::new(alloc, |_view: TieView| 0)?);
@@ -60,13 +86,7 @@ fn opened_day<R: Alloc<A = Global> + Threads + Sync + Wait>(
         let farewell = Farewell::new(StampLaw::ANY, Box::new(alloc, |_view: FarewellView| 0)?);
         hooks.push(tie, arrival, farewell)?;
     }
-    let Some(shift) = shift_of(settings, cells) else {
-        return Ok(Err(DayFault::Opening(OpenFault::NoRobots)));
-    };
-    match Desk::new(alloc, settings.clients, LIMITS) {
-        Ok(desk) => Ok(spend_day::<Brand, R>(rt, desk, grid, starts, hooks, &shift, settings.seed)),
-        Err(fault) => Ok(Err(DayFault::Opening(fault))),
-    }
+    Ok(day_with(rt, settings, hooks))
 }
 
 /// A day at the depot of these settings.
@@ -74,7 +94,7 @@ pub(crate) fn day_of<R: Alloc<A = Global> + Threads + Sync + Wait>(
     rt: &R,
     settings: &Settings,
 ) -> Result<Day, DayFault> {
-    match opened_day(rt, settings) {
+    match hooked_day(rt, settings) {
         Ok(day) => day,
         Err(AllocError) => Err(DayFault::NoMemory),
     }
