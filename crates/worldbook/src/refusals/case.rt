@@ -17,6 +17,15 @@ impl Case<'_> {
     }
 }
 
+/// What is played of a row: its calls, or the events of its script.
+#[derive(Clone, Copy)]
+pub(crate) struct Row<'a, C> {
+    pub(crate) case: Case<'a>,
+    /// How many robots its script has.
+    pub(crate) robots: usize,
+    pub(crate) calls: &'a [C],
+}
+
 /// The text before the first line that begins so, that line behind its beginning, and the text behind the line.
 fn split_at<'a>(text: &'a [u8], start: &[u8]) -> Option<(&'a [u8], &'a [u8], &'a [u8])> {
     let mut rest = text;

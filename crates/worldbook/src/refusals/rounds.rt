@@ -3,7 +3,7 @@
 ghost use Rattle.std.specs.Prelude.{◌≡◌, IsTrue, string_bytes};
 
 use crate::refusals::calls::{Call, calls_of};
-use crate::refusals::case::Case;
+use crate::refusals::case::{Case, Row};
 use crate::refusals::closures::play;
 use crate::refusals::play::Played;
 use crate::refusals::stage::read;
@@ -28,13 +28,12 @@ fn agree(played: &Played, base: &Played) -> bool
 /// Whether a world holds all that it held before the call that was refused.
 fn holds_the_same(
     alloc: Global,
-    case: Case<'_>,
-    calls: &[Call],
+    row: Row<'_, Call>,
     growth: u64,
     call: usize,
 ) -> Result<bool, AllocError> {
-    let refused = play(alloc, case, calls, growth, call.saturating_add(1))?;
-    let before = play(alloc, case, calls, MANY, call)?;
+    let refused = play(alloc, row, growth, call.saturating_add(1))?;
+    let before = play(alloc, row, MANY, call)?;
     match (refused, before) {
         (Ok(refused), Ok(before)) => Ok(refused.showing.holds_like(&before.showing)),
         _ => Ok(false),
@@ -45,20 +44,19 @@ fn holds_the_same(
 /// that no call answers for was made up for by fields that were kept, and all came to the same.
 fn refuse_each(
     alloc: Global,
-    case: Case<'_>,
-    calls: &[Call],
+    row: Row<'_, Call>,
     base: &Played,
     sheet: &mut Sheet,
 ) -> Result<bool, AllocError> {
     let mut alike = true;
     for growth in 0..100_000 {
-        match play(alloc, case, calls, growth, usize::MAX)? {
+        match play(alloc, row, growth, usize::MAX)? {
             Err(stage) => sheet.count_stage(stage),
             Ok(played) => {
                 let is_alike = agree(&played, base);
                 match played.refused {
                     Some(call) => {
-                        let same = is_alike && holds_the_same(alloc, case, calls, growth, call)?;
+                        let same = is_alike && holds_the_same(alloc, row, growth, call)?;
                         sheet.count(call, same);
                     }
                     None if played.spent => return Ok(alike && is_alike),
@@ -70,22 +68,57 @@ fn refuse_each(
     Ok(false)
 }
 
+/// Tells of a row that played so, and how often each call was refused memory.
+fn tell_rounds(
+    alloc: Global,
+    row: Row<'_, Call>,
+    base: &Played,
+    told: &mut String,
+) -> Result<(), AllocError> {
+    let mut sheet = Sheet::new(alloc, row.calls.len())?;
+    let ended = refuse_each(alloc, row, base, &mut sheet)?;
+    sheet.tell(told, &base.showing.answers)?;
+    writeln!(told, "{}", base.chapter)?;
+    tell_end(told, ended)
+}
+
+/// Plays a row with no growth refused, and tells of it.
+fn tell_row(alloc: Global, row: Row<'_, Call>, told: &mut String) -> Result<(), AllocError> {
+    match play(alloc, row, MANY, usize::MAX)? {
+        Ok(base) => tell_rounds(alloc, row, &base, told),
+        Err(_) => writeln!(told, "not opened"),
+    }
+}
+
+/// How many robots a row has, and its calls.
+fn robots_and_calls(
+    alloc: Global,
+    case: Case<'_>,
+) -> Result<Option<(usize, Vec<Call>)>, AllocError> {
+    match read(alloc, case) {
+        Ok((_grid, script)) => {
+            let calls = calls_of(alloc, case.script, &script)?;
+            Ok(Some((script.starts.len(), calls)))
+        }
+        Err(_) => Ok(None),
+    }
+}
+
 /// Tells what each call of a row answered, and how often it was refused memory.
 pub(crate) fn tell_calls(
     alloc: Global,
     case: Case<'_>,
     told: &mut String,
 ) -> Result<(), AllocError> {
-    let Ok((_grid, script)) = read(alloc, case) else {
-        return writeln!(told, "no row");
-    };
-    let calls = calls_of(alloc, case.script, &script)?;
-    let Ok(base) = play(alloc, case, &calls, MANY, usize::MAX)? else {
-        return writeln!(told, "not opened");
-    };
-    let mut sheet = Sheet::new(alloc, calls.len())?;
-    let ended = refuse_each(alloc, case, &calls, &base, &mut sheet)?;
-    sheet.tell(told, &base.showing.answers)?;
-    writeln!(told, "{}", base.chapter)?;
-    tell_end(told, ended)
+    match robots_and_calls(alloc, case)? {
+        Some((robots, calls)) => {
+            let row = Row {
+                case,
+                robots,
+                calls: calls.as_slice(),
+            };
+            tell_row(alloc, row, told)
+        }
+        None => writeln!(told, "no row"),
+    }
 }

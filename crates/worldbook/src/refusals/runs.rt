@@ -1,8 +1,9 @@
 //! How a run ends, and what its judge says.
 
 use findings::Ending;
+use fleet_grid::Grid;
 use fleet_trace::{JudgeFault, judge, write_trace};
-use fleet_world::{OpenFault, Played, Reply, RunFault};
+use fleet_world::{Chapter, OpenFault, Played, Reply, RunFault};
 use std::alloc::{AllocError, Allocator, Global};
 use std::fmt::Write;
 
@@ -30,28 +31,41 @@ fn text_of(alloc: Global, replies: &[Reply]) -> Result<String, AllocError> {
     Ok(text)
 }
 
+/// Judges a chapter, and writes the replies and its trace.
+fn judge_chapter<A: Allocator + Copy>(
+    alloc: Global,
+    heap: A,
+    grid: &Grid<A>,
+    chapter: &Chapter<A>,
+    replies: &[Reply],
+) -> Result<Run, AllocError> {
+    match judge(heap, grid, chapter) {
+        Err(JudgeFault::NoMemory) => {
+            let again = judge(heap, grid, chapter) == Ok(());
+            Ok(Run::Judge { again })
+        }
+        Err(JudgeFault::Illegal { .. }) => Ok(Run::Faulty),
+        Ok(()) => {
+            let ending = Ending {
+                replies: text_of(alloc, replies)?,
+                trace: write_trace(alloc, chapter)?,
+            };
+            Ok(Run::Ended {
+                ending,
+                spent: Vec::from_slice(heap, &[0u8]).is_err(),
+            })
+        }
+    }
+}
+
 /// Judges what a run made.
 fn judge_run<A: Allocator + Copy>(
     alloc: Global,
     heap: A,
     played: Played<A>,
 ) -> Result<Run, AllocError> {
-    let replies = text_of(alloc, played.replies.as_slice())?;
     let (grid, chapter) = played.world.finish();
-    match judge(heap, &grid, &chapter) {
-        Err(JudgeFault::NoMemory) => {
-            let again = judge(heap, &grid, &chapter) == Ok(());
-            Ok(Run::Judge { again })
-        }
-        Err(JudgeFault::Illegal { .. }) => Ok(Run::Faulty),
-        Ok(()) => {
-            let trace = write_trace(alloc, &chapter)?;
-            Ok(Run::Ended {
-                ending: Ending { replies, trace },
-                spent: Vec::from_slice(heap, &[0u8]).is_err(),
-            })
-        }
-    }
+    judge_chapter(alloc, heap, &grid, &chapter, played.replies.as_slice())
 }
 
 /// What became of a run.

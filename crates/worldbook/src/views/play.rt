@@ -86,8 +86,8 @@ fn compare(
     Ok(met.beside(wanted))
 }
 
-/// Runs a row with these closures, and compares what they noted.
-fn find<R: Alloc<A = Global> + Threads + Sync>(
+/// Runs a row in its grid with these closures, and compares what they noted.
+fn find_in<R: Alloc<A = Global> + Threads + Sync>(
     rt: &R,
     row: &Row,
     grid: Grid,
@@ -106,11 +106,23 @@ fn find<R: Alloc<A = Global> + Threads + Sync>(
     found
 }
 
+/// Runs a row with these closures, and compares what they noted.
+fn find<R: Alloc<A = Global> + Threads + Sync>(
+    rt: &R,
+    row: &Row,
+    hooks: Hooks,
+    note: &AtomicU64,
+) -> Result<Finding, AllocError> {
+    match grid_of(rt.alloc(), row.sides, row.letters)? {
+        Some(grid) => find_in(rt, row, grid, hooks, note),
+        None => Ok(Finding::NotPlayed),
+    }
+}
+
 /// Plays a row with closures that note each view, in one note for all robots.
 fn find_noted<R: Alloc<A = Global> + Threads + Sync>(
     rt: &R,
     row: &Row,
-    grid: Grid,
     note: &Arc<AtomicU64>,
 ) -> Result<Finding, AllocError> {
     let alloc = rt.alloc();
@@ -129,7 +141,7 @@ fn find_noted<R: Alloc<A = Global> + Threads + Sync>(
         let farewell = Farewell::new(StampLaw::ANY, Box::new(alloc, farewell)?);
         hooks.push(tie, arrival, farewell)?;
     }
-    find(rt, row, grid, hooks, note)
+    find(rt, row, hooks, note)
 }
 
 /// Plays a row.
@@ -137,12 +149,8 @@ pub(crate) fn play<R: Alloc<A = Global> + Threads + Sync>(
     rt: &R,
     row: &Row,
 ) -> Result<Finding, AllocError> {
-    let alloc = rt.alloc();
-    let Some(grid) = grid_of(alloc, row.sides, row.letters)? else {
-        return Ok(Finding::NotPlayed);
-    };
-    let note = Arc::new(alloc, AtomicU64::new(0))?;
-    find_noted(rt, row, grid, &note)
+    let note = Arc::new(rt.alloc(), AtomicU64::new(0))?;
+    find_noted(rt, row, &note)
 }
 
 /// Notes a view behind those before it. The result is its stamp.
