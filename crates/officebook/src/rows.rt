@@ -15,6 +15,7 @@ mod stage;
 mod table;
 mod telling;
 
+use case::Case;
 use meter::Meter;
 use opening::perform;
 use plan::{Call, Plan};
@@ -24,6 +25,18 @@ use std::sync::Wait;
 use table::{REFUSED, ROWS};
 use telling::Telling;
 
+/// Tells of a row.
+fn tell_row<R: Wait>(
+    rt: &R,
+    case: &Case,
+    plan: Plan<'_>,
+    book: &mut Telling,
+) -> Result<(), AllocError> {
+    let line = format!(in book.alloc; "= {}", case.name)?;
+    book.line(&line)?;
+    perform(rt, case, plan, book)
+}
+
 /// Tells of all rows.
 fn tell_rows<R: Wait>(rt: &R, meter: &Meter<Global>, book: &mut Telling) -> Result<(), AllocError> {
     let plan = Plan {
@@ -32,15 +45,13 @@ fn tell_rows<R: Wait>(rt: &R, meter: &Meter<Global>, book: &mut Telling) -> Resu
         before: 0,
     };
     for case in &ROWS {
-        let line = format!(in book.alloc; "= {}", case.name)?;
-        book.line(&line)?;
-        perform(rt, case, plan, book)?;
+        tell_row(rt, case, plan, book)?;
     }
     Ok(())
 }
 
 /// Tells of the rows in which growths are refused.
-fn tell_all_refused<R: Wait>(
+fn tell_refused_rows<R: Wait>(
     rt: &R,
     meter: &Meter<Global>,
     book: &mut Telling,
@@ -50,6 +61,11 @@ fn tell_all_refused<R: Wait>(
         book.line(&line)?;
         tell_refused(rt, meter, case, book)?;
     }
+    Ok(())
+}
+
+/// Tells of a lane whose growths are refused.
+fn tell_lanes(meter: &Meter<Global>, book: &mut Telling) -> Result<(), AllocError> {
     let finding = find_lanes(meter);
     let line = format!(in book.alloc; "= refused lane_pair\n{finding:?}")?;
     book.line(&line)
@@ -63,6 +79,7 @@ pub(crate) fn tell<R: Alloc<A = Global> + Wait>(
     let mut book = Telling::new(rt.alloc());
     let meter = Meter::new(rt.alloc());
     tell_rows(rt, &meter, &mut book)?;
-    tell_all_refused(rt, &meter, &mut book)?;
+    tell_refused_rows(rt, &meter, &mut book)?;
+    tell_lanes(&meter, &mut book)?;
     told.push_str(&book.text)
 }

@@ -15,13 +15,22 @@ use std::alloc::{Alloc, AllocError, Global};
 use std::sync::Wait;
 use std::thread::Threads;
 
-/// What is told of the serves.
-pub(crate) fn tell<R: Alloc<A = Global> + Threads + Sync + Wait>(
+/// Tells of all rows.
+fn tell_rows<R: Alloc<A = Global> + Threads + Sync + Wait>(
     rt: &R,
     told: &mut String,
 ) -> Result<(), AllocError> {
     for row in &ROWS {
         told.push_str(&line_of(rt, row)?)?;
     }
+    Ok(())
+}
+
+/// What is told of the serves.
+pub(crate) fn tell<R: Alloc<A = Global> + Threads + Sync + Wait>(
+    rt: &R,
+    told: &mut String,
+) -> Result<(), AllocError> {
+    tell_rows(rt, told)?;
     told.push_str(&thousand_line(rt)?)
 }

@@ -39,16 +39,23 @@ fn tell_outcome(told: &mut String, case: &Case, outcome: &Outcome) -> Result<(),
     )
 }
 
+/// The line of a case.
+fn tell_case<R: Alloc<A = Global> + Threads + Sync + Wait>(
+    rt: &R,
+    case: &Case,
+    told: &mut String,
+) -> Result<(), AllocError> {
+    match played(rt, case) {
+        Ok(outcome) => tell_outcome(told, case, &outcome),
+        Err(fault) => writeln!(told, "{}: {fault:?}", case.name),
+    }
+}
+
 /// What is told of both cases.
 pub(crate) fn tell<R: Alloc<A = Global> + Threads + Sync + Wait>(
     rt: &R,
     told: &mut String,
 ) -> Result<(), AllocError> {
-    for case in [POSTS, BLOCKED] {
-        match played(rt, &case) {
-            Ok(outcome) => tell_outcome(told, &case, &outcome)?,
-            Err(fault) => writeln!(told, "{}: {fault:?}", case.name)?,
-        }
-    }
-    Ok(())
+    tell_case(rt, &POSTS, told)?;
+    tell_case(rt, &BLOCKED, told)
 }

@@ -4,7 +4,7 @@ use crate::rows::case::Step;
 use crate::rows::stage::Stage;
 use fleet_core::{ChapterFault, ShutFault};
 use fleet_history::{Chapter, Entry};
-use fleet_office::{Look, Office, OfficeName, Ticker, TurnCause, TurnFault, TurnReport};
+use fleet_office::{Guest, Look, Office, OfficeName, Ticker, TurnCause, TurnFault, TurnReport};
 use std::alloc::{Alloc, AllocError, Allocator, Global};
 use std::sync::Wait;
 
@@ -138,16 +138,16 @@ fn next_text<N: OfficeName<A>, A: Allocator + Copy, R: Wait>(
 }
 
 /// What a post, a close or a collect of this client answers.
-fn client_text<N: OfficeName<A>, A: Allocator + Copy>(
-    stage: &mut Stage<N, A>,
+pub(crate) fn client_text<N: OfficeName<A>, A: Allocator + Copy>(
+    guests: &mut Vec<Guest<N, A>, A>,
     step: &Step,
     client: usize,
     alloc: Global,
 ) -> Result<String, AllocError> {
-    if client >= stage.guests.len() {
+    if client >= guests.len() {
         return String::from_str(alloc, "nobody");
     }
-    let guest = &mut stage.guests[client];
+    let guest = &mut guests[client];
     match step {
         Step::Post(_, order) => {
             let posted = guest.post(*order);
@@ -166,17 +166,17 @@ fn client_text<N: OfficeName<A>, A: Allocator + Copy>(
 
 /// The number of the ticker that this one gives a part to.
 fn split_text<N: OfficeName<A>, A: Allocator + Copy>(
-    stage: &mut Stage<N, A>,
+    tickers: &mut Vec<Ticker<N>, A>,
     ticker: usize,
     alloc: Global,
 ) -> Result<String, AllocError> {
-    let number = stage.tickers.len();
+    let number = tickers.len();
     if ticker >= number {
         return String::from_str(alloc, "nobody");
     }
-    match stage.tickers[ticker].split() {
+    match tickers[ticker].split() {
         Some(new) => {
-            stage.tickers.push(new)?;
+            tickers.push(new)?;
             format!(in alloc; "ticker {number}")
         }
         None => String::from_str(alloc, "none"),
@@ -192,11 +192,11 @@ pub(crate) fn answer_text<N: OfficeName<A>, A: Allocator + Copy, R: Alloc<A = A>
 ) -> Result<String, AllocError> {
     match *step {
         Step::Post(client, _) | Step::Close(client) | Step::Collect(client) => {
-            client_text(stage, step, client, alloc)
+            client_text(&mut stage.guests, step, client, alloc)
         }
         Step::Turn(ticker) => turn_text(rt, stage, ticker, alloc),
         Step::Look(ticker) => look_text(rt, stage, ticker, alloc),
-        Step::Split(ticker) => split_text(stage, ticker, alloc),
+        Step::Split(ticker) => split_text(&mut stage.tickers, ticker, alloc),
         Step::Shut(robot) => shut_text(rt, &stage.office, robot, alloc),
         Step::NextChapter => next_text(rt, &stage.office, alloc),
         Step::Conclude(_, _) => String::from_str(alloc, "an end"),

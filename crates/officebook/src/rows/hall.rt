@@ -3,32 +3,14 @@
 ghost use Rattle.std.specs.Prelude.{◌≡◌};
 ghost use Rattle.fleet_office.specs.Views.{IsNamed};
 
-use crate::rows::case::HallStep;
+use crate::rows::calls::client_text;
+use crate::rows::case::{HallStep, Step};
 use crate::rows::stage::Fleet;
 use crate::rows::telling::Telling;
 use fleet_calls::OpenFault;
 use fleet_office::{Desk, Guest, Hall, OfficeName, Ticker, guests_of};
 use std::alloc::{Alloc, AllocError, Allocator, Global};
 use std::mem;
-
-/// What a post or a collect of the first client answers.
-fn guest_text<N: OfficeName<A>, A: Allocator + Copy>(
-    guests: &mut Vec<Guest<N, A>, A>,
-    step: &HallStep,
-    alloc: Global,
-) -> Result<String, AllocError> {
-    if guests.is_empty() {
-        return String::from_str(alloc, "nobody");
-    }
-    let guest = &mut guests[0];
-    if let HallStep::Post(order) = step {
-        let posted = guest.post(*order);
-        format!(in alloc; "{posted:?}")
-    } else {
-        let notice = guest.collect();
-        format!(in alloc; "{notice:?}")
-    }
-}
 
 /// What a call on a hall answers.
 fn hall_text<N: OfficeName<A>, A: Allocator + Copy, R: Alloc<A = A>>(
@@ -64,10 +46,10 @@ fn play_step<N: OfficeName<A>, A: Allocator + Copy, R: Alloc<A = A>>(
     step: &HallStep,
     book: &mut Telling,
 ) -> Result<(), AllocError> {
-    let answer = if matches!(step, HallStep::Post(_) | HallStep::Collect) {
-        guest_text(guests, step, book.alloc)?
-    } else {
-        hall_text(rt, hall, ticker, step, book.alloc)?
+    let answer = match *step {
+        HallStep::Post(order) => client_text(guests, &Step::Post(0, order), 0, book.alloc)?,
+        HallStep::Collect => client_text(guests, &Step::Collect(0), 0, book.alloc)?,
+        _ => hall_text(rt, hall, ticker, step, book.alloc)?,
     };
     let line = format!(in book.alloc; "{step:?}: {answer}")?;
     book.line(&line)

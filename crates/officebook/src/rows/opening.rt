@@ -73,6 +73,27 @@ fn fleet_play<'a, R: Wait>(
     }
 }
 
+/// Plays a row with these closures on its floor, or says why it was not opened.
+fn floor_play<'a, R: Wait>(
+    rt: &'a R,
+    hooks: Hooks<Heap<'a>>,
+    case: &Case,
+    plan: Plan<'a>,
+    book: &mut Telling,
+) -> Result<Result<(), OpenFault>, AllocError> {
+    match floor_of(plan.meter, case)? {
+        Some((grid, starts)) => {
+            let fleet = Fleet {
+                grid,
+                starts,
+                hooks,
+            };
+            fleet_play(rt, fleet, case, plan, book)
+        }
+        None => Ok(Err(OpenFault::NoRobots)),
+    }
+}
+
 /// Plays a row with closures that answer 0, or says why it was not opened.
 fn opened_play<'a, R: Wait>(
     rt: &'a R,
@@ -80,35 +101,15 @@ fn opened_play<'a, R: Wait>(
     plan: Plan<'a>,
     book: &mut Telling,
 ) -> Result<Result<(), OpenFault>, AllocError> {
-    let (alloc, heap) = (book.alloc, plan.meter);
-    let Some((grid, starts)) = floor_of(heap, case)? else {
-        return Ok(Err(OpenFault::NoRobots));
-    };
-    let mut hooks = Hooks::new(heap);
-    let mut complete = true;
+    let alloc = book.alloc;
+    let mut hooks = Hooks::new(plan.meter);
     for _robot in case.starts {
-        let tie = Box::new(alloc, |_view: TieView| 0);
-        let arrival = Box::new(alloc, |_view: ArrivalView| 0);
-        let farewell = Box::new(alloc, |_view: FarewellView| 0);
-        if let (Ok(tie), Ok(arrival), Ok(farewell)) = (tie, arrival, farewell) {
-            let tie = TieHook::new(TieLaw::ANY, tie);
-            let arrival = ArrivalHook::new(StampLaw::ANY, arrival);
-            let farewell = Farewell::new(StampLaw::ANY, farewell);
-            complete &= hooks.push(tie, arrival, farewell).is_ok();
-        } else {
-            complete = false;
-        }
+        let tie = TieHook::new(TieLaw::ANY, Box::new(alloc, |_view: TieView| 0)?);
+        let arrival = ArrivalHook::new(StampLaw::ANY, Box::new(alloc, |_view: ArrivalView| 0)?);
+        let farewell = Farewell::new(StampLaw::ANY, Box::new(alloc, |_view: FarewellView| 0)?);
+        hooks.push(tie, arrival, farewell)?;
     }
-    let fleet = Fleet {
-        grid,
-        starts,
-        hooks,
-    };
-    if complete {
-        fleet_play(rt, fleet, case, plan, book)
-    } else {
-        Err(AllocError)
-    }
+    floor_play(rt, hooks, case, plan, book)
 }
 
 /// Plays a row, and where memory was refused to its opening, once more.

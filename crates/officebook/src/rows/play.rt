@@ -9,14 +9,15 @@ use crate::rows::hall::play_hall;
 use crate::rows::plan::{Call, Plan};
 use crate::rows::stage::{Fleet, Stage, concluded, opened};
 use crate::rows::telling::Telling;
+use fleet_book::Notice;
 use fleet_calls::OpenFault;
 use fleet_office::{ConcludeFault, Desk, Final, OfficeName};
 use std::alloc::{Alloc, AllocError, Allocator};
 use std::mem;
 use std::sync::Wait;
 
-/// Tells how an office ended: its ticks, its floor cells and its chapter, and by client what it had not collected.
-fn tell_end<A: Allocator + Copy>(
+/// Tells how an office ended: its ticks, its floor cells and its chapter.
+fn tell_last<A: Allocator + Copy>(
     step: &Step,
     end: &Final<A>,
     book: &mut Telling,
@@ -24,12 +25,38 @@ fn tell_end<A: Allocator + Copy>(
     let chapter = chapter_text(&end.chapter, book.alloc)?;
     let floor = end.grid.floor_count();
     let line = format!(in book.alloc; "{step:?}: tick {} floor {floor} {chapter}", end.tick)?;
-    book.line(&line)?;
+    book.line(&line)
+}
+
+/// Tells what a client had not collected.
+fn tell_rest(client: usize, notices: &[Notice], book: &mut Telling) -> Result<(), AllocError> {
+    let line = format!(in book.alloc; "rest {client}: {notices:?}")?;
+    book.line(&line)
+}
+
+/// Tells how an office ended, and by client what it had not collected.
+fn tell_end<A: Allocator + Copy>(
+    step: &Step,
+    end: &Final<A>,
+    book: &mut Telling,
+) -> Result<(), AllocError> {
+    tell_last(step, end, book)?;
     for (client, notices) in end.rest.iter().enumerate() {
-        let line = format!(in book.alloc; "rest {client}: {:?}", notices.as_slice())?;
-        book.line(&line)?;
+        tell_rest(client, notices.as_slice(), book)?;
     }
     Ok(())
+}
+
+/// Tells what a call answered.
+fn tell_answer(step: &Step, answer: &str, book: &mut Telling) -> Result<(), AllocError> {
+    let line = format!(in book.alloc; "{step:?}: {answer}")?;
+    book.line(&line)
+}
+
+/// Tells what a call answered, and what there is to see then.
+fn tell_seen(step: &Step, answer: &str, look: &str, book: &mut Telling) -> Result<(), AllocError> {
+    let line = format!(in book.alloc; "{step:?}: {answer}; {look}")?;
+    book.line(&line)
 }
 
 /// Makes a call that is no end, and tells what it answered, and where it may change an office what there is to see then.
@@ -47,11 +74,9 @@ fn play_step<N: OfficeName<A>, A: Allocator + Copy, R: Alloc<A = A> + Wait>(
     let answer = answer?;
     if step.is_seen() {
         let look = look_text(rt, stage, 0, book.alloc)?;
-        let line = format!(in book.alloc; "{step:?}: {answer}; {look}")?;
-        book.line(&line)
+        tell_seen(step, &answer, &look, book)
     } else {
-        let line = format!(in book.alloc; "{step:?}: {answer}")?;
-        book.line(&line)
+        tell_answer(step, &answer, book)
     }
 }
 
@@ -150,6 +175,23 @@ fn play_course<N: OfficeName<A>, A: Allocator + Copy, R: Alloc<A = A> + Wait>(
     }
 }
 
+/// Opens an office over the desk, and makes the calls of a row.
+fn play_office<N: OfficeName<A>, A: Allocator + Copy, R: Alloc<A = A> + Wait>(
+    rt: &R,
+    desk: Desk<A>,
+    fleet: Fleet<A>,
+    course: Course<'_>,
+    plan: Plan<'_>,
+    book: &mut Telling,
+) -> Result<Result<(), OpenFault>, AllocError>
+    requires named { IsNamed desk N.name N.parts N.rings }
+{
+    match opened::<N, A>(rt.alloc(), desk, fleet, plan)? {
+        Ok(stage) => Ok(Ok(play_course(rt, stage, course, plan, book)?)),
+        Err(fault) => Ok(Err(fault)),
+    }
+}
+
 /// Opens an office over the desk, or a hall, and makes the calls of a row.
 pub(crate) fn play<N: OfficeName<A>, A: Allocator + Copy, R: Alloc<A = A> + Wait>(
     rt: &R,
@@ -161,14 +203,9 @@ pub(crate) fn play<N: OfficeName<A>, A: Allocator + Copy, R: Alloc<A = A> + Wait
 ) -> Result<Result<(), OpenFault>, AllocError>
     requires named { IsNamed desk N.name N.parts N.rings }
 {
-    if !course.hall.is_empty() {
-        return play_hall::<N, A, R>(rt, desk, fleet, course.hall, book);
-    }
-    match opened::<N, A>(rt.alloc(), desk, fleet, plan)? {
-        Ok(stage) => {
-            play_course(rt, stage, course, plan, book)?;
-            Ok(Ok(()))
-        }
-        Err(fault) => Ok(Err(fault)),
+    if course.hall.is_empty() {
+        play_office::<N, A, R>(rt, desk, fleet, course, plan, book)
+    } else {
+        play_hall::<N, A, R>(rt, desk, fleet, course.hall, book)
     }
 }

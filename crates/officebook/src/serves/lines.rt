@@ -5,8 +5,11 @@ use crate::serves::gate::{Flags, Hold};
 use crate::serves::play::{PlayFault, play, script_of};
 use crate::serves::row::{Fact, Row};
 use crate::serves::seeds::script_from;
+use crate::serves::yard::Yard;
+use fleet_script::Script;
 use fleet_serve::ServeFault;
 use std::alloc::{Alloc, AllocError, Global};
+use std::fmt::Write;
 use std::sync::{Arc, Wait};
 use std::thread::Threads;
 
@@ -24,27 +27,44 @@ fn name_of(fault: ServeFault) -> &'static str {
     }
 }
 
-/// A fact in words.
-fn text_of(alloc: Global, fact: Fact, came: &Came, met: bool) -> Result<String, AllocError> {
+/// A fact in words, behind the line.
+fn write_fact(line: &mut String, fact: Fact, came: &Came, met: bool) -> Result<(), AllocError> {
     match fact {
-        Fact::LaneFull => format!(in alloc; " lane_full {}", came.lane_full),
-        Fact::Takes => format!(in alloc; " takes {}", came.takes),
-        Fact::Arrivals => format!(in alloc; " arrivals {}", came.arrivals),
-        Fact::Unfinished => format!(in alloc; " unfinished {}", came.unfinished()),
-        Fact::Held => String::from_str(alloc, if met { " met" } else { " missed" }),
+        Fact::LaneFull => write!(line, " lane_full {}", came.lane_full),
+        Fact::Takes => write!(line, " takes {}", came.takes),
+        Fact::Arrivals => write!(line, " arrivals {}", came.arrivals),
+        Fact::Unfinished => write!(line, " unfinished {}", came.unfinished()),
+        Fact::Held => line.push_str(if met { " met" } else { " missed" }),
         Fact::SameMap => {
-            String::from_str(
-                alloc,
-                if came.same_map {
-                    " its map"
-                } else {
-                    " another map"
-                },
-            )
+            line.push_str(if came.same_map {
+                " its map"
+            } else {
+                " another map"
+            })
         }
-        Fact::Legal => String::from_str(alloc, if came.legal { " legal" } else { " illegal" }),
-        Fact::Told => String::from_str(alloc, if came.told { " told" } else { " untold" }),
+        Fact::Legal => line.push_str(if came.legal { " legal" } else { " illegal" }),
+        Fact::Told => line.push_str(if came.told { " told" } else { " untold" }),
     }
+}
+
+/// What comes of a row's script.
+fn came_of<R: Alloc<A = Global> + Threads + Sync + Wait>(
+    rt: &R,
+    row: &Row,
+    flags: &Arc<Flags>,
+) -> Result<Came, PlayFault> {
+    let script = script_of(rt.alloc(), row.script)?;
+    play(rt, &row.yard, &script, flags)
+}
+
+/// A row's facts behind its name.
+fn facts_line(alloc: Global, row: &Row, came: &Came, met: bool) -> Result<String, AllocError> {
+    let mut line = format!(in alloc; "{}:", row.name)?;
+    for fact in row.facts {
+        write_fact(&mut line, *fact, came, met)?;
+    }
+    line.push_str("\n")?;
+    Ok(line)
 }
 
 /// The line of a row.
@@ -54,23 +74,12 @@ pub(crate) fn line_of<R: Alloc<A = Global> + Threads + Sync + Wait>(
 ) -> Result<String, AllocError> {
     let alloc = rt.alloc();
     let flags = Arc::new(alloc, Flags::new(row.hold))?;
-    let played = match script_of(alloc, row.script) {
-        Ok(script) => play(rt, &row.yard, &script, &flags),
-        Err(fault) => Err(fault),
-    };
-    let mut line = format!(in alloc; "{}:", row.name)?;
-    match played {
-        Ok(came) => {
-            for fact in row.facts {
-                line.push_str(&text_of(alloc, *fact, &came, flags.is_met())?)?;
-            }
-        }
-        Err(PlayFault::Served(fault)) => line.push_str(&format!(in alloc; " {}", name_of(fault))?)?,
-        Err(PlayFault::NoScript) => line.push_str(" no script")?,
-        Err(PlayFault::NoMemory) => return Err(AllocError),
+    match came_of(rt, row, &flags) {
+        Ok(came) => facts_line(alloc, row, &came, flags.is_met()),
+        Err(PlayFault::Served(fault)) => format!(in alloc; "{}: {}\n", row.name, name_of(fault)),
+        Err(PlayFault::NoScript) => format!(in alloc; "{}: no script\n", row.name),
+        Err(PlayFault::NoMemory) => Err(AllocError),
     }
-    line.push_str("\n")?;
-    Ok(line)
 }
 
 /// What became of the serves.
@@ -82,6 +91,22 @@ struct Sum {
     legal: u64,
     accounted: u64,
     idle: u64,
+}
+
+impl Sum {
+    /// Adds what became of a script on a yard.
+    fn add(&mut self, yard: &Yard, script: &Script, came: &Came) {
+        self.clients = self.clients.saturating_add(u64::from(script.clients));
+        self.lines = self.lines.saturating_add(script.events.len() as u64);
+        self.legal = self
+            .legal
+            .saturating_add(u64::from(came.legal && came.same_map));
+        self.accounted = self
+            .accounted
+            .saturating_add(u64::from(came.accounts_for(&script.events)));
+        let idle = !yard.is_bridgeless || came.unfinished() == 0;
+        self.idle = self.idle.saturating_add(u64::from(idle));
+    }
 }
 
 /// Serves the script of a seed, and adds what became of it. A serve that has a fault adds nothing.
@@ -96,19 +121,9 @@ fn add_serve<R: Alloc<A = Global> + Threads + Sync + Wait>(
         return Ok(());
     };
     let flags = Arc::new(alloc, Flags::new(Hold::Nobody))?;
-    let Ok(came) = play(rt, &seeded.yard, &script, &flags) else {
-        return Ok(());
-    };
-    sum.clients = sum.clients.saturating_add(u64::from(script.clients));
-    sum.lines = sum.lines.saturating_add(script.events.len() as u64);
-    sum.legal = sum
-        .legal
-        .saturating_add(u64::from(came.legal && came.same_map));
-    sum.accounted = sum
-        .accounted
-        .saturating_add(u64::from(came.accounts_for(&script.events)));
-    let idle = !seeded.yard.is_bridgeless || came.unfinished() == 0;
-    sum.idle = sum.idle.saturating_add(u64::from(idle));
+    if let Ok(came) = play(rt, &seeded.yard, &script, &flags) {
+        sum.add(&seeded.yard, &script, &came);
+    }
     Ok(())
 }
 

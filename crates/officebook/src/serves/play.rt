@@ -7,7 +7,6 @@ ghost use Rattle.fleet_serve.specs.Posted.{IsLine};
 use crate::serves::came::Came;
 use crate::serves::gate::Flags;
 use crate::serves::yard::Yard;
-use fleet_grid::Grid;
 use fleet_hooks::{
     ArrivalHook, ArrivalView, Farewell, FarewellView, Hooks, StampLaw, TieHook, TieLaw, TieView,
 };
@@ -44,13 +43,41 @@ impl From<AllocError> for PlayFault {
     }
 }
 
-/// Serves the script, with closures for its robots that stand where the flags say so.
+/// What a serve on a yard came to.
+fn came_of(alloc: Global, yard: &Yard, served: &Served) -> Result<Came, PlayFault> {
+    match yard.grid(alloc)? {
+        Some(grid) => Ok(Came::of(alloc, &grid, served)?),
+        None => Err(PlayFault::NoScript),
+    }
+}
+
+/// What comes of a script on a yard, served with these closures.
 fn serve_with<R: Alloc<A = Global> + Threads + Sync + Wait>(
     rt: &R,
-    grid: Grid,
+    yard: &Yard,
+    script: &Script,
+    hooks: Hooks,
+    flags: &Flags,
+) -> Result<Came, PlayFault>
+    requires few { length script.now.events.items < 2 ^ 32 }
+    requires lines { All (IsLine script.now.clients) script.now.events.items }
+{
+    let Some(grid) = yard.grid(rt.alloc())? else {
+        return Err(PlayFault::NoScript);
+    };
+    match serve(rt, grid, script, hooks, flags) {
+        Ok(served) => came_of(rt.alloc(), yard, &served),
+        Err(fault) => Err(PlayFault::Served(fault)),
+    }
+}
+
+/// What comes of a script on a yard, or no memory to open it, with closures for its robots that stand where the flags say so.
+fn serve_hooked<R: Alloc<A = Global> + Threads + Sync + Wait>(
+    rt: &R,
+    yard: &Yard,
     script: &Script,
     flags: &Arc<Flags>,
-) -> Result<Result<Served, ServeFault>, AllocError>
+) -> Result<Result<Came, PlayFault>, AllocError>
     requires few { length script.now.events.items < 2 ^ 32 }
     requires lines { All (IsLine script.now.clients) script.now.events.items }
 {
@@ -75,7 +102,7 @@ fn serve_with<R: Alloc<A = Global> + Threads + Sync + Wait>(
         let farewell = Farewell::new(STAMPS, Box::new(alloc, farewell)?);
         hooks.push(tie, arrival, farewell)?;
     }
-    Ok(serve(rt, grid, script, hooks, flags.as_ref()))
+    Ok(serve_with(rt, yard, script, hooks, flags.as_ref()))
 }
 
 pub(crate) fn script_of(alloc: Global, text: &[u8]) -> Result<Script, PlayFault> {
@@ -96,15 +123,8 @@ pub(crate) fn play<R: Alloc<A = Global> + Threads + Sync + Wait>(
     script: &Script,
     flags: &Arc<Flags>,
 ) -> Result<Came, PlayFault> {
-    let alloc = rt.alloc();
     if first_other(script).is_some() || script.events.len() >= 1 << 32 {
         return Err(PlayFault::NoScript);
     }
-    let (Some(grid), Some(floor)) = (yard.grid(alloc)?, yard.grid(alloc)?) else {
-        return Err(PlayFault::NoScript);
-    };
-    match serve_with(rt, grid, script, flags)? {
-        Ok(served) => Ok(Came::of(alloc, &floor, &served)?),
-        Err(fault) => Err(PlayFault::Served(fault)),
-    }
+    serve_hooked(rt, yard, script, flags)?
 }

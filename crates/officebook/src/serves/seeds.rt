@@ -1,5 +1,7 @@
 //! Scripts from seeds.
 
+ghost use Rattle.std.specs.Prelude.{◌<◌};
+
 use crate::serves::yard::{CORRIDOR, RING, SHELVES, SQUARE, Yard};
 use std::alloc::{AllocError, Global};
 use std::fmt::Write;
@@ -58,24 +60,55 @@ fn write_line(
     }
 }
 
+/// The lines of the clients, up to six a client.
+fn write_lines(
+    text: &mut String,
+    random: &mut Random,
+    clients: usize,
+    robots: usize,
+    cells: usize,
+) -> Result<(), AllocError>
+    requires { 0 < clients }
+{
+    for _ in 0..clients.saturating_mul(1 + random.below(6)) {
+        let client = random.below(clients);
+        write_line(text, random, client, robots, cells)?;
+    }
+    Ok(())
+}
+
+/// The last lines of those clients who close.
+fn write_closes(text: &mut String, random: &mut Random, clients: usize) -> Result<(), AllocError> {
+    for client in 0..clients {
+        if random.below(4) == 0 {
+            write!(text, "post {client} close\n")?;
+        }
+    }
+    Ok(())
+}
+
+/// A script of so many clients on a yard.
+fn write_script(
+    text: &mut String,
+    random: &mut Random,
+    yard: &Yard,
+    clients: usize,
+) -> Result<(), AllocError>
+    requires { 0 < clients }
+{
+    let robots = write_robots(text, random, yard)?;
+    let (lane, turns) = (1 + random.below(8), 1 + random.below(4));
+    write!(text, "clients {clients}\nlane {lane}\nturns {turns}\n")?;
+    let cells = yard.height.saturating_mul(yard.width) as usize;
+    write_lines(text, random, clients, robots, cells)?;
+    write_closes(text, random, clients)
+}
+
 /// The script of a seed, with 1 to 64 clients, some of whom close with their last line.
 pub(crate) fn script_from(alloc: Global, seed: u32) -> Result<Seeded, AllocError> {
     let mut random = Random::from_seed(u64::from(seed));
     let yard = yard_of(&mut random);
     let mut script = String::new(alloc);
-    let robots = write_robots(&mut script, &mut random, &yard)?;
-    let clients = 1 + seed as usize % 64;
-    let (lane, turns) = (1 + random.below(8), 1 + random.below(4));
-    let cells = yard.height.saturating_mul(yard.width) as usize;
-    write!(script, "clients {clients}\nlane {lane}\nturns {turns}\n")?;
-    for _ in 0..clients.saturating_mul(1 + random.below(6)) {
-        let client = random.below(clients);
-        write_line(&mut script, &mut random, client, robots, cells)?;
-    }
-    for client in 0..clients {
-        if random.below(4) == 0 {
-            write!(script, "post {client} close\n")?;
-        }
-    }
+    write_script(&mut script, &mut random, &yard, 1 + seed as usize % 64)?;
     Ok(Seeded { yard, script })
 }

@@ -1,4 +1,4 @@
-//! A case's opening: two cells, one robot whose closure waits, and the names of the office.
+//! A case's opening: one robot whose closure waits, and the names of the office.
 
 ghost use Rattle.std.specs.Prelude.{◌≡◌};
 
@@ -6,15 +6,12 @@ use crate::waits::flags::stand;
 use crate::waits::play::{Outcome, PlayFault, play};
 use crate::waits::staff::Shared;
 use fleet_book::Limits;
-use fleet_grid::Grid;
 use fleet_hooks::{
     ArrivalHook, ArrivalView, Farewell, FarewellView, Hooks, StampLaw, TieHook, TieLaw, TieView,
 };
-use fleet_map::MapText;
 use fleet_office::Desk;
 use std::alloc::{Alloc, AllocError, Global};
 use std::marker::Brand;
-use std::sync::atomic::AtomicU64;
 use std::sync::{Arc, Wait};
 use std::thread::Threads;
 
@@ -27,25 +24,28 @@ pub(crate) struct Case {
     pub(crate) turns: u64,
 }
 
-/// Two cells side by side.
-fn two_cells(alloc: Global) -> Result<Grid, AllocError> {
-    Grid::new(MapText {
-        height: 1,
-        width: 2,
-        cells: Vec::from_slice(alloc, &[b'.', b'.'])?,
-    })
+/// What came out of a case whose robot has these closures.
+fn play_with<R: Alloc<A = Global> + Threads + Sync + Wait>(
+    rt: &R,
+    case: &Case,
+    hooks: Hooks,
+    shared: &Shared,
+) -> Result<Outcome, PlayFault> {
+    match Desk::new(rt.alloc(), case.clients, Limits::DEFAULT) {
+        Ok(desk) => play::<Brand, R>(rt, desk, hooks, shared, case.turns),
+        Err(fault) => Err(PlayFault::Opening(fault)),
+    }
 }
 
 /// What came out of a case, or no memory to open it. The robot's closure waits for the clients at its first call, and the
 /// closures answer 0.
-fn opened_play<R: Alloc<A = Global> + Threads + Sync + Wait>(
+fn play_hooked<R: Alloc<A = Global> + Threads + Sync + Wait>(
     rt: &R,
     case: &Case,
+    shared: &Shared,
 ) -> Result<Result<Outcome, PlayFault>, AllocError> {
     let alloc = rt.alloc();
-    let hook = Arc::new(alloc, AtomicU64::new(0))?;
-    let done = Arc::new(alloc, AtomicU64::new(0))?;
-    let (begun, ready) = (Arc::try_clone(&hook)?, Arc::try_clone(&done)?);
+    let (begun, ready) = (Arc::try_clone(&shared.hook)?, Arc::try_clone(&shared.done)?);
     let clients = u64::from(case.clients);
     let waits = move |_view: TieView| {
         stand(&begun, &ready, clients);
@@ -56,17 +56,7 @@ fn opened_play<R: Alloc<A = Global> + Threads + Sync + Wait>(
     let farewell = Farewell::new(StampLaw::ANY, Box::new(alloc, |_view: FarewellView| 0)?);
     let mut hooks = Hooks::new(alloc);
     hooks.push(tie, arrival, farewell)?;
-    let grid = two_cells(alloc)?;
-    let starts = Vec::from_slice(alloc, &[0u32])?;
-    let shared = Shared {
-        hook,
-        done,
-        posts: case.posts,
-    };
-    match Desk::new(alloc, case.clients, Limits::DEFAULT) {
-        Ok(desk) => Ok(play::<Brand, R>(rt, desk, grid, starts, hooks, &shared, case.turns)),
-        Err(fault) => Ok(Err(PlayFault::Opening(fault))),
-    }
+    Ok(play_with(rt, case, hooks, shared))
 }
 
 /// What came out of a case.
@@ -74,8 +64,6 @@ pub(crate) fn played<R: Alloc<A = Global> + Threads + Sync + Wait>(
     rt: &R,
     case: &Case,
 ) -> Result<Outcome, PlayFault> {
-    match opened_play(rt, case) {
-        Ok(outcome) => outcome,
-        Err(AllocError) => Err(PlayFault::NoMemory),
-    }
+    let shared = Shared::new(rt.alloc(), case.posts)?;
+    play_hooked(rt, case, &shared)?
 }

@@ -9,6 +9,7 @@ use fleet_calls::OpenFault;
 use fleet_grid::Grid;
 use fleet_hooks::Hooks;
 use fleet_lanes::Client;
+use fleet_map::MapText;
 use fleet_office::{ConcludeFault, Desk, Office, OfficeName, Ticker, clients_of, guests_of};
 use std::alloc::{Alloc, AllocError, Global};
 use std::sync::Wait;
@@ -45,6 +46,15 @@ impl From<AllocError> for PlayFault {
     fn from(_e: AllocError) -> PlayFault {
         PlayFault::NoMemory
     }
+}
+
+/// Two cells side by side.
+fn two_cells(alloc: Global) -> Result<Grid, AllocError> {
+    Grid::new(MapText {
+        height: 1,
+        width: 2,
+        cells: Vec::from_slice(alloc, &[b'.', b'.'])?,
+    })
 }
 
 /// The clients before their work.
@@ -86,18 +96,6 @@ fn home_of<N: OfficeName<Global>>(
     Ok((clients_of::<N, Global>(alloc, guests)?, posted, collected))
 }
 
-/// Both tickers.
-fn pair_of<N: OfficeName<Global>>(
-    alloc: Global,
-    first: Ticker<N>,
-    second: Ticker<N>,
-) -> Result<Vec<Ticker<N>>, AllocError> {
-    let mut tickers = Vec::new(alloc);
-    tickers.push(first)?;
-    tickers.push(second)?;
-    Ok(tickers)
-}
-
 /// A ticker before its turns.
 fn turner_of<N: OfficeName<Global>>(ticker: Ticker<N>, first: bool, turns: u64) -> Turner<N> {
     Turner {
@@ -108,45 +106,121 @@ fn turner_of<N: OfficeName<Global>>(ticker: Ticker<N>, first: bool, turns: u64) 
     }
 }
 
-/// Opens an office over the desk, lets the first ticker make one turn and the other so many, beside the clients, and
-/// concludes.
-pub(crate) fn play<
-    N: OfficeName<Global> + Send + Sync,
-    R: Alloc<A = Global> + Threads + Sync + Wait,
->(
-    rt: &R,
-    desk: Desk,
-    grid: Grid,
-    starts: Vec<u32>,
-    hooks: Hooks,
-    shared: &Shared,
+/// Two tickers of one: the first makes one turn, the other so many. None where the ticker has one part.
+fn turners_of<N: OfficeName<Global>>(
+    ticker: Ticker<N>,
     turns: u64,
-) -> Result<Outcome, PlayFault>
-    requires { IsNamed desk N.name N.parts N.rings }
-{
-    let alloc = rt.alloc();
-    let (office, clients, mut first) = match Office::<N>::open(alloc, desk, grid, starts, hooks) {
-        Ok(opened) => opened,
-        Err(fault) => return Err(PlayFault::Opening(fault)),
-    };
-    let Some(second) = first.split() else {
-        return Err(PlayFault::NoMemory);
-    };
-    let workers = workers_of::<N>(alloc, clients)?;
-    let (first, second) = (turner_of(first, true, 1), turner_of(second, false, turns));
-    let (workers, first, second) = work_all(rt, &office, workers, first, second, shared)?;
+) -> Option<(Turner<N>, Turner<N>)> {
+    let mut first = ticker;
+    match first.split() {
+        Some(second) => Some((turner_of(first, true, 1), turner_of(second, false, turns))),
+        None => None,
+    }
+}
+
+/// Both tickers after their turns, none of which was refused.
+fn tickers_of<N: OfficeName<Global>>(
+    alloc: Global,
+    first: Turner<N>,
+    second: Turner<N>,
+) -> Result<Vec<Ticker<N>>, PlayFault> {
     if first.refused || second.refused {
         return Err(PlayFault::Turn);
     }
-    let (clients, posted, collected) = home_of(alloc, workers)?;
-    let tickers = pair_of(alloc, first.ticker, second.ticker)?;
+    let mut tickers = Vec::with_capacity(alloc, 2)?;
+    tickers.push_reserved(first.ticker);
+    tickers.push_reserved(second.ticker);
+    Ok(tickers)
+}
+
+/// What comes home from an office.
+#[derive(Drop)]
+struct Back<N: OfficeName<Global>> {
+    clients: Vec<Client>,
+    tickers: Vec<Ticker<N>>,
+    posted: u64,
+    collected: u64,
+}
+
+/// Lets the clients work, beside one turn of the first ticker and so many of the other.
+fn work_through<N: OfficeName<Global> + Send + Sync, R: Alloc<A = Global> + Threads + Sync + Wait>(
+    rt: &R,
+    office: &Office<N>,
+    workers: Vec<Worker<N>>,
+    ticker: Ticker<N>,
+    shared: &Shared,
+    turns: u64,
+) -> Result<Back<N>, PlayFault>
+    ensures { IfOk result (λ back. AreOn N.rings (cores back.clients.items)) }
+{
+    let Some((first, second)) = turners_of(ticker, turns) else {
+        return Err(PlayFault::NoMemory);
+    };
+    let (workers, first, second) = work_all(rt, office, workers, first, second, shared)?;
+    let tickers = tickers_of(rt.alloc(), first, second)?;
+    let (clients, posted, collected) = home_of(rt.alloc(), workers)?;
+    Ok(Back {
+        clients,
+        tickers,
+        posted,
+        collected,
+    })
+}
+
+/// What came out of an office to which this came home.
+fn outcome_of<N: OfficeName<Global>>(
+    alloc: Global,
+    office: Office<N>,
+    back: Back<N>,
+    seen: bool,
+) -> Result<Outcome, PlayFault>
+    requires { AreOn N.rings (cores back.clients.items) }
+{
+    let Back {
+        clients,
+        tickers,
+        posted,
+        collected,
+    } = back;
     match office.conclude(alloc, clients, tickers) {
         Ok(end) => Ok(Outcome {
-            seen: is_seen(&shared.hook),
+            seen,
             posted,
             collected,
             tick: end.tick,
         }),
         Err((fault, _home)) => Err(PlayFault::Conclude(fault)),
+    }
+}
+
+/// Lets the clients and two tickers work in an office, and concludes.
+fn play_in<N: OfficeName<Global> + Send + Sync, R: Alloc<A = Global> + Threads + Sync + Wait>(
+    rt: &R,
+    office: Office<N>,
+    clients: Vec<Client>,
+    ticker: Ticker<N>,
+    shared: &Shared,
+    turns: u64,
+) -> Result<Outcome, PlayFault>
+    requires { AreOn N.rings (cores clients.items) }
+{
+    let workers = workers_of::<N>(rt.alloc(), clients)?;
+    let back = work_through(rt, &office, workers, ticker, shared, turns)?;
+    outcome_of(rt.alloc(), office, back, is_seen(&shared.hook))
+}
+
+/// Opens an office on two cells over the desk, lets one ticker make one turn and another so many, beside the clients, and
+/// concludes.
+pub(crate) fn play<
+    N: OfficeName<Global> + Send + Sync,
+    R: Alloc<A = Global> + Threads + Sync + Wait,
+>(rt: &R, desk: Desk, hooks: Hooks, shared: &Shared, turns: u64) -> Result<Outcome, PlayFault>
+    requires { IsNamed desk N.name N.parts N.rings }
+{
+    let alloc = rt.alloc();
+    let (grid, starts) = (two_cells(alloc)?, Vec::from_slice(alloc, &[0u32])?);
+    match Office::<N>::open(alloc, desk, grid, starts, hooks) {
+        Ok((office, clients, ticker)) => play_in(rt, office, clients, ticker, shared, turns),
+        Err(fault) => Err(PlayFault::Opening(fault)),
     }
 }

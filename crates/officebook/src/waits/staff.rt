@@ -17,6 +17,15 @@ pub(crate) struct Shared {
     pub(crate) posts: u64,
 }
 
+impl Shared {
+    /// The closure has not begun, and no client is done.
+    pub(crate) fn new(alloc: Global, posts: u64) -> Result<Shared, AllocError> {
+        let hook = Arc::new(alloc, AtomicU64::new(0))?;
+        let done = Arc::new(alloc, AtomicU64::new(0))?;
+        Ok(Shared { hook, done, posts })
+    }
+}
+
 /// A client, with how many orders its lane took and how many notices it collected.
 #[derive(Drop)]
 pub(crate) struct Worker<N: OfficeName<Global>> {
