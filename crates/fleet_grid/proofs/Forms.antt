@@ -13,12 +13,15 @@ floor_inside m c f = elim (cases_lt c (length m.letters)) [
 ]
 
 -- a map with a cell is not without columns
-pub wide : (m : Floor) (c : ℕ) → HasForm m → IsFloor m c → 0 < m.width
-wide m c form f = some m.width (floor_inside m c f) form.covered
+pub some_column : (m : Floor) (c : ℕ) → HasForm m → c < length m.letters → 0 < m.width
+some_column m c form less = some m.width form.covered
   where
-    some : (w : ℕ) → c < length m.letters → length m.letters ≡ m.height * w → 0 < w
-    some zero less e = absurd (omega (arith, less, e))
-    some (suc w) less e = omega arith
+    some : (w : ℕ) → length m.letters ≡ m.height * w → 0 < w
+    some zero e = absurd (omega (arith, less, e))
+    some (suc w) e = omega arith
+
+pub wide : (m : Floor) (c : ℕ) → HasForm m → IsFloor m c → 0 < m.width
+wide m c form f = some_column m c form (floor_inside m c f)
 
 pub few_cells : (m : Floor) → HasForm m → length m.letters ≤ 1048576
 few_cells m form = let most : m.height * m.width ≤ 1024 * 1024 = mul-le m.height m.width 1024 1024 form.low form.slim in omega (arith, most, form.covered)

@@ -100,19 +100,32 @@ fn label_part<A: Allocator + Copy>(
     spread(cells, labels, queue, cell)
 }
 
-/// A label for each floor cell, by which parts are told apart. Each cell is visited once.
+/// Gives each floor cell a label. Each cell is visited once.
+fn label_all<A: Allocator + Copy>(
+    cells: &Cells<A>,
+    labels: &mut [u32],
+    queue: &mut Vec<u32, A>,
+) -> Result<(), AllocError>
+    requires { AreDone cells.now labels.old }
+    ensures { OnOk result (AreParts cells.now labels.new) }
+{
+    for cell in 0..cells.count() {
+        label_part(cells, labels, queue, cell)?;
+    }
+    Ok(())
+}
+
+/// A label for each floor cell, by which parts are told apart.
 pub(crate) fn parts_of<A: Allocator + Copy>(
     alloc: A,
     cells: &Cells<A>,
 ) -> Result<Vec<u32, A>, AllocError>
     ensures { IfOk result (λ labels. AreParts cells.now labels.items) }
 {
-    let count = cells.count();
-    let mut labels = vec![in alloc; BARE; count as usize]?;
-    let mut queue = Vec::with_capacity(alloc, count as usize)?;
-    for cell in 0..count {
-        label_part(cells, &mut labels, &mut queue, cell)?;
-    }
+    let count = cells.count() as usize;
+    let mut labels = vec![in alloc; BARE; count]?;
+    let mut queue = Vec::with_capacity(alloc, count)?;
+    label_all(cells, &mut labels, &mut queue)?;
     Ok(labels)
 }
 

@@ -8,4 +8,5 @@ invariant-loop-cell g l = record {
   ways : AreWaysTo l.cells l.cell l.ways.items;
   len : vec_len l.ways ≡ l.cell;
   room : l.count ≤ vec_capacity l.ways;
+  far : l.cell ≤ l.count;
 }
