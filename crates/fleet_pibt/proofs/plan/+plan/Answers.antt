@@ -198,3 +198,123 @@ attempt-hand_back-requires-clause-few_robots g t c =
     let scene = g.met.S.Sight.is_scene c.args.scene.now c.requires.whole in
     let stands : Stands s c.in-Some.other c.args.cell = standing-some s c.args.board.now.seats.standing c.requires.standing c.reserve.new.self.seats.standing c.reserve.ensures.standing c.args.cell c.in-Some.other c.in-Some.ensures in
     omega (arith, stands.0, scene.few)
+
+pub attempt-holder-requires : goal.attempt-holder-requires
+attempt-holder-requires g t c =
+    let s = g.S.Sight.setting c.args.scene.now in
+    let scene = g.met.S.Sight.is_scene c.args.scene.now c.requires.whole in
+    let r = c.requires in
+    let inside = choice-inside s scene _ _ _ _ r.ready.known r.choice in
+    omega (arith, inside, r.ready.holders)
+
+pub attempt-meets-requires-clause-whole : goal.attempt-meets-requires-clause-whole
+attempt-meets-requires-clause-whole g t c = c.requires.whole
+
+pub attempt-meets-requires-clause-known : goal.attempt-meets-requires-clause-known
+attempt-meets-requires-clause-known g t c = c.requires.ready.known
+
+pub attempt-meets-requires-clause-inside : goal.attempt-meets-requires-clause-inside
+attempt-meets-requires-clause-inside g t c = choice-inside (g.S.Sight.setting c.args.scene.now) (g.met.S.Sight.is_scene c.args.scene.now c.requires.whole) _ _ _ _ c.requires.ready.known c.requires.choice
+
+pub attempt-meets-requires-clause-targets : goal.attempt-meets-requires-clause-targets
+attempt-meets-requires-clause-targets g t c = c.requires.ready.targets
+
+pub attempt-meets-requires-clause-standing : goal.attempt-meets-requires-clause-standing
+attempt-meets-requires-clause-standing g t c = c.requires.standing
+
+pub attempt-returns-then-is_some-clause-targets : goal.attempt-returns-then-is_some-clause-targets
+attempt-returns-then-is_some-clause-targets g t c = refl
+
+pub attempt-returns-then-is_some-clause-holders : goal.attempt-returns-then-is_some-clause-holders
+attempt-returns-then-is_some-clause-holders g t c = refl
+
+pub attempt-reserve-requires-clause-known : goal.attempt-reserve-requires-clause-known
+attempt-reserve-requires-clause-known g t c = omega (arith, c.requires.ready.known, c.requires.ready.targets)
+
+pub attempt-reserve-requires-clause-inside : goal.attempt-reserve-requires-clause-inside
+attempt-reserve-requires-clause-inside g t c =
+    let s = g.S.Sight.setting c.args.scene.now in
+    let scene = g.met.S.Sight.is_scene c.args.scene.now c.requires.whole in
+    let r = c.requires in
+    let inside = choice-inside s scene _ _ _ _ r.ready.known r.choice in
+    omega (arith, inside, r.ready.holders)
+
+pub attempt-reserve-requires-clause-few_robots : goal.attempt-reserve-requires-clause-few_robots
+attempt-reserve-requires-clause-few_robots g t c = omega (arith, c.requires.ready.known, (g.met.S.Sight.is_scene c.args.scene.now c.requires.whole).few)
+
+pub attempt-stander-requires : goal.attempt-stander-requires
+attempt-stander-requires g t c =
+    let s = g.S.Sight.setting c.args.scene.now in
+    let scene = g.met.S.Sight.is_scene c.args.scene.now c.requires.whole in
+    let r = c.requires in
+    let inside = choice-inside s scene _ _ _ _ r.ready.known r.choice in
+    omega (arith, inside, ap length c.reserve.ensures.standing, r.standing.all)
+
+pub attempt-returns-in_default-clause-targets : goal.attempt-returns-in_default-clause-targets
+attempt-returns-in_default-clause-targets g t c =
+    let b = c.args.board.now in
+    ap length c.reserve.ensures.target ∙ length-set b.target c.args.robot (Some c.args.cell)
+
+pub attempt-returns-in_default-clause-holders : goal.attempt-returns-in_default-clause-holders
+attempt-returns-in_default-clause-holders g t c =
+    let b = c.args.board.now in
+    ap length c.reserve.ensures.holder ∙ length-set b.seats.holder c.args.cell (Some c.args.robot)
+
+pub attempt-returns-in_default-clause-standing : goal.attempt-returns-in_default-clause-standing
+attempt-returns-in_default-clause-standing g t c = c.reserve.ensures.standing
+
+pub attempt-hand_back-requires-clause-known : goal.attempt-hand_back-requires-clause-known
+attempt-hand_back-requires-clause-known g t c =
+    let b = c.args.board.now in
+    omega (arith, c.requires.ready.known, c.plan.ensures.targets, ap length c.reserve.ensures.target, length-set b.target c.args.robot (Some c.args.cell), c.requires.ready.targets)
+
+pub attempt-hand_back-requires-clause-inside : goal.attempt-hand_back-requires-clause-inside
+attempt-hand_back-requires-clause-inside g t c =
+    let s = g.S.Sight.setting c.args.scene.now in
+    let scene = g.met.S.Sight.is_scene c.args.scene.now c.requires.whole in
+    let r = c.requires in
+    let inside = choice-inside s scene _ _ _ _ r.ready.known r.choice in
+    let b = c.args.board.now in
+    omega (arith, inside, c.plan.ensures.holders, ap length c.reserve.ensures.holder, length-set b.seats.holder c.args.cell (Some c.args.robot), r.ready.holders)
+
+pub attempt-returns-clause-targets : goal.attempt-returns-clause-targets
+attempt-returns-clause-targets g t c =
+    let b = c.args.board.now in
+    ap length c.hand_back.ensures.target ∙ length-set (slice_set c.plan.new.board.target c.args.robot None) c.in-Some.other (Some c.args.cell) ∙ length-set c.plan.new.board.target c.args.robot None
+    ∙ c.plan.ensures.targets ∙ ap length c.reserve.ensures.target ∙ length-set b.target c.args.robot (Some c.args.cell)
+
+pub attempt-returns-clause-holders : goal.attempt-returns-clause-holders
+attempt-returns-clause-holders g t c =
+    let b = c.args.board.now in
+    ap length c.hand_back.ensures.holder ∙ length-set c.plan.new.board.seats.holder c.args.cell (Some c.in-Some.other)
+    ∙ c.plan.ensures.holders ∙ ap length c.reserve.ensures.holder ∙ length-set b.seats.holder c.args.cell (Some c.args.robot)
+
+pub attempt-returns-clause-standing : goal.attempt-returns-clause-standing
+attempt-returns-clause-standing g t c = c.hand_back.ensures.standing ∙ c.plan.ensures.standing ∙ c.reserve.ensures.standing
+
+pub plan-choices-cells-requires-clause-whole : goal.plan-choices-cells-requires-clause-whole
+plan-choices-cells-requires-clause-whole g t c = c.requires.whole
+
+pub plan-choices-cells-requires-clause-known : goal.plan-choices-cells-requires-clause-known
+plan-choices-cells-requires-clause-known g t c = c.requires.ready.known
+
+pub plan-bounds-cell-items-cell-index : goal.plan-bounds-cell-items-cell-index
+plan-bounds-cell-items-cell-index g t c = c.loop-cell-test.true
+
+pub plan-returns-then-attempt-clause-targets : goal.plan-returns-then-attempt-clause-targets
+plan-returns-then-attempt-clause-targets g t c = c.if-attempt.ensures.targets ∙ c.loop-cell.invariant.trying.targets
+
+pub plan-returns-then-attempt-clause-holders : goal.plan-returns-then-attempt-clause-holders
+plan-returns-then-attempt-clause-holders g t c = c.if-attempt.ensures.holders ∙ c.loop-cell.invariant.trying.holders
+
+pub plan-returns-then-attempt-clause-standing : goal.plan-returns-then-attempt-clause-standing
+plan-returns-then-attempt-clause-standing g t c = c.if-attempt.ensures.standing ∙ c.loop-cell.invariant.standing
+
+pub plan-returns-clause-targets : goal.plan-returns-clause-targets
+plan-returns-clause-targets g t c = c.loop-cell.invariant.trying.targets
+
+pub plan-returns-clause-holders : goal.plan-returns-clause-holders
+plan-returns-clause-holders g t c = c.loop-cell.invariant.trying.holders
+
+pub plan-returns-clause-standing : goal.plan-returns-clause-standing
+plan-returns-clause-standing g t c = c.loop-cell.invariant.standing

@@ -9,6 +9,7 @@ use Rattle.fleet_grid.specs.declared.dir.Dir.TheVariants.{North, East, South, We
 use Rattle.fleet_pibt.specs.declared.choice.Candidate.{Candidate}
 use Rattle.fleet_grid.proofs.Forms.{wide}
 use Rattle.fleet_pibt.proofs.Choices.{choices-from}
+use Rattle.fleet_pibt.proofs.Seen.{seen-at}
 use Rattle.fleet_pibt.proofs.scene.SceneSight.choices.Goals as goal
 
 covers-from : (m : Floor) (from : ℕ) (own a b c d : Candidate) → ((w : ℕ) → IsNeighbourIn m North from w → a.cell ≡ w) → ((w : ℕ) → IsNeighbourIn m East from w → b.cell ≡ w) →
@@ -29,6 +30,54 @@ all-five P a b c d e pa pb pc pd pe (suc (suc (suc (suc (suc k))))) x l = absurd
 
 keys-same : (a b c d e : Candidate) (u v x y z : ℕ) → u ≡ key_of a → v ≡ key_of b → x ≡ key_of c → y ≡ key_of d → z ≡ key_of e → u ∷ v ∷ x ∷ y ∷ z ∷ [] ≡ key_of a ∷ key_of b ∷ key_of c ∷ key_of d ∷ key_of e ∷ []
 keys-same a b c d e u v x y z p q r s t = rw (p, q, r, s, t) refl
+
+pub bounds-self-robot : goal.bounds-self-robot
+bounds-self-robot g c = omega (arith, c.requires.known, c.requires.whole.gathered.same_length)
+
+pub staying-requires-clause-whole : goal.staying-requires-clause-whole
+staying-requires-clause-whole g c = c.requires.whole
+
+pub staying-requires-clause-known : goal.staying-requires-clause-known
+staying-requires-clause-known g c = c.requires.known
+
+pub staying-requires-clause-seen : goal.staying-requires-clause-seen
+staying-requires-clause-seen g c = seen-at c.args.self.now.arounds.now c.args.robot _ (omega (arith, c.requires.known, c.requires.whole.gathered.same_length))
+
+pub moving-requires-clause-whole : goal.moving-requires-clause-whole
+moving-requires-clause-whole g c = c.requires.whole
+
+pub moving-requires-clause-known : goal.moving-requires-clause-known
+moving-requires-clause-known g c = c.requires.known
+
+pub moving-requires-clause-seen : goal.moving-requires-clause-seen
+moving-requires-clause-seen g c = seen-at c.args.self.now.arounds.now c.args.robot _ (omega (arith, c.requires.known, c.requires.whole.gathered.same_length))
+
+pub moving-requires-2-clause-whole : goal.moving-requires-2-clause-whole
+moving-requires-2-clause-whole g c = c.requires.whole
+
+pub moving-requires-2-clause-known : goal.moving-requires-2-clause-known
+moving-requires-2-clause-known g c = c.requires.known
+
+pub moving-requires-2-clause-seen : goal.moving-requires-2-clause-seen
+moving-requires-2-clause-seen g c = seen-at c.args.self.now.arounds.now c.args.robot _ (omega (arith, c.requires.known, c.requires.whole.gathered.same_length))
+
+pub moving-requires-3-clause-whole : goal.moving-requires-3-clause-whole
+moving-requires-3-clause-whole g c = c.requires.whole
+
+pub moving-requires-3-clause-known : goal.moving-requires-3-clause-known
+moving-requires-3-clause-known g c = c.requires.known
+
+pub moving-requires-3-clause-seen : goal.moving-requires-3-clause-seen
+moving-requires-3-clause-seen g c = seen-at c.args.self.now.arounds.now c.args.robot _ (omega (arith, c.requires.known, c.requires.whole.gathered.same_length))
+
+pub moving-requires-4-clause-whole : goal.moving-requires-4-clause-whole
+moving-requires-4-clause-whole g c = c.requires.whole
+
+pub moving-requires-4-clause-known : goal.moving-requires-4-clause-known
+moving-requires-4-clause-known g c = c.requires.known
+
+pub moving-requires-4-clause-seen : goal.moving-requires-4-clause-seen
+moving-requires-4-clause-seen g c = seen-at c.args.self.now.arounds.now c.args.robot _ (omega (arith, c.requires.known, c.requires.whole.gathered.same_length))
 
 pub returns : goal.returns
 returns g c =

@@ -1,6 +1,7 @@
-use Rattle.std.proofs.Common.{arith, length, map, ◌≡◌, ℕ, List, ap, subst, sym, take, ◌++◌, ◌∙◌}
+use Rattle.std.proofs.Common.{arith, length, map, ◌≡◌, ℕ, List, ap, subst, sym, take, drop, ◌++◌, ◌∙◌}
 use Rattle.std.proofs.lemmas.List.{take-append-le, length-map}
 use Rattle.std.proofs.Math.Seq.{take-length}
+use Rattle.fleet_grid.proofs.Forms.{floor_inside}
 use Rattle.fleet_pibt.specs.inside.Around.{AreArounds}
 use Rattle.fleet_pibt.specs.inside.Entry.{IsEmpty}
 use Rattle.fleet_pibt.specs.Order.{IsOrder}
@@ -119,3 +120,77 @@ returns-clause-by_law g c =
     let same : length c.settle.new.to ≡ length c.args.from.now = omega (arith, c.settle.auto.to, c.requires.same_length) in
     let no-holder : IsEmpty c.place.new.seats.holder = rw (c.place.ensures.holder ∙ c.fetch.ensures.holder) c.self.invariant.5 in
     stepped-by_law s scene c.args.waits.now c.requires.waited c.requires.goals c.deref-3.result.now ordered c.self.inside.board.target c.place.new.seats.holder c.plan_all.new.board.target c.plan_all.new.board.seats.holder c.self.invariant.4 no-holder c.plan_all.ensures.planned c.settle.new.to same c.settle.ensures.taken
+
+pub put_in_order-requires-clause-same_length : goal.put_in_order-requires-clause-same_length
+put_in_order-requires-clause-same_length g c = omega (arith, c.deref_mut.ensures.len, ap (λ (z : Size). z.robots) (c.self.view_is ∙ c.requires.made), c.requires.waited)
+
+pub put_in_order-requires-clause-roll : goal.put_in_order-requires-clause-roll
+put_in_order-requires-clause-roll g c = rw c.deref_mut.ensures.value c.self.invariant.6
+
+pub gather-requires-clause-same_length : goal.gather-requires-clause-same_length
+gather-requires-clause-same_length g c = omega (arith, c.deref_mut-2.ensures.len, c.self.invariant.1, ap (λ (z : Size). z.robots) (c.self.view_is ∙ c.requires.made))
+
+pub gather-requires-clause-few : goal.gather-requires-clause-few
+gather-requires-clause-few g c = c.requires.few
+
+pub gather-requires-clause-floor : goal.gather-requires-clause-floor
+gather-requires-clause-floor g c = c.requires.placed.on_floor
+
+pub fetch-requires-clause-empty : goal.fetch-requires-clause-empty
+fetch-requires-clause-empty g c = c.self.invariant.3
+
+pub place-requires-clause-few : goal.place-requires-clause-few
+place-requires-clause-few g c = c.requires.few
+
+pub place-requires-clause-inside : goal.place-requires-clause-inside
+place-requires-clause-inside g c = λ r less.
+    omega (arith, floor_inside c.args.grid.now _ (c.requires.placed.on_floor r less), c.fetch.ensures.same_length, ap (λ (z : Size). z.cells) (c.self.view_is ∙ c.requires.made))
+
+pub place-requires-clause-empty : goal.place-requires-clause-empty
+place-requires-clause-empty g c = c.fetch.ensures.empty
+
+pub plan_all-requires-clause-targets : goal.plan_all-requires-clause-targets
+plan_all-requires-clause-targets g c = c.self.invariant.0 ∙ ap (λ (z : Size). z.robots) (c.self.view_is ∙ c.requires.made)
+
+pub plan_all-requires-clause-holders : goal.plan_all-requires-clause-holders
+plan_all-requires-clause-holders g c = ap length (c.place.ensures.holder ∙ c.fetch.ensures.holder) ∙ c.self.invariant.2 ∙ ap (λ (z : Size). z.cells) (c.self.view_is ∙ c.requires.made)
+
+pub plan_all-requires-clause-no_target : goal.plan_all-requires-clause-no_target
+plan_all-requires-clause-no_target g c = c.self.invariant.4
+
+pub plan_all-requires-clause-no_holder : goal.plan_all-requires-clause-no_holder
+plan_all-requires-clause-no_holder g c = rw (c.place.ensures.holder, c.fetch.ensures.holder) c.self.invariant.5
+
+pub lift-requires-clause-inside : goal.lift-requires-clause-inside
+lift-requires-clause-inside g c = λ r less.
+    let kept = ap length c.plan_all.ensures.standing in
+    omega (arith, floor_inside c.args.grid.now _ (c.requires.placed.on_floor r less), kept, c.place.ensures.same_length, c.fetch.ensures.same_length, ap (λ (z : Size). z.cells) (c.self.view_is ∙ c.requires.made))
+
+pub settle-requires-clause-few : goal.settle-requires-clause-few
+settle-requires-clause-few g c = omega (arith, c.requires.same_length, c.requires.few)
+
+pub settle-requires-clause-same : goal.settle-requires-clause-same
+settle-requires-clause-same g c = c.plan_all.ensures.planned.targets ∙ sym c.requires.same_length
+
+pub settle-requires-clause-matched : goal.settle-requires-clause-matched
+settle-requires-clause-matched g c = rw c.lift.ensures.holder (record { held = c.plan_all.ensures.planned.tidy.held; kept = c.plan_all.ensures.planned.tidy.kept })
+
+pub invariant_of-self : goal.invariant_of-self
+invariant_of-self g c =
+    let size = c.self.view_is ∙ c.requires.made in
+    let planned = c.plan_all.ensures.planned in
+    let kept = ap length c.settle.ensures.standing ∙ c.lift.ensures.same_length ∙ ap length c.plan_all.ensures.standing ∙ c.place.ensures.same_length ∙ c.fetch.ensures.same_length in
+    let long : length c.put_in_order.new.queue ≡ c.self.inside.queue.len = omega (arith, c.put_in_order.auto.queue, c.deref_mut.ensures.len) in (
+      c.settle.ensures.targets ∙ planned.targets ∙ sym (ap (λ (z : Size). z.robots) size),
+      c.self.invariant.1,
+      c.settle.ensures.holders ∙ ap length c.lift.ensures.holder ∙ planned.holders ∙ sym (kept ∙ ap (λ (z : Size). z.cells) size),
+      (rw c.settle.ensures.standing c.lift.ensures.empty),
+      c.settle.ensures.no_target,
+      c.settle.ensures.no_holder,
+      (rw (whole _ c.put_in_order.new.queue (drop (length c.put_in_order.new.queue) c.self.inside.queue.items) long) c.put_in_order.ensures.roll),
+    )
+
+pub returns-clause-made : goal.returns-clause-made
+returns-clause-made g c =
+    let kept = ap length c.settle.ensures.standing ∙ c.lift.ensures.same_length ∙ ap length c.plan_all.ensures.standing ∙ c.place.ensures.same_length ∙ c.fetch.ensures.same_length in
+    ap (λ (cells : ℕ). record { cells = cells; robots = c.self.inside.queue.len }) kept ∙ c.self.view_is
