@@ -27,3 +27,12 @@ returns g c =
     c.requires c.try_push.ensures.room c.try_push.ensures.ok
     (get_or_read waits r c.index.result.now (omega (arith, l, c.self.invariant.1)) c.index.ensures None)
     c.unwrap_or.ensures
+
+pub index_mut-requires : goal.index_mut-requires
+index_mut-requires g c = omega (arith, has-room c.args.self.now.queues c.args.robot c.requires, ap (λ (x : Robots). length x.queues) c.self.view_is, c.self.invariant.2.count, c.self.inside.fronts.ok.0)
+
+pub index-requires : goal.index-requires
+index-requires g c = omega (arith, has-room c.args.self.now.queues c.args.robot c.requires, ap (λ (x : Robots). length x.queues) c.self.view_is, c.self.invariant.1, c.self.inside.waits.ok.0)
+
+pub index_mut-requires-2 : goal.index_mut-requires-2
+index_mut-requires-2 g c = omega (arith, has-room c.args.self.now.queues c.args.robot c.requires, ap (λ (x : Robots). length x.queues) c.self.view_is, c.self.invariant.1, c.self.inside.waits.ok.0)

@@ -35,3 +35,30 @@ returns-clause-stepped g c =
     rw wait
     (subst (λ (y : Robots). ◌≡◌ {A = Robots} (record { cells = slice_set cells r c.args.cell; queues = queues; waits = slice_set waits r (one_more (slice_index_or waits r None)) }) (stepped y r c.args.cell)) c.self.view_is
     (stepped-past x r c.args.cell l past))
+
+pub may_land-requires : goal.may_land-requires
+may_land-requires g c = c.requires.known
+
+pub step_on_front-requires-clause-known : goal.step_on_front-requires-clause-known
+step_on_front-requires-clause-known g c = c.requires.known
+
+pub step_on_front-requires-clause-small : goal.step_on_front-requires-clause-small
+step_on_front-requires-clause-small g c = c.requires.small
+
+pub returns-then-may_land-clause-landing : goal.returns-then-may_land-clause-landing
+returns-then-may_land-clause-landing g c = c.step_on_front.ensures.landing
+
+pub returns-then-may_land-clause-stepped : goal.returns-then-may_land-clause-stepped
+returns-then-may_land-clause-stepped g c = c.step_on_front.ensures.stepped
+
+pub index_mut-requires : goal.index_mut-requires
+index_mut-requires g c = omega (arith, c.requires.known, ap (λ (x : Robots). length x.queues) c.self.view_is, c.self.invariant.0, c.self.inside.cells.ok.0)
+
+pub index-requires : goal.index-requires
+index-requires g c = omega (arith, c.requires.known, ap (λ (x : Robots). length x.queues) c.self.view_is, c.self.invariant.1, c.self.inside.waits.ok.0)
+
+pub index_mut-requires-2 : goal.index_mut-requires-2
+index_mut-requires-2 g c = omega (arith, c.requires.known, ap (λ (x : Robots). length x.queues) c.self.view_is, c.self.invariant.1, c.self.inside.waits.ok.0)
+
+pub returns-clause-landing : goal.returns-clause-landing
+returns-clause-landing g c = sym (c.may_land.ensures c.if-may_land.false)

@@ -38,3 +38,18 @@ returns g c =
       stepped = stepped-inside (record { cells = c.self.inside.cells.items; queues = queues; waits = waits }) c.args.self.now r c.args.cell q c.take_landed-landed.new.queue c.index.result.now c.wait_on.result
           c.self.view_is read c.take_landed-landed.ensures.rest (get_or_read waits r c.index.result.now (omega (arith, l, c.self.invariant.1)) c.index.ensures None) c.wait_on.ensures;
     }
+
+pub index_mut-requires : goal.index_mut-requires
+index_mut-requires g c = omega (arith, c.requires.known, ap (λ (x : Robots). length x.queues) c.self.view_is, c.self.invariant.0, c.self.inside.cells.ok.0)
+
+pub index_mut-errands-requires : goal.index_mut-errands-requires
+index_mut-errands-requires g c = omega (arith, c.requires.known, ap (λ (x : Robots). length x.queues) c.self.view_is, c.self.inside.queues.ok.0)
+
+pub index-requires : goal.index-requires
+index-requires g c = omega (arith, c.requires.known, ap (λ (x : Robots). length x.queues) c.self.view_is, c.self.invariant.1, c.self.inside.waits.ok.0)
+
+pub index_mut-requires-2 : goal.index_mut-requires-2
+index_mut-requires-2 g c = omega (arith, c.requires.known, ap (λ (x : Robots). length x.queues) c.self.view_is, c.self.invariant.1, c.self.inside.waits.ok.0)
+
+pub index_mut-requires-3 : goal.index_mut-requires-3
+index_mut-requires-3 g c = omega (arith, c.requires.known, ap (λ (x : Robots). length x.queues) c.self.view_is, c.self.invariant.2.count, c.self.inside.fronts.ok.0)

@@ -29,3 +29,33 @@ loop-r-preserved g c =
     (known-made (state_with c.self.inside.robots c.self.inside.clients c.self.inside.queue c.self.inside.rooms.items c.self.inside.tick) o r c.cell_of.result c.is_shut.result c.wait_of.result c.from_vec.result
     (get_or opened r x).arrival_law (get_or opened r y).farewell_law
     c.cell_of.ensures c.is_shut.ensures c.wait_of.ensures (c.from_vec.ensures ∙ c.in_ok-errands_of.ensures ∙ ap (λ (q : Queue). q.items) c.queue.ensures) arrivals farewells)
+
+pub loop-r-init : goal.loop-r-init
+loop-r-init g c = c.new-states.ensures.items
+
+pub cell_of-requires : goal.cell_of-requires
+cell_of-requires g c = omega (arith, c.loop-r-test.true, ap length c.as_slice-opened.ensures, c.requires, ap length (queues-in c.self.view_is))
+
+pub wait_of-requires : goal.wait_of-requires
+wait_of-requires g c = omega (arith, c.loop-r-test.true, ap length c.as_slice-opened.ensures, c.requires, ap length (queues-in c.self.view_is))
+
+pub queue-requires : goal.queue-requires
+queue-requires g c = omega (arith, c.loop-r-test.true, ap length c.as_slice-opened.ensures, c.requires, ap length (queues-in c.self.view_is))
+
+pub offset_bounds-opened-r : goal.offset_bounds-opened-r
+offset_bounds-opened-r g c = omega (arith, c.loop-r-test.true)
+
+pub bounds-opened-r : goal.bounds-opened-r
+bounds-opened-r g c = c.loop-r-test.true
+
+pub bounds-opened-r-in_ok-errands_of : goal.bounds-opened-r-in_ok-errands_of
+bounds-opened-r-in_ok-errands_of g c = c.loop-r-test.true
+
+pub offset_bounds-opened-r-in-loop-r : goal.offset_bounds-opened-r-in-loop-r
+offset_bounds-opened-r-in-loop-r g c = omega (arith, c.loop-r-test.true)
+
+pub bounds-opened-r-in_ok-errands_of-2 : goal.bounds-opened-r-in_ok-errands_of-2
+bounds-opened-r-in_ok-errands_of-2 g c = c.loop-r-test.true
+
+pub bounds-opened-r-in_ok-errands_of-3 : goal.bounds-opened-r-in_ok-errands_of-3
+bounds-opened-r-in_ok-errands_of-3 g c = c.loop-r-test.true
