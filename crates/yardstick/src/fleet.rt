@@ -1,6 +1,6 @@
 //! A fleet whose robots go from goal to goal.
 
-ghost use Rattle.std.specs.Prelude.{◌≡◌, ℕ, ◌<◌, ◌≤◌, length, vec_len, slice_index, IfOk, IsSome};
+ghost use Rattle.std.specs.Prelude.{◌≡◌, ℕ, ◌%◌, ◌<◌, ◌≤◌, length, vec_len, slice_index, IfOk, IsSome};
 ghost use Rattle.fleet_grid.specs.Step.{IsPlacement, IsConflictFree};
 ghost use Rattle.fleet_pibt.specs.Order.{wait_of};
 ghost use Rattle.yardstick.specs.Fleet.{AreWithin, Serves, IsUnderWay};
@@ -42,14 +42,12 @@ impl Fleet {
         requires within { AreWithin site.now.grid site.now.home starts.items }
         ensures from { IfOk result (λ fleet. fleet.from.items ≡ starts.items) }
         ensures way { IfOk result (λ fleet. IsUnderWay site.now.grid site.now.home fields fleet.from.items fleet.to.items fleet.waits.items fleet.aims.items) }
+        ensures aims { IfOk result (λ fleet. (r : ℕ) → r < vec_len starts → slice_index fleet.aims.items r ≡ r % fields) }
     {
         let robots = starts.len();
         let to = vec![in alloc; 0; robots]?;
         let waits = vec![in alloc; Some(0); robots]?;
-        let mut aims = Vec::with_capacity(alloc, robots)?;
-        for robot in 0..robots {
-            aims.push(robot % fields)?;
-        }
+        let aims = aims_of(alloc, robots, fields)?;
         Ok(Fleet {
             from: starts,
             to,
@@ -110,6 +108,19 @@ impl Fleet {
             self.waits[robot] = next.wait;
         }
     }
+}
+
+/// The number of each robot's field: its own, and from the first again where there are fewer fields.
+fn aims_of(alloc: Global, robots: usize, fields: usize) -> Result<Vec<usize>, AllocError>
+    requires { 0 < fields }
+    ensures count { IfOk result (λ aims. length aims.items ≡ robots) }
+    ensures each { IfOk result (λ aims. (r : ℕ) → r < robots → slice_index aims.items r ≡ r % fields) }
+{
+    let mut aims = Vec::with_capacity(alloc, robots)?;
+    for robot in 0..robots {
+        aims.push_reserved(robot % fields);
+    }
+    Ok(aims)
 }
 
 /// The number of a robot's field, and how long it has waited.

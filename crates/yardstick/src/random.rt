@@ -1,8 +1,9 @@
 //! Numbers that look as if they were thrown, and are the same in each run.
 
 ghost use Rattle.std.specs.Prelude.{◌≡◌, ◌<◌};
+ghost use Rattle.yardstick.specs.Random.{next_seed, drawn};
 
-/// A linear congruential sequence.
+/// A linear congruential sequence, as Knuth's MMIX has it.
 #[derive(Clone, Copy, Debug)]
 pub struct Random {
     /// What the next number comes of.
@@ -17,10 +18,12 @@ impl Random {
         Random { seed }
     }
 
-    /// The next number, below a bound.
+    /// The next number, below a bound: what the upper bits of the next seed leave when the bound divides them.
     pub fn below(&mut self, bound: usize) -> usize
         requires { 0 < bound }
-        ensures { result < bound }
+        ensures below { result < bound }
+        ensures drawn { result ≡ drawn self.new.seed bound }
+        ensures seed { self.new.seed ≡ next_seed self.old.seed }
     {
         self.seed = self
             .seed
