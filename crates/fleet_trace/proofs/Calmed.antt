@@ -100,19 +100,20 @@ if_err : {X E : Type 0} (r : Result X E) (P Q : E → Type 0) → ((e : E) → P
 if_err (Ok x) P Q f h = h
 if_err (Err e) P Q f h = f e h
 
--- the same of an opening and entries that are equal to these
-module _ {A : Type 0} (m : Floor) (o x : Opening A) (es fs : List (Entry A)) (is : x ≡ calm o) (same : fs ≡ es) (order : IsInOrder m o) where
+-- a legal history is refused for want of memory alone
+pub legal-memory : {A X : Type 0} (m : Floor) (h : History A) → IsLegal m h → (r : Result X JudgeFault) → IfErr r (λ fault. IsJudgeFault m h fault) → IfErr r (λ fault. fault ≡ NoMemory)
+legal-memory m h legal r = if_err r _ _ (λ fault is. only_memory m h fault is legal)
+
+-- the same of an opening that is equal to the calm one
+module _ {A : Type 0} (m : Floor) (o x : Opening A) (es : List (Entry A)) (is : x ≡ calm o) (order : IsInOrder m o) where
   pub calm-order : IsInOrder m x
   calm-order = subst (λ (y : Opening A). IsInOrder m y) (sym is) (calm-in_order m o order)
 
-  at_calm : (P : History A → Type 0) → P (with_entries (start x) fs) → P (with_entries (start (calm o)) es)
-  at_calm P h = subst (λ (y : Opening A). P (with_entries (start y) es)) is (subst (λ (gs : List (Entry A)). P (with_entries (start x) gs)) same h)
+  at_calm : (P : History A → Type 0) → P (with_entries (start x) es) → P (with_entries (start (calm o)) es)
+  at_calm P h = subst (λ (y : Opening A). P (with_entries (start y) es)) is h
 
-  pub calm-ok : {X E : Type 0} (r : Result X E) → OnOk r (IsLegal m (with_entries (start x) fs)) → OnOk r (IsLegal m (with_entries (start o) es))
+  pub calm-ok : {X E : Type 0} (r : Result X E) → OnOk r (IsLegal m (with_entries (start x) es)) → OnOk r (IsLegal m (with_entries (start o) es))
   calm-ok r = on_ok r _ _ (λ legal. calm-legal m o es order (at_calm (λ h. IsLegal m h) legal))
 
-  pub calm-err : {X : Type 0} (r : Result X JudgeFault) → IfErr r (λ fault. IsEntryFault m (with_entries (start x) fs) fault) → IfErr r (λ fault. IsJudgeFault m (with_entries (start o) es) fault)
+  pub calm-err : {X : Type 0} (r : Result X JudgeFault) → IfErr r (λ fault. IsEntryFault m (with_entries (start x) es) fault) → IfErr r (λ fault. IsJudgeFault m (with_entries (start o) es) fault)
   calm-err r = if_err r _ _ (λ fault h. calm-fault m o es order fault (at_calm (λ h. IsEntryFault m h fault) h))
-
-  pub calm-memory : {X : Type 0} (r : Result X JudgeFault) → IsLegal m (with_entries (start o) es) → IfErr r (λ fault. IsEntryFault m (with_entries (start x) fs) fault) → IfErr r (λ fault. fault ≡ NoMemory)
-  calm-memory r legal h = if_err r _ _ (λ fault k. only_memory m (with_entries (start o) es) fault k legal) (calm-err r h)

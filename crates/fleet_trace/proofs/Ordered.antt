@@ -1,6 +1,6 @@
 -- An opening is in order where each of its parts is.
 use Rattle.std.proofs.Common.{◌≡◌, ℕ, ◌<◌, ◌≤◌, inl, inr, List, [], ◌∷◌, length, get_or, map, Option, Some, refl, sym, ap, subst, ◌∙◌, arith}
-use Rattle.std.specs.Prelude.{All}
+use Rattle.std.specs.Prelude.{◌↔◌, All, Bool, Result, Ok, Err, IsTrue, IfOk}
 use Rattle.std.specs.List.{slice_get, slice_index_or}
 use Rattle.std.specs.Option.{unwrap_or}
 use Rattle.std.proofs.lemmas.Bool.{cases_lt}
@@ -13,7 +13,7 @@ use Rattle.fleet_history.specs.declared.history.Opening.{Opening}
 use Rattle.fleet_history.specs.History.{unknown_client}
 use Rattle.fleet_history.specs.Legal.{IsRobotInOrder, IsClientInOrder, AreNamesInOrder, IsInOrder, owed_at}
 use Rattle.fleet_trace.specs.Opened.{errands_in, owed_in, AreClientNamesInOrder, AreSizesInOrder}
-use Rattle.fleet_trace.proofs.Alls.{owed-small}
+use Rattle.fleet_trace.specs.Clients.{AreClientsInOrder}
 use Rattle.fleet_trace.proofs.Naming.{get-slice, get-within, errands_at_robot, none_past}
 
 pub client_names : {A : Type 0} (o : Opening A) → AreNamesInOrder o → (c : ℕ) → AreClientNamesInOrder o.robots c
@@ -43,9 +43,8 @@ names_from m o fine each = record {
       (each x.client (known m o o.robots fine r i x a)).rising r i j x.number y.number less (record { errand = x; stands = a; client = refl; number = refl }) (record { errand = y; stands = b; client = sym client; number = refl });
 }
 
-pub in_order : {A : Type 0} (m : Floor) (o : Opening A) → AreSizesInOrder o → IsPlacement m (map (λ x. x.cell) o.robots) → All (IsRobotInOrder m o) o.robots
-    → ((c : ℕ) → c < length o.clients → IsClientInOrder o.life (owed_at o c) (slice_index_or o.clients c unknown_client)) → ((c : ℕ) → c < length o.clients → AreClientNamesInOrder o.robots c) → IsInOrder m o
-in_order m o sizes placed robots clients names = record {
+pub in_order : {A : Type 0} (m : Floor) (o : Opening A) → AreSizesInOrder o → IsPlacement m (map (λ x. x.cell) o.robots) → All (IsRobotInOrder m o) o.robots → AreClientsInOrder o → IsInOrder m o
+in_order m o sizes placed robots clients = record {
   some_robots = sizes.some_robots;
   few_robots = sizes.few_robots;
   some_clients = sizes.some_clients;
@@ -54,25 +53,33 @@ in_order m o sizes placed robots clients names = record {
   life = sizes.life;
   placed = placed;
   robots = robots;
-  clients = clients;
-  names = names_from m o robots names;
+  clients = clients.clients;
+  names = names_from m o robots clients.names;
 }
+
+pub clients_of : {A : Type 0} (m : Floor) (o : Opening A) → IsInOrder m o → AreClientsInOrder o
+clients_of m o fine = record { clients = fine.clients; names = λ c _. client_names o fine.names c }
+
+-- a test of one fact tests another that is the same
+pub same_test : {E P Q : Type 0} (r : Result Bool E) → (P → Q) → (Q → P) → IfOk r (λ b. IsTrue b ↔ P) → IfOk r (λ b. IsTrue b ↔ Q)
+same_test (Ok b) f g tests = (λ yes. f (tests.0 yes), λ q. tests.1 (g q))
+same_test (Err e) f g tests = tests
 
 -- ---- a client is tested beside what it is owed
 
-module _ {A : Type 0} (m : Floor) (o : Opening A) (robots : List (RobotState A)) (clients : List ClientState) (c owed : ℕ) (of_robots : robots ≡ o.robots) (of_clients : clients ≡ o.clients) (counted : owed ≡ owed_in robots c) where
+module _ {A : Type 0} (o : Opening A) (robots : List (RobotState A)) (clients : List ClientState) (c owed : ℕ) (of_robots : robots ≡ o.robots) (of_clients : clients ≡ o.clients) (counted : owed ≡ owed_in robots c) where
   owed-here : owed ≡ owed_at o c
   owed-here = counted ∙ ap (λ (xs : List (RobotState A)). owed_in xs c) of_robots
 
-  pub owed-few : AreSizesInOrder o → All (IsRobotInOrder m o) o.robots → owed ≤ 2199023255552
-  owed-few sizes fine = subst (λ (n : ℕ). n ≤ 2199023255552) (sym owed-here) (owed-small m o c sizes.few_robots sizes.queue.1 fine)
+  pub owed-few : ((k : ℕ) → owed_at o k ≤ 2199023255552) → owed ≤ 2199023255552
+  owed-few few = subst (λ (n : ℕ). n ≤ 2199023255552) (sym owed-here) (few c)
 
   pub client_fine : IsClientInOrder o.life owed (slice_index_or clients c unknown_client) → IsClientInOrder o.life (owed_at o c) (slice_index_or o.clients c unknown_client)
   client_fine h =
       subst (λ (cs : List ClientState). IsClientInOrder o.life (owed_at o c) (slice_index_or cs c unknown_client)) of_clients
       (subst (λ (n : ℕ). IsClientInOrder o.life n (slice_index_or clients c unknown_client)) owed-here h)
 
-  pub client_tested : c < length clients → IsInOrder m o → IsClientInOrder o.life owed (slice_index_or clients c unknown_client)
+  pub client_tested : c < length clients → AreClientsInOrder o → IsClientInOrder o.life owed (slice_index_or clients c unknown_client)
   client_tested less fine =
       subst (λ (n : ℕ). IsClientInOrder o.life n (slice_index_or clients c unknown_client)) (sym owed-here)
       (subst (λ (cs : List ClientState). IsClientInOrder o.life (owed_at o c) (slice_index_or cs c unknown_client)) (sym of_clients)
@@ -81,8 +88,10 @@ module _ {A : Type 0} (m : Floor) (o : Opening A) (robots : List (RobotState A))
   pub names_fine : AreClientNamesInOrder robots c → AreClientNamesInOrder o.robots c
   names_fine h = subst (λ (xs : List (RobotState A)). AreClientNamesInOrder xs c) of_robots h
 
-  pub names_tested : IsInOrder m o → AreClientNamesInOrder robots c
-  names_tested fine = subst (λ (xs : List (RobotState A)). AreClientNamesInOrder xs c) (sym of_robots) (client_names o fine.names c)
+  pub names_tested : c < length clients → AreClientsInOrder o → AreClientNamesInOrder robots c
+  names_tested less fine =
+      subst (λ (xs : List (RobotState A)). AreClientNamesInOrder xs c) (sym of_robots)
+      (fine.names c (subst (λ (cs : List ClientState). c < length cs) of_clients less))
 
 module _ {A : Type 0} (m : Floor) (o : Opening A) (robots : List (RobotState A)) (of_robots : robots ≡ o.robots) where
   pub placed_fine : IsPlacement m (map (λ x. x.cell) robots) → IsPlacement m (map (λ x. x.cell) o.robots)

@@ -5,6 +5,7 @@ pub mod Version
 pub mod Told
 pub mod Reads
 pub mod Opened
+pub mod Clients
 pub mod Judged
 pub mod Calm
 pub mod Rooms

@@ -13,7 +13,7 @@ mod ticks;
 
 ghost use Rattle.std.specs.Prelude.{◌≡◌, ◌^◌, ◌<◌, ℕ, IfOk, IfErr, OnOk, length};
 ghost use Rattle.fleet_history.specs.History.{History, history_of, start, with_entries};
-ghost use Rattle.fleet_history.specs.Legal.{IsLegal};
+ghost use Rattle.fleet_history.specs.Legal.{IsInOrder, IsLegal};
 ghost use Rattle.fleet_state.specs.State.{IsStateOf};
 ghost use Rattle.fleet_trace.specs.Judged.{IsOf, JudgedBy, IsEntryFault, IsJudgeFault};
 
@@ -91,6 +91,40 @@ fn judge_entries<A: Allocator + Copy>(
     Ok(())
 }
 
+/// Judges entries behind an opening that is in order.
+fn judge_behind<A: Allocator + Copy>(
+    alloc: A,
+    grid: &Grid<A>,
+    opening: &Opening<A>,
+    entries: &[Entry<A>],
+) -> Result<(), JudgeFault>
+    requires order { IsInOrder grid.now opening.now }
+    requires early { opening.now.tick < 2 ^ 62 }
+    requires few { length entries.now < 2 ^ 32 }
+    ensures ok { OnOk result (IsLegal grid.now (with_entries (start opening.now) entries.now)) }
+    ensures fault { IfErr result (λ fault. IsEntryFault grid.now (with_entries (start opening.now) entries.now) fault) }
+{
+    let rooms = rooms_of(alloc, opening, entries)?;
+    let mut state = FleetState::open_within(alloc, opening, rooms)?;
+    judge_entries(alloc, grid, opening, entries, &mut state)
+}
+
+/// Judges entries behind an opening that is in order, by way of its calm one.
+fn judge_calmly<A: Allocator + Copy>(
+    alloc: A,
+    grid: &Grid<A>,
+    opening: &Opening<A>,
+    entries: &[Entry<A>],
+) -> Result<(), JudgeFault>
+    requires order { IsInOrder grid.now opening.now }
+    requires few { length entries.now < 2 ^ 32 }
+    ensures ok { OnOk result (IsLegal grid.now (with_entries (start opening.now) entries.now)) }
+    ensures fault { IfErr result (λ fault. IsJudgeFault grid.now (with_entries (start opening.now) entries.now) fault) }
+{
+    let calm = calm_opening(alloc, opening)?;
+    judge_behind(alloc, grid, &calm, entries)
+}
+
 /// Judges a trace: whether its opening is in order on the map and each entry is legal behind those before it.
 pub fn judge<A: Allocator + Copy>(
     alloc: A,
@@ -108,8 +142,5 @@ pub fn judge<A: Allocator + Copy>(
     if entries.len() >= 1 << 32 {
         return Err(JudgeFault::NoMemory);
     }
-    let opening = calm_opening(alloc, &chapter.opening)?;
-    let rooms = rooms_of(alloc, &opening, entries)?;
-    let mut state = FleetState::open_within(alloc, &opening, rooms)?;
-    judge_entries(alloc, grid, &opening, entries, &mut state)
+    judge_calmly(alloc, grid, &chapter.opening, entries)
 }

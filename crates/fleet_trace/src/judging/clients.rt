@@ -1,12 +1,14 @@
 //! Whether the clients of an opening are in order.
 
-ghost use Rattle.std.specs.Prelude.{◌≡◌, ◌↔◌, ◌≤◌, ◌^◌, ◌==◌, IsTrue, count_by};
-ghost use Rattle.fleet_history.specs.Legal.{IsClientInOrder};
-ghost use Rattle.fleet_trace.specs.Opened.{owed_in};
+ghost use Rattle.std.specs.Prelude.{◌≡◌, ◌↔◌, ◌≤◌, ◌^◌, ◌==◌, ℕ, IsTrue, IfOk, count_by};
+ghost use Rattle.fleet_history.specs.Legal.{IsClientInOrder, owed_at};
+ghost use Rattle.fleet_trace.specs.Clients.{AreClientsInOrder};
+ghost use Rattle.fleet_trace.specs.Opened.{owed_in, AreSizesInOrder};
 
-use fleet_history::{ClientState, RobotState};
+use super::names::are_names_in_order;
+use fleet_history::{ClientState, Opening, RobotState};
 use fleet_queue::Errand;
-use std::alloc::Allocator;
+use std::alloc::{AllocError, Allocator};
 
 /// How many of the errands are the client's.
 fn count_of(errands: &[Errand], client: u32) -> u64
@@ -22,7 +24,7 @@ fn count_of(errands: &[Errand], client: u32) -> u64
 }
 
 /// How many errands of the robots are the client's.
-pub(crate) fn owed_of<A: Allocator + Copy>(robots: &[RobotState<A>], client: u32) -> u64
+fn owed_of<A: Allocator + Copy>(robots: &[RobotState<A>], client: u32) -> u64
     requires { owed_in robots.now client ≤ 2 ^ 41 }
     ensures { result ≡ owed_in robots.now client }
 {
@@ -37,7 +39,7 @@ pub(crate) fn owed_of<A: Allocator + Copy>(robots: &[RobotState<A>], client: u32
 const MOST: u64 = 1 << 57;
 
 /// Whether what is known of a client with so many unfinished errands is in order.
-pub(crate) fn is_client_in_order(life: u64, owed: u64, client: &ClientState) -> bool
+fn is_client_in_order(life: u64, owed: u64, client: &ClientState) -> bool
     requires { owed ≤ 2 ^ 41 }
     ensures { IsTrue result ↔ IsClientInOrder life owed client.now }
 {
@@ -51,4 +53,26 @@ pub(crate) fn is_client_in_order(life: u64, owed: u64, client: &ClientState) -> 
         return false;
     }
     client.taken <= client.noticed && client.noticed + owed <= client.taken + client.accepted
+}
+
+/// Whether each client, and the names of its errands, are in order.
+pub(crate) fn are_clients_in_order<A: Allocator + Copy>(
+    alloc: A,
+    opening: &Opening<A>,
+) -> Result<bool, AllocError>
+    requires sizes { AreSizesInOrder opening.now }
+    requires owed { (c : ℕ) → owed_at opening.now c ≤ 2 ^ 41 }
+    ensures { IfOk result (λ fine. IsTrue fine ↔ AreClientsInOrder opening.now) }
+{
+    let (robots, clients) = (opening.robots.as_slice(), opening.clients.as_slice());
+    for c in 0..clients.len() {
+        let client = c as u32;
+        if !is_client_in_order(opening.life, owed_of(robots, client), &clients[c]) {
+            return Ok(false);
+        }
+        if !are_names_in_order(alloc, robots, client)? {
+            return Ok(false);
+        }
+    }
+    Ok(true)
 }

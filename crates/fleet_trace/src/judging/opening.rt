@@ -4,8 +4,7 @@ ghost use Rattle.std.specs.Prelude.{◌≡◌, ◌↔◌, ◌≤◌, IsTrue, IfO
 ghost use Rattle.fleet_history.specs.Legal.{IsInOrder};
 ghost use Rattle.fleet_trace.specs.Opened.{AreSizesInOrder};
 
-use super::clients::{is_client_in_order, owed_of};
-use super::names::are_names_in_order;
+use super::clients::are_clients_in_order;
 use super::robots::{are_robots_in_order, is_placed};
 use fleet_grid::Grid;
 use fleet_history::Opening;
@@ -38,19 +37,9 @@ pub(crate) fn is_in_order<A: Allocator + Copy, B: Allocator + Copy>(
     if !are_sizes_in_order(opening) {
         return Ok(false);
     }
-    let (robots, clients) = (opening.robots.as_slice(), opening.clients.as_slice());
-    let placed = is_placed(alloc, grid, robots)?;
+    let placed = is_placed(alloc, grid, opening.robots.as_slice())?;
     if !placed || !are_robots_in_order(grid, opening) {
         return Ok(false);
     }
-    for c in 0..clients.len() {
-        let client = c as u32;
-        if !is_client_in_order(opening.life, owed_of(robots, client), &clients[c]) {
-            return Ok(false);
-        }
-        if !are_names_in_order(alloc, robots, client)? {
-            return Ok(false);
-        }
-    }
-    Ok(true)
+    are_clients_in_order(alloc, opening)
 }

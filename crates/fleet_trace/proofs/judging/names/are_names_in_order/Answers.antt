@@ -32,3 +32,17 @@ loop-robot-preserved g c =
 
 pub returns : goal.returns
 returns g c = (λ _. names_all c.args.robots.now c.args.client c.loop-robot.robot (get nat_cmp c.loop-robot.robot_of) c.loop-robot-test.false c.loop-robot.invariant.entered c.loop-robot.invariant.rising, λ _. refl)
+
+pub enter_numbers-requires-clause-inside : goal.enter_numbers-requires-clause-inside
+enter_numbers-requires-clause-inside g c = c.loop-robot-test.true
+
+pub enter_numbers-requires-clause-entered : goal.enter_numbers-requires-clause-entered
+enter_numbers-requires-clause-entered g c = c.loop-robot.invariant.entered
+
+pub returns-then-not-branch : goal.returns-then-not-branch
+returns-then-not-branch g c =
+    let robots = c.args.robots.now in
+    let clash = subst (λ b. MatchBool b (AreEntered robots c.args.client (c.loop-robot.robot + 1) 0 (get nat_cmp c.enter_numbers.new.robot_of)) (AreClientNamesInOrder robots c.args.client → ⊥)) c.if-not-branch.true c.in_ok-enter_numbers.ensures in (
+      λ never. absurd (impossible never),
+      λ fine. absurd (clash fine),
+    )

@@ -1,5 +1,7 @@
-use Rattle.std.proofs.Common.{◌≡◌, ◌∙◌, sym, arith, length, map, take, slice_index}
-use Rattle.std.proofs.lemmas.List.{length-map}
+use Rattle.std.proofs.Common.{◌≡◌, ◌∙◌, sym, subst, arith, length, map, take, slice_index, List}
+use Rattle.std.proofs.lemmas.List.{length-map, take_all}
+use Rattle.fleet_history.specs.declared.history.Entry.{Entry}
+use Rattle.fleet_trace.specs.Rooms.{room_for}
 use Rattle.fleet_trace.proofs.Rooms.{rooms-opened, room-within, room-joined, room-kept}
 use Rattle.fleet_trace.proofs.judging.rooms.rooms_of.Goals as goal
 use Rattle.fleet_trace.proofs.judging.rooms.rooms_of.Goals.{in-Some, in_default}
@@ -38,3 +40,10 @@ loop-entry-preserved g c =
         each = λ r l. rw w.rooms-is (c.loop-entry.invariant.each r l ∙ room-kept o entries i e r c.loop-entry-test.true c.entry-item.is (sym c.robot_joined.ensures ∙ w.in_default.is));
       }
     ]
+
+pub returns-clause-count : goal.returns-clause-count
+returns-clause-count g c = c.loop-entry.invariant.count
+
+pub returns-clause-each : goal.returns-clause-each
+returns-clause-each g c = λ r l.
+    subst (λ (es : List (Entry _)). slice_index c.loop-entry.rooms.items r ≡ room_for c.args.opening.now es r) (take_all c.loop-entry.entry-index c.args.entries.now c.loop-entry-test.false) (c.loop-entry.invariant.each r l)

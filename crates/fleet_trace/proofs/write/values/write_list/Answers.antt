@@ -1,4 +1,6 @@
-use Rattle.std.proofs.Common.{arith}
+use Rattle.std.proofs.Common.{subst, arith, List}
+use Rattle.std.proofs.lemmas.List.{take_all}
+use Rattle.std.specs.List.{AllByRecursion}
 use Rattle.serde_json.specs.View.{view}
 use Rattle.fleet_trace.proofs.Lists.{written_more, fits_more}
 use Rattle.fleet_trace.proofs.write.values.write_list.Goals as goal
@@ -15,3 +17,6 @@ loop-item-preserved g c =
       len = omega (arith, c.loop-item.invariant.len, c.push_reserved.ensures.len);
       room = omega (arith, c.loop-item.invariant.room, c.push_reserved.ensures.capacity);
     }
+
+pub returns-clause-fits : goal.returns-clause-fits
+returns-clause-fits g c = subst (λ (xs : List _). AllByRecursion g.T.WriteValue.fits xs) (take_all c.loop-item.item-index c.args.items.now c.loop-item-test.false) c.loop-item.invariant.fits

@@ -1,0 +1,14 @@
+use Rattle.fleet_trace.proofs.Calmed.{calm-order, calm-ok, calm-err}
+use Rattle.fleet_trace.proofs.judging.judge_calmly.Goals as goal
+
+pub judge_behind-requires-clause-order : goal.judge_behind-requires-clause-order
+judge_behind-requires-clause-order g c =
+    calm-order c.args.grid.now c.args.opening.now c.in_ok-calm.calm c.args.entries.now c.in_ok-calm.ensures c.requires.order
+
+pub returns-clause-ok : goal.returns-clause-ok
+returns-clause-ok g c =
+    calm-ok c.args.grid.now c.args.opening.now c.in_ok-calm.calm c.args.entries.now c.in_ok-calm.ensures c.requires.order c.judge_behind.result c.judge_behind.ensures.ok
+
+pub returns-clause-fault : goal.returns-clause-fault
+returns-clause-fault g c =
+    calm-err c.args.grid.now c.args.opening.now c.in_ok-calm.calm c.args.entries.now c.in_ok-calm.ensures c.requires.order c.judge_behind.result c.judge_behind.ensures.fault
