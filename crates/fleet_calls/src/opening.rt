@@ -7,6 +7,7 @@ ghost use Rattle.fleet_core.specs.Hooks.{laws_of, spare_laws, HaveCount};
 
 use crate::faults::OpenFault;
 use fleet_book::Limits;
+use fleet_core::Robots;
 use fleet_grid::Grid;
 use fleet_hooks::{Farewell, Hooks};
 use std::alloc::{AllocError, Allocator};
@@ -87,7 +88,7 @@ pub(crate) fn opening_fault<A: Allocator + Copy>(
 }
 
 /// The farewells, of which none was called yet.
-pub(crate) fn spare<A: Allocator + Copy>(
+fn spare<A: Allocator + Copy>(
     alloc: A,
     hooks: Vec<Farewell, A>,
 ) -> Result<Vec<Option<Farewell>, A>, AllocError>
@@ -98,4 +99,26 @@ pub(crate) fn spare<A: Allocator + Copy>(
         farewells.push_reserved(Some(hook));
     }
     Ok(farewells)
+}
+
+/// The closures of the robots, of which no farewell was called yet.
+pub(crate) fn robots_of<A: Allocator + Copy>(
+    alloc: A,
+    hooks: Hooks<A>,
+) -> Result<Robots<A>, AllocError>
+    ensures ties { IfOk result (λ robots. robots.ties ≡ hooks.ties) }
+    ensures arrivals { IfOk result (λ robots. robots.arrivals ≡ hooks.arrivals) }
+    ensures farewells { IfOk result (λ robots. spare_laws robots.farewells.items ≡ map (λ h. Some h.law) hooks.farewells.items) }
+{
+    let Hooks {
+        ties,
+        arrivals,
+        farewells,
+    } = hooks;
+    let farewells = spare(alloc, farewells)?;
+    Ok(Robots {
+        ties,
+        arrivals,
+        farewells,
+    })
 }

@@ -16,7 +16,7 @@ ghost use Rattle.fleet_calls.specs.Opening.{IsRefused, IsNamed};
 ghost use Rattle.fleet_core.specs.Core.{Takes, Ticks, Shuts, pending, without_first, widened, next_world, opened_world, HasRoom, HasNoRoom, HasEntries, HasNoEntries};
 
 use crate::faults::OpenFault;
-use crate::opening::{opening_fault, spare};
+use crate::opening::{opening_fault, robots_of};
 use fleet_book::{Limits, Notice, Order, Verdict};
 use fleet_core::{
     ChapterFault, Core, HookLaws, Robots, ShutFault, TakeFault, TickFault, TickReport,
@@ -60,10 +60,7 @@ impl<A: Allocator + Copy> World<A> {
         if let Some(fault) = opening_fault(&grid, starts.as_slice(), clients, limits, &hooks) {
             return Err(fault);
         }
-        match World::make(alloc, grid, starts, clients, limits, hooks) {
-            Ok(world) => Ok(world),
-            Err(AllocError) => Err(OpenFault::NoMemory),
-        }
+        Ok(World::make(alloc, grid, starts, clients, limits, hooks)?)
     }
 
     /// The world at its opening.
@@ -80,19 +77,9 @@ impl<A: Allocator + Copy> World<A> {
         ensures ok { IfOk result (λ w. w.core ≡ opened_world grid starts.items clients limits (laws_of hooks)) }
     {
         let laws = HookLaws::of(alloc, &hooks)?;
-        let Hooks {
-            ties,
-            arrivals,
-            farewells,
-        } = hooks;
-        let farewells = spare(alloc, farewells)?;
+        let robots = robots_of(alloc, hooks)?;
         // Last, so that no path lets a core go.
         let core = Core::open(alloc, grid, starts, clients, limits, laws)?;
-        let robots = Robots {
-            ties,
-            arrivals,
-            farewells,
-        };
         Ok(World { core, robots })
     }
 

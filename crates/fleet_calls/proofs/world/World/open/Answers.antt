@@ -1,3 +1,4 @@
+use Rattle.std.proofs.lemmas.Result.{err_from_is_err_and}
 use Rattle.fleet_calls.proofs.Refusals.{refused-err, refused-ok, refused-memory}
 use Rattle.fleet_core.specs.Hooks.{laws_of}
 use Rattle.fleet_calls.proofs.world.World.open.Goals as goal
@@ -6,10 +7,11 @@ pub returns-in-Some-clause-refused : goal.returns-in-Some-clause-refused
 returns-in-Some-clause-refused g c f named =
     refused-err c.args.grid c.args.starts.items c.args.clients c.args.limits (laws_of c.args.hooks) c.in-Some.fault f (rw c.as_slice.ensures.value at c.in-Some.ensures)
 
-pub returns-in-Err-clause-refused : goal.returns-in-Err-clause-refused
-returns-in-Err-clause-refused g c f named =
-    refused-memory c.args.grid c.args.starts.items c.args.clients c.args.limits (laws_of c.args.hooks) f named (rw c.as_slice.ensures.value at c.in_default.ensures)
+pub returns-in_err-make-clause-refused : goal.returns-in_err-make-clause-refused
+returns-in_err-make-clause-refused g c f named =
+    let p = err_from_is_err_and c.from_residual.result c.from_residual.ensures.1 in
+    rw (p.1, p.2) (refused-memory c.args.grid c.args.starts.items c.args.clients c.args.limits (laws_of c.args.hooks) f named (rw c.as_slice.ensures.value at c.in_default.ensures))
 
-pub returns-in-Ok-clause-refused : goal.returns-in-Ok-clause-refused
-returns-in-Ok-clause-refused g c f named =
-    refused-ok c.args.grid c.args.starts.items c.args.clients c.args.limits (laws_of c.args.hooks) c.in-Ok.world f (rw c.as_slice.ensures.value at c.in_default.ensures)
+pub returns-clause-refused : goal.returns-clause-refused
+returns-clause-refused g c f named =
+    refused-ok c.args.grid c.args.starts.items c.args.clients c.args.limits (laws_of c.args.hooks) c.in_ok-make.field-0 f (rw c.as_slice.ensures.value at c.in_default.ensures)
