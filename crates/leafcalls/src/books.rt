@@ -4,7 +4,6 @@ ghost use Rattle.std.specs.Prelude.{◌≤◌, ◌<◌, length};
 
 use fleet_book::{Account, Book, Facts, Limits, Order, Place, Verdict};
 use std::process::Abort;
-use std::test::Fail;
 
 const GO: Order = Order::Go { robot: 1, cell: 4 };
 
@@ -99,32 +98,30 @@ fn check_verdicts(rt: &impl Abort, book: &Book, rows: &[(u32, Order, Facts, Verd
     requires { 2 ≤ length book.now.accounts }
 {
     for at in 0..rows.len() {
-        let (client, order, facts, verdict) = rows[at];
-        assert!(rt; client < 2);
-        assert!(rt; book.judge(client, order, facts) == verdict);
+        let (client, order, facts, verdict) = &rows[at];
+        assert!(rt; *client < 2);
+        assert!(rt; book.judge(*client, *order, *facts) == *verdict);
     }
 }
 
 #[test]
-fn refusals_in_order(rt: HostRuntime) -> Result<(), Fail> {
+fn refusals_in_order(rt: HostRuntime) {
     let limits = Limits {
         life: 1,
         ..Limits::DEFAULT
     };
-    let mut book = Book::new(rt.alloc(), 2, 2, limits)?;
+    let mut book = Book::new(rt.alloc(), 2, 2, limits).expect(&rt, "memory for a book");
     book.enter(0, Verdict::Accepted(1));
     book.shut_robot(1);
     check_verdicts(&rt, &book, &REFUSALS);
-    Ok(())
 }
 
 #[test]
-fn closed_and_withdrawn(rt: HostRuntime) -> Result<(), Fail> {
-    let mut book = Book::new(rt.alloc(), 2, 2, Limits::DEFAULT)?;
+fn closed_and_withdrawn(rt: HostRuntime) {
+    let mut book = Book::new(rt.alloc(), 2, 2, Limits::DEFAULT).expect(&rt, "memory for a book");
     check_verdicts(&rt, &book, &OPEN);
     book.enter(0, Verdict::Closed);
     check_verdicts(&rt, &book, &CLOSED);
-    Ok(())
 }
 
 /// How many errands of the client were accepted, and how many are unfinished.
@@ -135,8 +132,8 @@ fn counts_of(book: &Book, client: u32) -> [u64; 2]
 }
 
 #[test]
-fn counts(rt: HostRuntime) -> Result<(), Fail> {
-    let mut book = Book::new(rt.alloc(), 2, 1, Limits::DEFAULT)?;
+fn counts(rt: HostRuntime) {
+    let mut book = Book::new(rt.alloc(), 2, 1, Limits::DEFAULT).expect(&rt, "memory for a book");
     let next = book.next_number(1);
     book.enter(1, Verdict::Accepted(1));
     book.enter(1, Verdict::Accepted(2));
@@ -149,12 +146,11 @@ fn counts(rt: HostRuntime) -> Result<(), Fail> {
     assert!(rt; [next, later] == [1, 3]);
     assert!(rt; [entered, withdrawn, counts_of(&book, 1)] == [[2, 2], [2, 1], [2, 0]]);
     assert!(rt; !book.is_closed(1) && book.account(0) == Account::BLANK);
-    Ok(())
 }
 
 #[test]
-fn closed_and_shut(rt: HostRuntime) -> Result<(), Fail> {
-    let mut book = Book::new(rt.alloc(), 2, 1, Limits::DEFAULT)?;
+fn closed_and_shut(rt: HostRuntime) {
+    let mut book = Book::new(rt.alloc(), 2, 1, Limits::DEFAULT).expect(&rt, "memory for a book");
     let open = [book.is_closed(0), book.is_closed(1), book.is_shut(0)];
     assert!(rt; book.account(1) == Account::BLANK);
     book.close_client(1);
@@ -162,7 +158,6 @@ fn closed_and_shut(rt: HostRuntime) -> Result<(), Fail> {
     assert!(rt; open == [false; 3]);
     assert!(rt; [book.is_closed(0), book.is_closed(1), book.is_shut(0)] == [false, true, true]);
     assert!(rt; book.account(0) == Account::BLANK);
-    Ok(())
 }
 
 const LEAST: Limits = Limits {
@@ -243,11 +238,15 @@ const OUTSIDE: [Limits; 17] = [
     },
 ];
 
+fn check_invalid(rt: &impl Abort, several: &[Limits]) {
+    for at in 0..several.len() {
+        assert!(rt; !several[at].is_valid());
+    }
+}
+
 /// Each limit at both ends of its range, and one past them.
 #[test]
 fn ranges(rt: HostRuntime) {
     assert!(rt; Limits::DEFAULT.is_valid() && LEAST.is_valid() && MOST.is_valid());
-    for limits in OUTSIDE {
-        assert!(rt; !limits.is_valid());
-    }
+    check_invalid(&rt, &OUTSIDE);
 }

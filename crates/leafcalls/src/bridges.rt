@@ -7,17 +7,17 @@ use fleet_grid::{Dir, Grid};
 use refusing::Refusing;
 use std::alloc::{Allocator, Global};
 use std::process::Abort;
-use std::test::Fail;
 
 /// The first bridge of a map whose letters fill its sides.
 fn first_of(
+    rt: &impl Abort,
     alloc: Global,
     height: u32,
     width: u32,
     cells: &[u8],
-) -> Result<Option<(u32, u32)>, Fail> {
-    let grid = grid_of(alloc, height, width, cells)?;
-    Ok(first_bridge(alloc, &grid)?)
+) -> Option<(u32, u32)> {
+    let grid = grid_of(rt, alloc, height, width, cells);
+    first_bridge(alloc, &grid).expect(rt, "memory for a search")
 }
 
 /// Maps by their sides and letters, and their first bridge.
@@ -33,68 +33,62 @@ const MAPS: [(u32, u32, &[u8], Option<(u32, u32)>); 4] = [
 ];
 
 #[test]
-fn worked_maps(rt: HostRuntime) -> Result<(), Fail> {
+fn worked_maps(rt: HostRuntime) {
     for (height, width, cells, first) in MAPS {
-        assert!(rt; first_of(rt.alloc(), height, width, cells)? == first);
+        assert!(rt; first_of(&rt, rt.alloc(), height, width, cells) == first);
     }
-    Ok(())
-}
-
-fn check_edges(rt: &impl Abort, alloc: Global, grid: &Grid) -> Result<(), Fail> {
-    for (cell, dir, is_bridge) in [(0, Dir::East, false), (5, Dir::West, true)] {
-        assert!(rt; edge_is_bridge(alloc, grid, cell, dir)? == Some(is_bridge));
-    }
-    Ok(())
 }
 
 #[test]
-fn failed_push(rt: HostRuntime) -> Result<(), Fail> {
-    let grid = grid_of(rt.alloc(), 2, 3, b"..@...")?;
-    check_edges(&rt, rt.alloc(), &grid)
+fn failed_push(rt: HostRuntime) {
+    let grid = grid_of(&rt, rt.alloc(), 2, 3, b"..@...");
+    assert!(rt; edge_is_bridge(&rt, rt.alloc(), &grid, 0, Dir::East) == Some(false));
+    assert!(rt; edge_is_bridge(&rt, rt.alloc(), &grid, 5, Dir::West) == Some(true));
 }
 
 /// Whether the edge in that direction is a bridge; none where no edge leads there.
-fn edge_is_bridge(alloc: Global, grid: &Grid, cell: u32, dir: Dir) -> Result<Option<bool>, Fail> {
-    match grid.neighbour(cell, dir) {
-        Some(next) => Ok(Some(is_bridge(alloc, grid, cell, next)?)),
-        None => Ok(None),
-    }
+fn edge_is_bridge(
+    rt: &impl Abort,
+    alloc: Global,
+    grid: &Grid,
+    cell: u32,
+    dir: Dir,
+) -> Option<bool> {
+    let next = grid.neighbour(cell, dir)?;
+    Some(is_bridge(alloc, grid, cell, next).expect(rt, "memory for a search"))
 }
 
 /// The first bridge, by a search for each edge.
-fn first_by_search(alloc: Global, grid: &Grid) -> Result<Option<(u32, u32)>, Fail> {
+fn first_by_search(rt: &impl Abort, alloc: Global, grid: &Grid) -> Option<(u32, u32)> {
     for cell in 0..grid.cell_count() {
         for dir in [Dir::East, Dir::South] {
-            let Some(next) = grid.neighbour(cell, dir) else {
-                continue;
-            };
-            if is_bridge(alloc, grid, cell, next)? {
-                return Ok(Some((cell, next)));
+            if let Some(next) = grid.neighbour(cell, dir)
+                && is_bridge(alloc, grid, cell, next).expect(rt, "memory for a search")
+            {
+                return Some((cell, next));
             }
         }
     }
-    Ok(None)
+    None
 }
 
 /// The letters of a map: a bit of the number for each cell.
-fn drawn(alloc: Global, count: u32, mut bits: u32) -> Result<Vec<u8>, Fail> {
+fn drawn(rt: &impl Abort, alloc: Global, count: u32, mut bits: u32) -> Vec<u8> {
     let mut cells = Vec::new(alloc);
     for _ in 0..count {
-        cells.push(if bits % 2 == 0 { b'.' } else { b'@' })?;
+        cells
+            .push(if bits % 2 == 0 { b'.' } else { b'@' })
+            .expect(rt, "memory for a map");
         bits /= 2;
     }
-    Ok(cells)
-}
-
-fn is_as_searched(alloc: Global, grid: &Grid) -> Result<bool, Fail> {
-    let plain = first_by_search(alloc, grid)?;
-    Ok(first_bridge(alloc, grid)? == plain)
+    cells
 }
 
 /// Whether the first bridge of such a map is the one that a search for each edge finds.
-fn is_map_as_searched(alloc: Global, height: u32, width: u32, cells: &[u8]) -> Result<bool, Fail> {
-    let grid = grid_of(alloc, height, width, cells)?;
-    is_as_searched(alloc, &grid)
+fn is_as_searched(rt: &impl Abort, alloc: Global, height: u32, width: u32, cells: &[u8]) -> bool {
+    let grid = grid_of(rt, alloc, height, width, cells);
+    let first = first_bridge(alloc, &grid).expect(rt, "memory for a search");
+    first == first_by_search(rt, alloc, &grid)
 }
 
 /// The sides of small maps, how many cells they have, and how many such maps there are.
@@ -106,14 +100,13 @@ const SIDES: [(u32, u32, u32, u32); 4] = [
 ];
 
 #[test]
-fn small_maps_beside_the_plain_search(rt: HostRuntime) -> Result<(), Fail> {
+fn small_maps_beside_the_plain_search(rt: HostRuntime) {
     for (height, width, count, maps) in SIDES {
         for bits in 0..maps {
-            let cells = drawn(rt.alloc(), count, bits)?;
-            assert!(rt; is_map_as_searched(rt.alloc(), height, width, &cells)?);
+            let cells = drawn(&rt, rt.alloc(), count, bits);
+            assert!(rt; is_as_searched(&rt, rt.alloc(), height, width, &cells));
         }
     }
-    Ok(())
 }
 
 /// Maps of 1,024 cells a side, and their first bridge.
@@ -124,27 +117,25 @@ const LARGE: [(Shape, Option<(u32, u32)>); 3] = [
 ];
 
 #[test]
-fn large_maps(rt: HostRuntime) -> Result<(), Fail> {
+fn large_maps(rt: HostRuntime) {
     for (shape, first) in LARGE {
-        let cells = letters(rt.alloc(), 1024, shape)?;
-        assert!(rt; first_of(rt.alloc(), 1024, 1024, &cells)? == first);
+        let cells = letters(rt.alloc(), 1024, shape).expect(&rt, "memory for a map");
+        assert!(rt; first_of(&rt, rt.alloc(), 1024, 1024, &cells) == first);
     }
-    Ok(())
 }
 
 /// A ring of 76 cells, and beside cell 200 the cell 201, to which no other way leads.
-fn ring_with_tail<R: Alloc + Abort>(rt: &R, alloc: Global) -> Result<Grid, Fail> {
-    let mut cells = letters(alloc, 20, Shape::Border)?;
+fn ring_with_tail(rt: &impl Abort, alloc: Global) -> Grid {
+    let mut cells = letters(alloc, 20, Shape::Border).expect(rt, "memory for a map");
     assert!(rt; cells.len() > 201);
     cells[201] = b'.';
-    grid_of(alloc, 20, 20, &cells)
+    grid_of(rt, alloc, 20, 20, &cells)
 }
 
 #[test]
-fn bridge_behind_a_long_ring(rt: HostRuntime) -> Result<(), Fail> {
-    let grid = ring_with_tail(&rt, rt.alloc())?;
-    assert!(rt; first_bridge(rt.alloc(), &grid)? == Some((200, 201)));
-    Ok(())
+fn bridge_behind_a_long_ring(rt: HostRuntime) {
+    let grid = ring_with_tail(&rt, rt.alloc());
+    assert!(rt; first_bridge(rt.alloc(), &grid) == Ok(Some((200, 201))));
 }
 
 /// Whether a growth is refused. The next call over the same memory finds the first bridge then.
@@ -153,40 +144,29 @@ fn is_refused(
     heap: impl Allocator + Copy,
     grid: &Grid,
     first: (u32, u32),
-) -> Result<bool, Fail> {
+) -> bool {
     let met = first_bridge(heap, grid).is_err();
     let found = first_bridge(heap, grid);
-    if met {
-        assert!(rt; found? == Some(first));
-    }
-    Ok(met)
+    assert!(rt; !met || found == Ok(Some(first)));
+    met
 }
 
 /// Refuses each growth in turn, until none is refused.
-fn refuse_growths<R: Alloc<A = Global> + Abort>(
-    rt: &R,
-    grid: &Grid,
-    first: (u32, u32),
-) -> Result<(), Fail> {
+fn refuse_growths(rt: &impl Abort, alloc: Global, grid: &Grid, first: (u32, u32)) {
     let mut unrefused = None;
     for before in 0..64 {
-        if !is_refused(rt, &Refusing::after(rt.alloc(), before), grid, first)? {
+        if !is_refused(rt, &Refusing::after(alloc, before), grid, first) {
             unrefused = Some(before);
             break;
         }
     }
     assert!(rt; unrefused.is_some());
-    Ok(())
-}
-
-fn refuse_growths_of_ring<R: Alloc<A = Global> + Abort>(rt: &R) -> Result<(), Fail> {
-    let grid = ring_with_tail(rt, rt.alloc())?;
-    refuse_growths(rt, &grid, (200, 201))
 }
 
 #[test]
-fn refused_growths(rt: HostRuntime) -> Result<(), Fail> {
-    refuse_growths_of_ring(&rt)?;
-    let grid = grid_of(rt.alloc(), 2, 3, b"..@...")?;
-    refuse_growths(&rt, &grid, (4, 5))
+fn refused_growths(rt: HostRuntime) {
+    let ring = ring_with_tail(&rt, rt.alloc());
+    refuse_growths(&rt, rt.alloc(), &ring, (200, 201));
+    let grid = grid_of(&rt, rt.alloc(), 2, 3, b"..@...");
+    refuse_growths(&rt, rt.alloc(), &grid, (4, 5));
 }

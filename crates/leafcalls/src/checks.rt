@@ -8,19 +8,18 @@ use crate::squares::{Shape, letters};
 use fleet_check::{StepFault, check_step};
 use fleet_grid::Grid;
 use refusing::Refusing;
-use std::alloc::{AllocError, Allocator, Global};
+use std::alloc::{Allocator, Global};
 use std::process::Abort;
-use std::test::Fail;
 
 /// The map `../..`.
-fn square(alloc: Global) -> Result<Grid, Fail> {
-    grid_of(alloc, 2, 2, b"....")
+fn square(rt: &impl Abort, alloc: Global) -> Grid {
+    grid_of(rt, alloc, 2, 2, b"....")
 }
 
 /// An open map with 32 cells a side.
-fn hall(alloc: Global) -> Result<Grid, Fail> {
-    let cells = letters(alloc, 32, Shape::Open)?;
-    grid_of(alloc, 32, 32, &cells)
+fn hall(rt: &impl Abort, alloc: Global) -> Grid {
+    let cells = letters(alloc, 32, Shape::Open).expect(rt, "memory for a map");
+    grid_of(rt, alloc, 32, 32, &cells)
 }
 
 /// Steps of two robots that stand on cells 0 and 1.
@@ -40,19 +39,18 @@ fn check_steps(rt: &impl Abort, alloc: Global, grid: &Grid) {
 }
 
 #[test]
-fn step_faults(rt: HostRuntime) -> Result<(), Fail> {
-    let grid = square(rt.alloc())?;
+fn step_faults(rt: HostRuntime) {
+    let grid = square(&rt, rt.alloc());
     check_steps(&rt, rt.alloc(), &grid);
-    Ok(())
 }
 
 /// The numbers of these cells, of which robot 0 stands on the first.
-fn cells_between(alloc: Global, first: u32, end: u32) -> Result<Vec<u32>, AllocError> {
+fn cells_between(rt: &impl Abort, alloc: Global, first: u32, end: u32) -> Vec<u32> {
     let mut cells = Vec::new(alloc);
     for cell in first..end {
-        cells.push(cell)?;
+        cells.push(cell).expect(rt, "memory for cells");
     }
-    Ok(cells)
+    cells
 }
 
 /// The last two robots to one cell, then across one edge, and robots 0 and 32 across another.
@@ -69,31 +67,23 @@ fn change_cells(rt: &impl Abort, alloc: Global, grid: &Grid, from: &[u32], to: &
     assert!(rt; check_step(alloc, grid, from, to) == Err(StepFault::Swap(0, 32)));
 }
 
-fn move_south(rt: &impl Abort, alloc: Global, grid: &Grid, from: &[u32]) -> Result<(), Fail>
-    requires { IsPlacement grid.now from.now }
-{
-    let south = cells_between(alloc, 32, 544)?;
-    assert!(rt; check_step(alloc, grid, from, &south) == Ok(()));
-    Ok(())
-}
-
-fn move_fleet(rt: &impl Abort, alloc: Global, grid: &Grid, from: &[u32]) -> Result<(), Fail>
+fn move_fleet(rt: &impl Abort, alloc: Global, grid: &Grid, from: &[u32])
     requires { IsPlacement grid.now from.now }
 {
     assert!(rt; check_step(alloc, grid, from, from) == Ok(()));
-    move_south(rt, alloc, grid, from)?;
-    let mut last = cells_between(alloc, 0, 512)?;
+    let south = cells_between(rt, alloc, 32, 544);
+    assert!(rt; check_step(alloc, grid, from, &south) == Ok(()));
+    let mut last = cells_between(rt, alloc, 0, 512);
     change_cells(rt, alloc, grid, from, &mut last);
-    Ok(())
 }
 
 /// Robots 0 to 511 on the first 512 cells: a row of 32 each.
 #[test]
-fn whole_fleet(rt: HostRuntime) -> Result<(), Fail> {
-    let grid = hall(rt.alloc())?;
-    let from = cells_between(rt.alloc(), 0, 512)?;
+fn whole_fleet(rt: HostRuntime) {
+    let grid = hall(&rt, rt.alloc());
+    let from = cells_between(&rt, rt.alloc(), 0, 512);
     assert!(rt; is_placement(&grid, &from));
-    move_fleet(&rt, rt.alloc(), &grid, &from)
+    move_fleet(&rt, rt.alloc(), &grid, &from);
 }
 
 /// Whether a growth is refused while a step is checked. A second check of it meets no refusal then.
@@ -114,8 +104,8 @@ fn name_without_memory(rt: &impl Abort, heap: impl Allocator + Copy, grid: &Grid
 }
 
 #[test]
-fn refused_growths(rt: HostRuntime) -> Result<(), Fail> {
-    let grid = square(rt.alloc())?;
+fn refused_growths(rt: HostRuntime) {
+    let grid = square(&rt, rt.alloc());
     let from = [0, 1, 2];
     assert!(rt; is_placement(&grid, &from));
     let mut unrefused = None;
@@ -127,7 +117,6 @@ fn refused_growths(rt: HostRuntime) -> Result<(), Fail> {
     }
     assert!(rt; unrefused == Some(1));
     name_without_memory(&rt, &Refusing::after(rt.alloc(), 0), &grid, &from);
-    Ok(())
 }
 
 /// How many growths are refused in turn before one check of the step meets no refusal; 16 at most.
@@ -145,18 +134,17 @@ fn count_refused(rt: &impl Abort, alloc: Global, grid: &Grid, from: &[u32], to: 
 }
 
 /// How many growths are refused in turn while the first 24 robots move a row to the south.
-fn count_refused_south(rt: &impl Abort, alloc: Global, grid: &Grid) -> Result<u64, Fail> {
-    let from = cells_between(alloc, 0, 24)?;
-    let south = cells_between(alloc, 32, 56)?;
+fn count_refused_south(rt: &impl Abort, alloc: Global, grid: &Grid) -> u64 {
+    let from = cells_between(rt, alloc, 0, 24);
+    let south = cells_between(rt, alloc, 32, 56);
     assert!(rt; is_placement(grid, &from));
-    Ok(count_refused(rt, alloc, grid, &from, &south))
+    count_refused(rt, alloc, grid, &from, &south)
 }
 
 /// A step of 24 robots: the table of seats grows more than once, and each growth is refused in turn.
 #[test]
-fn refused_growths_of_a_fleet(rt: HostRuntime) -> Result<(), Fail> {
-    let grid = hall(rt.alloc())?;
-    let refused = count_refused_south(&rt, rt.alloc(), &grid)?;
+fn refused_growths_of_a_fleet(rt: HostRuntime) {
+    let grid = hall(&rt, rt.alloc());
+    let refused = count_refused_south(&rt, rt.alloc(), &grid);
     assert!(rt; refused >= 2 && refused < 16);
-    Ok(())
 }

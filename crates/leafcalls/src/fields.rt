@@ -13,16 +13,15 @@ use fleet_field::{Compass, Field, FieldStore, fields};
 use fleet_grid::Grid;
 use std::alloc::{AllocError, Allocator, Global};
 use std::process::Abort;
-use std::test::Fail;
 use std::thread::Threads;
 
 /// The map `.../.@./...`. Its corners 0, 2 and 8 are goals.
-fn ring(rt: &impl Abort, alloc: Global) -> Result<Grid, Fail>
-    ensures { IfOk result (λ grid. IsFloor grid 0 × IsFloor grid 2 × IsFloor grid 8) }
+fn ring(rt: &impl Abort, alloc: Global) -> Grid
+    ensures { IsFloor result 0 × IsFloor result 2 × IsFloor result 8 }
 {
-    let grid = grid_of(alloc, 3, 3, b"....@....")?;
+    let grid = grid_of(rt, alloc, 3, 3, b"....@....");
     assert!(rt; grid.is_floor(0) && grid.is_floor(2) && grid.is_floor(8));
-    Ok(grid)
+    grid
 }
 
 /// Holds a goal once more. Its key is held.
@@ -71,55 +70,45 @@ fn is_around(field: &Field) -> bool {
 }
 
 /// Whether a field that is searched alone has these distances.
-fn is_around_alone(alloc: Global, grid: &Grid) -> Result<bool, Fail>
+fn is_around_alone(rt: &impl Abort, alloc: Global, grid: &Grid) -> bool
     requires { IsFloor grid.now 0 }
 {
-    let field = Field::from(alloc, grid, 0)?;
-    Ok(is_around(&field))
+    let field = Field::from(alloc, grid, 0).expect(rt, "memory for a field");
+    is_around(&field)
 }
 
 /// Whether a field that is searched as one of several has these distances.
-fn is_around_together(
-    rt: &(impl Abort + Threads + Sync),
-    alloc: Global,
-    grid: &Grid,
-) -> Result<bool, Fail> {
+fn is_around_together(rt: &(impl Abort + Threads + Sync), alloc: Global, grid: &Grid) -> bool {
     assert!(rt; are_floor(grid, &[0]));
-    let several = fields(rt, alloc, grid, &[0])?;
+    let several = fields(rt, alloc, grid, &[0]).expect(rt, "memory for fields");
     assert!(rt; several.len() == 1);
-    Ok(is_around(&several[0]))
+    is_around(&several[0])
 }
 
 /// Whether a store gives these distances for a goal that is held twice.
-fn is_around_shared(rt: &impl Abort, store: &mut FieldStore, grid: &Grid) -> Result<bool, Fail>
+fn is_around_shared(rt: &impl Abort, store: &mut FieldStore, grid: &Grid) -> bool
     requires floor { IsFloor grid.now 0 }
     requires serves { Serves grid.now store.old }
 {
-    let first = hold(store, grid, 0)?;
-    assert!(rt; hold(store, grid, 0)? == first);
+    let first = hold(store, grid, 0).expect(rt, "memory for a field");
+    let second = hold(store, grid, 0).expect(rt, "memory for a field");
+    assert!(rt; second == first);
     assert!(rt; store.is_held(first));
     for (cell, away) in AROUND {
         if store.at(first, cell) != away {
-            return Ok(false);
+            return false;
         }
     }
-    Ok(true)
-}
-
-fn is_around_held(rt: &impl Abort, alloc: Global, grid: &Grid) -> Result<bool, Fail>
-    requires { IsFloor grid.now 0 }
-{
-    let mut store = FieldStore::new(alloc)?;
-    is_around_shared(rt, &mut store, grid)
+    true
 }
 
 #[test]
-fn ring_distances(rt: HostRuntime) -> Result<(), Fail> {
-    let grid = ring(&rt, rt.alloc())?;
-    assert!(rt; is_around_alone(rt.alloc(), &grid)?);
-    assert!(rt; is_around_together(&rt, rt.alloc(), &grid)?);
-    assert!(rt; is_around_held(&rt, rt.alloc(), &grid)?);
-    Ok(())
+fn ring_distances(rt: HostRuntime) {
+    let grid = ring(&rt, rt.alloc());
+    assert!(rt; is_around_alone(&rt, rt.alloc(), &grid));
+    assert!(rt; is_around_together(&rt, rt.alloc(), &grid));
+    let mut store = FieldStore::new(rt.alloc()).expect(&rt, "memory for a store");
+    assert!(rt; is_around_shared(&rt, &mut store, &grid));
 }
 
 /// The ways of the ring's cells that lead nearer to cell 0: 1 leads north, 8 west.
@@ -142,32 +131,24 @@ fn check_ways(rt: &impl Abort, grid: &Grid, field: &Field, compass: &Compass) {
     }
 }
 
-fn ways_by_store(rt: &impl Abort, grid: &Grid, store: &mut FieldStore) -> Result<(), Fail>
+fn ways_by_store(rt: &impl Abort, grid: &Grid, store: &mut FieldStore)
     requires floor { IsFloor grid.now 0 }
     requires serves { Serves grid.now store.old }
 {
-    let key = hold(store, grid, 0)?;
+    let key = hold(store, grid, 0).expect(rt, "memory for a field");
     for (cell, ways) in WAYS {
         assert!(rt; store.ways(grid, key, cell) == ways);
     }
-    Ok(())
-}
-
-fn ways_of_searched(rt: &impl Abort, alloc: Global, grid: &Grid) -> Result<(), Fail>
-    requires { IsFloor grid.now 0 }
-{
-    let field = Field::from(alloc, grid, 0)?;
-    let compass = Compass::from(alloc, grid, 0)?;
-    check_ways(rt, grid, &field, &compass);
-    Ok(())
 }
 
 #[test]
-fn ring_ways(rt: HostRuntime) -> Result<(), Fail> {
-    let grid = ring(&rt, rt.alloc())?;
-    ways_of_searched(&rt, rt.alloc(), &grid)?;
-    let mut store = FieldStore::new(rt.alloc())?;
-    ways_by_store(&rt, &grid, &mut store)
+fn ring_ways(rt: HostRuntime) {
+    let grid = ring(&rt, rt.alloc());
+    let field = Field::from(rt.alloc(), &grid, 0).expect(&rt, "memory for a field");
+    let compass = Compass::from(rt.alloc(), &grid, 0).expect(&rt, "memory for a compass");
+    check_ways(&rt, &grid, &field, &compass);
+    let mut store = FieldStore::new(rt.alloc()).expect(&rt, "memory for a store");
+    ways_by_store(&rt, &grid, &mut store);
 }
 
 /// Gives back one of two holds of a key, and the other.
@@ -183,24 +164,23 @@ fn release_both(rt: &impl Abort, store: &mut FieldStore, grid: &Grid, key: usize
     assert!(rt; !store.is_held(key));
 }
 
-fn hold_again_and_anew(rt: &impl Abort, store: &mut FieldStore, grid: &Grid) -> Result<(), Fail>
+fn hold_again_and_anew(rt: &impl Abort, store: &mut FieldStore, grid: &Grid)
     requires floor { IsFloor grid.now 0 × IsFloor grid.now 8 }
     requires serves { Serves grid.now store.old }
 {
-    let first = hold(store, grid, 0)?;
-    let key = hold(store, grid, 0)?;
+    let first = hold(store, grid, 0).expect(rt, "memory for a field");
+    let key = hold(store, grid, 0).expect(rt, "memory for a field");
     assert!(rt; key == first);
     release_both(rt, store, grid, key);
-    let key = hold(store, grid, 8)?;
+    let key = hold(store, grid, 8).expect(rt, "memory for a field");
     assert!(rt; (store.goal(key), store.at(key, 0)) == (8, Some(4)));
-    Ok(())
 }
 
 #[test]
-fn held_and_released(rt: HostRuntime) -> Result<(), Fail> {
-    let grid = ring(&rt, rt.alloc())?;
-    let mut store = FieldStore::new(rt.alloc())?;
-    hold_again_and_anew(&rt, &mut store, &grid)
+fn held_and_released(rt: HostRuntime) {
+    let grid = ring(&rt, rt.alloc());
+    let mut store = FieldStore::new(rt.alloc()).expect(&rt, "memory for a store");
+    hold_again_and_anew(&rt, &mut store, &grid);
 }
 
 const SHARED: [u32; 3] = [0, 8, 0];
@@ -214,34 +194,33 @@ fn check_goals(rt: &impl Abort, store: &FieldStore, keys: &[usize]) {
     }
 }
 
-fn hold_shared(
-    rt: &(impl Abort + Threads + Sync),
-    store: &mut FieldStore,
-    grid: &Grid,
-) -> Result<(), Fail>
+fn hold_shared(rt: &(impl Abort + Threads + Sync), store: &mut FieldStore, grid: &Grid)
     requires { store.old ≡ [] }
 {
     assert!(rt; are_floor(grid, &SHARED));
-    let keys = store.hold_all(rt, grid, &SHARED)?;
+    let keys = store
+        .hold_all(rt, grid, &SHARED)
+        .expect(rt, "memory for fields");
     check_goals(rt, store, &keys);
-    Ok(())
 }
 
 #[test]
-fn held_together(rt: HostRuntime) -> Result<(), Fail> {
-    let grid = ring(&rt, rt.alloc())?;
-    let mut store = FieldStore::new(rt.alloc())?;
-    hold_shared(&rt, &mut store, &grid)
+fn held_together(rt: HostRuntime) {
+    let grid = ring(&rt, rt.alloc());
+    let mut store = FieldStore::new(rt.alloc()).expect(&rt, "memory for a store");
+    hold_shared(&rt, &mut store, &grid);
 }
 
 /// Goals on the ring's floor: the numbers to 3,000 by nine, with 0 for the wall.
-fn goals_around(alloc: Global) -> Result<Vec<u32>, AllocError> {
+fn goals_around(rt: &impl Abort, alloc: Global) -> Vec<u32> {
     let mut goals = Vec::new(alloc);
     for number in 0..3000u32 {
         let goal = number % 9;
-        goals.push(if goal == 4 { 0 } else { goal })?;
+        goals
+            .push(if goal == 4 { 0 } else { goal })
+            .expect(rt, "memory for goals");
     }
-    Ok(goals)
+    goals
 }
 
 /// Whether the fields have the same distances.
@@ -254,44 +233,32 @@ fn are_alike(field: &Field, other: &Field) -> bool {
     true
 }
 
-/// Whether the field is the one that a single call makes.
-fn is_like_single(alloc: Global, grid: &Grid, goal: u32, field: &Field) -> Result<bool, AllocError>
+/// The field is the one that a single call makes.
+fn check_single(rt: &impl Abort, alloc: Global, grid: &Grid, goal: u32, field: &Field)
     requires { IsFloor grid.now goal }
 {
-    let single = Field::from(alloc, grid, goal)?;
-    Ok(field.goal() == goal && are_alike(field, &single))
+    let single = Field::from(alloc, grid, goal).expect(rt, "memory for a field");
+    assert!(rt; field.goal() == goal && are_alike(field, &single));
 }
 
-fn are_like_singles(
-    rt: &impl Abort,
-    alloc: Global,
-    grid: &Grid,
-    goals: &[u32],
-    several: &[Field],
-) -> Result<(), Fail> {
+fn check_singles(rt: &impl Abort, alloc: Global, grid: &Grid, goals: &[u32], several: &[Field]) {
     assert!(rt; several.len() == 3000 && goals.len() == 3000);
     for at in 0..3000 {
         assert!(rt; grid.is_floor(goals[at]));
-        assert!(rt; is_like_single(alloc, grid, goals[at], &several[at])?);
+        check_single(rt, alloc, grid, goals[at], &several[at]);
     }
-    Ok(())
 }
 
-fn search_together(
-    rt: &(impl Abort + Threads + Sync),
-    alloc: Global,
-    grid: &Grid,
-    goals: &[u32],
-) -> Result<(), Fail> {
+fn search_together(rt: &(impl Abort + Threads + Sync), alloc: Global, grid: &Grid, goals: &[u32]) {
     assert!(rt; are_floor(grid, goals));
-    let several = fields(rt, alloc, grid, goals)?;
-    are_like_singles(rt, alloc, grid, goals, &several)
+    let several = fields(rt, alloc, grid, goals).expect(rt, "memory for fields");
+    check_singles(rt, alloc, grid, goals, &several);
 }
 
 /// Each field beside the one that a single call makes.
 #[test]
-fn many_goals(rt: HostRuntime) -> Result<(), Fail> {
-    let grid = ring(&rt, rt.alloc())?;
-    let goals = goals_around(rt.alloc())?;
-    search_together(&rt, rt.alloc(), &grid, &goals)
+fn many_goals(rt: HostRuntime) {
+    let grid = ring(&rt, rt.alloc());
+    let goals = goals_around(&rt, rt.alloc());
+    search_together(&rt, rt.alloc(), &grid, &goals);
 }

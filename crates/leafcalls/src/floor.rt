@@ -7,7 +7,7 @@ ghost use Rattle.fleet_grid.specs.Floor.{IsFloor, floor_of};
 use fleet_grid::Grid;
 use fleet_map::MapText;
 use std::alloc::{AllocError, Allocator, Global};
-use std::test::Fail;
+use std::process::Abort;
 
 /// The grid of a map; none where its letters do not fill its sides.
 pub(crate) fn grid_of_text<A: Allocator + Copy>(
@@ -25,18 +25,18 @@ pub(crate) fn grid_of_text<A: Allocator + Copy>(
 }
 
 /// The grid of a map whose letters fill its sides.
-pub(crate) fn grid_of(alloc: Global, height: u32, width: u32, cells: &[u8]) -> Result<Grid, Fail>
-    ensures { IfOk result (λ grid. grid ≡ floor_of height width cells.now) }
+pub(crate) fn grid_of(rt: &impl Abort, alloc: Global, height: u32, width: u32, cells: &[u8]) -> Grid
+    ensures { result ≡ floor_of height width cells.now }
 {
+    let cells = Vec::from_slice(alloc, cells).expect(rt, "letters");
     let map = MapText {
         height,
         width,
-        cells: Vec::from_slice(alloc, cells)?,
+        cells,
     };
-    match grid_of_text(map)? {
-        Some(grid) => Ok(grid),
-        None => Err(Fail::new("no map")),
-    }
+    grid_of_text(map)
+        .expect(rt, "memory for a grid")
+        .expect(rt, "a map")
 }
 
 /// Whether all these cells are floor.

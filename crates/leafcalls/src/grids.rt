@@ -7,7 +7,6 @@ use fleet_map::read_map;
 use refusing::Refusing;
 use std::alloc::{Alloc, Allocator, Global};
 use std::process::Abort;
-use std::test::Fail;
 
 /// How many cells, floor cells and edges there are.
 fn counts<A: Allocator + Copy>(grid: &Grid<A>) -> [u32; 3] {
@@ -60,18 +59,11 @@ fn check_neighbours(rt: &impl Abort, grid: &Grid) {
     }
 }
 
-fn check_floor(rt: &impl Abort, grid: &Grid) {
-    for (cell, is_floor) in [(3, true), (4, false), (9, false)] {
-        assert!(rt; grid.is_floor(cell) == is_floor);
-    }
-}
-
 #[test]
-fn ring_of_eight(rt: HostRuntime) -> Result<(), Fail> {
-    let grid = grid_of(rt.alloc(), 3, 3, b"....@....")?;
-    check_floor(&rt, &grid);
+fn ring_of_eight(rt: HostRuntime) {
+    let grid = grid_of(&rt, rt.alloc(), 3, 3, b"....@....");
+    assert!(rt; grid.is_floor(3) && !grid.is_floor(4) && !grid.is_floor(9));
     check_neighbours(&rt, &grid);
-    Ok(())
 }
 
 /// Maps by their sides and letters, how many cells, floor cells and edges they have, and whether a walk joins two cells.
@@ -86,23 +78,23 @@ const MAPS: [(u32, u32, &[u8], [u32; 3], (u32, u32), Option<bool>); 3] = [
 
 /// The counts of a map, and whether a walk joins these two cells.
 fn counted_and_joined(
+    rt: &impl Abort,
     alloc: Global,
     height: u32,
     width: u32,
     cells: &[u8],
     ends: (u32, u32),
-) -> Result<([u32; 3], Option<bool>), Fail> {
-    let grid = grid_of(alloc, height, width, cells)?;
-    Ok((counts(&grid), are_joined(&grid, ends.0, ends.1)))
+) -> ([u32; 3], Option<bool>) {
+    let grid = grid_of(rt, alloc, height, width, cells);
+    (counts(&grid), are_joined(&grid, ends.0, ends.1))
 }
 
 #[test]
-fn worked_maps(rt: HostRuntime) -> Result<(), Fail> {
+fn worked_maps(rt: HostRuntime) {
     for (height, width, cells, counts, ends, joined) in MAPS {
-        let found = counted_and_joined(rt.alloc(), height, width, cells, ends)?;
+        let found = counted_and_joined(&rt, rt.alloc(), height, width, cells, ends);
         assert!(rt; found == (counts, joined));
     }
-    Ok(())
 }
 
 /// How many of the places are such a one.
@@ -120,19 +112,17 @@ fn padding(grid: &Grid) -> (u32, [usize; 3]) {
 }
 
 #[test]
-fn padded_form(rt: HostRuntime) -> Result<(), Fail> {
+fn padded_form(rt: HostRuntime) {
     assert!(rt; place_of(3, 20, 2) == 22);
-    let grid = grid_of(rt.alloc(), 1, 3, b".@.")?;
+    let grid = grid_of(&rt, rt.alloc(), 1, 3, b".@.");
     assert!(rt; padding(&grid) == (20, [60, 2, 58]));
-    Ok(())
 }
 
 #[test]
-fn ways_from_each_cell(rt: HostRuntime) -> Result<(), Fail> {
+fn ways_from_each_cell(rt: HostRuntime) {
     // North is 1, east 2, south 4 and west 8. The wall is beside the first cell, and the last row is open.
-    let grid = grid_of(rt.alloc(), 2, 3, b".@....")?;
+    let grid = grid_of(&rt, rt.alloc(), 2, 3, b".@....");
     assert!(rt; grid.ways() == [4, 0, 4, 3, 10, 9].as_slice());
-    Ok(())
 }
 
 #[test]
@@ -176,10 +166,10 @@ fn ends_meet(grid: &Grid) -> bool {
 }
 
 /// How many floor cells and edges a square map of side 1,024 has, and whether its ends meet.
-fn large(alloc: Global, shape: Shape) -> Result<(u32, u32, bool), Fail> {
-    let cells = letters(alloc, 1024, shape)?;
-    let grid = grid_of(alloc, 1024, 1024, &cells)?;
-    Ok((grid.floor_count(), grid.edge_count(), ends_meet(&grid)))
+fn large(rt: &impl Abort, alloc: Global, shape: Shape) -> (u32, u32, bool) {
+    let cells = letters(alloc, 1024, shape).expect(rt, "memory for a map");
+    let grid = grid_of(rt, alloc, 1024, 1024, &cells);
+    (grid.floor_count(), grid.edge_count(), ends_meet(&grid))
 }
 
 /// Maps of 1,024 cells a side, how many floor cells and edges they have, and whether their ends meet.
@@ -192,11 +182,10 @@ const LARGE: [(Shape, (u32, u32, bool)); 5] = [
 ];
 
 #[test]
-fn large_maps(rt: HostRuntime) -> Result<(), Fail> {
+fn large_maps(rt: HostRuntime) {
     for (shape, counts) in LARGE {
-        assert!(rt; large(rt.alloc(), shape)? == counts);
+        assert!(rt; large(&rt, rt.alloc(), shape) == counts);
     }
-    Ok(())
 }
 
 #[test]

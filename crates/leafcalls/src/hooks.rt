@@ -6,7 +6,6 @@ use fleet_grid::Dir;
 use fleet_hooks::{
     ArrivalHook, ArrivalView, Farewell, FarewellView, Hooks, StampLaw, TieHook, TieLaw, TieView,
 };
-use std::alloc::AllocError;
 use std::process::Abort;
 use std::sync::Arc;
 use std::sync::atomic::{AtomicU64, Ordering};
@@ -23,16 +22,17 @@ const SEVENS: StampLaw = StampLaw { low: 0, high: 7 };
 const EIGHTS: StampLaw = StampLaw { low: 0, high: 8 };
 
 #[test]
-fn rank_is_the_closure_s_answer_of_one_call(rt: HostRuntime) -> Result<(), AllocError> {
+fn rank_is_the_closure_s_answer_of_one_call(rt: HostRuntime) {
     let alloc = rt.alloc();
-    let calls = Arc::new(alloc, AtomicU64::new(0))?;
-    let counted = Arc::try_clone(&calls)?;
+    let calls = Arc::new(alloc, AtomicU64::new(0)).expect(&rt, "memory for a count");
+    let counted = Arc::try_clone(&calls).expect(&rt, "one more owner");
     let hook = TieHook::new(
         SOUTH_FIRST,
         Box::new(alloc, move |view: TieView| {
             counted.fetch_add(1, Ordering::SeqCst);
             if view.dir == Dir::South { 0 } else { 4 }
-        })?,
+        })
+        .expect(&rt, "memory for a closure"),
     );
     assert!(rt; hook.law() == SOUTH_FIRST);
     let view = TieView {
@@ -50,20 +50,20 @@ fn rank_is_the_closure_s_answer_of_one_call(rt: HostRuntime) -> Result<(), Alloc
     };
     assert!(rt; hook.rank(east) == 4);
     assert!(rt; calls.load(Ordering::SeqCst) == 2);
-    Ok(())
 }
 
 #[test]
-fn stamp_is_the_closure_s_answer_of_one_call(rt: HostRuntime) -> Result<(), AllocError> {
+fn stamp_is_the_closure_s_answer_of_one_call(rt: HostRuntime) {
     let alloc = rt.alloc();
-    let calls = Arc::new(alloc, AtomicU64::new(0))?;
-    let counted = Arc::try_clone(&calls)?;
+    let calls = Arc::new(alloc, AtomicU64::new(0)).expect(&rt, "memory for a count");
+    let counted = Arc::try_clone(&calls).expect(&rt, "one more owner");
     let hook = ArrivalHook::new(
         THOUSAND,
         Box::new(alloc, move |view: ArrivalView| {
             counted.fetch_add(1, Ordering::SeqCst);
             (view.tick % 1000) as u32
-        })?,
+        })
+        .expect(&rt, "memory for a closure"),
     );
     assert!(rt; hook.law() == THOUSAND);
     let view = ArrivalView {
@@ -75,20 +75,20 @@ fn stamp_is_the_closure_s_answer_of_one_call(rt: HostRuntime) -> Result<(), Allo
     };
     assert!(rt; hook.stamp(view) == 26);
     assert!(rt; calls.load(Ordering::SeqCst) == 1);
-    Ok(())
 }
 
 #[test]
-fn farewell_is_the_closure_s_answer_of_its_one_call(rt: HostRuntime) -> Result<(), AllocError> {
+fn farewell_is_the_closure_s_answer_of_its_one_call(rt: HostRuntime) {
     let alloc = rt.alloc();
-    let calls = Arc::new(alloc, AtomicU64::new(0))?;
-    let counted = Arc::try_clone(&calls)?;
+    let calls = Arc::new(alloc, AtomicU64::new(0)).expect(&rt, "memory for a count");
+    let counted = Arc::try_clone(&calls).expect(&rt, "one more owner");
     let farewell = Farewell::new(
         StampLaw::ANY,
         Box::new(alloc, move |view: FarewellView| {
             counted.fetch_add(1, Ordering::SeqCst);
             view.cell
-        })?,
+        })
+        .expect(&rt, "memory for a closure"),
     );
     assert!(rt; farewell.law() == StampLaw::ANY);
     let view = FarewellView {
@@ -98,7 +98,6 @@ fn farewell_is_the_closure_s_answer_of_its_one_call(rt: HostRuntime) -> Result<(
     };
     assert!(rt; farewell.call(view) == 7);
     assert!(rt; calls.load(Ordering::SeqCst) == 1);
-    Ok(())
 }
 
 fn check_kept(rt: &impl Abort, kept: &Hooks) {
@@ -107,19 +106,23 @@ fn check_kept(rt: &impl Abort, kept: &Hooks) {
 }
 
 #[test]
-fn cut_keeps_the_first_hooks(rt: HostRuntime) -> Result<(), AllocError> {
+fn cut_keeps_the_first_hooks(rt: HostRuntime) {
     let alloc = rt.alloc();
     let mut hooks = Hooks::new(alloc);
     for high in 7..10u32 {
         let law = StampLaw { low: 0, high };
         let tie = |view: TieView| if view.dir == Dir::South { 0 } else { 1 };
-        let tie = TieHook::new(SOUTH_FIRST, Box::new(alloc, tie)?);
-        let arrival = ArrivalHook::new(law, Box::new(alloc, |_view: ArrivalView| 0)?);
-        let farewell = Farewell::new(law, Box::new(alloc, |_view: FarewellView| 0)?);
-        hooks.push(tie, arrival, farewell)?;
+        let tie = Box::new(alloc, tie).expect(&rt, "memory for a rank");
+        let arrival = Box::new(alloc, |_view: ArrivalView| 0).expect(&rt, "memory for a stamp");
+        let farewell = Box::new(alloc, |_view: FarewellView| 0).expect(&rt, "memory for a stamp");
+        let pushed = hooks.push(
+            TieHook::new(SOUTH_FIRST, tie),
+            ArrivalHook::new(law, arrival),
+            Farewell::new(law, farewell),
+        );
+        pushed.expect(&rt, "memory for hooks");
     }
     hooks.ties.truncate(1);
     let kept = hooks.cut(2);
     check_kept(&rt, &kept);
-    Ok(())
 }

@@ -5,9 +5,8 @@ ghost use Rattle.fleet_book.specs.Limits.{AreValid, IsBetween};
 
 use fleet_book::{Limits, Notice, Order, Verdict};
 use fleet_lanes::{Client, HallEnd, PostFault, lane_pair};
-use std::alloc::{AllocError, Global};
+use std::alloc::Global;
 use std::process::Abort;
-use std::test::Fail;
 use std::thread;
 
 const GO: Order = Order::Go { robot: 0, cell: 1 };
@@ -75,17 +74,11 @@ fn make_calls(rt: &impl Abort, client: &mut Client, hall: &mut HallEnd, calls: &
 }
 
 /// The calls on the ends of two rings with so many slots.
-fn check_lane(
-    rt: &impl Abort,
-    alloc: Global,
-    limits: Limits,
-    calls: &[Call],
-) -> Result<(), AllocError>
+fn check_lane(rt: &impl Abort, alloc: Global, limits: Limits, calls: &[Call])
     requires { AreValid limits }
 {
-    let (mut client, mut hall) = lane_pair(alloc, 0, limits)?;
+    let (mut client, mut hall) = lane_pair(alloc, 0, limits).expect(rt, "memory for lanes");
     make_calls(rt, &mut client, &mut hall, calls);
-    Ok(())
 }
 
 /// A full lane has room again once the hall has taken an order: the sending end looks for the other's progress.
@@ -170,34 +163,47 @@ const PEEKS: [Call; 7] = [
 ];
 
 #[test]
-fn lane_and_numbers(rt: HostRuntime) -> Result<(), Fail> {
-    check_lane(&rt, rt.alloc(), limits(2, 64), &FULL_LANE)?;
+fn lane_and_numbers(rt: HostRuntime) {
+    check_lane(&rt, rt.alloc(), limits(2, 64), &FULL_LANE);
     let two = Limits {
         orders: 2,
         ..Limits::DEFAULT
     };
-    check_lane(&rt, rt.alloc(), two, &TWO_ORDERS)?;
-    check_lane(&rt, rt.alloc(), limits(1, 1), &CLOSED)?;
-    check_lane(&rt, rt.alloc(), limits(1, 2), &FULL_OUTLET)?;
-    check_lane(&rt, rt.alloc(), limits(4, 4), &PEEKS)?;
-    Ok(())
+    check_lane(&rt, rt.alloc(), two, &TWO_ORDERS);
+    check_lane(&rt, rt.alloc(), limits(1, 1), &CLOSED);
+    check_lane(&rt, rt.alloc(), limits(1, 2), &FULL_OUTLET);
+    check_lane(&rt, rt.alloc(), limits(4, 4), &PEEKS);
+}
+
+/// An order of this number goes over the lane, and two notices of it over the outlet.
+fn play_round(rt: &impl Abort, client: &mut Client, hall: &mut HallEnd, number: u64)
+    requires least { 1 ≤ number }
+    requires most { number ≤ 1000 }
+{
+    let (first, second) = (
+        accepted(2 * number - 1, number),
+        arrived(2 * number, number),
+    );
+    assert!(rt; client.post(GO) == Ok(number));
+    assert!(rt; hall.take() == Some(GO));
+    assert!(rt; hall.take() == None);
+    assert!(rt; hall.give(first) == Ok(()));
+    assert!(rt; hall.give(second) == Ok(()));
+    assert!(rt; client.collect() == Some(first));
+    assert!(rt; client.collect() == Some(second));
+    assert!(rt; client.collect() == None);
 }
 
 /// The smallest rings, over and over: each end finds what the other has done.
 #[test]
-fn a_thousand_rounds(rt: HostRuntime) -> Result<(), Fail> {
-    let (mut client, mut hall) = lane_pair(rt.alloc(), 0, limits(1, 2))?;
-    for k in 1..=1_000 {
-        assert!(rt; client.post(GO) == Ok(k));
-        assert!(rt; hall.take() == Some(GO));
-        assert!(rt; hall.take() == None);
-        assert!(rt; hall.give(accepted(2 * k - 1, k)) == Ok(()));
-        assert!(rt; hall.give(arrived(2 * k, k)) == Ok(()));
-        assert!(rt; client.collect() == Some(accepted(2 * k - 1, k)));
-        assert!(rt; client.collect() == Some(arrived(2 * k, k)));
-        assert!(rt; client.collect() == None);
+fn a_thousand_rounds(rt: HostRuntime) {
+    let (mut client, mut hall) = lane_pair(rt.alloc(), 0, limits(1, 2)).expect(
+        &rt,
+        "memory for lanes",
+    );
+    for number in 1..=1_000 {
+        play_round(&rt, &mut client, &mut hall, number);
     }
-    Ok(())
 }
 
 /// What the ends know of each other, once they were beside each other, is taken and collected.
@@ -208,15 +214,17 @@ fn take_what_is_known(rt: &impl Abort, client: &mut Client, hall: &mut HallEnd) 
 }
 
 #[test]
-fn both_ends_in_one_thread(rt: HostRuntime) -> Result<(), Fail> {
-    let (mut client, mut hall) = lane_pair(rt.alloc(), 5, limits(4, 4))?;
+fn both_ends_in_one_thread(rt: HostRuntime) {
+    let (mut client, mut hall) = lane_pair(rt.alloc(), 5, limits(4, 4)).expect(
+        &rt,
+        "memory for lanes",
+    );
     assert!(rt; client.number() == 5);
     let posted = [client.post(GO), client.close()];
     let given = hall.give(FIRST);
     hall.beside(&mut client);
     assert!(rt; posted == [Ok(1), Ok(2)] && given == Ok(()));
     take_what_is_known(&rt, &mut client, &mut hall);
-    Ok(())
 }
 
 const ROUNDS: u64 = 2_000;
@@ -262,9 +270,8 @@ fn serve_all(mut hall: HallEnd) -> bool {
 }
 
 #[test]
-fn ends_in_two_threads(rt: HostRuntime) -> Result<(), Fail> {
-    let (client, hall) = lane_pair(rt.alloc(), 0, limits(3, 2))?;
+fn ends_in_two_threads(rt: HostRuntime) {
+    let (client, hall) = lane_pair(rt.alloc(), 0, limits(3, 2)).expect(&rt, "memory for lanes");
     let (sent, served) = thread::join(&rt, move || send_all(client), move || serve_all(hall));
     assert!(rt; sent && served);
-    Ok(())
 }

@@ -5,7 +5,6 @@ use fleet_map::{MOST_SIDE, MapFault, read_map};
 use refusing::Refusing;
 use std::alloc::{AllocError, Allocator, Global};
 use std::process::Abort;
-use std::test::Fail;
 
 /// Maps that are read: the text, the height, the width and the letters.
 const MAPS: [(&[u8], u32, u32, &[u8]); 3] = [
@@ -119,11 +118,16 @@ fn fault_of(alloc: impl Allocator + Copy, text: &[u8]) -> Option<MapFault> {
     }
 }
 
+fn check_faults(rt: &impl Abort, alloc: Global, texts: &[(&[u8], MapFault)]) {
+    for at in 0..texts.len() {
+        let (text, fault) = &texts[at];
+        assert!(rt; fault_of(alloc, text) == Some(*fault));
+    }
+}
+
 #[test]
 fn map_faults(rt: HostRuntime) {
-    for (text, fault) in FAULTS {
-        assert!(rt; fault_of(rt.alloc(), text) == Some(fault));
-    }
+    check_faults(&rt, rt.alloc(), &FAULTS);
 }
 
 const WHOLE: &[u8] = b"type octile\nheight 1\nwidth 3\nmap\n...\n";
@@ -162,35 +166,42 @@ fn open_floor(alloc: Global, height: u64, width: u64) -> Result<String, AllocErr
 
 /// The sides and the number of cells that are read of an open map, or its fault.
 fn read_sides(
+    rt: &impl Abort,
     alloc: Global,
     height: u64,
     width: u64,
-) -> Result<Result<(u32, u32, usize), MapFault>, AllocError> {
-    let text = open_floor(alloc, height, width)?;
+) -> Result<(u32, u32, usize), MapFault> {
+    let text = open_floor(alloc, height, width).expect(rt, "memory for a map");
     match read_map(alloc, text.as_bytes()) {
-        Ok(map) => Ok(Ok((map.height, map.width, map.cells.len()))),
-        Err(fault) => Ok(Err(fault)),
+        Ok(map) => Ok((map.height, map.width, map.cells.len())),
+        Err(fault) => Err(fault),
     }
 }
 
 #[test]
-fn side_limits(rt: HostRuntime) -> Result<(), Fail> {
+fn side_limits(rt: HostRuntime) {
     assert!(rt; MOST_SIDE == 1024);
-    assert!(rt; read_sides(rt.alloc(), 1024, 1024)? == Ok((1024, 1024, 1_048_576)));
+    assert!(rt; read_sides(&rt, rt.alloc(), 1024, 1024) == Ok((1024, 1024, 1_048_576)));
     for (height, width) in [(1025, 1), (1, 1025), (0, 1), (1, 0)] {
-        assert!(rt; read_sides(rt.alloc(), height, width)? == Err(MapFault::Size));
+        assert!(rt; read_sides(&rt, rt.alloc(), height, width) == Err(MapFault::Size));
     }
-    Ok(())
+}
+
+/// Whether a text was split into these parts.
+fn is_split(parts: Option<(&[u8], &[u8])>, first: &[u8], rest: &[u8]) -> bool {
+    match parts {
+        Some(found) => found.0 == first && found.1 == rest,
+        None => false,
+    }
 }
 
 #[test]
 fn lines_and_words(rt: HostRuntime) {
-    assert!(rt; first_line(b"\r") == Some((b"".as_slice(), b"".as_slice())));
-    let line = b" ab\tc ".as_slice();
-    assert!(rt; first_line(b" ab\tc \r\nd") == Some((line, b"d".as_slice())));
-    assert!(rt; trimmed_line(line) == b" ab\tc".as_slice());
-    assert!(rt; first_word(line) == Some((b"ab".as_slice(), b"c ".as_slice())));
-    assert!(rt; first_word(b" \t") == None);
+    assert!(rt; is_split(first_line(b"\r"), b"", b""));
+    assert!(rt; is_split(first_line(b" ab\tc \r\nd"), b" ab\tc ", b"d"));
+    assert!(rt; trimmed_line(b" ab\tc ") == b" ab\tc".as_slice());
+    assert!(rt; is_split(first_word(b" ab\tc "), b"ab", b"c "));
+    assert!(rt; first_word(b" \t").is_none());
 }
 
 #[test]

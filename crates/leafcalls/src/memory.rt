@@ -5,7 +5,6 @@ use fleet_book::{Account, Book, Limits, Order};
 use fleet_lanes::lane_pair;
 use fleet_queue::{Errand, ErrandQueue};
 use linked_list_allocator::LocalHeap;
-use std::test::Fail;
 
 const LONE: Errand = Errand {
     client: 0,
@@ -45,12 +44,11 @@ fn makes_lanes(heap: &LocalHeap) -> bool {
 /// Four errands of 24 bytes are six units of 16 bytes. Two accounts of 24 bytes are three, and three flags are one. Two
 /// rings of two slots take 896 bytes.
 #[test]
-fn refused_growths(rt: HostRuntime) -> Result<(), Fail> {
+fn refused_growths(rt: HostRuntime) {
     for units in 0..64 {
-        let heap = LocalHeap::new(rt.alloc(), 16 * units)?;
+        let heap = LocalHeap::new(rt.alloc(), 16 * units).expect(&rt, "memory for a heap");
         let made = [makes_queue(&heap), makes_book(&heap), makes_lanes(&heap)];
         assert!(rt; made == [units >= 6, units >= 4, units >= 56]);
         assert!(rt; heap.used() == 0);
     }
-    Ok(())
 }

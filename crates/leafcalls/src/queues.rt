@@ -1,9 +1,7 @@
 //! The queue on its happy path, and at its room.
 
 use fleet_queue::{Errand, ErrandQueue};
-use std::alloc::{AllocError, Global};
 use std::process::Abort;
-use std::test::Fail;
 
 // Errands of clients 0 and 1, A and B, by their numbers.
 
@@ -119,20 +117,14 @@ const ROOM_FOR_FOUR: [Call; 16] = [
     Call::Withdraw(1, 2, false),
 ];
 
-fn check_queue(rt: &impl Abort, alloc: Global, cap: u32, calls: &[Call]) -> Result<(), AllocError> {
-    let mut queue = ErrandQueue::new(alloc, cap)?;
-    make_calls(rt, &mut queue, calls);
-    Ok(())
+#[test]
+fn first_in_first_out(rt: HostRuntime) {
+    let mut queue = ErrandQueue::new(rt.alloc(), 2).expect(&rt, "memory for a queue");
+    make_calls(&rt, &mut queue, &ROOM_FOR_TWO);
 }
 
 #[test]
-fn first_in_first_out(rt: HostRuntime) -> Result<(), Fail> {
-    check_queue(&rt, rt.alloc(), 2, &ROOM_FOR_TWO)?;
-    Ok(())
-}
-
-#[test]
-fn withdraws_behind_the_front(rt: HostRuntime) -> Result<(), Fail> {
-    check_queue(&rt, rt.alloc(), 4, &ROOM_FOR_FOUR)?;
-    Ok(())
+fn withdraws_behind_the_front(rt: HostRuntime) {
+    let mut queue = ErrandQueue::new(rt.alloc(), 4).expect(&rt, "memory for a queue");
+    make_calls(&rt, &mut queue, &ROOM_FOR_FOUR);
 }

@@ -1,71 +1,94 @@
 //! Scripts, bundles and their faults.
 
 use fleet_book::{Event, Order};
-use fleet_script::{ScriptFault, read_script, split_bundle};
-use std::test::Fail;
+use fleet_script::{Script, ScriptFault, read_script, split_bundle};
+use std::alloc::Global;
+use std::process::Abort;
 
-#[test]
-fn script_of_each_line(rt: HostRuntime) -> Result<(), Fail> {
-    let text =
-        b"# a comment\n\n robots 0 2\t\nclients 2\r\nlane 3\npost 1 go 0 7\ntake 1\ntick 2\ngive 1\ncollect 1";
-    let script = read_script(rt.alloc(), text).ok().ok_or("a script")?;
+fn check_each_line(rt: &impl Abort, script: &Script) {
     assert!(rt; script.starts.as_slice() == [0, 2].as_slice());
     assert!(rt; (script.clients, script.limits.lane, script.limits.queue) == (2, 3, 16));
     assert!(rt; script.lines.as_slice() == [6, 7, 8, 8, 9, 10].as_slice());
     assert!(rt; script.events.len() == 6);
     assert!(rt; script.events[1] == Event::Take(1));
-    Ok(())
 }
 
 #[test]
-fn script_of_closing_lines(rt: HostRuntime) -> Result<(), Fail> {
+fn script_of_each_line(rt: HostRuntime) {
+    let text =
+        b"# a comment\n\n robots 0 2\t\nclients 2\r\nlane 3\npost 1 go 0 7\ntake 1\ntick 2\ngive 1\ncollect 1";
+    let script = read_script(rt.alloc(), text).expect(&rt, "a script");
+    check_each_line(&rt, &script);
+}
+
+#[test]
+fn script_of_closing_lines(rt: HostRuntime) {
     let text = b"ties south\nrobots 0\npost 1 close\nshut 3\n";
-    let script = read_script(rt.alloc(), text).ok().ok_or("a script")?;
+    let script = read_script(rt.alloc(), text).expect(&rt, "a script");
     assert!(rt; script.south);
     assert!(rt; script.events.len() == 2);
     assert!(rt; script.events[0] == Event::Post(1, Order::Close));
     assert!(rt; script.events[1] == Event::Shut(3));
-    Ok(())
 }
 
 /// The line at which a script is refused.
-fn refused_at(rt: &HostRuntime, text: &[u8]) -> Option<u32> {
+fn refused_at(alloc: Global, text: &[u8]) -> Option<u32> {
     if text.len() > 16_777_216 {
         return None;
     }
-    match read_script(rt.alloc(), text) {
+    match read_script(alloc, text) {
         Err(ScriptFault::Line(line)) => Some(line),
         _ => None,
     }
 }
 
+/// Scripts, and the line at which each is refused.
+const FAULTS: [(&[u8], Option<u32>); 10] = [
+    (b"", Some(1)),
+    (b"robots 0\ntick 0\n", Some(2)),
+    (b"robots 0\ntick 1000001\n", Some(2)),
+    (b"robots 0\nlife 111111111111111111111\n", Some(2)),
+    (b"robots 0\nlife 18446744073709551616\n", Some(2)),
+    (b"tick\nrobots 0\n", Some(2)),
+    (
+        b"robots 1 2 3 4 5 6 7 8 9 10 11 12 13 14 15 16 17\n",
+        Some(1),
+    ),
+    (b"robots 0\nrobots 1\n", Some(2)),
+    (b"robots 4294967296\n", Some(1)),
+    (b"robots 0\n#\nwait\n", Some(3)),
+];
+
+/// Scripts of closing lines, and the line at which each is refused; none where it is read.
+const CLOSING_FAULTS: [(&[u8], Option<u32>); 11] = [
+    (b"ties south\nties plain\n", Some(2)),
+    (b"ties east\nrobots 0\n", Some(1)),
+    (b"robots 0\npost 0 close 0\n", Some(2)),
+    (b"robots 0\npost 0 withdraw\n", Some(2)),
+    (b"robots 0\npost 0 withdraw 1 2\n", Some(2)),
+    (b"robots 0\npost 0 withdraw 18446744073709551615\n", None),
+    (b"robots 0\nturns 1000000\n", None),
+    (b"robots 0\nturns 0\n", Some(2)),
+    (b"robots 0\nturns 1000001\n", Some(2)),
+    (b"turns 1\nturns 1\n", Some(2)),
+    (b"robots 0\nshut\n", Some(2)),
+];
+
+fn check_faults(rt: &impl Abort, alloc: Global, texts: &[(&[u8], Option<u32>)]) {
+    for at in 0..texts.len() {
+        let (text, line) = texts[at];
+        assert!(rt; refused_at(alloc, text) == line);
+    }
+}
+
 #[test]
 fn script_faults(rt: HostRuntime) {
-    assert!(rt; refused_at(&rt, b"") == Some(1));
-    assert!(rt; refused_at(&rt, b"robots 0\ntick 0\n") == Some(2));
-    assert!(rt; refused_at(&rt, b"robots 0\ntick 1000001\n") == Some(2));
-    assert!(rt; refused_at(&rt, b"robots 0\nlife 111111111111111111111\n") == Some(2));
-    assert!(rt; refused_at(&rt, b"robots 0\nlife 18446744073709551616\n") == Some(2));
-    assert!(rt; refused_at(&rt, b"tick\nrobots 0\n") == Some(2));
-    assert!(rt; refused_at(&rt, b"robots 1 2 3 4 5 6 7 8 9 10 11 12 13 14 15 16 17\n") == Some(1));
-    assert!(rt; refused_at(&rt, b"robots 0\nrobots 1\n") == Some(2));
-    assert!(rt; refused_at(&rt, b"robots 4294967296\n") == Some(1));
-    assert!(rt; refused_at(&rt, b"robots 0\n#\nwait\n") == Some(3));
+    check_faults(&rt, rt.alloc(), &FAULTS);
 }
 
 #[test]
 fn faults_of_closing_lines(rt: HostRuntime) {
-    assert!(rt; refused_at(&rt, b"ties south\nties plain\n") == Some(2));
-    assert!(rt; refused_at(&rt, b"ties east\nrobots 0\n") == Some(1));
-    assert!(rt; refused_at(&rt, b"robots 0\npost 0 close 0\n") == Some(2));
-    assert!(rt; refused_at(&rt, b"robots 0\npost 0 withdraw\n") == Some(2));
-    assert!(rt; refused_at(&rt, b"robots 0\npost 0 withdraw 1 2\n") == Some(2));
-    assert!(rt; refused_at(&rt, b"robots 0\npost 0 withdraw 18446744073709551615\n") == None);
-    assert!(rt; refused_at(&rt, b"robots 0\nturns 1000000\n") == None);
-    assert!(rt; refused_at(&rt, b"robots 0\nturns 0\n") == Some(2));
-    assert!(rt; refused_at(&rt, b"robots 0\nturns 1000001\n") == Some(2));
-    assert!(rt; refused_at(&rt, b"turns 1\nturns 1\n") == Some(2));
-    assert!(rt; refused_at(&rt, b"robots 0\nshut\n") == Some(2));
+    check_faults(&rt, rt.alloc(), &CLOSING_FAULTS);
 }
 
 #[test]

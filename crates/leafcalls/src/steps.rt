@@ -10,10 +10,11 @@ use fleet_grid::{Dir, Grid};
 use fleet_hooks::{TieHook, TieLaw, TieView};
 use fleet_pibt::{Goals, Stepper, order};
 use refusing::Refusing;
-use std::alloc::{AllocError, Allocator};
+use std::alloc::Allocator;
+use std::process::Abort;
+use std::slice;
 use std::sync::Arc;
 use std::sync::atomic::{AtomicU64, Ordering};
-use std::test::Fail;
 
 /// No robot has an errand.
 struct NoGoals;
@@ -102,13 +103,13 @@ fn step_idle(grid: &Grid, stepper: &mut Stepper, ties: &[TieHook]) -> u32
 }
 
 #[test]
-fn idle_robot_stays(rt: HostRuntime) -> Result<(), Fail> {
+fn idle_robot_stays(rt: HostRuntime) {
     let alloc = rt.alloc();
-    let grid = grid_of(alloc, 1, 2, b"..")?;
-    let mut stepper = Stepper::new(alloc, 2, 1)?;
-    let ties = [TieHook::new(TieLaw::ANY, Box::new(alloc, |_view: TieView| 0)?)];
-    assert!(rt; step_idle(&grid, &mut stepper, &ties) == 0);
-    Ok(())
+    let grid = grid_of(&rt, alloc, 1, 2, b"..");
+    let mut stepper = Stepper::new(alloc, 2, 1).expect(&rt, "memory for a step");
+    let tie = Box::new(alloc, |_view: TieView| 0).expect(&rt, "memory for a closure");
+    let tie = TieHook::new(TieLaw::ANY, tie);
+    assert!(rt; step_idle(&grid, &mut stepper, slice::from_ref(&tie)) == 0);
 }
 
 /// Where the lone robot of the map `..` goes from this cell, where it has waited so long. Its goal is cell 1.
@@ -140,44 +141,41 @@ fn step_east(
 }
 
 #[test]
-fn lone_robot_takes_its_goal(rt: HostRuntime) -> Result<(), Fail> {
+fn lone_robot_takes_its_goal(rt: HostRuntime) {
     let alloc = rt.alloc();
-    let grid = grid_of(alloc, 1, 2, b"..")?;
-    let mut stepper = Stepper::new(alloc, 2, 1)?;
-    let calls = Arc::new(alloc, AtomicU64::new(0))?;
-    let counted = Arc::try_clone(&calls)?;
+    let grid = grid_of(&rt, alloc, 1, 2, b"..");
+    let mut stepper = Stepper::new(alloc, 2, 1).expect(&rt, "memory for a step");
+    let calls = Arc::new(alloc, AtomicU64::new(0)).expect(&rt, "memory for a count");
+    let counted = Arc::try_clone(&calls).expect(&rt, "one more owner");
     let asked = move |_view: TieView| {
         counted.fetch_add(1, Ordering::SeqCst);
         7
     };
-    let ties = [TieHook::new(TieLaw::ANY, Box::new(alloc, asked)?)];
-    assert!(rt; step_east(&grid, &mut stepper, &ties, 0, 3, 1) == 1);
+    let tie = Box::new(alloc, asked).expect(&rt, "memory for a closure");
+    let tie = TieHook::new(TieLaw::ANY, tie);
+    assert!(rt; step_east(&grid, &mut stepper, slice::from_ref(&tie), 0, 3, 1) == 1);
     // The tie closure is asked once, about the one neighbour.
     assert!(rt; calls.load(Ordering::SeqCst) == 1);
-    assert!(rt; step_east(&grid, &mut stepper, &ties, 1, 4, 2) == 1);
-    Ok(())
+    assert!(rt; step_east(&grid, &mut stepper, slice::from_ref(&tie), 1, 4, 2) == 1);
 }
 
 /// Whether a growth is refused while the tables are made. They are made again then.
-fn is_refused(heap: impl Allocator + Copy) -> Result<bool, AllocError> {
-    if Stepper::new(heap, 9, 2).is_ok() {
-        return Ok(false);
-    }
-    let _stepper = Stepper::new(heap, 9, 2)?;
-    Ok(true)
+fn is_refused(rt: &impl Abort, heap: impl Allocator + Copy) -> bool {
+    let met = Stepper::new(heap, 9, 2).is_err();
+    assert!(rt; !met || Stepper::new(heap, 9, 2).is_ok());
+    met
 }
 
 /// Each growth is refused in turn, until the tables are made without a refusal.
 #[test]
-fn refused_growths(rt: HostRuntime) -> Result<(), Fail> {
+fn refused_growths(rt: HostRuntime) {
     let mut unrefused = None;
     for before in 0..9 {
-        if !is_refused(&Refusing::after(rt.alloc(), before))? {
+        if !is_refused(&rt, &Refusing::after(rt.alloc(), before)) {
             unrefused = Some(before);
             break;
         }
     }
     // Two tables, the queue and what the robots see.
     assert!(rt; unrefused == Some(4));
-    Ok(())
 }

@@ -11,7 +11,6 @@ use fleet_grid::Grid;
 use refusing::Refusing;
 use std::alloc::{AllocError, Allocator, Global};
 use std::process::Abort;
-use std::test::Fail;
 use std::thread::Threads;
 
 /// Holds the goal, asks how far the cell is, and releases the goal.
@@ -48,58 +47,59 @@ fn is_kept<A: Allocator + Copy>(shelf: &mut Shelf<A>, goal: u32) -> bool {
 /// Visits cell 0 and then another: how far that is from cell 8, and whether the field of cell 0 is kept then; none where
 /// the first visit is refused.
 fn visit_both<A: Allocator + Copy>(
+    rt: &impl Abort,
     store: &mut FieldStore<A>,
     shelf: &mut Shelf<A>,
     grid: &Grid,
     other: u32,
-) -> Result<Option<(Option<u32>, bool)>, AllocError>
+) -> Option<(Option<u32>, bool)>
     requires zero { IsFloor grid.now 0 }
     requires other { IsFloor grid.now other }
     requires serves { Serves grid.now store.old }
     requires keeps { Keeps grid.now shelf.old }
 {
-    let Ok(_) = visit(store, shelf, grid, 0, 8) else {
-        return Ok(None);
-    };
-    let away = visit(store, shelf, grid, other, 8)?;
-    Ok(Some((away, is_kept(shelf, 0))))
+    if visit(store, shelf, grid, 0, 8).is_err() {
+        return None;
+    }
+    let away = visit(store, shelf, grid, other, 8).expect(rt, "memory for a field");
+    Some((away, is_kept(shelf, 0)))
 }
 
 /// Two visits of which one growth is refused, which comes after `before` others.
 fn visit_both_after(
+    rt: &impl Abort,
     alloc: Global,
     before: u64,
     grid: &Grid,
     other: u32,
-) -> Result<Option<(Option<u32>, bool)>, AllocError>
+) -> Option<(Option<u32>, bool)>
     requires zero { IsFloor grid.now 0 }
     requires other { IsFloor grid.now other }
 {
     let heap = Refusing::after(alloc, before);
-    let mut store = FieldStore::new(&heap)?;
+    let mut store = FieldStore::new(&heap).expect(rt, "memory for a store");
     let mut shelf = Shelf::new(&heap, 4096);
-    visit_both(&mut store, &mut shelf, grid, other)
+    visit_both(rt, &mut store, &mut shelf, grid, other)
 }
 
 /// Where no growth was left behind the first visit, one in a second visit of the same cell would be refused.
 #[test]
-fn held_again_without_memory(rt: HostRuntime) -> Result<(), Fail> {
-    let grid = ring(&rt, rt.alloc())?;
+fn held_again_without_memory(rt: HostRuntime) {
+    let grid = ring(&rt, rt.alloc());
     for before in 0..16 {
-        if let Some(again) = visit_both_after(rt.alloc(), before, &grid, 0)? {
+        if let Some(again) = visit_both_after(&rt, rt.alloc(), before, &grid, 0) {
             assert!(rt; again == (Some(4), true));
         }
     }
-    Ok(())
 }
 
 /// Whatever growth of a search is refused, the search is made where a field was kept, which goes.
 #[test]
-fn kept_goes_before_want_of_memory(rt: HostRuntime) -> Result<(), Fail> {
-    let grid = ring(&rt, rt.alloc())?;
+fn kept_goes_before_want_of_memory(rt: HostRuntime) {
+    let grid = ring(&rt, rt.alloc());
     let mut gone = 0;
     for before in 0..16 {
-        if let Some((away, is_kept)) = visit_both_after(rt.alloc(), before, &grid, 2)? {
+        if let Some((away, is_kept)) = visit_both_after(&rt, rt.alloc(), before, &grid, 2) {
             assert!(rt; away == Some(2));
             if !is_kept {
                 gone = before;
@@ -107,7 +107,6 @@ fn kept_goes_before_want_of_memory(rt: HostRuntime) -> Result<(), Fail> {
         }
     }
     assert!(rt; gone > 0);
-    Ok(())
 }
 
 /// Whether the fields of cells 2, 0 and 8 are kept.
@@ -117,31 +116,31 @@ fn take_corners(shelf: &mut Shelf) -> [bool; 3] {
 
 /// Visits cells 0 and 2, then cell 0 again, and then cell 8.
 fn visit_corners(
+    rt: &impl Abort,
     store: &mut FieldStore,
     shelf: &mut Shelf,
     grid: &Grid,
-) -> Result<[bool; 3], AllocError>
+) -> [bool; 3]
     requires zero { IsFloor grid.now 0 }
     requires two { IsFloor grid.now 2 }
     requires eight { IsFloor grid.now 8 }
     requires serves { Serves grid.now store.old }
     requires keeps { Keeps grid.now shelf.old }
 {
-    let _first = visit(store, shelf, grid, 0, 8)?;
-    let _second = visit(store, shelf, grid, 2, 8)?;
-    let _again = visit(store, shelf, grid, 0, 8)?;
-    let _third = visit(store, shelf, grid, 8, 8)?;
-    Ok(take_corners(shelf))
+    let _first = visit(store, shelf, grid, 0, 8).expect(rt, "memory for a field");
+    let _second = visit(store, shelf, grid, 2, 8).expect(rt, "memory for a field");
+    let _again = visit(store, shelf, grid, 0, 8).expect(rt, "memory for a field");
+    let _third = visit(store, shelf, grid, 8, 8).expect(rt, "memory for a field");
+    take_corners(shelf)
 }
 
 /// Two fields of nine cells have place.
 #[test]
-fn longest_unused_goes_first(rt: HostRuntime) -> Result<(), Fail> {
-    let grid = ring(&rt, rt.alloc())?;
-    let mut store = FieldStore::new(rt.alloc())?;
+fn longest_unused_goes_first(rt: HostRuntime) {
+    let grid = ring(&rt, rt.alloc());
+    let mut store = FieldStore::new(rt.alloc()).expect(&rt, "memory for a store");
     let mut shelf = Shelf::new(rt.alloc(), 26);
-    assert!(rt; visit_corners(&mut store, &mut shelf, &grid)? == [false, true, true]);
-    Ok(())
+    assert!(rt; visit_corners(&rt, &mut store, &mut shelf, &grid) == [false, true, true]);
 }
 
 /// Whether all these goals have a kept field where two fields have place.
@@ -150,20 +149,22 @@ fn is_searched(
     shelf: &mut Shelf,
     grid: &Grid,
     goals: &[u32],
-) -> Result<bool, AllocError>
+) -> bool
     requires { Keeps grid.now shelf.old }
     ensures { Keeps grid.now shelf.new }
 {
     assert!(rt; are_floor(grid, goals));
-    shelf.search_ahead(rt, grid, goals)
+    shelf
+        .search_ahead(rt, grid, goals)
+        .expect(rt, "memory for fields")
 }
 
-fn visit_searched(alloc: Global, shelf: &mut Shelf, grid: &Grid) -> Result<Option<u32>, AllocError>
+fn visit_searched(rt: &impl Abort, alloc: Global, shelf: &mut Shelf, grid: &Grid) -> Option<u32>
     requires floor { IsFloor grid.now 8 }
     requires keeps { Keeps grid.now shelf.old }
 {
-    let mut store = FieldStore::new(alloc)?;
-    visit(&mut store, shelf, grid, 8, 0)
+    let mut store = FieldStore::new(alloc).expect(rt, "memory for a store");
+    visit(&mut store, shelf, grid, 8, 0).expect(rt, "memory for a field")
 }
 
 fn search_and_visit(
@@ -171,59 +172,50 @@ fn search_and_visit(
     alloc: Global,
     shelf: &mut Shelf,
     grid: &Grid,
-) -> Result<(), Fail>
+)
     requires floor { IsFloor grid.now 8 }
     requires keeps { Keeps grid.now shelf.old }
 {
-    assert!(rt; is_searched(rt, shelf, grid, &[0, 2])?);
-    assert!(rt; !is_searched(rt, shelf, grid, &[0, 8, 2])?);
-    assert!(rt; visit_searched(alloc, shelf, grid)? == Some(4));
+    assert!(rt; is_searched(rt, shelf, grid, &[0, 2]));
+    assert!(rt; !is_searched(rt, shelf, grid, &[0, 8, 2]));
+    assert!(rt; visit_searched(rt, alloc, shelf, grid) == Some(4));
     assert!(rt; take_corners(shelf) == [false, true, true]);
-    Ok(())
 }
 
 /// Two fields have place. What was searched ahead is found, and the longest unused of other goals made way.
 #[test]
-fn searched_ahead(rt: HostRuntime) -> Result<(), Fail> {
-    let grid = ring(&rt, rt.alloc())?;
+fn searched_ahead(rt: HostRuntime) {
+    let grid = ring(&rt, rt.alloc());
     let mut shelf = Shelf::new(rt.alloc(), 26);
-    search_and_visit(&rt, rt.alloc(), &mut shelf, &grid)
+    search_and_visit(&rt, rt.alloc(), &mut shelf, &grid);
 }
 
 /// Whether a field is kept until fewer bytes are.
-fn keep_less(alloc: Global, store: &mut FieldStore, grid: &Grid) -> Result<bool, AllocError>
+fn keep_less(rt: &impl Abort, alloc: Global, store: &mut FieldStore, grid: &Grid) -> bool
     requires floor { IsFloor grid.now 0 }
     requires serves { Serves grid.now store.old }
     ensures serves { Serves grid.now store.new }
 {
     let mut shelf = Shelf::new(alloc, 4096);
-    let _kept = visit(store, &mut shelf, grid, 0, 8)?;
+    let _kept = visit(store, &mut shelf, grid, 0, 8).expect(rt, "memory for a field");
     shelf.keep(8);
-    Ok(is_kept(&mut shelf, 0))
+    is_kept(&mut shelf, 0)
 }
 
 /// Whether a field is kept in too few bytes for one.
-fn keep_none(alloc: Global, store: &mut FieldStore, grid: &Grid) -> Result<bool, AllocError>
+fn keep_none(rt: &impl Abort, alloc: Global, store: &mut FieldStore, grid: &Grid) -> bool
     requires floor { IsFloor grid.now 2 }
     requires serves { Serves grid.now store.old }
 {
     let mut small = Shelf::new(alloc, 8);
-    let _gone = visit(store, &mut small, grid, 2, 8)?;
-    Ok(is_kept(&mut small, 2))
-}
-
-fn are_kept(alloc: Global, grid: &Grid) -> Result<[bool; 2], AllocError>
-    requires zero { IsFloor grid.now 0 }
-    requires two { IsFloor grid.now 2 }
-{
-    let mut store = FieldStore::new(alloc)?;
-    let kept = keep_less(alloc, &mut store, grid)?;
-    Ok([kept, keep_none(alloc, &mut store, grid)?])
+    let _gone = visit(store, &mut small, grid, 2, 8).expect(rt, "memory for a field");
+    is_kept(&mut small, 2)
 }
 
 #[test]
-fn nothing_is_kept(rt: HostRuntime) -> Result<(), Fail> {
-    let grid = ring(&rt, rt.alloc())?;
-    assert!(rt; are_kept(rt.alloc(), &grid)? == [false, false]);
-    Ok(())
+fn nothing_is_kept(rt: HostRuntime) {
+    let grid = ring(&rt, rt.alloc());
+    let mut store = FieldStore::new(rt.alloc()).expect(&rt, "memory for a store");
+    assert!(rt; !keep_less(&rt, rt.alloc(), &mut store, &grid));
+    assert!(rt; !keep_none(&rt, rt.alloc(), &mut store, &grid));
 }

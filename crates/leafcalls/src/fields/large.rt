@@ -6,31 +6,24 @@ use fleet_field::{Field, fields};
 use fleet_grid::Grid;
 use std::alloc::Global;
 use std::process::Abort;
-use std::test::Fail;
 use std::thread::Threads;
 
-fn open_map(alloc: Global) -> Result<Grid, Fail> {
-    let cells = letters(alloc, 1024, Shape::Open)?;
-    grid_of(alloc, 1024, 1024, &cells)
+fn open_map(rt: &impl Abort, alloc: Global) -> Grid {
+    let cells = letters(alloc, 1024, Shape::Open).expect(rt, "memory for a map");
+    grid_of(rt, alloc, 1024, 1024, &cells)
 }
 
 /// The distance of a cell to cell 0.
-fn distance_from(
-    rt: &impl Abort,
-    alloc: Global,
-    grid: &Grid,
-    cell: u32,
-) -> Result<Option<u32>, Fail> {
+fn distance_from(rt: &impl Abort, alloc: Global, grid: &Grid, cell: u32) -> Option<u32> {
     assert!(rt; grid.is_floor(0));
-    let field = Field::from(alloc, grid, 0)?;
-    Ok(field.at(cell))
+    let field = Field::from(alloc, grid, 0).expect(rt, "memory for a field");
+    field.at(cell)
 }
 
 #[test]
-fn large_open_map(rt: HostRuntime) -> Result<(), Fail> {
-    let grid = open_map(rt.alloc())?;
-    assert!(rt; distance_from(&rt, rt.alloc(), &grid, 1048575)? == Some(2046));
-    Ok(())
+fn large_open_map(rt: HostRuntime) {
+    let grid = open_map(&rt, rt.alloc());
+    assert!(rt; distance_from(&rt, rt.alloc(), &grid, 1048575) == Some(2046));
 }
 
 /// The distances between two cells, from two fields that are searched side by side.
@@ -40,18 +33,17 @@ fn distances_between(
     grid: &Grid,
     a: u32,
     b: u32,
-) -> Result<[Option<u32>; 2], Fail> {
+) -> [Option<u32>; 2] {
     let goals = [a, b];
     assert!(rt; are_floor(grid, &goals));
-    let both = fields(rt, alloc, grid, &goals)?;
+    let both = fields(rt, alloc, grid, &goals).expect(rt, "memory for fields");
     assert!(rt; both.len() == 2);
-    Ok([both[0].at(b), both[1].at(a)])
+    [both[0].at(b), both[1].at(a)]
 }
 
 #[test]
-fn large_map_side_by_side(rt: HostRuntime) -> Result<(), Fail> {
-    let grid = open_map(rt.alloc())?;
-    let both = distances_between(&rt, rt.alloc(), &grid, 0, 1048575)?;
+fn large_map_side_by_side(rt: HostRuntime) {
+    let grid = open_map(&rt, rt.alloc());
+    let both = distances_between(&rt, rt.alloc(), &grid, 0, 1048575);
     assert!(rt; both == [Some(2046), Some(2046)]);
-    Ok(())
 }

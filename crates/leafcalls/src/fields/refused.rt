@@ -11,44 +11,38 @@ use fleet_grid::Grid;
 use refusing::Refusing;
 use std::alloc::{Allocator, Global};
 use std::process::Abort;
-use std::test::Fail;
 use std::thread::Threads;
 
 /// Holds cell 0 while one growth is refused, and once more. Whether one was refused.
-fn hold_twice<A: Allocator + Copy>(
-    rt: &impl Abort,
-    store: &mut FieldStore<A>,
-    grid: &Grid,
-) -> Result<bool, Fail>
+fn hold_twice<A: Allocator + Copy>(rt: &impl Abort, store: &mut FieldStore<A>, grid: &Grid) -> bool
     requires floor { IsFloor grid.now 0 }
     requires serves { Serves grid.now store.old }
 {
     let met = hold(store, grid, 0).is_err();
-    let key = hold(store, grid, 0)?;
+    let key = hold(store, grid, 0).expect(rt, "memory for a field");
     assert!(rt; store.at(key, 8) == Some(4));
-    Ok(met)
+    met
 }
 
-fn is_refused(rt: &impl Abort, alloc: Global, before: u64, grid: &Grid) -> Result<bool, Fail>
+fn is_refused(rt: &impl Abort, alloc: Global, before: u64, grid: &Grid) -> bool
     requires { IsFloor grid.now 0 }
 {
     let heap = Refusing::after(alloc, before);
-    let mut store = FieldStore::new(&heap)?;
+    let mut store = FieldStore::new(&heap).expect(rt, "memory for a store");
     hold_twice(rt, &mut store, grid)
 }
 
 #[test]
-fn refused_growths(rt: HostRuntime) -> Result<(), Fail> {
-    let grid = ring(&rt, rt.alloc())?;
+fn refused_growths(rt: HostRuntime) {
+    let grid = ring(&rt, rt.alloc());
     let mut unrefused = None;
     for before in 0..32 {
-        if !is_refused(&rt, rt.alloc(), before, &grid)? {
+        if !is_refused(&rt, rt.alloc(), before, &grid) {
             unrefused = Some(before);
             break;
         }
     }
     assert!(rt; unrefused.is_some());
-    Ok(())
 }
 
 fn check_ends<A: Allocator + Copy>(rt: &impl Abort, store: &FieldStore<A>, keys: &[usize]) {
@@ -61,16 +55,18 @@ fn hold_all_twice<A: Allocator + Copy + Send + Sync>(
     rt: &(impl Abort + Threads + Sync),
     store: &mut FieldStore<A>,
     grid: &Grid,
-) -> Result<bool, Fail>
+) -> bool
     requires { store.old ≡ [] }
 {
     assert!(rt; are_floor(grid, &SHARED));
     if store.hold_all(rt, grid, &SHARED).is_ok() {
-        return Ok(false);
+        return false;
     }
-    let keys = store.hold_all(rt, grid, &SHARED)?;
+    let keys = store
+        .hold_all(rt, grid, &SHARED)
+        .expect(rt, "memory for fields");
     check_ends(rt, store, &keys);
-    Ok(true)
+    true
 }
 
 fn are_refused(
@@ -78,22 +74,21 @@ fn are_refused(
     alloc: Global,
     before: u64,
     grid: &Grid,
-) -> Result<bool, Fail> {
+) -> bool {
     let heap = Refusing::after(alloc, before);
-    let mut store = FieldStore::new(&heap)?;
+    let mut store = FieldStore::new(&heap).expect(rt, "memory for a store");
     hold_all_twice(rt, &mut store, grid)
 }
 
 #[test]
-fn refused_growths_of_several(rt: HostRuntime) -> Result<(), Fail> {
-    let grid = ring(&rt, rt.alloc())?;
+fn refused_growths_of_several(rt: HostRuntime) {
+    let grid = ring(&rt, rt.alloc());
     let mut unrefused = None;
     for before in 0..32 {
-        if !are_refused(&rt, rt.alloc(), before, &grid)? {
+        if !are_refused(&rt, rt.alloc(), before, &grid) {
             unrefused = Some(before);
             break;
         }
     }
     assert!(rt; unrefused.is_some());
-    Ok(())
 }

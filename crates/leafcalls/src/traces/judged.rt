@@ -3,9 +3,9 @@
 use crate::floor::grid_of;
 use fleet_grid::Grid;
 use fleet_trace::{JudgeFault, judge, read_trace};
-use std::alloc::Global;
+use std::alloc::{AllocError, Global};
+use std::fmt::Write;
 use std::process::Abort;
-use std::test::Fail;
 
 /// An errand to the robot's own cell, and its arrival.
 const ONE_CELL: &str =
@@ -32,61 +32,56 @@ const LATE: &str =
     "{\"chapter\":4294967295,\"entries\":[[\"tick\",[1],[[0,0,1,0]],[]],[\"tick\",[1],[],[]]],\"opening\":{\"clients\":[[1,1,1,false]],\"life\":1,\"queue\":65536,\"robots\":[[0,false,18446744073709551615,[[0,1,1]],[0,0],[0,0]]],\"tick\":18446744073709551615},\"version\":2}";
 
 /// What is judged of the trace on a map.
-fn judged(alloc: Global, grid: &Grid, text: &str) -> Result<Result<(), JudgeFault>, Fail> {
-    let chapter = read_trace(alloc, text.as_bytes())?;
-    Ok(judge(alloc, grid, &chapter))
+fn judged(rt: &impl Abort, alloc: Global, grid: &Grid, text: &str) -> Result<(), JudgeFault> {
+    let chapter = read_trace(alloc, text.as_bytes()).expect(rt, "a trace");
+    judge(alloc, grid, &chapter)
 }
 
 /// Legal traces on a row of three cells.
 const LEGAL: [&str; 4] = [SECOND_CHAPTER, WITHDRAWALS, SHUT, LATE];
 
-fn check_legal(
-    rt: &impl Abort,
-    alloc: Global,
-    width: u32,
-    cells: &[u8],
-    texts: &[&str],
-) -> Result<(), Fail> {
-    let row = grid_of(alloc, 1, width, cells)?;
+fn check_legal(rt: &impl Abort, alloc: Global, width: u32, cells: &[u8], texts: &[&str]) {
+    let row = grid_of(rt, alloc, 1, width, cells);
     for at in 0..texts.len() {
-        assert!(rt; judged(alloc, &row, texts[at])? == Ok(()));
+        assert!(rt; judged(rt, alloc, &row, texts[at]) == Ok(()));
     }
-    Ok(())
 }
 
 #[test]
-fn legal_traces(rt: HostRuntime) -> Result<(), Fail> {
-    check_legal(&rt, rt.alloc(), 1, b".", &[ONE_CELL])?;
-    check_legal(&rt, rt.alloc(), 3, b"...", &LEGAL)
+fn legal_traces(rt: HostRuntime) {
+    check_legal(&rt, rt.alloc(), 1, b".", &[ONE_CELL]);
+    check_legal(&rt, rt.alloc(), 3, b"...", &LEGAL);
 }
 
 #[test]
-fn judged_swap(rt: HostRuntime) -> Result<(), Fail> {
-    let square = grid_of(rt.alloc(), 2, 2, b"....")?;
+fn judged_swap(rt: HostRuntime) {
+    let square = grid_of(&rt, rt.alloc(), 2, 2, b"....");
     let fault = Err(JudgeFault::Illegal { at: 1, rule: 4 });
-    assert!(rt; judged(rt.alloc(), &square, SWAP)? == fault);
-    Ok(())
+    assert!(rt; judged(&rt, rt.alloc(), &square, SWAP) == fault);
 }
 
-/// The trace of 512 robots side by side, with the largest limits and these clients.
-fn crowd(alloc: Global, clients: &str) -> Result<String, Fail> {
-    let mut text = String::new(alloc);
+/// Writes the trace of 512 robots side by side, with the largest limits and these clients.
+fn write_crowd(text: &mut String, clients: &str) -> Result<(), AllocError> {
     text.push_str("{\"chapter\":0,\"entries\":[],\"opening\":{\"clients\":")?;
     text.push_str(clients)?;
     text.push_str(
         ",\"life\":1099511627776,\"queue\":65536,\"robots\":[[0,false,null,[],[0,0],[0,0]]",
     )?;
     for robot in 1..512u32 {
-        let state = format!(in alloc; ",[{robot},false,null,[],[0,0],[0,0]]")?;
-        text.push_str(&state)?;
+        write!(text, ",[{robot},false,null,[],[0,0],[0,0]]")?;
     }
-    text.push_str("],\"tick\":0},\"version\":2}")?;
-    Ok(text)
+    text.push_str("],\"tick\":0},\"version\":2}")
 }
 
-fn judged_crowd(alloc: Global, grid: &Grid, clients: &str) -> Result<Result<(), JudgeFault>, Fail> {
-    let text = crowd(alloc, clients)?;
-    judged(alloc, grid, &text)
+fn judged_crowd(
+    rt: &impl Abort,
+    alloc: Global,
+    grid: &Grid,
+    clients: &str,
+) -> Result<(), JudgeFault> {
+    let mut text = String::new(alloc);
+    write_crowd(&mut text, clients).expect(rt, "memory for a trace");
+    judged(rt, alloc, grid, &text)
 }
 
 /// Clients of a crowd, and what is judged.
@@ -99,22 +94,25 @@ const CROWDS: [(&str, Result<(), JudgeFault>); 2] = [
 ];
 
 #[test]
-fn hostile_openings(rt: HostRuntime) -> Result<(), Fail> {
-    let long = grid_of(rt.alloc(), 1, 512, &[b'.'; 512])?;
+fn hostile_openings(rt: HostRuntime) {
+    let long = grid_of(&rt, rt.alloc(), 1, 512, &[b'.'; 512]);
     for (clients, said) in CROWDS {
-        assert!(rt; judged_crowd(rt.alloc(), &long, clients)? == said);
+        assert!(rt; judged_crowd(&rt, rt.alloc(), &long, clients) == said);
     }
-    Ok(())
+}
+
+fn check_broken(rt: &impl Abort, alloc: Global, row: &Grid, traces: &[(&str, u64, u8)]) {
+    for number in 0..traces.len() {
+        let (text, at, rule) = traces[number];
+        let fault = Err(JudgeFault::Illegal { at, rule });
+        assert!(rt; judged(rt, alloc, row, text) == fault);
+    }
 }
 
 #[test]
-fn each_rule(rt: HostRuntime) -> Result<(), Fail> {
-    let row = grid_of(rt.alloc(), 1, 3, b"...")?;
-    for (text, at, rule) in BROKEN {
-        let fault = Err(JudgeFault::Illegal { at, rule });
-        assert!(rt; judged(rt.alloc(), &row, text)? == fault);
-    }
-    Ok(())
+fn each_rule(rt: HostRuntime) {
+    let row = grid_of(&rt, rt.alloc(), 1, 3, b"...");
+    check_broken(&rt, rt.alloc(), &row, &BROKEN);
 }
 
 /// Traces on a row of three cells, each with its first illegal entry and the first rule that it breaks.

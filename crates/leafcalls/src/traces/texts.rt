@@ -4,9 +4,8 @@ use fleet_book::{Order, Verdict};
 use fleet_history::{Arrival, Chapter, ClientState, Entry, Opening, RobotState, Row};
 use fleet_hooks::StampLaw;
 use fleet_trace::{TraceFault, read_trace, write_and_read, write_trace};
-use std::alloc::{AllocError, Global};
+use std::alloc::Global;
 use std::process::Abort;
-use std::test::Fail;
 
 const ONE_CELL: &str =
     "{\"chapter\":0,\"entries\":[[\"take\",0,[\"go\",0,0],[\"accepted\",1]],[\"tick\",[0],[[0,0,1,0]],[]]],\"opening\":{\"clients\":[[0,0,0,false]],\"life\":1000000,\"queue\":16,\"robots\":[[0,false,null,[],[0,0],[0,0]]],\"tick\":0},\"version\":2}";
@@ -54,8 +53,8 @@ const ARRIVAL: Arrival = Arrival {
 };
 
 /// One robot, on cell 0.
-fn lone_robot(alloc: Global) -> Result<Row<RobotState>, AllocError> {
-    let mut robots = Vec::with_capacity(alloc, 1)?;
+fn lone_robot(rt: &impl Abort, alloc: Global) -> Row<RobotState> {
+    let mut robots = Vec::with_capacity(alloc, 1).expect(rt, "memory for a robot");
     robots.push_reserved(RobotState {
         cell: 0,
         shut: false,
@@ -64,49 +63,46 @@ fn lone_robot(alloc: Global) -> Result<Row<RobotState>, AllocError> {
         arrival_law: LAW,
         farewell_law: LAW,
     });
-    Ok(Row::from_vec(robots))
+    Row::from_vec(robots)
 }
 
 /// The tick of an arrival.
-fn arrival_tick(alloc: Global) -> Result<Entry, AllocError> {
-    let to = Vec::from_slice(alloc, &[0])?;
-    let arrived = Vec::from_slice(alloc, &[ARRIVAL])?;
-    Ok(Entry::Tick {
+fn arrival_tick(rt: &impl Abort, alloc: Global) -> Entry {
+    let to = Vec::from_slice(alloc, &[0]).expect(rt, "memory for a cell");
+    let arrived = Vec::from_slice(alloc, &[ARRIVAL]).expect(rt, "memory for an arrival");
+    Entry::Tick {
         to: Row::from_vec(to),
         arrived: Row::from_vec(arrived),
         farewells: Row::new(alloc),
-    })
+    }
 }
 
 /// An errand is taken, and arrives at the first tick.
-fn errand_and_arrival(alloc: Global) -> Result<Vec<Entry>, AllocError> {
-    let mut entries = Vec::with_capacity(alloc, 2)?;
-    let tick = arrival_tick(alloc)?;
+fn errand_and_arrival(rt: &impl Abort, alloc: Global) -> Vec<Entry> {
+    let mut entries = Vec::with_capacity(alloc, 2).expect(rt, "memory for entries");
     entries.push_reserved(Entry::Take {
         client: 0,
         order: Order::Go { robot: 0, cell: 0 },
         verdict: Verdict::Accepted(1),
     });
-    entries.push_reserved(tick);
-    Ok(entries)
+    entries.push_reserved(arrival_tick(rt, alloc));
+    entries
 }
 
 /// The one cell's chapter.
-fn one_cell(alloc: Global) -> Result<Chapter, AllocError> {
-    let clients = Row::from_vec(Vec::from_slice(alloc, &[CLIENT])?);
-    let robots = lone_robot(alloc)?;
-    let entries = errand_and_arrival(alloc)?;
-    Ok(Chapter {
+fn one_cell(rt: &impl Abort, alloc: Global) -> Chapter {
+    let clients = Vec::from_slice(alloc, &[CLIENT]).expect(rt, "memory for a client");
+    Chapter {
         number: 0,
         opening: Opening {
             tick: 0,
             queue: 16,
             life: 1_000_000,
-            clients,
-            robots,
+            clients: Row::from_vec(clients),
+            robots: lone_robot(rt, alloc),
         },
-        entries,
-    })
+        entries: errand_and_arrival(rt, alloc),
+    }
 }
 
 fn fault_of(alloc: Global, bytes: &[u8]) -> Option<TraceFault> {
@@ -114,22 +110,22 @@ fn fault_of(alloc: Global, bytes: &[u8]) -> Option<TraceFault> {
 }
 
 /// Whether that is written of the chapter.
-fn is_written_as(alloc: Global, chapter: &Chapter, text: &str) -> Result<bool, Fail> {
-    Ok(write_trace(alloc, chapter)?.as_str() == text)
+fn is_written_as(rt: &impl Abort, alloc: Global, chapter: &Chapter, text: &str) -> bool {
+    let written = write_trace(alloc, chapter).expect(rt, "memory for a trace");
+    written.as_str() == text
 }
 
 /// Whether that is written of a chapter that was written and read.
-fn is_written_again_as(alloc: Global, chapter: &Chapter, text: &str) -> Result<bool, Fail> {
-    let again = write_and_read(alloc, chapter)?;
-    is_written_as(alloc, &again, text)
+fn is_written_again_as(rt: &impl Abort, alloc: Global, chapter: &Chapter, text: &str) -> bool {
+    let again = write_and_read(alloc, chapter).expect(rt, "memory for a chapter");
+    is_written_as(rt, alloc, &again, text)
 }
 
 #[test]
-fn one_cell_trace(rt: HostRuntime) -> Result<(), Fail> {
-    let chapter = one_cell(rt.alloc())?;
-    let first = is_written_as(rt.alloc(), &chapter, ONE_CELL)?;
-    assert!(rt; first && is_written_again_as(rt.alloc(), &chapter, ONE_CELL)?);
-    Ok(())
+fn one_cell_trace(rt: HostRuntime) {
+    let chapter = one_cell(&rt, rt.alloc());
+    assert!(rt; is_written_as(&rt, rt.alloc(), &chapter, ONE_CELL));
+    assert!(rt; is_written_again_as(&rt, rt.alloc(), &chapter, ONE_CELL));
 }
 
 /// Texts, and what is written of the chapters that they tell: white space and the order of keys are free, and a text of
@@ -143,17 +139,21 @@ const WRITTEN: [(&str, &str); 6] = [
     (SHUTS, SHUTS),
 ];
 
-fn is_rewritten_as(alloc: Global, text: &str, written: &str) -> Result<bool, Fail> {
-    let chapter = read_trace(alloc, text.as_bytes())?;
-    is_written_as(alloc, &chapter, written)
+fn is_rewritten_as(rt: &impl Abort, alloc: Global, text: &str, written: &str) -> bool {
+    let chapter = read_trace(alloc, text.as_bytes()).expect(rt, "a trace");
+    is_written_as(rt, alloc, &chapter, written)
+}
+
+fn check_rewritten(rt: &impl Abort, alloc: Global, texts: &[(&str, &str)]) {
+    for at in 0..texts.len() {
+        let (text, written) = texts[at];
+        assert!(rt; is_rewritten_as(rt, alloc, text, written));
+    }
 }
 
 #[test]
-fn texts_read_back(rt: HostRuntime) -> Result<(), Fail> {
-    for (text, written) in WRITTEN {
-        assert!(rt; is_rewritten_as(rt.alloc(), text, written)?);
-    }
-    Ok(())
+fn texts_read_back(rt: HostRuntime) {
+    check_rewritten(&rt, rt.alloc(), &WRITTEN);
 }
 
 #[test]
@@ -191,11 +191,10 @@ fn hostile_traces(rt: HostRuntime) {
 }
 
 #[test]
-fn nested_too_deep(rt: HostRuntime) -> Result<(), Fail> {
-    let mut nested = vec![in rt.alloc(); b'['; 128]?;
+fn nested_too_deep(rt: HostRuntime) {
+    let mut nested = vec![in rt.alloc(); b'['; 128].expect(&rt, "memory for a text");
     for _ in 0..128 {
-        nested.push(b']')?;
+        nested.push(b']').expect(&rt, "memory for a text");
     }
     assert!(rt; fault_of(rt.alloc(), &nested) == Some(TraceFault::NotJson));
-    Ok(())
 }
