@@ -1,5 +1,5 @@
 -- When a serve answers a fault of its opening.
-use Rattle.std.proofs.Common.{◌≡◌, ◌∙◌, ℕ, inl, inr, List, Result, Ok, Err, refl, sym, ap, subst}
+use Rattle.std.proofs.Common.{◌≡◌, ◌∙◌, ℕ, inl, List, Result, Ok, Err, refl, sym, ap, subst}
 use Rattle.std.specs.Prelude.{◌⊎◌, ◌↔◌, IfErr}
 use Rattle.fleet_grid.specs.Floor.{Floor}
 use Rattle.fleet_book.specs.declared.limits.Limits.{Limits}
@@ -51,6 +51,13 @@ module _ (m : Floor) (starts others : List ℕ) (clients count : ℕ) (limits sa
       let e : ◌≡◌ {A = Result P OpenFault} (Err fault) (Err f) = (exact f n).1 (to-names f why) in
       let q : fault ≡ f = cc in
       inl (ap (λ (x : ServeFault). Err x) (is (subst (λ (x : OpenFault). IsNamed x) (sym q) n) ∙ ap (λ (x : OpenFault). Opening x) q))
+
+  pub refused-err : {S P : Type 0} (fault : OpenFault) (told : ServeFault) → ((f : OpenFault) → IsNamed f → ((◌≡◌ {A = Result P OpenFault} (Err fault) (Err f)) ↔ IsRefused m others count same laws f))
+      → ((f : OpenFault) → told ≡ Opening f → (f ≡ fault) × IsNamed fault) → (f : OpenFault) → ◌≡◌ {A = Result S ServeFault} (Err told) (Err (Opening f)) → IsRefused m starts clients limits laws f
+  refused-err {S} {P} fault told exact only f is =
+      let q : told ≡ Opening f = cc in
+      let o = only f q in
+      subst (λ (x : OpenFault). IsRefused m starts clients limits laws x) (sym o.0) (by-names fault ((exact fault o.1).0 refl))
 
   -- one that is
   pub opens-ok : {P : Type 0} (opened : P) → ((f : OpenFault) → IsNamed f → ((◌≡◌ {A = Result P OpenFault} (Ok opened) (Err f)) ↔ IsRefused m others count same laws f))

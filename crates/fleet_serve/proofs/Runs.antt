@@ -109,9 +109,9 @@ pub keeps-all : {A : Type 0} (x : ClientView A) → KeepsSent x x
 keeps-all x = record { number = refl; orders = refl; sent = refl }
 
 -- the line at this place is run, and then all have been
-pub run-next : {A : Type 0} (events : List Event) (most : ℕ) (y : ClientView A) (at : ℕ) (event : Event) (full : ℕ) → at < length events → event ≡ slice_index_or events at event →
-    HasRun (take at events ++ event ∷ []) most y full → HasRun (take (at + 1) events) most y full
-run-next events most y at event full inside is run = subst (λ es. HasRun es most y full) (sym (take_more events at event inside ∙ ap (λ e. take at events ++ e ∷ []) (sym is))) run
+pub run-next : {A : Type 0} (events : List Event) (most : ℕ) (y : ClientView A) (at : ℕ) (event : Event) (full : ℕ) → at < length events →
+    HasRun (take at events ++ slice_index_or events at event ∷ []) most y full → HasRun (take (at + 1) events) most y full
+run-next events most y at event full inside run = subst (λ es. HasRun es most y full) (sym (take_more events at event inside)) run
 
 pub run-all : {A : Type 0} (events all : List Event) (most : ℕ) (y : ClientView A) (at : ℕ) (full : ℕ) → length events ≤ at → events ≡ all →
     HasRun (take at events) most y full → HasRun all most y full

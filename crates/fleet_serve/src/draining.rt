@@ -14,7 +14,7 @@ use std::sync::Wait;
 const MOST_TURNS: u32 = 1_000_000;
 
 /// Why a serve ends with this fault of a turn.
-pub(crate) fn fault_of(cause: TurnCause) -> ServeFault
+fn fault_of(cause: TurnCause) -> ServeFault
     ensures { IsLater result }
 {
     match cause {
@@ -44,7 +44,7 @@ fn turn<N: ScriptName, R: Alloc<A = Global> + Wait>(
 }
 
 /// Turns until one takes nothing and holds nobody, which empties the lanes.
-pub(crate) fn drain<N: ScriptName, R: Alloc<A = Global> + Wait>(
+fn drain<N: ScriptName, R: Alloc<A = Global> + Wait>(
     rt: &R,
     office: &Office<N>,
     ticker: &mut Ticker<N>,
@@ -62,7 +62,7 @@ pub(crate) fn drain<N: ScriptName, R: Alloc<A = Global> + Wait>(
 }
 
 /// On a bridgeless map, turns until nobody has an errand: as many as that may take at most.
-pub(crate) fn idle<N: ScriptName, R: Alloc<A = Global> + Wait>(
+fn idle<N: ScriptName, R: Alloc<A = Global> + Wait>(
     rt: &R,
     office: &Office<N>,
     ticker: &mut Ticker<N>,
@@ -80,4 +80,21 @@ pub(crate) fn idle<N: ScriptName, R: Alloc<A = Global> + Wait>(
         turn(rt, office, ticker, ran)?;
     }
     Ok(())
+}
+
+/// If no ticker stopped early: turns until the lanes are empty, and nobody has an errand on a bridgeless map.
+pub(crate) fn make_last_turns<N: ScriptName, R: Alloc<A = Global> + Wait>(
+    rt: &R,
+    office: &Office<N>,
+    stopped: Option<TurnCause>,
+    ticker: &mut Ticker<N>,
+    ran: &mut [Ran<N>],
+) -> Result<(), ServeFault>
+    ensures { IfErr result (λ fault. IsLater fault) }
+{
+    if let Some(cause) = stopped {
+        return Err(fault_of(cause));
+    }
+    drain(rt, office, ticker, ran)?;
+    idle(rt, office, ticker, ran)
 }

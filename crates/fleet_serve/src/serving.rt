@@ -12,9 +12,9 @@ ghost use Rattle.fleet_core.specs.Hooks.{laws_of};
 ghost use Rattle.fleet_calls.specs.Opening.{IsNamed as IsNamedFault, IsRefused};
 ghost use Rattle.fleet_office.specs.Views.{AreOn, IsNamed, cores};
 ghost use Rattle.fleet_serve.specs.inside.Faults.{IsLater};
-ghost use Rattle.fleet_serve.specs.Posted.{IsLine, AreNew, TakesPosted, TakesAll, AreLastNotices};
+ghost use Rattle.fleet_serve.specs.Posted.{IsLine, AreNew, AllHaveRun, TakesPosted, TakesAll, AreLastNotices};
 
-use crate::draining::{drain, fault_of, idle};
+use crate::draining::make_last_turns;
 use crate::gate::Gate;
 use crate::names::ScriptName;
 use crate::newcomer::newcomers_of;
@@ -57,6 +57,28 @@ fn pair_of<N: ScriptName>(
     Ok(tickers)
 }
 
+/// The clients of a drained office, how many of their posts met a full lane, and both tickers.
+type Rested<N> = (Vec<Client>, u32, Vec<Ticker<N>>);
+
+/// Makes the turns that are left when all threads have ended, with the first ticker.
+fn come_to_rest<N: ScriptName, R: Alloc<A = Global> + Wait>(
+    rt: &R,
+    office: &Office<N>,
+    home: Home<N>,
+) -> Result<Rested<N>, ServeFault>
+    ensures later { IfErr result (λ fault. IsLater fault) }
+    ensures on { IfOk result (λ r. AreOn N.rings (cores r.0.items)) }
+    ensures ran { IfOk result (λ r. AllHaveRun N.events N.orders r.0.items r.1) }
+{
+    let alloc = rt.alloc();
+    let (mut ran, mut first, second) = home;
+    let stopped = first.stopped.or(second.stopped);
+    make_last_turns(rt, office, stopped, &mut first.ticker, ran.as_mut_slice())?;
+    let tickers = pair_of(alloc, first.ticker, second.ticker)?;
+    let (clients, lane_full) = clients_of(alloc, ran)?;
+    Ok((clients, lane_full, tickers))
+}
+
 /// The drained office, concluded by the clients and the tickers that came home.
 fn conclude<N: ScriptName, R: Alloc<A = Global> + Wait>(
     rt: &R,
@@ -72,17 +94,8 @@ fn conclude<N: ScriptName, R: Alloc<A = Global> + Wait>(
     ensures all { IfOk result (λ s. s.lane_full ≡ 0 → length N.events < N.orders → TakesAll (history_of s.last.chapter) N.events (length N.rings)) }
     ensures rest { IfOk result (λ s. AreLastNotices (history_of s.last.chapter) s.last.rest.items (length N.rings)) }
 {
-    let alloc = rt.alloc();
-    let (mut ran, first, second) = home;
-    if let Some(cause) = first.stopped.or(second.stopped) {
-        return Err(fault_of(cause));
-    }
-    let mut ticker = first.ticker;
-    drain(rt, &office, &mut ticker, ran.as_mut_slice())?;
-    idle(rt, &office, &mut ticker, ran.as_mut_slice())?;
-    let tickers = pair_of(alloc, ticker, second.ticker)?;
-    let (clients, lane_full) = clients_of(alloc, ran)?;
-    match office.conclude(alloc, clients, tickers) {
+    let (clients, lane_full, tickers) = come_to_rest(rt, &office, home)?;
+    match office.conclude(rt.alloc(), clients, tickers) {
         // No serve begins another chapter, so no call ends here.
         Ok(last) if last.chapter.number != 0 => Err(ServeFault::NoMemory),
         Ok(last) => Ok(Served { last, lane_full }),

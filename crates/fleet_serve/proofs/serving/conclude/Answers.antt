@@ -3,6 +3,18 @@ use Rattle.fleet_history.specs.History.{history_of}
 use Rattle.fleet_serve.proofs.Ended.{last-notices, takes-posted, takes-all}
 use Rattle.fleet_serve.proofs.serving.conclude.Goals as goal
 
+pub returns-in-Ok-2-clause-first : goal.returns-in-Ok-2-clause-first
+returns-in-Ok-2-clause-first g c = search rules
+
+pub returns-in-Ok-2-clause-legal : goal.returns-in-Ok-2-clause-legal
+returns-in-Ok-2-clause-legal g c = c.in-Ok.ensures.legal
+
+pub returns-in-Ok-2-clause-advancing : goal.returns-in-Ok-2-clause-advancing
+returns-in-Ok-2-clause-advancing g c = c.in-Ok.ensures.advancing
+
+pub returns-in-Ok-2-clause-tick : goal.returns-in-Ok-2-clause-tick
+returns-in-Ok-2-clause-tick g c = c.in-Ok.ensures.tick.0
+
 pub returns-in-Ok-2-clause-posted : goal.returns-in-Ok-2-clause-posted
 returns-in-Ok-2-clause-posted g c =
     let last = c.in-Ok.last in

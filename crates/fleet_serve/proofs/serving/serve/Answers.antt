@@ -9,3 +9,30 @@ serve_at-requires-clause-fresh g c κs within =
     let d = c.in-Ok.desk in
     let ok = c.in-Ok.ensures.ok in
     subst (λ (l : Limits). AreNew l.orders d.clients) ok.1 (new-pairs d.clients d.ends d.limits ok.3)
+
+pub returns-in-Ok-clause-refused : goal.returns-in-Ok-clause-refused
+returns-in-Ok-clause-refused g c = c.serve_at.ensures.refused
+
+pub returns-in-Ok-clause-opens : goal.returns-in-Ok-clause-opens
+returns-in-Ok-clause-opens g c = c.serve_at.ensures.opens
+
+pub returns-in-Ok-clause-first : goal.returns-in-Ok-clause-first
+returns-in-Ok-clause-first g c = c.serve_at.ensures.first
+
+pub returns-in-Ok-clause-legal : goal.returns-in-Ok-clause-legal
+returns-in-Ok-clause-legal g c = c.serve_at.ensures.legal
+
+pub returns-in-Ok-clause-advancing : goal.returns-in-Ok-clause-advancing
+returns-in-Ok-clause-advancing g c = c.serve_at.ensures.advancing
+
+pub returns-in-Ok-clause-tick : goal.returns-in-Ok-clause-tick
+returns-in-Ok-clause-tick g c = c.serve_at.ensures.tick
+
+pub returns-in-Ok-clause-posted : goal.returns-in-Ok-clause-posted
+returns-in-Ok-clause-posted g c = c.serve_at.ensures.posted
+
+pub returns-in-Ok-clause-all : goal.returns-in-Ok-clause-all
+returns-in-Ok-clause-all g c = c.serve_at.ensures.all
+
+pub returns-in-Ok-clause-rest : goal.returns-in-Ok-clause-rest
+returns-in-Ok-clause-rest g c = c.serve_at.ensures.rest

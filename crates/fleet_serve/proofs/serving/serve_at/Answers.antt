@@ -2,7 +2,7 @@ use Rattle.std.proofs.Common.{◌≡◌, ◌<◌, length, sym, subst, IfOk, rule
 use Rattle.fleet_core.specs.Hooks.{laws_of}
 use Rattle.fleet_history.specs.History.{history_of}
 use Rattle.fleet_serve.specs.Posted.{AreNew, TakesPosted, TakesAll, AreLastNotices}
-use Rattle.fleet_serve.proofs.Faults.{opens-err, opens-ok}
+use Rattle.fleet_serve.proofs.Faults.{later-none, opens-err, refused-err, opens-ok}
 use Rattle.fleet_serve.proofs.serving.serve_at.Goals as goal
 
 pub work-requires-clause-fresh : goal.work-requires-clause-fresh
@@ -47,3 +47,25 @@ returns-clause-opens g c f why =
     let starts : c.in_ok-starts.starts.items ≡ script.starts.items = search rules in
     absurd (opens-ok c.args.grid script.starts.items c.in_ok-starts.starts.items script.clients (length c.args.desk.clients) script.limits c.args.desk.limits (laws_of c.args.hooks)
     starts c.requires.clients c.requires.limits c.in-Ok.opened c.in-Ok.ensures.refused f why)
+
+pub returns-in-Err-clause-refused : goal.returns-in-Err-clause-refused
+returns-in-Err-clause-refused g c f is =
+    let script = c.args.script.now in
+    let starts : c.in_ok-starts.starts.items ≡ script.starts.items = search rules in
+    refused-err c.args.grid script.starts.items c.in_ok-starts.starts.items script.clients (length c.args.desk.clients) script.limits c.args.desk.limits (laws_of c.args.hooks)
+    starts c.requires.clients c.requires.limits c.in-Err.fault c.opening_fault.result c.in-Err.ensures.refused c.opening_fault.ensures.only f is
+
+pub returns-clause-refused : goal.returns-clause-refused
+returns-clause-refused g c f is = absurd (later-none c.conclude.result f c.conclude.ensures.later is)
+
+pub returns-clause-first : goal.returns-clause-first
+returns-clause-first g c = c.conclude.ensures.first
+
+pub returns-clause-legal : goal.returns-clause-legal
+returns-clause-legal g c = c.conclude.ensures.legal
+
+pub returns-clause-advancing : goal.returns-clause-advancing
+returns-clause-advancing g c = c.conclude.ensures.advancing
+
+pub returns-clause-tick : goal.returns-clause-tick
+returns-clause-tick g c = c.conclude.ensures.tick
