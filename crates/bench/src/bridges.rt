@@ -5,23 +5,20 @@ use fleet_grid::Grid;
 use std::alloc::{Alloc, Global};
 use std::io;
 use std::time::{Clock, Instant};
-use yardstick::{Kind, Measure, grid_of, print_measure};
+use yardstick::{Measure, print_measure};
 
 /// How often the bridge is searched on each map.
 const REPEATS: u32 = 8;
 
-/// The first bridge of each map, by cell.
+/// The first bridge of a map, by cell.
 pub(crate) fn measure_bridge<R: Alloc<A = Global> + Clock + Print>(
     rt: &R,
-    kinds: &[Kind],
+    map: &str,
+    grid: &Grid,
 ) -> io::Result<()> {
-    for kind in kinds {
-        let grid = grid_of(rt.alloc(), *kind)?;
-        let found = time_bridges(rt, &grid)?;
-        let things = u64::from(grid.cell_count());
-        print_measure(rt, "bridge", kind.name(), 0, things, found)?;
-    }
-    Ok(())
+    let found = time_bridges(rt, grid)?;
+    let things = u64::from(grid.cell_count());
+    print_measure(rt, "bridge", map, 0, things, found)
 }
 
 /// The first bridge, several times.

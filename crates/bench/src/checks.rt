@@ -8,26 +8,13 @@ use fleet_grid::Grid;
 use std::alloc::{Alloc, Global};
 use std::io;
 use std::time::{Clock, Instant};
-use yardstick::{Kind, Measure, Random, Site, grid_of, print_measure};
+use yardstick::{Measure, Random, Site, print_measure};
 
 /// How often a step is checked.
 const REPEATS: u32 = 200;
 
-/// The check of a step of each number of robots on each map, by robot.
-pub(crate) fn measure_check<R: Alloc<A = Global> + Clock + Print>(
-    rt: &R,
-    kinds: &[Kind],
-) -> io::Result<()> {
-    for kind in kinds {
-        if let Some(site) = Site::new(rt.alloc(), grid_of(rt.alloc(), *kind)?)? {
-            measure_fleets(rt, kind.name(), &site)?;
-        }
-    }
-    Ok(())
-}
-
 /// The check of a step of each number of robots, by robot.
-fn measure_fleets<R: Alloc<A = Global> + Clock + Print>(
+pub(crate) fn measure_check<R: Alloc<A = Global> + Clock + Print>(
     rt: &R,
     map: &str,
     site: &Site,

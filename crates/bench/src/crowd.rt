@@ -21,7 +21,7 @@ const ROBOTS: usize = 512;
 const STEPS: u32 = 200;
 
 /// What came of the steps.
-#[derive(Clone, Copy, Debug, PartialEq, Eq)]
+#[derive(Clone, Copy)]
 struct Steps {
     /// Those without a conflict.
     free: u32,

@@ -9,7 +9,7 @@ use std::alloc::{Alloc, Global};
 use std::io;
 use std::thread::Threads;
 use std::time::{Clock, Instant};
-use yardstick::{Kind, Measure, Random, Site, grid_of, print_measure};
+use yardstick::{Measure, Random, Site, print_measure};
 
 /// How often one field is searched on each map.
 const REPEATS: u32 = 48;
@@ -26,19 +26,6 @@ enum Search {
 
 /// One field, and one compass, by cell that it reaches.
 pub(crate) fn measure_field<R: Alloc<A = Global> + Clock + Print>(
-    rt: &R,
-    kinds: &[Kind],
-) -> io::Result<()> {
-    for kind in kinds {
-        if let Some(site) = Site::new(rt.alloc(), grid_of(rt.alloc(), *kind)?)? {
-            measure_each(rt, kind.name(), &site)?;
-        }
-    }
-    Ok(())
-}
-
-/// One field, and one compass, by cell that it reaches.
-fn measure_each<R: Alloc<A = Global> + Clock + Print>(
     rt: &R,
     map: &str,
     site: &Site,
@@ -88,17 +75,6 @@ fn time_search<R: Alloc<A = Global> + Clock>(
 
 /// Many fields, one after another and over all processors, by cell that they reach.
 pub(crate) fn measure_fields<R: Alloc<A = Global> + Clock + Print + Threads + Sync>(
-    rt: &R,
-    kind: Kind,
-) -> io::Result<()> {
-    match Site::new(rt.alloc(), grid_of(rt.alloc(), kind)?)? {
-        Some(site) => measure_many(rt, kind.name(), &site),
-        None => Ok(()),
-    }
-}
-
-/// Many fields, one after another and over all processors, by cell that they reach.
-fn measure_many<R: Alloc<A = Global> + Clock + Print + Threads + Sync>(
     rt: &R,
     map: &str,
     site: &Site,

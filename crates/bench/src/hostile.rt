@@ -10,7 +10,6 @@ use fleet_map::read_map;
 use fleet_world::World;
 use std::alloc::{Alloc, Global};
 use std::io::{self, ErrorKind};
-use std::mem;
 use std::time::{Clock, Instant};
 use yardstick::Shape;
 
@@ -104,7 +103,7 @@ fn run_hooked<R: Alloc<A = Global>>(
         return Err(io::Error::from(ErrorKind::OutOfMemory));
     };
     run_to(rt, &mut world, last);
-    mem::drop(world);
+    let _ended = world.finish();
     Ok(())
 }
 

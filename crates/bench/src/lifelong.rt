@@ -9,7 +9,7 @@ use std::alloc::{Alloc, Global};
 use std::io;
 use std::thread::Threads;
 use std::time::{Clock, Instant};
-use yardstick::{Kind, Random, Site, grid_of};
+use yardstick::{Kind, Random, Site};
 
 /// How many ticks times robots a run has.
 const ROBOT_TICKS: usize = 256_000;
@@ -30,7 +30,7 @@ const STATIONS: Work = Work::Run {
 const STATION_COUNT: usize = 400;
 
 /// What a run came to: its ticks, the nanoseconds of these with all takes and gives, its arrivals, and its greatest wait.
-#[derive(Clone, Copy, Debug)]
+#[derive(Clone, Copy)]
 pub struct Run {
     pub ticks: u64,
     pub nanos: u128,
@@ -58,21 +58,8 @@ impl Run {
     }
 }
 
-/// Runs of each number of robots on each map, with goals from all cells of a part, and from some stations in it.
-pub(crate) fn measure_lifelong<R: Alloc<A = Global> + Clock + Print + Threads + Sync>(
-    rt: &R,
-    kinds: &[Kind],
-) -> io::Result<()> {
-    for kind in kinds {
-        if let Some(site) = Site::new(rt.alloc(), grid_of(rt.alloc(), *kind)?)? {
-            measure_both(rt, *kind, &site)?;
-        }
-    }
-    Ok(())
-}
-
 /// Runs of each number of robots, with goals from all cells of the part, and from some stations in it.
-fn measure_both<R: Alloc<A = Global> + Clock + Print + Threads + Sync>(
+pub(crate) fn measure_lifelong<R: Alloc<A = Global> + Clock + Print + Threads + Sync>(
     rt: &R,
     kind: Kind,
     site: &Site,
@@ -95,7 +82,7 @@ fn measure_fleets<R: Alloc<A = Global> + Clock + Print + Threads + Sync>(
     let mut random = Random::from_seed(11);
     for robots in FLEETS {
         let starts = site.starts(rt.alloc(), robots, &mut random)?;
-        measure_world(rt, kind, work, starts, goals, &mut random)?;
+        measure_world(rt, kind, work, &starts, goals, &mut random)?;
     }
     Ok(())
 }

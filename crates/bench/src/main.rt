@@ -9,24 +9,20 @@ mod fields;
 mod hostile;
 mod lifelong;
 mod maps;
+mod sites;
 mod steps;
 mod ticks;
 mod worlds;
 
-use bridges::measure_bridge;
-use checks::measure_check;
 use crowd::tell_crowd;
-use fields::{measure_field, measure_fields};
 use hostile::measure_hostile;
-use lifelong::measure_lifelong;
 use maps::tell_maps;
+use sites::measure_kinds;
 use std::alloc::{Alloc, Global};
 use std::env::Env;
 use std::thread::Threads;
 use std::time::Clock;
 use std::{env, io};
-use steps::measure_step;
-use ticks::measure_tick;
 use yardstick::{Kernel, Kind, Shape};
 
 /// What is printed where no kernel is named.
@@ -49,13 +45,11 @@ fn run<R: Alloc<A = Global> + Clock + Print + Threads + Sync>(
     kernel: Kernel,
 ) -> io::Result<()> {
     match kernel {
-        Kernel::Field => measure_field(rt, &Kind::ALL),
-        Kernel::Fields => measure_fields(rt, Kind::Warehouse),
-        Kernel::Bridge => measure_bridge(rt, &Kind::ALL),
-        Kernel::Check => measure_check(rt, &[Kind::Warehouse, Kind::Open]),
-        Kernel::Step => measure_step(rt, &[Kind::Warehouse, Kind::Open]),
-        Kernel::Tick => measure_tick(rt, &[Kind::Warehouse, Kind::Open]),
-        Kernel::Lifelong => measure_lifelong(rt, &[Kind::Warehouse, Kind::Open]),
+        Kernel::Field | Kernel::Bridge => measure_kinds(rt, kernel, &Kind::ALL),
+        Kernel::Fields => measure_kinds(rt, kernel, &[Kind::Warehouse]),
+        Kernel::Check | Kernel::Step | Kernel::Tick | Kernel::Lifelong => {
+            measure_kinds(rt, kernel, &[Kind::Warehouse, Kind::Open])
+        }
         Kernel::Hostile => measure_hostile(rt, &Shape::ALL),
         Kernel::Maps => {
             tell_maps(rt, &Kind::ALL, &Shape::ALL)?;

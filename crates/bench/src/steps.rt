@@ -10,7 +10,7 @@ use fleet_pibt::Stepper;
 use std::alloc::{Alloc, Global};
 use std::io;
 use std::time::{Clock, Instant};
-use yardstick::{Fleet, Kind, Measure, Random, Site, grid_of, print_measure};
+use yardstick::{Fleet, Measure, Random, Site, print_measure};
 
 /// How many robots there are.
 pub const FLEETS: [usize; 3] = [16, 128, 512];
@@ -26,32 +26,19 @@ const TICKS: u32 = 20;
 
 const REPEATS: u32 = 100;
 
-/// A step of each number of robots on each map, by robot.
-pub(crate) fn measure_step<R: Alloc<A = Global> + Clock + Print>(
-    rt: &R,
-    kinds: &[Kind],
-) -> io::Result<()> {
-    for kind in kinds {
-        if let Some(site) = Site::new(rt.alloc(), grid_of(rt.alloc(), *kind)?)? {
-            measure_fleets(rt, kind.name(), &site)?;
-        }
-    }
-    Ok(())
-}
-
 /// A step of each number of robots, by robot.
-fn measure_fleets<R: Alloc<A = Global> + Clock + Print>(
+pub(crate) fn measure_step<R: Alloc<A = Global> + Clock + Print>(
     rt: &R,
     map: &str,
     site: &Site,
 ) -> io::Result<()> {
     let alloc = rt.alloc();
-    let mut random = Random::from_seed(11);
-    let fields = site.fields(alloc, FIELDS, &mut random)?;
     let mut ties = Vec::with_capacity(alloc, MOST)?;
     for _ in 0..MOST {
         ties.push(TieHook::new(TieLaw::ANY, Box::new(alloc, |_view: TieView| 0)?))?;
     }
+    let mut random = Random::from_seed(11);
+    let fields = site.fields(alloc, FIELDS, &mut random)?;
     measure_each(rt, map, site, &fields, &ties, &mut random)
 }
 

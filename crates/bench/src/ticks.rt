@@ -9,7 +9,7 @@ use std::alloc::{Alloc, Global};
 use std::io;
 use std::thread::Threads;
 use std::time::{Clock, Instant};
-use yardstick::{Kind, Measure, Random, Site, grid_of};
+use yardstick::{Kind, Measure, Random, Site};
 
 /// From how many cells robots take their goals.
 const GOALS: usize = 64;
@@ -17,21 +17,8 @@ const GOALS: usize = 64;
 /// How many ticks are timed, each by itself.
 const TICKS: u32 = 200;
 
-/// A tick of each number of robots on each map, by robot.
-pub(crate) fn measure_tick<R: Alloc<A = Global> + Clock + Print + Threads + Sync>(
-    rt: &R,
-    kinds: &[Kind],
-) -> io::Result<()> {
-    for kind in kinds {
-        if let Some(site) = Site::new(rt.alloc(), grid_of(rt.alloc(), *kind)?)? {
-            measure_fleets(rt, *kind, &site)?;
-        }
-    }
-    Ok(())
-}
-
 /// A tick of each number of robots, by robot.
-fn measure_fleets<R: Alloc<A = Global> + Clock + Print + Threads + Sync>(
+pub(crate) fn measure_tick<R: Alloc<A = Global> + Clock + Print + Threads + Sync>(
     rt: &R,
     kind: Kind,
     site: &Site,
@@ -40,7 +27,7 @@ fn measure_fleets<R: Alloc<A = Global> + Clock + Print + Threads + Sync>(
     let goals = site.goals(rt.alloc(), GOALS, &mut random)?;
     for robots in FLEETS {
         let starts = site.starts(rt.alloc(), robots, &mut random)?;
-        measure_world(rt, kind, Work::Ticks, starts, &goals, &mut random)?;
+        measure_world(rt, kind, Work::Ticks, &starts, &goals, &mut random)?;
     }
     Ok(())
 }

@@ -10,7 +10,6 @@ use fleet_hooks::{
 use fleet_world::{Limits, Notice, Order, World};
 use std::alloc::{Alloc, Global};
 use std::io::{self, ErrorKind};
-use std::mem;
 use std::thread::Threads;
 use std::time::Clock;
 use yardstick::{Kind, Random, grid_of, print_measure};
@@ -43,29 +42,31 @@ pub(crate) fn measure_world<R: Alloc<A = Global> + Clock + Print + Threads + Syn
     rt: &R,
     kind: Kind,
     work: Work,
-    starts: Vec<u32>,
+    starts: &[u32],
     goals: &[u32],
     random: &mut Random,
 ) -> io::Result<()>
     requires { 0 < length goals.now }
 {
     let alloc = rt.alloc();
-    let count = starts.len();
     let mut hooks = Hooks::new(alloc);
-    for _robot in 0..count {
+    for _robot in starts {
         let tie = TieHook::new(TieLaw::ANY, Box::new(alloc, |_view: TieView| 0)?);
         let arrival = ArrivalHook::new(StampLaw::ANY, Box::new(alloc, |_view: ArrivalView| 0)?);
         let farewell = Farewell::new(StampLaw::ANY, Box::new(alloc, |_view: FarewellView| 0)?);
         hooks.push(tie, arrival, farewell)?;
     }
+    let starts = Vec::from_slice(alloc, starts)?;
     let grid = grid_of(alloc, kind)?;
-    let Ok(mut world) = World::open(alloc, grid, starts, 1, LIMITS, hooks) else {
-        return Err(io::Error::from(ErrorKind::OutOfMemory));
-    };
-    world.keep(KEPT);
-    let worked = work_on(rt, kind, work, &mut world, goals, random);
-    mem::drop(world);
-    worked
+    match World::open(alloc, grid, starts, 1, LIMITS, hooks) {
+        Ok(mut world) => {
+            world.keep(KEPT);
+            let worked = work_on(rt, kind, work, &mut world, goals, random);
+            let _ended = world.finish();
+            worked
+        }
+        Err(_) => Err(io::Error::from(ErrorKind::OutOfMemory)),
+    }
 }
 
 /// Measures a world, and prints the line.

@@ -1,0 +1,56 @@
+//! The kernels that are measured on one map after another.
+
+use crate::bridges::measure_bridge;
+use crate::checks::measure_check;
+use crate::fields::{measure_field, measure_fields};
+use crate::lifelong::measure_lifelong;
+use crate::steps::measure_step;
+use crate::ticks::measure_tick;
+use std::alloc::{Alloc, Global};
+use std::io;
+use std::thread::Threads;
+use std::time::Clock;
+use yardstick::{Kernel, Kind, Site, grid_of};
+
+/// Measures the kernel on each kind of map.
+pub(crate) fn measure_kinds<R: Alloc<A = Global> + Clock + Print + Threads + Sync>(
+    rt: &R,
+    kernel: Kernel,
+    kinds: &[Kind],
+) -> io::Result<()> {
+    for kind in kinds {
+        measure_kind(rt, kernel, *kind)?;
+    }
+    Ok(())
+}
+
+fn measure_kind<R: Alloc<A = Global> + Clock + Print + Threads + Sync>(
+    rt: &R,
+    kernel: Kernel,
+    kind: Kind,
+) -> io::Result<()> {
+    let grid = grid_of(rt.alloc(), kind)?;
+    match Site::new(rt.alloc(), grid)? {
+        Some(site) => measure_on(rt, kernel, kind, &site),
+        None => Ok(()),
+    }
+}
+
+/// Measures the kernel on a site. Hostile shapes and the counts of maps are none of a site's.
+fn measure_on<R: Alloc<A = Global> + Clock + Print + Threads + Sync>(
+    rt: &R,
+    kernel: Kernel,
+    kind: Kind,
+    site: &Site,
+) -> io::Result<()> {
+    match kernel {
+        Kernel::Field => measure_field(rt, kind.name(), site),
+        Kernel::Fields => measure_fields(rt, kind.name(), site),
+        Kernel::Bridge => measure_bridge(rt, kind.name(), &site.grid),
+        Kernel::Check => measure_check(rt, kind.name(), site),
+        Kernel::Step => measure_step(rt, kind.name(), site),
+        Kernel::Tick => measure_tick(rt, kind, site),
+        Kernel::Lifelong => measure_lifelong(rt, kind, site),
+        Kernel::Hostile | Kernel::Maps => Ok(()),
+    }
+}
