@@ -6,7 +6,7 @@ use fleet_history::{Arrival, Chapter, Entry};
 use std::alloc::{AllocError, Global};
 
 /// What the clients sent and were told, and what the history says of it.
-#[derive(Clone, Copy, Debug, PartialEq, Eq)]
+#[derive(Clone, Copy)]
 pub(crate) struct Account {
     pub(crate) told: Tally,
     /// Orders that the history takes, errands that it accepts, and arrivals that it shows.

@@ -15,6 +15,7 @@ use fleet_office::{
     ConcludeFault, Desk, Final, Office, OfficeName, Ticker, TurnCause, clients_of, guests_of,
 };
 use std::alloc::{Alloc, AllocError, Global};
+use std::mem;
 use std::sync::Wait;
 use std::thread::Threads;
 use yardstick::Random;
@@ -30,7 +31,7 @@ pub(crate) struct Day {
 }
 
 /// Why a day at the depot had no end.
-#[derive(Clone, Copy, Debug, PartialEq, Eq)]
+#[derive(Clone, Copy)]
 pub(crate) enum DayFault {
     Opening(OpenFault),
     Turn(TurnCause),
@@ -49,8 +50,8 @@ impl From<AllocError> for DayFault {
     }
 }
 
-/// The clients and both tickers that come home from their work.
-type Home<N> = (Vec<Worker<N>>, Shifted<N>, Shifted<N>);
+/// The clients and the tickers that come home from their work, and what each client was told.
+type Home<N> = (Vec<Client>, Vec<Ticker<N>>, Vec<Tally>);
 
 /// The clients at their work, each with a seed of its own.
 fn workers_of<N: OfficeName<Global>>(
@@ -60,16 +61,15 @@ fn workers_of<N: OfficeName<Global>>(
 ) -> Result<Vec<Worker<N>>, AllocError>
     requires { AreOn N.rings (cores clients.items) }
 {
-    let mut guests = guests_of::<N, Global>(alloc, clients)?;
-    let mut workers = Vec::new(alloc);
-    while !guests.is_empty() {
-        let guest = guests.remove(0);
+    let guests = guests_of::<N, Global>(alloc, clients)?;
+    let mut workers = Vec::with_capacity(alloc, guests.len())?;
+    for guest in guests {
         let random = Random::from_seed(seed.wrapping_add(u64::from(guest.number())));
-        workers.push(Worker {
+        workers.push_reserved(Worker {
             guest,
             random,
             tally: Tally::NONE,
-        })?;
+        });
     }
     Ok(workers)
 }
@@ -81,27 +81,13 @@ fn home_of<N: OfficeName<Global>>(
 ) -> Result<(Vec<Client>, Vec<Tally>), AllocError>
     ensures { IfOk result (λ home. AreOn N.rings (cores home.0.items)) }
 {
-    let mut workers = workers;
-    let mut guests = Vec::new(alloc);
-    let mut tallies = Vec::new(alloc);
-    while !workers.is_empty() {
-        let Worker { guest, tally, .. } = workers.remove(0);
-        guests.push(guest)?;
-        tallies.push(tally)?;
+    let mut guests = Vec::with_capacity(alloc, workers.len())?;
+    let mut tallies = Vec::with_capacity(alloc, workers.len())?;
+    for worker in workers {
+        guests.push_reserved(worker.guest);
+        tallies.push_reserved(worker.tally);
     }
     Ok((clients_of::<N, Global>(alloc, guests)?, tallies))
-}
-
-/// Both tickers.
-fn pair_of<N: OfficeName<Global>>(
-    alloc: Global,
-    first: Ticker<N>,
-    second: Ticker<N>,
-) -> Result<Vec<Ticker<N>>, AllocError> {
-    let mut tickers = Vec::new(alloc);
-    tickers.push(first)?;
-    tickers.push(second)?;
-    Ok(tickers)
 }
 
 /// What became of all orders.
@@ -120,50 +106,68 @@ fn account_of(end: &Final, tallies: &[Tally]) -> Account {
     account
 }
 
-/// Lets the clients of an office that was just opened send their orders, beside two tickers.
-fn let_work<N: OfficeName<Global> + Send + Sync, R: Alloc<A = Global> + Threads + Sync + Wait>(
+/// Both tickers after their work, neither of which stopped early.
+fn tickers_of<N: OfficeName<Global>>(
+    alloc: Global,
+    first: Shifted<N>,
+    second: Shifted<N>,
+) -> Result<Vec<Ticker<N>>, DayFault> {
+    if let Some(cause) = first.stopped.or(second.stopped) {
+        return Err(DayFault::Turn(cause));
+    }
+    let mut tickers = Vec::with_capacity(alloc, 2)?;
+    tickers.push_reserved(first.ticker);
+    tickers.push_reserved(second.ticker);
+    Ok(tickers)
+}
+
+/// Lets the clients of an office that was just opened send their orders, beside two tickers. All of them come home.
+fn work_in<N: OfficeName<Global> + Send + Sync, R: Alloc<A = Global> + Threads + Sync + Wait>(
     rt: &R,
     office: &Office<N>,
     clients: Vec<Client>,
     ticker: Ticker<N>,
     shift: &Shift,
-    seed: u64,
 ) -> Result<Home<N>, DayFault>
     requires { AreOn N.rings (cores clients.items) }
+    ensures { IfOk result (λ home. AreOn N.rings (cores home.0.items)) }
 {
     let mut first = ticker;
     let Some(second) = first.split() else {
         return Err(DayFault::NoMemory);
     };
-    let workers = workers_of::<N>(rt.alloc(), clients, seed)?;
-    Ok(work_all(rt, office, workers, first, second, shift)?)
-}
-
-/// Concludes an office by the clients and the tickers that came home.
-fn conclude<N: OfficeName<Global>, R: Alloc<A = Global> + Wait>(
-    rt: &R,
-    office: Office<N>,
-    home: Home<N>,
-) -> Result<Day, DayFault> {
-    let (workers, first, second) = home;
-    if let Some(cause) = first.stopped.or(second.stopped) {
-        return Err(DayFault::Turn(cause));
-    }
+    let mut workers = workers_of::<N>(rt.alloc(), clients, shift.seed)?;
+    let (first, second) = work_all(rt, office, workers.as_mut_slice(), first, second, shift);
+    let tickers = tickers_of(rt.alloc(), first, second)?;
     let (clients, tallies) = home_of(rt.alloc(), workers)?;
-    let tickers = pair_of(rt.alloc(), first.ticker, second.ticker)?;
-    match office.conclude(rt.alloc(), clients, tickers) {
-        Ok(end) => Ok(day_at(end, &tallies)),
-        Err((fault, _home)) => Err(DayFault::Conclude(fault)),
-    }
+    Ok((clients, tickers, tallies))
 }
 
-/// The day that ended so.
+/// The day of an office that ended so.
 fn day_at(end: Final, tallies: &[Tally]) -> Day {
     Day {
         account: account_of(&end, tallies),
         tick: end.tick,
         reach: end.grid.floor_count(),
         chapter: end.chapter,
+    }
+}
+
+/// Concludes an office by the clients and the tickers that came home.
+fn conclude<N: OfficeName<Global>>(
+    alloc: Global,
+    office: Office<N>,
+    home: Home<N>,
+) -> Result<Day, DayFault>
+    requires { AreOn N.rings (cores home.0.items) }
+{
+    let (clients, tickers, tallies) = home;
+    match office.conclude(alloc, clients, tickers) {
+        Ok(end) => Ok(day_at(end, &tallies)),
+        Err((fault, home)) => {
+            mem::drop(home);
+            Err(DayFault::Conclude(fault))
+        }
     }
 }
 
@@ -178,14 +182,18 @@ pub(crate) fn spend_day<
     starts: Vec<u32>,
     hooks: Hooks,
     shift: &Shift,
-    seed: u64,
 ) -> Result<Day, DayFault>
     requires { IsNamed desk N.name N.parts N.rings }
 {
     match Office::<N>::open(rt.alloc(), desk, grid, starts, hooks) {
         Ok((office, clients, ticker)) => {
-            let home = let_work(rt, &office, clients, ticker, shift, seed)?;
-            conclude(rt, office, home)
+            match work_in(rt, &office, clients, ticker, shift) {
+                Ok(home) => conclude(rt.alloc(), office, home),
+                Err(fault) => {
+                    mem::drop(office);
+                    Err(fault)
+                }
+            }
         }
         Err(fault) => Err(DayFault::Opening(fault)),
     }

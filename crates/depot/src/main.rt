@@ -16,6 +16,7 @@ mod yard;
 
 use account::greatest_wait;
 use depot::{Day, DayFault};
+use fleet_calls::OpenFault;
 use opening::day_of;
 use settings::{Settings, SettingsFault, settings_of};
 use std::alloc::{Alloc, AllocError, Global};
@@ -67,9 +68,9 @@ fn tell<W: Write, E: Write>(lines: (&str, &str), day: &Day, output: &mut W, erro
 /// The status of a day that had no end.
 fn status_of(fault: DayFault) -> u8 {
     match fault {
+        DayFault::Opening(OpenFault::NoMemory) | DayFault::NoMemory => 7,
         DayFault::Opening(_) => 5,
         DayFault::Turn(_) | DayFault::Conclude(_) => 8,
-        DayFault::NoMemory => 7,
     }
 }
 

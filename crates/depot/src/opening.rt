@@ -15,6 +15,7 @@ use fleet_hooks::{
 use fleet_office::Desk;
 use std::alloc::{Alloc, AllocError, Global};
 use std::marker::Brand;
+use std::mem;
 use std::sync::Wait;
 use std::sync::atomic::AtomicU64;
 use std::thread::Threads;
@@ -31,14 +32,15 @@ const LIMITS: Limits = Limits {
 };
 
 /// What the threads share, where there is a robot and a cell to send it to.
-fn shift_of(settings: &Settings, cells: Vec<u32>) -> Option<Shift> {
+fn shift_of(settings: &Settings, cells: Vec<u32>) -> Result<Shift, OpenFault> {
     if settings.robots == 0 || cells.is_empty() {
-        return None;
+        return Err(OpenFault::NoRobots);
     }
-    Some(Shift {
+    Ok(Shift {
         robots: settings.robots,
         cells,
         orders: settings.turns,
+        seed: settings.seed,
         turns: settings.turns,
         clients: u64::from(settings.clients),
         done: AtomicU64::new(0),
@@ -50,12 +52,19 @@ fn starts_of(
     alloc: Global,
     grid: &Grid,
     settings: &Settings,
-) -> Result<(Vec<u32>, Shift), DayFault> {
+) -> Result<(Vec<u32>, Shift), OpenFault> {
     let cells = floor_of(alloc, grid)?;
     let starts = starts_on(alloc, &cells, settings.robots)?;
-    match shift_of(settings, cells) {
-        Some(shift) => Ok((starts, shift)),
-        None => Err(DayFault::Opening(OpenFault::NoRobots)),
+    Ok((starts, shift_of(settings, cells)?))
+}
+
+/// The desk, the warehouse, where the robots start in it, and what the threads share.
+fn site_of(alloc: Global, settings: &Settings) -> Result<(Desk, Grid, Vec<u32>, Shift), OpenFault> {
+    let grid = warehouse(alloc)?;
+    let (starts, shift) = starts_of(alloc, &grid, settings)?;
+    match Desk::new(alloc, settings.clients, LIMITS) {
+        Ok(desk) => Ok((desk, grid, starts, shift)),
+        Err(fault) => Err(fault),
     }
 }
 
@@ -65,11 +74,14 @@ fn day_with<R: Alloc<A = Global> + Threads + Sync + Wait>(
     settings: &Settings,
     hooks: Hooks,
 ) -> Result<Day, DayFault> {
-    let grid = warehouse(rt.alloc())?;
-    let (starts, shift) = starts_of(rt.alloc(), &grid, settings)?;
-    match Desk::new(rt.alloc(), settings.clients, LIMITS) {
-        Ok(desk) => spend_day::<Brand, R>(rt, desk, grid, starts, hooks, &shift, settings.seed),
-        Err(fault) => Err(DayFault::Opening(fault)),
+    match site_of(rt.alloc(), settings) {
+        Ok((desk, grid, starts, shift)) => {
+            spend_day::<Brand, R>(rt, desk, grid, starts, hooks, &shift)
+        }
+        Err(fault) => {
+            mem::drop(hooks);
+            Err(DayFault::Opening(fault))
+        }
     }
 }
 

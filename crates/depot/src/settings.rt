@@ -8,7 +8,7 @@ use fleet_map::text::number_up_to;
 use std::alloc::{AllocError, Global};
 
 /// How large the depot is, and how long it is kept going.
-#[derive(Clone, Copy, Debug, PartialEq, Eq)]
+#[derive(Clone, Copy)]
 pub(crate) struct Settings {
     /// 1 to 512.
     pub(crate) robots: u32,
@@ -20,7 +20,7 @@ pub(crate) struct Settings {
 }
 
 /// Why there are no settings.
-#[derive(Debug, Drop)]
+#[derive(Drop)]
 pub(crate) enum SettingsFault {
     /// What is wrong with the words, as `clap` says it. A request for help is among these.
     Words(String),
@@ -87,16 +87,21 @@ fn out_of_range(alloc: Global, name: &str, word: &str, most: u64) -> Result<Stri
     )
 }
 
+/// The settings that the options are.
+fn settings_from(alloc: Global, matches: &ArgMatches<'_>) -> Result<Settings, SettingsFault> {
+    Ok(Settings {
+        robots: number_of(alloc, matches, "robots", 8, 512)? as u32,
+        clients: number_of(alloc, matches, "clients", 3, 64)? as u32,
+        turns: number_of(alloc, matches, "turns", 20, 1_000_000)?,
+        seed: number_of(alloc, matches, "seed", 1, 4_294_967_295)?,
+    })
+}
+
 /// The settings that the words name. The first word is the program's own name.
 pub(crate) fn settings_of(alloc: Global, words: &[String]) -> Result<Settings, SettingsFault> {
     let command = command(alloc)?;
     match command.try_get_matches_from(words) {
-        Ok(matches) => Ok(Settings {
-            robots: number_of(alloc, &matches, "robots", 8, 512)? as u32,
-            clients: number_of(alloc, &matches, "clients", 3, 64)? as u32,
-            turns: number_of(alloc, &matches, "turns", 20, 1_000_000)?,
-            seed: number_of(alloc, &matches, "seed", 1, 4_294_967_295)?,
-        }),
+        Ok(matches) => settings_from(alloc, &matches),
         Err(error) => Err(fault_from(alloc, &error)),
     }
 }

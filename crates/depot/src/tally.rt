@@ -3,7 +3,7 @@
 use fleet_book::{Notice, Verdict};
 
 /// What a client sent and was told so far.
-#[derive(Clone, Copy, Debug, PartialEq, Eq)]
+#[derive(Clone, Copy)]
 pub(crate) struct Tally {
     /// Orders sent.
     pub(crate) orders: u64,

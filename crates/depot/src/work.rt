@@ -5,7 +5,7 @@ ghost use Rattle.std.specs.Prelude.{◌≡◌, ◌<◌, ◌^◌, vec_len};
 use crate::tally::Tally;
 use fleet_book::Order;
 use fleet_office::{Guest, Office, OfficeName, Ticker, TurnCause, side_by_side};
-use std::alloc::{Alloc, AllocError, Global};
+use std::alloc::{Alloc, Global};
 use std::sync::Wait;
 use std::sync::atomic::{AtomicU64, Ordering};
 use std::thread;
@@ -14,6 +14,9 @@ use yardstick::Random;
 
 /// How often a client looks for a free slot or a notice at most, and how many turns a ticker makes at most.
 const MOST_TRIES: u64 = 200_000_000;
+
+/// No office has more clients.
+const MOST_CLIENTS: usize = 64;
 
 /// How many notices a client collects at once at most.
 const HANDFUL: u32 = 64;
@@ -26,13 +29,14 @@ pub(crate) struct Worker<N: OfficeName<Global>> {
     pub(crate) tally: Tally,
 }
 
-/// What all threads share: how many robots there are, on which cells errands lie, how many orders each client sends, how many
-/// turns each ticker makes at least, and how many clients have done their work.
+/// What all threads share: how many robots there are, on which cells errands lie, how many orders each client sends and where
+/// its random errands begin, how many turns each ticker makes at least, and how many clients have done their work.
 #[derive(Drop)]
 pub(crate) struct Shift {
     pub(crate) robots: u32,
     pub(crate) cells: Vec<u32>,
     pub(crate) orders: u64,
+    pub(crate) seed: u64,
     pub(crate) turns: u64,
     pub(crate) clients: u64,
     pub(crate) done: AtomicU64,
@@ -68,8 +72,7 @@ impl<N: OfficeName<Global>> Worker<N> {
 }
 
 /// One client's work: it sends its orders as its lane takes them, and collects until each accepted errand has arrived.
-fn work<N: OfficeName<Global>>(worker: Worker<N>, shift: &Shift) -> Worker<N> {
-    let mut worker = worker;
+fn work<N: OfficeName<Global>>(worker: &mut Worker<N>, shift: &Shift) {
     for _ in 0..MOST_TRIES {
         worker.collect();
         if worker.tally.orders < shift.orders {
@@ -83,7 +86,6 @@ fn work<N: OfficeName<Global>>(worker: Worker<N>, shift: &Shift) -> Worker<N> {
         }
     }
     shift.done.fetch_add(1, Ordering::SeqCst);
-    worker
 }
 
 /// A ticker, and why it stopped early.
@@ -142,15 +144,22 @@ pub(crate) fn work_all<
 >(
     rt: &R,
     office: &Office<N>,
-    workers: Vec<Worker<N>>,
+    workers: &mut [Worker<N>],
     first: Ticker<N>,
     second: Ticker<N>,
     shift: &Shift,
-) -> Result<(Vec<Worker<N>>, Shifted<N>, Shifted<N>), AllocError> {
-    let (home, (first, second)) = join(
+) -> (Shifted<N>, Shifted<N>) {
+    let ((), tickers) = join(
         rt,
-        || thread::map_vec(rt, workers, &|worker| work(worker, shift)),
+        || {
+            thread::for_each_mut(
+                rt,
+                workers,
+                MOST_CLIENTS,
+                &|_number: usize, worker: &mut Worker<N>| { work(worker, shift) },
+            )
+        },
         || tick_both(rt, office, first, second, shift),
     );
-    Ok((home?, first, second))
+    tickers
 }
