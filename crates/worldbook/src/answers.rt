@@ -12,7 +12,7 @@ use std::alloc::{Alloc, AllocError, Global};
 /// A line for each call of each row.
 pub(crate) fn tell<R: Alloc<A = Global>>(rt: &R, told: &mut String) -> Result<(), AllocError> {
     for row in &ROWS {
-        told.push_str(play(rt, row)?.as_str())?;
+        play(rt, row, told)?;
     }
     Ok(())
 }

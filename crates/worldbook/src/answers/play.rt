@@ -2,67 +2,104 @@
 
 use crate::answers::busy::greatest_wait;
 use crate::answers::row::{Call, Row, go};
-use crate::answers::show::{busy_line, give_line, shut_line, take_line, tick_line, world_line};
+use crate::answers::show::{tell_busy, tell_give, tell_shut, tell_take, tell_tick, tell_world};
 use crate::site::grid_of;
 use fleet_hooks::{
     ArrivalHook, ArrivalView, Farewell, FarewellView, Hooks, StampLaw, TieHook, TieLaw, TieView,
 };
-use fleet_world::World;
+use fleet_world::{OpenFault, World};
 use std::alloc::{Alloc, AllocError, Global};
-use std::mem;
+use std::fmt::Write;
 
 /// The lines of so many ticks.
-fn ticks<R: Alloc<A = Global>>(
+fn tell_ticks<R: Alloc<A = Global>>(
     rt: &R,
     world: &mut World,
     count: u32,
-) -> Result<String, AllocError> {
-    let mut text = String::new(rt.alloc());
+    told: &mut String,
+) -> Result<(), AllocError> {
     for _tick in 0..count {
-        text.push_str(&tick_line(rt.alloc(), world.tick(rt))?)?;
+        tell_tick(told, world.tick(rt))?;
     }
-    Ok(text)
+    Ok(())
 }
 
 /// The lines of a call. A world without clients takes and gives nothing.
-fn answer<R: Alloc<A = Global>>(
+fn tell_answer<R: Alloc<A = Global>>(
     rt: &R,
     world: &mut World,
     call: Call,
-) -> Result<String, AllocError> {
-    let alloc = rt.alloc();
+    told: &mut String,
+) -> Result<(), AllocError> {
     match call {
         Call::Go(robot, cell) if world.clients() > 0 => {
-            take_line(alloc, world.take(0, go(robot, cell)))
+            tell_take(told, world.take(0, go(robot, cell)))
         }
-        Call::Give if world.clients() > 0 => give_line(alloc, world.give(0)),
-        Call::Go(..) | Call::Give => Ok(String::new(alloc)),
-        Call::Tick(count) => ticks(rt, world, count),
-        Call::Shut(robot) => shut_line(alloc, world.shut(robot)),
-        Call::Show => world_line(alloc, world),
-        Call::Busy(count, bound) => busy_line(alloc, greatest_wait(rt, world, count), bound),
+        Call::Give if world.clients() > 0 => tell_give(told, world.give(0)),
+        Call::Go(..) | Call::Give => Ok(()),
+        Call::Tick(count) => tell_ticks(rt, world, count, told),
+        Call::Shut(robot) => tell_shut(told, world.shut(robot)),
+        Call::Show => tell_world(told, world),
+        Call::Busy(count, bound) => tell_busy(told, greatest_wait(rt, world, count), bound),
     }
 }
 
-/// The lines of calls in turn.
-fn answers<R: Alloc<A = Global>>(
+/// The name of a row, and the lines of its calls.
+fn tell_answers<R: Alloc<A = Global>>(
     rt: &R,
+    row: &Row,
     world: &mut World,
-    calls: &[Call],
-) -> Result<String, AllocError> {
-    let mut text = String::new(rt.alloc());
-    for call in calls {
-        text.push_str(&answer(rt, world, *call)?)?;
+    told: &mut String,
+) -> Result<(), AllocError> {
+    writeln!(told, "{}", row.name)?;
+    for call in row.calls {
+        tell_answer(rt, world, *call, told)?;
     }
-    Ok(text)
+    Ok(())
 }
 
-/// Plays a row: its name, and the lines of its calls.
-pub(crate) fn play<R: Alloc<A = Global>>(rt: &R, row: &Row) -> Result<String, AllocError> {
+/// Plays a row in its world, where that was opened.
+fn play_opened<R: Alloc<A = Global>>(
+    rt: &R,
+    row: &Row,
+    opened: Result<World, OpenFault>,
+    told: &mut String,
+) -> Result<(), AllocError> {
+    match opened {
+        Ok(mut world) => {
+            let answered = tell_answers(rt, row, &mut world, told);
+            let _ended = world.finish();
+            answered
+        }
+        Err(fault) => writeln!(told, "{}: {fault:?}", row.name),
+    }
+}
+
+/// Plays a row with these closures.
+fn play_hooked<R: Alloc<A = Global>>(
+    rt: &R,
+    row: &Row,
+    hooks: Hooks,
+    told: &mut String,
+) -> Result<(), AllocError> {
     let alloc = rt.alloc();
-    let Some(grid) = grid_of(alloc, row.sides, row.letters)? else {
-        return format!(in alloc; "{}: no map\n", row.name);
-    };
+    let starts = Vec::from_slice(alloc, row.starts)?;
+    match grid_of(alloc, row.sides, row.letters)? {
+        Some(grid) => {
+            let opened = World::open(alloc, grid, starts, 1, row.limits, hooks);
+            play_opened(rt, row, opened, told)
+        }
+        None => writeln!(told, "{}: no map", row.name),
+    }
+}
+
+/// Plays a row, and tells its name and the lines of its calls.
+pub(crate) fn play<R: Alloc<A = Global>>(
+    rt: &R,
+    row: &Row,
+    told: &mut String,
+) -> Result<(), AllocError> {
+    let alloc = rt.alloc();
     let mut hooks = Hooks::new(alloc);
     for _robot in 0..row.hooked {
         let tie = TieHook::new(TieLaw::ANY, Box::new(alloc, |_view: TieView| 0)?);
@@ -76,13 +113,5 @@ pub(crate) fn play<R: Alloc<A = Global>>(rt: &R, row: &Row) -> Result<String, Al
         );
         hooks.push(tie, arrival, farewell)?;
     }
-    let starts = Vec::from_slice(alloc, row.starts)?;
-    match World::open(alloc, grid, starts, 1, row.limits, hooks) {
-        Ok(mut world) => {
-            let lines = answers(rt, &mut world, row.calls);
-            mem::drop(world);
-            format!(in alloc; "{}\n{}", row.name, lines?)
-        }
-        Err(fault) => format!(in alloc; "{}: {fault:?}\n", row.name),
-    }
+    play_hooked(rt, row, hooks, told)
 }

@@ -3,7 +3,7 @@
 use fleet_world::{Limits, Order};
 
 /// A call of a world.
-#[derive(Clone, Copy, Debug)]
+#[derive(Clone, Copy)]
 pub(crate) enum Call {
     /// Takes an order of the only client to send the robot to the cell.
     Go(u32, u32),
@@ -19,7 +19,7 @@ pub(crate) enum Call {
 }
 
 /// A map of at most 1,024 a side whose letters fill it, where robots start, how many of them have closures, and calls.
-#[derive(Clone, Copy, Debug)]
+#[derive(Clone, Copy)]
 pub(crate) struct Row {
     pub(crate) name: &'static str,
     pub(crate) sides: (u32, u32),

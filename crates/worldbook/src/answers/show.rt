@@ -2,51 +2,54 @@
 
 use findings::beside_bound;
 use fleet_world::{Notice, ShutFault, TakeFault, TickFault, TickReport, Verdict, World};
-use std::alloc::{AllocError, Global};
+use std::alloc::AllocError;
+use std::fmt::Write;
 
-fn number_or_none(alloc: Global, number: Option<u64>) -> Result<String, AllocError> {
+/// The number behind its name.
+fn tell_number(told: &mut String, name: &str, number: Option<u64>) -> Result<(), AllocError> {
     match number {
-        Some(number) => format!(in alloc; "{number}"),
-        None => format!(in alloc; "none"),
+        Some(number) => write!(told, " {name} {number}"),
+        None => write!(told, " {name} none"),
     }
 }
 
-pub(crate) fn take_line(
-    alloc: Global,
+pub(crate) fn tell_take(
+    told: &mut String,
     answer: Result<Verdict, TakeFault>,
-) -> Result<String, AllocError> {
+) -> Result<(), AllocError> {
     match answer {
-        Ok(verdict) => format!(in alloc; "take: {verdict:?}\n"),
-        Err(fault) => format!(in alloc; "take refused: {fault:?}\n"),
+        Ok(verdict) => writeln!(told, "take: {verdict:?}"),
+        Err(fault) => writeln!(told, "take refused: {fault:?}"),
     }
 }
 
-pub(crate) fn tick_line(
-    alloc: Global,
+pub(crate) fn tell_tick(
+    told: &mut String,
     answer: Result<TickReport, TickFault>,
-) -> Result<String, AllocError> {
+) -> Result<(), AllocError> {
     match answer {
-        Ok(report) => format!(in alloc;
-            "tick {}: arrived {} farewells {}\n",
+        Ok(report) => writeln!(
+            told,
+            "tick {}: arrived {} farewells {}",
             report.tick, report.arrived, report.farewells
         ),
-        Err(fault) => format!(in alloc; "tick refused: {fault:?}\n"),
+        Err(fault) => writeln!(told, "tick refused: {fault:?}"),
     }
 }
 
-pub(crate) fn shut_line(
-    alloc: Global,
+pub(crate) fn tell_shut(
+    told: &mut String,
     answer: Result<Option<u32>, ShutFault>,
-) -> Result<String, AllocError> {
+) -> Result<(), AllocError> {
     match answer {
-        Ok(Some(stamp)) => format!(in alloc; "shut: farewell {stamp}\n"),
-        Ok(None) => format!(in alloc; "shut: errands left\n"),
-        Err(fault) => format!(in alloc; "shut refused: {fault:?}\n"),
+        Ok(Some(stamp)) => writeln!(told, "shut: farewell {stamp}"),
+        Ok(None) => writeln!(told, "shut: errands left"),
+        Err(fault) => writeln!(told, "shut refused: {fault:?}"),
     }
 }
 
 /// The line of a gift.
-pub(crate) fn give_line(alloc: Global, answer: Option<Notice>) -> Result<String, AllocError> {
+pub(crate) fn tell_give(told: &mut String, answer: Option<Notice>) -> Result<(), AllocError> {
     match answer {
         Some(
             Notice::Verdict {
@@ -54,7 +57,7 @@ pub(crate) fn give_line(alloc: Global, answer: Option<Notice>) -> Result<String,
                 order_no,
                 verdict,
             },
-        ) => format!(in alloc; "give {seq}: verdict {order_no} {verdict:?}\n"),
+        ) => writeln!(told, "give {seq}: verdict {order_no} {verdict:?}"),
         Some(
             Notice::Arrived {
                 seq,
@@ -64,42 +67,45 @@ pub(crate) fn give_line(alloc: Global, answer: Option<Notice>) -> Result<String,
                 tick,
                 stamp,
             },
-        ) => format!(in alloc;
-            "give {seq}: arrived {number} robot {robot} cell {cell} tick {tick} stamp {stamp}\n"
+        ) => writeln!(
+            told,
+            "give {seq}: arrived {number} robot {robot} cell {cell} tick {tick} stamp {stamp}"
         ),
-        None => format!(in alloc; "give: nothing\n"),
+        None => writeln!(told, "give: nothing"),
     }
 }
 
 /// The line of a greatest wait beside a bound.
-pub(crate) fn busy_line(alloc: Global, greatest: u64, bound: u64) -> Result<String, AllocError> {
+pub(crate) fn tell_busy(told: &mut String, greatest: u64, bound: u64) -> Result<(), AllocError> {
     let kept = beside_bound(greatest, bound);
-    format!(in alloc; "greatest wait: {kept} {bound}\n")
+    writeln!(told, "greatest wait: {kept} {bound}")
 }
 
 /// Where the robots stand and how long they have waited, a robot a word.
-fn robots_text(alloc: Global, world: &World) -> Result<String, AllocError> {
-    let mut text = String::new(alloc);
+fn tell_robots(told: &mut String, world: &World) -> Result<(), AllocError> {
     for robot in 0..512u32 {
         if robot as usize >= world.robots() {
             break;
         }
         let cell = world.placement().get(robot as usize).copied().unwrap_or(0);
-        let wait = number_or_none(alloc, world.wait_of(robot))?;
-        text.push_str(&format!(in alloc; " {cell}/{wait}")?)?;
+        match world.wait_of(robot) {
+            Some(wait) => write!(told, " {cell}/{wait}")?,
+            None => write!(told, " {cell}/none")?,
+        }
     }
-    Ok(text)
+    Ok(())
 }
 
 /// The line of all that a world shows: each robot's cell and wait, the eldest, and how soon the fleet is idle.
-pub(crate) fn world_line(alloc: Global, world: &World) -> Result<String, AllocError> {
-    let robots = robots_text(alloc, world)?;
-    let eldest = number_or_none(alloc, world.eldest().map(u64::from))?;
-    let within = number_or_none(alloc, world.idle_within())?;
-    format!(in alloc;
-        "clock {} robots{robots} eldest {eldest} idle {} within {within} bridgeless {} entries {}\n",
-        world.clock(),
-        world.is_idle(),
+pub(crate) fn tell_world(told: &mut String, world: &World) -> Result<(), AllocError> {
+    write!(told, "clock {} robots", world.clock())?;
+    tell_robots(told, world)?;
+    tell_number(told, "eldest", world.eldest().map(u64::from))?;
+    write!(told, " idle {}", world.is_idle())?;
+    tell_number(told, "within", world.idle_within())?;
+    writeln!(
+        told,
+        " bridgeless {} entries {}",
         world.is_bridgeless(),
         world.chapter().entries.len()
     )

@@ -6,7 +6,7 @@ use fleet_world::Event;
 use std::alloc::{AllocError, Global};
 
 /// A call of a world, or what a client does beside it.
-#[derive(Clone, Copy, Debug)]
+#[derive(Clone, Copy)]
 pub(crate) enum Call {
     Event(Event),
     Widen { client: u32, extra: u64 },

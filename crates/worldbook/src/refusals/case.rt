@@ -3,7 +3,7 @@
 use fleet_map::text::first_line;
 
 /// A row: its name, and a bundle of a map and a script.
-#[derive(Clone, Copy, Debug)]
+#[derive(Clone, Copy)]
 pub(crate) struct Case<'a> {
     pub(crate) name: &'a str,
     pub(crate) map: &'a [u8],

@@ -4,7 +4,7 @@ ghost use Rattle.std.specs.Prelude.{◌≡◌};
 
 use crate::refusals::calls::Call;
 use crate::refusals::case::Row;
-use crate::refusals::play::{Played, play_calls};
+use crate::refusals::play::{Played, Setting, play_calls};
 use crate::refusals::runs::{Run, end_run};
 use crate::refusals::stage::{Stage, read};
 use fleet_hooks::{
@@ -13,7 +13,6 @@ use fleet_hooks::{
 use fleet_world::{Event, OpenFault, World, run};
 use refusing::Refusing;
 use std::alloc::{Alloc, AllocError, Allocator, Global};
-use std::mem;
 use std::sync::Arc;
 use std::sync::atomic::{AtomicU64, Ordering};
 use std::thread::Threads;
@@ -32,21 +31,27 @@ pub(crate) fn play(
     before: u64,
     last: usize,
 ) -> Result<Result<Played, Stage>, AllocError> {
+    let stamped = Arc::new(alloc, AtomicU64::new(0))?;
     let heap = Refusing::after(alloc, before);
-    play_over(alloc, &((), &heap), row, last)
+    play_over(alloc, &((), &heap), row, last, &stamped)
 }
 
-/// Plays the first `last` calls of a row, all of whose memory is the runtime's.
+/// A counter of stamps, for the arrivals and for the farewells of a robot.
+fn counters(stamped: &Arc<AtomicU64>) -> Result<(Arc<AtomicU64>, Arc<AtomicU64>), AllocError> {
+    Ok((Arc::try_clone(stamped)?, Arc::try_clone(stamped)?))
+}
+
+/// Plays the first `last` calls of a row, all of whose memory is the runtime's, with closures that count their stamps.
 fn play_over<A: Allocator + Copy, R: Alloc<A = A>>(
     alloc: Global,
     rt: &R,
     row: Row<'_, Call>,
     last: usize,
+    stamped: &Arc<AtomicU64>,
 ) -> Result<Result<Played, Stage>, AllocError> {
-    let stamped = Arc::new(alloc, AtomicU64::new(0))?;
     let mut hooks = Hooks::new(rt.alloc());
     for _robot in 0..row.robots {
-        let (arrivals, farewells) = (Arc::try_clone(&stamped)?, Arc::try_clone(&stamped)?);
+        let (arrivals, farewells) = counters(stamped)?;
         let tie = |_view: TieView| -> u8
             ensures { result ≡ 0 }
         { 0 };
@@ -63,27 +68,39 @@ fn play_over<A: Allocator + Copy, R: Alloc<A = A>>(
             return Ok(Err(Stage::Lists));
         }
     }
-    play_hooked(alloc, rt, row, last, hooks, &stamped)
+    let setting = Setting { alloc, rt, stamped };
+    play_hooked(&setting, row, last, hooks)
 }
 
 /// Plays the first `last` calls of a row with these closures.
 fn play_hooked<A: Allocator + Copy, R: Alloc<A = A>>(
-    alloc: Global,
-    rt: &R,
+    setting: &Setting<'_, R>,
     row: Row<'_, Call>,
     last: usize,
     hooks: Hooks<A>,
-    stamped: &AtomicU64,
 ) -> Result<Result<Played, Stage>, AllocError> {
-    let (grid, script) = match read(rt.alloc(), row.case) {
-        Ok(read) => read,
-        Err(stage) => return Ok(Err(stage)),
-    };
-    let (starts, clients, limits) = (script.starts, script.clients, script.limits);
-    match World::open(rt.alloc(), grid, starts, clients, limits, hooks) {
+    let heap = setting.rt.alloc();
+    match read(heap, row.case) {
+        Ok((grid, script)) => {
+            let (starts, clients, limits) = (script.starts, script.clients, script.limits);
+            let opened = World::open(heap, grid, starts, clients, limits, hooks);
+            play_opened(setting, row, last, opened)
+        }
+        Err(stage) => Ok(Err(stage)),
+    }
+}
+
+/// Plays the first `last` calls of a row in its world, where that was opened.
+fn play_opened<A: Allocator + Copy, R: Alloc<A = A>>(
+    setting: &Setting<'_, R>,
+    row: Row<'_, Call>,
+    last: usize,
+    opened: Result<World<A>, OpenFault>,
+) -> Result<Result<Played, Stage>, AllocError> {
+    match opened {
         Ok(mut world) => {
-            let played = play_calls(alloc, rt, &mut world, row.calls, last, stamped);
-            mem::drop(world);
+            let played = play_calls(setting, &mut world, row.calls, last);
+            let _ended = world.finish();
             Ok(Ok(played?))
         }
         Err(fault) => Ok(Err(stage_of(fault))),

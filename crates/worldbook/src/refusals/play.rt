@@ -8,7 +8,6 @@ use findings::Showing;
 use fleet_trace::write_trace;
 use fleet_world::World;
 use std::alloc::{Alloc, AllocError, Allocator, Global};
-use std::fmt::Write;
 use std::sync::atomic::{AtomicU64, Ordering};
 
 /// A row as far as it was played.
@@ -26,54 +25,76 @@ pub(crate) struct Played {
     pub(crate) chapter: String,
 }
 
-impl Played {
-    fn new(alloc: Global) -> Played {
-        Played {
-            showing: Showing {
-                answers: String::new(alloc),
-                held: String::new(alloc),
-            },
-            refused: None,
-            same: true,
-            spent: false,
-            chapter: String::new(alloc),
-        }
-    }
+/// What a row is played with: memory for what is told of it, the runtime whose memory is refused, and how many stamps the row's
+/// closures made.
+#[derive(Drop)]
+pub(crate) struct Setting<'a, R> {
+    pub(crate) alloc: Global,
+    pub(crate) rt: &'a R,
+    pub(crate) stamped: &'a AtomicU64,
 }
 
-/// Makes the first `last` calls of a row. A call that is refused memory is made again, unless it is the last.
-pub(crate) fn play_calls<A: Allocator + Copy, R: Alloc<A = A>>(
-    alloc: Global,
-    rt: &R,
+/// Makes a call, and tells what it answered. None where it was not refused memory; else whether it left all that is shown as it
+/// was, and called no closure that makes a stamp.
+fn make_watched<A: Allocator + Copy, R: Alloc<A = A>>(
+    setting: &Setting<'_, R>,
+    world: &mut World<A>,
+    clients: &mut Clients,
+    call: Call,
+    told: &mut String,
+) -> Result<Option<bool>, AllocError> {
+    let stamps = setting.stamped.load(Ordering::SeqCst);
+    let before = shown(setting.alloc, world)?;
+    if make(setting.alloc, setting.rt, world, clients, call, told)? {
+        return Ok(None);
+    }
+    let same = shown(setting.alloc, world)? == before;
+    Ok(Some(same && setting.stamped.load(Ordering::SeqCst) == stamps))
+}
+
+/// Makes the first `last` calls, and tells what each answered in the end. A call that is refused memory is made again, unless it
+/// is the last. The result is that call, and whether nothing came of it.
+fn make_calls<A: Allocator + Copy, R: Alloc<A = A>>(
+    setting: &Setting<'_, R>,
     world: &mut World<A>,
     calls: &[Call],
     last: usize,
-    stamped: &AtomicU64,
-) -> Result<Played, AllocError> {
-    let mut played = Played::new(alloc);
-    let mut clients = Clients::new(alloc);
+    told: &mut String,
+) -> Result<(Option<usize>, bool), AllocError> {
+    let mut clients = Clients::new(setting.alloc);
+    let (mut refused, mut same) = (None, true);
     for (at, call) in calls.iter().enumerate() {
         if at >= last {
             break;
         }
-        let (before, stamps) = (shown(alloc, world)?, stamped.load(Ordering::SeqCst));
-        let mut answer = make(alloc, rt, world, &mut clients, *call)?;
-        if answer.is_none() {
-            played.refused = Some(at);
-            played.same = shown(alloc, world)? == before
-                && stamped.load(Ordering::SeqCst) == stamps;
-            if at + 1 >= last {
-                break;
+        if let Some(is_same) = make_watched(setting, world, &mut clients, *call, told)? {
+            refused = Some(at);
+            same = is_same;
+            if at + 1 < last {
+                same &= make(setting.alloc, setting.rt, world, &mut clients, *call, told)?;
             }
-            answer = make(alloc, rt, world, &mut clients, *call)?;
-        }
-        match answer {
-            Some(answer) => writeln!(played.showing.answers, "{answer}")?,
-            None => played.same = false,
         }
     }
-    played.spent = Vec::from_slice(rt.alloc(), &[0u8]).is_err();
-    played.chapter = write_trace(alloc, world.chapter())?;
-    played.showing.held = held(alloc, world)?;
-    Ok(played)
+    Ok((refused, same))
+}
+
+/// Makes the first `last` calls of a row. A call that is refused memory is made again, unless it is the last.
+pub(crate) fn play_calls<A: Allocator + Copy, R: Alloc<A = A>>(
+    setting: &Setting<'_, R>,
+    world: &mut World<A>,
+    calls: &[Call],
+    last: usize,
+) -> Result<Played, AllocError> {
+    let mut answers = String::new(setting.alloc);
+    let (refused, same) = make_calls(setting, world, calls, last, &mut answers)?;
+    let spent = Vec::from_slice(setting.rt.alloc(), &[0u8]).is_err();
+    let chapter = write_trace(setting.alloc, world.chapter())?;
+    let held = held(setting.alloc, world)?;
+    Ok(Played {
+        showing: Showing { answers, held },
+        refused,
+        same,
+        spent,
+        chapter,
+    })
 }

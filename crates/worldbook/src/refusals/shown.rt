@@ -1,7 +1,7 @@
 //! What a world shows, as text, and what it holds.
 
 use fleet_trace::write_trace;
-use fleet_world::{ChapterFault, World};
+use fleet_world::{Chapter, ChapterFault, World};
 use std::alloc::{AllocError, Allocator, Global};
 use std::fmt::Write;
 
@@ -29,12 +29,11 @@ fn write_notices<A: Allocator + Copy>(
     Ok(())
 }
 
-/// All that a world shows: its chapter as a trace, and the answers of its other calls.
-pub(crate) fn shown<A: Allocator + Copy>(
-    alloc: Global,
+/// The answers of the calls that show a world.
+fn write_answers<A: Allocator + Copy>(
+    text: &mut String,
     world: &World<A>,
-) -> Result<String, AllocError> {
-    let mut text = write_trace(alloc, world.chapter())?;
+) -> Result<(), AllocError> {
     write!(
         text,
         " cells {:?} clock {}",
@@ -48,8 +47,17 @@ pub(crate) fn shown<A: Allocator + Copy>(
         world.is_idle()
     )?;
     write!(text, " within {:?}", world.idle_within())?;
-    write_waits(&mut text, world)?;
-    write_notices(&mut text, world)?;
+    write_waits(text, world)?;
+    write_notices(text, world)
+}
+
+/// All that a world shows: its chapter as a trace, and the answers of its other calls.
+pub(crate) fn shown<A: Allocator + Copy>(
+    alloc: Global,
+    world: &World<A>,
+) -> Result<String, AllocError> {
+    let mut text = write_trace(alloc, world.chapter())?;
+    write_answers(&mut text, world)?;
     Ok(text)
 }
 
@@ -72,6 +80,15 @@ fn give_all<A: Allocator + Copy>(
     Ok(())
 }
 
+/// Writes a chapter.
+fn write_chapter<A: Allocator + Copy>(
+    alloc: Global,
+    text: &mut String,
+    chapter: &Chapter<A>,
+) -> Result<(), AllocError> {
+    text.push_str(&write_trace(alloc, chapter)?)
+}
+
 /// Begins the next chapter, at a second try where the first finds no memory, and writes the one before it.
 fn end_chapter<A: Allocator + Copy>(
     alloc: Global,
@@ -80,15 +97,23 @@ fn end_chapter<A: Allocator + Copy>(
 ) -> Result<(), AllocError> {
     for _try in 0..2 {
         match world.next_chapter() {
-            Ok(chapter) => {
-                text.push_str(&write_trace(alloc, &chapter)?)?;
-                break;
-            }
+            Ok(chapter) => return write_chapter(alloc, text, &chapter),
             Err(ChapterFault::BookSpent) => break,
             Err(ChapterFault::NoMemory) => {}
         }
     }
     Ok(())
+}
+
+/// Writes each of a world's notices, and the opening of its next chapter with every errand.
+fn write_rest<A: Allocator + Copy>(
+    alloc: Global,
+    text: &mut String,
+    world: &mut World<A>,
+) -> Result<(), AllocError> {
+    give_all(text, world)?;
+    end_chapter(alloc, text, world)?;
+    text.push_str(&shown(alloc, world)?)
 }
 
 /// All that a world holds: what it shows, each of its notices, and the opening of its next chapter with every errand.
@@ -97,8 +122,6 @@ pub(crate) fn held<A: Allocator + Copy>(
     world: &mut World<A>,
 ) -> Result<String, AllocError> {
     let mut text = shown(alloc, world)?;
-    give_all(&mut text, world)?;
-    end_chapter(alloc, &mut text, world)?;
-    text.push_str(&shown(alloc, world)?)?;
+    write_rest(alloc, &mut text, world)?;
     Ok(text)
 }

@@ -7,7 +7,7 @@ use fleet_script::{Script, ScriptFault, read_script};
 use std::alloc::{AllocError, Allocator};
 
 /// Where a row ended before its world's first call.
-#[derive(Clone, Copy, Debug, PartialEq, Eq)]
+#[derive(Clone, Copy, PartialEq, Eq)]
 pub(crate) enum Stage {
     /// `read_map` was refused memory, and so on.
     Map,

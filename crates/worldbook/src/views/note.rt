@@ -3,7 +3,7 @@
 use fleet_hooks::{ArrivalView, FarewellView, TieView};
 
 /// A view, and the robot whose closure is shown it.
-#[derive(Clone, Copy, Debug, PartialEq, Eq)]
+#[derive(Clone, Copy)]
 pub(crate) enum Shown {
     Tie(u32, TieView),
     Arrival(u32, ArrivalView),

@@ -10,7 +10,6 @@ use fleet_hooks::{
 };
 use fleet_world::{Entry, run};
 use std::alloc::{Alloc, AllocError, Global};
-use std::mem;
 use std::sync::Arc;
 use std::sync::atomic::{AtomicU64, Ordering};
 use std::thread::Threads;
@@ -102,7 +101,7 @@ fn find_in<R: Alloc<A = Global> + Threads + Sync>(
     };
     let (entries, cells) = (&played.world.chapter().entries, played.world.placement());
     let found = compare(alloc, row, entries, cells, note.load(Ordering::SeqCst));
-    mem::drop(played);
+    let _ended = played.world.finish();
     found
 }
 
@@ -119,6 +118,14 @@ fn find<R: Alloc<A = Global> + Threads + Sync>(
     }
 }
 
+/// The note for each of a robot's closures.
+fn notes(
+    note: &Arc<AtomicU64>,
+) -> Result<(Arc<AtomicU64>, Arc<AtomicU64>, Arc<AtomicU64>), AllocError> {
+    let (first, second) = (Arc::try_clone(note)?, Arc::try_clone(note)?);
+    Ok((first, second, Arc::try_clone(note)?))
+}
+
 /// Plays a row with closures that note each view, in one note for all robots.
 fn find_noted<R: Alloc<A = Global> + Threads + Sync>(
     rt: &R,
@@ -128,8 +135,7 @@ fn find_noted<R: Alloc<A = Global> + Threads + Sync>(
     let alloc = rt.alloc();
     let mut hooks = Hooks::new(alloc);
     for robot in 0..3u32 {
-        let (ties, arrivals) = (Arc::try_clone(note)?, Arc::try_clone(note)?);
-        let farewells = Arc::try_clone(note)?;
+        let (ties, arrivals, farewells) = notes(note)?;
         let tie = move |view: TieView| {
             keep(&ties, Shown::Tie(robot, view));
             rank_of(robot, view.dir)
