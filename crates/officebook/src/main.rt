@@ -2,6 +2,7 @@
 //! work while a turn stands in a closure, and scripts that are served.
 #![tactic(auto)]
 
+mod floor;
 mod rows;
 mod serves;
 mod waiting;

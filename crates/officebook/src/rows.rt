@@ -13,62 +13,40 @@ mod play;
 mod refused;
 mod stage;
 mod table;
-mod telling;
 
-use case::Case;
 use meter::Meter;
 use opening::perform;
-use plan::{Call, Plan};
+use plan::Plan;
 use refused::{find_lanes, tell_refused};
 use std::alloc::{Alloc, AllocError, Global};
+use std::fmt::Write;
 use std::sync::Wait;
 use table::{REFUSED, ROWS};
-use telling::Telling;
-
-/// Tells of a row.
-fn tell_row<R: Wait>(
-    rt: &R,
-    case: &Case,
-    plan: Plan<'_>,
-    book: &mut Telling,
-) -> Result<(), AllocError> {
-    let line = format!(in book.alloc; "= {}", case.name)?;
-    book.line(&line)?;
-    perform(rt, case, plan, book)
-}
 
 /// Tells of all rows.
-fn tell_rows<R: Wait>(rt: &R, meter: &Meter<Global>, book: &mut Telling) -> Result<(), AllocError> {
-    let plan = Plan {
-        meter,
-        call: Call::None,
-        before: 0,
-    };
+fn tell_rows<R: Alloc<A = Global> + Wait>(
+    rt: &R,
+    meter: &Meter<Global>,
+    told: &mut String,
+) -> Result<(), AllocError> {
     for case in &ROWS {
-        tell_row(rt, case, plan, book)?;
+        writeln!(told, "= {}", case.name)?;
+        perform(rt, case, Plan::none(meter), told)?;
     }
     Ok(())
 }
 
 /// Tells of the rows in which growths are refused.
-fn tell_refused_rows<R: Wait>(
+fn tell_refused_rows<R: Alloc<A = Global> + Wait>(
     rt: &R,
     meter: &Meter<Global>,
-    book: &mut Telling,
+    told: &mut String,
 ) -> Result<(), AllocError> {
     for case in &REFUSED {
-        let line = format!(in book.alloc; "= refused {}", case.name)?;
-        book.line(&line)?;
-        tell_refused(rt, meter, case, book)?;
+        writeln!(told, "= refused {}", case.name)?;
+        tell_refused(rt, meter, case, told)?;
     }
     Ok(())
-}
-
-/// Tells of a lane whose growths are refused.
-fn tell_lanes(meter: &Meter<Global>, book: &mut Telling) -> Result<(), AllocError> {
-    let finding = find_lanes(meter);
-    let line = format!(in book.alloc; "= refused lane_pair\n{finding:?}")?;
-    book.line(&line)
 }
 
 /// What is told of the rows.
@@ -76,10 +54,9 @@ pub(crate) fn tell<R: Alloc<A = Global> + Wait>(
     rt: &R,
     told: &mut String,
 ) -> Result<(), AllocError> {
-    let mut book = Telling::new(rt.alloc());
     let meter = Meter::new(rt.alloc());
-    tell_rows(rt, &meter, &mut book)?;
-    tell_refused_rows(rt, &meter, &mut book)?;
-    tell_lanes(&meter, &mut book)?;
-    told.push_str(&book.text)
+    tell_rows(rt, &meter, told)?;
+    tell_refused_rows(rt, &meter, told)?;
+    let finding = find_lanes(&meter);
+    writeln!(told, "= refused lane_pair\n{finding:?}")
 }

@@ -9,28 +9,19 @@ mod row;
 mod seeds;
 mod yard;
 
-use lines::{line_of, thousand_line};
+use lines::{tell_row, tell_thousand};
 use row::ROWS;
 use std::alloc::{Alloc, AllocError, Global};
 use std::sync::Wait;
 use std::thread::Threads;
-
-/// Tells of all rows.
-fn tell_rows<R: Alloc<A = Global> + Threads + Sync + Wait>(
-    rt: &R,
-    told: &mut String,
-) -> Result<(), AllocError> {
-    for row in &ROWS {
-        told.push_str(&line_of(rt, row)?)?;
-    }
-    Ok(())
-}
 
 /// What is told of the serves.
 pub(crate) fn tell<R: Alloc<A = Global> + Threads + Sync + Wait>(
     rt: &R,
     told: &mut String,
 ) -> Result<(), AllocError> {
-    tell_rows(rt, told)?;
-    told.push_str(&thousand_line(rt)?)
+    for row in &ROWS {
+        tell_row(rt, row, told)?;
+    }
+    tell_thousand(rt, told)
 }

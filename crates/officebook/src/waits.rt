@@ -1,13 +1,12 @@
 //! Clients that work without the office's lock: while a turn stands in a robot's closure, clients post and collect, and another
 //! ticker's turn waits. The closure goes on when they are done. A line a case tells what came out.
 
-mod flags;
 mod opening;
 mod play;
+mod shared;
 mod staff;
 
 use opening::{Case, played};
-use play::Outcome;
 use std::alloc::{Alloc, AllocError, Global};
 use std::fmt::Write;
 use std::sync::Wait;
@@ -29,25 +28,24 @@ const BLOCKED: Case = Case {
     turns: 1,
 };
 
-/// The line of a case that came to an outcome.
-fn tell_outcome(told: &mut String, case: &Case, outcome: &Outcome) -> Result<(), AllocError> {
-    let flag = if outcome.seen { "seen" } else { "missed" };
-    writeln!(
-        told,
-        "{}: flag {flag} posted {} collected {} tick {}",
-        case.name, outcome.posted, outcome.collected, outcome.tick
-    )
-}
-
 /// The line of a case.
 fn tell_case<R: Alloc<A = Global> + Threads + Sync + Wait>(
     rt: &R,
     case: &Case,
     told: &mut String,
 ) -> Result<(), AllocError> {
+    let name = case.name;
     match played(rt, case) {
-        Ok(outcome) => tell_outcome(told, case, &outcome),
-        Err(fault) => writeln!(told, "{}: {fault:?}", case.name),
+        Ok(outcome) => {
+            let flag = if outcome.seen { "seen" } else { "missed" };
+            let (posted, collected) = (outcome.posted, outcome.collected);
+            let tick = outcome.tick;
+            writeln!(
+                told,
+                "{name}: flag {flag} posted {posted} collected {collected} tick {tick}"
+            )
+        }
+        Err(fault) => writeln!(told, "{name}: {fault:?}"),
     }
 }
 

@@ -1,11 +1,11 @@
 //! Calls on an office, each made again where memory was refused.
 
 use crate::rows::case::Step;
-use crate::rows::stage::Stage;
 use fleet_core::{ChapterFault, ShutFault};
 use fleet_history::{Chapter, Entry};
 use fleet_office::{Guest, Look, Office, OfficeName, Ticker, TurnCause, TurnFault, TurnReport};
-use std::alloc::{Alloc, AllocError, Allocator, Global};
+use std::alloc::{Alloc, AllocError, Allocator};
+use std::fmt::Write;
 use std::sync::Wait;
 
 /// Two reports as one.
@@ -44,22 +44,26 @@ fn turned<N: OfficeName<A>, A: Allocator + Copy, R: Alloc<A = A> + Wait>(
 }
 
 /// What a turn of this ticker answers.
-fn turn_text<N: OfficeName<A>, A: Allocator + Copy, R: Alloc<A = A> + Wait>(
+fn tell_turn<N: OfficeName<A>, A: Allocator + Copy, R: Alloc<A = A> + Wait>(
     rt: &R,
-    stage: &mut Stage<N, A>,
+    office: &Office<N, A>,
+    tickers: &mut Vec<Ticker<N>, A>,
     ticker: usize,
-    alloc: Global,
-) -> Result<String, AllocError> {
-    if ticker >= stage.tickers.len() {
-        return String::from_str(alloc, "nobody");
+    told: &mut String,
+) -> Result<(), AllocError> {
+    match tickers.get_mut(ticker) {
+        Some(ticker) => {
+            let turned = turned(rt, office, ticker);
+            write!(told, "{turned:?}")
+        }
+        None => told.push_str("nobody"),
     }
-    let turned = turned(rt, &stage.office, &mut stage.tickers[ticker]);
-    format!(in alloc; "{turned:?}")
 }
 
 /// What a look saw.
-fn seen_text<A: Allocator + Copy>(look: &Look<A>, alloc: Global) -> Result<String, AllocError> {
-    format!(in alloc;
+fn tell_seen<A: Allocator + Copy>(look: &Look<A>, told: &mut String) -> Result<(), AllocError> {
+    write!(
+        told,
         "tick {} at {:?} eldest {:?} idle {} chapter {} entries {} within {:?}",
         look.tick,
         look.placement.as_slice(),
@@ -72,41 +76,42 @@ fn seen_text<A: Allocator + Copy>(look: &Look<A>, alloc: Global) -> Result<Strin
 }
 
 /// What there is to see with this ticker.
-pub(crate) fn look_text<N: OfficeName<A>, A: Allocator + Copy, R: Alloc<A = A> + Wait>(
+pub(crate) fn tell_look<N: OfficeName<A>, A: Allocator + Copy, R: Alloc<A = A> + Wait>(
     rt: &R,
-    stage: &Stage<N, A>,
+    office: &Office<N, A>,
+    tickers: &[Ticker<N>],
     ticker: usize,
-    alloc: Global,
-) -> Result<String, AllocError> {
-    let Some(ticker) = stage.tickers.get(ticker) else {
-        return String::from_str(alloc, "nobody");
+    told: &mut String,
+) -> Result<(), AllocError> {
+    let Some(ticker) = tickers.get(ticker) else {
+        return told.push_str("nobody");
     };
-    let look = match stage.office.look(rt, ticker) {
+    let look = match office.look(rt, ticker) {
         Ok(look) => look,
-        Err(AllocError) => stage.office.look(rt, ticker)?,
+        Err(AllocError) => office.look(rt, ticker)?,
     };
-    seen_text(&look, alloc)
+    tell_seen(&look, told)
 }
 
 /// What a shut of this robot answers.
-fn shut_text<N: OfficeName<A>, A: Allocator + Copy, R: Wait>(
+fn tell_shut<N: OfficeName<A>, A: Allocator + Copy, R: Wait>(
     rt: &R,
     office: &Office<N, A>,
     robot: u32,
-    alloc: Global,
-) -> Result<String, AllocError> {
+    told: &mut String,
+) -> Result<(), AllocError> {
     let shut = match office.shut(rt, robot) {
         Err(ShutFault::NoMemory) => office.shut(rt, robot),
         shut => shut,
     };
-    format!(in alloc; "{shut:?}")
+    write!(told, "{shut:?}")
 }
 
 /// How many entries of each kind a chapter has.
-pub(crate) fn chapter_text<A: Allocator + Copy>(
+pub(crate) fn tell_chapter<A: Allocator + Copy>(
     chapter: &Chapter<A>,
-    alloc: Global,
-) -> Result<String, AllocError> {
+    told: &mut String,
+) -> Result<(), AllocError> {
     let mut takes = 0u64;
     let mut ticks = 0u64;
     let mut shuts = 0u64;
@@ -118,87 +123,91 @@ pub(crate) fn chapter_text<A: Allocator + Copy>(
         }
     }
     let number = chapter.number;
-    format!(in alloc; "chapter {number} takes {takes} ticks {ticks} shuts {shuts}")
+    write!(
+        told,
+        "chapter {number} takes {takes} ticks {ticks} shuts {shuts}"
+    )
 }
 
 /// What the next chapter's beginning answers.
-fn next_text<N: OfficeName<A>, A: Allocator + Copy, R: Wait>(
+fn tell_next<N: OfficeName<A>, A: Allocator + Copy, R: Wait>(
     rt: &R,
     office: &Office<N, A>,
-    alloc: Global,
-) -> Result<String, AllocError> {
+    told: &mut String,
+) -> Result<(), AllocError> {
     let next = match office.next_chapter(rt) {
         Err(ChapterFault::NoMemory) => office.next_chapter(rt),
         next => next,
     };
     match next {
-        Ok(chapter) => chapter_text(&chapter, alloc),
-        Err(fault) => format!(in alloc; "{fault:?}"),
+        Ok(chapter) => tell_chapter(&chapter, told),
+        Err(fault) => write!(told, "{fault:?}"),
     }
 }
 
 /// What a post, a close or a collect of this client answers.
-pub(crate) fn client_text<N: OfficeName<A>, A: Allocator + Copy>(
+pub(crate) fn tell_client<N: OfficeName<A>, A: Allocator + Copy>(
     guests: &mut Vec<Guest<N, A>, A>,
     step: &Step,
     client: usize,
-    alloc: Global,
-) -> Result<String, AllocError> {
-    if client >= guests.len() {
-        return String::from_str(alloc, "nobody");
-    }
-    let guest = &mut guests[client];
+    told: &mut String,
+) -> Result<(), AllocError> {
+    let Some(guest) = guests.get_mut(client) else {
+        return told.push_str("nobody");
+    };
     match step {
         Step::Post(_, order) => {
             let posted = guest.post(*order);
-            format!(in alloc; "{posted:?}")
+            write!(told, "{posted:?}")
         }
         Step::Close(_) => {
             let closed = guest.close();
-            format!(in alloc; "{closed:?}")
+            write!(told, "{closed:?}")
         }
         _ => {
             let notice = guest.collect();
-            format!(in alloc; "{notice:?}")
+            write!(told, "{notice:?}")
         }
     }
 }
 
 /// The number of the ticker that this one gives a part to.
-fn split_text<N: OfficeName<A>, A: Allocator + Copy>(
+fn tell_split<N: OfficeName<A>, A: Allocator + Copy>(
     tickers: &mut Vec<Ticker<N>, A>,
     ticker: usize,
-    alloc: Global,
-) -> Result<String, AllocError> {
+    told: &mut String,
+) -> Result<(), AllocError> {
     let number = tickers.len();
-    if ticker >= number {
-        return String::from_str(alloc, "nobody");
-    }
-    match tickers[ticker].split() {
+    let Some(ticker) = tickers.get_mut(ticker) else {
+        return told.push_str("nobody");
+    };
+    match ticker.split() {
         Some(new) => {
             tickers.push(new)?;
-            format!(in alloc; "ticker {number}")
+            write!(told, "ticker {number}")
         }
-        None => String::from_str(alloc, "none"),
+        None => told.push_str("none"),
     }
 }
 
-/// What a call answers that is no end.
-pub(crate) fn answer_text<N: OfficeName<A>, A: Allocator + Copy, R: Alloc<A = A> + Wait>(
+/// Makes a call that is no end, and tells what it answered.
+pub(crate) fn tell_answer<N: OfficeName<A>, A: Allocator + Copy, R: Alloc<A = A> + Wait>(
     rt: &R,
-    stage: &mut Stage<N, A>,
+    office: &Office<N, A>,
+    guests: &mut Vec<Guest<N, A>, A>,
+    tickers: &mut Vec<Ticker<N>, A>,
     step: &Step,
-    alloc: Global,
-) -> Result<String, AllocError> {
+    told: &mut String,
+) -> Result<(), AllocError> {
     match *step {
         Step::Post(client, _) | Step::Close(client) | Step::Collect(client) => {
-            client_text(&mut stage.guests, step, client, alloc)
+            tell_client(guests, step, client, told)
         }
-        Step::Turn(ticker) => turn_text(rt, stage, ticker, alloc),
-        Step::Look(ticker) => look_text(rt, stage, ticker, alloc),
-        Step::Split(ticker) => split_text(&mut stage.tickers, ticker, alloc),
-        Step::Shut(robot) => shut_text(rt, &stage.office, robot, alloc),
-        Step::NextChapter => next_text(rt, &stage.office, alloc),
-        Step::Conclude(_, _) => String::from_str(alloc, "an end"),
+        Step::Turn(ticker) => tell_turn(rt, office, tickers, ticker, told),
+        Step::Look(ticker) => tell_look(rt, office, tickers, ticker, told),
+        Step::Split(ticker) => tell_split(tickers, ticker, told),
+        Step::Shut(robot) => tell_shut(rt, office, robot, told),
+        Step::NextChapter => tell_next(rt, office, told),
+        Step::Conclude(_, _) => told.push_str("an end"),
     }
 }

@@ -3,7 +3,7 @@
 use fleet_book::{Limits, Order};
 
 /// A call on an office, or on one of its clients or tickers.
-#[derive(Clone, Copy, Debug, PartialEq, Eq)]
+#[derive(Clone, Copy, Debug)]
 pub(crate) enum Step {
     /// A client posts an order.
     Post(usize, Order),
@@ -25,7 +25,7 @@ pub(crate) enum Step {
 }
 
 /// A call on a hall, with its first client.
-#[derive(Clone, Copy, Debug, PartialEq, Eq)]
+#[derive(Clone, Copy, Debug)]
 pub(crate) enum HallStep {
     /// The client posts an order.
     Post(Order),
@@ -41,41 +41,20 @@ pub(crate) enum HallStep {
 
 /// A row: a floor whose letters fill it, where its robots start, how many clients there are, and what is done: some calls over
 /// and over, then others once.
-#[derive(Clone, Copy, Debug)]
-pub(crate) struct Case {
-    pub(crate) name: &'static str,
+#[derive(Clone, Copy)]
+pub(crate) struct Case<'a> {
+    pub(crate) name: &'a str,
     pub(crate) sides: (u32, u32),
-    pub(crate) letters: &'static [u8],
-    pub(crate) starts: &'static [u32],
+    pub(crate) letters: &'a [u8],
+    pub(crate) starts: &'a [u32],
     pub(crate) clients: u32,
     pub(crate) limits: Limits,
     /// How often the calls of a round are made.
     pub(crate) rounds: u32,
-    pub(crate) round: &'static [Step],
-    pub(crate) steps: &'static [Step],
-    /// What is done with a hall in the place of an office, where there is anything.
-    pub(crate) hall: &'static [HallStep],
-}
-
-/// What is done in a row.
-#[derive(Clone, Copy)]
-pub(crate) struct Course<'a> {
-    pub(crate) rounds: u32,
     pub(crate) round: &'a [Step],
     pub(crate) steps: &'a [Step],
+    /// What is done with a hall in the place of an office, where there is anything.
     pub(crate) hall: &'a [HallStep],
-}
-
-impl Case {
-    /// What is done in the row.
-    pub(crate) fn course(&self) -> Course<'_> {
-        Course {
-            rounds: self.rounds,
-            round: self.round,
-            steps: self.steps,
-            hall: self.hall,
-        }
-    }
 }
 
 impl Step {

@@ -5,7 +5,7 @@ use crate::rows::table::{TO_0, TO_1, TWO_CELLS};
 use fleet_book::Limits;
 
 /// A client that is not handed in.
-pub(crate) const MISSING_CLIENT: Case = Case {
+pub(crate) const MISSING_CLIENT: Case<'static> = Case {
     name: "conclude_faults_missing",
     steps: &[
         Step::Post(0, TO_1),
@@ -16,14 +16,14 @@ pub(crate) const MISSING_CLIENT: Case = Case {
 };
 
 /// A ticker that made no tick may stay away.
-pub(crate) const IDLE_TICKER: Case = Case {
+pub(crate) const IDLE_TICKER: Case<'static> = Case {
     name: "conclude_faults_idle_ticker",
     steps: &[Step::Post(0, TO_1), Step::Conclude(1, 0)],
     ..TWO_CELLS
 };
 
 /// Two tickers make turns, and one of them is not handed in.
-pub(crate) const TWO_TICKERS: Case = Case {
+pub(crate) const TWO_TICKERS: Case<'static> = Case {
     name: "conclude_faults_tickers",
     steps: &[
         Step::Post(0, TO_1),
@@ -39,7 +39,7 @@ pub(crate) const TWO_TICKERS: Case = Case {
 };
 
 /// The clock is spent after one tick: later turns take and give.
-pub(crate) const SPENT_CLOCK: Case = Case {
+pub(crate) const SPENT_CLOCK: Case<'static> = Case {
     name: "office_spent_clock",
     limits: Limits {
         clock: 1,
@@ -57,7 +57,7 @@ pub(crate) const SPENT_CLOCK: Case = Case {
 };
 
 /// An outlet of one notice.
-pub(crate) const SMALL_OUTLET: Case = Case {
+pub(crate) const SMALL_OUTLET: Case<'static> = Case {
     name: "office_small_outlet",
     limits: Limits {
         outlet: 1,
@@ -77,7 +77,7 @@ pub(crate) const SMALL_OUTLET: Case = Case {
 };
 
 /// A full chapter at the end, and a next one.
-pub(crate) const NEXT_CHAPTER: Case = Case {
+pub(crate) const NEXT_CHAPTER: Case<'static> = Case {
     name: "office_next_chapter",
     limits: Limits {
         chapter: 1,
@@ -95,7 +95,7 @@ pub(crate) const NEXT_CHAPTER: Case = Case {
 };
 
 /// One of two clients is handed in, then both.
-pub(crate) const SECOND_CLIENT: Case = Case {
+pub(crate) const SECOND_CLIENT: Case<'static> = Case {
     name: "office_second_client",
     clients: 2,
     steps: &[Step::Conclude(1, 1), Step::Conclude(2, 1)],
@@ -103,7 +103,7 @@ pub(crate) const SECOND_CLIENT: Case = Case {
 };
 
 /// A chapter that is full before the tick.
-pub(crate) const FULL_CHAPTER: Case = Case {
+pub(crate) const FULL_CHAPTER: Case<'static> = Case {
     name: "office_full_chapter",
     limits: Limits {
         chapter: 1,
@@ -115,7 +115,7 @@ pub(crate) const FULL_CHAPTER: Case = Case {
 };
 
 /// A mailbox that has room for one order at a time.
-pub(crate) const SMALL_MAILBOX: Case = Case {
+pub(crate) const SMALL_MAILBOX: Case<'static> = Case {
     name: "office_small_mailbox",
     limits: Limits {
         mailbox: 2,

@@ -3,39 +3,14 @@
 ghost use Rattle.std.specs.Prelude.{◌≡◌};
 ghost use Rattle.fleet_office.specs.Views.{IsNamed};
 
-use crate::rows::calls::client_text;
+use crate::rows::calls::tell_client;
 use crate::rows::case::{HallStep, Step};
 use crate::rows::stage::Fleet;
-use crate::rows::telling::Telling;
 use fleet_calls::OpenFault;
 use fleet_office::{Desk, Guest, Hall, OfficeName, Ticker, guests_of};
-use std::alloc::{Alloc, AllocError, Allocator, Global};
+use std::alloc::{Alloc, AllocError, Allocator};
+use std::fmt::Write;
 use std::mem;
-
-/// What a call on a hall answers.
-fn hall_text<N: OfficeName<A>, A: Allocator + Copy, R: Alloc<A = A>>(
-    rt: &R,
-    hall: &mut Hall<N, A>,
-    ticker: &mut Ticker<N>,
-    step: &HallStep,
-    alloc: Global,
-) -> Result<String, AllocError> {
-    match step {
-        HallStep::Take if hall.rest.clients() > 0 => {
-            let taken = hall.take_one(0);
-            format!(in alloc; "{taken:?}")
-        }
-        HallStep::Tick => {
-            let ticked = hall.tick_with(rt, ticker);
-            format!(in alloc; "{ticked:?}")
-        }
-        HallStep::Give => {
-            let given = hall.give_all();
-            format!(in alloc; "{given}")
-        }
-        _ => String::from_str(alloc, "nobody"),
-    }
-}
 
 /// Makes a call on a hall, or on its first client, and tells what it answered.
 fn play_step<N: OfficeName<A>, A: Allocator + Copy, R: Alloc<A = A>>(
@@ -44,15 +19,25 @@ fn play_step<N: OfficeName<A>, A: Allocator + Copy, R: Alloc<A = A>>(
     ticker: &mut Ticker<N>,
     guests: &mut Vec<Guest<N, A>, A>,
     step: &HallStep,
-    book: &mut Telling,
+    told: &mut String,
 ) -> Result<(), AllocError> {
-    let answer = match *step {
-        HallStep::Post(order) => client_text(guests, &Step::Post(0, order), 0, book.alloc)?,
-        HallStep::Collect => client_text(guests, &Step::Collect(0), 0, book.alloc)?,
-        _ => hall_text(rt, hall, ticker, step, book.alloc)?,
-    };
-    let line = format!(in book.alloc; "{step:?}: {answer}")?;
-    book.line(&line)
+    match *step {
+        HallStep::Post(order) => tell_client(guests, &Step::Post(0, order), 0, told),
+        HallStep::Collect => tell_client(guests, &Step::Collect(0), 0, told),
+        HallStep::Take if hall.rest.clients() > 0 => {
+            let taken = hall.take_one(0);
+            write!(told, "{taken:?}")
+        }
+        HallStep::Take => told.push_str("nobody"),
+        HallStep::Tick => {
+            let ticked = hall.tick_with(rt, ticker);
+            write!(told, "{ticked:?}")
+        }
+        HallStep::Give => {
+            let given = hall.give_all();
+            write!(told, "{given}")
+        }
+    }
 }
 
 /// Makes these calls on a hall with these clients.
@@ -62,10 +47,12 @@ fn play_steps<N: OfficeName<A>, A: Allocator + Copy, R: Alloc<A = A>>(
     ticker: &mut Ticker<N>,
     guests: &mut Vec<Guest<N, A>, A>,
     steps: &[HallStep],
-    book: &mut Telling,
+    told: &mut String,
 ) -> Result<(), AllocError> {
     for step in steps {
-        play_step(rt, hall, ticker, guests, step, book)?;
+        write!(told, "{step:?}: ")?;
+        play_step(rt, hall, ticker, guests, step, told)?;
+        told.push_str("\n")?;
     }
     Ok(())
 }
@@ -76,7 +63,7 @@ pub(crate) fn play_hall<N: OfficeName<A>, A: Allocator + Copy, R: Alloc<A = A>>(
     desk: Desk<A>,
     fleet: Fleet<A>,
     steps: &[HallStep],
-    book: &mut Telling,
+    told: &mut String,
 ) -> Result<Result<(), OpenFault>, AllocError>
     requires named { IsNamed desk N.name N.parts N.rings }
 {
@@ -85,23 +72,15 @@ pub(crate) fn play_hall<N: OfficeName<A>, A: Allocator + Copy, R: Alloc<A = A>>(
         starts,
         hooks,
     } = fleet;
-    let (mut hall, clients, mut ticker) = match Hall::<N, A>::open(
-        rt.alloc(),
-        desk,
-        grid,
-        starts,
-        hooks,
-    ) {
-        Ok(opened) => opened,
-        Err(fault) => return Ok(Err(fault)),
-    };
-    let played = match guests_of::<N, A>(rt.alloc(), clients) {
-        Ok(mut guests) => play_steps(rt, &mut hall, &mut ticker, &mut guests, steps, book),
-        Err(AllocError) => Err(AllocError),
-    };
-    mem::drop(hall);
-    match played {
-        Ok(()) => Ok(Ok(())),
-        Err(AllocError) => Err(AllocError),
+    match Hall::<N, A>::open(rt.alloc(), desk, grid, starts, hooks) {
+        Ok((mut hall, clients, mut ticker)) => {
+            let played = match guests_of::<N, A>(rt.alloc(), clients) {
+                Ok(mut guests) => play_steps(rt, &mut hall, &mut ticker, &mut guests, steps, told),
+                Err(AllocError) => Err(AllocError),
+            };
+            mem::drop(hall);
+            Ok(Ok(played?))
+        }
+        Err(fault) => Ok(Err(fault)),
     }
 }

@@ -2,21 +2,22 @@
 
 ghost use Rattle.std.specs.Prelude.{◌≡◌};
 
+use crate::floor::grid_of;
 use crate::rows::case::Case;
 use crate::rows::meter::Meter;
 use crate::rows::plan::{Call, Plan};
 use crate::rows::play::play;
 use crate::rows::stage::Fleet;
-use crate::rows::telling::Telling;
 use fleet_calls::OpenFault;
 use fleet_grid::Grid;
 use fleet_hooks::{
     ArrivalHook, ArrivalView, Farewell, FarewellView, Hooks, StampLaw, TieHook, TieLaw, TieView,
 };
-use fleet_map::MapText;
 use fleet_office::{Desk, OfficeName};
-use std::alloc::{AllocError, Allocator, Global};
+use std::alloc::{Alloc, AllocError, Global};
+use std::fmt::Write;
 use std::marker::Brand;
+use std::mem;
 use std::sync::Wait;
 
 /// What all of an office lies on.
@@ -28,80 +29,53 @@ impl<'a> OfficeName<Heap<'a>> for Brand {
     ghost rings = { [] };
 }
 
-/// A row's grid. None where the letters do not fill the sides.
-fn grid_of<A: Allocator + Copy>(heap: A, case: &Case) -> Result<Option<Grid<A>>, AllocError> {
-    let (height, width) = case.sides;
-    if height > 1_024 || width > 1_024 || case.letters.len() != height as usize * width as usize {
-        return Ok(None);
-    }
-    let map = MapText {
-        height,
-        width,
-        cells: Vec::from_slice(heap, case.letters)?,
-    };
-    Ok(Some(Grid::new(map)?))
-}
-
-/// A row's grid, and where its robots start. None where the letters do not fill the sides.
-fn floor_of<A: Allocator + Copy>(
-    heap: A,
-    case: &Case,
-) -> Result<Option<(Grid<A>, Vec<u32, A>)>, AllocError> {
-    let starts = Vec::from_slice(heap, case.starts)?;
-    match grid_of(heap, case)? {
-        Some(grid) => Ok(Some((grid, starts))),
-        None => Ok(None),
-    }
-}
-
-/// Plays a row with this fleet, or says why its office was not opened.
-fn fleet_play<'a, R: Wait>(
-    rt: &'a R,
-    fleet: Fleet<Heap<'a>>,
-    case: &Case,
+/// A row's desk, its grid, and where its robots start.
+fn site_of<'a>(
+    case: &Case<'_>,
     plan: Plan<'a>,
-    book: &mut Telling,
-) -> Result<Result<(), OpenFault>, AllocError> {
+) -> Result<(Desk<Heap<'a>>, Grid<Heap<'a>>, Vec<u32, Heap<'a>>), OpenFault> {
     let heap = plan.meter;
+    let grid = grid_of(heap, case.sides, case.letters)?;
+    let starts = Vec::from_slice(heap, case.starts)?;
     plan.begin(Call::Desk);
     let desk = Desk::new(heap, case.clients, case.limits);
     plan.end();
-    let (lent, course) = ((rt, heap), case.course());
-    match desk {
-        Ok(desk) => play::<Brand, Heap<'_>, (&R, Heap<'_>)>(&lent, desk, fleet, course, plan, book),
-        Err(fault) => Ok(Err(fault)),
-    }
+    Ok((desk?, grid, starts))
 }
 
-/// Plays a row with these closures on its floor, or says why it was not opened.
-fn floor_play<'a, R: Wait>(
+/// Plays a row with these closures, or says why its office was not opened.
+fn play_with<'a, R: Wait>(
     rt: &'a R,
     hooks: Hooks<Heap<'a>>,
-    case: &Case,
+    case: &Case<'_>,
     plan: Plan<'a>,
-    book: &mut Telling,
+    told: &mut String,
 ) -> Result<Result<(), OpenFault>, AllocError> {
-    match floor_of(plan.meter, case)? {
-        Some((grid, starts)) => {
+    match site_of(case, plan) {
+        Ok((desk, grid, starts)) => {
+            let lent = (rt, plan.meter);
             let fleet = Fleet {
                 grid,
                 starts,
                 hooks,
             };
-            fleet_play(rt, fleet, case, plan, book)
+            play::<Brand, Heap<'_>, (&R, Heap<'_>)>(&lent, desk, fleet, case, plan, told)
         }
-        None => Ok(Err(OpenFault::NoRobots)),
+        Err(fault) => {
+            mem::drop(hooks);
+            Ok(Err(fault))
+        }
     }
 }
 
 /// Plays a row with closures that answer 0, or says why it was not opened.
-fn opened_play<'a, R: Wait>(
+fn opened_play<'a, R: Alloc<A = Global> + Wait>(
     rt: &'a R,
-    case: &Case,
+    case: &Case<'_>,
     plan: Plan<'a>,
-    book: &mut Telling,
+    told: &mut String,
 ) -> Result<Result<(), OpenFault>, AllocError> {
-    let alloc = book.alloc;
+    let alloc = rt.alloc();
     let mut hooks = Hooks::new(plan.meter);
     for _robot in case.starts {
         let tie = TieHook::new(TieLaw::ANY, Box::new(alloc, |_view: TieView| 0)?);
@@ -109,25 +83,22 @@ fn opened_play<'a, R: Wait>(
         let farewell = Farewell::new(StampLaw::ANY, Box::new(alloc, |_view: FarewellView| 0)?);
         hooks.push(tie, arrival, farewell)?;
     }
-    floor_play(rt, hooks, case, plan, book)
+    play_with(rt, hooks, case, plan, told)
 }
 
 /// Plays a row, and where memory was refused to its opening, once more.
-pub(crate) fn perform<R: Wait>(
+pub(crate) fn perform<R: Alloc<A = Global> + Wait>(
     rt: &R,
-    case: &Case,
+    case: &Case<'_>,
     plan: Plan<'_>,
-    book: &mut Telling,
+    told: &mut String,
 ) -> Result<(), AllocError> {
-    let played = match opened_play(rt, case, plan, book)? {
-        Err(OpenFault::NoMemory) => opened_play(rt, case, plan, book)?,
+    let played = match opened_play(rt, case, plan, told)? {
+        Err(OpenFault::NoMemory) => opened_play(rt, case, plan, told)?,
         played => played,
     };
     match played {
         Ok(()) => Ok(()),
-        Err(fault) => {
-            let line = format!(in book.alloc; "not opened: {fault:?}")?;
-            book.line(&line)
-        }
+        Err(fault) => writeln!(told, "not opened: {fault:?}"),
     }
 }

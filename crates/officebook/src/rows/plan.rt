@@ -4,7 +4,7 @@ use crate::rows::meter::Meter;
 use std::alloc::Global;
 
 /// A call of a row.
-#[derive(Clone, Copy, Debug, PartialEq, Eq)]
+#[derive(Clone, Copy, PartialEq, Eq)]
 pub(crate) enum Call {
     /// None.
     None,
@@ -22,7 +22,16 @@ pub(crate) struct Plan<'a> {
     pub(crate) before: u64,
 }
 
-impl Plan<'_> {
+impl<'a> Plan<'a> {
+    /// No growth is refused.
+    pub(crate) fn none(meter: &'a Meter<Global>) -> Plan<'a> {
+        Plan {
+            meter,
+            call: Call::None,
+            before: 0,
+        }
+    }
+
     /// Before a call: refuses its growth where it is the one.
     pub(crate) fn begin(&self, call: Call) {
         if self.call == call {

@@ -6,17 +6,17 @@ use crate::rows::case::Case;
 use crate::rows::meter::Meter;
 use crate::rows::opening::perform;
 use crate::rows::plan::{Call, Plan};
-use crate::rows::telling::Telling;
 use fleet_book::{Limits, Order};
 use fleet_lanes::lane_pair;
-use std::alloc::{AllocError, Global};
+use std::alloc::{Alloc, AllocError, Global};
+use std::fmt::Write;
 use std::sync::Wait;
 
 /// No call of a row has more growths.
 const MOST: u64 = 1_000;
 
 /// What became of a call whose growths were refused, each in a play of its own.
-#[derive(Clone, Copy, Debug, PartialEq, Eq)]
+#[derive(Clone, Copy, Debug)]
 pub(crate) enum Finding {
     /// The call takes no memory there.
     NoGrowth,
@@ -35,24 +35,34 @@ fn found(before: u64) -> Finding {
     }
 }
 
+/// Whether a play of the case tells what the row does.
+fn is_as<R: Alloc<A = Global> + Wait>(
+    rt: &R,
+    case: &Case<'_>,
+    plan: Plan<'_>,
+    row: &str,
+) -> Result<bool, AllocError> {
+    let mut told = String::new(rt.alloc());
+    perform(rt, case, plan, &mut told)?;
+    Ok(told.as_str() == row)
+}
+
 /// Plays a row with each growth of a call refused in turn, and made again.
-fn find<R: Wait>(
+fn find<R: Alloc<A = Global> + Wait>(
     rt: &R,
     meter: &Meter<Global>,
-    case: &Case,
+    case: &Case<'_>,
     call: Call,
-    row: &Telling,
+    row: &str,
 ) -> Result<Finding, AllocError> {
     for before in 0..MOST {
         meter.forget();
-        let mut book = Telling::new(row.alloc);
         let plan = Plan {
             meter,
             call,
             before,
         };
-        perform(rt, case, plan, &mut book)?;
-        if book.text.as_str() != row.text.as_str() {
+        if !is_as(rt, case, plan, row)? {
             return Ok(Finding::Otherwise);
         }
         if !meter.has_refused() {
@@ -62,43 +72,39 @@ fn find<R: Wait>(
     Ok(Finding::Otherwise)
 }
 
-/// Tells of a call, where it took memory.
-fn tell_finding(call: &str, finding: Finding, book: &mut Telling) -> Result<(), AllocError> {
-    if finding == Finding::NoGrowth {
-        return Ok(());
-    }
-    let line = format!(in book.alloc; "{call}: {finding:?}")?;
-    book.line(&line)
-}
-
 /// Tells of each call of a row that took memory, and was refused it.
-pub(crate) fn tell_refused<R: Wait>(
+fn tell_findings<R: Alloc<A = Global> + Wait>(
     rt: &R,
     meter: &Meter<Global>,
-    case: &Case,
-    book: &mut Telling,
+    case: &Case<'_>,
+    row: &str,
+    told: &mut String,
 ) -> Result<(), AllocError> {
-    let mut row = Telling::new(book.alloc);
-    meter.forget();
-    let plan = Plan {
-        meter,
-        call: Call::None,
-        before: 0,
-    };
-    perform(rt, case, plan, &mut row)?;
-    for call in [Call::Desk, Call::Open] {
-        let finding = find(rt, meter, case, call, &row)?;
-        let name = format!(in book.alloc; "{call:?}")?;
-        tell_finding(&name, finding, book)?;
-    }
+    let desk = find(rt, meter, case, Call::Desk, row)?;
+    let open = find(rt, meter, case, Call::Open, row)?;
+    write!(told, "Desk: {desk:?}\nOpen: {open:?}\n")?;
     for (number, step) in case.steps.iter().enumerate() {
         if step.grows() {
-            let finding = find(rt, meter, case, Call::Step(number), &row)?;
-            let name = format!(in book.alloc; "{step:?}")?;
-            tell_finding(&name, finding, book)?;
+            match find(rt, meter, case, Call::Step(number), row)? {
+                Finding::NoGrowth => {}
+                finding => writeln!(told, "{step:?}: {finding:?}")?,
+            }
         }
     }
     Ok(())
+}
+
+/// Plays a row, and tells of its calls whose growths are refused.
+pub(crate) fn tell_refused<R: Alloc<A = Global> + Wait>(
+    rt: &R,
+    meter: &Meter<Global>,
+    case: &Case<'_>,
+    told: &mut String,
+) -> Result<(), AllocError> {
+    let mut row = String::new(rt.alloc());
+    meter.forget();
+    perform(rt, case, Plan::none(meter), &mut row)?;
+    tell_findings(rt, meter, case, &row, told)
 }
 
 /// Whether a lane is made, and takes its first order.
@@ -106,10 +112,10 @@ fn is_laned(meter: &Meter<Global>, limits: Limits) -> bool {
     if !limits.is_valid() {
         return false;
     }
-    let Ok((mut client, _end)) = lane_pair(meter, 0, limits) else {
-        return false;
-    };
-    client.post(Order::Go { robot: 0, cell: 1 }) == Ok(1)
+    match lane_pair(meter, 0, limits) {
+        Ok((mut client, _end)) => client.post(Order::Go { robot: 0, cell: 1 }) == Ok(1),
+        Err(AllocError) => false,
+    }
 }
 
 /// Makes a lane with each growth refused in turn, and made again.

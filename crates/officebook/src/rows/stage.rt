@@ -12,11 +12,12 @@ use fleet_office::{
     ConcludeFault, Desk, Final, Guest, Home, Office, OfficeName, Ticker, clients_of, guests_of,
 };
 use std::alloc::{AllocError, Allocator};
+use std::mem;
 
-/// An office, its clients by number, and its tickers in the order in which they were made.
+/// An office until its end, its clients by number, and its tickers in the order in which they were made.
 #[derive(Drop)]
 pub(crate) struct Stage<N: OfficeName<A>, A: Allocator + Copy> {
-    pub(crate) office: Office<N, A>,
+    pub(crate) office: Option<Office<N, A>>,
     pub(crate) guests: Vec<Guest<N, A>, A>,
     pub(crate) tickers: Vec<Ticker<N>, A>,
 }
@@ -60,34 +61,40 @@ pub(crate) fn opened<N: OfficeName<A>, A: Allocator + Copy>(
     plan.begin(Call::Open);
     let opened = Office::<N, A>::open(alloc, desk, grid, starts, hooks);
     plan.end();
-    let (office, clients, ticker) = match opened {
-        Ok(opened) => opened,
-        Err(fault) => return Ok(Err(fault)),
-    };
-    match seated::<N, A>(alloc, clients, ticker) {
-        Ok((guests, tickers)) => Ok(Ok(Stage {
-            office,
-            guests,
-            tickers,
-        })),
-        Err(AllocError) => Err(AllocError),
+    match opened {
+        Ok((office, clients, ticker)) => match seated::<N, A>(alloc, clients, ticker) {
+            Ok((guests, tickers)) => Ok(Ok(Stage {
+                office: Some(office),
+                guests,
+                tickers,
+            })),
+            Err(AllocError) => {
+                mem::drop(office);
+                Err(AllocError)
+            }
+        },
+        Err(fault) => Ok(Err(fault)),
     }
 }
 
 /// Moves the first ones out of a list, so many or all.
-fn first_of<T: Drop, A: Allocator + Copy>(
-    alloc: A,
+fn taken_from<T: Drop, A: Allocator + Copy>(
     list: &mut Vec<T, A>,
     count: usize,
 ) -> Result<Vec<T, A>, AllocError> {
-    let mut first = Vec::new(alloc);
-    for _ in 0..count {
-        if list.is_empty() {
-            break;
-        }
-        first.push(list.remove(0))?;
-    }
-    Ok(first)
+    let rest = list.split_off(count.min(list.len()))?;
+    Ok(mem::replace(list, rest))
+}
+
+/// Puts these back before the others.
+fn put_back<T: Drop, A: Allocator + Copy>(
+    list: &mut Vec<T, A>,
+    first: Vec<T, A>,
+) -> Result<(), AllocError> {
+    let mut all = first;
+    all.append(list)?;
+    *list = all;
+    Ok(())
 }
 
 /// Concludes, and once more with what came home where memory was refused.
@@ -118,102 +125,64 @@ fn conclude_home<N: OfficeName<A>, A: Allocator + Copy>(
     office.conclude(alloc, clients, tickers)
 }
 
-/// The clients that came home as guests, before those that had stayed away.
-fn guests_again<N: OfficeName<A>, A: Allocator + Copy>(
-    alloc: A,
-    clients: Vec<Client<A>, A>,
-    away: Vec<Guest<N, A>, A>,
-) -> Result<Vec<Guest<N, A>, A>, AllocError>
-    requires on { AreOn N.rings (cores clients.items) }
-{
-    let mut away = away;
-    let mut guests = guests_of::<N, A>(alloc, clients)?;
-    guests.append(&mut away)?;
-    Ok(guests)
-}
-
-/// The tickers that came home, before those that had stayed away.
-fn tickers_again<N: OfficeName<A>, A: Allocator + Copy>(
-    tickers: Vec<Ticker<N>, A>,
-    away: Vec<Ticker<N>, A>,
-) -> Result<Vec<Ticker<N>, A>, AllocError> {
-    let mut away = away;
-    let mut tickers = tickers;
-    tickers.append(&mut away)?;
-    Ok(tickers)
-}
-
-/// The stage again, with what came home and what had stayed away.
+/// Brings what came home back to the stage.
 fn come_back<N: OfficeName<A>, A: Allocator + Copy>(
     alloc: A,
+    stage: &mut Stage<N, A>,
     home: Home<N, A>,
-    guests: Vec<Guest<N, A>, A>,
-    tickers: Vec<Ticker<N>, A>,
-) -> Result<Stage<N, A>, AllocError>
+) -> Result<(), AllocError>
     requires on { AreOn N.rings (cores home.clients.items) }
 {
     let Home {
         office,
         clients,
-        tickers: all,
+        tickers,
     } = home;
-    let guests = guests_again::<N, A>(alloc, clients, guests);
-    let tickers = tickers_again::<N, A>(all, tickers);
-    match (guests, tickers) {
-        (Ok(guests), Ok(tickers)) => Ok(Stage {
-            office,
-            guests,
-            tickers,
-        }),
-        _ => Err(AllocError),
-    }
+    mem::drop(stage.office.replace(office));
+    let guests = guests_of::<N, A>(alloc, clients);
+    put_back(&mut stage.tickers, tickers)?;
+    put_back(&mut stage.guests, guests?)
 }
 
 /// The first so many guests as clients, and the first so many tickers.
 fn handed_in<N: OfficeName<A>, A: Allocator + Copy>(
     alloc: A,
-    guests: &mut Vec<Guest<N, A>, A>,
-    tickers: &mut Vec<Ticker<N>, A>,
+    stage: &mut Stage<N, A>,
     handed: (usize, usize),
 ) -> Result<(Vec<Client<A>, A>, Vec<Ticker<N>, A>), AllocError>
     ensures on { IfOk result (λ given. AreOn N.rings (cores given.0.items)) }
 {
-    let first = first_of(alloc, guests, handed.0)?;
-    let by = first_of(alloc, tickers, handed.1)?;
-    Ok((clients_of::<N, A>(alloc, first)?, by))
+    let tickers = taken_from(&mut stage.tickers, handed.1)?;
+    let guests = taken_from(&mut stage.guests, handed.0)?;
+    Ok((clients_of::<N, A>(alloc, guests)?, tickers))
 }
 
-/// Concludes with the first so many clients and tickers. After a fault the stage comes back.
+/// Concludes with the first so many clients and tickers. After a fault all is on the stage again.
 pub(crate) fn concluded<N: OfficeName<A>, A: Allocator + Copy>(
     alloc: A,
-    stage: Stage<N, A>,
+    stage: &mut Stage<N, A>,
     handed: (usize, usize),
     call: Call,
     plan: Plan<'_>,
-) -> Result<Result<Final<A>, (ConcludeFault, Stage<N, A>)>, AllocError> {
-    let Stage {
-        office,
-        mut guests,
-        mut tickers,
-    } = stage;
-    let Ok((clients, by)) = handed_in(alloc, &mut guests, &mut tickers, handed) else {
+) -> Result<Result<Final<A>, ConcludeFault>, AllocError> {
+    let (clients, tickers) = handed_in(alloc, stage, handed)?;
+    // The office is there until its end, so no call ends here.
+    let Some(office) = stage.office.take() else {
         return Err(AllocError);
     };
+    let home = Home {
+        office,
+        clients,
+        tickers,
+    };
     plan.begin(call);
-    let ended = conclude_home(
-        alloc,
-        Home {
-            office,
-            clients,
-            tickers: by,
-        },
-    );
+    let ended = conclude_home(alloc, home);
     plan.end();
     match ended {
-        Ok(last) => Ok(Ok(last)),
-        Err((fault, home)) => match come_back(alloc, home, guests, tickers) {
-            Ok(stage) => Ok(Err((fault, stage))),
-            Err(AllocError) => Err(AllocError),
-        },
+        Ok(end) => Ok(Ok(end)),
+        Err((fault, home)) => {
+            come_back(alloc, stage, home)?;
+            Ok(Err(fault))
+        }
     }
 }

@@ -20,7 +20,7 @@ const TO_2: Order = Order::Go { robot: 0, cell: 2 };
 const OTHER_TO_0: Order = Order::Go { robot: 1, cell: 0 };
 
 /// One client of an office over two cells, with its robot on the first, and no calls.
-pub(crate) const TWO_CELLS: Case = Case {
+pub(crate) const TWO_CELLS: Case<'static> = Case {
     name: "",
     sides: (1, 2),
     letters: b"..",
@@ -34,7 +34,7 @@ pub(crate) const TWO_CELLS: Case = Case {
 };
 
 /// A turn, a look, and a robot that is shut twice.
-const BACK_PRESSURE: Case = Case {
+const BACK_PRESSURE: Case<'static> = Case {
     name: "back_pressure",
     steps: &[
         Step::Post(0, TO_1),
@@ -49,7 +49,7 @@ const BACK_PRESSURE: Case = Case {
 };
 
 /// A mailbox that has room for one order at a time, and an outlet for one notice, event by event.
-const BACK_PRESSURE_IN_HALL: Case = Case {
+const BACK_PRESSURE_IN_HALL: Case<'static> = Case {
     name: "back_pressure_in_hall",
     limits: Limits {
         mailbox: 2,
@@ -74,7 +74,7 @@ const BACK_PRESSURE_IN_HALL: Case = Case {
 };
 
 /// A full lane has room again after a turn.
-const LANE_OF_TWO: Case = Case {
+const LANE_OF_TWO: Case<'static> = Case {
     name: "lane_and_numbers_full_lane",
     limits: Limits {
         lane: 2,
@@ -91,7 +91,7 @@ const LANE_OF_TWO: Case = Case {
 };
 
 /// The last number is kept for Close.
-const SPENT_NUMBERS: Case = Case {
+const SPENT_NUMBERS: Case<'static> = Case {
     name: "lane_and_numbers_spent",
     limits: Limits {
         orders: 2,
@@ -102,7 +102,7 @@ const SPENT_NUMBERS: Case = Case {
 };
 
 /// The smallest rings, over and over.
-const THOUSAND_ROUNDS: Case = Case {
+const THOUSAND_ROUNDS: Case<'static> = Case {
     name: "lane_and_numbers_rounds",
     limits: Limits {
         lane: 1,
@@ -121,7 +121,7 @@ const THOUSAND_ROUNDS: Case = Case {
 };
 
 /// Nothing is sent behind Close.
-const CLOSED_CLIENT: Case = Case {
+const CLOSED_CLIENT: Case<'static> = Case {
     name: "close_and_shut_client",
     steps: &[
         Step::Post(0, TO_1),
@@ -138,7 +138,7 @@ const CLOSED_CLIENT: Case = Case {
 };
 
 /// An idle robot's farewell is called at its shut, and it takes no further errands.
-const SHUT_ROBOT: Case = Case {
+const SHUT_ROBOT: Case<'static> = Case {
     name: "close_and_shut_robot",
     steps: &[
         Step::Shut(0),
@@ -153,7 +153,7 @@ const SHUT_ROBOT: Case = Case {
 };
 
 /// Two chapters of one entry each.
-const TWO_CHAPTERS: Case = Case {
+const TWO_CHAPTERS: Case<'static> = Case {
     name: "clock_and_chapter",
     limits: Limits {
         chapter: 1,
@@ -172,7 +172,7 @@ const TWO_CHAPTERS: Case = Case {
 };
 
 /// Two robots on a ring of eight cells, until nobody has an errand.
-const RING_OF_EIGHT: Case = Case {
+const RING_OF_EIGHT: Case<'static> = Case {
     name: "ring_of_eight",
     sides: (3, 3),
     letters: b"....@....",
@@ -194,7 +194,7 @@ const RING_OF_EIGHT: Case = Case {
 };
 
 /// The rows, in their order.
-pub(crate) const ROWS: [Case; 18] = [
+pub(crate) const ROWS: [Case<'static>; 18] = [
     BACK_PRESSURE,
     BACK_PRESSURE_IN_HALL,
     LANE_OF_TWO,
@@ -216,7 +216,7 @@ pub(crate) const ROWS: [Case; 18] = [
 ];
 
 /// The rows whose growths are refused.
-pub(crate) const REFUSED: [Case; 5] = [
+pub(crate) const REFUSED: [Case<'static>; 5] = [
     BACK_PRESSURE,
     SHUT_ROBOT,
     MISSING_CLIENT,

@@ -1,15 +1,21 @@
 //! What a serve came to.
 
+use crate::serves::yard::{FLOOR, Yard};
 use fleet_book::{Event, Notice, Verdict};
 use fleet_grid::Grid;
 use fleet_history::{Chapter, Entry};
+use fleet_script::Script;
 use fleet_serve::Served;
 use fleet_trace::{JudgeFault, TraceFault, judge, read_trace, write_trace};
 use std::alloc::{AllocError, Global};
 
 /// What a serve came to.
-#[derive(Clone, Copy, Debug, PartialEq, Eq)]
+#[derive(Clone, Copy)]
 pub(crate) struct Came {
+    /// The script's clients and lines, and those lines that are posts.
+    pub(crate) clients: u32,
+    pub(crate) lines: u64,
+    pub(crate) posts: u64,
     /// Posts that met a full lane.
     pub(crate) lane_full: u64,
     /// Orders taken, errands accepted and withdrawn, and arrivals.
@@ -25,31 +31,32 @@ pub(crate) struct Came {
     pub(crate) told: bool,
 }
 
-/// Whether the maps have the same sides and floor.
-fn is_same_map(one: &Grid, other: &Grid) -> bool {
-    if one.height() != other.height() || one.width() != other.width() {
+/// Whether the map has the yard's sides and floor.
+fn is_map_of(yard: &Yard, map: &Grid) -> bool {
+    if yard.sides != (map.height(), map.width()) {
         return false;
     }
-    for cell in 0..one.cell_count() {
-        if one.is_floor(cell) != other.is_floor(cell) {
+    let mut cell = 0u32;
+    for letter in yard.letters {
+        if cell >= map.cell_count() || map.is_floor(cell) != (*letter == FLOOR) {
             return false;
         }
+        cell += 1;
     }
-    true
+    cell == map.cell_count()
 }
 
 /// Whether the trace of the chapter, as it is printed, reads and is legal on the map.
-fn is_legal(alloc: Global, grid: &Grid, chapter: &Chapter) -> Result<bool, AllocError> {
+fn is_legal(alloc: Global, map: &Grid, chapter: &Chapter) -> Result<bool, AllocError> {
     let text = write_trace(alloc, chapter)?;
-    let chapter = match read_trace(alloc, text.as_bytes()) {
-        Ok(chapter) => chapter,
-        Err(TraceFault::NoMemory) => return Err(AllocError),
-        Err(_) => return Ok(false),
-    };
-    match judge(alloc, grid, &chapter) {
-        Ok(()) => Ok(true),
-        Err(JudgeFault::NoMemory) => Err(AllocError),
-        Err(JudgeFault::Illegal { .. }) => Ok(false),
+    match read_trace(alloc, text.as_bytes()) {
+        Ok(chapter) => match judge(alloc, map, &chapter) {
+            Ok(()) => Ok(true),
+            Err(JudgeFault::NoMemory) => Err(AllocError),
+            Err(JudgeFault::Illegal { .. }) => Ok(false),
+        },
+        Err(TraceFault::NoMemory) => Err(AllocError),
+        Err(_) => Ok(false),
     }
 }
 
@@ -105,18 +112,37 @@ fn are_told(chapter: &Chapter, rest: &[Vec<Notice>]) -> bool {
     true
 }
 
+/// How many of the events are posts.
+fn posts_of(events: &[Event]) -> u64 {
+    let mut posts = 0u64;
+    for event in events {
+        if let Event::Post(..) = event {
+            posts = posts.saturating_add(1);
+        }
+    }
+    posts
+}
+
 impl Came {
-    /// What a serve on that map came to.
-    pub(crate) fn of(alloc: Global, grid: &Grid, served: &Served) -> Result<Came, AllocError> {
+    /// What the serve of a script on a yard came to.
+    pub(crate) fn of(
+        alloc: Global,
+        yard: &Yard,
+        script: &Script,
+        served: &Served,
+    ) -> Result<Came, AllocError> {
         let last = &served.last;
         let mut came = Came {
+            clients: script.clients,
+            lines: script.events.len() as u64,
+            posts: posts_of(&script.events),
             lane_full: u64::from(served.lane_full),
             takes: 0,
             accepted: 0,
             withdrawn: 0,
             arrivals: 0,
-            same_map: is_same_map(grid, &last.grid),
-            legal: is_legal(alloc, grid, &last.chapter)?,
+            same_map: is_map_of(yard, &last.grid),
+            legal: is_legal(alloc, &last.grid, &last.chapter)?,
             told: are_told(&last.chapter, &last.rest),
         };
         for entry in &last.chapter.entries {
@@ -151,11 +177,7 @@ impl Came {
     }
 
     /// Whether each of the script's posts, none of which stands behind a close of its client, is accounted for.
-    pub(crate) fn accounts_for(&self, events: &[Event]) -> bool {
-        let posts = events
-            .iter()
-            .filter(|event| matches!(event, Event::Post(..)))
-            .count() as u64;
-        self.told && self.takes.saturating_add(self.lane_full) == posts
+    pub(crate) fn is_accounted(&self) -> bool {
+        self.told && self.takes.saturating_add(self.lane_full) == self.posts
     }
 }

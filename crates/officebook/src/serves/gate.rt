@@ -5,7 +5,7 @@ use fleet_serve::Gate;
 use std::sync::atomic::{AtomicU64, Ordering};
 
 /// Who is held.
-#[derive(Clone, Copy, Debug, PartialEq, Eq)]
+#[derive(Clone, Copy, PartialEq, Eq)]
 pub(crate) enum Hold {
     Nobody,
     /// Each of two clients at its first line, until the other's is reached.
@@ -15,7 +15,7 @@ pub(crate) enum Hold {
 }
 
 /// The flags of those who are held.
-#[derive(Debug, Drop)]
+#[derive(Drop)]
 pub(crate) struct Flags {
     hold: Hold,
     /// The first lines that were reached.

@@ -2,12 +2,9 @@
 
 use crate::serves::came::Came;
 use crate::serves::gate::{Flags, Hold};
-use crate::serves::play::{PlayFault, play, script_of};
+use crate::serves::play::{PlayFault, play};
 use crate::serves::row::{Fact, Row};
-use crate::serves::seeds::script_from;
-use crate::serves::yard::Yard;
-use fleet_script::Script;
-use fleet_serve::ServeFault;
+use crate::serves::seeds::write_seeded;
 use std::alloc::{Alloc, AllocError, Global};
 use std::fmt::Write;
 use std::sync::{Arc, Wait};
@@ -16,74 +13,59 @@ use std::thread::Threads;
 /// How many scripts come from seeds.
 const SERVES: u32 = 1_000;
 
-fn name_of(fault: ServeFault) -> &'static str {
-    match fault {
-        ServeFault::Opening(_) => "Opening",
-        ServeFault::ClockSpent => "ClockSpent",
-        ServeFault::ChapterFull => "ChapterFull",
-        ServeFault::Drain => "Drain",
-        ServeFault::NoMemory => "NoMemory",
-        ServeFault::NoThread => "NoThread",
-    }
-}
-
 /// A fact in words, behind the line.
-fn write_fact(line: &mut String, fact: Fact, came: &Came, met: bool) -> Result<(), AllocError> {
-    match fact {
-        Fact::LaneFull => write!(line, " lane_full {}", came.lane_full),
-        Fact::Takes => write!(line, " takes {}", came.takes),
-        Fact::Arrivals => write!(line, " arrivals {}", came.arrivals),
-        Fact::Unfinished => write!(line, " unfinished {}", came.unfinished()),
-        Fact::Held => line.push_str(if met { " met" } else { " missed" }),
-        Fact::SameMap => {
-            line.push_str(if came.same_map {
-                " its map"
-            } else {
-                " another map"
-            })
+fn tell_fact(fact: Fact, came: &Came, met: bool, told: &mut String) -> Result<(), AllocError> {
+    let words = match fact {
+        Fact::LaneFull => return write!(told, " lane_full {}", came.lane_full),
+        Fact::Takes => return write!(told, " takes {}", came.takes),
+        Fact::Arrivals => return write!(told, " arrivals {}", came.arrivals),
+        Fact::Unfinished => return write!(told, " unfinished {}", came.unfinished()),
+        Fact::Held if met => " met",
+        Fact::Held => " missed",
+        Fact::SameMap if came.same_map => " its map",
+        Fact::SameMap => " another map",
+        Fact::Legal if came.legal => " legal",
+        Fact::Legal => " illegal",
+        Fact::Told if came.told => " told",
+        Fact::Told => " untold",
+    };
+    told.push_str(words)
+}
+
+/// What came of a row, behind its name.
+fn tell_came(
+    row: &Row,
+    came: Result<Came, PlayFault>,
+    met: bool,
+    told: &mut String,
+) -> Result<(), AllocError> {
+    match came {
+        Ok(came) => {
+            for fact in row.facts {
+                tell_fact(*fact, &came, met, told)?;
+            }
+            told.push_str("\n")
         }
-        Fact::Legal => line.push_str(if came.legal { " legal" } else { " illegal" }),
-        Fact::Told => line.push_str(if came.told { " told" } else { " untold" }),
-    }
-}
-
-/// What comes of a row's script.
-fn came_of<R: Alloc<A = Global> + Threads + Sync + Wait>(
-    rt: &R,
-    row: &Row,
-    flags: &Arc<Flags>,
-) -> Result<Came, PlayFault> {
-    let script = script_of(rt.alloc(), row.script)?;
-    play(rt, &row.yard, &script, flags)
-}
-
-/// A row's facts behind its name.
-fn facts_line(alloc: Global, row: &Row, came: &Came, met: bool) -> Result<String, AllocError> {
-    let mut line = format!(in alloc; "{}:", row.name)?;
-    for fact in row.facts {
-        write_fact(&mut line, *fact, came, met)?;
-    }
-    line.push_str("\n")?;
-    Ok(line)
-}
-
-/// The line of a row.
-pub(crate) fn line_of<R: Alloc<A = Global> + Threads + Sync + Wait>(
-    rt: &R,
-    row: &Row,
-) -> Result<String, AllocError> {
-    let alloc = rt.alloc();
-    let flags = Arc::new(alloc, Flags::new(row.hold))?;
-    match came_of(rt, row, &flags) {
-        Ok(came) => facts_line(alloc, row, &came, flags.is_met()),
-        Err(PlayFault::Served(fault)) => format!(in alloc; "{}: {}\n", row.name, name_of(fault)),
-        Err(PlayFault::NoScript) => format!(in alloc; "{}: no script\n", row.name),
+        Err(PlayFault::Served(fault)) => writeln!(told, " {fault:?}"),
+        Err(PlayFault::NoScript) => told.push_str(" no script\n"),
         Err(PlayFault::NoMemory) => Err(AllocError),
     }
 }
 
+/// The line of a row.
+pub(crate) fn tell_row<R: Alloc<A = Global> + Threads + Sync + Wait>(
+    rt: &R,
+    row: &Row,
+    told: &mut String,
+) -> Result<(), AllocError> {
+    write!(told, "{}:", row.name)?;
+    let flags = Arc::new(rt.alloc(), Flags::new(row.hold))?;
+    let came = play(rt, &row.yard, row.script, &flags);
+    tell_came(row, came, flags.is_met(), told)
+}
+
 /// What became of the serves.
-#[derive(Clone, Copy, Debug)]
+#[derive(Clone, Copy)]
 struct Sum {
     clients: u64,
     lines: u64,
@@ -94,18 +76,17 @@ struct Sum {
 }
 
 impl Sum {
-    /// Adds what became of a script on a yard.
-    fn add(&mut self, yard: &Yard, script: &Script, came: &Came) {
-        self.clients = self.clients.saturating_add(u64::from(script.clients));
-        self.lines = self.lines.saturating_add(script.events.len() as u64);
-        self.legal = self
-            .legal
-            .saturating_add(u64::from(came.legal && came.same_map));
+    /// Adds what became of a script, on a map without a bridge or not.
+    fn add(&mut self, came: &Came, is_bridgeless: bool) {
+        let is_legal = came.legal && came.same_map;
+        let is_idle = !is_bridgeless || came.unfinished() == 0;
+        self.clients = self.clients.saturating_add(u64::from(came.clients));
+        self.lines = self.lines.saturating_add(came.lines);
+        self.legal = self.legal.saturating_add(u64::from(is_legal));
         self.accounted = self
             .accounted
-            .saturating_add(u64::from(came.accounts_for(&script.events)));
-        let idle = !yard.is_bridgeless || came.unfinished() == 0;
-        self.idle = self.idle.saturating_add(u64::from(idle));
+            .saturating_add(u64::from(came.is_accounted()));
+        self.idle = self.idle.saturating_add(u64::from(is_idle));
     }
 }
 
@@ -113,24 +94,23 @@ impl Sum {
 fn add_serve<R: Alloc<A = Global> + Threads + Sync + Wait>(
     rt: &R,
     seed: u32,
+    flags: &Arc<Flags>,
     sum: &mut Sum,
 ) -> Result<(), AllocError> {
-    let alloc = rt.alloc();
-    let seeded = script_from(alloc, seed)?;
-    let Ok(script) = script_of(alloc, seeded.script.as_bytes()) else {
-        return Ok(());
-    };
-    let flags = Arc::new(alloc, Flags::new(Hold::Nobody))?;
-    if let Ok(came) = play(rt, &seeded.yard, &script, &flags) {
-        sum.add(&seeded.yard, &script, &came);
+    let mut script = String::new(rt.alloc());
+    let yard = write_seeded(&mut script, seed)?;
+    if let Ok(came) = play(rt, &yard, script.as_bytes(), flags) {
+        sum.add(&came, yard.is_bridgeless);
     }
     Ok(())
 }
 
-/// The line of a thousand serves.
-pub(crate) fn thousand_line<R: Alloc<A = Global> + Threads + Sync + Wait>(
+/// The line of a thousand serves, in which nobody is held.
+pub(crate) fn tell_thousand<R: Alloc<A = Global> + Threads + Sync + Wait>(
     rt: &R,
-) -> Result<String, AllocError> {
+    told: &mut String,
+) -> Result<(), AllocError> {
+    let flags = Arc::new(rt.alloc(), Flags::new(Hold::Nobody))?;
     let mut sum = Sum {
         clients: 0,
         lines: 0,
@@ -139,10 +119,11 @@ pub(crate) fn thousand_line<R: Alloc<A = Global> + Threads + Sync + Wait>(
         idle: 0,
     };
     for seed in 0..SERVES {
-        add_serve(rt, seed, &mut sum)?;
+        add_serve(rt, seed, &flags, &mut sum)?;
     }
-    format!(in rt.alloc();
-        "a_thousand_serves: clients {} lines {} legal {} accounted {} idle {}\n",
+    writeln!(
+        told,
+        "a_thousand_serves: clients {} lines {} legal {} accounted {} idle {}",
         sum.clients, sum.lines, sum.legal, sum.accounted, sum.idle
     )
 }

@@ -4,6 +4,7 @@ ghost use Rattle.std.specs.Prelude.{◌≡◌, ◌<◌, ◌^◌, length};
 ghost use Rattle.std.specs.List.{All};
 ghost use Rattle.fleet_serve.specs.Posted.{IsLine};
 
+use crate::floor::grid_of;
 use crate::serves::came::Came;
 use crate::serves::gate::Flags;
 use crate::serves::yard::Yard;
@@ -13,6 +14,7 @@ use fleet_hooks::{
 use fleet_script::{Script, ScriptFault, read_script};
 use fleet_serve::{ServeFault, Served, first_other, serve};
 use std::alloc::{Alloc, AllocError, Global};
+use std::mem;
 use std::sync::{Arc, Wait};
 use std::thread::Threads;
 
@@ -24,9 +26,9 @@ const RANKS: TieLaw = TieLaw {
 const STAMPS: StampLaw = StampLaw { low: 0, high: 0 };
 
 /// Why nothing came of a script.
-#[derive(Clone, Copy, Debug, PartialEq, Eq)]
+#[derive(Clone, Copy)]
 pub(crate) enum PlayFault {
-    /// The text is no script whose events are posts and collects of its clients, or the letters do not fill the map.
+    /// The text is no script whose events are posts and collects of its clients.
     NoScript,
     Served(ServeFault),
     NoMemory,
@@ -43,41 +45,33 @@ impl From<AllocError> for PlayFault {
     }
 }
 
-/// What a serve on a yard came to.
-fn came_of(alloc: Global, yard: &Yard, served: &Served) -> Result<Came, PlayFault> {
-    match yard.grid(alloc)? {
-        Some(grid) => Ok(Came::of(alloc, &grid, served)?),
-        None => Err(PlayFault::NoScript),
-    }
-}
-
-/// What comes of a script on a yard, served with these closures.
+/// Serves a script on a yard with these closures.
 fn serve_with<R: Alloc<A = Global> + Threads + Sync + Wait>(
     rt: &R,
     yard: &Yard,
     script: &Script,
     hooks: Hooks,
     flags: &Flags,
-) -> Result<Came, PlayFault>
+) -> Result<Served, ServeFault>
     requires few { length script.now.events.items < 2 ^ 32 }
     requires lines { All (IsLine script.now.clients) script.now.events.items }
 {
-    let Some(grid) = yard.grid(rt.alloc())? else {
-        return Err(PlayFault::NoScript);
-    };
-    match serve(rt, grid, script, hooks, flags) {
-        Ok(served) => came_of(rt.alloc(), yard, &served),
-        Err(fault) => Err(PlayFault::Served(fault)),
+    match grid_of(rt.alloc(), yard.sides, yard.letters) {
+        Ok(grid) => serve(rt, grid, script, hooks, flags),
+        Err(fault) => {
+            mem::drop(hooks);
+            Err(ServeFault::Opening(fault))
+        }
     }
 }
 
-/// What comes of a script on a yard, or no memory to open it, with closures for its robots that stand where the flags say so.
+/// Serves a script on a yard, with closures for its robots that stand where the flags say so, or has no memory for them.
 fn serve_hooked<R: Alloc<A = Global> + Threads + Sync + Wait>(
     rt: &R,
     yard: &Yard,
     script: &Script,
     flags: &Arc<Flags>,
-) -> Result<Result<Came, PlayFault>, AllocError>
+) -> Result<Result<Served, ServeFault>, AllocError>
     requires few { length script.now.events.items < 2 ^ 32 }
     requires lines { All (IsLine script.now.clients) script.now.events.items }
 {
@@ -105,7 +99,8 @@ fn serve_hooked<R: Alloc<A = Global> + Threads + Sync + Wait>(
     Ok(serve_with(rt, yard, script, hooks, flags.as_ref()))
 }
 
-pub(crate) fn script_of(alloc: Global, text: &[u8]) -> Result<Script, PlayFault> {
+/// The script that the text is.
+fn script_of(alloc: Global, text: &[u8]) -> Result<Script, PlayFault> {
     if text.len() > 16_777_216 {
         return Err(PlayFault::NoScript);
     }
@@ -117,7 +112,7 @@ pub(crate) fn script_of(alloc: Global, text: &[u8]) -> Result<Script, PlayFault>
 }
 
 /// What comes of a script on a yard.
-pub(crate) fn play<R: Alloc<A = Global> + Threads + Sync + Wait>(
+fn came_of<R: Alloc<A = Global> + Threads + Sync + Wait>(
     rt: &R,
     yard: &Yard,
     script: &Script,
@@ -126,5 +121,23 @@ pub(crate) fn play<R: Alloc<A = Global> + Threads + Sync + Wait>(
     if first_other(script).is_some() || script.events.len() >= 1 << 32 {
         return Err(PlayFault::NoScript);
     }
-    serve_hooked(rt, yard, script, flags)?
+    match serve_hooked(rt, yard, script, flags)? {
+        Ok(served) => {
+            let came = Came::of(rt.alloc(), yard, script, &served);
+            mem::drop(served);
+            Ok(came?)
+        }
+        Err(fault) => Err(PlayFault::Served(fault)),
+    }
+}
+
+/// What comes of the script that the text is, on a yard.
+pub(crate) fn play<R: Alloc<A = Global> + Threads + Sync + Wait>(
+    rt: &R,
+    yard: &Yard,
+    text: &[u8],
+    flags: &Arc<Flags>,
+) -> Result<Came, PlayFault> {
+    let script = script_of(rt.alloc(), text)?;
+    came_of(rt, yard, &script, flags)
 }

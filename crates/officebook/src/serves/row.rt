@@ -4,7 +4,7 @@ use crate::serves::gate::Hold;
 use crate::serves::yard::{CORRIDOR, RING, TWO_CELLS, Yard};
 
 /// A fact that a row tells.
-#[derive(Clone, Copy, Debug, PartialEq, Eq)]
+#[derive(Clone, Copy)]
 pub(crate) enum Fact {
     /// Whether those who were held were let go by a flag, none by the number of tries.
     Held,
@@ -18,7 +18,7 @@ pub(crate) enum Fact {
 }
 
 /// A script on a yard.
-#[derive(Clone, Copy, Debug)]
+#[derive(Clone, Copy)]
 pub(crate) struct Row {
     pub(crate) name: &'static str,
     pub(crate) yard: Yard,

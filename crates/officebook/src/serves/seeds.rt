@@ -2,17 +2,10 @@
 
 ghost use Rattle.std.specs.Prelude.{◌<◌};
 
-use crate::serves::yard::{CORRIDOR, RING, SHELVES, SQUARE, Yard};
-use std::alloc::{AllocError, Global};
+use crate::serves::yard::{CORRIDOR, FLOOR, RING, SHELVES, SQUARE, Yard};
+use std::alloc::AllocError;
 use std::fmt::Write;
 use yardstick::Random;
-
-/// A script's text, and where it is served.
-#[derive(Drop)]
-pub(crate) struct Seeded {
-    pub(crate) yard: Yard,
-    pub(crate) script: String,
-}
 
 fn yard_of(random: &mut Random) -> Yard {
     match random.below(4) {
@@ -29,7 +22,7 @@ fn write_robots(text: &mut String, random: &mut Random, yard: &Yard) -> Result<u
     let mut robots = 0usize;
     text.push_str("robots")?;
     for (cell, letter) in yard.letters.iter().enumerate() {
-        if robots < wanted && *letter == b'.' {
+        if robots < wanted && *letter == FLOOR {
             write!(text, " {cell}")?;
             robots += 1;
         }
@@ -99,16 +92,15 @@ fn write_script(
     let robots = write_robots(text, random, yard)?;
     let (lane, turns) = (1 + random.below(8), 1 + random.below(4));
     write!(text, "clients {clients}\nlane {lane}\nturns {turns}\n")?;
-    let cells = yard.height.saturating_mul(yard.width) as usize;
+    let cells = yard.letters.len();
     write_lines(text, random, clients, robots, cells)?;
     write_closes(text, random, clients)
 }
 
-/// The script of a seed, with 1 to 64 clients, some of whom close with their last line.
-pub(crate) fn script_from(alloc: Global, seed: u32) -> Result<Seeded, AllocError> {
+/// Writes the script of a seed, with 1 to 64 clients, some of whom close with their last line. The result is its yard.
+pub(crate) fn write_seeded(text: &mut String, seed: u32) -> Result<Yard, AllocError> {
     let mut random = Random::from_seed(u64::from(seed));
     let yard = yard_of(&mut random);
-    let mut script = String::new(alloc);
-    write_script(&mut script, &mut random, &yard, 1 + seed as usize % 64)?;
-    Ok(Seeded { yard, script })
+    write_script(text, &mut random, &yard, 1 + seed as usize % 64)?;
+    Ok(yard)
 }

@@ -2,26 +2,36 @@
 
 ghost use Rattle.std.specs.Prelude.{◌≡◌};
 
-use crate::waits::flags::stand;
+use crate::floor::grid_of;
 use crate::waits::play::{Outcome, PlayFault, play};
-use crate::waits::staff::Shared;
+use crate::waits::shared::Shared;
 use fleet_book::Limits;
+use fleet_calls::OpenFault;
+use fleet_grid::Grid;
 use fleet_hooks::{
     ArrivalHook, ArrivalView, Farewell, FarewellView, Hooks, StampLaw, TieHook, TieLaw, TieView,
 };
 use fleet_office::Desk;
 use std::alloc::{Alloc, AllocError, Global};
 use std::marker::Brand;
+use std::mem;
 use std::sync::{Arc, Wait};
 use std::thread::Threads;
 
 /// A case: how many clients there are, how often each posts at most, and how many turns the other ticker makes.
-#[derive(Clone, Copy, Debug)]
+#[derive(Clone, Copy)]
 pub(crate) struct Case {
     pub(crate) name: &'static str,
     pub(crate) clients: u32,
     pub(crate) posts: u64,
     pub(crate) turns: u64,
+}
+
+/// The desk of so many clients, two cells side by side, and the robot on the first.
+fn site_of(alloc: Global, clients: u32) -> Result<(Desk, Grid, Vec<u32>), OpenFault> {
+    let grid = grid_of(alloc, (1, 2), b"..")?;
+    let starts = Vec::from_slice(alloc, &[0u32])?;
+    Ok((Desk::new(alloc, clients, Limits::DEFAULT)?, grid, starts))
 }
 
 /// What came out of a case whose robot has these closures.
@@ -31,9 +41,12 @@ fn play_with<R: Alloc<A = Global> + Threads + Sync + Wait>(
     hooks: Hooks,
     shared: &Shared,
 ) -> Result<Outcome, PlayFault> {
-    match Desk::new(rt.alloc(), case.clients, Limits::DEFAULT) {
-        Ok(desk) => play::<Brand, R>(rt, desk, hooks, shared, case.turns),
-        Err(fault) => Err(PlayFault::Opening(fault)),
+    match site_of(rt.alloc(), case.clients) {
+        Ok((desk, grid, starts)) => play::<Brand, R>(rt, desk, grid, starts, hooks, shared),
+        Err(fault) => {
+            mem::drop(hooks);
+            Err(PlayFault::Opening(fault))
+        }
     }
 }
 
@@ -42,13 +55,12 @@ fn play_with<R: Alloc<A = Global> + Threads + Sync + Wait>(
 fn play_hooked<R: Alloc<A = Global> + Threads + Sync + Wait>(
     rt: &R,
     case: &Case,
-    shared: &Shared,
 ) -> Result<Result<Outcome, PlayFault>, AllocError> {
     let alloc = rt.alloc();
-    let (begun, ready) = (Arc::try_clone(&shared.hook)?, Arc::try_clone(&shared.done)?);
-    let clients = u64::from(case.clients);
+    let shared = Arc::new(alloc, Shared::new(case.clients, case.posts, case.turns))?;
+    let own = Arc::try_clone(&shared)?;
     let waits = move |_view: TieView| {
-        stand(&begun, &ready, clients);
+        own.stand();
         0
     };
     let tie = TieHook::new(TieLaw::ANY, Box::new(alloc, waits)?);
@@ -56,7 +68,7 @@ fn play_hooked<R: Alloc<A = Global> + Threads + Sync + Wait>(
     let farewell = Farewell::new(StampLaw::ANY, Box::new(alloc, |_view: FarewellView| 0)?);
     let mut hooks = Hooks::new(alloc);
     hooks.push(tie, arrival, farewell)?;
-    Ok(play_with(rt, case, hooks, shared))
+    Ok(play_with(rt, case, hooks, shared.as_ref()))
 }
 
 /// What came out of a case.
@@ -64,6 +76,8 @@ pub(crate) fn played<R: Alloc<A = Global> + Threads + Sync + Wait>(
     rt: &R,
     case: &Case,
 ) -> Result<Outcome, PlayFault> {
-    let shared = Shared::new(rt.alloc(), case.posts)?;
-    play_hooked(rt, case, &shared)?
+    match play_hooked(rt, case) {
+        Ok(played) => played,
+        Err(AllocError) => Err(PlayFault::NoMemory),
+    }
 }

@@ -1,5 +1,5 @@
 use Rattle.fleet_office.specs.Views.{rings_of}
-use Rattle.officebook.proofs.rows.opening.fleet_play.Given as goal
+use Rattle.officebook.proofs.rows.opening.play_with.Given as goal
 
 abbrev pub ghosts-play-N-Ledger : goal.ghosts-play-N-Ledger
 ghosts-play-N-Ledger g a = record { name = a.desk.ledger; parts = a.desk.parts }
