@@ -7,12 +7,22 @@
 mod case;
 mod outcome;
 
-use crate::block::blocks_of;
+use crate::block::{Block, blocks_of};
 use case::Case;
 use outcome::tell_outcome;
 use std::alloc::{Alloc, AllocError, Global};
 use std::sync::Wait;
 use std::thread::Threads;
+
+/// Tells what came out of the case that a block tells.
+fn tell_case<R: Alloc<A = Global> + Threads + Sync + Wait>(
+    rt: &R,
+    block: Block<'_>,
+    told: &mut Vec<u8>,
+) -> Result<(), AllocError> {
+    let case = Case::of(rt.alloc(), block)?;
+    tell_outcome(rt, &case, told)
+}
 
 /// Tells what came out of each case.
 pub(crate) fn tell<R: Alloc<A = Global> + Threads + Sync + Wait>(
@@ -21,8 +31,7 @@ pub(crate) fn tell<R: Alloc<A = Global> + Threads + Sync + Wait>(
     told: &mut Vec<u8>,
 ) -> Result<(), AllocError> {
     for block in &blocks_of(rt.alloc(), text, b"= ")? {
-        let case = Case::of(rt.alloc(), *block)?;
-        tell_outcome(rt, &case, told)?;
+        tell_case(rt, *block, told)?;
     }
     Ok(())
 }

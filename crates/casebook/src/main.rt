@@ -40,6 +40,19 @@ fn tell<R: Alloc<A = Global> + Threads + Sync + Wait>(
     }
 }
 
+/// Tells of a section, behind the line that begins it.
+fn tell_section<R: Alloc<A = Global> + Threads + Sync + Wait>(
+    rt: &R,
+    section: Block<'_>,
+    told: &mut Vec<u8>,
+    notes: &mut String,
+) -> Result<(), AllocError> {
+    told.extend_from_slice(b"== ")?;
+    told.extend_from_slice(section.name.as_bytes())?;
+    told.push(b'\n')?;
+    tell(rt, section, told, notes)
+}
+
 /// Tells of each section of the text.
 fn tell_all<R: Alloc<A = Global> + Threads + Sync + Wait>(
     rt: &R,
@@ -48,10 +61,7 @@ fn tell_all<R: Alloc<A = Global> + Threads + Sync + Wait>(
     notes: &mut String,
 ) -> Result<(), AllocError> {
     for section in &blocks_of(rt.alloc(), text, b"== ")? {
-        told.extend_from_slice(b"== ")?;
-        told.extend_from_slice(section.name.as_bytes())?;
-        told.extend_from_slice(b"\n")?;
-        tell(rt, *section, told, notes)?;
+        tell_section(rt, *section, told, notes)?;
     }
     Ok(())
 }

@@ -30,17 +30,27 @@ fn line_of(alloc: Global, name: &str, found: Option<Finding>) -> Result<String, 
     }
 }
 
+/// Tells of the steps of a row.
+fn tell_row<R: Alloc<A = Global> + Threads + Sync + Wait>(
+    rt: &R,
+    name: &str,
+    bundle: Bundle<'_>,
+    told: &mut Vec<u8>,
+) -> Result<(), AllocError> {
+    let found = find(rt, bundle)?;
+    let line = line_of(rt.alloc(), name, found)?;
+    told.extend_from_slice(line.as_bytes())
+}
+
 /// Tells of the steps of each row.
 pub(crate) fn tell<R: Alloc<A = Global> + Threads + Sync + Wait>(
     rt: &R,
     text: &[u8],
     told: &mut Vec<u8>,
 ) -> Result<(), AllocError> {
-    let alloc = rt.alloc();
-    for block in &blocks_of(alloc, text, b"= ")? {
+    for block in &blocks_of(rt.alloc(), text, b"= ")? {
         if let Some(bundle) = Bundle::of(block.text) {
-            let line = line_of(alloc, block.name, find(rt, bundle)?)?;
-            told.extend_from_slice(line.as_bytes())?;
+            tell_row(rt, block.name, bundle, told)?;
         }
     }
     Ok(())

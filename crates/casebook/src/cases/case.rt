@@ -29,11 +29,17 @@ impl<'a> Case<'a> {
             input: Vec::new(alloc),
             files: Vec::new(alloc),
         };
-        case.add_words(alloc, b"errands")?;
-        for line in block.text.split(|byte| *byte == b'\n') {
-            case.read(alloc, line)?;
-        }
+        case.read_all(alloc, block.text)?;
         Ok(case)
+    }
+
+    /// Takes in the program's own name and each line of the case.
+    fn read_all(&mut self, alloc: Global, text: &[u8]) -> Result<(), AllocError> {
+        self.add_words(alloc, b"errands")?;
+        for line in text.split(|byte| *byte == b'\n') {
+            self.read(alloc, line)?;
+        }
+        Ok(())
     }
 
     /// Takes in one more line of the case, which its first byte marks.
@@ -91,6 +97,5 @@ impl<'a> Case<'a> {
 
 fn append(bytes: &mut Vec<u8>, text: &[u8], end: &[u8]) -> Result<(), AllocError> {
     bytes.extend_from_slice(text)?;
-    bytes.extend_from_slice(end)?;
-    Ok(())
+    bytes.extend_from_slice(end)
 }

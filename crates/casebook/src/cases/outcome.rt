@@ -62,24 +62,37 @@ fn run_case<R: Alloc<A = Global> + Threads + Sync + Wait>(
     }
 }
 
+/// What comes out of the job of a case.
+fn outcome_of_job<R: Alloc<A = Global> + Threads + Sync + Wait>(
+    rt: &R,
+    case: &Case<'_>,
+    job: &Job,
+) -> Outcome {
+    let mut output = Vec::new(rt.alloc());
+    let mut complaint = Vec::new(rt.alloc());
+    let status = run_case(rt, case, job, &mut output, &mut complaint);
+    Outcome {
+        status,
+        output,
+        complaint,
+    }
+}
+
 /// What comes out of a case. The text of words that are refused is `clap`'s own, and left out.
 fn outcome_of<R: Alloc<A = Global> + Threads + Sync + Wait>(
     rt: &R,
     case: &Case<'_>,
 ) -> Result<Outcome, AllocError> {
     let alloc = rt.alloc();
-    let mut output = Vec::new(alloc);
-    let mut complaint = Vec::new(alloc);
-    let status = match parse_words(alloc, &case.words) {
-        Ok(job) => run_case(rt, case, &job, &mut output, &mut complaint),
-        Err(WordFault::Words(_text)) => 2,
-        Err(WordFault::NoMemory) => return Err(AllocError),
-    };
-    Ok(Outcome {
-        status,
-        output,
-        complaint,
-    })
+    match parse_words(alloc, &case.words) {
+        Ok(job) => Ok(outcome_of_job(rt, case, &job)),
+        Err(WordFault::Words(_text)) => Ok(Outcome {
+            status: 2,
+            output: Vec::new(alloc),
+            complaint: Vec::new(alloc),
+        }),
+        Err(WordFault::NoMemory) => Err(AllocError),
+    }
 }
 
 /// Writes the lines of a text, each behind the mark.
@@ -99,6 +112,22 @@ fn write_marked(told: &mut Vec<u8>, mark: u8, text: &[u8]) -> Result<(), AllocEr
     Ok(())
 }
 
+/// Writes what came out of the case of this name.
+fn write_outcome(
+    alloc: Global,
+    name: &str,
+    outcome: &Outcome,
+    told: &mut Vec<u8>,
+) -> Result<(), AllocError> {
+    told.extend_from_slice(b"= ")?;
+    told.extend_from_slice(name.as_bytes())?;
+    told.push(b'\n')?;
+    write_marked(told, b'|', &outcome.output)?;
+    write_marked(told, b'!', &outcome.complaint)?;
+    let status = format!(in alloc; "? {}\n", outcome.status)?;
+    told.extend_from_slice(status.as_bytes())
+}
+
 /// Tells what came out of a case.
 pub(crate) fn tell_outcome<R: Alloc<A = Global> + Threads + Sync + Wait>(
     rt: &R,
@@ -106,12 +135,5 @@ pub(crate) fn tell_outcome<R: Alloc<A = Global> + Threads + Sync + Wait>(
     told: &mut Vec<u8>,
 ) -> Result<(), AllocError> {
     let outcome = outcome_of(rt, case)?;
-    told.extend_from_slice(b"= ")?;
-    told.extend_from_slice(case.name.as_bytes())?;
-    told.push(b'\n')?;
-    write_marked(told, b'|', &outcome.output)?;
-    write_marked(told, b'!', &outcome.complaint)?;
-    let status = format!(in rt.alloc(); "? {}\n", outcome.status)?;
-    told.extend_from_slice(status.as_bytes())?;
-    Ok(())
+    write_outcome(rt.alloc(), case.name, &outcome, told)
 }

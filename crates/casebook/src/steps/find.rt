@@ -31,9 +31,9 @@ pub(crate) fn find<R: Alloc<A = Global> + Threads + Sync + Wait>(
     rt: &R,
     bundle: Bundle<'_>,
 ) -> Result<Option<Finding>, AllocError> {
-    let alloc = rt.alloc();
-    let Some(grid) = grid_of(alloc, bundle.map)? else {
-        return Ok(None);
-    };
-    find_in(alloc, &grid, &trace_of(rt, bundle)?)
+    let trace = trace_of(rt, bundle)?;
+    match grid_of(rt.alloc(), bundle.map)? {
+        Some(grid) => find_in(rt.alloc(), &grid, &trace),
+        None => Ok(None),
+    }
 }

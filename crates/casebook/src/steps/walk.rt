@@ -23,29 +23,40 @@ fn cells_of(alloc: Global, chapter: &Chapter) -> Result<Vec<u32>, AllocError> {
     robots.iter().map(|robot| robot.cell).collect(alloc)
 }
 
-/// Judges each step of a chapter by itself.
-pub(crate) fn walk(alloc: Global, grid: &Grid, chapter: &Chapter) -> Result<Finding, AllocError> {
-    let mut from = cells_of(alloc, chapter)?;
+/// Judges each step of these entries by itself. The first begins on these cells.
+fn walk_from<'a>(
+    alloc: Global,
+    grid: &Grid,
+    cells: &'a [u32],
+    entries: &'a [Entry],
+) -> Result<Finding, AllocError> {
+    let mut from = cells;
     let mut step = 0u32;
     let mut arrivals = 0u64;
-    for entry in &chapter.entries {
+    for entry in entries {
         let Entry::Tick { to, arrived, .. } = entry else {
             continue;
         };
         step = step.saturating_add(1);
-        if !is_placement(grid, &from) {
+        if !is_placement(grid, from) {
             return Ok(Finding::Misplaced { step });
         }
-        match check_step(alloc, grid, &from, to.as_slice()) {
+        match check_step(alloc, grid, from, to.as_slice()) {
             Ok(()) => {}
             Err(StepFault::NoMemory) => return Err(AllocError),
             Err(fault) => return Ok(Finding::Refused { step, fault }),
         }
-        from = Vec::from_slice(alloc, to.as_slice())?;
+        from = to.as_slice();
         arrivals = arrivals.saturating_add(arrived.len() as u64);
     }
     Ok(Finding::ConflictFree {
         steps: step,
         arrivals,
     })
+}
+
+/// Judges each step of a chapter by itself.
+pub(crate) fn walk(alloc: Global, grid: &Grid, chapter: &Chapter) -> Result<Finding, AllocError> {
+    let cells = cells_of(alloc, chapter)?;
+    walk_from(alloc, grid, &cells, &chapter.entries)
 }

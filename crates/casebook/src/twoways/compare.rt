@@ -7,6 +7,7 @@ use super::rules::first_fault;
 use super::site::Site;
 use findings::Answer;
 use fleet_grid::Grid;
+use fleet_history::Chapter;
 use fleet_trace::{JudgeFault, TraceFault, judge, read_trace};
 use std::alloc::{AllocError, Global};
 
@@ -22,20 +23,30 @@ fn broken_by(said: Result<(), JudgeFault>) -> Result<Option<(u64, u8)>, AllocErr
     }
 }
 
+/// A map: a grid to the judge, a site to the rules.
+#[derive(Clone, Copy)]
+pub(crate) struct Ground<'a> {
+    pub(crate) grid: &'a Grid,
+    pub(crate) site: &'a Site,
+}
+
+/// What both ways say of a chapter.
+fn answer_on(alloc: Global, ground: &Ground<'_>, chapter: &Chapter) -> Result<Answer, AllocError> {
+    let told = first_fault(alloc, ground.site, chapter)?;
+    let said = broken_by(judge(alloc, ground.grid, chapter))?;
+    Ok(Answer::of_both(said, told))
+}
+
 /// What both ways say of a text.
 pub(crate) fn compare(
     alloc: Global,
-    grid: &Grid,
-    site: &Site,
+    ground: &Ground<'_>,
     text: &[u8],
 ) -> Result<Answer, AllocError> {
-    let chapter = match read_trace(alloc, text) {
-        Ok(chapter) => chapter,
-        Err(TraceFault::NoMemory) => return Err(AllocError),
-        Err(TraceFault::NotJson) => return Ok(Answer::NotJson),
-        Err(TraceFault::Shape | TraceFault::Version) => return Ok(Answer::Refused),
-    };
-    let told = first_fault(alloc, site, &chapter)?;
-    let said = broken_by(judge(alloc, grid, &chapter))?;
-    Ok(Answer::of_both(said, told))
+    match read_trace(alloc, text) {
+        Ok(chapter) => answer_on(alloc, ground, &chapter),
+        Err(TraceFault::NoMemory) => Err(AllocError),
+        Err(TraceFault::NotJson) => Ok(Answer::NotJson),
+        Err(TraceFault::Shape | TraceFault::Version) => Ok(Answer::Refused),
+    }
 }

@@ -80,18 +80,25 @@ impl Robot {
     }
 }
 
+/// The robots at an opening.
+fn robots_of(alloc: Global, states: &[RobotState]) -> Result<Vec<Robot>, AllocError> {
+    let mut robots = Vec::new(alloc);
+    for state in states {
+        robots.push(Robot::of(alloc, state)?)?;
+    }
+    Ok(robots)
+}
+
 impl Fleet {
     /// The fleet at an opening.
     pub(crate) fn of(alloc: Global, opening: &Opening) -> Result<Fleet, AllocError> {
-        let mut robots = Vec::new(alloc);
-        for state in opening.robots.as_slice() {
-            robots.push(Robot::of(alloc, state)?)?;
-        }
+        let clients = Vec::from_slice(alloc, opening.clients.as_slice())?;
+        let robots = robots_of(alloc, opening.robots.as_slice())?;
         Ok(Fleet {
             tick: opening.tick,
             queue: opening.queue,
             life: opening.life,
-            clients: Vec::from_slice(alloc, opening.clients.as_slice())?,
+            clients,
             robots,
         })
     }

@@ -1,7 +1,7 @@
 //! A later chapter of a world, as the rules reckon its opening.
 
 use super::fleet::{Fleet, Robot};
-use fleet_history::{Chapter, Opening, RobotState, Row};
+use fleet_history::{Chapter, Entry, Opening, RobotState, Row};
 use std::alloc::{AllocError, Global};
 
 /// A robot as an opening states it.
@@ -38,31 +38,33 @@ fn opening_of(alloc: Global, fleet: &Fleet) -> Result<Opening, AllocError> {
     })
 }
 
+fn enter_all(fleet: &mut Fleet, entries: &[Entry]) -> Result<(), AllocError> {
+    for entry in entries {
+        fleet.enter(entry)?;
+    }
+    Ok(())
+}
+
+/// The opening behind these entries of a legal chapter.
+fn opening_behind(
+    alloc: Global,
+    opening: &Opening,
+    entries: &[Entry],
+) -> Result<Opening, AllocError> {
+    let mut fleet = Fleet::of(alloc, opening)?;
+    enter_all(&mut fleet, entries)?;
+    opening_of(alloc, &fleet)
+}
+
 /// The chapter that begins behind so many entries of a legal one.
 pub(crate) fn later_chapter(
     alloc: Global,
-    chapter: Chapter,
+    mut chapter: Chapter,
     behind: usize,
 ) -> Result<Chapter, AllocError> {
-    let Chapter {
-        number,
-        opening,
-        entries,
-    } = chapter;
-    let mut fleet = Fleet::of(alloc, &opening)?;
-    let mut rest = Vec::new(alloc);
-    let mut at = 0usize;
-    for entry in entries {
-        if at < behind {
-            fleet.enter(&entry)?;
-        } else {
-            rest.push(entry)?;
-        }
-        at = at.saturating_add(1);
-    }
-    Ok(Chapter {
-        number: number.saturating_add(1),
-        opening: opening_of(alloc, &fleet)?,
-        entries: rest,
-    })
+    let behind = behind.min(chapter.entries.len());
+    chapter.opening = opening_behind(alloc, &chapter.opening, &chapter.entries[..behind])?;
+    chapter.entries.drain(..behind);
+    chapter.number = chapter.number.saturating_add(1);
+    Ok(chapter)
 }

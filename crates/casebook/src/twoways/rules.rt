@@ -39,32 +39,43 @@ fn is_step(site: &Site, fleet: &Fleet, to: &[u32]) -> bool {
     true
 }
 
-/// Whose arrivals a tick shows: the robot, the client and the number of the errand.
-fn dues(alloc: Global, fleet: &Fleet, to: &[u32]) -> Result<Vec<(u32, u32, u64)>, AllocError> {
-    let mut dues = Vec::new(alloc);
+/// Whether a tick shows each arrival, in the order of the robots, and no other.
+fn are_dues(fleet: &Fleet, to: &[u32], arrived: &[Arrival]) -> bool {
+    let mut shown = arrived.iter();
     let mut number = 0u32;
     for (robot, cell) in fleet.robots.iter().zip(to.iter()) {
         if let Some(errand) = robot.errands.first()
             && errand.cell == *cell
         {
-            dues.push((number, errand.client, errand.number))?;
+            let Some(arrival) = shown.next() else {
+                return false;
+            };
+            let due = (number, errand.client, errand.number);
+            if due != (arrival.robot, arrival.client, arrival.number) {
+                return false;
+            }
         }
         number = number.saturating_add(1);
     }
-    Ok(dues)
+    shown.next().is_none()
 }
 
-/// The robots whose last errand is done in a tick, and that are shut.
-fn leaving(alloc: Global, fleet: &Fleet, to: &[u32]) -> Result<Vec<u32>, AllocError> {
-    let mut leaving = Vec::new(alloc);
+/// Whether a tick takes leave of each robot that is shut and whose last errand is done, in their order, and of no other.
+fn are_leaving(fleet: &Fleet, to: &[u32], farewells: &[Bye]) -> bool {
+    let mut left = farewells.iter();
     let mut number = 0u32;
     for (robot, cell) in fleet.robots.iter().zip(to.iter()) {
         if robot.shut && robot.errands.len() == 1 && robot.goal() == Some(*cell) {
-            leaving.push(number)?;
+            let Some(farewell) = left.next() else {
+                return false;
+            };
+            if farewell.robot != number {
+                return false;
+            }
         }
         number = number.saturating_add(1);
     }
-    Ok(leaving)
+    left.next().is_none()
 }
 
 fn is_within(law: StampLaw, stamp: u32) -> bool {
@@ -88,37 +99,23 @@ fn are_stamps(fleet: &Fleet, arrived: &[Arrival], farewells: &[Bye]) -> bool {
 
 /// The rule that a tick breaks.
 fn tick_rule(
-    alloc: Global,
     site: &Site,
     fleet: &Fleet,
     to: &[u32],
     arrived: &[Arrival],
     farewells: &[Bye],
-) -> Result<Option<u8>, AllocError> {
+) -> Option<u8> {
     if !is_step(site, fleet, to) {
-        return Ok(Some(4));
-    }
-    let dues = dues(alloc, fleet, to)?;
-    let mut shown = Vec::new(alloc);
-    for arrival in arrived {
-        shown.push((arrival.robot, arrival.client, arrival.number))?;
-    }
-    if shown != dues {
-        return Ok(Some(5));
-    }
-    let leaving = leaving(alloc, fleet, to)?;
-    let mut left = Vec::new(alloc);
-    for farewell in farewells {
-        left.push(farewell.robot)?;
-    }
-    if left != leaving {
-        return Ok(Some(6));
-    }
-    Ok(if are_stamps(fleet, arrived, farewells) {
-        None
-    } else {
+        Some(4)
+    } else if !are_dues(fleet, to, arrived) {
+        Some(5)
+    } else if !are_leaving(fleet, to, farewells) {
+        Some(6)
+    } else if !are_stamps(fleet, arrived, farewells) {
         Some(7)
-    })
+    } else {
+        None
+    }
 }
 
 /// The rule that a shut breaks.
@@ -139,32 +136,44 @@ fn shut_rule(fleet: &Fleet, robot: u32, farewell: Option<u32>) -> Option<u8> {
 }
 
 /// The rule that an entry breaks.
-fn entry_rule(
-    alloc: Global,
-    site: &Site,
-    fleet: &Fleet,
-    entry: &Entry,
-) -> Result<Option<u8>, AllocError> {
+fn entry_rule(site: &Site, fleet: &Fleet, entry: &Entry) -> Option<u8> {
     match entry {
         Entry::Take {
             client,
             order,
             verdict,
-        } => Ok(match verdict_on(site, fleet, *client, *order) {
+        } => match verdict_on(site, fleet, *client, *order) {
             None => Some(2),
             Some(rightly) if rightly != *verdict => Some(3),
             Some(_) => None,
-        }),
+        },
         Entry::Tick {
             to,
             arrived,
             farewells,
         } => {
             let (arrived, farewells) = (arrived.as_slice(), farewells.as_slice());
-            tick_rule(alloc, site, fleet, to.as_slice(), arrived, farewells)
+            tick_rule(site, fleet, to.as_slice(), arrived, farewells)
         }
-        Entry::Shut { robot, farewell } => Ok(shut_rule(fleet, *robot, *farewell)),
+        Entry::Shut { robot, farewell } => shut_rule(fleet, *robot, *farewell),
     }
+}
+
+/// The entry, from 1, and the rule that entries break first.
+fn first_broken(
+    site: &Site,
+    fleet: &mut Fleet,
+    entries: &[Entry],
+) -> Result<Option<(u64, u8)>, AllocError> {
+    let mut at = 0u64;
+    for entry in entries {
+        at = at.saturating_add(1);
+        if let Some(rule) = entry_rule(site, fleet, entry) {
+            return Ok(Some((at, rule)));
+        }
+        fleet.enter(entry)?;
+    }
+    Ok(None)
 }
 
 /// The entry, from 1, and the rule that a chapter breaks first; 0 and 1 where it is its opening.
@@ -177,13 +186,5 @@ pub(crate) fn first_fault(
         return Ok(Some((0, 1)));
     }
     let mut fleet = Fleet::of(alloc, &chapter.opening)?;
-    let mut at = 0u64;
-    for entry in &chapter.entries {
-        at = at.saturating_add(1);
-        if let Some(rule) = entry_rule(alloc, site, &fleet, entry)? {
-            return Ok(Some((at, rule)));
-        }
-        fleet.enter(entry)?;
-    }
-    Ok(None)
+    first_broken(site, &mut fleet, &chapter.entries)
 }

@@ -22,15 +22,14 @@ impl Texts {
     }
 }
 
-/// A seeded map of so many rows and columns, three quarters of it floor.
-fn map_of(
-    alloc: Global,
+/// The rows of a map of so many rows and columns. The floor's cells are listed.
+fn write_rows(
+    text: &mut String,
+    floor: &mut Vec<u64>,
     dice: &mut Dice,
     sides: (u64, u64),
-) -> Result<(String, Vec<u64>), AllocError> {
+) -> Result<(), AllocError> {
     let (height, width) = sides;
-    let mut text = format!(in alloc; "type octile\nheight {height}\nwidth {width}\nmap\n")?;
-    let mut floor = Vec::new(alloc);
     let mut cell = 0u64;
     for _row in 0..height {
         for _column in 0..width {
@@ -43,6 +42,19 @@ fn map_of(
         }
         text.push_str("\n")?;
     }
+    Ok(())
+}
+
+/// A seeded map of so many rows and columns, three quarters of it floor.
+fn map_of(
+    alloc: Global,
+    dice: &mut Dice,
+    sides: (u64, u64),
+) -> Result<(String, Vec<u64>), AllocError> {
+    let (height, width) = sides;
+    let mut text = format!(in alloc; "type octile\nheight {height}\nwidth {width}\nmap\n")?;
+    let mut floor = Vec::new(alloc);
+    write_rows(&mut text, &mut floor, dice, sides)?;
     Ok((text, floor))
 }
 
@@ -94,23 +106,38 @@ fn write_event(
     }
 }
 
+/// A script on a map with these floor cells, of so many cells.
+fn write_script(
+    text: &mut String,
+    dice: &mut Dice,
+    floor: &mut Vec<u64>,
+    cells: u64,
+) -> Result<(), AllocError> {
+    let robots = write_robots(text, dice, floor)?;
+    let clients = dice.between(1, 3);
+    writeln!(text, "clients {clients}")?;
+    writeln!(text, "queue {}", dice.between(1, 4))?;
+    writeln!(text, "mailbox {}", dice.between(4, 20))?;
+    writeln!(text, "life {}", dice.between(1, 12))?;
+    if dice.below(2) == 0 {
+        text.push_str("ties south\n")?;
+    }
+    for _event in 0..50 {
+        write_event(text, dice, clients, robots, cells)?;
+    }
+    Ok(())
+}
+
 /// The map and the script of a seed.
 pub(crate) fn texts_of(alloc: Global, dice: &mut Dice) -> Result<Texts, AllocError> {
     let sides = (dice.between(1, 4), dice.between(1, 4));
     let (map, mut floor) = map_of(alloc, dice, sides)?;
     let mut script = String::new(alloc);
-    let robots = write_robots(&mut script, dice, &mut floor)?;
-    let clients = dice.between(1, 3);
-    writeln!(script, "clients {clients}")?;
-    writeln!(script, "queue {}", dice.between(1, 4))?;
-    writeln!(script, "mailbox {}", dice.between(4, 20))?;
-    writeln!(script, "life {}", dice.between(1, 12))?;
-    if dice.below(2) == 0 {
-        script.push_str("ties south\n")?;
-    }
-    let cells = sides.0.saturating_mul(sides.1);
-    for _event in 0..50 {
-        write_event(&mut script, dice, clients, robots, cells)?;
-    }
+    write_script(
+        &mut script,
+        dice,
+        &mut floor,
+        sides.0.saturating_mul(sides.1),
+    )?;
     Ok(Texts { map, script })
 }

@@ -1,13 +1,14 @@
 //! The trials of a seed.
 
-use super::compare::compare;
+use super::compare::{Ground, compare};
 use super::count::Count;
-use super::damage::{numbers_in, with_other_bytes, with_other_number};
+use super::damage::{Stretch, numbers_in, with_other_bytes, with_other_number};
 use super::dice::Dice;
 use super::later::later_chapter;
 use super::script::texts_of;
 use super::site::Site;
 use crate::run::trace_of;
+use findings::Answer;
 use fleet_grid::Grid;
 use fleet_map::read_map;
 use fleet_trace::{read_trace, write_trace};
@@ -18,22 +19,54 @@ use std::thread::Threads;
 /// How often the bytes of each trace are damaged.
 const BYTE_DAMAGES: u32 = 10;
 
-/// Damages each number of a trace once, and its bytes several times.
-fn damage(
+/// Judges a trace with another number in this place.
+fn try_number(
     alloc: Global,
-    grid: &Grid,
-    site: &Site,
+    ground: &Ground<'_>,
+    dice: &mut Dice,
+    text: &[u8],
+    place: Stretch,
+) -> Result<Answer, AllocError> {
+    let damaged = with_other_number(alloc, dice, text, place)?;
+    compare(alloc, ground, &damaged)
+}
+
+/// Judges a trace with other bytes.
+fn try_bytes(
+    alloc: Global,
+    ground: &Ground<'_>,
+    dice: &mut Dice,
+    text: &[u8],
+) -> Result<Answer, AllocError> {
+    let damaged = with_other_bytes(alloc, dice, text)?;
+    compare(alloc, ground, &damaged)
+}
+
+/// Damages each number of a trace once.
+fn damage_numbers(
+    alloc: Global,
+    ground: &Ground<'_>,
     dice: &mut Dice,
     text: &[u8],
     count: &mut Count,
 ) -> Result<(), AllocError> {
     for place in &numbers_in(alloc, text)? {
-        let damaged = with_other_number(alloc, dice, text, *place)?;
-        count.add_number(compare(alloc, grid, site, &damaged)?);
+        count.add_number(try_number(alloc, ground, dice, text, *place)?);
     }
+    Ok(())
+}
+
+/// Damages each number of a trace once, and its bytes several times.
+fn damage(
+    alloc: Global,
+    ground: &Ground<'_>,
+    dice: &mut Dice,
+    text: &[u8],
+    count: &mut Count,
+) -> Result<(), AllocError> {
+    damage_numbers(alloc, ground, dice, text, count)?;
     for _time in 0..BYTE_DAMAGES {
-        let damaged = with_other_bytes(alloc, dice, text)?;
-        count.add_bytes(compare(alloc, grid, site, &damaged)?);
+        count.add_bytes(try_bytes(alloc, ground, dice, text)?);
     }
     Ok(())
 }
@@ -48,23 +81,32 @@ fn later_text(alloc: Global, dice: &mut Dice, text: &[u8]) -> Result<Option<Stri
     Ok(Some(write_trace(alloc, &later)?))
 }
 
-/// Judges a world's trace and a later chapter of it, and their damages.
-fn try_trace(
+/// Judges a later chapter and its damages.
+fn try_later(
     alloc: Global,
-    grid: &Grid,
-    site: &Site,
+    ground: &Ground<'_>,
     dice: &mut Dice,
     text: &[u8],
     count: &mut Count,
 ) -> Result<(), AllocError> {
-    count.add_world(compare(alloc, grid, site, text)?);
-    damage(alloc, grid, site, dice, text, count)?;
-    if let Some(later) = later_text(alloc, dice, text)? {
-        let later = later.as_bytes();
-        count.add_later(compare(alloc, grid, site, later)?);
-        damage(alloc, grid, site, dice, later, count)?;
+    count.add_later(compare(alloc, ground, text)?);
+    damage(alloc, ground, dice, text, count)
+}
+
+/// Judges a world's trace and a later chapter of it, and their damages.
+fn try_trace(
+    alloc: Global,
+    ground: &Ground<'_>,
+    dice: &mut Dice,
+    text: &[u8],
+    count: &mut Count,
+) -> Result<(), AllocError> {
+    count.add_world(compare(alloc, ground, text)?);
+    damage(alloc, ground, dice, text, count)?;
+    match later_text(alloc, dice, text)? {
+        Some(later) => try_later(alloc, ground, dice, later.as_bytes(), count),
+        None => Ok(()),
     }
-    Ok(())
 }
 
 /// The trials of one seed.
@@ -82,5 +124,9 @@ pub(crate) fn try_seed<R: Alloc<A = Global> + Threads + Sync + Wait>(
     };
     let site = Site::new(alloc, &map)?;
     let grid = Grid::new(map)?;
-    try_trace(alloc, &grid, &site, &mut dice, &text, count)
+    let ground = Ground {
+        grid: &grid,
+        site: &site,
+    };
+    try_trace(alloc, &ground, &mut dice, &text, count)
 }
