@@ -144,7 +144,11 @@ fn run_script<R: Alloc<A = Global> + Threads + Sync>(
     } = script;
     let hooks = kit.choose(south).cut(starts.len());
     match run(rt, grid, starts, clients, limits, hooks, &events) {
-        Ok(played) => played_text(rt.alloc(), trace, &events, &played),
+        Ok(played) => {
+            let told = played_text(rt.alloc(), trace, &events, &played);
+            let _ended = played.world.finish();
+            told
+        }
         Err(RunFault::NoMemory(_)) => Err(AllocError),
         Err(RunFault::Opening(fault)) => faulty(rt.alloc(), opening_complaint(fault)?),
     }
