@@ -47,14 +47,13 @@ fn tallies_of<A: Allocator + Copy>(
 ) -> Result<Vec<Tally, A>, AllocError>
     ensures { IfOk result (λ tallies. tallies.items ≡ map tally_in clients.now) }
 {
-    let mut tallies = Vec::new(alloc);
-    for client in clients {
-        tallies.push(Tally {
+    clients
+        .iter()
+        .map(|client| Tally {
             taken: client.taken,
             noticed: client.noticed,
-        })?;
-    }
-    Ok(tallies)
+        })
+        .collect(alloc)
 }
 
 /// Which robots are shut.
@@ -64,11 +63,7 @@ fn shut_of<A: Allocator + Copy>(
 ) -> Result<Vec<bool, A>, AllocError>
     ensures { IfOk result (λ shut. shut.items ≡ map (λ x. x.shut) robots.now) }
 {
-    let mut shut = Vec::new(alloc);
-    for robot in robots {
-        shut.push(robot.shut)?;
-    }
-    Ok(shut)
+    robots.iter().map(|robot| robot.shut).collect(alloc)
 }
 
 impl<A: Allocator + Copy> Clients<A> {
@@ -215,11 +210,8 @@ fn owed_of<A: Allocator + Copy>(robots: &[RobotState<A>], client: u32) -> u64
 fn count_of(errands: &[Errand], client: u32) -> u64
     ensures { result ≡ count_by (λ e. e.client == client) errands.now }
 {
-    let mut count = 0;
-    for errand in errands {
-        if errand.client == client {
-            count += 1;
-        }
-    }
-    count
+    errands
+        .iter()
+        .filter(|errand| errand.client == client)
+        .count() as u64
 }

@@ -46,11 +46,7 @@ fn cells_of<A: Allocator + Copy>(
 ) -> Result<Vec<u32, A>, AllocError>
     ensures { IfOk result (λ cells. cells.items ≡ map (λ x. x.cell) states.now) }
 {
-    let mut cells = Vec::new(alloc);
-    for robot in states {
-        cells.push(robot.cell)?;
-    }
-    Ok(cells)
+    states.iter().map(|robot| robot.cell).collect(alloc)
 }
 
 /// How long robots have waited.
@@ -60,11 +56,7 @@ fn waits_of<A: Allocator + Copy>(
 ) -> Result<Vec<Option<u64>, A>, AllocError>
     ensures { IfOk result (λ waits. waits.items ≡ map (λ x. x.wait) states.now) }
 {
-    let mut waits = Vec::new(alloc);
-    for robot in states {
-        waits.push(robot.wait)?;
-    }
-    Ok(waits)
+    states.iter().map(|robot| robot.wait).collect(alloc)
 }
 
 impl<A: Allocator + Copy> Robots<A> {

@@ -1,4 +1,4 @@
-use Rattle.std.proofs.Common.{◌≡◌, ◌∙◌, sym, ap, length, List, subst}
+use Rattle.std.proofs.Common.{◌≡◌, ◌∙◌, sym, ap, length, List, subst, refl}
 use Rattle.std.proofs.lemmas.List.{length-map}
 use Rattle.fleet_queue.specs.Queue.{Queue}
 use Rattle.fleet_state.specs.Opened.{queue_in}
@@ -13,3 +13,9 @@ invariant_of-result g c =
     let cells : length c.in_ok-cells.cells.items ≡ length xs = ap length c.in_ok-cells.ensures ∙ length-map xs _ in
     let waits : length c.in_ok-waits.waits.items ≡ length xs = ap length c.in_ok-waits.ensures ∙ length-map xs _ in
     (cells ∙ sym many, waits ∙ sym many, subst (λ (queues : List Queue). AreFronts queues c.in_ok-fronts.fronts.items) c.as_slice.ensures.value c.in_ok-fronts.ensures)
+
+pub queues_of-requires : goal.queues_of-requires
+queues_of-requires g c = c.requires
+
+pub returns : goal.returns
+returns g c = rw (c.in_ok-cells.ensures, c.in_ok-waits.ensures, c.in_ok-queues.ensures) refl
