@@ -115,7 +115,7 @@ taken-wait : (e : Errand) (w : Option ℕ) → Some (unwrap_or w 0) ≡ wait_tak
 taken-wait e None = refl
 taken-wait e (Some n) = refl
 
-pushed : {E : Type 0} (q p : Queue) (e : Errand) (pushing : Result (Unit {0}) E) → length q.items < q.capacity → (IsOk pushing ↔ (length q.items < q.capacity)) →
+pub pushed : {E : Type 0} (q p : Queue) (e : Errand) (pushing : Result (Unit {0}) E) → length q.items < q.capacity → (IsOk pushing ↔ (length q.items < q.capacity)) →
     OnOk pushing (p ≡ record q { items = q.items ++ e ∷ [] }) → p ≡ record q { items = q.items ++ e ∷ [] }
 pushed q p e (Ok x) l room ok = ok
 pushed q p e (Err x) l room ok = let refused : false ≡ true = room.1 l in cc

@@ -12,3 +12,12 @@ pub returns : goal.returns
 returns g c =
     let last : c.loop-c.c ≡ length c.args.clients.now = omega (arith, c.loop-c.auto.c-end) in
     c.loop-c.invariant ∙ ap (λ n. map (account_in c.args.clients.now c.args.robots.now) (range_with_len 0 n)) last
+
+pub owed_of-requires : goal.owed_of-requires
+owed_of-requires g c = c.requires.small c.loop-c.c c.loop-c-test.true
+
+pub overflow_cast-c : goal.overflow_cast-c
+overflow_cast-c g c = omega (arith, c.requires.few, c.loop-c-test.true)
+
+pub bounds-clients-c : goal.bounds-clients-c
+bounds-clients-c g c = c.loop-c-test.true
