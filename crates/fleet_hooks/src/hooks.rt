@@ -1,6 +1,6 @@
 //! All closures of a fleet.
 
-ghost use Rattle.std.specs.Prelude.{◌≡◌, ◌≤◌, [], ◌∷◌, ◌++◌, take, vec_len, OnOk, OnErr};
+ghost use Rattle.std.specs.Prelude.{◌≡◌, ◌≤◌, ◌<◌, [], ◌∷◌, ◌++◌, take, vec_len, vec_capacity, OnOk, OnErr};
 
 use crate::arrival::ArrivalHook;
 use crate::farewell::Farewell;
@@ -44,13 +44,26 @@ impl<A: Allocator + Copy> Hooks<A> {
         ensures same_arrivals { OnErr result (self.new.arrivals.items ≡ self.old.arrivals.items) }
         ensures same_farewells { OnErr result (self.new.farewells.items ≡ self.old.farewells.items) }
     {
-        self.ties.reserve(1)?;
-        self.arrivals.reserve(1)?;
-        self.farewells.reserve(1)?;
+        self.reserve_one()?;
         self.ties.push_reserved(tie);
         self.arrivals.push_reserved(arrival);
         self.farewells.push_reserved(farewell);
         Ok(())
+    }
+
+    /// Has room in each list for the closures of one more robot.
+    fn reserve_one(&mut self) -> Result<(), AllocError>
+        requires { 0 ≤ vec_len self.old.ties }
+        ensures ties { self.new.ties.items ≡ self.old.ties.items }
+        ensures arrivals { self.new.arrivals.items ≡ self.old.arrivals.items }
+        ensures farewells { self.new.farewells.items ≡ self.old.farewells.items }
+        ensures room_ties { OnOk result (vec_len self.new.ties < vec_capacity self.new.ties) }
+        ensures room_arrivals { OnOk result (vec_len self.new.arrivals < vec_capacity self.new.arrivals) }
+        ensures room_farewells { OnOk result (vec_len self.new.farewells < vec_capacity self.new.farewells) }
+    {
+        self.ties.reserve(1)?;
+        self.arrivals.reserve(1)?;
+        self.farewells.reserve(1)
     }
 
     /// Keeps the first entries of each list, and all where there are fewer.

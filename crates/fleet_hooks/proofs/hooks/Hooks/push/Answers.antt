@@ -1,4 +1,4 @@
--- The arrivals where the farewells find no room.
+-- The arrivals where a list finds no room.
 use Rattle.std.specs.Prelude.{Result, Ok, Err, OnErr}
 use Rattle.fleet_hooks.proofs.hooks.Hooks.push.Goals as goal
 
@@ -6,6 +6,6 @@ on_err : {T E P : Type 0} (r : Result T E) → P → OnErr r P
 on_err (Ok x) p = tt
 on_err (Err e) p = p
 
-pub returns-in_err-reserve-3-clause-same_arrivals : goal.returns-in_err-reserve-3-clause-same_arrivals
-returns-in_err-reserve-3-clause-same_arrivals g c =
-    on_err c.from_residual-in_err-reserve-3.result c.reserve-2.ensures.items
+pub returns-in_err-reserve_one-clause-same_arrivals : goal.returns-in_err-reserve_one-clause-same_arrivals
+returns-in_err-reserve_one-clause-same_arrivals g c =
+    on_err _ c.reserve_one.ensures.arrivals
