@@ -98,3 +98,93 @@ returns-in-Ok-play-clause-counts g c =
       omega (arith, count, c.close.result.outlets.ok.0, same_length _ _ _ _ c.close.ensures.outlets),
       omega (arith, count, c.close.result.collected.ok.0, same_length _ _ _ _ c.close.ensures.collected),
     )
+
+pub returns-in-Err-clause-run : goal.returns-in-Err-clause-run
+returns-in-Err-clause-run g c = tt
+
+pub returns-in-Err-clause-same : goal.returns-in-Err-clause-same
+returns-in-Err-clause-same g c = tt
+
+pub returns-in-Err-clause-counts : goal.returns-in-Err-clause-counts
+returns-in-Err-clause-counts g c = tt
+
+pub returns-in-Err-clause-legal : goal.returns-in-Err-clause-legal
+returns-in-Err-clause-legal g c = tt
+
+pub returns-in-Err-clause-rings : goal.returns-in-Err-clause-rings
+returns-in-Err-clause-rings g c = tt
+
+pub returns-in-Err-clause-each_ring : goal.returns-in-Err-clause-each_ring
+returns-in-Err-clause-each_ring g c = tt
+
+pub returns-in-Err-clause-once : goal.returns-in-Err-clause-once
+returns-in-Err-clause-once g c = tt
+
+pub returns-in-Err-clause-arrivals : goal.returns-in-Err-clause-arrivals
+returns-in-Err-clause-arrivals g c = tt
+
+pub returns-in-Err-clause-numbers : goal.returns-in-Err-clause-numbers
+returns-in-Err-clause-numbers g c = tt
+
+pub returns-in-Err-clause-numbered : goal.returns-in-Err-clause-numbered
+returns-in-Err-clause-numbered g c = tt
+
+pub returns-in-Err-clause-conflicts : goal.returns-in-Err-clause-conflicts
+returns-in-Err-clause-conflicts g c = tt
+
+pub returns-in-Err-clause-closes : goal.returns-in-Err-clause-closes
+returns-in-Err-clause-closes g c = tt
+
+pub returns-in-Err-clause-planned : goal.returns-in-Err-clause-planned
+returns-in-Err-clause-planned g c = tt
+
+pub returns-in-Err-clause-advancing : goal.returns-in-Err-clause-advancing
+returns-in-Err-clause-advancing g c = tt
+
+pub returns-in-Err-clause-bounded : goal.returns-in-Err-clause-bounded
+returns-in-Err-clause-bounded g c = tt
+
+pub returns-in-Err-play-clause-run : goal.returns-in-Err-play-clause-run
+returns-in-Err-play-clause-run g c = tt
+
+pub returns-in-Err-play-clause-same : goal.returns-in-Err-play-clause-same
+returns-in-Err-play-clause-same g c = tt
+
+pub returns-in-Err-play-clause-counts : goal.returns-in-Err-play-clause-counts
+returns-in-Err-play-clause-counts g c = tt
+
+pub returns-in-Err-play-clause-legal : goal.returns-in-Err-play-clause-legal
+returns-in-Err-play-clause-legal g c = tt
+
+pub returns-in-Err-play-clause-rings : goal.returns-in-Err-play-clause-rings
+returns-in-Err-play-clause-rings g c = tt
+
+pub returns-in-Err-play-clause-each_ring : goal.returns-in-Err-play-clause-each_ring
+returns-in-Err-play-clause-each_ring g c = tt
+
+pub returns-in-Err-play-clause-once : goal.returns-in-Err-play-clause-once
+returns-in-Err-play-clause-once g c = tt
+
+pub returns-in-Err-play-clause-arrivals : goal.returns-in-Err-play-clause-arrivals
+returns-in-Err-play-clause-arrivals g c = tt
+
+pub returns-in-Err-play-clause-numbers : goal.returns-in-Err-play-clause-numbers
+returns-in-Err-play-clause-numbers g c = tt
+
+pub returns-in-Err-play-clause-numbered : goal.returns-in-Err-play-clause-numbered
+returns-in-Err-play-clause-numbered g c = tt
+
+pub returns-in-Err-play-clause-conflicts : goal.returns-in-Err-play-clause-conflicts
+returns-in-Err-play-clause-conflicts g c = tt
+
+pub returns-in-Err-play-clause-closes : goal.returns-in-Err-play-clause-closes
+returns-in-Err-play-clause-closes g c = tt
+
+pub returns-in-Err-play-clause-planned : goal.returns-in-Err-play-clause-planned
+returns-in-Err-play-clause-planned g c = tt
+
+pub returns-in-Err-play-clause-advancing : goal.returns-in-Err-play-clause-advancing
+returns-in-Err-play-clause-advancing g c = tt
+
+pub returns-in-Err-play-clause-bounded : goal.returns-in-Err-play-clause-bounded
+returns-in-Err-play-clause-bounded g c = tt
