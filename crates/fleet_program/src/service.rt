@@ -29,7 +29,7 @@ use std::sync::Wait;
 use std::thread::Threads;
 
 /// A gate that holds nobody.
-#[derive(Clone, Copy, Debug)]
+#[derive(Clone, Copy)]
 struct OpenGate;
 
 impl Gate for OpenGate {

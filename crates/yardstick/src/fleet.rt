@@ -1,6 +1,6 @@
 //! A fleet whose robots go from goal to goal.
 
-ghost use Rattle.std.specs.Prelude.{◌≡◌, ℕ, ◌%◌, ◌<◌, ◌≤◌, length, vec_len, slice_index, IfOk, IsSome};
+ghost use Rattle.std.specs.Prelude.{◌≡◌, ℕ, ◌%◌, ◌<◌, ◌≤◌, Some, length, replicate, vec_len, slice_index, IfOk, IsSome};
 ghost use Rattle.fleet_grid.specs.Step.{IsPlacement, IsConflictFree};
 ghost use Rattle.fleet_pibt.specs.Order.{wait_of};
 ghost use Rattle.yardstick.specs.Fleet.{AreWithin, Serves, IsUnderWay};
@@ -42,6 +42,8 @@ impl Fleet {
         requires within { AreWithin site.now.grid site.now.home starts.items }
         ensures from { IfOk result (λ fleet. fleet.from.items ≡ starts.items) }
         ensures way { IfOk result (λ fleet. IsUnderWay site.now.grid site.now.home fields fleet.from.items fleet.to.items fleet.waits.items fleet.aims.items) }
+        ensures to { IfOk result (λ fleet. fleet.to.items ≡ replicate (vec_len starts) 0) }
+        ensures waits { IfOk result (λ fleet. fleet.waits.items ≡ replicate (vec_len starts) (Some 0)) }
         ensures aims { IfOk result (λ fleet. (r : ℕ) → r < vec_len starts → slice_index fleet.aims.items r ≡ r % fields) }
     {
         let robots = starts.len();
@@ -124,7 +126,7 @@ fn aims_of(alloc: Global, robots: usize, fields: usize) -> Result<Vec<usize>, Al
 }
 
 /// The number of a robot's field, and how long it has waited.
-#[derive(Clone, Copy, Debug)]
+#[derive(Clone, Copy)]
 struct Turn {
     aim: usize,
     wait: Option<u64>,
