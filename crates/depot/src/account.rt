@@ -79,10 +79,7 @@ struct Times {
 impl Times {
     /// Before the first entry.
     fn new(alloc: Global, clients: u32, robots: u32) -> Result<Times, AllocError> {
-        let mut accepted = Vec::new(alloc);
-        for _ in 0..clients {
-            accepted.push(Vec::new(alloc))?;
-        }
+        let accepted = (0..clients).map(|_client| Vec::new(alloc)).collect(alloc)?;
         let arrived = vec![in alloc; 0u64; robots as usize]?;
         Ok(Times { accepted, arrived })
     }

@@ -23,11 +23,9 @@ fn letter_at(row: u32, col: u32) -> u8 {
 fn letters(alloc: Global) -> Result<Vec<u8>, AllocError>
     ensures { IfOk result (λ letters. length letters.items ≡ HEIGHT * WIDTH) }
 {
-    let mut letters = Vec::new(alloc);
-    for cell in 0..HEIGHT * WIDTH {
-        letters.push(letter_at(cell / WIDTH, cell % WIDTH))?;
-    }
-    Ok(letters)
+    (0..HEIGHT * WIDTH)
+        .map(|cell| letter_at(cell / WIDTH, cell % WIDTH))
+        .collect(alloc)
 }
 
 /// The warehouse, whose map has no bridge.
@@ -41,23 +39,16 @@ pub(crate) fn warehouse(alloc: Global) -> Result<Grid, AllocError> {
 
 /// The floor cells, by number.
 pub(crate) fn floor_of(alloc: Global, grid: &Grid) -> Result<Vec<u32>, AllocError> {
-    let mut cells = Vec::new(alloc);
-    for cell in 0..grid.cell_count() {
-        if grid.is_floor(cell) {
-            cells.push(cell)?;
-        }
-    }
-    Ok(cells)
+    (0..grid.cell_count())
+        .filter(|cell| grid.is_floor(*cell))
+        .collect(alloc)
 }
 
 /// Where so many robots start: spread over the cells.
 pub(crate) fn starts_on(alloc: Global, cells: &[u32], robots: u32) -> Result<Vec<u32>, AllocError> {
-    let mut starts = Vec::new(alloc);
-    for robot in 0..robots as usize {
-        let at = robot.saturating_mul(cells.len()) / (robots as usize).max(1);
-        if let Some(cell) = cells.get(at) {
-            starts.push(*cell)?;
-        }
-    }
-    Ok(starts)
+    let robots = robots as usize;
+    (0..robots)
+        .filter_map(|robot| cells.get(robot.saturating_mul(cells.len()) / robots.max(1)))
+        .copied()
+        .collect(alloc)
 }
