@@ -2,7 +2,7 @@
 
 ghost use Rattle.std.specs.Prelude.{◌≡◌, ◌+◌, ◌<◌, ◌^◌, min};
 
-use std::io;
+use std::{fmt, io};
 
 /// So many repeats on a map, and the time of the fastest and of all together.
 #[derive(Clone, Copy, Debug, PartialEq, Eq)]
@@ -48,18 +48,24 @@ pub fn print_measure(
     found: Measure,
 ) -> io::Result<()> {
     let repeats = found.repeats;
-    let least = hundredths(found.least, things);
-    let mean = hundredths(found.all, things.saturating_mul(repeats));
+    let least = by_thing(found.least, things);
+    let mean = by_thing(found.all, things.saturating_mul(repeats));
     println!(rt;
-        "{kernel} map={map} fleet={fleet} things={things} repeats={repeats} least_ns={}.{:02} mean_ns={}.{:02}",
-        least / 100,
-        least % 100,
-        mean / 100,
-        mean % 100
+        "{kernel} map={map} fleet={fleet} things={things} repeats={repeats} least_ns={least} mean_ns={mean}"
     )
 }
 
-/// A hundred times the nanoseconds by thing.
-fn hundredths(nanos: u128, things: u64) -> u128 {
-    nanos.saturating_mul(100) / u128::from(things.max(1))
+/// A number of hundredths, told with two decimals.
+#[derive(Clone, Copy)]
+struct Hundredths(u128);
+
+impl fmt::Display for Hundredths {
+    fn fmt<W: fmt::Write>(&self, f: &mut fmt::Formatter<W>) -> fmt::Result {
+        write!(f, "{}.{:02}", self.0 / 100, self.0 % 100)
+    }
+}
+
+/// The nanoseconds by thing.
+fn by_thing(nanos: u128, things: u64) -> Hundredths {
+    Hundredths(nanos.saturating_mul(100) / u128::from(things.max(1)))
 }
