@@ -9,7 +9,7 @@ ghost use Rattle.fleet_core.specs.Core.{Takes, Ticks, Shuts, HasRoom, HasNoRoom,
 use crate::faults::{ShutFault, TakeFault, TickFault, TickReport};
 use crate::kernel::Core;
 use crate::stamps::{arrive, last_word, take_leave};
-use crate::step::{Step, make_ready, step_of};
+use crate::step::{Step, ready};
 use fleet_book::{Notice, Order, Verdict};
 use fleet_history::{Arrival, Bye, Entry, Row};
 use fleet_hooks::{ArrivalHook, Farewell, FarewellView, TieHook};
@@ -132,9 +132,9 @@ impl<A: Allocator + Copy> Core<A> {
         if self.is_full() {
             return Err(TickFault::ChapterFull);
         }
-        let step = step_of(rt.alloc(), &self.grid, &self.state, &mut self.planner, ties)?;
-        let room = &mut self.chapter.entries;
-        make_ready(room, &mut self.planner, &self.grid, &self.state, &step.to)?;
+        let planner = &mut self.planner;
+        let entries = &mut self.chapter.entries;
+        let step = ready(rt.alloc(), &self.grid, &self.state, planner, ties, entries)?;
         let Step {
             to,
             mut arrived,
