@@ -1,6 +1,7 @@
 use Rattle.std.proofs.Common.{arith, ◌≡◌, ◌∙◌, ◌<◌, ◌≤◌, [], true, false, length, ap, sym, refl, subst}
 use Rattle.std.specs.Option.{option_map}
 use Rattle.std.proofs.lemmas.List.{length-map}
+use Rattle.std.proofs.lemmas.Result.{err_from_is_err_and}
 use Rattle.fleet_history.specs.declared.history.Entry.TheVariants as entry
 use Rattle.fleet_history.specs.History.{history_of, robots, unfinished, is_shut}
 use Rattle.fleet_history.specs.Legal.{Fits, is_none_left}
@@ -163,6 +164,52 @@ returns-then-is_full g c =
       err = refl;
       farewells = c.requires.farewells;
     }
+
+pub invariant_of-self : goal.invariant_of-self
+invariant_of-self g c = rw c.reserve.ensures.items c.self.invariant
+
+pub returns-in_err-reserve : goal.returns-in_err-reserve
+returns-in_err-reserve g c =
+    let p = err_from_is_err_and c.from_residual.result c.from_residual.ensures.1 in
+    let k = c.self.invariant in
+    let h = history_of c.self.inside.chapter in
+    let inside : c.args.robot < robots h = omega (arith, c.if-robot-robots.false, c.robots.ensures.of c.self.inside.grid h k.is) in
+    let known = subst (λ w. c.args.robot < robots w.history) c.self.view_is inside in
+    let opened = ap (λ w. is_shut w.history c.args.robot) (sym c.self.view_is) ∙ sym (c.is_shut.ensures c.self.inside.grid h k.is) ∙ c.if-is_shut.false in
+    let room = c.if-is_full.ensures.room refl in
+    rw (p.1, p.2)
+    record {
+      no_robot = (λ e. cc, λ l. absurd (omega (arith, l, known)));
+      already = (λ e. cc, λ q. let bad : true ≡ false = sym q.1 ∙ opened in cc);
+      chapter_full = (λ e. cc, λ q. absurd (omega (arith, q.2, room)));
+      entries = tt;
+      ok = tt;
+      err = rw c.reserve.ensures.items c.self.view_is;
+      farewells = rw c.reserve.ensures.items (subst (λ w. AreFarewells w.history (spare_laws c.args.farewells.now.items)) (sym c.self.view_is) c.requires.farewells);
+    }
+
+pub add-requires : goal.add-requires
+add-requires g c = omega (arith, c.in_ok-reserve.ensures.ok)
+
+pub returns-clause-no_robot : goal.returns-clause-no_robot
+returns-clause-no_robot g c =
+    let k = c.self.invariant in
+    let h = history_of c.self.inside.chapter in
+    let inside : c.args.robot < robots h = omega (arith, c.if-robot-robots.false, c.robots.ensures.of c.self.inside.grid h k.is) in
+    let known = subst (λ w. c.args.robot < robots w.history) c.self.view_is inside in
+    (λ e. cc, λ l. absurd (omega (arith, l, known)))
+
+pub returns-clause-already : goal.returns-clause-already
+returns-clause-already g c =
+    let h = history_of c.self.inside.chapter in
+    let opened = ap (λ w. is_shut w.history c.args.robot) (sym c.self.view_is) ∙ sym (c.is_shut.ensures c.self.inside.grid h c.self.invariant.is) ∙ c.if-is_shut.false in
+    (λ e. cc, λ q. let bad : true ≡ false = sym q.1 ∙ opened in cc)
+
+pub returns-clause-entries : goal.returns-clause-entries
+returns-clause-entries g c = c.if-is_full.ensures.room refl
+
+pub returns-clause-err : goal.returns-clause-err
+returns-clause-err g c = tt
 
 pub returns-clause-chapter_full : goal.returns-clause-chapter_full
 returns-clause-chapter_full g c = let room = c.if-is_full.ensures.room refl in (λ e. cc, λ p. absurd (omega (arith, p.2, room)))

@@ -1,6 +1,7 @@
 use Rattle.std.proofs.Common.{arith, ◌≡◌, ◌∙◌, ◌+◌, ◌<◌, [], length, map, ap, sym, refl, subst}
 use Rattle.std.specs.Option.{option_map}
 use Rattle.std.proofs.lemmas.List.{length-map}
+use Rattle.std.proofs.lemmas.Result.{err_from_is_err_and}
 use Rattle.fleet_history.specs.declared.history.Bye.{Bye}
 use Rattle.fleet_history.specs.declared.history.Entry.TheVariants as entry
 use Rattle.fleet_history.specs.History.{history_of, robots, clock, after}
@@ -17,6 +18,7 @@ use Rattle.fleet_core.specs.Hooks.{AreArrivals, AreFarewells, spare_laws}
 use Rattle.fleet_core.proofs.Goaled.{aimed-tick}
 use Rattle.fleet_core.proofs.Hooked.{stamps-are, last_stamps-are}
 use Rattle.fleet_core.proofs.Kept.{noticed-of, noticed-small, room-kept, boxes-tick, ticked-boxes, within-tick}
+use Rattle.fleet_core.proofs.Refused.{kept-refused}
 use Rattle.fleet_core.proofs.Ticked.{arrived-clients, arrived-robots, arrived-few, arrived-owed, leaving-few, leaving-rise, leaving-robots, leaving-has, farewells-tick}
 use Rattle.fleet_core.proofs.kernel.Core.tick.Goals as goal
 use Rattle.fleet_core.proofs.kernel.Core.tick.Goals.{After-len-2, After-deref-4, After-add}
@@ -284,6 +286,39 @@ returns-then-is_full g c =
       err = refl;
       farewells = c.requires.farewells;
     }
+
+pub invariant_of-self : goal.invariant_of-self
+invariant_of-self g c =
+    rw c.ready.ensures.items
+    (kept-refused c.self.invariant c.ready.new.planner c.in_err-step.ensures.refused c.ready.ensures.same.on c.ready.ensures.same.size c.ready.ensures.same.bridge c.ready.ensures.same.keeps)
+
+pub returns-in_err-step : goal.returns-in_err-step
+returns-in_err-step g c =
+    let p = err_from_is_err_and c.from_residual.result c.from_residual.ensures.1 in
+    let early = c.if-is_spent.ensures.early refl in
+    let room = c.if-is_full.ensures.room refl in
+    rw (p.1, p.2)
+    record {
+      clock_spent = (λ e. cc, λ q. absurd (omega (arith, q, early)));
+      chapter_full = (λ e. cc, λ full. absurd (omega (arith, full.1, room)));
+      early = tt;
+      entries = tt;
+      ok = tt;
+      err = rw c.ready.ensures.items c.self.view_is;
+      farewells = rw c.ready.ensures.items (subst (λ w. AreFarewells w.history (spare_laws c.args.farewells.now.items)) (sym c.self.view_is) c.requires.farewells);
+    }
+
+pub add-requires : goal.add-requires
+add-requires g c = omega (arith, c.in_ok-step.ensures.ready.room)
+
+pub returns-clause-early : goal.returns-clause-early
+returns-clause-early g c = c.if-is_spent.ensures.early refl
+
+pub returns-clause-entries : goal.returns-clause-entries
+returns-clause-entries g c = c.if-is_full.ensures.room refl
+
+pub returns-clause-err : goal.returns-clause-err
+returns-clause-err g c = tt
 
 pub returns-clause-clock_spent : goal.returns-clause-clock_spent
 returns-clause-clock_spent g c = let early = c.if-is_spent.ensures.early refl in (λ e. cc, λ q. absurd (omega (arith, q, early)))
