@@ -8,7 +8,7 @@ ghost use Rattle.fleet_core.specs.Core.{Takes, Ticks, Shuts, HasRoom, HasNoRoom,
 
 use crate::faults::{ShutFault, TakeFault, TickFault, TickReport};
 use crate::kernel::Core;
-use crate::stamps::{arrive, last_word, take_leave};
+use crate::stamps::{arrive, last_word_if, take_leave};
 use crate::step::{Step, ready};
 use fleet_book::{Notice, Order, Verdict};
 use fleet_history::{Arrival, Bye, Entry, Row};
@@ -92,16 +92,12 @@ impl<A: Allocator + Copy> Core<A> {
         }
         let idle = self.has_no_errand(robot);
         self.chapter.entries.reserve(1)?;
-        let farewell = if idle {
-            let view = FarewellView {
-                robot,
-                cell: self.state.place()[robot as usize],
-                tick: self.state.clock(),
-            };
-            last_word(farewells, view)
-        } else {
-            None
+        let view = FarewellView {
+            robot,
+            cell: self.state.place()[robot as usize],
+            tick: self.state.clock(),
         };
+        let farewell = last_word_if(idle, farewells, view);
         self.state.enter_shut(robot);
         add(&mut self.chapter.entries, Entry::Shut { robot, farewell });
         Ok(farewell)
