@@ -25,6 +25,8 @@ use Rattle.fleet_history.proofs.Arrivals.{unfinished-after_shut}
 use Rattle.fleet_history.proofs.Places.{done-after_take}
 use Rattle.fleet_history.proofs.Legal.{accepted-rule}
 use Rattle.fleet_core.specs.Hooks.{law_at, AreArrivals, AreFarewells, IsLastStamp}
+use Rattle.fleet_core.specs.inside.Spent.{spent_if}
+use Rattle.fleet_core.proofs.Goaled.{none_left_nil}
 
 true_or_false : (b : Bool) → b ≡ true → b ≡ false → ⊥
 true_or_false b p q = cc
@@ -98,6 +100,10 @@ module _ {A : Type 0} (h : History A) (spare : List (Option StampLaw)) (k : AreF
       is_true false = refl
 
   -- the farewell of a robot that is shut without errands
+  pub farewells-idle : (robot : ℕ) (farewell : Option ℕ) (idle : Bool) → robot < robots h → idle ≡ is_none_left (unfinished h robot) → AreFarewells (after h (entry.Shut robot farewell)) (spent_if idle robot spare)
+  farewells-idle robot farewell true inside is = farewells-done robot farewell inside (none_left_nil (unfinished h robot) (sym is))
+  farewells-idle robot farewell false inside is = farewells-shut robot farewell
+
   pub farewell-is : (robot : ℕ) (farewell : Option ℕ) → IfSome farewell (λ stamp. IsLastStamp spare robot stamp) → IsFarewell h robot farewell
   farewell-is robot None e = refl
   farewell-is robot (Some stamp) (law, is, within) = subst (λ x. IsStamp x stamp) (k.each robot law is) within

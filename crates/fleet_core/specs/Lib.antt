@@ -7,3 +7,4 @@ pub mod Core
 pub mod Mailboxes
 pub mod Aimed
 pub mod Kept
+pub mod inside

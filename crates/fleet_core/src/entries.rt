@@ -8,8 +8,8 @@ ghost use Rattle.fleet_core.specs.Core.{Takes, Ticks, Shuts, HasRoom, HasNoRoom,
 
 use crate::faults::{ShutFault, TakeFault, TickFault, TickReport};
 use crate::kernel::Core;
-use crate::stamps::{arrive, last_word, take_leave};
-use crate::step::{Step, make_ready, step_of};
+use crate::stamps::{arrive, last_word_if, take_leave};
+use crate::step::{Step, ready};
 use fleet_book::{Notice, Order, Verdict};
 use fleet_history::{Arrival, Bye, Entry, Row};
 use fleet_hooks::{ArrivalHook, Farewell, FarewellView, TieHook};
@@ -92,16 +92,12 @@ impl<A: Allocator + Copy> Core<A> {
         }
         let idle = self.has_no_errand(robot);
         self.chapter.entries.reserve(1)?;
-        let farewell = if idle {
-            let view = FarewellView {
-                robot,
-                cell: self.state.place()[robot as usize],
-                tick: self.state.clock(),
-            };
-            last_word(farewells, view)
-        } else {
-            None
+        let view = FarewellView {
+            robot,
+            cell: self.state.place()[robot as usize],
+            tick: self.state.clock(),
         };
+        let farewell = last_word_if(idle, farewells, view);
         self.state.enter_shut(robot);
         add(&mut self.chapter.entries, Entry::Shut { robot, farewell });
         Ok(farewell)
@@ -132,9 +128,9 @@ impl<A: Allocator + Copy> Core<A> {
         if self.is_full() {
             return Err(TickFault::ChapterFull);
         }
-        let step = step_of(rt.alloc(), &self.grid, &self.state, &mut self.planner, ties)?;
-        let room = &mut self.chapter.entries;
-        make_ready(room, &mut self.planner, &self.grid, &self.state, &step.to)?;
+        let planner = &mut self.planner;
+        let entries = &mut self.chapter.entries;
+        let step = ready(rt.alloc(), &self.grid, &self.state, planner, ties, entries)?;
         let Step {
             to,
             mut arrived,

@@ -86,6 +86,21 @@ impl<A: Allocator + Copy> Mailbox<A> {
     }
 }
 
+/// So many mailboxes without notices, each with its room.
+fn empty_boxes<A: Allocator + Copy>(
+    alloc: A,
+    count: usize,
+    limit: u32,
+) -> Result<Vec<Mailbox<A>, A>, AllocError>
+    ensures { IfOk result (λ boxes. boxes.items ≡ replicate count (record { notices = []; limit = limit })) }
+{
+    let mut boxes = Vec::with_capacity(alloc, count)?;
+    for _i in 0..count {
+        boxes.push_reserved(Mailbox::new(alloc, limit)?);
+    }
+    Ok(boxes)
+}
+
 /// The clients' mailboxes, by number, and how many notices were made for each client. Only `open` and `widen` take memory.
 #[derive(Drop)]
 pub(crate) struct Mailboxes<A: Allocator + Copy> {
@@ -110,12 +125,8 @@ impl<A: Allocator + Copy> Mailboxes<A> {
         ensures { IfOk result (λ x. x
             ≡ record { boxes = replicate count record { notices = []; limit = limit }; noticed = replicate count 0 }) }
     {
-        let mut boxes = Vec::new(alloc);
-        let mut noticed = Vec::new(alloc);
-        for _i in 0..count {
-            boxes.push(Mailbox::new(alloc, limit)?)?;
-            noticed.push(0)?;
-        }
+        let noticed = vec![in alloc; 0u64; count]?;
+        let boxes = empty_boxes(alloc, count, limit)?;
         Ok(Mailboxes { boxes, noticed })
     }
 

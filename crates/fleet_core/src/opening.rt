@@ -1,13 +1,13 @@
 //! What the core of a world begins with.
 
 ghost use Rattle.std.specs.List.{range_with_len};
-ghost use Rattle.std.specs.Prelude.{◌≡◌, [], length, IfOk, OnOk, map, replicate};
-ghost use Rattle.fleet_hooks.specs.Law.{IsStampLaw};
-ghost use Rattle.fleet_history.specs.History.{start, unknown_client};
+ghost use Rattle.std.specs.Prelude.{◌≡◌, ◌≤◌, length, IfOk, OnOk, map, replicate};
+ghost use Rattle.fleet_grid.specs.Floor.{Floor};
+ghost use Rattle.fleet_history.specs.History.{unknown_client};
 ghost use Rattle.fleet_core.specs.Core.{opening_of, robot_at};
 ghost use Rattle.fleet_core.specs.Hooks.{AreOrderly, HaveCount};
-ghost use Rattle.fleet_core.specs.Kept.{IsKept};
 ghost use Rattle.fleet_core.specs.Opening.{CanOpen};
+ghost use Rattle.fleet_core.specs.inside.Begun.{AreMeans, IsOpened, IsBeginning};
 
 use crate::hook_laws::HookLaws;
 use crate::mailbox::Mailboxes;
@@ -90,6 +90,38 @@ fn opening_at<A: Allocator + Copy>(
     })
 }
 
+/// The opening, and the fleet's state at it.
+fn opened<A: Allocator + Copy>(
+    alloc: A,
+    starts: &[u32],
+    clients: u32,
+    limits: Limits,
+    laws: &HookLaws<A>,
+) -> Result<(Opening<A>, FleetState<A>), AllocError>
+    requires { (m : Floor) × CanOpen m starts.now clients limits laws.now }
+    ensures { IfOk result (λ begun. IsOpened starts.now clients limits laws.now begun.0 begun.1) }
+{
+    let opening = opening_at(alloc, starts, clients, limits, laws)?;
+    let state = FleetState::open(alloc, &opening, limits.queue)?;
+    Ok((opening, state))
+}
+
+/// A planner of so many robots without goals, and so many empty mailboxes.
+fn means<A: Allocator + Copy>(
+    alloc: A,
+    grid: &Grid<A>,
+    robots: usize,
+    clients: u32,
+    room: u32,
+) -> Result<(Planner<A>, Mailboxes<A>), AllocError>
+    requires { robots ≤ 512 }
+    ensures { IfOk result (λ means. AreMeans grid.now robots clients room means.0 means.1) }
+{
+    let mailboxes = Mailboxes::open(alloc, clients as usize, room)?;
+    let planner = Planner::open(alloc, grid, robots)?;
+    Ok((planner, mailboxes))
+}
+
 /// What a world begins with, beside its map, its limits and its closures' laws.
 #[derive(Drop)]
 pub(crate) struct Beginning<A: Allocator + Copy> {
@@ -109,14 +141,10 @@ pub(crate) fn beginning_at<A: Allocator + Copy>(
     laws: &HookLaws<A>,
 ) -> Result<Beginning<A>, AllocError>
     requires { CanOpen grid.now starts.now clients limits laws.now }
-    ensures opening { IfOk result (λ b. b.opening ≡ opening_of starts.now clients limits laws.now) }
-    ensures mailboxes { IfOk result (λ b. b.mailboxes.boxes ≡ replicate clients (record { notices = []; limit = limits.mailbox })) }
-    ensures kept { IfOk result (λ b. IsKept grid.now limits laws.now.ties 0 (start b.opening) b.state b.planner b.mailboxes) }
+    ensures { IfOk result (λ b. IsBeginning grid.now starts.now clients limits laws.now b.opening b.state b.planner b.mailboxes) }
 {
-    let opening = opening_at(alloc, starts, clients, limits, laws)?;
-    let state = FleetState::open(alloc, &opening, limits.queue)?;
-    let planner = Planner::open(alloc, grid, starts.len())?;
-    let mailboxes = Mailboxes::open(alloc, clients as usize, limits.mailbox)?;
+    let (opening, state) = opened(alloc, starts, clients, limits, laws)?;
+    let (planner, mailboxes) = means(alloc, grid, starts.len(), clients, limits.mailbox)?;
     Ok(Beginning {
         opening,
         state,

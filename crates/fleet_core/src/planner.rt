@@ -11,6 +11,7 @@ ghost use Rattle.fleet_plan.specs.Planned.{IsPlannedBy, cell_of};
 ghost use Rattle.fleet_state.specs.Robots.{queue_at};
 ghost use Rattle.fleet_state.specs.State.{robot_count};
 ghost use Rattle.fleet_core.specs.Aimed.{MayPlan, MayBegin, begun, begun_goals, goals_ticked, turns_ticked};
+ghost use Rattle.fleet_core.specs.inside.Begun.{IsNewPlanner};
 
 use crate::ahead::goals_ahead;
 use fleet_book::{Order, Verdict};
@@ -55,11 +56,7 @@ impl<A: Allocator + Copy> Planner<A> {
     /// A planner of so many robots, 512 at most, that have no goals.
     pub(crate) fn open(alloc: A, grid: &Grid<A>, robots: usize) -> Result<Self, AllocError>
         requires { robots ≤ 512 }
-        ensures none { IfOk result (λ p. p.aims ≡ replicate robots None) }
-        ensures on { IfOk result (λ p. AreOn grid.now p.aims) }
-        ensures size { IfOk result (λ p. p.size ≡ record { cells = length grid.now.letters; robots = robots }) }
-        ensures bridge { IfOk result (λ p. IsTrue p.bridgeless ↔ IsBridgeless (IsNeighbour grid.now)) }
-        ensures keeps { IfOk result (λ p. Keeps grid.now p.kept) }
+        ensures { IfOk result (λ p. IsNewPlanner grid.now robots p) }
     {
         let bridgeless = has_no_bridge(alloc, grid)?;
         let turns = Vec::with_capacity(alloc, robots)?;

@@ -1,9 +1,10 @@
 //! What the robots' closures answer to a tick's arrivals and farewells.
 
-ghost use Rattle.std.specs.Prelude.{◌≡◌, ◌<◌, ℕ, true, All, IfSome, is_some, length, map, slice_index, slice_set, vec_len, None};
+ghost use Rattle.std.specs.Prelude.{◌≡◌, ◌<◌, ℕ, true, false, All, IfSome, is_some, length, map, slice_index, slice_set, vec_len, None};
 ghost use Rattle.fleet_hooks.specs.Law.{IsStamp};
 ghost use Rattle.fleet_history.specs.Legal.{due_of};
 ghost use Rattle.fleet_core.specs.Hooks.{law_at, spare_at, spare_laws, without_all, DoRise, IsLastStamp};
+ghost use Rattle.fleet_core.specs.inside.Spent.{spent_if};
 
 use fleet_history::{Arrival, Bye};
 use fleet_hooks::{ArrivalHook, ArrivalView, Farewell, FarewellView};
@@ -93,7 +94,7 @@ fn stamp_farewells<A: Allocator + Copy>(
 }
 
 /// The answer of the robot's farewell closure, if it was not called yet. The call spends it.
-pub(crate) fn last_word<A: Allocator + Copy>(
+fn last_word<A: Allocator + Copy>(
     farewells: &mut Vec<Option<Farewell>, A>,
     view: FarewellView,
 ) -> Option<u32>
@@ -105,4 +106,23 @@ pub(crate) fn last_word<A: Allocator + Copy>(
 {
     let farewell = farewells[view.robot as usize].take()?;
     Some(farewell.call(view))
+}
+
+/// The answer of the farewell closure of a robot that is idle, as `last_word` has it; any other keeps its closure.
+pub(crate) fn last_word_if<A: Allocator + Copy>(
+    idle: bool,
+    farewells: &mut Vec<Option<Farewell>, A>,
+    view: FarewellView,
+) -> Option<u32>
+    requires { view.robot < vec_len farewells.old }
+    ensures answers { idle ≡ true → is_some result ≡ is_some (spare_at farewells.old.items view.robot) }
+    ensures silent { idle ≡ false → result ≡ None }
+    ensures stamp { IfSome result (λ stamp. IsLastStamp (spare_laws farewells.old.items) view.robot stamp) }
+    ensures spent { spare_laws farewells.new.items ≡ spent_if idle view.robot (spare_laws farewells.old.items) }
+{
+    if idle {
+        last_word(farewells, view)
+    } else {
+        None
+    }
 }

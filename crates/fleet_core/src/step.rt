@@ -1,14 +1,10 @@
 //! The step of a tick: all of it that takes memory, before anything is entered.
 
-ghost use Rattle.std.specs.Prelude.{◌≡◌, ◌<◌, ◌^◌, List, length, map, vec_len, vec_capacity, IfOk, OnOk, OnErr};
-ghost use Rattle.fleet_field.specs.Store.{Keeps};
-ghost use Rattle.fleet_goals.specs.Aims.{goals_of, AreOn};
-ghost use Rattle.fleet_grid.specs.Step.{IsConflictFree};
-ghost use Rattle.fleet_history.specs.History.{after};
-ghost use Rattle.fleet_history.specs.Legal.{due_of, due, leaving};
-ghost use Rattle.fleet_plan.specs.Planned.{IsPlannedBy};
-ghost use Rattle.fleet_state.specs.State.{robot_count, Of};
-ghost use Rattle.fleet_core.specs.Aimed.{MayPlan, goals_ticked};
+ghost use Rattle.std.specs.Prelude.{◌≡◌, ◌<◌, ◌^◌, length, map, IfOk, OnOk, OnErr};
+ghost use Rattle.fleet_goals.specs.Aims.{goals_of};
+ghost use Rattle.fleet_state.specs.State.{robot_count};
+ghost use Rattle.fleet_core.specs.Aimed.{MayPlan};
+ghost use Rattle.fleet_core.specs.inside.Ready.{IsStep, IsReady, IsOnSame};
 
 use crate::planner::Planner;
 use fleet_grid::Grid;
@@ -26,7 +22,7 @@ pub(crate) struct Step<A: Allocator + Copy> {
 }
 
 /// The planned step of the next tick, with stamps of 0.
-pub(crate) fn step_of<A: Allocator + Copy>(
+fn step_of<A: Allocator + Copy>(
     alloc: A,
     grid: &Grid<A>,
     state: &FleetState<A>,
@@ -37,11 +33,7 @@ pub(crate) fn step_of<A: Allocator + Copy>(
     requires tied { length ties.now ≡ robot_count state.now }
     requires early { state.now.tick < 2 ^ 63 }
     ensures same { planner.new ≡ planner.old }
-    ensures conflict_free { IfOk result (λ step. IsConflictFree grid.now state.now.cells step.to.items) }
-    ensures planned { IfOk result (λ step. IsPlannedBy grid.now (map (λ h. h.law) ties.now) state.now.waits (goals_of planner.old.aims) state.now.cells step.to.items) }
-    ensures arrived { IfOk result (λ step. Of state.now (λ h. map due_of step.arrived.items ≡ due h step.to.items)) }
-    ensures leaving { IfOk result (λ step. (arrived : List Arrival) (others : List Bye) → Of state.now (λ h. map due_of arrived ≡ due h step.to.items →
-        map (λ b. b.robot) step.leaving.items ≡ leaving h (after h (Entry.Tick step.to.items arrived others)))) }
+    ensures step { IfOk result (λ step. IsStep grid.now (map (λ h. h.law) ties.now) state.now (goals_of planner.old.aims) step.to.items step.arrived.items step.leaving.items) }
 {
     let to = planner.plan(alloc, grid, state, ties)?;
     let arrived = state.dues(alloc, to.as_slice())?;
@@ -54,7 +46,7 @@ pub(crate) fn step_of<A: Allocator + Copy>(
 }
 
 /// Makes room for one entry more, and aims the robots at the goals that they have behind a tick to these cells.
-pub(crate) fn make_ready<A: Allocator + Copy>(
+fn make_ready<A: Allocator + Copy>(
     entries: &mut Vec<Entry<A>, A>,
     planner: &mut Planner<A>,
     grid: &Grid<A>,
@@ -64,14 +56,34 @@ pub(crate) fn make_ready<A: Allocator + Copy>(
     requires may { MayPlan grid.now state.now planner.old }
     requires same { length to.now ≡ robot_count state.now }
     ensures items { entries.new.items ≡ entries.old.items }
-    ensures room { OnOk result (vec_len entries.new < vec_capacity entries.new) }
-    ensures goals { OnOk result (goals_of planner.new.aims ≡ goals_ticked state.now.queues to.now) }
-    ensures on { AreOn grid.now planner.new.aims }
-    ensures size { planner.new.size ≡ planner.old.size }
-    ensures bridge { planner.new.bridgeless ≡ planner.old.bridgeless }
-    ensures keeps { Keeps grid.now planner.new.kept }
+    ensures ready { OnOk result (IsReady state.now to.now planner.new entries.new) }
+    ensures same { IsOnSame grid.now planner.old planner.new }
     ensures refused { OnErr result (planner.new.aims ≡ planner.old.aims) }
 {
     entries.reserve(1)?;
     planner.turn(grid, state, to)
+}
+
+/// The planned step of the next tick, for which all is ready: there is room for its entry, and the robots aim at the goals
+/// that they have behind it.
+pub(crate) fn ready<A: Allocator + Copy>(
+    alloc: A,
+    grid: &Grid<A>,
+    state: &FleetState<A>,
+    planner: &mut Planner<A>,
+    ties: &[TieHook],
+    entries: &mut Vec<Entry<A>, A>,
+) -> Result<Step<A>, AllocError>
+    requires may { MayPlan grid.now state.now planner.old }
+    requires tied { length ties.now ≡ robot_count state.now }
+    requires early { state.now.tick < 2 ^ 63 }
+    ensures items { entries.new.items ≡ entries.old.items }
+    ensures step { IfOk result (λ step. IsStep grid.now (map (λ h. h.law) ties.now) state.now (goals_of planner.old.aims) step.to.items step.arrived.items step.leaving.items) }
+    ensures ready { IfOk result (λ step. IsReady state.now step.to.items planner.new entries.new) }
+    ensures same { IsOnSame grid.now planner.old planner.new }
+    ensures refused { OnErr result (planner.new.aims ≡ planner.old.aims) }
+{
+    let step = step_of(alloc, grid, state, planner, ties)?;
+    make_ready(entries, planner, grid, state, &step.to)?;
+    Ok(step)
 }

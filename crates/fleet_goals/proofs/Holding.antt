@@ -27,6 +27,17 @@ pub record AreHolding (turns : List Turn) (old : List (Option (Held Aim))) (n : 
   pub count : length fresh ≡ n
   pub goals : goals_of (fields_of store fresh) ≡ map (λ t. t.goal) (take n turns)
 
+-- nothing is held at first
+pub holding_first : (turns : List Turn) (old : List (Option (Held Aim))) (fresh : List (Option ℕ)) → AreFewUses old 512 → fresh ≡ [] → AreHolding turns old 0 old fresh
+holding_first turns old fresh few empty = subst (AreHolding turns old 0 old) (sym empty) (record {
+  counted = λ keys c. c;
+  shown_on = λ key some. refl;
+  uses = few;
+  showing = λ key some. absurd (omega (arith, some));
+  count = refl;
+  goals = refl;
+})
+
 -- fields that are shown still are the keys' fields
 pub fields_shown : (old new : List (Option (Held Aim))) (keys : List (Option ℕ)) → AreShowing old keys → AreShownOn old new → fields_of new keys ≡ fields_of old keys
 fields_shown old new keys showing on =

@@ -43,9 +43,9 @@ fn no_keys<A: Allocator + Copy>(
 ) -> Result<Vec<Option<usize>, A>, AllocError>
     ensures { IfOk result (λ keys. keys.items ≡ replicate robots None) }
 {
-    let mut keys = Vec::new(alloc);
+    let mut keys = Vec::with_capacity(alloc, robots)?;
     for _robot in 0..robots {
-        keys.push(None)?;
+        keys.push_reserved(None);
     }
     Ok(keys)
 }

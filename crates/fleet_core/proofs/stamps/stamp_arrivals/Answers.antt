@@ -37,3 +37,12 @@ loop-j-preserved g c =
       stamps = one-more (λ (b : Arrival). IsStamp (law_at laws b.robot) b.stamp) c.loop-j.arrived j x nobody l inv.stamps
           (subst (λ law. IsStamp law c.stamp-stamp.result) (sym (law_is (λ h. h.law) c.args.hooks.now a.robot c.index-hooks-arrival.result inside c.index-hooks-arrival.is)) c.stamp-stamp.ensures);
     }
+
+pub bounds-arrived-j : goal.bounds-arrived-j
+bounds-arrived-j g c = omega (arith, c.loop-j-test.true, c.loop-j.auto.arrived)
+
+pub loop-j-init : goal.loop-j-init
+loop-j-init g c = record { shows = refl; stamps = λ k less. absurd (omega (arith, less)) }
+
+pub returns-clause-shows : goal.returns-clause-shows
+returns-clause-shows g c = c.loop-j.invariant.shows

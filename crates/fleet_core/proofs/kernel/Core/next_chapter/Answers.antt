@@ -1,4 +1,5 @@
 use Rattle.std.proofs.Common.{◌≡◌, ◌∙◌, ◌+◌, arith, sym, refl, subst}
+use Rattle.std.proofs.lemmas.Result.{err_from_is_err_and}
 use Rattle.fleet_history.specs.History.{History, history_of, start}
 use Rattle.fleet_history.specs.Next.{next_opening}
 use Rattle.fleet_history.proofs.Next.{next-robots}
@@ -87,3 +88,30 @@ returns-clause-book_spent g c = (λ e. cc, λ q. absurd (omega (arith, c.if-self
 
 pub returns-clause-legal : goal.returns-clause-legal
 returns-clause-legal g c = rw (← c.self.view_is) c.self.invariant.is.legal
+
+pub returns-in_err-opening : goal.returns-in_err-opening
+returns-in_err-opening g c =
+    let p = err_from_is_err_and c.from_residual.result c.from_residual.ensures.1 in
+    rw (p.1, p.2)
+    record {
+      book_spent = (λ e. cc, λ q. absurd (omega (arith, c.if-self.false, subst (λ w. w.number + 1 ≡ w.limits.chapters) (sym c.self.view_is) q)));
+      history = tt;
+      number = tt;
+      legal = tt;
+      planned = tt;
+      advancing = tt;
+      bounded = tt;
+      next = tt;
+      arrivals = λ laws k. k;
+      farewells = λ spare k. k;
+      err = refl;
+    }
+
+pub returns-clause-history : goal.returns-clause-history
+returns-clause-history g c = rw (c.replace.ensures.value, ← c.self.view_is) refl
+
+pub returns-clause-number : goal.returns-clause-number
+returns-clause-number g c = rw (c.replace.ensures.value, ← c.self.view_is) refl
+
+pub returns-clause-err : goal.returns-clause-err
+returns-clause-err g c = tt

@@ -1,6 +1,8 @@
-use Rattle.std.proofs.Common.{arith, ◌≡◌, ◌∙◌, ◌<◌, ◌≤◌, [], true, false, length, ap, sym, refl, subst}
+use Rattle.std.proofs.Common.{arith, ◌≡◌, ◌∙◌, ℕ, ◌<◌, ◌≤◌, Bool, true, false, Option, None, length, ap, sym, refl, subst}
+use Rattle.std.specs.Prelude.{is_some}
 use Rattle.std.specs.Option.{option_map}
 use Rattle.std.proofs.lemmas.List.{length-map}
+use Rattle.std.proofs.lemmas.Result.{err_from_is_err_and}
 use Rattle.fleet_history.specs.declared.history.Entry.TheVariants as entry
 use Rattle.fleet_history.specs.History.{history_of, robots, unfinished, is_shut}
 use Rattle.fleet_history.specs.Legal.{Fits, is_none_left}
@@ -9,22 +11,27 @@ use Rattle.fleet_plan.specs.Planned.{IsPlanned}
 use Rattle.fleet_state.proofs.Parts.{cell-count, queue-count}
 use Rattle.fleet_core.specs.Core.{HasEntries}
 use Rattle.fleet_core.specs.Hooks.{AreFarewells, spare_laws}
-use Rattle.fleet_core.proofs.Goaled.{aimed-shut, none_left_nil}
-use Rattle.fleet_core.proofs.Hooked.{farewell-there, farewell-is, farewells-done, farewells-shut}
+use Rattle.fleet_core.proofs.Goaled.{aimed-shut}
+use Rattle.fleet_core.proofs.Hooked.{farewell-there, farewell-is, farewells-idle}
 use Rattle.fleet_core.proofs.Kept.{boxes-shut, delivered-shut, room-kept, within-shut}
 use Rattle.fleet_core.proofs.kernel.Core.shut.Goals as goal
-use Rattle.fleet_core.proofs.kernel.Core.shut.Goals.{then-idle, else-idle, Joined-idle}
+use Rattle.fleet_core.proofs.kernel.Core.shut.Goals.{After-last_word_if-farewell}
 
-spare_is : (g : _) (c : Joined-idle g) → AreFarewells (history_of c.self.inside.chapter) (spare_laws c.args.farewells.now.items)
+spare_is : (g : _) (c : After-last_word_if-farewell g) → AreFarewells (history_of c.self.inside.chapter) (spare_laws c.args.farewells.now.items)
 spare_is g c = subst (λ w. AreFarewells w.history (spare_laws c.args.farewells.now.items)) (sym c.self.view_is) c.requires.farewells
 
-known_is : (g : _) (c : Joined-idle g) → c.args.robot < robots (history_of c.self.inside.chapter)
+known_is : (g : _) (c : After-last_word_if-farewell g) → c.args.robot < robots (history_of c.self.inside.chapter)
 known_is g c = omega (arith, c.if-robot-robots.false, c.robots.ensures.of c.self.inside.grid (history_of c.self.inside.chapter) c.self.invariant.is)
 
-none_is : (g : _) (c : Joined-idle g) → c.has_no_errand-idle.result ≡ is_none_left (unfinished (history_of c.self.inside.chapter) c.args.robot)
+none_is : (g : _) (c : After-last_word_if-farewell g) → c.has_no_errand-idle.result ≡ is_none_left (unfinished (history_of c.self.inside.chapter) c.args.robot)
 none_is g c = c.has_no_errand-idle.ensures ∙ ap (λ w. is_none_left (unfinished w.history c.args.robot)) (sym c.self.view_is)
 
-fits_is : (g : _) (c : Joined-idle g) → Fits {A = g.row.A.Denot} c.self.inside.grid (history_of c.self.inside.chapter) (entry.Shut c.args.robot c.if-idle.farewell)
+-- an idle robot gives its word, any other none
+word_is : (idle : Bool) (farewell : Option ℕ) {spare : Bool} → (idle ≡ true → is_some farewell ≡ spare) → (idle ≡ false → farewell ≡ None) → spare ≡ true → is_some farewell ≡ idle
+word_is true farewell answers silent there = answers refl ∙ there
+word_is false farewell answers silent there = ap (λ (o : Option ℕ). is_some o) (silent refl)
+
+fits_is : (g : _) (c : After-last_word_if-farewell g) → Fits {A = g.row.A.Denot} c.self.inside.grid (history_of c.self.inside.chapter) (entry.Shut c.args.robot c.last_word_if-farewell.result)
 fits_is g c =
     let k = c.self.invariant in
     let h = history_of c.self.inside.chapter in
@@ -34,14 +41,8 @@ fits_is g c =
     record {
       known = known;
       first = not_shut;
-      leaves = (elim c.if-idle.branch [
-        | then-idle w ↦ rw (w.farewell-is, w.if-idle.true) (w.last_word-farewell.ensures.answers ∙ farewell-there h spare (spare_is g c) c.args.robot known not_shut)
-        | else-idle w ↦ rw (w.farewell-is, w.if-idle.false) refl
-      ]) ∙ none_is g c;
-      stamp = elim c.if-idle.branch [
-        | then-idle w ↦ rw w.farewell-is (farewell-is h spare (spare_is g c) c.args.robot w.last_word-farewell.result w.last_word-farewell.ensures.stamp)
-        | else-idle w ↦ rw w.farewell-is refl
-      ];
+      leaves = word_is c.has_no_errand-idle.result c.last_word_if-farewell.result c.last_word_if-farewell.ensures.answers c.last_word_if-farewell.ensures.silent (farewell-there h spare (spare_is g c) c.args.robot known not_shut) ∙ none_is g c;
+      stamp = farewell-is h spare (spare_is g c) c.args.robot c.last_word_if-farewell.result c.last_word_if-farewell.ensures.stamp;
     }
 
 pub is_shut-requires : goal.is_shut-requires
@@ -51,8 +52,8 @@ pub has_no_errand-idle-requires : goal.has_no_errand-idle-requires
 has_no_errand-idle-requires g c =
     subst (λ w. c.args.robot < robots w.history) c.self.view_is (omega (arith, c.if-robot-robots.false, c.robots.ensures.of c.self.inside.grid (history_of c.self.inside.chapter) c.self.invariant.is))
 
-pub last_word-farewell-requires : goal.last_word-farewell-requires
-last_word-farewell-requires g c =
+pub last_word_if-farewell-requires : goal.last_word_if-farewell-requires
+last_word_if-farewell-requires g c =
     let k = c.self.invariant in
     let spare = subst (λ w. AreFarewells w.history (spare_laws c.args.farewells.now.items)) (sym c.self.view_is) c.requires.farewells in
     omega (arith, c.if-robot-robots.false, c.robots.ensures.of c.self.inside.grid (history_of c.self.inside.chapter) k.is, spare.count, length-map c.args.farewells.now.items (λ f. option_map (λ x. x.law) f), c.args.farewells.now.ok.0)
@@ -61,16 +62,16 @@ pub invariant_of-self-2 : goal.invariant_of-self-2
 invariant_of-self-2 g c =
     let k = c.self.invariant in
     let h = history_of c.self.inside.chapter in
-    let next = c.enter_shut.ensures.follows c.if-idle.farewell c.self.inside.grid h k.is (fits_is g (goal.at.invariant_of-self-2 g c).Joined-idle) in
+    let next = c.enter_shut.ensures.follows c.last_word_if-farewell.result c.self.inside.grid h k.is (fits_is g (goal.at.invariant_of-self-2 g c).After-last_word_if-farewell) in
     let few : length h.entries < c.self.inside.limits.chapter = subst HasEntries (sym c.self.view_is) (c.if-is_full.ensures.room refl) in
     rw (c.add.ensures, c.reserve.ensures.items)
     record {
       is = next;
       room = room-kept k.is next refl c.enter_shut.ensures.rooms k.room;
-      within = within-shut k.within c.args.robot c.if-idle.farewell few;
-      boxed = boxes-shut k.is.legal k.boxed c.args.robot c.if-idle.farewell;
-      aimed = aimed-shut k.is k.aimed c.args.robot c.if-idle.farewell;
-      tied = record { count = k.tied.count; planned = each_tick-shut (IsPlanned c.self.inside.grid c.self.inside.ties.items) h c.args.robot c.if-idle.farewell k.tied.planned };
+      within = within-shut k.within c.args.robot c.last_word_if-farewell.result few;
+      boxed = boxes-shut k.is.legal k.boxed c.args.robot c.last_word_if-farewell.result;
+      aimed = aimed-shut k.is k.aimed c.args.robot c.last_word_if-farewell.result;
+      tied = record { count = k.tied.count; planned = each_tick-shut (IsPlanned c.self.inside.grid c.self.inside.ties.items) h c.args.robot c.last_word_if-farewell.result k.tied.planned };
       bounded = k.bounded;
     }
 
@@ -78,21 +79,16 @@ pub returns-clause-ok : goal.returns-clause-ok
 returns-clause-ok g c =
     rw (← c.self.view_is)
     record {
-      fits = fits_is g (goal.at.returns-clause-ok g c).Joined-idle;
-      world = rw (c.add.ensures, c.reserve.ensures.items, delivered-shut (history_of c.self.inside.chapter) c.args.robot c.if-idle.farewell c.self.inside.mailboxes.boxes) refl;
+      fits = fits_is g (goal.at.returns-clause-ok g c).After-last_word_if-farewell;
+      world = rw (c.add.ensures, c.reserve.ensures.items, delivered-shut (history_of c.self.inside.chapter) c.args.robot c.last_word_if-farewell.result c.self.inside.mailboxes.boxes) refl;
     }
 
 pub returns-clause-farewells : goal.returns-clause-farewells
 returns-clause-farewells g c =
     let h = history_of c.self.inside.chapter in
-    let p = (goal.at.returns-clause-farewells g c).Joined-idle in
-    rw (c.add.ensures, c.reserve.ensures.items)
-    (elim c.if-idle.branch [
-      | then-idle w ↦
-          (let none : unfinished h c.args.robot ≡ [] = none_left_nil (unfinished h c.args.robot) (sym (none_is g p) ∙ w.if-idle.true) in
-          rw (w.farewells-is, w.last_word-farewell.ensures.spent) (farewells-done h (spare_laws c.args.farewells.now.items) (spare_is g p) c.args.robot c.if-idle.farewell (known_is g p) none))
-      | else-idle w ↦ rw w.farewells-is (farewells-shut h (spare_laws c.args.farewells.now.items) (spare_is g p) c.args.robot c.if-idle.farewell)
-    ])
+    let p = (goal.at.returns-clause-farewells g c).After-last_word_if-farewell in
+    rw (c.add.ensures, c.reserve.ensures.items, c.last_word_if-farewell.ensures.spent)
+    (farewells-idle h (spare_laws c.args.farewells.now.items) (spare_is g p) c.args.robot c.last_word_if-farewell.result c.has_no_errand-idle.result (known_is g p) (none_is g p))
 
 pub bounds-place-robot : goal.bounds-place-robot
 bounds-place-robot g c = omega (arith, ap length c.place.ensures.cells, c.if-robot-robots.false, c.robots.ensures.count, cell-count c.self.invariant.is, queue-count c.self.invariant.is)
@@ -102,12 +98,12 @@ enter_shut-requires g c =
     let k = c.self.invariant in
     let h = history_of c.self.inside.chapter in
     record {
-      farewell = c.if-idle.farewell;
+      farewell = c.last_word_if-farewell.result;
       may = record {
         floor = c.self.inside.grid;
         history = h;
         is = k.is;
-        fits = fits_is g (goal.at.enter_shut-requires g c).Joined-idle;
+        fits = fits_is g (goal.at.enter_shut-requires g c).After-last_word_if-farewell;
         early = omega (arith, k.within.clock, k.within.valid.clock.1);
         few = omega (arith, k.within.entries, k.within.valid.chapter.1);
       };
@@ -163,6 +159,52 @@ returns-then-is_full g c =
       err = refl;
       farewells = c.requires.farewells;
     }
+
+pub invariant_of-self : goal.invariant_of-self
+invariant_of-self g c = rw c.reserve.ensures.items c.self.invariant
+
+pub returns-in_err-reserve : goal.returns-in_err-reserve
+returns-in_err-reserve g c =
+    let p = err_from_is_err_and c.from_residual.result c.from_residual.ensures.1 in
+    let k = c.self.invariant in
+    let h = history_of c.self.inside.chapter in
+    let inside : c.args.robot < robots h = omega (arith, c.if-robot-robots.false, c.robots.ensures.of c.self.inside.grid h k.is) in
+    let known = subst (λ w. c.args.robot < robots w.history) c.self.view_is inside in
+    let opened = ap (λ w. is_shut w.history c.args.robot) (sym c.self.view_is) ∙ sym (c.is_shut.ensures c.self.inside.grid h k.is) ∙ c.if-is_shut.false in
+    let room = c.if-is_full.ensures.room refl in
+    rw (p.1, p.2)
+    record {
+      no_robot = (λ e. cc, λ l. absurd (omega (arith, l, known)));
+      already = (λ e. cc, λ q. let bad : true ≡ false = sym q.1 ∙ opened in cc);
+      chapter_full = (λ e. cc, λ q. absurd (omega (arith, q.2, room)));
+      entries = tt;
+      ok = tt;
+      err = rw c.reserve.ensures.items c.self.view_is;
+      farewells = rw c.reserve.ensures.items (subst (λ w. AreFarewells w.history (spare_laws c.args.farewells.now.items)) (sym c.self.view_is) c.requires.farewells);
+    }
+
+pub add-requires : goal.add-requires
+add-requires g c = omega (arith, c.in_ok-reserve.ensures.ok)
+
+pub returns-clause-no_robot : goal.returns-clause-no_robot
+returns-clause-no_robot g c =
+    let k = c.self.invariant in
+    let h = history_of c.self.inside.chapter in
+    let inside : c.args.robot < robots h = omega (arith, c.if-robot-robots.false, c.robots.ensures.of c.self.inside.grid h k.is) in
+    let known = subst (λ w. c.args.robot < robots w.history) c.self.view_is inside in
+    (λ e. cc, λ l. absurd (omega (arith, l, known)))
+
+pub returns-clause-already : goal.returns-clause-already
+returns-clause-already g c =
+    let h = history_of c.self.inside.chapter in
+    let opened = ap (λ w. is_shut w.history c.args.robot) (sym c.self.view_is) ∙ sym (c.is_shut.ensures c.self.inside.grid h c.self.invariant.is) ∙ c.if-is_shut.false in
+    (λ e. cc, λ q. let bad : true ≡ false = sym q.1 ∙ opened in cc)
+
+pub returns-clause-entries : goal.returns-clause-entries
+returns-clause-entries g c = c.if-is_full.ensures.room refl
+
+pub returns-clause-err : goal.returns-clause-err
+returns-clause-err g c = tt
 
 pub returns-clause-chapter_full : goal.returns-clause-chapter_full
 returns-clause-chapter_full g c = let room = c.if-is_full.ensures.room refl in (λ e. cc, λ p. absurd (omega (arith, p.2, room)))

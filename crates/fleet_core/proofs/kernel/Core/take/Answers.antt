@@ -1,4 +1,5 @@
 use Rattle.std.proofs.Common.{arith, ◌<◌, length, ap, sym, refl, subst}
+use Rattle.std.proofs.lemmas.Result.{err_from_is_err_and}
 use Rattle.fleet_history.specs.declared.history.Entry.TheVariants as entry
 use Rattle.fleet_history.specs.History.{history_of, after, clients}
 use Rattle.fleet_history.proofs.Legal.{legal-placement}
@@ -11,7 +12,11 @@ use Rattle.fleet_core.specs.Hooks.{AreFarewells}
 use Rattle.fleet_core.proofs.Goaled.{aimed-take}
 use Rattle.fleet_core.proofs.Hooked.{farewells-take}
 use Rattle.fleet_core.proofs.Kept.{noticed-of, noticed-small, room-kept, boxes-take, taken-boxes, within-take}
+use Rattle.fleet_core.proofs.Refused.{kept-refused}
 use Rattle.fleet_core.proofs.kernel.Core.take.Goals as goal
+
+pub has_room-requires : goal.has_room-requires
+has_room-requires g c = c.requires
 
 pub judge-verdict-requires-clause-client : goal.judge-verdict-requires-clause-client
 judge-verdict-requires-clause-client g c =
@@ -20,6 +25,85 @@ judge-verdict-requires-clause-client g c =
 
 pub judge-verdict-requires-clause-placed : goal.judge-verdict-requires-clause-placed
 judge-verdict-requires-clause-placed g c = rw (cells-of c.self.invariant.is) (legal-placement c.self.inside.grid (history_of c.self.inside.chapter) c.self.invariant.is.legal)
+
+-- refused
+
+pub invariant_of-self : goal.invariant_of-self
+invariant_of-self g c = rw c.reserve.ensures.items c.self.invariant
+
+pub returns-in_err-reserve : goal.returns-in_err-reserve
+returns-in_err-reserve g c =
+    let p = err_from_is_err_and c.from_residual.result c.from_residual.ensures.1 in
+    let yes = c.if-not-has_room.ensures.yes refl in
+    let room = c.if-is_full.ensures.room refl in
+    rw (p.1, p.2)
+    record {
+      mailbox_full = (λ e. cc, λ no. absurd (omega (arith, no, yes)));
+      chapter_full = (λ e. cc, λ full. absurd (omega (arith, full.1, room)));
+      room = tt;
+      entries = tt;
+      ok = tt;
+      arrives = tt;
+      err = rw c.reserve.ensures.items c.self.view_is;
+      farewells = λ spare a. rw c.reserve.ensures.items (subst (λ w. AreFarewells w.history spare) (sym c.self.view_is) a);
+    }
+
+pub invariant_of-self-in_err-begin : goal.invariant_of-self-in_err-begin
+invariant_of-self-in_err-begin g c =
+    rw c.reserve.ensures.items
+    (kept-refused c.self.invariant c.begin.new.self c.in_err-begin.ensures.refused c.begin.ensures.on c.begin.ensures.size c.begin.ensures.bridge c.begin.ensures.keeps)
+
+pub returns-in_err-begin : goal.returns-in_err-begin
+returns-in_err-begin g c =
+    let p = err_from_is_err_and c.from_residual-in_err-begin.result c.from_residual-in_err-begin.ensures.1 in
+    let yes = c.if-not-has_room.ensures.yes refl in
+    let room = c.if-is_full.ensures.room refl in
+    rw (p.1, p.2)
+    record {
+      mailbox_full = (λ e. cc, λ no. absurd (omega (arith, no, yes)));
+      chapter_full = (λ e. cc, λ full. absurd (omega (arith, full.1, room)));
+      room = tt;
+      entries = tt;
+      ok = tt;
+      arrives = tt;
+      err = rw c.reserve.ensures.items c.self.view_is;
+      farewells = λ spare a. rw c.reserve.ensures.items (subst (λ w. AreFarewells w.history spare) (sym c.self.view_is) a);
+    }
+
+-- entered
+
+pub enter_take-requires-clause-may : goal.enter_take-requires-clause-may
+enter_take-requires-clause-may g c =
+    let k = c.self.invariant in
+    let h = history_of c.self.inside.chapter in
+    let known : c.args.client < clients h = subst (λ w. c.args.client < clients w.history) (sym c.self.view_is) c.requires in
+    record {
+      floor = c.self.inside.grid;
+      history = h;
+      is = k.is;
+      fits = (known, c.judge-verdict.ensures.verdict h k.is);
+      early = omega (arith, k.within.clock, k.within.valid.clock.1);
+      few = omega (arith, k.within.entries, k.within.valid.chapter.1);
+    }
+
+pub next_number-requires-clause-known : goal.next_number-requires-clause-known
+next_number-requires-clause-known g c =
+    let known : c.args.client < clients (history_of c.self.inside.chapter) = subst (λ w. c.args.client < clients w.history) (sym c.self.view_is) c.requires in
+    omega (arith, known, c.self.invariant.boxed.count)
+
+pub push-requires-clause-known : goal.push-requires-clause-known
+push-requires-clause-known g c =
+    let known : c.args.client < clients (history_of c.self.inside.chapter) = subst (λ w. c.args.client < clients w.history) (sym c.self.view_is) c.requires in
+    omega (arith, known, c.self.invariant.boxed.count)
+
+pub push-requires-clause-small : goal.push-requires-clause-small
+push-requires-clause-small g c =
+    let k = c.self.invariant in
+    let known : c.args.client < clients (history_of c.self.inside.chapter) = subst (λ w. c.args.client < clients w.history) (sym c.self.view_is) c.requires in
+    omega (arith, noticed-of k.boxed c.args.client known, noticed-small k.within c.self.inside.grid k.is.legal c.args.client known)
+
+pub add-requires : goal.add-requires
+add-requires g c = omega (arith, c.in_ok-reserve.ensures.ok)
 
 pub begin-requires : goal.begin-requires
 begin-requires g c = record {
@@ -124,6 +208,15 @@ returns-then-is_full g c =
       err = refl;
       farewells = λ spare k. k;
     }
+
+pub returns-clause-room : goal.returns-clause-room
+returns-clause-room g c = c.if-not-has_room.ensures.yes refl
+
+pub returns-clause-entries : goal.returns-clause-entries
+returns-clause-entries g c = c.if-is_full.ensures.room refl
+
+pub returns-clause-err : goal.returns-clause-err
+returns-clause-err g c = tt
 
 pub returns-clause-mailbox_full : goal.returns-clause-mailbox_full
 returns-clause-mailbox_full g c = let yes = c.if-not-has_room.ensures.yes refl in (λ e. cc, λ no. absurd (omega (arith, no, yes)))

@@ -3,7 +3,7 @@ use Rattle.fleet_history.specs.History.{robots}
 use Rattle.fleet_history.proofs.Legal.{legal-opening, legal-placement}
 use Rattle.fleet_plan.proofs.Goals.{kept_goals}
 use Rattle.fleet_state.proofs.Parts.{cell-count, cells-of, queue-count, wait-count, waits-of}
-use Rattle.fleet_core.specs.Aimed.{IsAimed}
+use Rattle.fleet_core.specs.Aimed.{Planner, IsAimed}
 use Rattle.fleet_core.proofs.planner.Planner.plan.Goals as goal
 
 pub plan-requires-clause-placed : goal.plan-requires-clause-placed
@@ -32,3 +32,17 @@ plan-requires-clause-goals g c =
     let may = c.requires.may in
     let a = subst (IsAimed c.args.grid.now may.history) (sym c.self.view_is) may.aimed in
     rw (c.place.ensures.cells, cells-of may.is, c.waits.ensures.waits, waits-of may.is) (kept_goals c.args.grid.now may.history c.self.inside.aims may.is.legal a.aimed a.on)
+
+pub invariant_of-self : goal.invariant_of-self
+invariant_of-self g c = c.self.invariant
+
+pub returns : goal.returns
+returns g c =
+    record {
+      same = rw c.plan.ensures.made c.self.view_is;
+      conflict_free = rw c.place.ensures.cells at c.plan.ensures.conflict_free;
+      planned = rw (c.waits.ensures.waits, c.place.ensures.cells, ap (λ (p : Planner). p.aims) c.self.view_is) at c.plan.ensures.planned;
+    }
+
+pub overflow_add-moment : goal.overflow_add-moment
+overflow_add-moment g c = omega (arith, c.clock.ensures.tick, c.requires.early)

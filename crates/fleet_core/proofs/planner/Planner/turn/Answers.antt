@@ -3,10 +3,10 @@ use Rattle.fleet_goals.specs.Aims.{goals_of}
 use Rattle.fleet_goals.specs.Turned.{turned}
 use Rattle.fleet_goals.specs.declared.turns.Turn.{Turn}
 use Rattle.fleet_state.proofs.Parts.{queue-count, robots-few}
-use Rattle.fleet_core.specs.Aimed.{IsAimed}
+use Rattle.fleet_core.specs.Aimed.{Planner, IsAimed}
 use Rattle.fleet_core.proofs.Goaled.{aims-count}
 use Rattle.fleet_core.proofs.Turning.{turns-few, turns-known, turns-floor, turned-goals}
-use Rattle.fleet_core.proofs.Refused.{on_ok_map}
+use Rattle.fleet_core.proofs.Refused.{on_ok_map, on_err_map}
 use Rattle.fleet_core.proofs.planner.Planner.turn.Goals as goal
 
 pub put_turns-requires-clause-few : goal.put_turns-requires-clause-few
@@ -49,3 +49,29 @@ returns-clause-goals g c =
     let a = subst (IsAimed c.args.grid.now may.history) (sym c.self.view_is) may.aimed in
     let turns = c.as_slice.ensures.value ∙ c.put_turns.ensures.turns in
     on_ok_map c.turn.result (λ e. e ∙ (ap (λ (ts : List Turn). turned ts (goals_of c.self.inside.aims)) turns ∙ turned-goals may.is a c.args.to.now)) c.turn.ensures.goals
+
+pub put_turns-requires-clause-same : goal.put_turns-requires-clause-same
+put_turns-requires-clause-same g c = c.requires.same
+
+pub turn-requires-clause-keeps : goal.turn-requires-clause-keeps
+turn-requires-clause-keeps g c =
+    let may = c.requires.may in
+    let a = subst (IsAimed c.args.grid.now may.history) (sym c.self.view_is) may.aimed in a.kept
+
+pub invariant_of-self : goal.invariant_of-self
+invariant_of-self g c = omega (arith, c.turn.ensures.count, c.put_turns.ensures.room, c.self.invariant)
+
+pub returns-clause-on : goal.returns-clause-on
+returns-clause-on g c = c.turn.ensures.on
+
+pub returns-clause-size : goal.returns-clause-size
+returns-clause-size g c = ap (λ (p : Planner). p.size) c.self.view_is
+
+pub returns-clause-bridge : goal.returns-clause-bridge
+returns-clause-bridge g c = ap (λ (p : Planner). p.bridgeless) c.self.view_is
+
+pub returns-clause-keeps : goal.returns-clause-keeps
+returns-clause-keeps g c = c.turn.ensures.keeps
+
+pub returns-clause-refused : goal.returns-clause-refused
+returns-clause-refused g c = on_err_map c.turn.result (λ e. e ∙ ap (λ (p : Planner). p.aims) c.self.view_is) c.turn.ensures.refused

@@ -1,0 +1,4 @@
+-- What only proofs and private functions use.
+pub mod Begun
+pub mod Ready
+pub mod Spent

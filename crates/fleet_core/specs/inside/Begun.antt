@@ -1,0 +1,42 @@
+-- What a world begins with, part by part.
+use Rattle.std.specs.Prelude.{ℕ, ◌≡◌, ◌≤◌, ◌↔◌, IsTrue, [], List, None, length, replicate}
+use Rattle.fleet_grid.specs.Floor.{Floor, IsNeighbour}
+use Rattle.fleet_grid.specs.Walk.{IsBridgeless}
+use Rattle.fleet_field.specs.Store.{Keeps}
+use Rattle.fleet_goals.specs.Aims.{AreOn}
+use Rattle.fleet_book.specs.declared.limits.Limits.{Limits}
+use Rattle.fleet_history.specs.declared.history.Opening.{Opening}
+use Rattle.fleet_history.specs.History.{start}
+use Rattle.fleet_history.specs.Legal.{IsInOrder}
+use Rattle.fleet_state.specs.State.{State, IsStateOf, HasFullRooms}
+use Rattle.fleet_core.specs.Aimed.{Planner}
+use Rattle.fleet_core.specs.Core.{opening_of}
+use Rattle.fleet_core.specs.Hooks.{HookLaws, AreOrderly}
+use Rattle.fleet_core.specs.Kept.{IsKept}
+use Rattle.fleet_core.specs.Mailboxes.{Mailboxes}
+
+-- a planner of so many robots that have no goals
+pub record IsNewPlanner (m : Floor) (robots : ℕ) (p : Planner) : Type 0 where
+  pub none : p.aims ≡ replicate robots None
+  pub on : AreOn m p.aims
+  pub size : p.size ≡ record { cells = length m.letters; robots = robots }
+  pub bridge : IsTrue p.bridgeless ↔ IsBridgeless (IsNeighbour m)
+  pub keeps : Keeps m p.kept
+
+-- beside so many empty mailboxes, each with this room
+pub record AreMeans (m : Floor) (robots clients room : ℕ) (p : Planner) (x : Mailboxes) : Type 0 where
+  pub planner : IsNewPlanner m robots p
+  pub mailboxes : x ≡ record { boxes = replicate clients (record { notices = []; limit = room }); noticed = replicate clients 0 }
+
+-- the opening, and the state at it
+pub record IsOpened {A : Type 0} (starts : List ℕ) (clients : ℕ) (limits : Limits) (laws : HookLaws) (o : Opening A) (s : State A) : Type 0 where
+  pub opening : o ≡ opening_of starts clients limits laws
+  pub orderly : AreOrderly laws
+  pub of : (m : Floor) → IsInOrder m o → IsStateOf m (start o) s
+  pub full : s.queue ≤ limits.queue → HasFullRooms s
+
+-- all of it, as a core keeps it
+pub record IsBeginning {A : Type 0} (m : Floor) (starts : List ℕ) (clients : ℕ) (limits : Limits) (laws : HookLaws) (o : Opening A) (s : State A) (p : Planner) (x : Mailboxes) : Type 0 where
+  pub opening : o ≡ opening_of starts clients limits laws
+  pub mailboxes : x.boxes ≡ replicate clients (record { notices = []; limit = limits.mailbox })
+  pub kept : IsKept m limits laws.ties 0 (start o) s p x
