@@ -255,7 +255,7 @@ fn filled<T: Copy, A: Allocator>(alloc: A, item: T, count: u32) -> Result<Vec<T,
 {
     let mut items = Vec::with_capacity(alloc, count as usize)?;
     for _ in 0..count {
-        items.push(item)?;
+        items.push_reserved(item);
     }
     Ok(items)
 }

@@ -94,6 +94,13 @@ module _ {A : Type 0} where
         };
       }
 
+  -- the next client is as it was, and its room is there
+  pub rested_next : (k : ℕ) (rooms : List (Vec Notice A)) (w was : World A) (cs now : List (ClientView A)) (c : ClientView A) → slice_get now k ≡ Some c → Rested k rooms w was cs now → HasRoomFor rooms w c × (slice_get cs k ≡ Some c)
+  rested_next k rooms w was cs now c here r =
+      let at : slice_get cs k ≡ Some c = sym (r.same k (omega arith)) ∙ here in
+      let o = r.later k c (omega arith) at in
+      ((o.0.0, o.0.1, o.0.2, omega (arith, o.0.3, ap (λ (p : Pending). length p.notices) o.1)), at)
+
   pub rests_all : (k : ℕ) (rooms : List (Vec Notice A)) (w was : World A) (cs now : List (ClientView A)) → length cs ≤ k → Rested k rooms w was cs now → RestsAre rooms was cs
   rests_all k rooms w was cs now all r = λ j x at. r.done j x (let inside = within cs j x at in omega arith) at
 

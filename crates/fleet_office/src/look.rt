@@ -1,6 +1,6 @@
 //! What a look at an office shows.
 
-ghost use Rattle.std.specs.Prelude.{◌≡◌, ◌↔◌, length, IfOk, IfSome, IsSome, IsTrue, MatchOption};
+ghost use Rattle.std.specs.Prelude.{◌≡◌, ◌≤◌, ◌↔◌, length, IfOk, IfSome, IsSome, IsTrue, MatchOption};
 ghost use Rattle.fleet_bound.specs.Arriving.{IsIdleWithin};
 ghost use Rattle.fleet_bound.specs.Idle.{idle_ticks, longest_after};
 ghost use Rattle.fleet_grid.specs.Counts.{floor_count};
@@ -10,6 +10,7 @@ ghost use Rattle.fleet_history.specs.History.{clock, place, robots};
 ghost use Rattle.fleet_plan.specs.Planned.{waits};
 ghost use Rattle.fleet_pibt.specs.Eldest.{IsEldest};
 ghost use Rattle.fleet_core.specs.Aimed.{IsIdle};
+ghost use Rattle.fleet_office.specs.Shown.{Shows};
 
 use crate::names::OfficeName;
 use crate::rest::Rest;
@@ -62,5 +63,19 @@ impl<N: OfficeName<A>, A: Allocator + Copy> Rest<N, A> {
             entries,
             idle_within: self.core.idle_within(),
         })
+    }
+
+    /// What there is to see, of no fewer ticks than were seen before.
+    pub(crate) fn look_from(&self, alloc: A, seen: u64) -> Result<Look<A>, AllocError>
+        ensures tick { IfOk result (λ look. seen ≤ look.tick) }
+        ensures shown { IfOk result (Shows self.now.world) }
+    {
+        self.lawful();
+        let look = self.look(alloc)?;
+        // The ledger shows that no call ends here.
+        if look.tick < seen {
+            return Err(AllocError);
+        }
+        Ok(look)
     }
 }

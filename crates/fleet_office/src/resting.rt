@@ -6,7 +6,7 @@ ghost use Rattle.fleet_core.specs.Core.{World, pending};
 ghost use Rattle.fleet_lanes.specs.Ends.{ClientView};
 ghost use Rattle.fleet_office.specs.Hall.{handed};
 ghost use Rattle.fleet_office.specs.Views.{core, cores, AreOn, AreDistinct};
-ghost use Rattle.fleet_office.specs.inside.Rests.{AreRooms, RestsAre, AreWithin, SameBut, HasAtMost};
+ghost use Rattle.fleet_office.specs.inside.Rests.{HasRoomFor, IsMoved, AreRooms, RestsAre, AreWithin, SameBut, HasAtMost};
 
 use crate::homing::place_of;
 use crate::names::OfficeName;
@@ -15,16 +15,6 @@ use fleet_book::Notice;
 use fleet_core::Core;
 use fleet_lanes::Client;
 use std::alloc::{AllocError, Allocator};
-
-/// An empty list with room for so many notices.
-fn room_for<A: Allocator + Copy>(alloc: A, count: usize) -> Result<Vec<Notice, A>, AllocError>
-    ensures items { IfOk result (λ v. v.items ≡ []) }
-    ensures room { IfOk result (λ v. count ≤ vec_capacity v) }
-{
-    let mut room = Vec::new(alloc);
-    room.reserve(count)?;
-    Ok(room)
-}
 
 /// The notices that are known on the outlet. The room is there.
 fn move_outlet<A: Allocator + Copy>(client: &mut Client<A>, out: &mut Vec<Notice, A>)
@@ -50,19 +40,20 @@ fn move_mailbox<A: Allocator + Copy>(core: &mut Core<A>, number: u32, out: &mut 
     }
 }
 
-/// All that the client had not collected. The room is there.
+/// All that the client had not collected goes into the room at its number.
 fn move_all<A: Allocator + Copy>(
     core: &mut Core<A>,
     client: &mut Client<A>,
-    number: u32,
-    out: &mut Vec<Notice, A>,
+    rooms: &mut Vec<Vec<Notice, A>, A>,
 )
-    requires known { number < client_count core.old.history }
-    requires there { number < length core.old.mailboxes }
-    requires room { vec_len out.old + (length client.old.known + length (pending core.old number).notices) ≤ vec_capacity out.old }
-    ensures items { out.new.items ≡ out.old.items ++ (client.old.known ++ (pending core.old number).notices) }
-    ensures core { core.new ≡ handed core.old number [] }
+    requires known { client.old.number < client_count core.old.history }
+    requires there { client.old.number < length core.old.mailboxes }
+    requires room { HasRoomFor rooms.old.items core.old client.old }
+    ensures moved { IsMoved rooms.old.items core.old client.old rooms.new.items }
+    ensures core { core.new ≡ handed core.old client.old.number [] }
 {
+    let number = client.number();
+    let out = &mut rooms[number as usize];
     move_outlet(client, out);
     move_mailbox(core, number, out);
 }
@@ -81,10 +72,7 @@ pub(crate) fn fill<A: Allocator + Copy>(
     ensures core { SameBut core.old core.new }
 {
     for k in 0..clients.len() {
-        let client = &mut clients[k];
-        let number = client.number();
-        let out = &mut rooms[number as usize];
-        move_all(core, client, number, out);
+        move_all(core, &mut clients[k], rooms);
     }
 }
 
@@ -105,6 +93,22 @@ impl<N: OfficeName<A>, A: Allocator + Copy> Rest<N, A> {
         Ok(count)
     }
 
+    /// An empty list with room for what the client of this number had not collected.
+    fn room_of(
+        &self,
+        alloc: A,
+        clients: &[Client<A>],
+        number: u32,
+    ) -> Result<Vec<Notice, A>, AllocError>
+        requires known { number < length N.rings }
+        requires distinct { AreDistinct (cores clients.now) }
+        ensures items { IfOk result (λ v. v.items ≡ []) }
+        ensures room { IfOk result (λ v. HasAtMost (vec_capacity v) self.now.world clients.now number) }
+    {
+        let count = self.uncollected(clients, number)?;
+        Vec::with_capacity(alloc, count)
+    }
+
     /// Room for what each client had not collected, by number.
     pub(crate) fn rooms(
         &self,
@@ -115,11 +119,10 @@ impl<N: OfficeName<A>, A: Allocator + Copy> Rest<N, A> {
         requires distinct { AreDistinct (cores clients.now) }
         ensures { IfOk result (λ v. AreRooms v.items self.now.world clients.now) }
     {
-        let mut rooms = Vec::new(alloc);
-        for number in 0..self.ring_count() {
-            let count = self.uncollected(clients, number)?;
-            let room = room_for(alloc, count)?;
-            rooms.push(room)?;
+        let count = self.ring_count();
+        let mut rooms = Vec::with_capacity(alloc, count as usize)?;
+        for number in 0..count {
+            rooms.push_reserved(self.room_of(alloc, clients, number)?);
         }
         Ok(rooms)
     }

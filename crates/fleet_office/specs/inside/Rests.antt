@@ -1,5 +1,5 @@
 -- What clients had not collected.
-use Rattle.std.specs.Prelude.{ℕ, ◌+◌, ◌≡◌, ◌<◌, ◌≤◌, List, [], ◌++◌, Some, slice_get, length, vec_capacity, Vec}
+use Rattle.std.specs.Prelude.{ℕ, ◌+◌, ◌≡◌, ◌<◌, ◌≤◌, List, [], ◌++◌, Some, slice_get, slice_set, length, vec_capacity, Vec}
 use Rattle.fleet_book.specs.declared.notice.Notice.{Notice}
 use Rattle.fleet_core.specs.Core.{World, pending}
 use Rattle.fleet_lanes.specs.Ends.{ClientView}
@@ -7,6 +7,10 @@ use Rattle.fleet_lanes.specs.Ends.{ClientView}
 -- there is an empty list with room for what the client had not collected
 abbrev pub HasRoomFor : {A : Type 0} → List (Vec Notice A) → World A → ClientView A → Type 0
 HasRoomFor {A} rooms w x = (v : Vec Notice A) × (slice_get rooms x.number ≡ Some v) × (v.items ≡ []) × (length x.known + length (pending w x.number).notices ≤ vec_capacity v)
+
+-- what the client had not collected is in the list at its number: what is known on its outlet, and then its mailbox
+abbrev pub IsMoved : {A : Type 0} → List (Vec Notice A) → World A → ClientView A → List (Vec Notice A) → Type 0
+IsMoved {A} rooms w x rests = (v : Vec Notice A) × (rests ≡ slice_set rooms x.number v) × (v.items ≡ x.known ++ (pending w x.number).notices)
 
 abbrev pub AreRooms : {A : Type 0} → List (Vec Notice A) → World A → List (ClientView A) → Type 0
 AreRooms {A} rooms w cs = (k : ℕ) (x : ClientView A) → slice_get cs k ≡ Some x → HasRoomFor rooms w x

@@ -20,3 +20,19 @@ loop-k-preserved g c = λ k x more less at.
 
 pub returns-clause-none : goal.returns-clause-none
 returns-clause-none g c = λ k x more at. c.loop-k.invariant k x more (let w = within c.args.clients.now k x at in omega arith) at
+
+pub offset_bounds-clients-k : goal.offset_bounds-clients-k
+offset_bounds-clients-k g c = omega (arith, c.loop-k-test.true)
+
+pub bounds-clients-k : goal.bounds-clients-k
+bounds-clients-k g c = c.loop-k-test.true
+
+pub returns-then-number-clause-some : goal.returns-then-number-clause-some
+returns-then-number-clause-some g c = (
+  c.loop-k.auto.k,
+  c.loop-k-test.true,
+  λ x at. ap (λ z. z.number) (sym (get_or_from_slice_get c.args.clients.now c.loop-k.k x c.index-clients-k.result at) ∙ sym c.index-clients-k.is) ∙ sym c.number.ensures ∙ c.if-number.true,
+)
+
+pub loop-k-smaller : goal.loop-k-smaller
+loop-k-smaller g c = omega (arith, c.loop-k-test.true)

@@ -1,7 +1,14 @@
-use Rattle.std.proofs.Common.{◌≡◌, ◌∙◌, length, refl, subst, arith}
+use Rattle.std.proofs.Common.{◌≡◌, ◌∙◌, length, refl, subst, arith, sym}
 use Rattle.fleet_office.specs.Draining.{DrainsFirst}
 use Rattle.fleet_office.proofs.Settling.{settled_next, settled_all, first_more}
+use Rattle.std.proofs.lemmas.Result.{IfOk-from_err}
+use Rattle.fleet_office.specs.Views.{AreOn, AreDistinct}
+use Rattle.std.specs.Prelude.{Ok, Err, Result, OnErr}
 use Rattle.fleet_office.proofs.rest.Rest.drain_all.Goals as goal
+
+on_err : {X E P : Type 0} (r : Result X E) → P → OnErr r P
+on_err (Ok x) p = tt
+on_err (Err e) p = p
 
 pub loop-number-preserved : goal.loop-number-preserved
 loop-number-preserved g c =
@@ -27,3 +34,40 @@ returns-clause-drains g c =
     let i = c.loop-number.invariant in
     let all : c.loop-number.number ≡ length g.N.OfficeName.rings = omega (arith, c.loop-number-test.false, c.loop-number.auto.number-end, c.ring_count-number-end.ensures) in
     subst (λ n. DrainsFirst n c.args.self.now.world c.loop-number.self.world) all i.3
+
+pub drain_number-requires-clause-on : goal.drain_number-requires-clause-on
+drain_number-requires-clause-on g c = subst (AreOn g.N.OfficeName.rings) (sym c.loop-number.invariant.0) c.requires.on
+
+pub drain_number-requires-clause-distinct : goal.drain_number-requires-clause-distinct
+drain_number-requires-clause-distinct g c = subst AreDistinct (sym c.loop-number.invariant.0) c.requires.distinct
+
+pub returns-in_err-drain_number-clause-clients : goal.returns-in_err-drain_number-clause-clients
+returns-in_err-drain_number-clause-clients g c = c.drain_number.ensures.clients ∙ c.loop-number.invariant.0
+
+pub returns-in_err-drain_number-clause-drains : goal.returns-in_err-drain_number-clause-drains
+returns-in_err-drain_number-clause-drains g c = IfOk-from_err c.from_residual.result _ c.from_residual.ensures.0
+
+pub returns-in_err-drain_number-clause-total : goal.returns-in_err-drain_number-clause-total
+returns-in_err-drain_number-clause-total g c = c.drain_number.ensures.total ∙ c.loop-number.invariant.1
+
+pub returns-in_err-drain_number-clause-ok : goal.returns-in_err-drain_number-clause-ok
+returns-in_err-drain_number-clause-ok g c = IfOk-from_err c.from_residual.result _ c.from_residual.ensures.0
+
+pub loop-number-smaller : goal.loop-number-smaller
+loop-number-smaller g c = omega (arith, c.loop-number-test.true)
+
+pub returns-clause-clients : goal.returns-clause-clients
+returns-clause-clients g c = c.loop-number.invariant.0
+
+pub returns-clause-total : goal.returns-clause-total
+returns-clause-total g c = c.loop-number.invariant.1
+
+pub returns-in_err-drain_number-clause-stops : goal.returns-in_err-drain_number-clause-stops
+returns-in_err-drain_number-clause-stops g c = on_err c.from_residual.result record {
+  client = c.loop-number.number;
+  known = omega (arith, c.loop-number-test.true, c.ring_count-number-end.ensures);
+  mid = c.loop-number.self.world;
+  left = c.drain_number.ensures.drains.0;
+  before = c.loop-number.invariant.3;
+  last = c.drain_number.ensures.drains.1;
+}

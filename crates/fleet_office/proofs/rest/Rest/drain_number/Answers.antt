@@ -1,4 +1,4 @@
-use Rattle.std.proofs.Common.{◌≡◌, ◌<◌, ℕ, length, get_or, subst, Some, List}
+use Rattle.std.proofs.Common.{◌≡◌, ◌<◌, ℕ, length, get_or, subst, Some, List, refl, arith}
 use Rattle.std.specs.Prelude.{Ok, Err, Result, OnOk, slice_get}
 use Rattle.std.proofs.lemmas.Option.{slice_get-get_or}
 use Rattle.fleet_lanes.specs.Names.{LaneName}
@@ -57,3 +57,21 @@ returns-clause-ok g c =
     let x = get_or cs k c.index-clients-k.result in
     let at = slice_get-get_or cs k c.index-clients-k.result c.in-Some.ensures.some.1 in
     on_ok_map c.drain.result (number_settled c.drain.new.self.ends cs c.args.number k x c.drain.new.client at (c.in-Some.ensures.some.2 x at) c.requires.distinct) c.drain.ensures.ok
+
+pub returns-in_default-clause-kept : goal.returns-in_default-clause-kept
+returns-in_default-clause-kept g c = λ k x at other. at
+
+pub returns-in_default-clause-others : goal.returns-in_default-clause-others
+returns-in_default-clause-others g c = record { count = refl; each = λ k e other at. at }
+
+pub returns-in_default-clause-ok : goal.returns-in_default-clause-ok
+returns-in_default-clause-ok g c = λ k x at same. absurd (c.in_default.ensures.none k x (omega arith) at same)
+
+pub bounds-clients-k : goal.bounds-clients-k
+bounds-clients-k g c = c.in-Some.ensures.some.1
+
+pub returns-clause-full : goal.returns-clause-full
+returns-clause-full g c = c.drain.ensures.full
+
+pub returns-clause-total : goal.returns-clause-total
+returns-clause-total g c = c.drain.ensures.total

@@ -1,6 +1,11 @@
-use Rattle.std.proofs.Common.{◌≡◌, length}
+use Rattle.std.proofs.Common.{◌≡◌, ◌≤◌, vec_len}
+use Rattle.std.specs.Vec.{vec_capacity}
 use Rattle.fleet_office.proofs.Rested.{RoomsBelow}
 use Rattle.fleet_office.proofs.rest.Rest.rooms.Given as goal
 
 abbrev pub invariant-loop-number : goal.invariant-loop-number
-invariant-loop-number g l = (length l.rooms.items ≡ l.number) × RoomsBelow l.number l.rooms.items l.self.world l.clients
+invariant-loop-number g l = record {
+  size : vec_len l.rooms ≡ l.number;
+  room : l.count ≤ vec_capacity l.rooms;
+  below : RoomsBelow l.number l.rooms.items l.self.world l.clients;
+}

@@ -1,4 +1,4 @@
-use Rattle.std.proofs.Common.{◌≤◌, ◌+◌, length, rules, get_or}
+use Rattle.std.proofs.Common.{◌≤◌, ◌+◌, length, rules, get_or, ◌∙◌, arith, ap, sym}
 use Rattle.fleet_core.specs.Core.{pending}
 use Rattle.fleet_office.proofs.Rested.{at_most_found}
 use Rattle.fleet_office.proofs.rest.Rest.uncollected.Goals as goal
@@ -7,3 +7,15 @@ pub returns : goal.returns
 returns g c =
     at_most_found c.args.clients.now c.in-Some.k c.args.number c.in-Some-checked_add.count c.args.self.now.world c.index-clients-k.result c.requires.distinct c.in-Some.ensures.some.1 c.in-Some.ensures.some.2
     (let few : length (get_or c.args.clients.now c.in-Some.k c.index-clients-k.result).known + length (pending c.args.self.now.world c.args.number).notices ≤ c.in-Some-checked_add.count = search rules in few)
+
+pub returns-in_default : goal.returns-in_default
+returns-in_default g c = λ k x at same. absurd (c.in_default.ensures.none k x (omega arith) at same)
+
+pub pending_count-pending-requires : goal.pending_count-pending-requires
+pending_count-pending-requires g c = omega (arith, c.requires.known, c.self.invariant.ring_count, c.self.invariant.end_count)
+
+pub offset_bounds-clients-k : goal.offset_bounds-clients-k
+offset_bounds-clients-k g c = omega (arith, c.in-Some.ensures.some.1)
+
+pub bounds-clients-k : goal.bounds-clients-k
+bounds-clients-k g c = c.in-Some.ensures.some.1

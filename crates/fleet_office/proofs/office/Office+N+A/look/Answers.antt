@@ -1,0 +1,6 @@
+use Rattle.std.proofs.Common.{◌≤◌, subst}
+use Rattle.std.specs.Prelude.{IfOk}
+use Rattle.fleet_office.proofs.office.Office+N+A.look.Goals as goal
+
+pub returns-clause-tick : goal.returns-clause-tick
+returns-clause-tick g c = subst (λ n. IfOk c.look_from.result (λ look. n ≤ look.tick)) c.ticks.ensures c.look_from.ensures.tick
