@@ -5,11 +5,11 @@ ghost use Rattle.fleet_grid.specs.Floor.{IsFloor};
 ghost use Rattle.fleet_field.specs.Field.{IsField};
 ghost use Rattle.fleet_field.specs.Several.{AreFields};
 
+use crate::beside::side_by_side;
 use crate::compass::Compass;
 use crate::several::is_large;
 use crate::shelf::Shelf;
 use fleet_grid::Grid;
-use rayon::prelude::*;
 use std::alloc::{AllocError, Allocator};
 use std::thread::Threads;
 
@@ -49,16 +49,14 @@ fn compasses_side_by_side<A: Allocator + Copy + Send + Sync, B: Allocator + Copy
     requires { (i : ℕ) → i < length goals.now → IsFloor grid.now (slice_index goals.now i) }
     ensures { IfOk result (λ compasses. AreFields grid.now goals.now compasses.items) }
 {
-    let made = goals
-        .par_iter()
-        .with_min_len(1)
-        .map(
-            |goal: &u32| -> Result<Compass<A>, AllocError>
-                ensures { IsFloor grid.entry.now goal.now → IfOk result (λ field. IsField grid.entry.now goal.now field) }
-            { compass_of(alloc, grid, *goal) },
-        )
-        .collect::<Result<Vec<Compass<A>, A>, AllocError>>(rt, alloc)?;
-    made
+    side_by_side(
+        rt,
+        alloc,
+        goals,
+        |goal: &u32| -> Result<Compass<A>, AllocError>
+            ensures { IsFloor grid.entry.now goal.now → IfOk result (λ compass. IsField grid.entry.now goal.now compass) }
+        { compass_of(alloc, grid, *goal) },
+    )
 }
 
 /// The compasses of several goals, floor cells: for each goal in turn the one that `Compass::from` makes. Large work is

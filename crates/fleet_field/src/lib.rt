@@ -1,6 +1,7 @@
 //! Distances to a goal on the floor of a map: one field, several at once, and a store of fields that are shared.
 #![tactic(auto)]
 
+mod beside;
 mod bits;
 mod columns;
 mod compass;

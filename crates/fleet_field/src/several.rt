@@ -5,9 +5,9 @@ ghost use Rattle.fleet_grid.specs.Floor.{IsFloor};
 ghost use Rattle.fleet_field.specs.Field.{IsField};
 ghost use Rattle.fleet_field.specs.Several.{AreFields};
 
+use crate::beside::side_by_side;
 use crate::field::Field;
 use fleet_grid::Grid;
-use rayon::prelude::*;
 use std::alloc::{AllocError, Allocator};
 use std::thread::Threads;
 
@@ -64,16 +64,14 @@ fn fields_side_by_side<A: Allocator + Copy + Send + Sync, B: Allocator + Copy + 
     requires { (i : ℕ) → i < length goals.now → IsFloor grid.now (slice_index goals.now i) }
     ensures { IfOk result (λ fields. AreFields grid.now goals.now fields.items) }
 {
-    let made = goals
-        .par_iter()
-        .with_min_len(1)
-        .map(
-            |goal: &u32| -> Result<Field<A>, AllocError>
-                ensures { IsFloor grid.entry.now goal.now → IfOk result (λ field. IsField grid.entry.now goal.now field) }
-            { field_of(alloc, grid, *goal) },
-        )
-        .collect::<Result<Vec<Field<A>, A>, AllocError>>(rt, alloc)?;
-    made
+    side_by_side(
+        rt,
+        alloc,
+        goals,
+        |goal: &u32| -> Result<Field<A>, AllocError>
+            ensures { IsFloor grid.entry.now goal.now → IfOk result (λ field. IsField grid.entry.now goal.now field) }
+        { field_of(alloc, grid, *goal) },
+    )
 }
 
 /// The fields of several goals, floor cells: for each goal in turn the one that `Field::from` makes. Large work is
