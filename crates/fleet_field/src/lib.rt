@@ -1,7 +1,6 @@
 //! Distances to a goal on the floor of a map: one field, several at once, and a store of fields that are shared.
 #![tactic(auto)]
 
-mod beside;
 mod bits;
 mod columns;
 mod compass;
@@ -15,6 +14,7 @@ mod several;
 mod shelf;
 mod store;
 mod ways;
+mod work;
 
 pub use compass::Compass;
 pub use field::Field;

@@ -1,6 +1,6 @@
 use Rattle.std.proofs.Common.{ap, ◌∙◌}
 use Rattle.fleet_field.proofs.Made.{all_of}
-use Rattle.fleet_field.proofs.beside.side_by_side.Goals as goal
+use Rattle.fleet_field.proofs.work.side_by_side.Goals as goal
 
 pub returns : goal.returns
 returns g c =
