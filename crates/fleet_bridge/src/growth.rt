@@ -161,36 +161,16 @@ pub(crate) struct Numbers<A: Allocator + Copy = Global> {
     pub(crate) end: Vec<u32, A>,
 }
 
-/// Gives numbers in the order of placing, in which a subtree's cells stand side by side, and each cell its own end.
-fn number_all<A: Allocator + Copy>(
-    growth: &Growth<A>,
-    number: &mut Vec<u32, A>,
-    end: &mut Vec<u32, A>,
-) {
-    let mut next = 0u32;
-    for cell in growth.order.iter() {
-        write(number, *cell, next);
-        next = next.saturating_add(1);
-        write(end, *cell, next);
-    }
-}
-
-/// Lets the parent's subtree end behind the cell's.
-#[inline(always)]
-fn widen_end<A: Allocator + Copy>(up: &Vec<u32, A>, end: &mut Vec<u32, A>, cell: u32) {
-    let parent = read(up, cell);
-    let last = read(end, parent).max(read(end, cell));
-    write(end, parent, last);
-}
-
 /// Lets each subtree end behind its last child: children come behind their parents in the order, so this goes backward.
 fn widen_ends<A: Allocator + Copy>(growth: &Growth<A>, end: &mut Vec<u32, A>) {
     for cell in growth.order.iter().rev() {
-        widen_end(&growth.up, end, *cell);
+        let parent = read(&growth.up, *cell);
+        let last = read(end, parent).max(read(end, *cell));
+        write(end, parent, last);
     }
 }
 
-/// Numbers in the order of placing, and where each subtree ends.
+/// Numbers in the order of placing, in which a subtree's cells stand side by side, and where each subtree ends.
 pub(crate) fn numbers_of<A: Allocator + Copy>(
     alloc: A,
     growth: &Growth<A>,
@@ -198,7 +178,12 @@ pub(crate) fn numbers_of<A: Allocator + Copy>(
 ) -> Result<Numbers<A>, AllocError> {
     let mut number = vec![in alloc; 0u32; count as usize]?;
     let mut end = vec![in alloc; 1u32; count as usize]?;
-    number_all(growth, &mut number, &mut end);
+    let mut next = 0u32;
+    for cell in growth.order.iter() {
+        write(&mut number, *cell, next);
+        next = next.saturating_add(1);
+        write(&mut end, *cell, next);
+    }
     widen_ends(growth, &mut end);
     Ok(Numbers { number, end })
 }

@@ -1,6 +1,6 @@
 -- What several holds, each with its field, leave of a store.
-use Rattle.std.proofs.Common.{◌≡◌, ℕ, ◌<◌, ◌⊎◌, inl, inr, List, [], Option, length, get_or, slice_index, Result, Ok, Err, true≢false, sym, subst, ◌∙◌, arith}
-use Rattle.std.specs.Prelude.{IsErr, IfOk, OnOk, OnErr}
+use Rattle.std.proofs.Common.{◌≡◌, ℕ, ◌<◌, ◌⊎◌, inl, inr, List, [], Option, length, get_or, slice_index, Result, Ok, Err, sym, subst, ◌∙◌, arith}
+use Rattle.std.specs.Prelude.{IfOk, OnOk, OnErr}
 use Rattle.std.specs.List.{Contains}
 use Rattle.std.proofs.lemmas.List.Elements.{Contains-get_or}
 use Rattle.std.proofs.lemmas.Result.{IfOk-weaker}
@@ -54,8 +54,3 @@ on_ok P (Err e) p = tt
 pub on_err : {V E : Type 0} (P : Type 0) (r : Result V E) → P → OnErr r P
 on_err P (Ok v) p = tt
 on_err P (Err e) p = p
-
--- what is asked of a value is nothing where there is none
-pub if_err : {V E : Type 0} (P : V → Type 0) (r : Result V E) → IsErr r → IfOk r P
-if_err P (Ok v) e = absurd (true≢false (sym e))
-if_err P (Err x) e = tt

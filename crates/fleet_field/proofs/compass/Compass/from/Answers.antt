@@ -2,7 +2,7 @@ use Rattle.std.proofs.Common.{◌∙◌, arith}
 use Rattle.fleet_field.proofs.Sides.{is_slim, is_within, is_wide, is_low, has_step, is_apart, is_small, is_few, has_cells, stride_fits}
 use Rattle.fleet_field.proofs.Unsearched.{ready_by}
 use Rattle.fleet_field.proofs.Nearer.{searched_out, compass_by}
-use Rattle.fleet_field.proofs.Together.{if_err}
+use Rattle.std.proofs.lemmas.Result.{IfOk-from_err}
 use Rattle.fleet_field.proofs.compass.Compass.from.Goals as goal
 
 pub new-columns-requires-clause-wide : goal.new-columns-requires-clause-wide
@@ -82,10 +82,10 @@ overflow_cast-stride g c =
     omega (arith, fits)
 
 pub returns-in_err-free : goal.returns-in_err-free
-returns-in_err-free g c = if_err _ c.from_residual.result c.from_residual.ensures.0
+returns-in_err-free g c = IfOk-from_err c.from_residual.result _ c.from_residual.ensures.0
 
 pub returns-in_err-bytes : goal.returns-in_err-bytes
-returns-in_err-bytes g c = if_err _ c.from_residual-in_err-bytes.result c.from_residual-in_err-bytes.ensures.0
+returns-in_err-bytes g c = IfOk-from_err c.from_residual-in_err-bytes.result _ c.from_residual-in_err-bytes.ensures.0
 
 pub returns-in_err-ways : goal.returns-in_err-ways
-returns-in_err-ways g c = if_err _ c.from_residual-in_err-ways.result c.from_residual-in_err-ways.ensures.0
+returns-in_err-ways g c = IfOk-from_err c.from_residual-in_err-ways.result _ c.from_residual-in_err-ways.ensures.0

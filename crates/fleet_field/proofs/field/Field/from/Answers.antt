@@ -1,7 +1,7 @@
 use Rattle.std.proofs.Common.{◌∙◌, arith}
 use Rattle.fleet_field.proofs.Sides.{is_slim, is_within, is_wide, opens, is_low, has_step, is_far, stride_fits}
 use Rattle.fleet_field.proofs.Transfer.{is_walled, made}
-use Rattle.fleet_field.proofs.Together.{if_err}
+use Rattle.std.proofs.lemmas.Result.{IfOk-from_err}
 use Rattle.fleet_field.proofs.field.Field.from.Goals as goal
 
 pub new-columns-requires-clause-wide : goal.new-columns-requires-clause-wide
@@ -55,4 +55,4 @@ overflow_cast-stride g c =
     omega (arith, fits)
 
 pub returns-in_err-dist : goal.returns-in_err-dist
-returns-in_err-dist g c = if_err _ c.from_residual.result c.from_residual.ensures.0
+returns-in_err-dist g c = IfOk-from_err c.from_residual.result _ c.from_residual.ensures.0
