@@ -5,7 +5,7 @@ use Rattle.fleet_grid.specs.Floor.{Floor, HasForm, IsNeighbourIn}
 use Rattle.fleet_grid.specs.declared.dir.Dir.{Dir}
 use Rattle.fleet_grid.specs.declared.dir.Dir.TheVariants.{North, East, South, West}
 use Rattle.fleet_grid.proofs.Forms.{floor_inside, few_cells}
-use Rattle.fleet_bridge.specs.inside.Sides.{is_open, IsOpen}
+use Rattle.fleet_bridge.specs.inside.Sides.{is_open, IsOpen, AreOpen}
 use Rattle.fleet_bridge.specs.declared.sides.Open.{Open}
 
 -- what a side says
@@ -27,8 +27,11 @@ push_cases [] y z (suc k) e = absurd (none e)
 push_cases (x ∷ xs) y z zero e = inl e
 push_cases (x ∷ xs) y z (suc k) e = elim (push_cases xs y z k e) [ inl was ↦ inl was | inr h ↦ inr (ap suc h.0, h.1) ]
 
-abbrev pub AreOpen : Floor → List Open → Type 0
-AreOpen m opens = (cell : ℕ) (sides : Open) → slice_get opens cell ≡ Some sides → IsOpen m cell sides
+pub open_none : (m : Floor) → AreOpen m []
+open_none m cell sides e = absurd (none e)
+  where
+    none : None ≡ Some sides → ⊥
+    none e = search (rules, e)
 
 pub open_more : (m : Floor) (opens : List Open) (sides : Open) (cell : ℕ) → cell ≡ length opens → AreOpen m opens → IsOpen m cell sides → AreOpen m (opens ++ sides ∷ [])
 open_more m opens sides cell size all one k other at = elim (push_cases opens sides other k at) [

@@ -1,5 +1,5 @@
 -- An edge beside a square of floor lies on a ring of four cells, and so is no bridge.
-use Rattle.std.proofs.Common.{◌≡◌, ◌≢◌, ℕ, ◌+◌, ◌*◌, ◌/◌, ◌<◌, ◌≤◌, ◌⊎◌, inl, inr, List, length, sym, ap, subst, ◌∙◌, arith}
+use Rattle.std.proofs.Common.{◌≡◌, ◌≢◌, ℕ, ◌+◌, ◌*◌, ◌/◌, ◌<◌, ◌≤◌, ◌⊎◌, inl, inr, List, length, Bool, true, false, ◌||◌, refl, sym, ap, subst, ◌∙◌, arith}
 use Rattle.std.specs.Prelude.{slice_index}
 use Rattle.std.proofs.lemmas.Nat.{mod_below, div_below, mul-le}
 use Rattle.fleet_grid.specs.declared.dir.Dir.{Dir}
@@ -167,3 +167,8 @@ module _ (m : Floor) (s : ℕ) (list : List ℕ) (form : HasForm m) (p : IsPadde
       let at = c.3 in
       let apart = p.apart in
       (omega (arith, i.0, at), omega (arith, i.0, at, pos, apart), omega (arith, j, at, p.size))
+
+-- where one of two is not so, neither is
+pub neither : (a b : Bool) → (a || b) ≡ false → (a ≡ false) × (b ≡ false)
+neither true b e = absurd (cc e)
+neither false b e = (refl, e)

@@ -193,6 +193,17 @@ fn first_by<A: Allocator + Copy, B: Allocator + Copy>(
 }
 
 /// The first bridge, from the tree.
+fn first_by_sides<A: Allocator + Copy, B: Allocator + Copy>(
+    alloc: A,
+    sides: &Sides<'_, A, B>,
+) -> Result<Option<(u32, u32)>, AllocError>
+    ensures { IfOk result (λ found. MatchOption found (IsBridgeless (IsNeighbour sides.now)) (λ it. IsFirstBridge (IsNeighbour sides.now) it.0 it.1)) }
+{
+    let (tree, is_sound) = spanning_tree(alloc, sides)?;
+    first_by(alloc, sides, &tree, is_sound)
+}
+
+/// The same, over the sides of the map's cells.
 fn first_by_tree<A: Allocator + Copy, B: Allocator + Copy>(
     alloc: A,
     grid: &Grid<B>,
@@ -200,8 +211,7 @@ fn first_by_tree<A: Allocator + Copy, B: Allocator + Copy>(
     ensures { IfOk result (λ found. MatchOption found (IsBridgeless (IsNeighbour grid.now)) (λ it. IsFirstBridge (IsNeighbour grid.now) it.0 it.1)) }
 {
     let sides = Sides::new(alloc, grid)?;
-    let (tree, is_sound) = spanning_tree(alloc, &sides)?;
-    first_by(alloc, &sides, &tree, is_sound)
+    first_by_sides(alloc, &sides)
 }
 
 /// The bridge of least lower cell, then least upper cell. Edges beside squares of floor, or on short rounds, are passed over;

@@ -1,6 +1,8 @@
 //! How a spanning tree of each part grows, and the numbers of its cells. Nothing is proved of it but that it is safe: the
 //! tree is checked.
 
+ghost use Rattle.std.specs.Prelude.{◌≡◌, ◌<◌, vec_len, true};
+
 use crate::numbers::{own_numbers, read, write};
 use crate::sides::Sides;
 use fleet_grid::Dir;
@@ -15,6 +17,31 @@ pub(crate) struct Growth<A: Allocator + Copy = Global> {
     pub(crate) order: Vec<u32, A>,
 }
 
+impl<A: Allocator + Copy> Growth<A> {
+    /// Nothing placed, and lists for so many cells.
+    fn new(alloc: A, count: u32) -> Result<Growth<A>, AllocError> {
+        let placed = vec![in alloc; false; count as usize]?;
+        let up = own_numbers(alloc, count)?;
+        let top = own_numbers(alloc, count)?;
+        let order = Vec::with_capacity(alloc, count as usize)?;
+        Ok(Growth {
+            placed,
+            up,
+            top,
+            order,
+        })
+    }
+
+    /// Whether it is a cell that is not placed.
+    #[inline(always)]
+    fn is_unplaced(&self, cell: u32) -> bool
+        ensures { result ≡ true → cell < vec_len self.now.placed }
+    {
+        let at = cell as usize;
+        at < self.placed.len() && !self.placed[at]
+    }
+}
+
 /// Places a cell below its parent, unless it is placed.
 #[inline(always)]
 fn place<A: Allocator + Copy>(
@@ -23,14 +50,12 @@ fn place<A: Allocator + Copy>(
     parent: u32,
     root: u32,
 ) -> Result<(), AllocError> {
-    let at = cell as usize;
-    if at >= growth.placed.len() || growth.placed[at] {
-        return Ok(());
+    if growth.is_unplaced(cell) {
+        growth.placed[cell as usize] = true;
+        write(&mut growth.up, cell, parent);
+        write(&mut growth.top, cell, root);
+        growth.order.push(cell)?;
     }
-    growth.placed[at] = true;
-    write(&mut growth.up, cell, parent);
-    write(&mut growth.top, cell, root);
-    growth.order.push(cell)?;
     Ok(())
 }
 
@@ -43,11 +68,11 @@ fn unplaced_beside<A: Allocator + Copy, B: Allocator + Copy>(
     dir: Dir,
 ) -> Option<u32> {
     let next = sides.beside(cell, dir)?;
-    let at = next as usize;
-    if at >= growth.placed.len() || growth.placed[at] {
-        return None;
+    if growth.is_unplaced(next) {
+        Some(next)
+    } else {
+        None
     }
-    Some(next)
 }
 
 /// The first neighbour that is not placed.
@@ -69,8 +94,23 @@ fn first_unplaced<A: Allocator + Copy, B: Allocator + Copy>(
     unplaced_beside(sides, growth, cell, Dir::North)
 }
 
+/// Places a neighbour below the cell, and gives it; where all are placed, the parent.
+#[inline(always)]
+fn grow<A: Allocator + Copy, B: Allocator + Copy>(
+    sides: &Sides<'_, A, B>,
+    growth: &mut Growth<A>,
+    cell: u32,
+    root: u32,
+) -> Result<u32, AllocError> {
+    let Some(next) = first_unplaced(sides, growth, cell) else {
+        return Ok(read(&growth.up, cell));
+    };
+    place(growth, next, cell, root)?;
+    Ok(next)
+}
+
 /// Places the part of the root, each cell below the last one that had a way to it. So an edge off the tree leads from
-/// a cell to one of those above it.
+/// a cell to one of those above it. The root is its own parent.
 fn place_part<A: Allocator + Copy, B: Allocator + Copy>(
     sides: &Sides<'_, A, B>,
     growth: &mut Growth<A>,
@@ -80,13 +120,24 @@ fn place_part<A: Allocator + Copy, B: Allocator + Copy>(
     place(growth, root, root, root)?;
     let mut cell = root;
     for _ in 0..2 * u64::from(count) {
-        match first_unplaced(sides, growth, cell) {
-            Some(next) => {
-                place(growth, next, cell, root)?;
-                cell = next;
-            }
-            None if cell == root => return Ok(()),
-            None => cell = read(&growth.up, cell),
+        let next = grow(sides, growth, cell, root)?;
+        if next == cell {
+            break;
+        }
+        cell = next;
+    }
+    Ok(())
+}
+
+/// Places each part below its first cell.
+fn place_parts<A: Allocator + Copy, B: Allocator + Copy>(
+    sides: &Sides<'_, A, B>,
+    growth: &mut Growth<A>,
+    count: u32,
+) -> Result<(), AllocError> {
+    for root in 0..count {
+        if sides.grid().is_floor(root) && growth.is_unplaced(root) {
+            place_part(sides, growth, count, root)?;
         }
     }
     Ok(())
@@ -98,22 +149,8 @@ pub(crate) fn place_all<A: Allocator + Copy, B: Allocator + Copy>(
     sides: &Sides<'_, A, B>,
     count: u32,
 ) -> Result<Growth<A>, AllocError> {
-    let placed = vec![in alloc; false; count as usize]?;
-    let up = own_numbers(alloc, count)?;
-    let top = own_numbers(alloc, count)?;
-    let order = Vec::with_capacity(alloc, count as usize)?;
-    let mut growth = Growth {
-        placed,
-        up,
-        top,
-        order,
-    };
-    for root in 0..count {
-        let is_placed = (root as usize) < growth.placed.len() && growth.placed[root as usize];
-        if sides.grid().is_floor(root) && !is_placed {
-            place_part(sides, &mut growth, count, root)?;
-        }
-    }
+    let mut growth = Growth::new(alloc, count)?;
+    place_parts(sides, &mut growth, count)?;
     Ok(growth)
 }
 
@@ -122,6 +159,15 @@ pub(crate) fn place_all<A: Allocator + Copy, B: Allocator + Copy>(
 pub(crate) struct Numbers<A: Allocator + Copy = Global> {
     pub(crate) number: Vec<u32, A>,
     pub(crate) end: Vec<u32, A>,
+}
+
+/// Lets each subtree end behind its last child: children come behind their parents in the order, so this goes backward.
+fn widen_ends<A: Allocator + Copy>(growth: &Growth<A>, end: &mut Vec<u32, A>) {
+    for cell in growth.order.iter().rev() {
+        let parent = read(&growth.up, *cell);
+        let last = read(end, parent).max(read(end, *cell));
+        write(end, parent, last);
+    }
 }
 
 /// Numbers in the order of placing, in which a subtree's cells stand side by side, and where each subtree ends.
@@ -138,14 +184,6 @@ pub(crate) fn numbers_of<A: Allocator + Copy>(
         next = next.saturating_add(1);
         write(&mut end, *cell, next);
     }
+    widen_ends(growth, &mut end);
     Ok(Numbers { number, end })
-}
-
-/// Lets each subtree end behind its last child: children come behind their parents in the order, so this goes backward.
-pub(crate) fn widen_ends<A: Allocator + Copy>(growth: &Growth<A>, end: &mut Vec<u32, A>) {
-    for cell in growth.order.iter().rev() {
-        let parent = read(&growth.up, *cell);
-        let last = read(end, parent).max(read(end, *cell));
-        write(end, parent, last);
-    }
 }

@@ -44,13 +44,23 @@ fn reach<A: Allocator + Copy, B: Allocator + Copy>(
     least
 }
 
-/// Gives the parent the cell of the child's subtree.
-fn hand_up<A: Allocator + Copy>(up: &Vec<u32, A>, inner: &mut Vec<u32, A>, cell: u32)
+/// Gives the parent the reach of the child's subtree, and its cell, where that is further.
+#[inline(always)]
+fn hand_up<A: Allocator + Copy>(
+    up: &Vec<u32, A>,
+    far: &mut Vec<u32, A>,
+    inner: &mut Vec<u32, A>,
+    cell: u32,
+)
     ensures { (n : ℕ) → cell < n → AreUnder up.now.items n inner.old.items → AreUnder up.now.items n inner.new.items }
 {
     let parent = read(up, cell);
-    let found = read(inner, cell);
-    write(inner, parent, found);
+    let mine = read(far, cell);
+    if mine < read(far, parent) {
+        write(far, parent, mine);
+        let found = read(inner, cell);
+        write(inner, parent, found);
+    }
 }
 
 /// Hands the furthest reach of each subtree up to the parent: children come behind their parents in the order, so this goes
@@ -65,12 +75,8 @@ fn hand_all_up<A: Allocator + Copy>(
     ensures { AreUnder growth.now.up.items count inner.new.items }
 {
     for cell in growth.order.iter().rev() {
-        let cell = *cell;
-        let parent = read(&growth.up, cell);
-        let mine = read(far, cell);
-        if mine < read(far, parent) && cell < count {
-            write(far, parent, mine);
-            hand_up(&growth.up, inner, cell);
+        if *cell < count {
+            hand_up(&growth.up, far, inner, *cell);
         }
     }
 }
@@ -85,7 +91,7 @@ fn reaches<A: Allocator + Copy, B: Allocator + Copy>(
 ) -> Result<Vec<u32, A>, AllocError> {
     let mut far = Vec::with_capacity(alloc, count as usize)?;
     for cell in 0..count {
-        far.push(reach(sides, up, number, cell))?;
+        far.push_reserved(reach(sides, up, number, cell));
     }
     Ok(far)
 }

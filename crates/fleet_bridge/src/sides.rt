@@ -2,7 +2,7 @@
 
 ghost use Rattle.std.specs.Prelude.{◌≡◌, ℕ, length, vec_len, IfOk, MatchOption, true, false};
 ghost use Rattle.fleet_grid.specs.Floor.{Floor, HasForm, IsNeighbourIn};
-ghost use Rattle.fleet_bridge.specs.inside.Sides.{IsOpen, is_open};
+ghost use Rattle.fleet_bridge.specs.inside.Sides.{IsOpen, AreOpen, is_open};
 
 use fleet_grid::{Dir, Grid};
 use std::alloc::{AllocError, Allocator};
@@ -88,17 +88,28 @@ fn across(width: u32, cell: u32, dir: Dir) -> u32
     }
 }
 
+/// The sides of all cells, in turn.
+fn opens_of<A: Allocator + Copy, B: Allocator + Copy>(
+    alloc: A,
+    grid: &Grid<B>,
+) -> Result<Vec<Open, A>, AllocError>
+    ensures size { IfOk result (λ opens. vec_len opens ≡ length grid.now.letters) }
+    ensures each { IfOk result (λ opens. AreOpen grid.now opens.items) }
+{
+    let count = grid.cell_count();
+    let mut opens = Vec::with_capacity(alloc, count as usize)?;
+    for cell in 0..count {
+        opens.push_reserved(open_of(grid, cell));
+    }
+    Ok(opens)
+}
+
 impl<'a, A: Allocator + Copy, B: Allocator + Copy> Sides<'a, A, B> {
     /// The sides of all cells of a map.
-    #[tactic(auto, using(crate::proofs::Opens::open_more))]
     pub(crate) fn new(alloc: A, grid: &'a Grid<B>) -> Result<Sides<'a, A, B>, AllocError>
         ensures { IfOk result (λ sides. sides ≡ grid.now) }
     {
-        let count = grid.cell_count();
-        let mut opens = Vec::with_capacity(alloc, count as usize)?;
-        for cell in 0..count {
-            opens.push(open_of(grid, cell))?;
-        }
+        let opens = opens_of(alloc, grid)?;
         let width = grid.width();
         Ok(Sides { grid, width, opens })
     }

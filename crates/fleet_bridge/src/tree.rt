@@ -5,9 +5,10 @@
 
 ghost use Rattle.std.specs.Prelude.{◌≡◌, ℕ, ◌<◌, length, slice_index, IfOk, true};
 ghost use Rattle.fleet_grid.specs.Floor.{IsNeighbour, IsNeighbourIn};
+ghost use Rattle.fleet_bridge.specs.inside.Tree.{AreUnder};
 ghost use Rattle.fleet_bridge.specs.inside.Spanning.{IsFitIn, IsSpanning};
 
-use crate::growth::{Growth, Numbers, numbers_of, place_all, widen_ends};
+use crate::growth::{Growth, Numbers, numbers_of, place_all};
 use crate::numbers::read;
 use crate::reach::furthest;
 use crate::sides::Sides;
@@ -134,6 +135,32 @@ fn are_fit<A: Allocator + Copy, B: Allocator + Copy>(
     true
 }
 
+/// The tree, before its check.
+fn tree_of<A: Allocator + Copy, B: Allocator + Copy>(
+    alloc: A,
+    sides: &Sides<'_, A, B>,
+    count: u32,
+) -> Result<Tree<A>, AllocError>
+    ensures { IfOk result (λ tree. AreUnder tree.up.items count tree.low.items) }
+{
+    let growth = place_all(alloc, sides, count)?;
+    let Numbers { number, end } = numbers_of(alloc, &growth, count)?;
+    let low = furthest(alloc, sides, &growth, &number, count)?;
+    let Growth {
+        placed: _,
+        up,
+        top,
+        order: _,
+    } = growth;
+    Ok(Tree {
+        up,
+        top,
+        number,
+        end,
+        low,
+    })
+}
+
 /// The tree, and whether it passed its check.
 pub(crate) fn spanning_tree<A: Allocator + Copy, B: Allocator + Copy>(
     alloc: A,
@@ -142,23 +169,7 @@ pub(crate) fn spanning_tree<A: Allocator + Copy, B: Allocator + Copy>(
     ensures { IfOk result (λ it. it.1 ≡ true → IsSpanning sides.now it.0) }
 {
     let count = sides.grid().cell_count();
-    let growth = place_all(alloc, sides, count)?;
-    let Numbers { number, mut end } = numbers_of(alloc, &growth, count)?;
-    widen_ends(&growth, &mut end);
-    let low = furthest(alloc, sides, &growth, &number, count)?;
-    let Growth {
-        placed: _,
-        up,
-        top,
-        order: _,
-    } = growth;
-    let tree = Tree {
-        up,
-        top,
-        number,
-        end,
-        low,
-    };
+    let tree = tree_of(alloc, sides, count)?;
     let is_sound = are_fit(sides, &tree, count);
     Ok((tree, is_sound))
 }

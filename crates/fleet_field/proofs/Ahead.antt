@@ -1,5 +1,5 @@
 -- What a search ahead puts on a shelf.
-use Rattle.std.proofs.Common.{◌≡◌, ℕ, ◌+◌, ◌<◌, ◌≤◌, ◌⊎◌, inl, inr, List, [], ◌∷◌, ◌++◌, length, get_or, slice_index, refl, sym, ap, subst, ◌∙◌, arith}
+use Rattle.std.proofs.Common.{◌≡◌, ℕ, ◌+◌, ◌<◌, ◌≤◌, ◌⊎◌, inl, inr, List, [], ◌∷◌, ◌++◌, length, get_or, slice_index, Result, Ok, Err, IfOk, refl, sym, ap, subst, ◌∙◌, arith}
 use Rattle.std.specs.List.{All, Contains}
 use Rattle.std.proofs.lemmas.Bool.{cases_eq}
 use Rattle.std.proofs.lemmas.List.{get_or_default, length_push}
@@ -23,11 +23,16 @@ module _ (m : Floor) (goals : List ℕ) where
       let one = only c.0 (omega (arith, c.1, fields_count m missing fields made)) in
       (one.0, one.1, subst (λ (x : ℕ). IsField m x field) (sym one.2) at)
 
-  pub ahead_only : (missing : List ℕ) (fields old mid new : List Aim) → AreFields m missing fields → ((i : ℕ) → i < length missing → IsOneOf goals (slice_index missing i)) → All (Contains old) mid
+  pub searched_of : {V E : Type 0} (missing : List ℕ) (items : V → List Aim) (r : Result V E) → ((i : ℕ) → i < length missing → IsOneOf goals (slice_index missing i)) → IfOk r (λ v. AreFields m missing (items v))
+      → IfOk r (λ v. (field : Aim) → Contains (items v) field → IsFieldOf m goals field)
+  searched_of missing items (Ok v) only made = made_of missing (items v) made only
+  searched_of missing items (Err e) only made = tt
+
+  pub ahead_only : (fields old mid new : List Aim) → ((field : Aim) → Contains fields field → IsFieldOf m goals field) → All (Contains old) mid
       → All (λ (f : Aim). Contains fields f ⊎ Contains mid f) new → All (λ (f : Aim). IsFieldOf m goals f ⊎ Contains old f) new
-  ahead_only missing fields old mid new made only among put =
+  ahead_only fields old mid new made among put =
       All-weaker (λ (f : Aim). Contains fields f ⊎ Contains mid f) (λ (f : Aim). IsFieldOf m goals f ⊎ Contains old f)
-      (λ f p. elim p [ inl c ↦ inl (made_of missing fields made only f c) | inr c ↦ inr (All-contains (Contains old) mid f among c) ]) new put
+      (λ f p. elim p [ inl c ↦ inl (made f c) | inr c ↦ inr (All-contains (Contains old) mid f among c) ]) new put
 
   pub ahead_keeps : (old new : List Aim) → All (λ (f : Aim). IsFieldOf m goals f ⊎ Contains old f) new → Keeps m old → Keeps m new
   ahead_keeps old new only keeps =

@@ -23,9 +23,16 @@ module _ (m : Floor) (w goal : ℕ) (e : w ≡ m.width) (form : HasForm m) (f : 
     pub is_low : place w s goal < 1073741824
     is_low = let o = (opens (place w s goal) refl).0 in let small = p.small in omega (arith, o, small)
 
+area_at_least : (h s : ℕ) → s ≤ (h + 2) * s
+area_at_least h s = grind arith
+
 module _ (m : Floor) (s : ℕ) (blank : List ℕ) (p : IsPadded m s blank) where
   pub has_step : 0 < s
   has_step = let apart = p.apart in omega (arith, apart)
+
+  -- a row is no longer than the list
+  pub stride_fits : s < 1073741824
+  stride_fits = let size = p.size in let small = p.small in let least = area_at_least m.height s in omega (arith, size, small, least)
 
   pub is_far : (v : ℕ) → IsOpen blank v → slice_index blank v ≡ 4294967295
   is_far v o = (p.only v o).0

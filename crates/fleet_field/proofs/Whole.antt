@@ -5,9 +5,16 @@ use Rattle.std.proofs.lemmas.Grind.{common_steps}
 use Rattle.std.proofs.lemmas.List.Elements.{Contains-push, Contains-push_cases}
 use Rattle.std.specs.List.{Contains}
 use Rattle.fleet_grid.specs.Padded.{IsOpen}
-use Rattle.fleet_field.specs.inside.Search.{IsLink, IsWalled, far_count, Search, Keeps, AreLevels, SameWalls}
+use Rattle.fleet_field.specs.inside.Search.{IsLink, IsWalled, far_count, Search, Keeps, IsStart, AreLevels, SameWalls}
 use Rattle.fleet_field.proofs.Visit.{read}
 use Rattle.fleet_field.proofs.Spread.{kept, was_open, stays_open, far_count-set, far_count-le}
+
+same_walls : (a b c : List ℕ) → SameWalls a b → SameWalls b c → SameWalls a c
+same_walls a b c x y = record {
+  len = y.len ∙ x.len;
+  kept = λ v o. y.kept v (x.kept v o);
+  no_more = λ v o. x.no_more v (y.no_more v o);
+}
 
 -- at first the goal alone is reached
 module _ (blank : List ℕ) (stride goal : ℕ) (walled : IsWalled blank stride) (all_far : (v : ℕ) → IsOpen blank v → slice_index blank v ≡ 4294967295) (at : IsOpen blank goal) where
@@ -70,6 +77,29 @@ module _ (blank : List ℕ) (stride goal : ℕ) (walled : IsWalled blank stride)
       let marked = far_count-set blank goal 0 at.0 (all_far goal at) (omega arith) in
       let few = far_count-le blank in
       omega (arith, one, marked, few)
+
+  pub first_goal : IsStart (set blank goal 0) goal
+  first_goal = (first_start, only_goal)
+
+  -- the list and the front as the search has them first
+  module _ (dist items front : List ℕ) (copied : items ≡ blank) (d : dist ≡ set items goal 0) (f : front ≡ [] ++ goal ∷ []) where
+    marked : dist ≡ set blank goal 0
+    marked = d ∙ ap (λ (xs : List ℕ). set xs goal 0) copied
+
+    pub begun_size : length dist ≡ length blank
+    begun_size = ap (λ (xs : List ℕ). length xs) marked ∙ len
+
+    pub begun : Search dist stride 0 0 front
+    begun = subst (λ (xs : List ℕ). Search xs stride 0 0 front) (sym marked) (subst (Search (set blank goal 0) stride 0 0) (sym f) first_search)
+
+    pub begun_few : length front + far_count dist ≤ length dist
+    begun_few = let few = first_count in omega (arith, few, begun_size, ap (λ (xs : List ℕ). length xs) f, ap far_count marked)
+
+    pub begun_goal : IsStart dist goal
+    begun_goal = subst (λ (xs : List ℕ). IsStart xs goal) (sym marked) first_goal
+
+    pub begun_walls : (new : List ℕ) → SameWalls dist new → SameWalls blank new
+    begun_walls new w = same_walls blank (set blank goal 0) new first_walls (subst (λ (xs : List ℕ). SameWalls xs new) marked w)
 
 -- a list that was lent whole and given back
 pub written_back : (n : ℕ) (new old : List ℕ) → length new ≡ length old → n ≡ length old → take n (new ++ drop (length new) old) ≡ new

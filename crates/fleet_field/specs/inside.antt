@@ -2,3 +2,4 @@
 pub mod Search
 pub mod Bytes
 pub mod Uses
+pub mod Work

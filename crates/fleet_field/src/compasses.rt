@@ -6,24 +6,10 @@ ghost use Rattle.fleet_field.specs.Field.{IsField};
 ghost use Rattle.fleet_field.specs.Several.{AreFields};
 
 use crate::compass::Compass;
-use crate::several::is_large;
-use crate::shelf::Shelf;
+use crate::work::of_each;
 use fleet_grid::Grid;
-use rayon::prelude::*;
 use std::alloc::{AllocError, Allocator};
 use std::thread::Threads;
-
-/// The compasses of several goals, one after another.
-fn compasses_in_turn<A: Allocator + Copy, B: Allocator + Copy>(
-    alloc: A,
-    grid: &Grid<B>,
-    goals: &[u32],
-) -> Result<Vec<Compass<A>, A>, AllocError>
-    requires { (i : ℕ) → i < length goals.now → IsFloor grid.now (slice_index goals.now i) }
-    ensures { IfOk result (λ compasses. AreFields grid.now goals.now compasses.items) }
-{
-    Shelf::new(alloc, 0).fields(grid, goals, 0)
-}
 
 /// The compass of a goal, where that is a floor cell, as each goal is that is asked for.
 fn compass_of<A: Allocator + Copy, B: Allocator + Copy>(
@@ -39,28 +25,6 @@ fn compass_of<A: Allocator + Copy, B: Allocator + Copy>(
     Compass::from(alloc, grid, goal)
 }
 
-/// The compasses of several goals, from as many threads as there are processors.
-fn compasses_side_by_side<A: Allocator + Copy + Send + Sync, B: Allocator + Copy + Send + Sync>(
-    rt: &(impl Threads + Sync),
-    alloc: A,
-    grid: &Grid<B>,
-    goals: &[u32],
-) -> Result<Vec<Compass<A>, A>, AllocError>
-    requires { (i : ℕ) → i < length goals.now → IsFloor grid.now (slice_index goals.now i) }
-    ensures { IfOk result (λ compasses. AreFields grid.now goals.now compasses.items) }
-{
-    let made = goals
-        .par_iter()
-        .with_min_len(1)
-        .map(
-            |goal: &u32| -> Result<Compass<A>, AllocError>
-                ensures { IsFloor grid.entry.now goal.now → IfOk result (λ field. IsField grid.entry.now goal.now field) }
-            { compass_of(alloc, grid, *goal) },
-        )
-        .collect::<Result<Vec<Compass<A>, A>, AllocError>>(rt, alloc)?;
-    made
-}
-
 /// The compasses of several goals, floor cells: for each goal in turn the one that `Compass::from` makes. Large work is
 /// done by several threads, and so are many goals, whatever the map.
 pub(crate) fn compasses<A: Allocator + Copy + Send + Sync, B: Allocator + Copy + Send + Sync>(
@@ -72,8 +36,13 @@ pub(crate) fn compasses<A: Allocator + Copy + Send + Sync, B: Allocator + Copy +
     requires { (i : ℕ) → i < length goals.now → IsFloor grid.now (slice_index goals.now i) }
     ensures { IfOk result (λ compasses. AreFields grid.now goals.now compasses.items) }
 {
-    if !is_large(grid.cell_count(), goals.len()) {
-        return compasses_in_turn(alloc, grid, goals);
-    }
-    compasses_side_by_side(rt, alloc, grid, goals)
+    of_each(
+        rt,
+        alloc,
+        grid.cell_count(),
+        goals,
+        |goal: &u32| -> Result<Compass<A>, AllocError>
+            ensures { IsFloor grid.entry.now goal.now → IfOk result (λ compass. IsField grid.entry.now goal.now compass) }
+        { compass_of(alloc, grid, *goal) },
+    )
 }

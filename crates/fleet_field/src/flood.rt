@@ -1,8 +1,8 @@
 //! The search, level by level, over a padded list in which walls and distances stand side by side.
 
-ghost use Rattle.std.specs.Prelude.{◌≡◌, ℕ, ◌+◌, ◌*◌, ◌<◌, ◌≤◌, [], length, slice_index, take, IfOk};
+ghost use Rattle.std.specs.Prelude.{◌≡◌, ℕ, ◌+◌, ◌*◌, ◌<◌, ◌≤◌, length, slice_index, take, IfOk, OnOk};
 ghost use Rattle.fleet_grid.specs.Padded.{IsOpen};
-ghost use Rattle.fleet_field.specs.inside.Search.{IsVisit, IsLink, IsWalled, Search, Keeps, Extends, far_count, AreLevels, SameWalls};
+ghost use Rattle.fleet_field.specs.inside.Search.{IsVisit, IsLink, IsWalled, Search, Keeps, Extends, far_count, IsStart, AreLevels, SameWalls};
 
 use crate::fronts::make_room;
 use fleet_grid::FAR;
@@ -79,8 +79,32 @@ fn spread(dist: &mut [u32], now: &[u32], next: &mut [u32], stride: usize, level:
     count
 }
 
-/// The distances to the goal: a front is left in all directions, and what it reaches is the next front. The fronts' room is kept
-/// from level to level.
+/// All levels from a first front on, the places at the goal. The fronts' room is kept from level to level.
+fn spread_all<A: Allocator + Copy>(
+    dist: &mut [u32],
+    now: &mut Vec<u32, A>,
+    next: &mut Vec<u32, A>,
+    stride: usize,
+) -> Result<(), AllocError>
+    requires size { length dist.old < 1073741824 }
+    requires step { 0 < stride }
+    requires search { Search dist.old stride 0 0 now.old.items }
+    requires few { length now.old.items + far_count dist.old ≤ length dist.old }
+    ensures levels { OnOk result ((goal : ℕ) → IsStart dist.old goal → AreLevels dist.new stride goal) }
+    ensures walls { OnOk result (SameWalls dist.old dist.new) }
+{
+    let mut count = now.len();
+    let mut level = 0;
+    while count > 0 {
+        make_room(next, count)?;
+        count = spread(dist, &now[..count], next, stride, level);
+        level += 1;
+        mem::swap(now, next);
+    }
+    Ok(())
+}
+
+/// The distances to the goal: a front is left in all directions, and what it reaches is the next front.
 pub(crate) fn flood<A: Allocator + Copy>(
     alloc: A,
     blank: &[u32],
@@ -96,17 +120,9 @@ pub(crate) fn flood<A: Allocator + Copy>(
     ensures walls { IfOk result (λ dist. SameWalls blank.now dist.items) }
 {
     let mut dist = Vec::from_slice(alloc, blank)?;
-    let mut now = Vec::new(alloc);
-    let mut next = Vec::new(alloc);
     dist[goal as usize] = 0;
+    let mut now = Vec::new(alloc);
     now.push(goal)?;
-    let mut count = 1;
-    let mut level = 0u32;
-    while count > 0 {
-        make_room(&mut next, count)?;
-        count = spread(&mut dist, &now[..count], &mut next, stride, level);
-        level += 1;
-        mem::swap(&mut now, &mut next);
-    }
+    spread_all(&mut dist, &mut now, &mut Vec::new(alloc), stride)?;
     Ok(dist)
 }

@@ -14,6 +14,7 @@ mod several;
 mod shelf;
 mod store;
 mod ways;
+mod work;
 
 pub use compass::Compass;
 pub use field::Field;

@@ -234,6 +234,22 @@ impl<A: Allocator + Copy> Shelf<A> {
 }
 
 impl<A: Allocator + Copy + Send + Sync> Shelf<A> {
+    /// New fields of those of the first goals, so many, that are not kept.
+    fn searched<B: Allocator + Copy + Send + Sync>(
+        &self,
+        rt: &(impl Threads + Sync),
+        grid: &Grid<B>,
+        goals: &[u32],
+        first: usize,
+    ) -> Result<Vec<Compass<A>, A>, AllocError>
+        requires floor { (i : ℕ) → i < length goals.now → IsFloor grid.now (slice_index goals.now i) }
+        requires first { first ≤ length goals.now }
+        ensures { IfOk result (λ fields. (field : Aim) → Contains fields.items field → IsFieldOf grid.now goals.now field) }
+    {
+        let missing = self.missing_of(goals, first)?;
+        compasses(rt, *self.kept.allocator(), grid, &missing)
+    }
+
     /// Searches fields of goals, floor cells, before anybody holds them, and tells whether each goal has a kept field
     /// then. Of the first goals, as many as have place in the bytes, those that are not kept are searched together; the
     /// longest unused of other goals make way. Where memory is refused, all stays as it was.
@@ -252,8 +268,7 @@ impl<A: Allocator + Copy + Send + Sync> Shelf<A> {
     {
         let cells = grid.cell_count() as usize;
         let first = places(self.bytes, cells).min(goals.len());
-        let missing = self.missing_of(goals, first)?;
-        let fields = compasses(rt, *self.kept.allocator(), grid, &missing)?;
+        let fields = self.searched(rt, grid, goals, first)?;
         self.reserve(cells, fields.len())?;
         self.touch_all(goals, first);
         self.put_all(fields);

@@ -15,9 +15,13 @@ is_open sides West = sides.west
 abbrev pub IsOpen : Floor → ℕ → Open → Type 0
 IsOpen m cell sides = (dir : Dir) → MatchBool (is_open sides dir) ((b : ℕ) × IsNeighbourIn m dir cell b) ((b : ℕ) → IsNeighbourIn m dir cell b → ⊥)
 
+-- each of the first cells has its sides
+abbrev pub AreOpen : Floor → List Open → Type 0
+AreOpen m opens = (cell : ℕ) (sides : Open) → slice_get opens cell ≡ Some sides → IsOpen m cell sides
+
 -- for each cell of the map its sides
 pub record AreSides (m : Floor) (width : ℕ) (opens : List Open) : Type 0 where
   pub form : HasForm m
   pub wide : width ≡ m.width
   pub count : length opens ≡ length m.letters
-  pub each : (cell : ℕ) (sides : Open) → slice_get opens cell ≡ Some sides → IsOpen m cell sides
+  pub each : AreOpen m opens

@@ -54,6 +54,10 @@ pub record Extends (stride level : ℕ) (old from new to : List ℕ) : Type 0 wh
   pub keeps : Keeps old new (level + 1)
   pub count : length to + far_count new ≡ length from + far_count old
 
+-- the goal is the one place at 0
+abbrev pub IsStart : List ℕ → ℕ → Type 0
+IsStart dist goal = ((goal < length dist) × (slice_index dist goal ≡ 0)) × ((v : ℕ) → IsOpen dist v → slice_index dist v ≡ 0 → v ≡ goal)
+
 -- the numbers are distances to the goal, as each place can see from its neighbours
 pub record AreLevels (dist : List ℕ) (stride goal : ℕ) : Type 0 where
   pub start : (goal < length dist) × (slice_index dist goal ≡ 0)

@@ -1,7 +1,8 @@
 use Rattle.std.proofs.Common.{ℕ, ◌≤◌, length, Option, MatchOption, below_more, subst, ap, arith}
 use Rattle.fleet_grid.specs.Floor.{Floor, HasForm}
 use Rattle.fleet_bridge.specs.inside.First.{HasNone, IsFirstFrom}
-use Rattle.fleet_bridge.proofs.Rounds.{none_is, none_left}
+use Rattle.fleet_bridge.proofs.Rounds.{none_is, none_left, first_is}
+use Rattle.std.proofs.lemmas.Result.{IfOk-from_err}
 use Rattle.fleet_bridge.proofs.first.first_by.Goals as goal
 
 pub loop-cell-preserved : goal.loop-cell-preserved
@@ -21,3 +22,12 @@ loop-cell-init g c = λ cell less. absurd (omega (arith, less))
 
 pub bridge_from-requires : goal.bridge_from-requires
 bridge_from-requires g c = record { tree = c.requires }
+
+pub returns-in_err-upper : goal.returns-in_err-upper
+returns-in_err-upper g c = IfOk-from_err c.from_residual.result _ c.from_residual.ensures.0
+
+pub returns-in-Some : goal.returns-in-Some
+returns-in-Some g c =
+    let m = c.args.sides.now in
+    let cell = c.loop-cell.cell in
+    first_is m cell c.in-Some.upper c.loop-cell.invariant (subst (λ (o : Option ℕ). MatchOption o (HasNone m cell) (IsFirstFrom m cell)) c.in-Some.is c.in_ok-upper.ensures)

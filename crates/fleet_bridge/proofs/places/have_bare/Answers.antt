@@ -1,10 +1,7 @@
 use Rattle.std.proofs.Common.{◌≡◌, ℕ, ◌≤◌, Bool, true, false, ◌||◌, below_more, refl, arith}
 use Rattle.fleet_bridge.specs.inside.Places.{HasNoneAt}
+use Rattle.fleet_bridge.proofs.Squares.{neither}
 use Rattle.fleet_bridge.proofs.places.have_bare.Goals as goal
-
-neither : (a b : Bool) → (a || b) ≡ false → (a ≡ false) × (b ≡ false)
-neither true b e = absurd (cc e)
-neither false b e = (refl, e)
 
 pub loop-at-preserved : goal.loop-at-preserved
 loop-at-preserved g c = λ no v ge lt.
@@ -14,3 +11,12 @@ loop-at-preserved g c = λ no v ge lt.
 
 pub returns : goal.returns
 returns g c = λ no v ge lt. c.loop-at.invariant no v ge (omega (arith, c.loop-at-test.false, lt))
+
+pub loop-at-init : goal.loop-at-init
+loop-at-init g c = λ no v ge lt. absurd (omega (arith, ge, lt))
+
+pub has_bare-any-requires-clause-laid_out : goal.has_bare-any-requires-clause-laid_out
+has_bare-any-requires-clause-laid_out g c = c.requires.laid_out
+
+pub has_bare-any-requires-clause-inside : goal.has_bare-any-requires-clause-inside
+has_bare-any-requires-clause-inside g c = c.requires.inside c.loop-at.at c.loop-at.auto.at c.loop-at-test.true

@@ -1,8 +1,9 @@
-use Rattle.std.proofs.Common.{◌≡◌, ◌<◌, length, arith, subst, sym, ℕ, get_or, refl}
+use Rattle.std.proofs.Common.{◌≡◌, ◌<◌, length, arith, subst, sym, ℕ, get_or, refl, ◌∙◌}
 use Rattle.std.proofs.lemmas.List.{get_or_read_under}
 use Rattle.fleet_bridge.specs.inside.Search.{NearWithout, IsMarked}
 use Rattle.fleet_bridge.proofs.Fronts.{queue_le, reach, done_more}
 use Rattle.fleet_bridge.proofs.Joins.{joined_same}
+use Rattle.std.proofs.lemmas.Result.{IfOk-from_err}
 use Rattle.fleet_bridge.proofs.search.spread.Goals as goal
 
 pub overflow_add-head : goal.overflow_add-head
@@ -51,3 +52,21 @@ visit_around-requires-clause-reached g c =
 
 pub visit_around-requires-clause-front : goal.visit_around-requires-clause-front
 visit_around-requires-clause-front g c = c.loop-head.invariant.front
+
+pub returns-in_err-visit-clause-size : goal.returns-in_err-visit-clause-size
+returns-in_err-visit-clause-size g c = IfOk-from_err c.from_residual.result _ c.from_residual.ensures.0
+
+pub returns-in_err-visit-clause-reach : goal.returns-in_err-visit-clause-reach
+returns-in_err-visit-clause-reach g c = IfOk-from_err c.from_residual.result _ c.from_residual.ensures.0
+
+pub index-cell-requires : goal.index-cell-requires
+index-cell-requires g c = omega (arith, c.loop-head-test.true, c.len.ensures)
+
+pub returns-in_err-visit_around-clause-size : goal.returns-in_err-visit_around-clause-size
+returns-in_err-visit_around-clause-size g c = IfOk-from_err c.from_residual-in_err-visit_around.result _ c.from_residual-in_err-visit_around.ensures.0
+
+pub returns-in_err-visit_around-clause-reach : goal.returns-in_err-visit_around-clause-reach
+returns-in_err-visit_around-clause-reach g c = IfOk-from_err c.from_residual-in_err-visit_around.result _ c.from_residual-in_err-visit_around.ensures.0
+
+pub returns-clause-size : goal.returns-clause-size
+returns-clause-size g c = c.loop-head.seen.ok.0 ∙ c.loop-head.invariant.size

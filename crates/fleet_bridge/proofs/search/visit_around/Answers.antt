@@ -10,3 +10,30 @@ returns-clause-marked g c =
 pub returns-clause-later : goal.returns-clause-later
 returns-clause-later g c =
     later_on _ _ _ _ _ _ c.in_ok-visit_beside.ensures.later (later_on _ _ _ _ _ _ c.in_ok-visit_beside-2.ensures.later (later_on _ _ _ _ _ _ c.in_ok-visit_beside-3.ensures.later c.in_ok-visit_beside-4.ensures.later))
+
+pub visit_beside-requires-clause-reached : goal.visit_beside-requires-clause-reached
+visit_beside-requires-clause-reached g c = c.requires.reached
+
+pub visit_beside-requires-clause-front : goal.visit_beside-requires-clause-front
+visit_beside-requires-clause-front g c = c.requires.front
+
+pub visit_beside-requires-2-clause-reached : goal.visit_beside-requires-2-clause-reached
+visit_beside-requires-2-clause-reached g c = c.in_ok-visit_beside.ensures.later.keeps c.args.cell c.requires.reached
+
+pub visit_beside-requires-2-clause-front : goal.visit_beside-requires-2-clause-front
+visit_beside-requires-2-clause-front g c = c.in_ok-visit_beside.ensures.front
+
+pub visit_beside-requires-3-clause-reached : goal.visit_beside-requires-3-clause-reached
+visit_beside-requires-3-clause-reached g c = c.in_ok-visit_beside-2.ensures.later.keeps c.args.cell (c.in_ok-visit_beside.ensures.later.keeps c.args.cell c.requires.reached)
+
+pub visit_beside-requires-3-clause-front : goal.visit_beside-requires-3-clause-front
+visit_beside-requires-3-clause-front g c = c.in_ok-visit_beside-2.ensures.front
+
+pub visit_beside-requires-4-clause-reached : goal.visit_beside-requires-4-clause-reached
+visit_beside-requires-4-clause-reached g c = c.in_ok-visit_beside-3.ensures.later.keeps c.args.cell (c.in_ok-visit_beside-2.ensures.later.keeps c.args.cell (c.in_ok-visit_beside.ensures.later.keeps c.args.cell c.requires.reached))
+
+pub visit_beside-requires-4-clause-front : goal.visit_beside-requires-4-clause-front
+visit_beside-requires-4-clause-front g c = c.in_ok-visit_beside-3.ensures.front
+
+pub returns-clause-front : goal.returns-clause-front
+returns-clause-front g c = c.in_ok-visit_beside-4.ensures.front

@@ -1,4 +1,4 @@
-use Rattle.std.proofs.Common.{◌≡◌, List, Option, length, sym, ap, subst}
+use Rattle.std.proofs.Common.{◌≡◌, List, Option, length, refl, sym, ap, subst, arith}
 use Rattle.fleet_field.specs.Field.{Aim}
 use Rattle.fleet_field.specs.inside.Uses.{IsFilled}
 use Rattle.fleet_field.specs.Store.{IsOnce}
@@ -39,3 +39,18 @@ returns-clause-used g c =
 pub returns-in_err-reserve-clause-refused : goal.returns-in_err-reserve-clause-refused
 returns-in_err-reserve-clause-refused g c =
     on_err (c.reserve.new.self.slots ≡ c.args.held.now.slots) c.from_residual-in_err-reserve.result (ap (λ s. s.slots) c.reserve.ensures.rest_kept)
+
+pub use_all-requires-clause-once : goal.use_all-requires-clause-once
+use_all-requires-clause-once g c = c.put_all.ensures.filled.once
+
+pub use_all-requires-clause-room : goal.use_all-requires-clause-room
+use_all-requires-clause-room g c = omega (arith, c.in_ok-keys.ensures.capacity)
+
+pub use_all-requires-clause-empty : goal.use_all-requires-clause-empty
+use_all-requires-clause-empty g c = c.in_ok-keys.ensures.items
+
+pub returns-clause-refused : goal.returns-clause-refused
+returns-clause-refused g c = tt
+
+pub returns-in_err-keys-clause-refused : goal.returns-in_err-keys-clause-refused
+returns-in_err-keys-clause-refused g c = on_err (c.args.held.now.slots ≡ c.args.held.now.slots) c.from_residual.result refl

@@ -4,7 +4,7 @@ use Rattle.std.proofs.lemmas.Grind.{common_steps}
 use Rattle.std.proofs.lemmas.List.Elements.{Contains-push, Contains-append_left, Contains-push_cases}
 use Rattle.fleet_field.specs.Field.{Aim}
 use Rattle.fleet_field.specs.inside.Uses.{HasGoal}
-use Rattle.fleet_field.proofs.Uses.{filled_step, still_there, at_none}
+use Rattle.fleet_field.proofs.Uses.{filled_step, still_there, at_none, filled_none}
 use Rattle.fleet_field.proofs.holds.put_all.Goals as goal
 
 pub loop-field-preserved : goal.loop-field-preserved
@@ -34,3 +34,24 @@ returns-clause-there g c = λ f within.
           let none = at_none c.pop.result _ _ c.in_default.not-Some c.pop.ensures.cases in
           absurd (first_of (omega (arith, none.0, left.1), grind (arith, common_steps, none.0, left.1))))
     ]
+
+pub loop-field-init : goal.loop-field-init
+loop-field-init g c =
+    record {
+      filled = filled_none c.args.fields.items c.args.held.now.slots c.requires.once;
+      room = c.requires.room;
+      there = λ f within. inr within;
+      within = λ f within. within;
+    }
+
+pub put-requires-clause-room : goal.put-requires-clause-room
+put-requires-clause-room g c = omega (arith, c.loop-field.invariant.room, c.in-Some.ensures.cases)
+
+pub put-requires-clause-once : goal.put-requires-clause-once
+put-requires-clause-once g c = c.loop-field.invariant.filled.once
+
+pub loop-field-smaller : goal.loop-field-smaller
+loop-field-smaller g c = omega (arith, c.in-Some.ensures.cases)
+
+pub returns-clause-filled : goal.returns-clause-filled
+returns-clause-filled g c = c.loop-field.invariant.filled

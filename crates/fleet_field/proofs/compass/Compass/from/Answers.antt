@@ -1,7 +1,8 @@
-use Rattle.std.proofs.Common.{◌∙◌}
-use Rattle.fleet_field.proofs.Sides.{is_slim, is_within, is_wide, is_low, has_step, is_apart, is_small, is_few, has_cells}
+use Rattle.std.proofs.Common.{◌∙◌, arith}
+use Rattle.fleet_field.proofs.Sides.{is_slim, is_within, is_wide, is_low, has_step, is_apart, is_small, is_few, has_cells, stride_fits}
 use Rattle.fleet_field.proofs.Unsearched.{ready_by}
 use Rattle.fleet_field.proofs.Nearer.{searched_out, compass_by}
+use Rattle.std.proofs.lemmas.Result.{IfOk-from_err}
 use Rattle.fleet_field.proofs.compass.Compass.from.Goals as goal
 
 pub new-columns-requires-clause-wide : goal.new-columns-requires-clause-wide
@@ -69,3 +70,22 @@ returns g c =
     (compass_by c.args.grid.now c.height-height.result c.new-columns.result.width c.padded-stride.result.0 c.args.goal c.place-start.result blank c.in_ok-bytes.bytes.items c.in_ok-ways.ways.items
     c.height-height.ensures.value (c.new-columns.ensures ∙ c.width.ensures.value) c.height-height.ensures.form c.padded-stride.ensures.padded c.requires c.place-start.ensures (c.in_ok-bytes.ensures blank ready)
     c.in_ok-ways.ensures.len (rw c.deref.ensures.value at c.in_ok-ways.ensures.each)).1
+
+pub overflow_cast-start : goal.overflow_cast-start
+overflow_cast-start g c =
+    let low = is_low c.args.grid.now c.new-columns.result.width c.args.goal (c.new-columns.ensures ∙ c.width.ensures.value) c.width.ensures.form c.requires c.padded-stride.result.0 c.padded-stride.result.1.now c.padded-stride.ensures.padded in
+    omega (arith, low, c.place-start.ensures)
+
+pub overflow_cast-stride : goal.overflow_cast-stride
+overflow_cast-stride g c =
+    let fits = stride_fits c.args.grid.now c.padded-stride.result.0 c.padded-stride.result.1.now c.padded-stride.ensures.padded in
+    omega (arith, fits)
+
+pub returns-in_err-free : goal.returns-in_err-free
+returns-in_err-free g c = IfOk-from_err c.from_residual.result _ c.from_residual.ensures.0
+
+pub returns-in_err-bytes : goal.returns-in_err-bytes
+returns-in_err-bytes g c = IfOk-from_err c.from_residual-in_err-bytes.result _ c.from_residual-in_err-bytes.ensures.0
+
+pub returns-in_err-ways : goal.returns-in_err-ways
+returns-in_err-ways g c = IfOk-from_err c.from_residual-in_err-ways.result _ c.from_residual-in_err-ways.ensures.0

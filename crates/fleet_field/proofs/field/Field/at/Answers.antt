@@ -34,3 +34,15 @@ place-requires-clause-small g c =
     let f = c.self.inside in
     let inside = in_list f.height f.columns.width f.stride c.args.cell f.dist.items c.self.invariant (omega (arith, c.if-cell-self.false)) in
     omega (arith, inside, c.self.invariant.small)
+
+pub overflow_mul-self-inside : goal.overflow_mul-self-inside
+overflow_mul-self-inside g c = omega (arith, c.self.invariant.few)
+
+pub place-requires-clause-few : goal.place-requires-clause-few
+place-requires-clause-few g c = omega (arith, c.if-cell-self.false, c.self.invariant.few)
+
+pub index-dist-requires : goal.index-dist-requires
+index-dist-requires g c =
+    let f = c.self.inside in
+    let inside = in_list f.height f.columns.width f.stride c.args.cell f.dist.items c.self.invariant (omega (arith, c.if-cell-self.false)) in
+    omega (arith, inside, c.place.ensures, f.dist.ok.0)

@@ -16,3 +16,18 @@ loop-at-preserved g c =
           subst Only (sym e) (missing_more goals c.loop-at.missing.items n less c.loop-at.invariant))
       | else-is_none w ↦ subst Only (sym (ap (λ v. v.items) w.missing-is)) c.loop-at.invariant
     ]
+
+pub loop-at-init : goal.loop-at-init
+loop-at-init g c = λ i less. absurd (omega (arith, less, ap (λ (xs : List ℕ). length xs) c.new-missing.ensures.items))
+
+pub bounds-goals-at : goal.bounds-goals-at
+bounds-goals-at g c = omega (arith, c.loop-at-test.true, c.requires)
+
+pub bounds-goals-at-then-is_none : goal.bounds-goals-at-then-is_none
+bounds-goals-at-then-is_none g c = omega (arith, c.loop-at-test.true, c.requires)
+
+pub bounds-goals-at-then-not-is_one_of : goal.bounds-goals-at-then-not-is_one_of
+bounds-goals-at-then-not-is_one_of g c = omega (arith, c.loop-at-test.true, c.requires)
+
+pub returns : goal.returns
+returns g c = c.loop-at.invariant
