@@ -1,6 +1,7 @@
 //! The words that the program `errands` is given, as `clap` takes them, and the job that they name.
 #![tactic(auto)]
 
+mod commands;
 mod words;
 
 pub use words::{Job, WordFault, parse_words};

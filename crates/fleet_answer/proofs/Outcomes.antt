@@ -19,10 +19,8 @@ use Rattle.fleet_trace.specs.declared.fault.JudgeFault.{JudgeFault}
 use Rattle.fleet_trace.specs.declared.fault.JudgeFault.TheVariants as judge_fault
 use Rattle.fleet_trace.specs.Judged.{IsFirstIllegal, IsJudgeFault}
 use Rattle.fleet_report.specs.declared.said.Said.{Said}
-use Rattle.fleet_report.specs.declared.said.Complaint.{Complaint}
-use Rattle.fleet_report.specs.declared.said.Complaint.TheVariants as complaint
-use Rattle.fleet_report.specs.Outcome.{Outcome, IsMapNamed, fault}
-use Rattle.fleet_answer.specs.Answer.{IsScriptOutcome, IsLawfulEnd, IsJudged, refused, ran, illegal, illegal_at, run_output, run_outcome}
+use Rattle.fleet_report.specs.Outcome.{Outcome, IsMapNamed}
+use Rattle.fleet_answer.specs.Answer.{IsScriptOutcome, IsUnplayed, IsLawfulEnd, IsJudged, refused, ran, illegal, illegal_at, run_output, run_outcome}
 use Rattle.fleet_core.specs.Hooks.{HookLaws}
 use Rattle.fleet_script.specs.Script.{Plan}
 use Rattle.fleet_answer.specs.Kit.{KitLaws, chosen_laws}
@@ -102,10 +100,12 @@ none_refused {P} m starts clients limits laws r played is exact f why = (let no 
     named open_fault.Hooks w = tt
     named open_fault.NoMemory w = w
 
-pub refused_is : (kit : KitLaws) (laws : HookLaws) (r : Result Said AllocError) (c : Complaint) (m g : Floor) (p : Plan) (trace : Bool) (f : OpenFault) → g ≡ m → laws ≡ chosen_laws kit p → c ≡ complaint.Opening f → IfOk r (λ s. said s ≡ fault c)
-    → IsRefused g p.starts p.clients p.limits laws f → IfOk r (λ s. IsScriptOutcome kit trace m p (said s))
-refused_is kit laws (Ok s) c m g p trace f e l named is why = refused f (subst (λ (x : HookLaws). IsRefused m p.starts p.clients p.limits x f) l (subst (λ (x : Floor). IsRefused x p.starts p.clients p.limits laws f) e why)) (is ∙ ap fault named)
-refused_is kit laws (Err x) c m g p trace f e l named is why = tt
+-- what is said of a run that was given up is of a world that was to be refused
+pub refused_is : (kit : KitLaws) (laws : HookLaws) (r : Result Said AllocError) (m g : Floor) (p : Plan) (trace : Bool) (x : RunFault) → g ≡ m → laws ≡ chosen_laws kit p
+    → ((f : OpenFault) → IsNamed f → x ≡ run_fault.Opening f → IsRefused g p.starts p.clients p.limits laws f) → IfOk r (λ s. IsUnplayed x (said s)) → IfOk r (λ s. IsScriptOutcome kit trace m p (said s))
+refused_is kit laws (Ok s) m g p trace (run_fault.Opening f) e l why is = refused f (subst (λ (x : HookLaws). IsRefused m p.starts p.clients p.limits x f) l (subst (λ (x : Floor). IsRefused x p.starts p.clients p.limits laws f) e (why f is.0 refl))) is.1
+refused_is kit laws (Ok s) m g p trace (run_fault.NoMemory at) e l why is = absurd is
+refused_is kit laws (Err y) m g p trace x e l why is = tt
 
 -- what is said of an illegal trace
 pub illegal_is : (r : Result Said AllocError) (m g : Floor) (h : History Global) (f : JudgeFault) (at rule : ℕ) → g ≡ m → f ≡ judge_fault.Illegal at rule → IsJudgeFault g h f → IfOk r (λ s. said s ≡ illegal_at at rule)

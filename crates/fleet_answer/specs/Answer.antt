@@ -12,7 +12,9 @@ use Rattle.fleet_world.specs.declared.reply.Reply.{Reply}
 use Rattle.fleet_calls.specs.declared.faults.OpenFault.{OpenFault}
 use Rattle.fleet_core.specs.Core.{World}
 use Rattle.fleet_world.specs.Run.{State, Run, opened_state}
-use Rattle.fleet_calls.specs.Opening.{IsRefused}
+use Rattle.fleet_calls.specs.Opening.{IsNamed, IsRefused}
+use Rattle.fleet_world.specs.declared.faults.RunFault.{RunFault}
+use Rattle.fleet_world.specs.declared.faults.RunFault.TheVariants as run_fault
 use Rattle.fleet_world.specs.Laws.{KeepsRings, KeepsEachRing, CollectsInOrder}
 use Rattle.fleet_history.specs.Legal.{IsLegal}
 use Rattle.fleet_history.specs.Laws.{ArrivesInOrder, ArrivalsRise, EachTick, HasNoConflict, AcceptsNoneClosed}
@@ -105,6 +107,11 @@ pub record IsRunText (kit : KitLaws) (trace : Bool) (m : Floor) (plan : Plan) (o
 pub data IsScriptOutcome (kit : KitLaws) (trace : Bool) (m : Floor) (plan : Plan) (o : Outcome) : Type 0 where
   refused : (f : OpenFault) → IsRefused m plan.starts plan.clients plan.limits (chosen_laws kit plan) f → o ≡ fault (complaint.Opening f) → IsScriptOutcome kit trace m plan o
   ran : IsRunText kit trace m plan o → IsScriptOutcome kit trace m plan o
+
+-- what is said where no run was made
+abbrev pub IsUnplayed : RunFault → Outcome → Type 0
+IsUnplayed (run_fault.Opening f) o = IsNamed f × (o ≡ fault (complaint.Opening f))
+IsUnplayed (run_fault.NoMemory at) o = ⊥
 
 -- a map and a script, the map first
 pub data IsPartsOutcome (kit : KitLaws) (trace : Bool) (map script : List ℕ) (o : Outcome) : Type 0 where

@@ -6,7 +6,7 @@ ghost use Rattle.fleet_map.specs.Form.{HasSides};
 ghost use Rattle.fleet_map.specs.Grammar.{view};
 ghost use Rattle.fleet_calls.specs.Opening.{IsNamed};
 ghost use Rattle.fleet_report.specs.Output.{is_limit_met};
-ghost use Rattle.fleet_answer.specs.Answer.{IsBundleOutcome, IsMapOutcome, IsDescribed, IsPartsOutcome, IsScriptOutcome, floor_of_map, limited, run_output, run_outcome};
+ghost use Rattle.fleet_answer.specs.Answer.{IsBundleOutcome, IsMapOutcome, IsDescribed, IsPartsOutcome, IsScriptOutcome, IsUnplayed, floor_of_map, limited, run_output, run_outcome};
 ghost use Rattle.fleet_trace.specs.Trace.{trace_of};
 ghost use Rattle.fleet_trace.specs.Text.{trace_text};
 ghost use Rattle.fleet_answer.specs.Kit.{kit_laws};
@@ -121,6 +121,31 @@ fn played_text(
     ended(alloc, meets_limit(played.replies.as_slice()), output)
 }
 
+/// What is said of a run that was made, whose world is then let go.
+fn ended_text(
+    alloc: Global,
+    trace: bool,
+    events: &[Event],
+    played: Played,
+) -> Result<Said, AllocError>
+    requires { length played.replies.items ≡ length events.now }
+    ensures { IfOk result (λ s. said s ≡ run_outcome played.replies.items (run_output trace events.now played.replies.items played.world.core)) }
+{
+    let told = played_text(alloc, trace, events, &played);
+    let _ended = played.world.finish();
+    told
+}
+
+/// What is said where no run was made.
+fn unplayed(alloc: Global, fault: RunFault) -> Result<Said, AllocError>
+    ensures { IfOk result (λ s. IsUnplayed fault (said s)) }
+{
+    match fault {
+        RunFault::NoMemory(_) => Err(AllocError),
+        RunFault::Opening(fault) => faulty(alloc, opening_complaint(fault)?),
+    }
+}
+
 /// Runs a script on a map.
 fn run_script<R: Alloc<A = Global> + Threads + Sync>(
     rt: &R,
@@ -144,13 +169,8 @@ fn run_script<R: Alloc<A = Global> + Threads + Sync>(
     } = script;
     let hooks = kit.choose(south).cut(starts.len());
     match run(rt, grid, starts, clients, limits, hooks, &events) {
-        Ok(played) => {
-            let told = played_text(rt.alloc(), trace, &events, &played);
-            let _ended = played.world.finish();
-            told
-        }
-        Err(RunFault::NoMemory(_)) => Err(AllocError),
-        Err(RunFault::Opening(fault)) => faulty(rt.alloc(), opening_complaint(fault)?),
+        Ok(played) => ended_text(rt.alloc(), trace, &events, played),
+        Err(fault) => unplayed(rt.alloc(), fault),
     }
 }
 

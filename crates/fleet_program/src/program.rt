@@ -73,8 +73,13 @@ fn answer_files<R: Alloc<A = Global> + Threads + Sync, I: Read>(
     ensures { IfOk result (λ s. IfSome (I.remaining map.old) (λ first. IfSome (bytes_of I.remaining other.entry) (λ second.
         IsAnswer (kit_laws kit) job.now first second (said_of s)))) }
 {
-    let (first, second) = read_files(rt.alloc(), map, other)?;
-    Ok(answer(rt, job, &first, &second, kit)?)
+    match read_files(rt.alloc(), map, other) {
+        Ok((first, second)) => Ok(answer(rt, job, &first, &second, kit)?),
+        Err(fault) => {
+            drop(kit);
+            Err(fault)
+        }
+    }
 }
 
 /// What there is to say to the map and the script that are to be served, which are read in this order.
@@ -89,8 +94,13 @@ fn answer_served<R: Alloc<A = Global> + Threads + Sync + Wait, I: Read>(
     ensures { IfOk result (λ s. IfSome (I.remaining map.old) (λ first. IfSome (bytes_of I.remaining other.entry) (λ second.
         IsAnswer (kit_laws kit) job.now first second (said_of s)))) }
 {
-    let (first, second) = read_files(rt.alloc(), map, other)?;
-    Ok(answer_job(rt, job, &first, &second, kit)?)
+    match read_files(rt.alloc(), map, other) {
+        Ok((first, second)) => Ok(answer_job(rt, job, &first, &second, kit)?),
+        Err(fault) => {
+            drop(kit);
+            Err(fault)
+        }
+    }
 }
 
 /// Does a job that is not to serve, and waits for nobody. The result is the status, as for `run_program`.

@@ -1,6 +1,6 @@
 //! What the program has to say to a map and a script that is to be served.
 
-ghost use Rattle.std.specs.Prelude.{◌≡◌, ◌≤◌, ◌++◌, true, length, nat_lt, IfOk, codes};
+ghost use Rattle.std.specs.Prelude.{◌≡◌, ◌≤◌, ◌<◌, ◌^◌, ◌++◌, true, length, nat_lt, IfOk, codes};
 ghost use Rattle.std.specs.List.{All};
 ghost use Rattle.fleet_map.specs.Form.{HasSides};
 ghost use Rattle.fleet_map.specs.Grammar.{view};
@@ -84,6 +84,26 @@ fn two_grids(alloc: Global, map: MapText) -> Result<(Grid, Grid), AllocError>
     Ok((Grid::new(map)?, judged))
 }
 
+/// Serves a script of so many lines on a grid, and judges the trace on another of the same map.
+fn serve_on<R: Alloc<A = Global> + Threads + Sync + Wait>(
+    rt: &R,
+    grid: Grid,
+    judged: &Grid,
+    script: &Script,
+    kit: HookKit,
+) -> Result<Said, AllocError>
+    requires same { judged.now ≡ grid }
+    requires few { length script.now.events.items < 2 ^ 32 }
+    requires lines { All (IsLine script.now.clients) script.now.events.items }
+    ensures { IfOk result (λ s. IsServed (kit_laws kit) grid (plan script.now) (said s)) }
+{
+    let hooks = kit.choose(script.south).cut(script.starts.len());
+    match serve(rt, grid, script, hooks, &OpenGate) {
+        Ok(served) => served_text(rt.alloc(), judged, &served),
+        Err(fault) => unserved_text(rt.alloc(), fault),
+    }
+}
+
 /// Serves a script whose events are all posts and collects of its clients.
 fn serve_lines<R: Alloc<A = Global> + Threads + Sync + Wait>(
     rt: &R,
@@ -100,11 +120,7 @@ fn serve_lines<R: Alloc<A = Global> + Threads + Sync + Wait>(
         return Err(AllocError);
     }
     let (grid, judged) = two_grids(rt.alloc(), map)?;
-    let hooks = kit.choose(script.south).cut(script.starts.len());
-    match serve(rt, grid, script, hooks, &OpenGate) {
-        Ok(served) => served_text(rt.alloc(), &judged, &served),
-        Err(fault) => unserved_text(rt.alloc(), fault),
-    }
+    serve_on(rt, grid, &judged, script, kit)
 }
 
 /// Serves a script on a map.

@@ -47,8 +47,7 @@ fn write_map<A: Allocator + Copy>(out: &mut String<A>, lines: MapLines) -> Resul
     write!(out, "size {height} {width}\n")?;
     write!(out, "floor {floor}\n")?;
     write!(out, "edges {edges}\n")?;
-    write!(out, "{bridge}\n")?;
-    Ok(())
+    write!(out, "{bridge}\n")
 }
 
 /// What the program prints of a map.

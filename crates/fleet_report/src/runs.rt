@@ -86,9 +86,10 @@ fn write_tick<A: Allocator + Copy>(
         write_place(out, to.as_slice())?;
         write!(out, "\n")?;
         write_arrivals(out, to.as_slice(), arrived.as_slice())?;
-        write_farewells(out, farewells.as_slice())?;
+        write_farewells(out, farewells.as_slice())
+    } else {
+        Ok(())
     }
-    Ok(())
 }
 
 /// The farewell that a shut robot takes at once, if it does.
@@ -99,11 +100,13 @@ fn write_parting<A: Allocator + Copy>(
 ) -> Result<(), AllocError>
     ensures { OnOk result (string_bytes out.new ≡ string_bytes out.old ++ parting_text robot parting) }
 {
-    if let Some(stamp) = parting {
-        let line = FarewellLine { robot, stamp };
-        write!(out, "{line}")?;
+    match parting {
+        Some(stamp) => {
+            let line = FarewellLine { robot, stamp };
+            write!(out, "{line}")
+        }
+        None => Ok(()),
     }
-    Ok(())
 }
 
 /// The line of a post.
@@ -117,12 +120,11 @@ fn write_post<A: Allocator + Copy>(
 {
     let _order = order;
     match reply {
-        Reply::Posted(number) => write!(out, "posted {client} {number}\n")?,
-        Reply::LaneFull => write!(out, "lane-full {client}\n")?,
-        Reply::NoClient => write!(out, "no-client {client}\n")?,
-        _ => {}
+        Reply::Posted(number) => write!(out, "posted {client} {number}\n"),
+        Reply::LaneFull => write!(out, "lane-full {client}\n"),
+        Reply::NoClient => write!(out, "no-client {client}\n"),
+        _ => Ok(()),
     }
-    Ok(())
 }
 
 /// The line of a take.
@@ -136,17 +138,16 @@ fn write_take<A: Allocator + Copy>(
     match reply {
         Reply::Took { order_no, verdict } => {
             let verdict = VerdictText(verdict);
-            write!(out, "took {client} {order_no} {verdict}\n")?;
+            write!(out, "took {client} {order_no} {verdict}\n")
         }
-        Reply::LaneEmpty => write!(out, "lane-empty {client}\n")?,
+        Reply::LaneEmpty => write!(out, "lane-empty {client}\n"),
         Reply::TakeRefused(fault) => {
             let fault = TakeFaultText(fault);
-            write!(out, "take-refused {client} {fault}\n")?;
+            write!(out, "take-refused {client} {fault}\n")
         }
-        Reply::NoClient => write!(out, "no-client {client}\n")?,
-        _ => {}
+        Reply::NoClient => write!(out, "no-client {client}\n"),
+        _ => Ok(()),
     }
-    Ok(())
 }
 
 /// The line of a notice that is given.
@@ -158,13 +159,12 @@ fn write_give<A: Allocator + Copy>(
     ensures { OnOk result ((e : Option (Entry A)) → string_bytes out.new ≡ string_bytes out.old ++ event_text (Event.Give client) reply e) }
 {
     match reply {
-        Reply::Gave(seq) => write!(out, "gave {client} {seq}\n")?,
-        Reply::NothingPending => write!(out, "nothing {client}\n")?,
-        Reply::OutletFull => write!(out, "outlet-full {client}\n")?,
-        Reply::NoClient => write!(out, "no-client {client}\n")?,
-        _ => {}
+        Reply::Gave(seq) => write!(out, "gave {client} {seq}\n"),
+        Reply::NothingPending => write!(out, "nothing {client}\n"),
+        Reply::OutletFull => write!(out, "outlet-full {client}\n"),
+        Reply::NoClient => write!(out, "no-client {client}\n"),
+        _ => Ok(()),
     }
-    Ok(())
 }
 
 /// The line of a notice that is collected.
@@ -178,13 +178,12 @@ fn write_collect<A: Allocator + Copy>(
     match reply {
         Reply::Collected(notice) => {
             let notice = NoticeText(notice);
-            write!(out, "collected {client} {notice}\n")?;
+            write!(out, "collected {client} {notice}\n")
         }
-        Reply::NothingThere => write!(out, "none {client}\n")?,
-        Reply::NoClient => write!(out, "no-client {client}\n")?,
-        _ => {}
+        Reply::NothingThere => write!(out, "none {client}\n"),
+        Reply::NoClient => write!(out, "no-client {client}\n"),
+        _ => Ok(()),
     }
-    Ok(())
 }
 
 /// The lines of a shut.
@@ -198,15 +197,14 @@ fn write_shut<A: Allocator + Copy>(
     match reply {
         Reply::ShutDone(parting) => {
             write!(out, "shut {robot}\n")?;
-            write_parting(out, robot, parting)?;
+            write_parting(out, robot, parting)
         }
         Reply::ShutRefused(fault) => {
             let fault = ShutFaultText(fault);
-            write!(out, "shut-refused {robot} {fault}\n")?;
+            write!(out, "shut-refused {robot} {fault}\n")
         }
-        _ => {}
+        _ => Ok(()),
     }
-    Ok(())
 }
 
 /// The lines of all robots' step.
@@ -218,14 +216,13 @@ fn write_step<A: Allocator + Copy>(
     ensures { OnOk result (string_bytes out.new ≡ string_bytes out.old ++ event_text Event.Tick reply (option_copied entry.entry)) }
 {
     match reply {
-        Reply::Ticked(report) => write_tick(out, report.tick, entry)?,
+        Reply::Ticked(report) => write_tick(out, report.tick, entry),
         Reply::TickRefused(fault) => {
             let fault = TickFaultText(fault);
-            write!(out, "tick-refused {fault}\n")?;
+            write!(out, "tick-refused {fault}\n")
         }
-        _ => {}
+        _ => Ok(()),
     }
-    Ok(())
 }
 
 /// The lines of an event, by its reply and the entry that it made.

@@ -48,7 +48,7 @@ impl fmt::Display for Complaint {
 
     fn fmt<W: fmt::Write>(&self, f: &mut fmt::Formatter<W>) -> fmt::Result {
         match *self {
-            Complaint::File => write!(f, "file"),
+            Complaint::File => f.write_str("file"),
             Complaint::Map(fault) => {
                 let text = MapFaultText(fault);
                 write!(f, "map {text}")
@@ -62,8 +62,8 @@ impl fmt::Display for Complaint {
                 let text = TraceFaultText(fault);
                 write!(f, "trace {text}")
             }
-            Complaint::Memory => write!(f, "memory"),
-            Complaint::Limit => write!(f, "limit"),
+            Complaint::Memory => f.write_str("memory"),
+            Complaint::Limit => f.write_str("limit"),
         }
     }
 }

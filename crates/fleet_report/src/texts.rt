@@ -171,11 +171,11 @@ impl fmt::Display for MapFaultText {
     fn fmt<W: fmt::Write>(&self, f: &mut fmt::Formatter<W>) -> fmt::Result {
         match self.0 {
             MapFault::Header(line) => write!(f, "header {line}"),
-            MapFault::Size => write!(f, "size"),
+            MapFault::Size => f.write_str("size"),
             MapFault::Row(row) => write!(f, "row {row}"),
             MapFault::Cell(row, col) => write!(f, "cell {row} {col}"),
             MapFault::Trailing(line) => write!(f, "trailing {line}"),
-            MapFault::NoMemory => write!(f, "memory"),
+            MapFault::NoMemory => f.write_str("memory"),
         }
     }
 }

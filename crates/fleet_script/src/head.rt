@@ -1,6 +1,7 @@
 //! The limits that a script's head gives.
 
-ghost use Rattle.std.specs.Prelude.{◌≡◌};
+ghost use Rattle.std.specs.Prelude.{◌≡◌, Some};
+ghost use Rattle.std.specs.Option.{option_map};
 ghost use Rattle.fleet_map.specs.Text.{words_of};
 ghost use Rattle.fleet_script.specs.Script.{limit_named, ties_in, turns_in, if_new, with_limit, limits_of, no_limits};
 
@@ -9,7 +10,7 @@ use fleet_book::Limits;
 use fleet_map::text::first_word;
 
 /// The name of a limit, as a header line begins with it.
-#[derive(Clone, Copy, Debug, PartialEq, Eq)]
+#[derive(Clone, Copy)]
 pub(crate) enum LimitName {
     Lane,
     Outlet,
@@ -23,7 +24,7 @@ pub(crate) enum LimitName {
 }
 
 /// The limits that header lines gave so far.
-#[derive(Clone, Copy, Debug, PartialEq, Eq)]
+#[derive(Clone, Copy)]
 pub(crate) struct GivenLimits {
     pub(crate) lane: Option<u32>,
     pub(crate) outlet: Option<u32>,
@@ -90,13 +91,17 @@ pub(crate) fn turn_count(words: &[u8]) -> Option<u32>
     }
 }
 
-/// What a header line says, where none said it before.
-pub(crate) fn only_once<T: Copy>(old: Option<T>, said: Option<T>) -> Option<T>
-    ensures { result ≡ if_new old said }
+/// Takes what a header line says, where none said it before.
+pub(crate) fn set_once<T: Drop>(place: &mut Option<T>, said: Option<T>) -> Option<()>
+    ensures { option_map (λ done. place.new) result ≡ option_map Some (if_new place.old said) }
 {
-    match old {
+    let said = said?;
+    match place {
         Some(_) => None,
-        None => said,
+        None => {
+            *place = Some(said);
+            Some(())
+        }
     }
 }
 
@@ -114,44 +119,21 @@ impl GivenLimits {
         chapters: None,
     };
 
-    /// The limits with one more, which these words give.
-    pub(crate) fn with(self, name: LimitName, words: &[u8]) -> Option<GivenLimits>
-        ensures { result ≡ with_limit self name (words_of words.now) }
+    /// Takes one more limit, which these words give.
+    pub(crate) fn set(&mut self, name: LimitName, words: &[u8]) -> Option<()>
+        ensures { option_map (λ done. self.new) result ≡ with_limit self.old name (words_of words.now) }
     {
-        let mut given = self;
         match name {
-            LimitName::Lane => given.lane = Some(only_once(self.lane, one_small_number(words))?),
-            LimitName::Outlet => given.outlet = Some(only_once(
-                self.outlet,
-                one_small_number(words),
-            )?),
-            LimitName::Queue => given.queue = Some(only_once(self.queue, one_small_number(words))?),
-            LimitName::Mailbox => given.mailbox = Some(only_once(
-                self.mailbox,
-                one_small_number(words),
-            )?),
-            LimitName::Life => given.life = Some(only_once(
-                self.life,
-                one_number(words, u64::MAX),
-            )?),
-            LimitName::Orders => given.orders = Some(only_once(
-                self.orders,
-                one_number(words, u64::MAX),
-            )?),
-            LimitName::Clock => given.clock = Some(only_once(
-                self.clock,
-                one_number(words, u64::MAX),
-            )?),
-            LimitName::Chapter => given.chapter = Some(only_once(
-                self.chapter,
-                one_small_number(words),
-            )?),
-            LimitName::Chapters => given.chapters = Some(only_once(
-                self.chapters,
-                one_small_number(words),
-            )?),
+            LimitName::Lane => set_once(&mut self.lane, one_small_number(words)),
+            LimitName::Outlet => set_once(&mut self.outlet, one_small_number(words)),
+            LimitName::Queue => set_once(&mut self.queue, one_small_number(words)),
+            LimitName::Mailbox => set_once(&mut self.mailbox, one_small_number(words)),
+            LimitName::Life => set_once(&mut self.life, one_number(words, u64::MAX)),
+            LimitName::Orders => set_once(&mut self.orders, one_number(words, u64::MAX)),
+            LimitName::Clock => set_once(&mut self.clock, one_number(words, u64::MAX)),
+            LimitName::Chapter => set_once(&mut self.chapter, one_small_number(words)),
+            LimitName::Chapters => set_once(&mut self.chapters, one_small_number(words)),
         }
-        Some(given)
     }
 
     /// The given limits, and the program's own for the others.

@@ -11,7 +11,7 @@ use fleet_book::{Event, Order};
 use fleet_map::text::first_word;
 
 /// The events of a line: one event, and how often.
-#[derive(Clone, Copy, Debug, PartialEq, Eq)]
+#[derive(Clone, Copy)]
 pub(crate) struct Repeat {
     pub(crate) event: Event,
     pub(crate) times: u32,

@@ -10,7 +10,7 @@ ghost use Rattle.fleet_script.specs.Shown.{repeated, shown, plan, Gives};
 ghost use Rattle.fleet_script.specs.declared.lines.Repeat.{Repeat};
 ghost use Rattle.fleet_script.specs.declared.script.ScriptFault.{ScriptFault};
 
-use crate::head::{GivenLimits, is_south, limit_name, only_once, turn_count};
+use crate::head::{GivenLimits, is_south, limit_name, set_once, turn_count};
 use crate::lines::{Repeat, events_of_line};
 use crate::numbers::{one_small_number, small_number};
 use fleet_book::{Event, Limits};
@@ -119,85 +119,65 @@ impl<A: Allocator + Copy> Draft<A> {
         }
     }
 
-    /// The script with the events of one more line.
-    fn with_events(self, number: u32, more: Repeat) -> Result<Draft<A>, AllocError>
-        ensures { IfOk result (λ d. shown d ≡ with_events (shown self) number (repeated more)) }
+    /// Adds the events of one more line.
+    fn add_events(&mut self, number: u32, more: Repeat) -> Result<(), AllocError>
+        ensures { IfOk result (λ done. shown self.new ≡ with_events (shown self.old) number (repeated more)) }
     {
-        let mut draft = self;
-        add_times(&mut draft.events, more.event, more.times)?;
-        add_times(&mut draft.lines, number, more.times)?;
-        Ok(draft)
+        add_times(&mut self.events, more.event, more.times)?;
+        add_times(&mut self.lines, number, more.times)
     }
 
-    /// The script with one more header line, by its first word and the others.
-    fn with_header(
-        self,
+    /// Adds one more header line, by its first word and the others.
+    fn add_header(
+        &mut self,
         alloc: A,
         number: u32,
         key: &[u8],
         words: &[u8],
-    ) -> Result<Draft<A>, ScriptFault>
-        ensures { Gives shown result (or_line number (with_header (shown self) key.now (words_of words.now))) }
+    ) -> Result<(), ScriptFault>
+        ensures { Gives (λ done. shown self.new) result (or_line number (with_header (shown self.old) key.now (words_of words.now))) }
     {
-        let mut draft = self;
         let fault = ScriptFault::Line(number);
         if key == b"robots".as_slice() {
             let starts = cells(alloc, words)?;
-            if draft.starts.is_some() || starts.is_none() {
-                return Err(fault);
-            }
-            draft.starts = starts;
+            set_once(&mut self.starts, starts).ok_or(fault)
         } else if key == b"clients".as_slice() {
-            let clients = only_once(draft.clients, one_small_number(words)).ok_or(fault)?;
-            draft.clients = Some(clients);
+            set_once(&mut self.clients, one_small_number(words)).ok_or(fault)
         } else if key == b"ties".as_slice() {
-            let south = only_once(draft.south, is_south(words)).ok_or(fault)?;
-            draft.south = Some(south);
+            set_once(&mut self.south, is_south(words)).ok_or(fault)
         } else if key == b"turns".as_slice() {
-            let turns = only_once(draft.turns, turn_count(words)).ok_or(fault)?;
-            draft.turns = Some(turns);
+            set_once(&mut self.turns, turn_count(words)).ok_or(fault)
         } else {
             let name = limit_name(key).ok_or(fault)?;
-            draft.limits = draft.limits.with(name, words).ok_or(fault)?;
+            self.limits.set(name, words).ok_or(fault)
         }
-        Ok(draft)
     }
-}
 
-/// The script with one more line that has words.
-fn with_words<A: Allocator + Copy>(
-    alloc: A,
-    draft: Draft<A>,
-    number: u32,
-    line: &[u8],
-) -> Result<Draft<A>, ScriptFault>
-    ensures { Gives shown result (or_line number (with_words (shown draft) number (words_of line.now))) }
-{
-    let Some((key, words)) = first_word(line) else {
-        return Ok(draft);
-    };
-    if let Some(more) = events_of_line(key, words) {
-        return Ok(draft.with_events(number, more)?);
+    /// Adds one more line that has words.
+    fn add_words(&mut self, alloc: A, number: u32, line: &[u8]) -> Result<(), ScriptFault>
+        ensures { Gives (λ done. shown self.new) result (or_line number (with_words (shown self.old) number (words_of line.now))) }
+    {
+        let Some((key, words)) = first_word(line) else {
+            return Ok(());
+        };
+        if let Some(more) = events_of_line(key, words) {
+            return Ok(self.add_events(number, more)?);
+        }
+        if !self.events.is_empty() {
+            return Err(ScriptFault::Line(number));
+        }
+        self.add_header(alloc, number, key, words)
     }
-    if !draft.events.is_empty() {
-        return Err(ScriptFault::Line(number));
-    }
-    draft.with_header(alloc, number, key, words)
-}
 
-/// The script with one more line.
-fn with_line<A: Allocator + Copy>(
-    alloc: A,
-    draft: Draft<A>,
-    number: u32,
-    line: &[u8],
-) -> Result<Draft<A>, ScriptFault>
-    ensures { Gives shown result (or_line number (with_line (shown draft) number line.now)) }
-{
-    if !line.is_empty() && line[0] == b'#' {
-        return Ok(draft);
+    /// Adds one more line.
+    fn add_line(&mut self, alloc: A, number: u32, line: &[u8]) -> Result<(), ScriptFault>
+        ensures { Gives (λ done. shown self.new) result (or_line number (with_line (shown self.old) number line.now)) }
+    {
+        if !line.is_empty() && line[0] == b'#' {
+            return Ok(());
+        }
+        self.add_words(alloc, number, line)
     }
-    with_words(alloc, draft, number, line)
 }
 
 /// The script of a draft whose lines are all read, the next of which would have this number.
@@ -254,7 +234,7 @@ fn read_lines<A: Allocator + Copy>(alloc: A, bytes: &[u8]) -> Result<Script<A>, 
     let mut number = 1;
     let mut rest = bytes;
     while let Some((line, after)) = first_line(rest) {
-        draft = with_line(alloc, draft, number, line)?;
+        draft.add_line(alloc, number, line)?;
         number += 1;
         rest = after;
     }

@@ -205,6 +205,11 @@ entry_in v d = option_and_then (entry_from v) (items_in d)
 
 -- ---- the trace
 
+-- the trace of a number that the values of its opening and its entries tell
+abbrev pub chapter_from : {A : Type 0} → Version → ℕ → Data → List Data → Option (Trace A)
+chapter_from v n opening entries =
+    option_and_then (λ o. option_map (λ es. record { number = n; history = record { opening = o; entries = es } }) (all_in (entry_in v) entries)) (opening_in opening)
+
 -- the trace that a value of a version's form tells. A value has each key once, so four members with these four keys
 -- have no other
 abbrev pub told_in : {A : Type 0} → Version → Data → Option (Trace A)

@@ -4,12 +4,12 @@ mod entries;
 mod opening;
 mod parts;
 
-ghost use Rattle.std.specs.Prelude.{◌≡◌, ℕ, IfOk, IfErr, Option, Some, None};
+ghost use Rattle.std.specs.Prelude.{◌≡◌, ℕ, map, IfOk, IfErr, Option, Some, None};
 ghost use Rattle.std.specs.declared.alloc.Global.{Global};
 ghost use Rattle.serde_json.specs.View.{view};
 ghost use Rattle.fleet_trace.specs.Trace.{Trace, trace_of};
 ghost use Rattle.fleet_trace.specs.Version.{version_number};
-ghost use Rattle.fleet_trace.specs.Told.{told_in};
+ghost use Rattle.fleet_trace.specs.Told.{chapter_from, told_in};
 ghost use Rattle.fleet_trace.specs.Reads.{Gives, IsTraceFault, IsVersionOf, Tells};
 
 use crate::fault::TraceFault;
@@ -41,6 +41,25 @@ fn version_of(value: &Value) -> Result<Version, TraceFault>
     }
 }
 
+/// The chapter of this number that the values of its opening and its entries tell.
+fn chapter_from(
+    alloc: Global,
+    version: Version,
+    number: u32,
+    opening: &Value,
+    entries: &[Value],
+) -> Result<Chapter, TraceFault>
+    ensures { Gives trace_of result (chapter_from version number (view opening.now) (map view entries.now)) }
+{
+    let opening = read_opening(alloc, version, opening)?;
+    let entries = read_all(alloc, version, entries)?;
+    Ok(Chapter {
+        number,
+        opening,
+        entries,
+    })
+}
+
 /// The chapter that a value of the version's form tells.
 fn chapter_of(alloc: Global, version: Version, value: &Value) -> Result<Chapter, TraceFault>
     ensures { Gives trace_of result (told_in version (view value.now)) }
@@ -57,13 +76,7 @@ fn chapter_of(alloc: Global, version: Version, value: &Value) -> Result<Chapter,
     let Some(entries) = value.get("entries").and_then(values_of) else {
         return Err(TraceFault::Shape);
     };
-    let opening = read_opening(alloc, version, opening)?;
-    let entries = read_all(alloc, version, entries)?;
-    Ok(Chapter {
-        number,
-        opening,
-        entries,
-    })
+    chapter_from(alloc, version, number, opening, entries)
 }
 
 /// The chapter that a trace tells, in either version of the form. White space and the order of keys are free.

@@ -1,10 +1,10 @@
 //! Entries from JSON values.
 
-ghost use Rattle.std.specs.Prelude.{◌≡◌, length, map, option_and_then};
+ghost use Rattle.std.specs.Prelude.{◌≡◌, [], ◌∷◌, map, option_and_then};
 ghost use Rattle.serde_json.specs.View.{view};
 ghost use Rattle.fleet_trace.specs.Reads.{Gives};
 ghost use Rattle.fleet_trace.specs.Version.{has_withdrawal};
-ghost use Rattle.fleet_trace.specs.Told.{count_in, close_in, withdraw_in, go_in, order_in, refusal_of, verdict_in, shut_in, take_in, tick_in, entry_from, entry_in};
+ghost use Rattle.fleet_trace.specs.Told.{count_in, close_in, withdraw_in, go_in, order_in, refusal_of, verdict_from, verdict_in, shut_in, take_in, tick_in, entry_from, entry_in};
 
 use super::parts::{ReadValue, count_of, found, read_row, says, values_of};
 use crate::fault::TraceFault;
@@ -27,11 +27,10 @@ fn has_withdrawal(version: Version) -> bool
 fn order_of(version: Version, value: &Value) -> Option<Order>
     ensures { result ≡ order_in version (view value.now) }
 {
-    let values = values_of(value)?;
-    match values.len() {
-        1 => close_of(&values[0]),
-        2 => withdraw_of(version, &values[0], &values[1]),
-        3 => go_of(&values[0], &values[1], &values[2]),
+    match values_of(value) {
+        Some([word]) => close_of(word),
+        Some([word, number]) => withdraw_of(version, word, number),
+        Some([word, robot, cell]) => go_of(word, robot, cell),
         _ => None,
     }
 }
@@ -91,25 +90,37 @@ fn refusal_of(version: Version, code: u64) -> Option<Verdict>
 fn verdict_of(version: Version, value: &Value) -> Option<Verdict>
     ensures { result ≡ verdict_in version (view value.now) }
 {
-    let values = values_of(value)?;
-    if values.len() == 1 {
-        if says(&values[0], "closed") {
-            return Some(Verdict::Closed);
-        }
-        if has_withdrawal(version) && says(&values[0], "withdrawn") {
-            return Some(Verdict::Withdrawn);
-        }
-        return None;
+    match values_of(value) {
+        Some([word]) => plain_verdict(version, word),
+        Some([word, number]) => numbered_verdict(version, word, number),
+        _ => None,
     }
-    if values.len() == 2 {
-        if says(&values[0], "accepted") {
-            return Some(Verdict::Accepted(values[1].as_u64()?));
-        }
-        if says(&values[0], "refused") {
-            return refusal_of(version, values[1].as_u64()?);
-        }
+}
+
+/// A verdict that has no number.
+fn plain_verdict(version: Version, word: &Value) -> Option<Verdict>
+    ensures { result ≡ verdict_from version (view word.now ∷ []) }
+{
+    if says(word, "closed") {
+        Some(Verdict::Closed)
+    } else if has_withdrawal(version) && says(word, "withdrawn") {
+        Some(Verdict::Withdrawn)
+    } else {
+        None
     }
-    None
+}
+
+/// An acceptance with its errand's number, or a refusal with its code.
+fn numbered_verdict(version: Version, word: &Value, number: &Value) -> Option<Verdict>
+    ensures { result ≡ verdict_from version (view word.now ∷ view number.now ∷ []) }
+{
+    if says(word, "accepted") {
+        Some(Verdict::Accepted(number.as_u64()?))
+    } else if says(word, "refused") {
+        refusal_of(version, number.as_u64()?)
+    } else {
+        None
+    }
 }
 
 fn take_of(version: Version, client: &Value, order: &Value, answer: &Value) -> Option<Entry>
@@ -162,27 +173,18 @@ fn farewell_of(word: &Value, robot: &Value, stamp: &Value) -> Option<Entry>
     shut_of(word, robot, Some(stamp))
 }
 
-/// A take or a tick, by its first word.
-fn event_of(alloc: Global, version: Version, values: &[Value]) -> Result<Entry, TraceFault>
-    requires { length values.now ≡ 4 }
-    ensures { Gives (λ x. x) result (entry_from version (map view values.now)) }
-{
-    if says(&values[0], "take") {
-        return found(take_of(version, &values[1], &values[2], &values[3]));
-    }
-    if says(&values[0], "tick") {
-        return tick_of(alloc, version, &values[1], &values[2], &values[3]);
-    }
-    Err(TraceFault::Shape)
-}
-
 fn entry_of(alloc: Global, version: Version, values: &[Value]) -> Result<Entry, TraceFault>
     ensures { Gives (λ x. x) result (entry_from version (map view values.now)) }
 {
-    match values.len() {
-        2 => found(shut_of(&values[0], &values[1], None)),
-        3 => found(farewell_of(&values[0], &values[1], &values[2])),
-        4 => event_of(alloc, version, values),
+    match values {
+        [word, robot] => found(shut_of(word, robot, None)),
+        [word, robot, stamp] => found(farewell_of(word, robot, stamp)),
+        [word, client, order, answer] if says(word, "take") => found(take_of(
+            version, client, order, answer,
+        )),
+        [word, to, arrived, farewells] if says(word, "tick") => tick_of(
+            alloc, version, to, arrived, farewells,
+        ),
         _ => Err(TraceFault::Shape),
     }
 }

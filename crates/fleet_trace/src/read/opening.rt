@@ -16,25 +16,25 @@ use std::alloc::Global;
 fn robot_with(alloc: Global, version: Version, values: &[Value]) -> Result<RobotState, TraceFault>
     ensures { Gives (λ x. x) result (robot_from (map view values.now)) }
 {
-    if values.len() != 6 {
-        return Err(TraceFault::Shape);
-    }
-    let Some(cell) = count_of(&values[0]) else {
+    let [cell, shut, wait, errands, arrival_law, farewell_law] = values else {
         return Err(TraceFault::Shape);
     };
-    let Some(shut) = values[1].as_bool() else {
+    let Some(cell) = count_of(cell) else {
         return Err(TraceFault::Shape);
     };
-    let Some(wait) = wait_of(&values[2]) else {
+    let Some(shut) = shut.as_bool() else {
         return Err(TraceFault::Shape);
     };
-    let Some(arrival_law) = law_of(&values[4]) else {
+    let Some(wait) = wait_of(wait) else {
         return Err(TraceFault::Shape);
     };
-    let Some(farewell_law) = law_of(&values[5]) else {
+    let Some(arrival_law) = law_of(arrival_law) else {
         return Err(TraceFault::Shape);
     };
-    let errands = read_row(alloc, version, &values[3])?;
+    let Some(farewell_law) = law_of(farewell_law) else {
+        return Err(TraceFault::Shape);
+    };
+    let errands = read_row(alloc, version, errands)?;
     Ok(RobotState {
         cell,
         shut,
@@ -64,31 +64,21 @@ pub(crate) fn read_opening(
 ) -> Result<Opening, TraceFault>
     ensures { Gives (λ x. x) result (opening_in (view value.now)) }
 {
-    if !has_members(value, 5) {
-        return Err(TraceFault::Shape);
+    match (
+        value.get("tick").and_then(Value::as_u64),
+        value.get("queue").and_then(count_of),
+        value.get("life").and_then(Value::as_u64),
+        value.get("clients"),
+        value.get("robots"),
+    ) {
+        (Some(tick), Some(queue), Some(life), Some(clients), Some(robots))
+            if has_members(value, 5) => Ok(Opening {
+            tick,
+            queue,
+            life,
+            clients: read_row(alloc, version, clients)?,
+            robots: read_row(alloc, version, robots)?,
+        }),
+        _ => Err(TraceFault::Shape),
     }
-    let Some(tick) = value.get("tick").and_then(Value::as_u64) else {
-        return Err(TraceFault::Shape);
-    };
-    let Some(queue) = value.get("queue").and_then(count_of) else {
-        return Err(TraceFault::Shape);
-    };
-    let Some(life) = value.get("life").and_then(Value::as_u64) else {
-        return Err(TraceFault::Shape);
-    };
-    let Some(clients) = value.get("clients") else {
-        return Err(TraceFault::Shape);
-    };
-    let Some(robots) = value.get("robots") else {
-        return Err(TraceFault::Shape);
-    };
-    let clients = read_row(alloc, version, clients)?;
-    let robots = read_row(alloc, version, robots)?;
-    Ok(Opening {
-        tick,
-        queue,
-        life,
-        clients,
-        robots,
-    })
 }

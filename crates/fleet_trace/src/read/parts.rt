@@ -1,11 +1,11 @@
 //! The smaller parts of a trace from JSON values.
 
-ghost use Rattle.std.specs.Prelude.{◌≡◌, Option, Some, map, option_map};
+ghost use Rattle.std.specs.Prelude.{◌≡◌, Option, Some, List, [], ◌∷◌, map, option_map};
 ghost use Rattle.serde_json.specs.Data.{Data};
 ghost use Rattle.serde_json.specs.View.{view};
 ghost use Rattle.fleet_trace.specs.declared.version.Version.{Version};
 ghost use Rattle.fleet_trace.specs.Reads.{Gives};
-ghost use Rattle.fleet_trace.specs.Told.{items_in, all_in, list_in, count_in, is_word, has_members, client_in, errand_in, law_in, wait_in, arrival_in, bye_in};
+ghost use Rattle.fleet_trace.specs.Told.{items_in, all_in, list_in, count_in, is_word, has_members, client_from, client_in, errand_from, errand_in, law_from, law_in, wait_in, arrival_from, arrival_in, bye_from, bye_in};
 
 use crate::fault::TraceFault;
 use crate::version::Version;
@@ -112,14 +112,24 @@ impl ReadValue for u32 {
 fn client_of(value: &Value) -> Option<ClientState>
     ensures { result ≡ client_in (view value.now) }
 {
-    let values = values_of(value)?;
-    if values.len() != 4 {
-        return None;
+    match values_of(value) {
+        Some([taken, accepted, noticed, closed]) => client_from(taken, accepted, noticed, closed),
+        _ => None,
     }
-    let taken = values[0].as_u64()?;
-    let accepted = values[1].as_u64()?;
-    let noticed = values[2].as_u64()?;
-    let closed = values[3].as_bool()?;
+}
+
+fn client_from(
+    taken: &Value,
+    accepted: &Value,
+    noticed: &Value,
+    closed: &Value,
+) -> Option<ClientState>
+    ensures { result ≡ client_from (view taken.now ∷ view accepted.now ∷ view noticed.now ∷ view closed.now ∷ []) }
+{
+    let taken = taken.as_u64()?;
+    let accepted = accepted.as_u64()?;
+    let noticed = noticed.as_u64()?;
+    let closed = closed.as_bool()?;
     Some(ClientState {
         taken,
         accepted,
@@ -139,13 +149,18 @@ impl ReadValue for ClientState {
 fn errand_of(value: &Value) -> Option<Errand>
     ensures { result ≡ errand_in (view value.now) }
 {
-    let values = values_of(value)?;
-    if values.len() != 3 {
-        return None;
+    match values_of(value) {
+        Some([client, number, cell]) => errand_from(client, number, cell),
+        _ => None,
     }
-    let client = count_of(&values[0])?;
-    let number = values[1].as_u64()?;
-    let cell = count_of(&values[2])?;
+}
+
+fn errand_from(client: &Value, number: &Value, cell: &Value) -> Option<Errand>
+    ensures { result ≡ errand_from (view client.now ∷ view number.now ∷ view cell.now ∷ []) }
+{
+    let client = count_of(client)?;
+    let number = number.as_u64()?;
+    let cell = count_of(cell)?;
     Some(Errand {
         client,
         number,
@@ -165,12 +180,17 @@ impl ReadValue for Errand {
 pub(crate) fn law_of(value: &Value) -> Option<StampLaw>
     ensures { result ≡ law_in (view value.now) }
 {
-    let values = values_of(value)?;
-    if values.len() != 2 {
-        return None;
+    match values_of(value) {
+        Some([low, high]) => law_from(low, high),
+        _ => None,
     }
-    let low = count_of(&values[0])?;
-    let high = count_of(&values[1])?;
+}
+
+fn law_from(low: &Value, high: &Value) -> Option<StampLaw>
+    ensures { result ≡ law_from (view low.now ∷ view high.now ∷ []) }
+{
+    let low = count_of(low)?;
+    let high = count_of(high)?;
     Some(StampLaw { low, high })
 }
 
@@ -188,14 +208,19 @@ pub(crate) fn wait_of(value: &Value) -> Option<Option<u64>>
 fn arrival_of(value: &Value) -> Option<Arrival>
     ensures { result ≡ arrival_in (view value.now) }
 {
-    let values = values_of(value)?;
-    if values.len() != 4 {
-        return None;
+    match values_of(value) {
+        Some([robot, client, number, stamp]) => arrival_from(robot, client, number, stamp),
+        _ => None,
     }
-    let robot = count_of(&values[0])?;
-    let client = count_of(&values[1])?;
-    let number = values[2].as_u64()?;
-    let stamp = count_of(&values[3])?;
+}
+
+fn arrival_from(robot: &Value, client: &Value, number: &Value, stamp: &Value) -> Option<Arrival>
+    ensures { result ≡ arrival_from (view robot.now ∷ view client.now ∷ view number.now ∷ view stamp.now ∷ []) }
+{
+    let robot = count_of(robot)?;
+    let client = count_of(client)?;
+    let number = number.as_u64()?;
+    let stamp = count_of(stamp)?;
     Some(Arrival {
         robot,
         client,
@@ -215,12 +240,17 @@ impl ReadValue for Arrival {
 fn bye_of(value: &Value) -> Option<Bye>
     ensures { result ≡ bye_in (view value.now) }
 {
-    let values = values_of(value)?;
-    if values.len() != 2 {
-        return None;
+    match values_of(value) {
+        Some([robot, stamp]) => bye_from(robot, stamp),
+        _ => None,
     }
-    let robot = count_of(&values[0])?;
-    let stamp = count_of(&values[1])?;
+}
+
+fn bye_from(robot: &Value, stamp: &Value) -> Option<Bye>
+    ensures { result ≡ bye_from (view robot.now ∷ view stamp.now ∷ []) }
+{
+    let robot = count_of(robot)?;
+    let stamp = count_of(stamp)?;
     Some(Bye { robot, stamp })
 }
 

@@ -1,34 +1,12 @@
-use Rattle.std.proofs.Common.{rules, ◌≡◌}
-use Rattle.fleet_map.specs.Grammar.{view}
-use Rattle.fleet_history.specs.History.{history_of}
-use Rattle.fleet_core.specs.Hooks.{laws_of}
+-- The grid that is served on is the map's.
+use Rattle.std.proofs.Common.{subst}
+use Rattle.fleet_grid.specs.Floor.{Floor}
+use Rattle.std.specs.Prelude.{IfOk}
+use Rattle.fleet_report.specs.Said.{said}
 use Rattle.fleet_script.specs.Shown.{plan}
-use Rattle.fleet_answer.specs.Kit.{kit_laws, chosen_laws}
-use Rattle.fleet_answer.specs.Answer.{floor_of_map}
-use Rattle.fleet_answer.proofs.Kits.{first_laws, chosen_is}
-use Rattle.fleet_program.proofs.Services.{served_is, unserved_is}
+use Rattle.fleet_answer.specs.Kit.{kit_laws}
+use Rattle.fleet_program.specs.Outcome.{IsServed}
 use Rattle.fleet_program.proofs.service.serve_lines.Goals as goal
 
-pub returns-in-Ok : goal.returns-in-Ok
-returns-in-Ok g c =
-    let laws = laws_of c.cut-hooks.result in
-    let script = plan c.args.script.now in
-    let chosen : laws ≡ chosen_laws (kit_laws c.args.kit) script = chosen_is (kit_laws c.args.kit) script (laws_of c.choose.result) c.len-2.result _ _ _ c.choose.ensures (search rules)
-    (first_laws (λ x. x.law) c.len-2.result c.choose.result.ties.items c.cut-hooks.result.ties.items c.cut-hooks.ensures.ties)
-    (first_laws (λ x. x.law) c.len-2.result c.choose.result.arrivals.items c.cut-hooks.result.arrivals.items c.cut-hooks.ensures.arrivals)
-    (first_laws (λ x. x.law) c.len-2.result c.choose.result.farewells.items c.cut-hooks.result.farewells.items c.cut-hooks.ensures.farewells) in
-    let last = c.in-Ok.served.last in
-    served_is (kit_laws c.args.kit) laws (floor_of_map (view c.args.map)) c.in_ok-grid.grid script c.in_ok-grid.ensures.served chosen c.served_text.result c.in-Ok.served c.in_ok-grid.judged
-    last.chapter.number c.in-Ok.served.lane_full (history_of last.chapter) c.in_ok-grid.ensures.judged c.in-Ok.ensures.first c.in-Ok.ensures.opens
-    c.in-Ok.ensures.posted c.in-Ok.ensures.all c.served_text.ensures.legal c.served_text.ensures.said
-
 pub returns : goal.returns
-returns g c =
-    let laws = laws_of c.cut-hooks.result in
-    let script = plan c.args.script.now in
-    let chosen : laws ≡ chosen_laws (kit_laws c.args.kit) script = chosen_is (kit_laws c.args.kit) script (laws_of c.choose.result) c.len-2.result _ _ _ c.choose.ensures (search rules)
-    (first_laws (λ x. x.law) c.len-2.result c.choose.result.ties.items c.cut-hooks.result.ties.items c.cut-hooks.ensures.ties)
-    (first_laws (λ x. x.law) c.len-2.result c.choose.result.arrivals.items c.cut-hooks.result.arrivals.items c.cut-hooks.ensures.arrivals)
-    (first_laws (λ x. x.law) c.len-2.result c.choose.result.farewells.items c.cut-hooks.result.farewells.items c.cut-hooks.ensures.farewells) in
-    unserved_is (kit_laws c.args.kit) laws (floor_of_map (view c.args.map)) c.in_ok-grid.grid script c.in_ok-grid.ensures.served chosen c.unserved_text.result c.in-Err.fault c.in-Err.ensures.refused
-    c.in-Err.ensures.opens c.unserved_text.ensures
+returns g c = subst (λ (m : Floor). IfOk c.serve_on.result (λ s. IsServed (kit_laws c.args.kit) m (plan c.args.script.now) (said s))) c.in_ok-grid.ensures.served c.serve_on.ensures

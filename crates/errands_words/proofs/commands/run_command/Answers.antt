@@ -3,7 +3,7 @@ use Rattle.std.proofs.Common.{◌∙◌, ap, ap₂, codes, ◌||◌}
 use Rattle.std.proofs.lemmas.Result.{IfOk-weaker}
 use Rattle.clap.specs.Words.{App, with_rule}
 use Rattle.errands_words.specs.Command.{file_rule}
-use Rattle.errands_words.proofs.words.run_command.Goals as goal
+use Rattle.errands_words.proofs.commands.run_command.Goals as goal
 
 pub returns-clause-app : goal.returns-clause-app
 returns-clause-app c =

@@ -1,7 +1,7 @@
 -- A subcommand.
 use Rattle.std.proofs.Common.{◌∙◌, ap}
 use Rattle.clap.specs.Simple.{app_of_fields}
-use Rattle.errands_words.proofs.words.subcommand.Goals as goal
+use Rattle.errands_words.proofs.commands.subcommand.Goals as goal
 
 pub returns-clause-app : goal.returns-clause-app
 returns-clause-app c =

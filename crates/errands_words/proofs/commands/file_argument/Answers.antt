@@ -2,7 +2,7 @@
 use Rattle.std.proofs.Common.{◌∙◌, ap, true}
 use Rattle.clap.specs.Words.{Rule, rule_of}
 use Rattle.clap.specs.declared.builder.arg.Arg.{Arg}
-use Rattle.errands_words.proofs.words.file_argument.Goals as goal
+use Rattle.errands_words.proofs.commands.file_argument.Goals as goal
 
 pub new-requires : goal.new-requires
 new-requires c = tt

@@ -3,7 +3,7 @@ use Rattle.std.proofs.Common.{◌≡◌, ◌∙◌, ap, Bool, true, false, ◌||
 use Rattle.std.proofs.lemmas.Result.{IfOk-weaker}
 use Rattle.clap.specs.Words.{Rule, app_of, with_rule}
 use Rattle.clap.specs.declared.builder.command.Command.TheViews.{out-Command as fields_of}
-use Rattle.errands_words.proofs.words.with_file.Goals as goal
+use Rattle.errands_words.proofs.commands.with_file.Goals as goal
 
 or-false : (b : Bool) → (b || false) ≡ b
 or-false true = refl

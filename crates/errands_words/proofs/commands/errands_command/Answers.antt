@@ -6,7 +6,7 @@ use Rattle.clap.specs.declared.builder.command.Command.{Command}
 use Rattle.clap.specs.Simple.{app_of_fields}
 use Rattle.clap.specs.Words.{App, app_of, new_app, with_subcommand}
 use Rattle.errands_words.specs.Command.{with_version, map_app, run_app, judge_app, serve_app}
-use Rattle.errands_words.proofs.words.errands_command.Goals as goal
+use Rattle.errands_words.proofs.commands.errands_command.Goals as goal
 
 added : {E : Type 0} (r : Result Command E) (new old : App) (a : App) → IsOkAnd r (λ s. new ≡ with_subcommand old (app_of s).top)
     → IfOk r (λ s. app_of s ≡ a) → new ≡ with_subcommand old a.top
