@@ -82,11 +82,10 @@ impl Robot {
 
 /// The robots at an opening.
 fn robots_of(alloc: Global, states: &[RobotState]) -> Result<Vec<Robot>, AllocError> {
-    let mut robots = Vec::new(alloc);
-    for state in states {
-        robots.push(Robot::of(alloc, state)?)?;
-    }
-    Ok(robots)
+    states
+        .iter()
+        .map(|state| Robot::of(alloc, state))
+        .try_collect(alloc)
 }
 
 impl Fleet {

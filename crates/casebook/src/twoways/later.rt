@@ -18,11 +18,10 @@ fn state_of(alloc: Global, robot: &Robot) -> Result<RobotState, AllocError> {
 }
 
 fn states_of(alloc: Global, robots: &[Robot]) -> Result<Vec<RobotState>, AllocError> {
-    let mut states = Vec::new(alloc);
-    for robot in robots {
-        states.push(state_of(alloc, robot)?)?;
-    }
-    Ok(states)
+    robots
+        .iter()
+        .map(|robot| state_of(alloc, robot))
+        .try_collect(alloc)
 }
 
 /// The opening of a fleet under way.

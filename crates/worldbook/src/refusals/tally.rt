@@ -46,13 +46,9 @@ pub(crate) struct Sheet {
 impl Sheet {
     /// A sheet of so many calls.
     pub(crate) fn new(alloc: Global, calls: usize) -> Result<Sheet, AllocError> {
-        let mut blank = Vec::new(alloc);
-        for _call in 0..calls {
-            blank.push(Tally::NONE)?;
-        }
         Ok(Sheet {
             stages: [0; 5],
-            calls: blank,
+            calls: vec![in alloc; Tally::NONE; calls]?,
         })
     }
 

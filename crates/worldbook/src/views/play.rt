@@ -54,13 +54,11 @@ fn stamps_of(alloc: Global, entries: &[Entry]) -> Result<Vec<u32>, AllocError> {
 
 /// The stamps that the row's closures are to answer.
 fn row_stamps(alloc: Global, row: &Row) -> Result<Vec<u32>, AllocError> {
-    let mut stamps = Vec::new(alloc);
-    for shown in row.shown {
-        if !matches!(shown, Shown::Tie(..)) {
-            stamps.push(shown.stamp())?;
-        }
-    }
-    Ok(stamps)
+    row.shown
+        .iter()
+        .filter(|shown| !matches!(shown, Shown::Tie(..)))
+        .map(|shown| shown.stamp())
+        .collect(alloc)
 }
 
 /// Compares the entries of a run, its robots' cells at the end, and what its closures noted, with the row.
