@@ -1,5 +1,5 @@
 -- Answers that may be refused.
-use Rattle.std.proofs.Common.{◌≡◌, ◌∙◌, ℕ, List, ◌↔◌, IsTrue, Bool, ap, sym, subst}
+use Rattle.std.proofs.Common.{◌≡◌, ◌∙◌, ℕ, ◌<◌, ◌≤◌, List, ◌↔◌, IsTrue, Bool, ap, sym, subst, arith}
 use Rattle.std.specs.Prelude.{Result, Ok, Err, IfOk, OnOk, OnErr}
 use Rattle.fleet_field.specs.Store.{Keeps}
 use Rattle.fleet_goals.specs.Aims.{goals_of, AreOn}
@@ -53,3 +53,10 @@ kept-refused {m = m} k q aims on size bridge keeps = record {
   tied = k.tied;
   bounded = k.bounded;
 }
+
+-- no two numbers stand both ways
+pub not_both : {a b : ℕ} → a < b → b ≤ a → ⊥
+not_both less most = omega (arith, less, most)
+
+pub not_same : {a b : ℕ} → a < b → a ≡ b → ⊥
+not_same less same = omega (arith, less, same)

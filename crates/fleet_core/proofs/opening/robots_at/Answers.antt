@@ -1,5 +1,6 @@
 use Rattle.std.proofs.Common.{◌≡◌, ◌∙◌, ◌+◌, ℕ, length, map, ap, arith}
 use Rattle.std.specs.List.{range_with_len}
+use Rattle.std.proofs.lemmas.Result.{IfOk-from_err}
 use Rattle.fleet_core.specs.Core.{robot_at}
 use Rattle.fleet_core.proofs.Opens.{robots_more}
 use Rattle.fleet_core.proofs.opening.robots_at.Goals as goal
@@ -15,6 +16,9 @@ bounds-farewells-r g c = omega (arith, c.requires.farewells, c.loop-r-test.true)
 
 pub push_reserved-requires : goal.push_reserved-requires
 push_reserved-requires g c = omega (arith, c.loop-r.invariant.len, c.loop-r.invariant.room, c.loop-r-test.true)
+
+pub returns-in_err-robots : goal.returns-in_err-robots
+returns-in_err-robots g c = IfOk-from_err c.from_residual.result _ c.from_residual.ensures.0
 
 pub loop-r-init : goal.loop-r-init
 loop-r-init g c = record { robots = c.in_ok-robots.ensures.items; len = c.in_ok-robots.ensures.len; room = c.in_ok-robots.ensures.capacity }

@@ -14,6 +14,7 @@ use Rattle.fleet_core.specs.Hooks.{AreFarewells, spare_laws}
 use Rattle.fleet_core.proofs.Goaled.{aimed-shut}
 use Rattle.fleet_core.proofs.Hooked.{farewell-there, farewell-is, farewells-idle}
 use Rattle.fleet_core.proofs.Kept.{boxes-shut, delivered-shut, room-kept, within-shut}
+use Rattle.fleet_core.proofs.Refused.{not_both, not_same}
 use Rattle.fleet_core.proofs.kernel.Core.shut.Goals as goal
 use Rattle.fleet_core.proofs.kernel.Core.shut.Goals.{After-last_word_if-farewell}
 
@@ -117,8 +118,8 @@ returns-then-robot-robots g c =
     let many = subst (λ w. robots w.history ≤ c.args.robot) c.self.view_is past in
     record {
       no_robot = (λ e. many, λ l. refl);
-      already = (λ e. cc, λ p. absurd (omega (arith, p.0, many)));
-      chapter_full = (λ e. cc, λ p. absurd (omega (arith, p.0, many)));
+      already = (λ e. cc, λ p. absurd (not_both p.0 many));
+      chapter_full = (λ e. cc, λ p. absurd (not_both p.0 many));
       entries = tt;
       ok = tt;
       err = refl;
@@ -133,7 +134,7 @@ returns-then-is_shut g c =
     let known = subst (λ w. c.args.robot < robots w.history) c.self.view_is inside in
     let shut = ap (λ w. is_shut w.history c.args.robot) (sym c.self.view_is) ∙ sym (c.is_shut.ensures c.self.inside.grid h k.is) ∙ c.if-is_shut.true in
     record {
-      no_robot = (λ e. cc, λ l. absurd (omega (arith, l, known)));
+      no_robot = (λ e. cc, λ l. absurd (not_both known l));
       already = (λ e. (known, shut), λ p. refl);
       chapter_full = (λ e. cc, λ p. let bad : true ≡ false = sym shut ∙ p.1 in cc);
       entries = tt;
@@ -151,7 +152,7 @@ returns-then-is_full g c =
     let opened = ap (λ w. is_shut w.history c.args.robot) (sym c.self.view_is) ∙ sym (c.is_shut.ensures c.self.inside.grid h k.is) ∙ c.if-is_shut.false in
     let full = c.if-is_full.ensures.full refl in
     record {
-      no_robot = (λ e. cc, λ l. absurd (omega (arith, l, known)));
+      no_robot = (λ e. cc, λ l. absurd (not_both known l));
       already = (λ e. cc, λ p. let bad : true ≡ false = sym p.1 ∙ opened in cc);
       chapter_full = (λ e. (known, opened, full), λ p. refl);
       entries = tt;
@@ -174,9 +175,9 @@ returns-in_err-reserve g c =
     let room = c.if-is_full.ensures.room refl in
     rw (p.1, p.2)
     record {
-      no_robot = (λ e. cc, λ l. absurd (omega (arith, l, known)));
+      no_robot = (λ e. cc, λ l. absurd (not_both known l));
       already = (λ e. cc, λ q. let bad : true ≡ false = sym q.1 ∙ opened in cc);
-      chapter_full = (λ e. cc, λ q. absurd (omega (arith, q.2, room)));
+      chapter_full = (λ e. cc, λ q. absurd (not_same room q.2));
       entries = tt;
       ok = tt;
       err = rw c.reserve.ensures.items c.self.view_is;
@@ -192,7 +193,7 @@ returns-clause-no_robot g c =
     let h = history_of c.self.inside.chapter in
     let inside : c.args.robot < robots h = omega (arith, c.if-robot-robots.false, c.robots.ensures.of c.self.inside.grid h k.is) in
     let known = subst (λ w. c.args.robot < robots w.history) c.self.view_is inside in
-    (λ e. cc, λ l. absurd (omega (arith, l, known)))
+    (λ e. cc, λ l. absurd (not_both known l))
 
 pub returns-clause-already : goal.returns-clause-already
 returns-clause-already g c =
@@ -207,4 +208,4 @@ pub returns-clause-err : goal.returns-clause-err
 returns-clause-err g c = tt
 
 pub returns-clause-chapter_full : goal.returns-clause-chapter_full
-returns-clause-chapter_full g c = let room = c.if-is_full.ensures.room refl in (λ e. cc, λ p. absurd (omega (arith, p.2, room)))
+returns-clause-chapter_full g c = let room = c.if-is_full.ensures.room refl in (λ e. cc, λ p. absurd (not_same room p.2))

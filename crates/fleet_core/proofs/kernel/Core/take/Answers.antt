@@ -12,7 +12,7 @@ use Rattle.fleet_core.specs.Hooks.{AreFarewells}
 use Rattle.fleet_core.proofs.Goaled.{aimed-take}
 use Rattle.fleet_core.proofs.Hooked.{farewells-take}
 use Rattle.fleet_core.proofs.Kept.{noticed-of, noticed-small, room-kept, boxes-take, taken-boxes, within-take}
-use Rattle.fleet_core.proofs.Refused.{kept-refused}
+use Rattle.fleet_core.proofs.Refused.{kept-refused, not_both, not_same}
 use Rattle.fleet_core.proofs.kernel.Core.take.Goals as goal
 
 pub has_room-requires : goal.has_room-requires
@@ -38,8 +38,8 @@ returns-in_err-reserve g c =
     let room = c.if-is_full.ensures.room refl in
     rw (p.1, p.2)
     record {
-      mailbox_full = (λ e. cc, λ no. absurd (omega (arith, no, yes)));
-      chapter_full = (λ e. cc, λ full. absurd (omega (arith, full.1, room)));
+      mailbox_full = (λ e. cc, λ no. absurd (not_both no yes));
+      chapter_full = (λ e. cc, λ full. absurd (not_same room full.1));
       room = tt;
       entries = tt;
       ok = tt;
@@ -60,8 +60,8 @@ returns-in_err-begin g c =
     let room = c.if-is_full.ensures.room refl in
     rw (p.1, p.2)
     record {
-      mailbox_full = (λ e. cc, λ no. absurd (omega (arith, no, yes)));
-      chapter_full = (λ e. cc, λ full. absurd (omega (arith, full.1, room)));
+      mailbox_full = (λ e. cc, λ no. absurd (not_both no yes));
+      chapter_full = (λ e. cc, λ full. absurd (not_same room full.1));
       room = tt;
       entries = tt;
       ok = tt;
@@ -185,7 +185,7 @@ returns-then-not-has_room g c =
     let no = c.if-not-has_room.ensures.no refl in
     record {
       mailbox_full = (λ e. no, λ n. refl);
-      chapter_full = (λ e. cc, λ p. absurd (omega (arith, no, p.0)));
+      chapter_full = (λ e. cc, λ p. absurd (not_both no p.0));
       room = tt;
       entries = tt;
       ok = tt;
@@ -199,7 +199,7 @@ returns-then-is_full g c =
     let yes = c.if-not-has_room.ensures.yes refl in
     let full = c.if-is_full.ensures.full refl in
     record {
-      mailbox_full = (λ e. cc, λ no. absurd (omega (arith, no, yes)));
+      mailbox_full = (λ e. cc, λ no. absurd (not_both no yes));
       chapter_full = (λ e. (yes, full), λ p. refl);
       room = tt;
       entries = tt;
@@ -219,7 +219,7 @@ pub returns-clause-err : goal.returns-clause-err
 returns-clause-err g c = tt
 
 pub returns-clause-mailbox_full : goal.returns-clause-mailbox_full
-returns-clause-mailbox_full g c = let yes = c.if-not-has_room.ensures.yes refl in (λ e. cc, λ no. absurd (omega (arith, no, yes)))
+returns-clause-mailbox_full g c = let yes = c.if-not-has_room.ensures.yes refl in (λ e. cc, λ no. absurd (not_both no yes))
 
 pub returns-clause-chapter_full : goal.returns-clause-chapter_full
-returns-clause-chapter_full g c = let room = c.if-is_full.ensures.room refl in (λ e. cc, λ p. absurd (omega (arith, p.1, room)))
+returns-clause-chapter_full g c = let room = c.if-is_full.ensures.room refl in (λ e. cc, λ p. absurd (not_same room p.1))

@@ -18,7 +18,7 @@ use Rattle.fleet_core.specs.Hooks.{AreArrivals, AreFarewells, spare_laws}
 use Rattle.fleet_core.proofs.Goaled.{aimed-tick}
 use Rattle.fleet_core.proofs.Hooked.{stamps-are, last_stamps-are}
 use Rattle.fleet_core.proofs.Kept.{noticed-of, noticed-small, room-kept, boxes-tick, ticked-boxes, within-tick}
-use Rattle.fleet_core.proofs.Refused.{kept-refused}
+use Rattle.fleet_core.proofs.Refused.{kept-refused, not_same}
 use Rattle.fleet_core.proofs.Ticked.{arrived-clients, arrived-robots, arrived-few, arrived-owed, leaving-few, leaving-rise, leaving-robots, leaving-has, farewells-tick}
 use Rattle.fleet_core.proofs.kernel.Core.tick.Goals as goal
 use Rattle.fleet_core.proofs.kernel.Core.tick.Goals.{After-len-2, After-deref-4, After-add}
@@ -265,7 +265,7 @@ returns-then-is_spent g c =
     let spent = c.if-is_spent.ensures.spent refl in
     record {
       clock_spent = (λ e. spent, λ q. refl);
-      chapter_full = (λ e. cc, λ p. absurd (omega (arith, p.0, spent)));
+      chapter_full = (λ e. cc, λ p. absurd (not_same p.0 spent));
       early = tt;
       entries = tt;
       ok = tt;
@@ -278,7 +278,7 @@ returns-then-is_full g c =
     let early = c.if-is_spent.ensures.early refl in
     let full = c.if-is_full.ensures.full refl in
     record {
-      clock_spent = (λ e. cc, λ q. absurd (omega (arith, q, early)));
+      clock_spent = (λ e. cc, λ q. absurd (not_same early q));
       chapter_full = (λ e. (early, full), λ p. refl);
       early = tt;
       entries = tt;
@@ -299,8 +299,8 @@ returns-in_err-step g c =
     let room = c.if-is_full.ensures.room refl in
     rw (p.1, p.2)
     record {
-      clock_spent = (λ e. cc, λ q. absurd (omega (arith, q, early)));
-      chapter_full = (λ e. cc, λ full. absurd (omega (arith, full.1, room)));
+      clock_spent = (λ e. cc, λ q. absurd (not_same early q));
+      chapter_full = (λ e. cc, λ full. absurd (not_same room full.1));
       early = tt;
       entries = tt;
       ok = tt;
@@ -321,10 +321,10 @@ pub returns-clause-err : goal.returns-clause-err
 returns-clause-err g c = tt
 
 pub returns-clause-clock_spent : goal.returns-clause-clock_spent
-returns-clause-clock_spent g c = let early = c.if-is_spent.ensures.early refl in (λ e. cc, λ q. absurd (omega (arith, q, early)))
+returns-clause-clock_spent g c = let early = c.if-is_spent.ensures.early refl in (λ e. cc, λ q. absurd (not_same early q))
 
 pub returns-clause-chapter_full : goal.returns-clause-chapter_full
-returns-clause-chapter_full g c = let room = c.if-is_full.ensures.room refl in (λ e. cc, λ p. absurd (omega (arith, p.1, room)))
+returns-clause-chapter_full g c = let room = c.if-is_full.ensures.room refl in (λ e. cc, λ p. absurd (not_same room p.1))
 
 pub ready-requires-clause-may : goal.ready-requires-clause-may
 ready-requires-clause-may g c = record { history = history_of c.self.inside.chapter; is = c.self.invariant.is; aimed = c.self.invariant.aimed }

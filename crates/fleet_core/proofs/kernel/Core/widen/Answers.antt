@@ -1,7 +1,10 @@
-use Rattle.std.proofs.Common.{arith, ◌<◌, sym, subst}
+use Rattle.std.proofs.Common.{arith, ◌+◌, ◌^◌, ◌<◌, ◌≤◌, ap, sym, subst}
 use Rattle.fleet_history.specs.History.{history_of, clients}
+use Rattle.fleet_core.specs.Core.{pending}
 use Rattle.fleet_core.specs.Kept.{AreBoxes}
+use Rattle.fleet_core.specs.Mailboxes.{Mailboxes}
 use Rattle.fleet_core.proofs.Kept.{boxes-with, either-way}
+use Rattle.fleet_core.proofs.Refused.{on_ok_map, on_err_map}
 use Rattle.fleet_core.proofs.kernel.Core.widen.Goals as goal
 
 pub widen-requires-clause-known : goal.widen-requires-clause-known
@@ -23,3 +26,20 @@ invariant_of-self g c =
       tied = k.tied;
       bounded = k.bounded;
     }
+
+pub widen-requires-clause-small : goal.widen-requires-clause-small
+widen-requires-clause-small g c = subst (λ w. (pending w c.args.client).limit + c.args.extra ≤ 2 ^ 60) (sym c.self.view_is) c.requires.small
+
+pub returns-clause-ok : goal.returns-clause-ok
+returns-clause-ok g c =
+    rw (← c.self.view_is)
+    (on_ok_map c.widen.result
+    (λ e. ap (λ (x : Mailboxes). record { floor = c.self.inside.grid; limits = c.self.inside.limits; ties = c.self.inside.ties.items; number = c.self.inside.chapter.number; history = history_of c.self.inside.chapter; mailboxes = x.boxes }) e)
+    c.widen.ensures.ok)
+
+pub returns-clause-err : goal.returns-clause-err
+returns-clause-err g c =
+    rw (← c.self.view_is)
+    (on_err_map c.widen.result
+    (λ e. ap (λ (x : Mailboxes). record { floor = c.self.inside.grid; limits = c.self.inside.limits; ties = c.self.inside.ties.items; number = c.self.inside.chapter.number; history = history_of c.self.inside.chapter; mailboxes = x.boxes }) e)
+    c.widen.ensures.err)
