@@ -58,10 +58,14 @@ fn run_with_closures<R: Alloc<A = Global> + Threads + Sync + Wait, I: Read, W: W
         let farewell = |_view: FarewellView| -> u32
             ensures { result ≡ 0 }
         { 0 };
-        let tie = TieHook::new(ALIKE, Box::new(alloc, tie)?);
-        let arrival = ArrivalHook::new(NOUGHT, Box::new(alloc, arrival)?);
-        let farewell = Farewell::new(NOUGHT, Box::new(alloc, farewell)?);
-        plain.push(tie, arrival, farewell)?;
+        let tie = Box::new(alloc, tie)?;
+        let arrival = Box::new(alloc, arrival)?;
+        let farewell = Box::new(alloc, farewell)?;
+        plain.push(
+            TieHook::new(ALIKE, tie),
+            ArrivalHook::new(NOUGHT, arrival),
+            Farewell::new(NOUGHT, farewell),
+        )?;
     }
     let mut south = Hooks::new(alloc);
     for _ in 0..ROBOTS {
@@ -71,13 +75,14 @@ fn run_with_closures<R: Alloc<A = Global> + Threads + Sync + Wait, I: Read, W: W
         let arrival = |view: ArrivalView| -> u32
             ensures { result < 1000 }
         { (view.tick % 1000) as u32 };
-        let tie = TieHook::new(SOUTH_FIRST, Box::new(alloc, tie)?);
-        let arrival = ArrivalHook::new(BELOW_THOUSAND, Box::new(alloc, arrival)?);
-        let farewell = Farewell::new(
-            StampLaw::ANY,
-            Box::new(alloc, |view: FarewellView| view.cell)?,
-        );
-        south.push(tie, arrival, farewell)?;
+        let tie = Box::new(alloc, tie)?;
+        let arrival = Box::new(alloc, arrival)?;
+        let farewell = Box::new(alloc, |view: FarewellView| view.cell)?;
+        south.push(
+            TieHook::new(SOUTH_FIRST, tie),
+            ArrivalHook::new(BELOW_THOUSAND, arrival),
+            Farewell::new(StampLaw::ANY, farewell),
+        )?;
     }
     Ok(run_program(rt, job, map, other, output, error, HookKit { plain, south }))
 }
