@@ -52,8 +52,8 @@ fn pair_of<N: ScriptName>(
     second: Ticker<N>,
 ) -> Result<Vec<Ticker<N>>, AllocError> {
     let mut tickers = Vec::with_capacity(alloc, 2)?;
-    tickers.push(first)?;
-    tickers.push(second)?;
+    tickers.push_reserved(first);
+    tickers.push_reserved(second);
     Ok(tickers)
 }
 
