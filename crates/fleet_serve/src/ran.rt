@@ -88,7 +88,7 @@ pub(crate) fn clients_of<N: ScriptName>(
     while !ran.is_empty() {
         let one = ran.remove(0);
         lane_full = lane_full.saturating_add(one.lane_full());
-        clients.push(one.into_guest().into_client())?;
+        clients.push_reserved(one.into_guest().into_client());
     }
     Ok((clients, lane_full))
 }

@@ -52,8 +52,8 @@ fn pair_of<N: ScriptName>(
     second: Ticker<N>,
 ) -> Result<Vec<Ticker<N>>, AllocError> {
     let mut tickers = Vec::with_capacity(alloc, 2)?;
-    tickers.push(first)?;
-    tickers.push(second)?;
+    tickers.push_reserved(first);
+    tickers.push_reserved(second);
     Ok(tickers)
 }
 
@@ -129,7 +129,36 @@ fn work<N: ScriptName + Send + Sync, R: Alloc<A = Global> + Threads + Sync + Wai
     work_all(rt, office, newcomers, (first, second), script.turns, &shift)
 }
 
-/// Opens an office over the desk, lets clients and tickers work side by side, and concludes.
+/// Lets the clients and two tickers of an office that was just opened work side by side, and concludes it.
+fn serve_opened<
+    N: ScriptName + Send + Sync,
+    R: Alloc<A = Global> + Threads + Sync + Wait,
+    G: Gate + Sync,
+>(
+    rt: &R,
+    office: Office<N>,
+    clients: Vec<Client>,
+    ticker: Ticker<N>,
+    script: &Script,
+    gate: &G,
+) -> Result<Served, ServeFault>
+    requires on { AreOn N.rings (cores clients.items) }
+    requires fresh { AreNew N.orders clients.items }
+    requires events { script.now.events.items ≡ N.events }
+    ensures later { IfErr result (λ fault. IsLater fault) }
+    ensures first { IfOk result (λ s. s.last.chapter.number ≡ 0) }
+    ensures legal { IfOk result (λ s. IsLegal s.last.grid (history_of s.last.chapter)) }
+    ensures advancing { IfOk result (λ s. IsBridgeless (IsNeighbour s.last.grid) → EachTick (IsAdvancingTick s.last.grid) (history_of s.last.chapter)) }
+    ensures tick { IfOk result (λ s. s.last.tick ≡ clock (history_of s.last.chapter)) }
+    ensures posted { IfOk result (λ s. TakesPosted (history_of s.last.chapter) N.events (length N.rings)) }
+    ensures all { IfOk result (λ s. s.lane_full ≡ 0 → length N.events < N.orders → TakesAll (history_of s.last.chapter) N.events (length N.rings)) }
+    ensures rest { IfOk result (λ s. AreLastNotices (history_of s.last.chapter) s.last.rest.items (length N.rings)) }
+{
+    let home = work(rt, &office, clients, ticker, script, gate)?;
+    conclude(rt, office, home)
+}
+
+/// Opens an office over the desk, and serves the script there.
 fn serve_at<
     N: ScriptName + Send + Sync,
     R: Alloc<A = Global> + Threads + Sync + Wait,
@@ -163,12 +192,10 @@ fn serve_at<
 {
     let alloc = rt.alloc();
     let starts = Vec::from_slice(alloc, &script.starts)?;
-    let (office, clients, ticker) = match Office::<N>::open(alloc, desk, grid, starts, hooks) {
-        Ok(opened) => opened,
-        Err(fault) => return Err(opening_fault(fault)),
-    };
-    let home = work(rt, &office, clients, ticker, script, gate)?;
-    conclude(rt, office, home)
+    match Office::<N>::open(alloc, desk, grid, starts, hooks) {
+        Ok((office, clients, ticker)) => serve_opened(rt, office, clients, ticker, script, gate),
+        Err(fault) => Err(opening_fault(fault)),
+    }
 }
 
 /// Serves a script: a thread for each client runs its lines in order, and two threads with a ticker each make `turns` turns

@@ -1,4 +1,4 @@
-use Rattle.std.proofs.Common.{◌≡◌, ◌∷◌, ◌++◌, [], rules, sym, subst}
+use Rattle.std.proofs.Common.{◌≡◌, ◌∷◌, ◌++◌, [], sym, subst, arith}
 use Rattle.fleet_office.specs.Views.{AreOn, cores}
 use Rattle.fleet_office.proofs.Guests.{on_push}
 use Rattle.fleet_serve.specs.Posted.{HasRun, AllHaveRun}
@@ -12,9 +12,13 @@ loop-ran-preserved g c =
     let most = g.N.ScriptName.orders in
     let x = c.into_client.result in
     let full = c.saturating_add-lane_full in
-    let items : c.push.new.self.items ≡ c.loop-ran.clients.items ++ x ∷ [] = search rules in
+    let items : c.push_reserved.new.self.items ≡ c.loop-ran.clients.items ++ x ∷ [] = c.push_reserved.ensures.items in
     let own : HasRun events most x c.lane_full.result =
     subst (λ z. HasRun events most z c.lane_full.result) (sym c.into_client.ensures.same) (subst (λ n. HasRun events most c.into_guest.result n) (sym c.lane_full.ensures) c.into_guest.ensures.ran) in (
       subst (λ xs. AreOn rings (cores xs)) (sym items) (on_push rings c.loop-ran.clients.items x c.loop-ran.invariant.0 c.into_client.ensures.on),
       subst (λ xs. AllHaveRun events most xs full.result) (sym items) (run-push events most c.loop-ran.clients.items x c.loop-ran.lane_full c.lane_full.result full.result full.ensures c.loop-ran.invariant.1 own),
+      omega (arith, c.push_reserved.ensures.len, c.push_reserved.ensures.capacity, c.remove-one.ensures.len, c.loop-ran.invariant.2),
     )
+
+pub push_reserved-requires : goal.push_reserved-requires
+push_reserved-requires g c = omega (arith, c.remove-one.ensures.len, c.loop-ran.invariant.2)
