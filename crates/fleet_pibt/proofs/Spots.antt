@@ -1,5 +1,5 @@
 -- The cells beside a floor cell.
-use Rattle.std.proofs.Common.{◌≡◌, ℕ, ◌+◌, ◌-◌, ◌<◌, inl, inr, Option, List, length, slice_index, refl, sym, ◌∙◌, subst, arith}
+use Rattle.std.proofs.Common.{◌≡◌, ℕ, ◌+◌, ◌-◌, ◌<◌, ◌≤◌, inl, inr, Option, List, length, slice_index, refl, sym, ◌∙◌, subst, arith}
 use Rattle.std.proofs.lemmas.Bool.{cases_eq}
 use Rattle.fleet_grid.specs.Floor.{Floor, IsFloor, IsNeighbourIn}
 use Rattle.fleet_grid.specs.Ways.{IsWay, AreOpen}
@@ -29,6 +29,13 @@ spot_south m own ways cell ways_open way e = spot_open m own cell South ((ways_o
 
 pub spot_west : (m : Floor) (own ways cell : ℕ) → AreOpen m own ways → IsWay ways West → cell ≡ own - 1 → IsSpot m own West cell
 spot_west m own ways cell ways_open way e = spot_open m own cell West ((ways_open West).0 way) (λ w n. let b : w + 1 ≡ own = n.beside.0 in omega (arith, e, b))
+
+-- there is room for the step
+pub north_room : (m : Floor) (own ways : ℕ) → AreOpen m own ways → IsWay ways North → m.width ≤ own
+north_room m own ways ways_open way = let at = (ways_open North).0 way in let b : at.0 + m.width ≡ own = at.1.beside in omega (arith, b)
+
+pub west_room : (m : Floor) (own ways : ℕ) → AreOpen m own ways → IsWay ways West → 1 ≤ own
+west_room m own ways ways_open way = let at = (ways_open West).0 way in let b : at.0 + 1 ≡ own = at.1.beside.0 in omega (arith, b)
 
 spot-inside : (m : Floor) (own cell : ℕ) (dir : Dir) → IsFloor m own → IsSpot m own dir cell → cell < length m.letters
 spot-inside m own cell dir floor spot = floor_inside m cell

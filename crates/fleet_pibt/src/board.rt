@@ -1,11 +1,11 @@
 //! The plan of one step so far.
 
-ghost use Rattle.std.specs.Prelude.{◌≡◌, ◌≢◌, ℕ, ◌+◌, ◌<◌, ◌≤◌, length, slice_set, Option, Some, None};
-ghost use Rattle.fleet_pibt.specs.inside.Entry.{table};
+ghost use Rattle.std.specs.Prelude.{◌≡◌, ◌≢◌, ℕ, ◌+◌, ◌<◌, ◌≤◌, length, slice_set, Option, Some, None, IfOk};
+ghost use Rattle.fleet_pibt.specs.inside.Entry.{table, IsEmpty};
 
 use crate::seats::Seats;
 use crate::table::Table;
-use std::alloc::{Allocator, Global};
+use std::alloc::{AllocError, Allocator, Global};
 
 /// The cell that each robot has decided on, and who stands on each cell and has reserved it.
 #[derive(Drop)]
@@ -15,6 +15,17 @@ pub(crate) struct Board<A: Allocator + Copy = Global> {
 }
 
 impl<A: Allocator + Copy> Board<A> {
+    /// A board for so many cells and robots, on which nobody stands and no robot has decided.
+    pub(crate) fn new(alloc: A, cells: u32, robots: u32) -> Result<Board<A>, AllocError>
+        ensures target { IfOk result (λ b. (length b.target ≡ robots) × IsEmpty b.target) }
+        ensures standing { IfOk result (λ b. (length b.seats.standing ≡ cells) × IsEmpty b.seats.standing) }
+        ensures holder { IfOk result (λ b. (length b.seats.holder ≡ cells) × IsEmpty b.seats.holder) }
+    {
+        let target = Table::new(alloc, robots)?;
+        let seats = Seats::new(alloc, cells)?;
+        Ok(Board { target, seats })
+    }
+
     /// The robot decides on the cell, which nobody has reserved.
     pub(crate) fn reserve(&mut self, robot: u32, cell: u32)
         requires known { robot < length self.old.target }

@@ -14,10 +14,8 @@ use crate::around::{Around, gather};
 use crate::board::Board;
 use crate::goals::Goals;
 use crate::plan::plan_all;
-use crate::priority::{number, put_in_order};
+use crate::priority::{numbered, put_in_order};
 use crate::scene::Scene;
-use crate::seats::Seats;
-use crate::table::Table;
 use crate::tables::{fetch, lift, place, settle};
 use fleet_grid::Grid;
 use fleet_hooks::TieHook;
@@ -59,15 +57,13 @@ impl<A: Allocator + Copy> Stepper<A> {
     pub fn new(alloc: A, cells: u32, robots: u32) -> Result<Stepper<A>, AllocError>
         ensures { IfOk result (λ stepper. stepper ≡ record { cells = cells; robots = robots }) }
     {
-        let mut queue = vec![in alloc; 0; robots as usize]?;
-        number(&mut queue);
+        let queue = numbered(alloc, robots)?;
+        let board = Board::new(alloc, cells, robots)?;
+        let arounds = vec![in alloc; Around::NOWHERE; robots as usize]?;
         Ok(Stepper {
-            board: Board {
-                target: Table::new(alloc, robots)?,
-                seats: Seats::new(alloc, cells)?,
-            },
+            board,
             queue,
-            arounds: vec![in alloc; Around::NOWHERE; robots as usize]?,
+            arounds,
         })
     }
 

@@ -48,3 +48,16 @@ returns-in_default-clause-same g c = λ b n.
     let q = c.args.queue.now.items in
     let at : slice_index q c.args.head ≡ c.index.result.now = sym (get_or_default_zero q c.args.head c.index.result.now c.requires.head) ∙ sym c.index.ensures in
     absurd (c.in_default.ensures b (subst (λ (x : ℕ). IsNeighbourIn c.args.cells.now c.args.dir x b) at n))
+
+pub index-requires : goal.index-requires
+index-requires g c = omega (arith, c.requires.head, c.args.queue.now.ok.0)
+
+pub bounds-labels-at : goal.bounds-labels-at
+bounds-labels-at g c =
+    let inside = floor_inside c.args.cells.now c.in-Some.next c.in-Some.ensures.to in
+    omega (arith, inside, c.requires.spread.len)
+
+pub bounds-labels-at-then-labels-at : goal.bounds-labels-at-then-labels-at
+bounds-labels-at-then-labels-at g c =
+    let inside = floor_inside c.args.cells.now c.in-Some.next c.in-Some.ensures.to in
+    omega (arith, inside, c.requires.spread.len)

@@ -29,3 +29,18 @@ returns g c = record {
   each = λ r around e. c.loop-robot.invariant.1 r around (let l = seen-below c.loop-robot.arounds r around e in omega (arith, l, c.loop-robot.auto.arounds, c.loop-robot-test.false)) e;
   asked = c.loop-robot.invariant.0;
 }
+
+pub loop-robot-init : goal.loop-robot-init
+loop-robot-init g c = (c.ask.ensures, λ r around less. absurd (omega (arith, less)))
+
+pub bounds-from-robot : goal.bounds-from-robot
+bounds-from-robot g c = omega (arith, c.loop-robot-test.true, c.ask.auto.arounds, c.requires.same_length)
+
+pub bounds-ways-own : goal.bounds-ways-own
+bounds-ways-own g c =
+    let floor = c.requires.floor c.loop-robot.robot (omega (arith, c.loop-robot-test.true, c.ask.auto.arounds, c.requires.same_length)) in
+    let inside = floor_inside c.args.grid.now (slice_index c.args.from.now c.loop-robot.robot) floor in
+    omega (arith, inside, c.ways-ways.ensures.ways.size)
+
+pub look-requires-clause-floor : goal.look-requires-clause-floor
+look-requires-clause-floor g c = c.requires.floor c.loop-robot.robot (omega (arith, c.loop-robot-test.true, c.ask.auto.arounds, c.requires.same_length))

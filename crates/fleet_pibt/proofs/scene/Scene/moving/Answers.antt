@@ -23,3 +23,15 @@ pub returns-clause-covers : goal.returns-clause-covers
 returns-clause-covers g c =
     let seen = c.requires.whole.gathered.each c.args.robot c.args.around c.requires.seen in
     spot-covers _ _ c.args.dir _ c.beside-cell.result seen c.beside-cell.ensures
+
+pub staying-requires-clause-whole : goal.staying-requires-clause-whole
+staying-requires-clause-whole g c = c.requires.whole
+
+pub staying-requires-clause-known : goal.staying-requires-clause-known
+staying-requires-clause-known g c = c.requires.known
+
+pub staying-requires-clause-seen : goal.staying-requires-clause-seen
+staying-requires-clause-seen g c = c.requires.seen
+
+pub returns-then-cell-around-clause-candidate : goal.returns-then-cell-around-clause-candidate
+returns-then-cell-around-clause-candidate g c = c.staying.ensures.candidate
