@@ -41,7 +41,8 @@ fn holds_the_same(
 }
 
 /// Refuses each growth in turn. The result is whether it ended behind the last growth, with none lost on the way: a growth
-/// that no call answers for was made up for by fields that were kept, and all came to the same.
+/// that no call answers for was made up for, by fields that were kept or a list that asked for less, and all came to the
+/// same.
 fn refuse_each(
     alloc: Global,
     row: Row<'_, Call>,
