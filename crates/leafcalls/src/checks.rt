@@ -3,8 +3,8 @@
 ghost use Rattle.fleet_grid.specs.Step.{IsPlacement};
 
 use crate::floor::grid_of;
-use crate::placement::is_placement;
 use crate::squares::{Shape, letters};
+use findings::is_placement;
 use fleet_check::{StepFault, check_step};
 use fleet_grid::Grid;
 use refusing::Refusing;
