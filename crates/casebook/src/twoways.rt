@@ -1,4 +1,5 @@
-//! Traces judged in two ways: by the judge of fleet_trace, and by a reading of the rules of its own, which shares no code with it.
+//! Traces judged in two ways: by the judge of fleet_trace, and by a reading of the rules that shares no code
+//! with it, otherjudge's.
 //!
 //! The traces are those of seeded worlds, as the program `errands` writes them, and of their later chapters, whose openings
 //! its own reading reckons; each of them with one number damaged at a time, and with damaged bytes. The counts are noted.
@@ -7,13 +8,7 @@ mod compare;
 mod count;
 mod damage;
 mod dice;
-mod fleet;
-mod later;
-mod opening;
-mod rules;
 mod script;
-mod site;
-mod take;
 mod trial;
 
 use count::Count;

@@ -3,12 +3,11 @@
 ghost use Rattle.std.specs.Prelude.{◌≡◌, ℕ, None, Some, Ok, Err};
 ghost use Rattle.fleet_trace.specs.declared.fault.JudgeFault.TheVariants.{Illegal};
 
-use super::rules::first_fault;
-use super::site::Site;
 use findings::Answer;
 use fleet_grid::Grid;
 use fleet_history::Chapter;
 use fleet_trace::{JudgeFault, TraceFault, judge, read_trace};
+use otherjudge::{Site, first_fault};
 use std::alloc::{AllocError, Global};
 
 /// The entry that the judge names first, and the rule that it breaks; none where all is legal.

@@ -5,7 +5,7 @@ use std::alloc::{AllocError, Global};
 
 /// A map's letters, and for each cell the least cell that walks from it lead to.
 #[derive(Drop)]
-pub(crate) struct Site {
+pub struct Site {
     width: u32,
     letters: Vec<u8>,
     least: Vec<u32>,
@@ -13,7 +13,7 @@ pub(crate) struct Site {
 
 impl Site {
     /// The site of a map.
-    pub(crate) fn new(alloc: Global, map: &MapText) -> Result<Site, AllocError> {
+    pub fn new(alloc: Global, map: &MapText) -> Result<Site, AllocError> {
         let mut least = Vec::new(alloc);
         let mut cell = 0u32;
         for _letter in &map.cells {

@@ -1,9 +1,9 @@
 //! The rules of entries, each as it is told.
 
-use super::fleet::{Fleet, Robot};
-use super::opening::is_in_order;
-use super::site::Site;
-use super::take::verdict_on;
+use crate::fleet::{Fleet, Robot};
+use crate::opening::is_in_order;
+use crate::site::Site;
+use crate::take::verdict_on;
 use fleet_history::{Arrival, Bye, Chapter, Entry};
 use fleet_hooks::StampLaw;
 use std::alloc::{AllocError, Global};
@@ -177,7 +177,7 @@ fn first_broken(
 }
 
 /// The entry, from 1, and the rule that a chapter breaks first; 0 and 1 where it is its opening.
-pub(crate) fn first_fault(
+pub fn first_fault(
     alloc: Global,
     site: &Site,
     chapter: &Chapter,

@@ -1,7 +1,7 @@
 //! The rule of verdicts.
 
-use super::fleet::{Fleet, Robot};
-use super::site::Site;
+use crate::fleet::{Fleet, Robot};
+use crate::site::Site;
 use fleet_book::{Order, Verdict};
 use fleet_history::ClientState;
 

@@ -1,6 +1,6 @@
 //! The rules of an opening.
 
-use super::site::Site;
+use crate::site::Site;
 use fleet_history::{ClientState, Opening, RobotState};
 use fleet_hooks::StampLaw;
 use fleet_queue::Errand;

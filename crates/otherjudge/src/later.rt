@@ -1,6 +1,6 @@
 //! A later chapter of a world, as the rules reckon its opening.
 
-use super::fleet::{Fleet, Robot};
+use crate::fleet::{Fleet, Robot};
 use fleet_history::{Chapter, Entry, Opening, RobotState, Row};
 use std::alloc::{AllocError, Global};
 
@@ -56,7 +56,7 @@ fn opening_behind(
 }
 
 /// The chapter that begins behind so many entries of a legal one.
-pub(crate) fn later_chapter(
+pub fn later_chapter(
     alloc: Global,
     mut chapter: Chapter,
     behind: usize,
