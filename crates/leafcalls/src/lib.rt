@@ -1,5 +1,5 @@
 //! Calls on the crates that know cells and lie below a world, each on its own: tests alone. Grids, fields, bridges, the check of a step,
-//! goals, the step, what a fleet goes by, the bound on waits, and traces.
+//! goals, the step, what a fleet goes by, and the bound on waits.
 #![tactic(auto)]
 
 #[cfg(test)]
@@ -20,7 +20,5 @@ mod plans;
 mod squares;
 #[cfg(test)]
 mod steps;
-#[cfg(test)]
-mod traces;
 #[cfg(test)]
 mod waits;

@@ -1,7 +1,7 @@
 //! Traces judged on small maps.
 
-use crate::floor::grid_of;
 use fleet_grid::Grid;
+use fleet_map::read_map;
 use fleet_trace::{JudgeFault, judge, read_trace};
 use std::alloc::{AllocError, Global};
 use std::fmt::Write;
@@ -31,6 +31,25 @@ const SHUT: &str =
 const LATE: &str =
     "{\"chapter\":4294967295,\"entries\":[[\"tick\",[1],[[0,0,1,0]],[]],[\"tick\",[1],[],[]]],\"opening\":{\"clients\":[[1,1,1,false]],\"life\":1,\"queue\":65536,\"robots\":[[0,false,18446744073709551615,[[0,1,1]],[0,0],[0,0]]],\"tick\":18446744073709551615},\"version\":2}";
 
+/// The text of a map whose cells are all floor.
+fn open_map(alloc: Global, height: u32, width: u32) -> Result<String, AllocError> {
+    let mut text = format!(in alloc; "type octile\nheight {height}\nwidth {width}\nmap\n")?;
+    for _row in 0..height {
+        for _cell in 0..width {
+            text.push('.')?;
+        }
+        text.push('\n')?;
+    }
+    Ok(text)
+}
+
+/// A map whose cells are all floor.
+fn open_floor(rt: &impl Abort, alloc: Global, height: u32, width: u32) -> Grid {
+    let text = open_map(alloc, height, width).expect(rt, "memory for a map");
+    let map = read_map(alloc, text.as_bytes()).expect(rt, "a map");
+    Grid::new(map).expect(rt, "memory for a grid")
+}
+
 /// What is judged of the trace on a map.
 fn judged(rt: &impl Abort, alloc: Global, grid: &Grid, text: &str) -> Result<(), JudgeFault> {
     let chapter = read_trace(alloc, text.as_bytes()).expect(rt, "a trace");
@@ -40,8 +59,8 @@ fn judged(rt: &impl Abort, alloc: Global, grid: &Grid, text: &str) -> Result<(),
 /// Legal traces on a row of three cells.
 const LEGAL: [&str; 4] = [SECOND_CHAPTER, WITHDRAWALS, SHUT, LATE];
 
-fn check_legal(rt: &impl Abort, alloc: Global, width: u32, cells: &[u8], texts: &[&str]) {
-    let row = grid_of(rt, alloc, 1, width, cells);
+fn check_legal(rt: &impl Abort, alloc: Global, width: u32, texts: &[&str]) {
+    let row = open_floor(rt, alloc, 1, width);
     for at in 0..texts.len() {
         assert!(rt; judged(rt, alloc, &row, texts[at]) == Ok(()));
     }
@@ -49,13 +68,13 @@ fn check_legal(rt: &impl Abort, alloc: Global, width: u32, cells: &[u8], texts: 
 
 #[test]
 fn legal_traces(rt: HostRuntime) {
-    check_legal(&rt, rt.alloc(), 1, b".", &[ONE_CELL]);
-    check_legal(&rt, rt.alloc(), 3, b"...", &LEGAL);
+    check_legal(&rt, rt.alloc(), 1, &[ONE_CELL]);
+    check_legal(&rt, rt.alloc(), 3, &LEGAL);
 }
 
 #[test]
 fn judged_swap(rt: HostRuntime) {
-    let square = grid_of(&rt, rt.alloc(), 2, 2, b"....");
+    let square = open_floor(&rt, rt.alloc(), 2, 2);
     let fault = Err(JudgeFault::Illegal { at: 1, rule: 4 });
     assert!(rt; judged(&rt, rt.alloc(), &square, SWAP) == fault);
 }
@@ -95,7 +114,7 @@ const CROWDS: [(&str, Result<(), JudgeFault>); 2] = [
 
 #[test]
 fn hostile_openings(rt: HostRuntime) {
-    let long = grid_of(&rt, rt.alloc(), 1, 512, &[b'.'; 512]);
+    let long = open_floor(&rt, rt.alloc(), 1, 512);
     for (clients, said) in CROWDS {
         assert!(rt; judged_crowd(&rt, rt.alloc(), &long, clients) == said);
     }
@@ -111,7 +130,7 @@ fn check_broken(rt: &impl Abort, alloc: Global, row: &Grid, traces: &[(&str, u64
 
 #[test]
 fn each_rule(rt: HostRuntime) {
-    let row = grid_of(&rt, rt.alloc(), 1, 3, b"...");
+    let row = open_floor(&rt, rt.alloc(), 1, 3);
     check_broken(&rt, rt.alloc(), &row, &BROKEN);
 }
 

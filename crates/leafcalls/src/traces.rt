@@ -1,4 +1,0 @@
-//! Traces as texts, and judged.
-
-mod judged;
-mod texts;

@@ -1,0 +1,7 @@
+//! Calls on traces: tests alone. They are written, read back and judged, truncated and hostile ones too.
+#![tactic(auto)]
+
+#[cfg(test)]
+mod judged;
+#[cfg(test)]
+mod texts;
