@@ -113,7 +113,7 @@ pub fn guests_of<N: OfficeName<A>, A: Allocator + Copy>(
     let mut guests = Vec::with_capacity(alloc, clients.len())?;
     while !clients.is_empty() {
         let client = clients.remove(0);
-        guests.push(Guest::new(client))?;
+        guests.push_reserved(Guest::new(client));
     }
     Ok(guests)
 }
@@ -129,7 +129,7 @@ pub fn clients_of<N: OfficeName<A>, A: Allocator + Copy>(
     let mut guests = guests;
     let mut clients = Vec::with_capacity(alloc, guests.len())?;
     while !guests.is_empty() {
-        clients.push(guests.remove(0).into_client())?;
+        clients.push_reserved(guests.remove(0).into_client());
     }
     Ok(clients)
 }

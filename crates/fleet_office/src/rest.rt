@@ -161,9 +161,7 @@ impl<N: OfficeName<A>, A: Allocator + Copy> Rest<N, A> {
             match self.take_some(client) {
                 Ok((more, full)) => {
                     taken += more;
-                    if full {
-                        held += 1;
-                    }
+                    held += u32::from(full);
                 }
                 Err((cause, more)) => return Err((cause, taken + more, held)),
             }

@@ -1,9 +1,10 @@
-use Rattle.std.proofs.Common.{◌≡◌, ap, sym, ◌∙◌, length, inl}
+use Rattle.std.proofs.Common.{◌≡◌, refl, ap, sym, ◌∙◌, subst, length, inl}
 use Rattle.std.proofs.Math.ListN.{length-set}
 use Rattle.fleet_history.specs.History.{clients}
 use Rattle.fleet_core.specs.Core.{pending, without_first}
 use Rattle.fleet_calls.proofs.Fronts.{nil_from_none}
-use Rattle.fleet_office.proofs.GiveSteps.{gives_more, popped}
+use Rattle.fleet_office.specs.Hall.{Gives}
+use Rattle.fleet_office.proofs.GiveSteps.{gives_none, gives_more, popped}
 use Rattle.fleet_office.proofs.giving.give_from.Goals as goal
 
 pub loop-notice-preserved : goal.loop-notice-preserved
@@ -19,3 +20,13 @@ loop-notice-preserved g c =
 
 pub returns-clause-until : goal.returns-clause-until
 returns-clause-until g c = inl (nil_from_none (pending c.loop-notice.core c.args.client).notices (sym c.in_default.ensures))
+
+pub loop-notice-init : goal.loop-notice-init
+loop-notice-init g c = (gives_none c.args.core.now c.args.end.now c.args.client c.requires.there, refl, refl)
+
+pub returns-in-Err-clause-gives : goal.returns-in-Err-clause-gives
+returns-in-Err-clause-gives g c =
+    subst (λ d. Gives c.args.core.now c.loop-notice.core c.args.end.now d c.args.client c.loop-notice.count) (sym c.in-Err.ensures.err.1) c.loop-notice.invariant.0
+
+pub returns-clause-gives : goal.returns-clause-gives
+returns-clause-gives g c = c.loop-notice.invariant.0

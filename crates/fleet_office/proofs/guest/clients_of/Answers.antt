@@ -1,19 +1,24 @@
-use Rattle.std.proofs.Common.{◌≡◌, ◌<◌, ◌∷◌, ◌++◌, [], length, rules, arith, subst, sym, slice_index_or}
+use Rattle.std.proofs.Common.{◌≡◌, ◌<◌, ◌∷◌, ◌++◌, [], length, arith, subst, sym}
 use Rattle.std.proofs.lemmas.Grind.{common_steps}
-use Rattle.std.specs.List.{remove}
 use Rattle.fleet_office.specs.Views.{AreOn, cores}
 use Rattle.fleet_office.proofs.Guests.{on_push, moves_on, all_moved}
 use Rattle.fleet_office.proofs.guest.clients_of.Goals as goal
 
+pub push_reserved-requires : goal.push_reserved-requires
+push_reserved-requires g c = omega (arith, c.remove.ensures.len, c.loop-clients.invariant.2)
+
 pub loop-clients-preserved : goal.loop-clients-preserved
 loop-clients-preserved g c =
-    let some : 0 < length c.loop-clients.guests.items = search rules in
-    let is : c.remove.result ≡ slice_index_or c.loop-clients.guests.items 0 c.remove.result = search rules in
-    let left : c.remove.new.self.items ≡ remove c.loop-clients.guests.items 0 = search rules in
-    let seen : c.into_client.result ≡ c.remove.result = search rules in
-    let items : c.push.new.self.items ≡ c.loop-clients.clients.items ++ c.into_client.result ∷ [] = search rules in (
-      subst (λ xs. AreOn g.N.OfficeName.rings (cores xs)) (sym items) (on_push g.N.OfficeName.rings c.loop-clients.clients.items c.into_client.result c.loop-clients.invariant.0 c.into_client.ensures.on),
-      moves_on c.loop-clients.clients.items c.loop-clients.guests.items c.args.guests.items c.push.new.self.items c.remove.new.self.items c.remove.result c.into_client.result some is seen left items c.loop-clients.invariant.1,
+    let i = c.loop-clients.invariant in
+    let left = c.loop-clients.guests in
+    let moved = c.loop-clients.clients.items in
+    let client = c.into_client.result in
+    let r = c.remove.ensures in
+    let p = c.push_reserved.ensures in
+    let some : 0 < length left.items = omega (arith, r.len, left.ok.0) in (
+      subst (λ xs. AreOn g.N.OfficeName.rings (cores xs)) (sym p.items) (on_push g.N.OfficeName.rings moved client i.0 c.into_client.ensures.on),
+      moves_on moved left.items c.args.guests.items c.push_reserved.new.self.items c.remove.new.self.items c.remove.result client some r.value c.into_client.ensures.same r.items p.items i.1,
+      omega (arith, r.len, p.len, p.capacity, i.2),
     )
 
 pub returns : goal.returns

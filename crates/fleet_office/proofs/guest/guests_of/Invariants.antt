@@ -1,9 +1,10 @@
-use Rattle.std.proofs.Common.{◌≡◌, ◌++◌, length}
+use Rattle.std.proofs.Common.{◌≡◌, ◌+◌, ◌≤◌, ◌++◌, length, vec_len}
+use Rattle.std.specs.Vec.{vec_capacity}
 use Rattle.fleet_office.specs.Views.{AreOn, cores}
 use Rattle.fleet_office.proofs.guest.guests_of.Given as goal
 
 abbrev pub invariant-loop-clients : goal.invariant-loop-clients
-invariant-loop-clients g l = AreOn g.N.OfficeName.rings (cores l.clients.items) × (l.guests.items ++ l.clients.items ≡ l.initial.clients.items)
+invariant-loop-clients g l = AreOn g.N.OfficeName.rings (cores l.clients.items) × (l.guests.items ++ l.clients.items ≡ l.initial.clients.items) × (vec_len l.guests + vec_len l.clients ≤ vec_capacity l.guests)
 
 abbrev pub decreases-loop-clients : goal.decreases-loop-clients
 decreases-loop-clients g l = length l.clients.items

@@ -1,4 +1,4 @@
-use Rattle.std.proofs.Common.{◌≡◌, ◌+◌, get_or, set, sym, ap, arith, Some, subst}
+use Rattle.std.proofs.Common.{rules, ◌≡◌, ◌+◌, get_or, set, sym, ap, arith, Some, subst}
 use Rattle.std.specs.Prelude.{slice_get}
 use Rattle.std.proofs.lemmas.Option.{slice_get-get_or}
 use Rattle.fleet_history.specs.History.{clients}
@@ -56,3 +56,6 @@ loop-k-smaller g c = omega (arith, c.loop-k-test.true)
 
 pub returns-clause-core : goal.returns-clause-core
 returns-clause-core g c = c.loop-k.invariant.kept
+
+pub offset_bounds-clients-k : goal.offset_bounds-clients-k
+offset_bounds-clients-k g c = search rules depth 3

@@ -1,5 +1,16 @@
-use Rattle.std.proofs.Common.{rules}
+-- The next order is taken, where there is room for it.
+use Rattle.std.proofs.Common.{◌<◌, ap, refl, rules, subst, sym}
+use Rattle.std.proofs.lemmas.Result.{err_from_is_err_and}
+use Rattle.fleet_history.specs.History.{clients}
 use Rattle.fleet_office.proofs.taking.take_left_from.Goals as goal
+
+pub returns-in_err-make_room : goal.returns-in_err-make_room
+returns-in_err-make_room g c =
+    let p = err_from_is_err_and c.from_residual.result c.from_residual.ensures.1 in
+    rw (p.1, p.2) record { ok = tt; full = λ e. cc; err = (c.make_room.ensures.widens, refl); room = λ e. cc }
+
+pub take-requires : goal.take-requires
+take-requires g c = subst (λ n. c.args.client < n) (sym (ap (λ w. clients w.history) c.make_room.ensures.widens.world)) c.requires.client
 
 pub returns-clause-ok : goal.returns-clause-ok
 returns-clause-ok g c = (
@@ -13,3 +24,9 @@ returns-clause-ok g c = (
   search rules,
   search rules,
 )
+
+pub returns-clause-full : goal.returns-clause-full
+returns-clause-full g c = λ e. cc
+
+pub returns-clause-room : goal.returns-clause-room
+returns-clause-room g c = λ e. cc

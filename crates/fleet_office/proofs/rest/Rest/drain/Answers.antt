@@ -1,4 +1,6 @@
 use Rattle.std.proofs.Common.{◌≡◌, ◌-◌, ◌<◌, ◌∙◌, ap, subst, arith}
+use Rattle.fleet_office.specs.Views.{OthersStay}
+use Rattle.fleet_office.specs.Draining.{Drains}
 use Rattle.fleet_office.proofs.Emptied.{others_trans, left_step, left_end, Left, some_none, some_more}
 use Rattle.fleet_office.proofs.rest.Rest.drain.Goals as goal
 
@@ -34,3 +36,37 @@ returns-clause-ok g c =
     let i = c.loop-taken.invariant in
     left_end c.loop-taken.self.ends c.beside-left.new.client c.loop-taken.taken c.beside-left.result (omega arith)
     (subst (λ k. Left k c.loop-taken.self.ends c.beside-left.new.client c.loop-taken.taken c.beside-left.result) c.number-number.ensures i.3)
+
+pub overflow_sub-left : goal.overflow_sub-left
+overflow_sub-left g c = omega (arith, c.loop-taken-test.true)
+
+pub take_left-requires-clause-client : goal.take_left-requires-clause-client
+take_left-requires-clause-client g c = c.loop-taken.invariant.2
+
+pub take_left-requires-clause-known : goal.take_left-requires-clause-known
+take_left-requires-clause-known g c = λ e at. omega (arith, c.loop-taken-test.true, (c.loop-taken.invariant.3 e at).2)
+
+pub take_left-requires-clause-some : goal.take_left-requires-clause-some
+take_left-requires-clause-some g c = omega (arith, c.loop-taken-test.true)
+
+pub returns-in_err-take_left-clause-client : goal.returns-in_err-take_left-clause-client
+returns-in_err-take_left-clause-client g c = c.beside-left.ensures.client
+
+pub returns-in_err-take_left-clause-total : goal.returns-in_err-take_left-clause-total
+returns-in_err-take_left-clause-total g c = c.take_left.ensures.total ∙ c.loop-taken.invariant.1
+
+pub returns-clause-client : goal.returns-clause-client
+returns-clause-client g c = c.beside-left.ensures.client
+
+pub returns-clause-others : goal.returns-clause-others
+returns-clause-others g c =
+    let n : c.number-number.result ≡ c.args.client.now.number = c.number-number.ensures ∙ ap (λ x. x.number) c.beside-left.ensures.client in
+    subst (λ m. OthersStay m c.args.self.now.ends c.loop-taken.self.ends) n c.loop-taken.invariant.0
+
+pub returns-clause-drains : goal.returns-clause-drains
+returns-clause-drains g c =
+    let n : c.number-number.result ≡ c.args.client.now.number = c.number-number.ensures ∙ ap (λ x. x.number) c.beside-left.ensures.client in
+    (c.beside-left.result, subst (λ m. Drains c.args.self.now.world m c.beside-left.result c.loop-taken.self.world) n c.loop-taken.invariant.4.drains)
+
+pub returns-clause-total : goal.returns-clause-total
+returns-clause-total g c = c.loop-taken.invariant.1

@@ -1,7 +1,7 @@
-use Rattle.std.proofs.Common.{◌≡◌, ◌∙◌, length, refl, subst, arith, sym}
+use Rattle.std.proofs.Common.{◌≡◌, ◌∙◌, ap, length, refl, subst, arith, sym}
 use Rattle.fleet_office.specs.Draining.{DrainsFirst}
 use Rattle.fleet_office.proofs.Settling.{settled_next, settled_all, first_more}
-use Rattle.std.proofs.lemmas.Result.{IfOk-from_err}
+use Rattle.std.proofs.lemmas.Result.{IfOk-from_err, err_from_is_err_and}
 use Rattle.fleet_office.specs.Views.{AreOn, AreDistinct}
 use Rattle.std.specs.Prelude.{Ok, Err, Result, OnErr}
 use Rattle.fleet_office.proofs.rest.Rest.drain_all.Goals as goal
@@ -71,3 +71,14 @@ returns-in_err-drain_number-clause-stops g c = on_err c.from_residual.result rec
   before = c.loop-number.invariant.3;
   last = c.drain_number.ensures.drains.1;
 }
+
+pub returns-in_err-drain_number-clause-full : goal.returns-in_err-drain_number-clause-full
+returns-in_err-drain_number-clause-full g c = λ e.
+    let p = err_from_is_err_and c.from_residual.result c.from_residual.ensures.1 in
+    c.drain_number.ensures.full (c.in_err-drain_number.was ∙ ap Err (sym p.2) ∙ sym p.1 ∙ e)
+
+pub returns-clause-stops : goal.returns-clause-stops
+returns-clause-stops g c = tt
+
+pub returns-clause-full : goal.returns-clause-full
+returns-clause-full g c = λ e. cc

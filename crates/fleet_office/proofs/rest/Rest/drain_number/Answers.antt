@@ -1,4 +1,4 @@
-use Rattle.std.proofs.Common.{◌≡◌, ◌<◌, ℕ, length, get_or, subst, Some, List, refl, arith}
+use Rattle.std.proofs.Common.{rules, ◌≡◌, ◌<◌, ℕ, length, get_or, subst, Some, List, refl, arith}
 use Rattle.std.specs.Prelude.{Ok, Err, Result, OnOk, slice_get}
 use Rattle.std.proofs.lemmas.Option.{slice_get-get_or}
 use Rattle.fleet_lanes.specs.Names.{LaneName}
@@ -75,3 +75,6 @@ returns-clause-full g c = c.drain.ensures.full
 
 pub returns-clause-total : goal.returns-clause-total
 returns-clause-total g c = c.drain.ensures.total
+
+pub offset_bounds-clients-k : goal.offset_bounds-clients-k
+offset_bounds-clients-k g c = let less : c.in-Some.k < length c.args.clients.now = c.in-Some.ensures.some.1 in search rules depth 3

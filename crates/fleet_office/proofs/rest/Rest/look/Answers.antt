@@ -1,4 +1,3 @@
-use Rattle.std.proofs.Common.{rules}
 use Rattle.fleet_office.proofs.rest.Rest.look.Goals as goal
 
 pub returns-clause-idle : goal.returns-clause-idle
@@ -20,4 +19,4 @@ pub returns-clause-chapter : goal.returns-clause-chapter
 returns-clause-chapter g c = rw (← c.self.view_is) c.chapter-chapter.ensures.number
 
 pub returns-clause-tick : goal.returns-clause-tick
-returns-clause-tick g c = search rules
+returns-clause-tick g c = rw (← c.self.view_is) c.clock.ensures

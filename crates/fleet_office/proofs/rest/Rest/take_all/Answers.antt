@@ -1,5 +1,6 @@
 use Rattle.std.proofs.Common.{◌≡◌, ◌+◌, ◌<◌, ◌∙◌, suc, length, refl, sym, ap, subst, arith, true, false}
 use Rattle.fleet_office.specs.Hall.{TakesFirst}
+use Rattle.fleet_office.proofs.TurnSteps.{first-taken, held-few}
 use Rattle.fleet_office.proofs.rest.Rest.take_all.Goals as goal
 
 pub loop-client-init : goal.loop-client-init
@@ -36,3 +37,13 @@ returns g c =
       err = tt;
       as_many = i.1;
     }
+
+pub loop-client-preserved : goal.loop-client-preserved
+loop-client-preserved g c =
+    let i = c.loop-client.invariant in
+    let s = c.in-Ok in (
+      first-taken c.loop-client.client c.args.self.now c.loop-client.self c.take_some.new.self c.loop-client.taken c.loop-client.held s.more c.from-held.result s.full c.from-held.ensures i.0 s.ensures.ok,
+      s.ensures.as_many ∙ i.1,
+      omega (arith, i.2, s.ensures.small),
+      omega (arith, i.3, c.from-held.ensures, held-few s.full),
+    )

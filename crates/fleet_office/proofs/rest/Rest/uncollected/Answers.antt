@@ -6,7 +6,14 @@ use Rattle.fleet_office.proofs.rest.Rest.uncollected.Goals as goal
 pub returns : goal.returns
 returns g c =
     at_most_found c.args.clients.now c.in-Some.k c.args.number c.in-Some-checked_add.count c.args.self.now.world c.index-clients-k.result c.requires.distinct c.in-Some.ensures.some.1 c.in-Some.ensures.some.2
-    (let few : length (get_or c.args.clients.now c.in-Some.k c.index-clients-k.result).known + length (pending c.args.self.now.world c.args.number).notices ≤ c.in-Some-checked_add.count = search rules in few)
+    (omega (
+      arith,
+      c.in-Some-checked_add.ensures.1,
+      c.known.ensures,
+      ap (λ x. length x.known) c.index-clients-k.is,
+      c.pending_count-pending.ensures,
+      ap (λ h. length (pending h.world c.args.number).notices) c.self.view_is,
+    ))
 
 pub returns-in_default : goal.returns-in_default
 returns-in_default g c = λ k x at same. absurd (c.in_default.ensures.none k x (omega arith) at same)
