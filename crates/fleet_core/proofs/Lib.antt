@@ -4,6 +4,7 @@ pub mod Turning
 pub mod Delivers
 pub mod Stamped
 pub mod Kept
+pub mod Entered
 pub mod Opens
 pub mod Hooked
 pub mod Ticked

@@ -31,6 +31,7 @@ use fleet_plan::eldest;
 use fleet_state::FleetState;
 use std::alloc::{AllocError, Allocator, Global};
 use std::marker::Model;
+use std::mem;
 use std::thread::Threads;
 
 /// The map, the limits, the history and what follows from it. Contracts see the map, the limits, the chapter's number,
@@ -216,6 +217,10 @@ impl<A: Allocator + Copy> Core<A> {
         ensures advancing { IsBridgeless (IsNeighbour self.floor) → EachTick (IsAdvancingTick self.floor) self.history }
         ensures bounded { IsBridgeless (IsNeighbour self.floor) → WaitsAreBounded self.floor self.history }
     {
+        // Each by a call: a drop that goes unsaid is proved anew, list by list.
+        mem::drop(self.state);
+        mem::drop(self.planner);
+        mem::drop(self.mailboxes);
         (self.grid, self.chapter)
     }
 
