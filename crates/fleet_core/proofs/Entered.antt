@@ -1,9 +1,8 @@
 -- A core keeps what it keeps after each entry, whatever the call that enters it knows besides.
-use Rattle.std.proofs.Common.{◌≡◌, ◌∙◌, ℕ, ◌+◌, ◌^◌, ◌<◌, ◌≤◌, List, Option, map, length, ap, sym, refl, subst, arith}
+use Rattle.std.proofs.Common.{◌≡◌, ◌∙◌, ℕ, ◌+◌, ◌^◌, ◌<◌, ◌≤◌, List, Option, map, length, ap, refl, arith}
 use Rattle.std.specs.Prelude.{slice_index, count_by, All, ◌==◌}
 use Rattle.fleet_grid.specs.Floor.{Floor}
 use Rattle.fleet_goals.specs.Aims.{goals_of}
-use Rattle.fleet_hooks.specs.declared.law.StampLaw.{StampLaw}
 use Rattle.fleet_hooks.specs.declared.law.TieLaw.{TieLaw}
 use Rattle.fleet_book.specs.declared.limits.Limits.{Limits}
 use Rattle.fleet_book.specs.declared.notice.Notice.TheVariants as notice
@@ -25,7 +24,6 @@ use Rattle.fleet_state.proofs.Parts.{cells-of, waits-of}
 use Rattle.fleet_core.specs.declared.faults.TickReport.{TickReport}
 use Rattle.fleet_core.specs.Aimed.{Planner, begun, begun_goals, goals_ticked}
 use Rattle.fleet_core.specs.Core.{World, Takes, Ticks, Shuts}
-use Rattle.fleet_core.specs.Hooks.{AreArrivals, AreFarewells}
 use Rattle.fleet_core.specs.Kept.{IsKept}
 use Rattle.fleet_core.specs.Mailboxes.{Mailboxes, box_at, with_notice, AreDelivered}
 use Rattle.fleet_core.specs.Pending.{Pending}

@@ -12,3 +12,4 @@ pub mod Bounded
 pub mod Alike
 pub mod Boxed
 pub mod Refused
+pub mod Apart

@@ -1,5 +1,5 @@
 -- Answers that may be refused.
-use Rattle.std.proofs.Common.{◌≡◌, ◌∙◌, ℕ, ◌<◌, ◌≤◌, List, ◌↔◌, IsTrue, Bool, ap, sym, subst, arith}
+use Rattle.std.proofs.Common.{◌≡◌, ◌∙◌, ℕ, ◌<◌, ◌≤◌, List, ◌↔◌, IsTrue, Bool, true, false, ap, sym, subst, arith}
 use Rattle.std.specs.Prelude.{Result, Ok, Err, IfOk, OnOk, OnErr}
 use Rattle.fleet_goals.specs.Aims.{goals_of}
 use Rattle.fleet_grid.specs.Floor.{Floor, IsNeighbour}
@@ -60,3 +60,6 @@ not_both less most = omega (arith, less, most)
 
 pub not_same : {a b : ℕ} → a < b → a ≡ b → ⊥
 not_same less same = omega (arith, less, same)
+
+pub not_true : {b : Bool} → b ≡ true → b ≡ false → ⊥
+not_true p q = cc

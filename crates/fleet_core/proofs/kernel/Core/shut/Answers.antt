@@ -11,7 +11,8 @@ use Rattle.fleet_core.specs.Core.{HasEntries}
 use Rattle.fleet_core.specs.Hooks.{AreFarewells, spare_laws}
 use Rattle.fleet_core.proofs.Entered.{kept-shut, may-follow, shuts-so}
 use Rattle.fleet_core.proofs.Hooked.{farewell-there, farewell-is, farewells-idle}
-use Rattle.fleet_core.proofs.Refused.{not_both, not_same}
+use Rattle.fleet_core.proofs.Apart.{done, shut-already-chapter_full, shut-already-no_robot, shut-chapter_full-already, shut-chapter_full-no_robot, shut-no_memory-already, shut-no_memory-chapter_full, shut-no_memory-no_robot, shut-no_robot-already, shut-no_robot-chapter_full}
+use Rattle.fleet_core.proofs.Refused.{not_both, not_same, not_true}
 use Rattle.fleet_core.proofs.kernel.Core.shut.Goals as goal
 use Rattle.fleet_core.proofs.kernel.Core.shut.Goals.{After-last_word_if-farewell}
 
@@ -101,8 +102,8 @@ returns-then-robot-robots g c =
     let many = subst (λ w. robots w.history ≤ c.args.robot) c.self.view_is past in
     record {
       no_robot = (λ e. many, λ l. refl);
-      already = (λ e. cc, λ p. absurd (not_both p.0 many));
-      chapter_full = (λ e. cc, λ p. absurd (not_both p.0 many));
+      already = (shut-no_robot-already, λ p. absurd (not_both p.0 many));
+      chapter_full = (shut-no_robot-chapter_full, λ p. absurd (not_both p.0 many));
       entries = tt;
       ok = tt;
       err = refl;
@@ -117,9 +118,9 @@ returns-then-is_shut g c =
     let known = subst (λ w. c.args.robot < robots w.history) c.self.view_is inside in
     let shut = ap (λ w. is_shut w.history c.args.robot) (sym c.self.view_is) ∙ sym (c.is_shut.ensures c.self.inside.grid h k.is) ∙ c.if-is_shut.true in
     record {
-      no_robot = (λ e. cc, λ l. absurd (not_both known l));
+      no_robot = (shut-already-no_robot, λ l. absurd (not_both known l));
       already = (λ e. (known, shut), λ p. refl);
-      chapter_full = (λ e. cc, λ p. let bad : true ≡ false = sym shut ∙ p.1 in cc);
+      chapter_full = (shut-already-chapter_full, λ p. absurd (not_true shut p.1));
       entries = tt;
       ok = tt;
       err = refl;
@@ -135,8 +136,8 @@ returns-then-is_full g c =
     let opened = ap (λ w. is_shut w.history c.args.robot) (sym c.self.view_is) ∙ sym (c.is_shut.ensures c.self.inside.grid h k.is) ∙ c.if-is_shut.false in
     let full = c.if-is_full.ensures.full refl in
     record {
-      no_robot = (λ e. cc, λ l. absurd (not_both known l));
-      already = (λ e. cc, λ p. let bad : true ≡ false = sym p.1 ∙ opened in cc);
+      no_robot = (shut-chapter_full-no_robot, λ l. absurd (not_both known l));
+      already = (shut-chapter_full-already, λ p. absurd (not_true p.1 opened));
       chapter_full = (λ e. (known, opened, full), λ p. refl);
       entries = tt;
       ok = tt;
@@ -158,9 +159,9 @@ returns-in_err-reserve g c =
     let room = c.if-is_full.ensures.room refl in
     rw (p.1, p.2)
     record {
-      no_robot = (λ e. cc, λ l. absurd (not_both known l));
-      already = (λ e. cc, λ q. let bad : true ≡ false = sym q.1 ∙ opened in cc);
-      chapter_full = (λ e. cc, λ q. absurd (not_same room q.2));
+      no_robot = (shut-no_memory-no_robot, λ l. absurd (not_both known l));
+      already = (shut-no_memory-already, λ q. absurd (not_true q.1 opened));
+      chapter_full = (shut-no_memory-chapter_full, λ q. absurd (not_same room q.2));
       entries = tt;
       ok = tt;
       err = rw c.reserve.ensures.items c.self.view_is;
@@ -173,13 +174,13 @@ returns-clause-no_robot g c =
     let h = history_of c.self.inside.chapter in
     let inside : c.args.robot < robots h = subst (λ n. c.args.robot < n) (c.robots.ensures.of c.self.inside.grid h k.is) c.if-robot-robots.false in
     let known = subst (λ w. c.args.robot < robots w.history) c.self.view_is inside in
-    (λ e. cc, λ l. absurd (not_both known l))
+    (done, λ l. absurd (not_both known l))
 
 pub returns-clause-already : goal.returns-clause-already
 returns-clause-already g c =
     let h = history_of c.self.inside.chapter in
     let opened = ap (λ w. is_shut w.history c.args.robot) (sym c.self.view_is) ∙ sym (c.is_shut.ensures c.self.inside.grid h c.self.invariant.is) ∙ c.if-is_shut.false in
-    (λ e. cc, λ q. let bad : true ≡ false = sym q.1 ∙ opened in cc)
+    (done, λ q. absurd (not_true q.1 opened))
 
 pub returns-clause-entries : goal.returns-clause-entries
 returns-clause-entries g c = c.if-is_full.ensures.room refl
@@ -188,4 +189,4 @@ pub returns-clause-err : goal.returns-clause-err
 returns-clause-err g c = tt
 
 pub returns-clause-chapter_full : goal.returns-clause-chapter_full
-returns-clause-chapter_full g c = let room = c.if-is_full.ensures.room refl in (λ e. cc, λ p. absurd (not_same room p.2))
+returns-clause-chapter_full g c = let room = c.if-is_full.ensures.room refl in (done, λ p. absurd (not_same room p.2))

@@ -1,4 +1,4 @@
-use Rattle.std.proofs.Common.{◌<◌, ◌∙◌, ap, sym, refl, subst, length}
+use Rattle.std.proofs.Common.{◌<◌, sym, refl, subst, length}
 use Rattle.std.proofs.lemmas.Result.{err_from_is_err_and}
 use Rattle.fleet_history.specs.declared.history.Entry.TheVariants as entry
 use Rattle.fleet_history.specs.History.{history_of, clients}
@@ -9,6 +9,7 @@ use Rattle.fleet_core.specs.Core.{HasRoom, HasEntries}
 use Rattle.fleet_core.specs.Hooks.{AreFarewells}
 use Rattle.fleet_core.proofs.Entered.{box-known, kept-take, may-follow, notice-room, notice-small, takes-so}
 use Rattle.fleet_core.proofs.Hooked.{farewells-take}
+use Rattle.fleet_core.proofs.Apart.{done, take-chapter_full-mailbox_full, take-mailbox_full-chapter_full, take-no_memory-chapter_full, take-no_memory-mailbox_full}
 use Rattle.fleet_core.proofs.Refused.{kept-refused, not_both, not_same}
 use Rattle.fleet_core.proofs.kernel.Core.take.Goals as goal
 
@@ -42,8 +43,8 @@ returns-in_err-make_begun g c =
     let room = c.if-is_full.ensures.room refl in
     rw (p.1, p.2)
     record {
-      mailbox_full = (λ e. cc, λ no. absurd (not_both no yes));
-      chapter_full = (λ e. cc, λ full. absurd (not_same room full.1));
+      mailbox_full = (take-no_memory-mailbox_full, λ no. absurd (not_both no yes));
+      chapter_full = (take-no_memory-chapter_full, λ full. absurd (not_same room full.1));
       room = tt;
       entries = tt;
       ok = tt;
@@ -68,7 +69,7 @@ returns-then-not-has_room g c =
     let no = c.if-not-has_room.ensures.no refl in
     record {
       mailbox_full = (λ e. no, λ n. refl);
-      chapter_full = (λ e. cc, λ p. absurd (not_both no p.0));
+      chapter_full = (take-mailbox_full-chapter_full, λ p. absurd (not_both no p.0));
       room = tt;
       entries = tt;
       ok = tt;
@@ -82,7 +83,7 @@ returns-then-is_full g c =
     let yes = c.if-not-has_room.ensures.yes refl in
     let full = c.if-is_full.ensures.full refl in
     record {
-      mailbox_full = (λ e. cc, λ no. absurd (not_both no yes));
+      mailbox_full = (take-chapter_full-mailbox_full, λ no. absurd (not_both no yes));
       chapter_full = (λ e. (yes, full), λ p. refl);
       room = tt;
       entries = tt;
@@ -102,10 +103,10 @@ pub returns-clause-err : goal.returns-clause-err
 returns-clause-err g c = tt
 
 pub returns-clause-mailbox_full : goal.returns-clause-mailbox_full
-returns-clause-mailbox_full g c = let yes = c.if-not-has_room.ensures.yes refl in (λ e. cc, λ no. absurd (not_both no yes))
+returns-clause-mailbox_full g c = let yes = c.if-not-has_room.ensures.yes refl in (done, λ no. absurd (not_both no yes))
 
 pub returns-clause-chapter_full : goal.returns-clause-chapter_full
-returns-clause-chapter_full g c = let room = c.if-is_full.ensures.room refl in (λ e. cc, λ p. absurd (not_same room p.1))
+returns-clause-chapter_full g c = let room = c.if-is_full.ensures.room refl in (done, λ p. absurd (not_same room p.1))
 
 pub taken-order_no-requires : goal.taken-order_no-requires
 taken-order_no-requires g c =

@@ -4,19 +4,18 @@ use Rattle.std.proofs.lemmas.List.{length-map}
 use Rattle.std.proofs.lemmas.Result.{err_from_is_err_and}
 use Rattle.fleet_goals.specs.Aims.{goals_of}
 use Rattle.fleet_hooks.specs.declared.law.TieLaw.{TieLaw}
-use Rattle.fleet_history.specs.declared.history.Arrival.{Arrival}
 use Rattle.fleet_history.specs.declared.history.Entry.TheVariants as entry
 use Rattle.fleet_history.specs.History.{history_of, clock, after}
 use Rattle.fleet_history.specs.Legal.{IsTickAfter}
 use Rattle.fleet_state.specs.Follows.{MayTick}
 use Rattle.fleet_state.specs.State.{IsStateOf}
 use Rattle.fleet_state.proofs.Parts.{cell-count, queue-count}
-use Rattle.fleet_core.specs.declared.faults.TickReport.{TickReport}
 use Rattle.fleet_core.specs.Core.{HasEntries}
 use Rattle.fleet_core.specs.Mailboxes.{AreDelivered}
 use Rattle.fleet_core.specs.Hooks.{AreArrivals, AreFarewells, spare_laws}
 use Rattle.fleet_core.specs.inside.Ready.{IsStep, IsReady}
 use Rattle.fleet_core.proofs.Entered.{deliver-known, deliver-on_map, deliver-room, deliver-small, kept-tick, may-follow, planned-so, ticks-so}
+use Rattle.fleet_core.proofs.Apart.{done, tick-chapter_full-clock_spent, tick-clock_spent-chapter_full, tick-no_memory-chapter_full, tick-no_memory-clock_spent}
 use Rattle.fleet_core.proofs.Refused.{kept-refused, not_same}
 use Rattle.fleet_core.proofs.Ticked.{step-stamps, stamped-fits, stamped-left, stamped-shows}
 use Rattle.fleet_core.proofs.kernel.Core.tick.Goals as goal
@@ -132,7 +131,7 @@ returns-then-is_spent g c =
     let spent = c.if-is_spent.ensures.spent refl in
     record {
       clock_spent = (λ e. spent, λ q. refl);
-      chapter_full = (λ e. cc, λ p. absurd (not_same p.0 spent));
+      chapter_full = (tick-clock_spent-chapter_full, λ p. absurd (not_same p.0 spent));
       early = tt;
       entries = tt;
       ok = tt;
@@ -145,7 +144,7 @@ returns-then-is_full g c =
     let early = c.if-is_spent.ensures.early refl in
     let full = c.if-is_full.ensures.full refl in
     record {
-      clock_spent = (λ e. cc, λ q. absurd (not_same early q));
+      clock_spent = (tick-chapter_full-clock_spent, λ q. absurd (not_same early q));
       chapter_full = (λ e. (early, full), λ p. refl);
       early = tt;
       entries = tt;
@@ -164,8 +163,8 @@ returns-in_err-step g c =
     let room = c.if-is_full.ensures.room refl in
     rw (p.1, p.2)
     record {
-      clock_spent = (λ e. cc, λ q. absurd (not_same early q));
-      chapter_full = (λ e. cc, λ full. absurd (not_same room full.1));
+      clock_spent = (tick-no_memory-clock_spent, λ q. absurd (not_same early q));
+      chapter_full = (tick-no_memory-chapter_full, λ full. absurd (not_same room full.1));
       early = tt;
       entries = tt;
       ok = tt;
@@ -183,7 +182,7 @@ pub returns-clause-err : goal.returns-clause-err
 returns-clause-err g c = tt
 
 pub returns-clause-clock_spent : goal.returns-clause-clock_spent
-returns-clause-clock_spent g c = let early = c.if-is_spent.ensures.early refl in (λ e. cc, λ q. absurd (not_same early q))
+returns-clause-clock_spent g c = let early = c.if-is_spent.ensures.early refl in (done, λ q. absurd (not_same early q))
 
 pub returns-clause-chapter_full : goal.returns-clause-chapter_full
-returns-clause-chapter_full g c = let room = c.if-is_full.ensures.room refl in (λ e. cc, λ p. absurd (not_same room p.1))
+returns-clause-chapter_full g c = let room = c.if-is_full.ensures.room refl in (done, λ p. absurd (not_same room p.1))

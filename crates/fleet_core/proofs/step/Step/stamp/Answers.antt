@@ -1,4 +1,4 @@
-use Rattle.std.proofs.Common.{◌≡◌, ◌∙◌, length, map, ap, sym, refl, arith}
+use Rattle.std.proofs.Common.{◌∙◌, length, ap, sym, refl, arith}
 use Rattle.std.proofs.lemmas.List.{length-map}
 use Rattle.fleet_history.specs.declared.history.Bye.{Bye}
 use Rattle.fleet_history.specs.Legal.{due_of}
