@@ -1,4 +1,5 @@
-use Rattle.std.proofs.Common.{◌≡◌, List, map, sym, ap, ◌∙◌, subst, arith}
+use Rattle.std.proofs.Common.{◌≡◌, List, map, sym, ap, ◌∙◌, subst}
+use Rattle.std.specs.Prelude.{Result, Ok, Err}
 use Rattle.fleet_grid.specs.Floor.{IsNeighbour}
 use Rattle.fleet_grid.specs.Walk.{IsBridgeless}
 use Rattle.fleet_history.specs.Laws.{EachTick}
@@ -18,9 +19,13 @@ use Rattle.fleet_calls.proofs.Refusals.{not_refused}
 use Rattle.fleet_world.proofs.Plays.{IsEnd, ends, same_length, end-left, end-clients, end-each, end-once}
 use Rattle.fleet_world.proofs.play.run.Goals as goal
 
+-- what was done was not refused
+done : {X E P : Type 0} {x : X} {e : E} → ◌≡◌ {A = Result X E} (Ok x) (Err e) → P
+done e = cc
+
 pub returns-in-Ok-play-clause-refused : goal.returns-in-Ok-play-clause-refused
 returns-in-Ok-play-clause-refused g c f named =
-    (λ s. cc, λ q. absurd (not_refused c.args.grid c.args.starts.items c.args.clients c.args.limits (laws_of c.args.hooks) f c.in-Ok.ensures.can q))
+    (done, λ q. absurd (not_refused c.args.grid c.args.starts.items c.args.clients c.args.limits (laws_of c.args.hooks) f c.in-Ok.ensures.can q))
 
 -- the state that the run led to, and what holds of it
 led : (g : _) (c : goal.After-close g) →
@@ -94,9 +99,9 @@ returns-in-Ok-play-clause-bounded g c =
 pub returns-in-Ok-play-clause-counts : goal.returns-in-Ok-play-clause-counts
 returns-in-Ok-play-clause-counts g c =
     let count = (ended g c).rings.list_count ∙ end-clients c.args.grid c.args.starts.items c.args.clients c.args.limits (laws_of c.args.hooks) (state_of c.play.new.self.world.core c.play.new.self.lists.items) (ended g c) in (
-      omega (arith, count, c.close.result.lanes.ok.0, same_length _ _ _ _ c.close.ensures.lanes),
-      omega (arith, count, c.close.result.outlets.ok.0, same_length _ _ _ _ c.close.ensures.outlets),
-      omega (arith, count, c.close.result.collected.ok.0, same_length _ _ _ _ c.close.ensures.collected),
+      c.close.result.lanes.ok.0 ∙ same_length _ _ _ _ c.close.ensures.lanes ∙ count,
+      c.close.result.outlets.ok.0 ∙ same_length _ _ _ _ c.close.ensures.outlets ∙ count,
+      c.close.result.collected.ok.0 ∙ same_length _ _ _ _ c.close.ensures.collected ∙ count,
     )
 
 pub returns-in-Err-clause-run : goal.returns-in-Err-clause-run

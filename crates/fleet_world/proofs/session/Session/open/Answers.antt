@@ -1,7 +1,7 @@
 use Rattle.std.proofs.Common.{◌≡◌, ◌∙◌, sym, ap}
 use Rattle.std.proofs.lemmas.List.{length-replicate}
 use Rattle.fleet_history.specs.History.{clients, unknown_client}
-use Rattle.fleet_calls.proofs.Refusals.{not_refused}
+use Rattle.fleet_calls.proofs.Refusals.{refused-ok}
 use Rattle.fleet_core.specs.Core.{World}
 use Rattle.fleet_core.specs.Hooks.{laws_of}
 use Rattle.fleet_world.proofs.session.Session.open.Goals as goal
@@ -16,4 +16,4 @@ invariant_of-result g c =
 
 pub returns-in-Ok-rooms-clause-refused : goal.returns-in-Ok-rooms-clause-refused
 returns-in-Ok-rooms-clause-refused g c f named =
-    (λ s. cc, λ q. absurd (not_refused c.args.grid c.args.starts.items c.args.clients c.args.limits (laws_of c.args.hooks) f c.in-Ok.ensures.can q))
+    refused-ok c.args.grid c.args.starts.items c.args.clients c.args.limits (laws_of c.args.hooks) _ f c.in-Ok.ensures.can
