@@ -1,6 +1,8 @@
 -- The faults of a call are told apart, each by a lemma: where all that a call knows is at hand, the search for it is long.
 use Rattle.std.proofs.Common.{◌≡◌}
 use Rattle.std.specs.Prelude.{Result, Ok, Err}
+use Rattle.fleet_core.specs.declared.faults.ChapterFault.{ChapterFault}
+use Rattle.fleet_core.specs.declared.faults.ChapterFault.TheVariants as chapter
 use Rattle.fleet_core.specs.declared.faults.TakeFault.{TakeFault}
 use Rattle.fleet_core.specs.declared.faults.TakeFault.TheVariants as take
 use Rattle.fleet_core.specs.declared.faults.TickFault.{TickFault}
@@ -68,3 +70,8 @@ shut-no_memory-already e = cc
 
 pub shut-no_memory-chapter_full : {X P : Type 0} → ◌≡◌ {A = Result X ShutFault} (Err shut.NoMemory) (Err shut.ChapterFull) → P
 shut-no_memory-chapter_full e = cc
+
+-- ---- chapters
+
+pub chapter-no_memory-book_spent : {X P : Type 0} → ◌≡◌ {A = Result X ChapterFault} (Err chapter.NoMemory) (Err chapter.BookSpent) → P
+chapter-no_memory-book_spent e = cc

@@ -79,20 +79,26 @@ impl<A: Allocator + Copy> Core<A> {
         requires { CanOpen grid starts.items clients limits laws }
         ensures { IfOk result (λ w. w ≡ opened_world grid starts.items clients limits laws) }
     {
-        let begun = beginning_at(alloc, &grid, starts.as_slice(), clients, limits, &laws)?;
-        Ok(Core {
-            grid,
-            limits,
-            ties: laws.ties,
-            chapter: Chapter {
-                number: 0,
-                opening: begun.opening,
-                entries: Vec::new(alloc),
-            },
-            state: begun.state,
-            planner: begun.planner,
-            mailboxes: begun.mailboxes,
-        })
+        match beginning_at(alloc, &grid, starts.as_slice(), clients, limits, &laws) {
+            Ok(begun) => Ok(Core {
+                grid,
+                limits,
+                ties: laws.ties,
+                chapter: Chapter {
+                    number: 0,
+                    opening: begun.opening,
+                    entries: Vec::new(alloc),
+                },
+                state: begun.state,
+                planner: begun.planner,
+                mailboxes: begun.mailboxes,
+            }),
+            Err(fault) => {
+                // By a call: a drop that goes unsaid is proved anew, list by list.
+                mem::drop(grid);
+                Err(fault)
+            }
+        }
     }
 
     pub fn placement(&self) -> &[u32]
