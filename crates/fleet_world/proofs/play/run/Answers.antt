@@ -1,5 +1,4 @@
 use Rattle.std.proofs.Common.{◌≡◌, List, map, sym, ap, ◌∙◌, subst}
-use Rattle.std.specs.Prelude.{Result, Ok, Err}
 use Rattle.fleet_grid.specs.Floor.{IsNeighbour}
 use Rattle.fleet_grid.specs.Walk.{IsBridgeless}
 use Rattle.fleet_history.specs.Laws.{EachTick}
@@ -16,12 +15,28 @@ use Rattle.fleet_world.specs.Laws.{KeepsRings, KeepsEachRing, CollectsInOrder, I
 use Rattle.fleet_world.specs.Played.{collected_of, end_of}
 use Rattle.fleet_world.specs.Run.{State, Run, state_of, opened_state}
 use Rattle.fleet_calls.proofs.Refusals.{not_refused}
+use Rattle.fleet_world.proofs.Refused.{done, opening-at, opening-no_memory, at_event-memory, at_event-no_opening}
 use Rattle.fleet_world.proofs.Plays.{IsEnd, ends, same_length, end-left, end-clients, end-each, end-once}
 use Rattle.fleet_world.proofs.play.run.Goals as goal
 
--- what was done was not refused
-done : {X E P : Type 0} {x : X} {e : E} → ◌≡◌ {A = Result X E} (Ok x) (Err e) → P
-done e = cc
+pub open-requires : goal.open-requires
+open-requires g c = c.requires
+
+pub returns-in-Err-clause-refused : goal.returns-in-Err-clause-refused
+returns-in-Err-clause-refused g c f named = opening-at (c.in-Err.ensures.refused f named)
+
+pub returns-in-Err-clause-memory : goal.returns-in-Err-clause-memory
+returns-in-Err-clause-memory g c i s = opening-no_memory s
+
+pub returns-in-Ok-play-clause-memory : goal.returns-in-Ok-play-clause-memory
+returns-in-Ok-play-clause-memory g c i s = done s
+
+pub returns-in-Err-play-clause-refused : goal.returns-in-Err-play-clause-refused
+returns-in-Err-play-clause-refused g c f named =
+    (λ s. absurd (at_event-no_opening _ _ f c.in-Err-play.ensures.fault s), λ q. absurd (not_refused c.args.grid c.args.starts.items c.args.clients c.args.limits (laws_of c.args.hooks) f c.in-Ok.ensures.can q))
+
+pub returns-in-Err-play-clause-memory : goal.returns-in-Err-play-clause-memory
+returns-in-Err-play-clause-memory g c i s = at_event-memory _ _ i c.in-Err-play.ensures.fault s
 
 pub returns-in-Ok-play-clause-refused : goal.returns-in-Ok-play-clause-refused
 returns-in-Ok-play-clause-refused g c f named =
