@@ -4,6 +4,7 @@ pub mod Turning
 pub mod Delivers
 pub mod Stamped
 pub mod Kept
+pub mod Entered
 pub mod Opens
 pub mod Hooked
 pub mod Ticked
@@ -11,3 +12,4 @@ pub mod Bounded
 pub mod Alike
 pub mod Boxed
 pub mod Refused
+pub mod Apart

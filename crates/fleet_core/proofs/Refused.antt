@@ -1,8 +1,7 @@
 -- Answers that may be refused.
-use Rattle.std.proofs.Common.{◌≡◌, ◌∙◌, ℕ, ◌<◌, ◌≤◌, List, ◌↔◌, IsTrue, Bool, ap, sym, subst, arith}
+use Rattle.std.proofs.Common.{◌≡◌, ◌∙◌, ℕ, ◌<◌, ◌≤◌, List, ◌↔◌, IsTrue, Bool, true, false, ap, sym, subst, arith}
 use Rattle.std.specs.Prelude.{Result, Ok, Err, IfOk, OnOk, OnErr}
-use Rattle.fleet_field.specs.Store.{Keeps}
-use Rattle.fleet_goals.specs.Aims.{goals_of, AreOn}
+use Rattle.fleet_goals.specs.Aims.{goals_of}
 use Rattle.fleet_grid.specs.Floor.{Floor, IsNeighbour}
 use Rattle.fleet_grid.specs.Walk.{IsBridgeless}
 use Rattle.fleet_hooks.specs.declared.law.TieLaw.{TieLaw}
@@ -12,6 +11,7 @@ use Rattle.fleet_state.specs.State.{State}
 use Rattle.fleet_core.specs.Aimed.{Planner}
 use Rattle.fleet_core.specs.Kept.{IsKept}
 use Rattle.fleet_core.specs.Mailboxes.{Mailboxes}
+use Rattle.fleet_core.specs.inside.Ready.{IsOnSame}
 
 -- what holds of each answer of a call that is always refused
 pub none_ok : {X E : Type 0} (P : Type 0) (r : Result X E) → OnOk r ⊥ → OnOk r P
@@ -37,18 +37,18 @@ on_err_map (Err e) f p = f p
 
 -- a core whose planner was refused keeps what it kept
 pub kept-refused : {A : Type 0} {m : Floor} {limits : Limits} {ties : List TieLaw} {n : ℕ} {h : History A} {s : State A} {p : Planner} {x : Mailboxes} → IsKept m limits ties n h s p x →
-    (q : Planner) → q.aims ≡ p.aims → AreOn m q.aims → q.size ≡ p.size → q.bridgeless ≡ p.bridgeless → Keeps m q.kept → IsKept m limits ties n h s q x
-kept-refused {m = m} k q aims on size bridge keeps = record {
+    {q : Planner} → q.aims ≡ p.aims → IsOnSame m p q → IsKept m limits ties n h s q x
+kept-refused {m = m} k aims same = record {
   is = k.is;
   room = k.room;
   within = k.within;
   boxed = k.boxed;
   aimed = record {
     aimed = ap goals_of aims ∙ k.aimed.aimed;
-    on = on;
-    sized = size ∙ k.aimed.sized;
-    bridge = subst (λ (b : Bool). IsTrue b ↔ IsBridgeless (IsNeighbour m)) (sym bridge) k.aimed.bridge;
-    kept = keeps;
+    on = same.on;
+    sized = same.size ∙ k.aimed.sized;
+    bridge = subst (λ (b : Bool). IsTrue b ↔ IsBridgeless (IsNeighbour m)) (sym same.bridge) k.aimed.bridge;
+    kept = same.keeps;
   };
   tied = k.tied;
   bounded = k.bounded;
@@ -60,3 +60,6 @@ not_both less most = omega (arith, less, most)
 
 pub not_same : {a b : ℕ} → a < b → a ≡ b → ⊥
 not_same less same = omega (arith, less, same)
+
+pub not_true : {b : Bool} → b ≡ true → b ≡ false → ⊥
+not_true p q = cc

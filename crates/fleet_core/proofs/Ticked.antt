@@ -9,20 +9,25 @@ use Rattle.std.proofs.Math.Bool.{or-false}
 use Rattle.fleet_grid.specs.Floor.{Floor}
 use Rattle.fleet_queue.specs.declared.errand.Errand.{Errand}
 use Rattle.fleet_hooks.specs.declared.law.StampLaw.{StampLaw}
+use Rattle.fleet_hooks.specs.declared.law.TieLaw.{TieLaw}
 use Rattle.fleet_history.specs.declared.history.Arrival.{Arrival}
 use Rattle.fleet_history.specs.declared.history.Bye.{Bye}
 use Rattle.fleet_history.specs.declared.history.Entry.{Entry}
 use Rattle.fleet_history.specs.declared.history.Entry.TheVariants as entry
 use Rattle.fleet_history.specs.History.{History, after, robots, clients, unfinished, front, owed, is_shut}
 use Rattle.fleet_history.specs.inside.Landing.{landed}
-use Rattle.fleet_history.specs.Legal.{IsLegal, Due, due_of, due_at, due, leaving, is_leaving, is_done, is_none_left, robot_if}
+use Rattle.fleet_history.specs.Legal.{IsLegal, Due, IsTickAfter, due_of, due_at, due, leaving, is_leaving, is_done, is_none_left, robot_if}
 use Rattle.fleet_history.proofs.After.{shut-after}
 use Rattle.fleet_history.proofs.Arrivals.{unfinished-after_tick}
 use Rattle.fleet_history.proofs.Legal.{All-single, All-from_map, head_all, legal-known_unfinished, legal-opening}
 use Rattle.fleet_history.proofs.Owed.{owed-after_tick}
-use Rattle.fleet_core.specs.Hooks.{AreFarewells, DoRise, without_all}
-use Rattle.fleet_core.proofs.Farewells.{leavers-are, leavers-rise, leavers-spent}
-use Rattle.fleet_core.proofs.Hooked.{leaver-has, farewells-left}
+use Rattle.fleet_state.specs.State.{State, IsStateOf}
+use Rattle.fleet_state.proofs.Parts.{cell-count, cells-of}
+use Rattle.fleet_core.specs.Hooks.{AreArrivals, AreFarewells, DoRise, without_all}
+use Rattle.fleet_core.specs.inside.Ready.{IsStep}
+use Rattle.fleet_core.specs.inside.Stamped.{MayStamp, AreStamped}
+use Rattle.fleet_core.proofs.Farewells.{leavers-are, leavers-rise, leavers-spent, length-without}
+use Rattle.fleet_core.proofs.Hooked.{leaver-has, farewells-left, stamps-are, last_stamps-are}
 
 due_at-le : (to : List ℕ) (r : ℕ) (o : Option Errand) → length (due_at to r o) ≤ 1
 due_at-le to r None = omega arith
@@ -112,3 +117,41 @@ module _ {A : Type 0} (m : Floor) (h : History A) (legal : IsLegal m h) (to : Li
       farewells-tick spare' spent count =
           farewells-left h spare k (after h (entry.Tick to arrived others)) spare' refl (λ r. refl) count done-stays
           (λ r l. ap (λ xs. slice_index_or xs r None) (spent ∙ ap (λ rs. without_all rs spare) leaves) ∙ leavers-spent leaves_so spare (robots h) (omega (arith, k.count)) r l)
+
+      -- so the closures may be called
+      pub may-stamp : (hooks closures : ℕ) → hooks ≡ robots h → closures ≡ robots h → length to ≡ robots h → MayStamp hooks closures spare to arrived byes
+      may-stamp hooks closures hooked closed count = record {
+        hooked = count ∙ sym hooked;
+        closed = count ∙ sym closed;
+        arriving = rw hooked arrived-robots;
+        leaving = rw closed leaving-robots;
+        rising = leaving-rise;
+        unspent = leaving-has;
+        few_arriving = omega (arith, arrived-few);
+        few_leaving = omega (arith, leaving-few);
+      }
+
+-- the closures may be called in a step
+pub step-stamps : {A : Type 0} {m : Floor} {h : History A} {s : State A} {ties : List TieLaw} {goals : List (Option ℕ)} {to : List ℕ} {come : List Arrival} {gone : List Bye} {spare : List (Option StampLaw)} →
+    IsStateOf m h s → IsStep m ties s goals to come gone → AreFarewells h spare → (hooks closures : ℕ) → hooks ≡ robots h → closures ≡ robots h → MayStamp hooks closures spare to come gone
+step-stamps {m = m} {h = h} {to = to} {come = come} {gone = gone} {spare = spare} k step left hooks closures hooked closed =
+    let shows = step.arrived m h k in
+    may-stamp m h k.legal to come shows [] gone (step.leaving come [] m h k shows) spare left hooks closures hooked closed (step.conflict_free.same_length ∙ cell-count k)
+
+-- a step with stamps in the closures' laws
+module _ {A : Type 0} {m : Floor} {h : History A} {s : State A} {ties : List TieLaw} {goals : List (Option ℕ)} {to : List ℕ} {come stamped : List Arrival} {gone last : List Bye} {laws : List StampLaw} {spare : List (Option StampLaw)} (k : IsStateOf m h s) (step : IsStep m ties s goals to come gone) (left : AreFarewells h spare) (are : AreStamped laws spare come stamped gone last) where
+  pub stamped-shows : map due_of stamped ≡ due h to
+  stamped-shows = are.shows ∙ step.arrived m h k
+
+  pub stamped-fits : AreArrivals h laws → IsTickAfter m h to stamped last
+  stamped-fits arrivals = record {
+    step = rw (← cells-of k) step.conflict_free;
+    shows = stamped-shows;
+    stamps = stamps-are h laws arrivals stamped (arrived-robots m h k.legal to stamped stamped-shows) are.stamps;
+    leaves = are.robots ∙ step.leaving stamped last m h k stamped-shows;
+    last_stamps = last_stamps-are h spare left last are.last_stamps;
+  }
+
+  pub stamped-left : (spare' : List (Option StampLaw)) → spare' ≡ without_all (map (λ b. b.robot) gone) spare → AreFarewells (after h (entry.Tick to stamped last)) spare'
+  stamped-left spare' spent =
+      farewells-tick m h k.legal to stamped stamped-shows last gone (step.leaving stamped last m h k stamped-shows) spare left spare' spent (ap length spent ∙ length-without (map (λ (b : Bye). b.robot) gone) spare)

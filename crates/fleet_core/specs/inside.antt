@@ -2,3 +2,4 @@
 pub mod Begun
 pub mod Ready
 pub mod Spent
+pub mod Stamped

@@ -2,18 +2,24 @@
 
 ghost use Rattle.std.specs.Prelude.{◌≡◌, ◌≤◌, ◌<◌, ◌++◌, ◌∷◌, ◌↔◌, [], true, false, OnOk, OnErr, IfOk, map, vec_len, vec_capacity};
 ghost use Rattle.fleet_bound.specs.Arriving.{ArrivesInTurn};
+ghost use Rattle.fleet_goals.specs.Aims.{goals_of};
 ghost use Rattle.fleet_history.specs.History.{clients, robots, clock, is_shut};
+ghost use Rattle.fleet_core.specs.Aimed.{MayBegin, begun, begun_goals};
 ghost use Rattle.fleet_core.specs.Hooks.{AreArrivals, AreFarewells, spare_laws};
 ghost use Rattle.fleet_core.specs.Core.{Takes, Ticks, Shuts, HasRoom, HasNoRoom, HasEntries, HasNoEntries};
+ghost use Rattle.fleet_core.specs.inside.Ready.{IsOnSame};
 
 use crate::faults::{ShutFault, TakeFault, TickFault, TickReport};
 use crate::kernel::Core;
-use crate::stamps::{arrive, last_word_if, take_leave};
+use crate::planner::Planner;
+use crate::stamps::last_word_if;
 use crate::step::{Step, ready};
-use fleet_book::{Notice, Order, Verdict};
-use fleet_history::{Arrival, Bye, Entry, Row};
+use fleet_book::{Order, Verdict};
+use fleet_grid::Grid;
+use fleet_history::{Entry, Row};
 use fleet_hooks::{ArrivalHook, Farewell, FarewellView, TieHook};
-use std::alloc::{Alloc, Allocator};
+use fleet_state::FleetState;
+use std::alloc::{Alloc, AllocError, Allocator};
 
 impl<A: Allocator + Copy> Core<A> {
     /// Whether the client's notices and unfinished errands leave room for two more.
@@ -45,23 +51,24 @@ impl<A: Allocator + Copy> Core<A> {
             return Err(TakeFault::ChapterFull);
         }
         let verdict = self.state.judge(&self.grid, client, order);
-        self.chapter.entries.reserve(1)?;
-        self.planner.begin(&self.grid, &self.state, order, verdict)?;
+        let entries = &mut self.chapter.entries;
+        make_begun(
+            entries,
+            &mut self.planner,
+            &self.grid,
+            &self.state,
+            order,
+            verdict,
+        )?;
         self.state.enter_take(client, order, verdict);
-        let notice = Notice::Verdict {
-            seq: self.mailboxes.next_number(client),
-            order_no: self.state.taken(client),
+        let order_no = self.state.taken(client);
+        self.mailboxes.push_verdict(client, order_no, verdict);
+        let entry = Entry::Take {
+            client,
+            order,
             verdict,
         };
-        self.mailboxes.push(client, notice);
-        add(
-            &mut self.chapter.entries,
-            Entry::Take {
-                client,
-                order,
-                verdict,
-            },
-        );
+        add(&mut self.chapter.entries, entry);
         Ok(verdict)
     }
 
@@ -130,34 +137,43 @@ impl<A: Allocator + Copy> Core<A> {
         }
         let planner = &mut self.planner;
         let entries = &mut self.chapter.entries;
-        let step = ready(rt.alloc(), &self.grid, &self.state, planner, ties, entries)?;
-        let Step {
-            to,
-            mut arrived,
-            mut leaving,
-        } = step;
-        let report = TickReport::of(self.state.clock() + 1, arrived.len(), leaving.len());
-        arrive(&mut arrived, arrivals, &to, report.tick);
-        take_leave(&mut leaving, farewells, &to, report.tick);
-        self.mailboxes.deliver(&arrived, &to, report.tick);
-        self.state.enter_tick(&to);
-        add(&mut self.chapter.entries, tick_entry(to, arrived, leaving));
+        let mut step = ready(rt.alloc(), &self.grid, &self.state, planner, ties, entries)?;
+        let report = step.stamp(arrivals, farewells, self.state.clock() + 1);
+        self.mailboxes.deliver(&step.arrived, &step.to, report.tick);
+        self.state.enter_tick(&step.to);
+        add(&mut self.chapter.entries, tick_entry(step));
         Ok(report)
     }
 }
 
-/// A tick to these cells, with whom it lets arrive and leave.
-fn tick_entry<A: Allocator + Copy>(
-    to: Vec<u32, A>,
-    arrived: Vec<Arrival, A>,
-    farewells: Vec<Bye, A>,
-) -> Entry<A>
-    ensures { result ≡ Entry.Tick to.items arrived.items farewells.items }
+/// Makes room for one entry more, and aims the robot of an accepted order at its cell, if the errand is the robot's first.
+fn make_begun<A: Allocator + Copy>(
+    entries: &mut Vec<Entry<A>, A>,
+    planner: &mut Planner<A>,
+    grid: &Grid<A>,
+    state: &FleetState<A>,
+    order: Order,
+    verdict: Verdict,
+) -> Result<(), AllocError>
+    requires { MayBegin grid.now state.now planner.old order verdict }
+    ensures items { entries.new.items ≡ entries.old.items }
+    ensures goals { OnOk result (goals_of planner.new.aims ≡ begun_goals (begun state.now.queues order verdict) (goals_of planner.old.aims)) }
+    ensures room { OnOk result (vec_len entries.new < vec_capacity entries.new) }
+    ensures same { IsOnSame grid.now planner.old planner.new }
+    ensures refused { OnErr result (planner.new.aims ≡ planner.old.aims) }
+{
+    entries.reserve(1)?;
+    planner.begin(grid, state, order, verdict)
+}
+
+/// The tick of a step.
+fn tick_entry<A: Allocator + Copy>(step: Step<A>) -> Entry<A>
+    ensures { result ≡ Entry.Tick step.to.items step.arrived.items step.leaving.items }
 {
     Entry::Tick {
-        to: Row::from_vec(to),
-        arrived: Row::from_vec(arrived),
-        farewells: Row::from_vec(farewells),
+        to: Row::from_vec(step.to),
+        arrived: Row::from_vec(step.arrived),
+        farewells: Row::from_vec(step.leaving),
     }
 }
 

@@ -31,6 +31,7 @@ use fleet_plan::eldest;
 use fleet_state::FleetState;
 use std::alloc::{AllocError, Allocator, Global};
 use std::marker::Model;
+use std::mem;
 use std::thread::Threads;
 
 /// The map, the limits, the history and what follows from it. Contracts see the map, the limits, the chapter's number,
@@ -78,20 +79,26 @@ impl<A: Allocator + Copy> Core<A> {
         requires { CanOpen grid starts.items clients limits laws }
         ensures { IfOk result (λ w. w ≡ opened_world grid starts.items clients limits laws) }
     {
-        let begun = beginning_at(alloc, &grid, starts.as_slice(), clients, limits, &laws)?;
-        Ok(Core {
-            grid,
-            limits,
-            ties: laws.ties,
-            chapter: Chapter {
-                number: 0,
-                opening: begun.opening,
-                entries: Vec::new(alloc),
-            },
-            state: begun.state,
-            planner: begun.planner,
-            mailboxes: begun.mailboxes,
-        })
+        match beginning_at(alloc, &grid, starts.as_slice(), clients, limits, &laws) {
+            Ok(begun) => Ok(Core {
+                grid,
+                limits,
+                ties: laws.ties,
+                chapter: Chapter {
+                    number: 0,
+                    opening: begun.opening,
+                    entries: Vec::new(alloc),
+                },
+                state: begun.state,
+                planner: begun.planner,
+                mailboxes: begun.mailboxes,
+            }),
+            Err(fault) => {
+                // By a call: a drop that goes unsaid is proved anew, list by list.
+                mem::drop(grid);
+                Err(fault)
+            }
+        }
     }
 
     pub fn placement(&self) -> &[u32]
@@ -216,6 +223,10 @@ impl<A: Allocator + Copy> Core<A> {
         ensures advancing { IsBridgeless (IsNeighbour self.floor) → EachTick (IsAdvancingTick self.floor) self.history }
         ensures bounded { IsBridgeless (IsNeighbour self.floor) → WaitsAreBounded self.floor self.history }
     {
+        // Each by a call: a drop that goes unsaid is proved anew, list by list.
+        mem::drop(self.state);
+        mem::drop(self.planner);
+        mem::drop(self.mailboxes);
         (self.grid, self.chapter)
     }
 

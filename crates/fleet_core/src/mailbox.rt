@@ -4,7 +4,7 @@ ghost use Rattle.std.specs.Prelude.{◌≡◌, ◌+◌, ◌<◌, ◌≤◌, ◌^
 ghost use Rattle.fleet_core.specs.Mailboxes.{box_at, with_notice, with_box, AreDelivered};
 
 use circular_buffer::HeapCircularBuffer;
-use fleet_book::Notice;
+use fleet_book::{Notice, Verdict};
 use fleet_history::Arrival;
 use std::alloc::{AllocError, Allocator};
 use std::marker::Model;
@@ -175,6 +175,22 @@ impl<A: Allocator + Copy> Mailboxes<A> {
         let mailbox = &mut self.boxes[client as usize];
         mailbox.push(notice);
         self.noticed[client as usize] += 1;
+    }
+
+    /// Puts the verdict on the client's order of this number behind its other notices.
+    pub(crate) fn push_verdict(&mut self, client: u32, order_no: u64, verdict: Verdict)
+        requires known { client < length self.old.boxes }
+        requires small { slice_index self.old.noticed client + 1 < 2 ^ 64 }
+        requires room { length (box_at self.old.boxes client).notices < (box_at self.old.boxes client).limit }
+        ensures { self.new ≡ with_notice self.old client (Notice.Verdict (slice_index self.old.noticed client + 1) order_no verdict) }
+    {
+        let seq = self.next_number(client);
+        let notice = Notice::Verdict {
+            seq,
+            order_no,
+            verdict,
+        };
+        self.push(client, notice);
     }
 
     /// Tells the clients of these arrivals of a tick that brought the robots to these cells.

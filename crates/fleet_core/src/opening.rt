@@ -18,6 +18,7 @@ use fleet_history::{ClientState, Opening, RobotState, Row};
 use fleet_hooks::StampLaw;
 use fleet_state::FleetState;
 use std::alloc::{AllocError, Allocator};
+use std::mem;
 
 /// A client at the opening of a world.
 pub(crate) const NOBODY: ClientState = ClientState {
@@ -144,11 +145,18 @@ pub(crate) fn beginning_at<A: Allocator + Copy>(
     ensures { IfOk result (λ b. IsBeginning grid.now starts.now clients limits laws.now b.opening b.state b.planner b.mailboxes) }
 {
     let (opening, state) = opened(alloc, starts, clients, limits, laws)?;
-    let (planner, mailboxes) = means(alloc, grid, starts.len(), clients, limits.mailbox)?;
-    Ok(Beginning {
-        opening,
-        state,
-        planner,
-        mailboxes,
-    })
+    match means(alloc, grid, starts.len(), clients, limits.mailbox) {
+        Ok((planner, mailboxes)) => Ok(Beginning {
+            opening,
+            state,
+            planner,
+            mailboxes,
+        }),
+        Err(fault) => {
+            // Each by a call: a drop that goes unsaid is proved anew, list by list.
+            mem::drop(opening);
+            mem::drop(state);
+            Err(fault)
+        }
+    }
 }

@@ -1,15 +1,19 @@
 //! The step of a tick: all of it that takes memory, before anything is entered.
 
-ghost use Rattle.std.specs.Prelude.{◌≡◌, ◌<◌, ◌^◌, length, map, IfOk, OnOk, OnErr};
+ghost use Rattle.std.specs.Prelude.{◌≡◌, ◌<◌, ◌^◌, length, map, vec_len, IfOk, OnOk, OnErr};
 ghost use Rattle.fleet_goals.specs.Aims.{goals_of};
 ghost use Rattle.fleet_state.specs.State.{robot_count};
 ghost use Rattle.fleet_core.specs.Aimed.{MayPlan};
+ghost use Rattle.fleet_core.specs.Hooks.{spare_laws, without_all};
 ghost use Rattle.fleet_core.specs.inside.Ready.{IsStep, IsReady, IsOnSame};
+ghost use Rattle.fleet_core.specs.inside.Stamped.{MayStamp, AreStamped};
 
+use crate::faults::TickReport;
 use crate::planner::Planner;
+use crate::stamps::{arrive, take_leave};
 use fleet_grid::Grid;
 use fleet_history::{Arrival, Bye, Entry};
-use fleet_hooks::TieHook;
+use fleet_hooks::{ArrivalHook, Farewell, TieHook};
 use fleet_state::FleetState;
 use std::alloc::{AllocError, Allocator};
 
@@ -19,6 +23,27 @@ pub(crate) struct Step<A: Allocator + Copy> {
     pub(crate) to: Vec<u32, A>,
     pub(crate) arrived: Vec<Arrival, A>,
     pub(crate) leaving: Vec<Bye, A>,
+}
+
+impl<A: Allocator + Copy> Step<A> {
+    /// Calls the robots' closures in this tick, at the arrivals and where robots take their leave, and writes their stamps.
+    /// The farewells that are called are spent.
+    pub(crate) fn stamp(
+        &mut self,
+        arrivals: &[ArrivalHook],
+        farewells: &mut Vec<Option<Farewell>, A>,
+        tick: u64,
+    ) -> TickReport
+        requires { MayStamp (length arrivals.now) (vec_len farewells.old) (spare_laws farewells.old.items) self.old.to.items self.old.arrived.items self.old.leaving.items }
+        ensures to { self.new.to.items ≡ self.old.to.items }
+        ensures stamped { AreStamped (map (λ h. h.law) arrivals.now) (spare_laws farewells.old.items) self.old.arrived.items self.new.arrived.items self.old.leaving.items self.new.leaving.items }
+        ensures spent { spare_laws farewells.new.items ≡ without_all (map (λ b. b.robot) self.old.leaving.items) (spare_laws farewells.old.items) }
+        ensures report { result ≡ record { tick = tick; arrived = length self.new.arrived.items; farewells = length self.new.leaving.items } }
+    {
+        arrive(&mut self.arrived, arrivals, &self.to, tick);
+        take_leave(&mut self.leaving, farewells, &self.to, tick);
+        TickReport::of(tick, self.arrived.len(), self.leaving.len())
+    }
 }
 
 /// The planned step of the next tick, with stamps of 0.

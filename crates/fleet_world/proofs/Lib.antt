@@ -3,3 +3,4 @@ pub mod Moves
 pub mod Plays
 pub mod Rings
 pub mod Leaves
+pub mod Refused

@@ -25,18 +25,18 @@ opened-requires g c = (c.args.grid.now, c.requires)
 pub returns-in_err-opening : goal.returns-in_err-opening
 returns-in_err-opening g c = IfOk-from_err c.from_residual.result _ c.from_residual.ensures.0
 
-pub returns-in_err-planner : goal.returns-in_err-planner
-returns-in_err-planner g c = IfOk-from_err c.from_residual-in_err-planner.result _ c.from_residual-in_err-planner.ensures.0
+pub returns-in-Err : goal.returns-in-Err
+returns-in-Err g c = tt
 
 pub means-requires : goal.means-requires
 means-requires g c = c.requires.robots.1
 
-pub returns : goal.returns
-returns g c =
+pub returns-in-Ok : goal.returns-in-Ok
+returns-in-Ok g c =
     let o : Opening g.row.A.Denot = opening_of c.args.starts.now c.args.clients c.args.limits c.args.laws.now in
     let n = length c.args.starts.now in
     let begun = c.in_ok-opening.ensures in
-    let means = c.in_ok-planner.ensures in
+    let means = c.in-Ok.ensures in
     let many = robot_count g.row.A.Denot c.args.starts.now c.args.laws.now.arrivals c.args.laws.now.farewells in
     let i : IsInOrder c.args.grid.now o = legal-opening c.args.grid.now (start o) (legal-opened c.args.grid.now c.args.starts.now c.args.clients c.args.limits c.args.laws.now c.requires begun.orderly) in
     let here : IsStateOf c.args.grid.now (start o) c.in_ok-opening.state =
@@ -50,7 +50,7 @@ returns g c =
             room = begun.full (no_more c.in_ok-opening.state.queue c.args.limits.queue (queue-limit here));
             within = within-opened c.args.grid.now c.args.starts.now c.args.clients c.args.limits c.args.laws.now c.requires;
             boxed = rw means.mailboxes (boxes-opened c.args.grid.now c.args.starts.now c.args.clients c.args.limits c.args.laws.now c.requires);
-            aimed = aimed-start c.args.grid.now o n c.in_ok-planner.planner many (unfinished-opened g.row.A.Denot c.args.starts.now c.args.clients c.args.limits c.args.laws.now)
+            aimed = aimed-start c.args.grid.now o n c.in-Ok.planner many (unfinished-opened g.row.A.Denot c.args.starts.now c.args.clients c.args.limits c.args.laws.now)
                 means.planner.none means.planner.on means.planner.size means.planner.bridge means.planner.keeps;
             tied = record { count = c.requires.hooks.ties ∙ sym many; planned = each_tick-start (IsPlanned c.args.grid.now c.args.laws.now.ties) o };
             bounded = λ none. bound-opened c.args.grid.now c.args.starts.now c.args.clients c.args.limits c.args.laws.now c.requires begun.orderly;

@@ -1,4 +1,4 @@
-use Rattle.std.proofs.Common.{◌≡◌, List, map, sym, ap, ◌∙◌, subst, arith}
+use Rattle.std.proofs.Common.{◌≡◌, List, map, sym, ap, ◌∙◌, subst}
 use Rattle.fleet_grid.specs.Floor.{IsNeighbour}
 use Rattle.fleet_grid.specs.Walk.{IsBridgeless}
 use Rattle.fleet_history.specs.Laws.{EachTick}
@@ -15,12 +15,32 @@ use Rattle.fleet_world.specs.Laws.{KeepsRings, KeepsEachRing, CollectsInOrder, I
 use Rattle.fleet_world.specs.Played.{collected_of, end_of}
 use Rattle.fleet_world.specs.Run.{State, Run, state_of, opened_state}
 use Rattle.fleet_calls.proofs.Refusals.{not_refused}
+use Rattle.fleet_world.proofs.Refused.{done, opening-at, opening-no_memory, at_event-memory, at_event-no_opening}
 use Rattle.fleet_world.proofs.Plays.{IsEnd, ends, same_length, end-left, end-clients, end-each, end-once}
 use Rattle.fleet_world.proofs.play.run.Goals as goal
 
+pub open-requires : goal.open-requires
+open-requires g c = c.requires
+
+pub returns-in-Err-clause-refused : goal.returns-in-Err-clause-refused
+returns-in-Err-clause-refused g c f named = opening-at (c.in-Err.ensures.refused f named)
+
+pub returns-in-Err-clause-memory : goal.returns-in-Err-clause-memory
+returns-in-Err-clause-memory g c i s = opening-no_memory s
+
+pub returns-in-Ok-play-clause-memory : goal.returns-in-Ok-play-clause-memory
+returns-in-Ok-play-clause-memory g c i s = done s
+
+pub returns-in-Err-play-clause-refused : goal.returns-in-Err-play-clause-refused
+returns-in-Err-play-clause-refused g c f named =
+    (λ s. absurd (at_event-no_opening _ _ f c.in-Err-play.ensures.fault s), λ q. absurd (not_refused c.args.grid c.args.starts.items c.args.clients c.args.limits (laws_of c.args.hooks) f c.in-Ok.ensures.can q))
+
+pub returns-in-Err-play-clause-memory : goal.returns-in-Err-play-clause-memory
+returns-in-Err-play-clause-memory g c i s = at_event-memory _ _ i c.in-Err-play.ensures.fault s
+
 pub returns-in-Ok-play-clause-refused : goal.returns-in-Ok-play-clause-refused
 returns-in-Ok-play-clause-refused g c f named =
-    (λ s. cc, λ q. absurd (not_refused c.args.grid c.args.starts.items c.args.clients c.args.limits (laws_of c.args.hooks) f c.in-Ok.ensures.can q))
+    (done, λ q. absurd (not_refused c.args.grid c.args.starts.items c.args.clients c.args.limits (laws_of c.args.hooks) f c.in-Ok.ensures.can q))
 
 -- the state that the run led to, and what holds of it
 led : (g : _) (c : goal.After-close g) →
@@ -94,9 +114,9 @@ returns-in-Ok-play-clause-bounded g c =
 pub returns-in-Ok-play-clause-counts : goal.returns-in-Ok-play-clause-counts
 returns-in-Ok-play-clause-counts g c =
     let count = (ended g c).rings.list_count ∙ end-clients c.args.grid c.args.starts.items c.args.clients c.args.limits (laws_of c.args.hooks) (state_of c.play.new.self.world.core c.play.new.self.lists.items) (ended g c) in (
-      omega (arith, count, c.close.result.lanes.ok.0, same_length _ _ _ _ c.close.ensures.lanes),
-      omega (arith, count, c.close.result.outlets.ok.0, same_length _ _ _ _ c.close.ensures.outlets),
-      omega (arith, count, c.close.result.collected.ok.0, same_length _ _ _ _ c.close.ensures.collected),
+      c.close.result.lanes.ok.0 ∙ same_length _ _ _ _ c.close.ensures.lanes ∙ count,
+      c.close.result.outlets.ok.0 ∙ same_length _ _ _ _ c.close.ensures.outlets ∙ count,
+      c.close.result.collected.ok.0 ∙ same_length _ _ _ _ c.close.ensures.collected ∙ count,
     )
 
 pub returns-in-Err-clause-run : goal.returns-in-Err-clause-run

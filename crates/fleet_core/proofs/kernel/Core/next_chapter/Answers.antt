@@ -14,6 +14,8 @@ use Rattle.fleet_core.proofs.Bounded.{bound-kept, waits-kept}
 use Rattle.fleet_core.proofs.Goaled.{each_advances, aimed-next}
 use Rattle.fleet_core.proofs.Hooked.{arrivals-next, farewells-next}
 use Rattle.fleet_core.proofs.Kept.{boxes-next, within-next, within-room}
+use Rattle.fleet_core.proofs.Apart.{chapter-no_memory-book_spent, done}
+use Rattle.fleet_core.proofs.Refused.{not_same}
 use Rattle.fleet_core.proofs.kernel.Core.next_chapter.Goals as goal
 
 -- the next chapter's history starts at the opening that follows
@@ -84,7 +86,7 @@ returns-then-self g c =
     }
 
 pub returns-clause-book_spent : goal.returns-clause-book_spent
-returns-clause-book_spent g c = (λ e. cc, λ q. absurd (omega (arith, c.if-self.false, subst (λ w. w.number + 1 ≡ w.limits.chapters) (sym c.self.view_is) q)))
+returns-clause-book_spent g c = (done, λ q. absurd (not_same c.if-self.false (subst (λ w. w.number + 1 ≡ w.limits.chapters) (sym c.self.view_is) q)))
 
 pub returns-clause-legal : goal.returns-clause-legal
 returns-clause-legal g c = rw (← c.self.view_is) c.self.invariant.is.legal
@@ -94,7 +96,7 @@ returns-in_err-opening g c =
     let p = err_from_is_err_and c.from_residual.result c.from_residual.ensures.1 in
     rw (p.1, p.2)
     record {
-      book_spent = (λ e. cc, λ q. absurd (omega (arith, c.if-self.false, subst (λ w. w.number + 1 ≡ w.limits.chapters) (sym c.self.view_is) q)));
+      book_spent = (chapter-no_memory-book_spent, λ q. absurd (not_same c.if-self.false (subst (λ w. w.number + 1 ≡ w.limits.chapters) (sym c.self.view_is) q)));
       history = tt;
       number = tt;
       legal = tt;

@@ -7,8 +7,8 @@ use Rattle.fleet_core.proofs.kernel.Core.open.Goals as goal
 
 pub invariant_of-result : goal.invariant_of-result
 invariant_of-result g c =
-    let b = c.in_ok-begun.begun in
-    rw c.new.ensures.items (subst (λ (laws : HookLaws). IsKept c.args.grid c.args.limits laws.ties 0 (start b.opening) b.state b.planner b.mailboxes) (sym c.laws.view_is) c.in_ok-begun.ensures.kept)
+    let b = c.in-Ok.begun in
+    rw c.new.ensures.items (subst (λ (laws : HookLaws). IsKept c.args.grid c.args.limits laws.ties 0 (start b.opening) b.state b.planner b.mailboxes) (sym c.laws.view_is) c.in-Ok.ensures.kept)
 
-pub returns : goal.returns
-returns g c = rw (c.new.ensures.items, c.in_ok-begun.ensures.opening, c.as_slice.ensures.value, c.in_ok-begun.ensures.mailboxes, ← c.laws.view_is) refl
+pub returns-in-Ok : goal.returns-in-Ok
+returns-in-Ok g c = rw (c.new.ensures.items, c.in-Ok.ensures.opening, c.as_slice.ensures.value, c.in-Ok.ensures.mailboxes, ← c.laws.view_is) refl
