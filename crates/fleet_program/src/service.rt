@@ -1,9 +1,9 @@
 //! What the program has to say to a map and a script that is to be served.
 
-ghost use Rattle.std.specs.Prelude.{◌≡◌, ◌≤◌, ◌<◌, ◌^◌, ◌++◌, true, length, nat_lt, IfOk, codes};
+ghost use Rattle.std.specs.Prelude.{◌≡◌, ◌≤◌, ◌<◌, ◌^◌, ◌++◌, true, length, List, ℕ, Ok, nat_lt, IfOk, OnOk, codes};
 ghost use Rattle.std.specs.List.{All};
 ghost use Rattle.fleet_map.specs.Form.{HasSides};
-ghost use Rattle.fleet_map.specs.Grammar.{view};
+ghost use Rattle.fleet_map.specs.Grammar.{map_of, view};
 ghost use Rattle.fleet_history.specs.History.{history_of};
 ghost use Rattle.fleet_history.specs.Legal.{IsLegal};
 ghost use Rattle.fleet_trace.specs.Trace.{trace_of};
@@ -19,6 +19,7 @@ ghost use Rattle.errands_words.specs.Asked.{is_serve};
 use errands_words::Job;
 use fleet_answer::{HookKit, ended, trace_line};
 use fleet_grid::Grid;
+use fleet_history::Chapter;
 use fleet_map::{MapText, read_map};
 use fleet_report::{Complaint, Said, faulty, map_complaint};
 use fleet_script::{Script, ScriptFault, read_script};
@@ -47,18 +48,27 @@ fn copy_of(alloc: Global, map: &MapText) -> Result<MapText, AllocError>
     })
 }
 
+/// Judges the chapter of a serve on the map.
+fn judge_served(alloc: Global, grid: &Grid, chapter: &Chapter) -> Result<(), AllocError>
+    ensures { OnOk result (IsLegal grid.now (history_of chapter.now)) }
+{
+    match judge(alloc, grid, chapter) {
+        Ok(()) => Ok(()),
+        Err(JudgeFault::NoMemory) => Err(AllocError),
+        // The chapter is legal on the office's own map, which is this one, so no call ends here.
+        Err(JudgeFault::Illegal { .. }) => Err(AllocError),
+    }
+}
+
 /// What is said of a serve that came to an end: its trace, which is judged on the map first.
 fn served_text(alloc: Global, grid: &Grid, served: &Served) -> Result<Said, AllocError>
     ensures legal { IfOk result (λ s. IsLegal grid.now (history_of served.now.last.chapter)) }
     ensures said { IfOk result (λ s. said s ≡ limited (nat_lt 0 served.now.lane_full) (trace_text (trace_of served.now.last.chapter) ++ codes "\n")) }
 {
     let chapter = &served.last.chapter;
-    match judge(alloc, grid, chapter) {
-        Ok(()) => ended(alloc, served.lane_full > 0, trace_line(alloc, chapter)?),
-        Err(JudgeFault::NoMemory) => Err(AllocError),
-        // The chapter is legal on the office's own map, which is this one, so no call ends here.
-        Err(JudgeFault::Illegal { .. }) => Err(AllocError),
-    }
+    judge_served(alloc, grid, chapter)?;
+    let output = trace_line(alloc, chapter)?;
+    ended(alloc, served.lane_full > 0, output)
 }
 
 /// What is said of a serve that came to no end for this reason.
@@ -143,6 +153,24 @@ fn serve_script<R: Alloc<A = Global> + Threads + Sync + Wait>(
     faulty(rt.alloc(), Complaint::Script(script.lines[at]))
 }
 
+/// What the program has to say to a script that is to be served on a map that was read.
+fn answer_script<R: Alloc<A = Global> + Threads + Sync + Wait>(
+    rt: &R,
+    map: MapText,
+    script: &[u8],
+    kit: HookKit,
+) -> Result<Said, AllocError>
+    requires sides { HasSides (view map) }
+    requires short { length script.now ≤ 16777216 }
+    ensures { (text : List ℕ) → map_of text ≡ Ok (view map) → IfOk result (λ s. IsServeOutcome (kit_laws kit) text script.now (said s)) }
+{
+    match read_script(rt.alloc(), script) {
+        Ok(script) => serve_script(rt, map, &script, kit),
+        Err(ScriptFault::NoMemory) => Err(AllocError),
+        Err(ScriptFault::Line(line)) => faulty(rt.alloc(), Complaint::Script(line)),
+    }
+}
+
 /// What the program has to say to a map and a script that is to be served.
 fn answer_serve<R: Alloc<A = Global> + Threads + Sync + Wait>(
     rt: &R,
@@ -153,14 +181,12 @@ fn answer_serve<R: Alloc<A = Global> + Threads + Sync + Wait>(
     requires { length script.now ≤ 16777216 }
     ensures { IfOk result (λ s. IsServeOutcome (kit_laws kit) map.now script.now (said s)) }
 {
-    let map = match read_map(rt.alloc(), map) {
-        Ok(map) => map,
-        Err(fault) => return faulty(rt.alloc(), map_complaint(fault)?),
-    };
-    match read_script(rt.alloc(), script) {
-        Ok(script) => serve_script(rt, map, &script, kit),
-        Err(ScriptFault::NoMemory) => Err(AllocError),
-        Err(ScriptFault::Line(line)) => faulty(rt.alloc(), Complaint::Script(line)),
+    match read_map(rt.alloc(), map) {
+        Ok(map) => answer_script(rt, map, script, kit),
+        Err(fault) => {
+            drop(kit);
+            faulty(rt.alloc(), map_complaint(fault)?)
+        }
     }
 }
 

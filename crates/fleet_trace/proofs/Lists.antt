@@ -32,6 +32,31 @@ items_none d e = sym (items_in-as_array d) ∙ ap (option_map list_of) e
 pub items_some : (ds : List Data) (d : Data) → as_array d ≡ Some (items_of ds) → items_in d ≡ Some ds
 items_some ds d e = sym (items_in-as_array d) ∙ ap (option_map list_of) e ∙ ap (λ (x : List Data). Some x) (list_of-items_of ds)
 
+-- ---- a list by its items
+
+module _ {X : Type 0} (see : X → Data) where
+  pub two : (xs : List X) {a b : X} → 2 ≤ length xs → length xs < 3 → a ≡ get_or xs 0 a → b ≡ get_or xs 1 b → map see xs ≡ see a ∷ see b ∷ []
+  two [] low high p q = absurd (omega (arith, low))
+  two (a' ∷ []) low high p q = absurd (omega (arith, low))
+  two (a' ∷ b' ∷ []) low high p q = rw (p, q) refl
+  two (a' ∷ b' ∷ c' ∷ more) low high p q = absurd (omega (arith, high))
+
+  pub three : (xs : List X) {a b c : X} → 3 ≤ length xs → length xs < 4 → a ≡ get_or xs 0 a → b ≡ get_or xs 1 b → c ≡ get_or xs 2 c → map see xs ≡ see a ∷ see b ∷ see c ∷ []
+  three [] low high p q r = absurd (omega (arith, low))
+  three (a' ∷ []) low high p q r = absurd (omega (arith, low))
+  three (a' ∷ b' ∷ []) low high p q r = absurd (omega (arith, low))
+  three (a' ∷ b' ∷ c' ∷ []) low high p q r = rw (p, q, r) refl
+  three (a' ∷ b' ∷ c' ∷ d' ∷ more) low high p q r = absurd (omega (arith, high))
+
+  pub four : (xs : List X) {a b c d : X} → 4 ≤ length xs → length xs < 5 → a ≡ get_or xs 0 a → b ≡ get_or xs 1 b → c ≡ get_or xs 2 c → d ≡ get_or xs 3 d
+      → map see xs ≡ see a ∷ see b ∷ see c ∷ see d ∷ []
+  four [] low high p q r s = absurd (omega (arith, low))
+  four (a' ∷ []) low high p q r s = absurd (omega (arith, low))
+  four (a' ∷ b' ∷ []) low high p q r s = absurd (omega (arith, low))
+  four (a' ∷ b' ∷ c' ∷ []) low high p q r s = absurd (omega (arith, low))
+  four (a' ∷ b' ∷ c' ∷ d' ∷ []) low high p q r s = rw (p, q, r, s) refl
+  four (a' ∷ b' ∷ c' ∷ d' ∷ e' ∷ more) low high p q r s = absurd (omega (arith, high))
+
 -- ---- what is written
 
 module _ {X : Type 0} (data_of : X → Data) (Fits : X → Type 0) where

@@ -173,18 +173,33 @@ fn farewell_of(word: &Value, robot: &Value, stamp: &Value) -> Option<Entry>
     shut_of(word, robot, Some(stamp))
 }
 
+/// A take or a tick, by its word and the three values behind it.
+fn event_of(
+    alloc: Global,
+    version: Version,
+    word: &Value,
+    first: &Value,
+    second: &Value,
+    third: &Value,
+) -> Result<Entry, TraceFault>
+    ensures { Gives (λ x. x) result (entry_from version (view word.now ∷ view first.now ∷ view second.now ∷ view third.now ∷ [])) }
+{
+    if says(word, "take") {
+        found(take_of(version, first, second, third))
+    } else if says(word, "tick") {
+        tick_of(alloc, version, first, second, third)
+    } else {
+        Err(TraceFault::Shape)
+    }
+}
+
 fn entry_of(alloc: Global, version: Version, values: &[Value]) -> Result<Entry, TraceFault>
     ensures { Gives (λ x. x) result (entry_from version (map view values.now)) }
 {
     match values {
         [word, robot] => found(shut_of(word, robot, None)),
         [word, robot, stamp] => found(farewell_of(word, robot, stamp)),
-        [word, client, order, answer] if says(word, "take") => found(take_of(
-            version, client, order, answer,
-        )),
-        [word, to, arrived, farewells] if says(word, "tick") => tick_of(
-            alloc, version, to, arrived, farewells,
-        ),
+        [word, first, second, third] => event_of(alloc, version, word, first, second, third),
         _ => Err(TraceFault::Shape),
     }
 }

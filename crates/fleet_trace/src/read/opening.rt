@@ -64,21 +64,28 @@ pub(crate) fn read_opening(
 ) -> Result<Opening, TraceFault>
     ensures { Gives (λ x. x) result (opening_in (view value.now)) }
 {
-    match (
-        value.get("tick").and_then(Value::as_u64),
-        value.get("queue").and_then(count_of),
-        value.get("life").and_then(Value::as_u64),
-        value.get("clients"),
-        value.get("robots"),
-    ) {
-        (Some(tick), Some(queue), Some(life), Some(clients), Some(robots))
-            if has_members(value, 5) => Ok(Opening {
-            tick,
-            queue,
-            life,
-            clients: read_row(alloc, version, clients)?,
-            robots: read_row(alloc, version, robots)?,
-        }),
-        _ => Err(TraceFault::Shape),
+    if !has_members(value, 5) {
+        return Err(TraceFault::Shape);
     }
+    let Some(tick) = value.get("tick").and_then(Value::as_u64) else {
+        return Err(TraceFault::Shape);
+    };
+    let Some(queue) = value.get("queue").and_then(count_of) else {
+        return Err(TraceFault::Shape);
+    };
+    let Some(life) = value.get("life").and_then(Value::as_u64) else {
+        return Err(TraceFault::Shape);
+    };
+    let (Some(clients), Some(robots)) = (value.get("clients"), value.get("robots")) else {
+        return Err(TraceFault::Shape);
+    };
+    let clients = read_row(alloc, version, clients)?;
+    let robots = read_row(alloc, version, robots)?;
+    Ok(Opening {
+        tick,
+        queue,
+        life,
+        clients,
+        robots,
+    })
 }

@@ -1,9 +1,10 @@
 //! What a trace's entries show, as JSON values.
 
-ghost use Rattle.std.specs.Prelude.{◌≡◌, IfOk, OnOk};
+ghost use Rattle.std.specs.Prelude.{◌≡◌, [], ◌∷◌, IfOk, OnOk};
 ghost use Rattle.serde_json.specs.View.{view};
 ghost use Rattle.std.specs.List.{AllByRecursion};
-ghost use Rattle.fleet_trace.specs.Text.{order_data, verdict_data, refused, take_data, tick_data, shut_data, entry_data};
+ghost use Rattle.fleet_trace.specs.Text.{counted, listed, word, order_data, verdict_data, take_data, tick_data, shut_data, entry_data};
+ghost use Rattle.fleet_book.specs.declared.order.Order.{Order};
 ghost use Rattle.fleet_trace.specs.Fits.{Fits32, OrderFits, VerdictFits, ArrivalFits, ByeFits, StampFits, EntryFits};
 
 use super::values::{WriteValue, array_of, word, write_list};
@@ -12,6 +13,29 @@ use fleet_history::{Arrival, Bye, Entry};
 use serde_json::Value;
 use std::alloc::{AllocError, Allocator, Global};
 
+/// A word alone.
+fn plain(alloc: Global, letters: &str) -> Result<Value, AllocError>
+    ensures { IfOk result (λ v. view v ≡ listed (word letters.now ∷ [])) }
+{
+    array_of(alloc, [word(alloc, letters)?])
+}
+
+/// A word and a number.
+fn numbered(alloc: Global, letters: &str, number: u64) -> Result<Value, AllocError>
+    ensures { IfOk result (λ v. view v ≡ listed (word letters.now ∷ counted number ∷ [])) }
+{
+    array_of(alloc, [word(alloc, letters)?, Value::from(number)])
+}
+
+fn go_value(alloc: Global, robot: u32, cell: u32) -> Result<Value, AllocError>
+    ensures { IfOk result (λ v. view v ≡ order_data (Order.Go robot cell)) }
+{
+    array_of(
+        alloc,
+        [word(alloc, "go")?, Value::from(robot), Value::from(cell)],
+    )
+}
+
 impl WriteValue for Order {
     ghost written = { order_data };
 
@@ -19,23 +43,11 @@ impl WriteValue for Order {
 
     fn write_value(&self, alloc: Global) -> Result<Value, AllocError> {
         match *self {
-            Order::Go { robot, cell } => array_of(
-                alloc,
-                [word(alloc, "go")?, Value::from(robot), Value::from(cell)],
-            ),
-            Order::Close => array_of(alloc, [word(alloc, "close")?]),
-            Order::Withdraw { number } => array_of(
-                alloc,
-                [word(alloc, "withdraw")?, Value::from(number)],
-            ),
+            Order::Go { robot, cell } => go_value(alloc, robot, cell),
+            Order::Close => plain(alloc, "close"),
+            Order::Withdraw { number } => numbered(alloc, "withdraw", number),
         }
     }
-}
-
-fn refused_value(alloc: Global, code: u32) -> Result<Value, AllocError>
-    ensures { IfOk result (λ v. view v ≡ refused code) }
-{
-    array_of(alloc, [word(alloc, "refused")?, Value::from(code)])
 }
 
 impl WriteValue for Verdict {
@@ -45,22 +57,19 @@ impl WriteValue for Verdict {
 
     fn write_value(&self, alloc: Global) -> Result<Value, AllocError> {
         match *self {
-            Verdict::Accepted(number) => array_of(
-                alloc,
-                [word(alloc, "accepted")?, Value::from(number)],
-            ),
-            Verdict::Closed => array_of(alloc, [word(alloc, "closed")?]),
-            Verdict::Withdrawn => array_of(alloc, [word(alloc, "withdrawn")?]),
-            Verdict::ClientClosed => refused_value(alloc, 1),
-            Verdict::NoRobot => refused_value(alloc, 2),
-            Verdict::RobotShut => refused_value(alloc, 3),
-            Verdict::NoCell => refused_value(alloc, 4),
-            Verdict::Blocked => refused_value(alloc, 5),
-            Verdict::Unreachable => refused_value(alloc, 6),
-            Verdict::QueueFull => refused_value(alloc, 7),
-            Verdict::LifeSpent => refused_value(alloc, 8),
-            Verdict::NoErrand => refused_value(alloc, 9),
-            Verdict::TooLate => refused_value(alloc, 10),
+            Verdict::Accepted(number) => numbered(alloc, "accepted", number),
+            Verdict::Closed => plain(alloc, "closed"),
+            Verdict::Withdrawn => plain(alloc, "withdrawn"),
+            Verdict::ClientClosed => numbered(alloc, "refused", 1),
+            Verdict::NoRobot => numbered(alloc, "refused", 2),
+            Verdict::RobotShut => numbered(alloc, "refused", 3),
+            Verdict::NoCell => numbered(alloc, "refused", 4),
+            Verdict::Blocked => numbered(alloc, "refused", 5),
+            Verdict::Unreachable => numbered(alloc, "refused", 6),
+            Verdict::QueueFull => numbered(alloc, "refused", 7),
+            Verdict::LifeSpent => numbered(alloc, "refused", 8),
+            Verdict::NoErrand => numbered(alloc, "refused", 9),
+            Verdict::TooLate => numbered(alloc, "refused", 10),
         }
     }
 }

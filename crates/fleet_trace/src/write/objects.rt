@@ -1,35 +1,78 @@
 //! The objects of a trace, as JSON values.
 
-ghost use Rattle.std.specs.Prelude.{codes, ◌≡◌, IfOk, ℕ};
-ghost use Rattle.serde_json.specs.Data.{object, member, no_members};
-ghost use Rattle.serde_json.specs.View.{view};
-ghost use Rattle.fleet_trace.specs.Text.{counted};
+ghost use Rattle.std.specs.Prelude.{◌≡◌, IfOk, OnOk};
+ghost use Rattle.serde_json.specs.Data.{no_members, object};
+ghost use Rattle.serde_json.specs.View.{members_view, view};
+ghost use Rattle.fleet_trace.specs.Trace.{trace_of};
+ghost use Rattle.fleet_trace.specs.Text.{opening_data, trace_data};
+ghost use Rattle.fleet_trace.specs.Fits.{OpeningFits, TraceFits};
 
-use serde_json::{Value, json};
-use std::alloc::{AllocError, Global};
+use super::values::write_list;
+use fleet_history::{Chapter, Opening};
+use serde_json::{Map, Value, put};
+use std::alloc::{AllocError, Allocator, Global};
 
-/// The object of an opening, from the values of its clients and robots.
-pub(crate) fn opening_object(
+/// Puts in the members of an opening, where there are none.
+fn put_opening<A: Allocator + Copy>(
     alloc: Global,
-    clients: Value,
-    life: u64,
-    queue: u32,
-    robots: Value,
-    tick: u64,
-) -> Result<Value, AllocError>
-    ensures { IfOk result (λ v. view v ≡ object (member (codes "clients") (view clients) (member (codes "life") (counted life) (member (codes "queue") (counted queue) (member (codes "robots") (view robots) (member (codes "tick") (counted tick) no_members)))))) }
+    members: &mut Map<String, Value>,
+    opening: &Opening<A>,
+) -> Result<(), AllocError>
+    requires { members_view members.old.entries ≡ no_members }
+    ensures value { OnOk result (object (members_view members.new.entries) ≡ opening_data opening.now) }
+    ensures fits { OnOk result (OpeningFits opening.now) }
 {
-    json!(in alloc; {"clients": clients, "life": life, "queue": queue, "robots": robots, "tick": tick})
+    let (life, queue, tick) = (opening.life, opening.queue, opening.tick);
+    let clients = write_list(alloc, opening.clients.as_slice())?;
+    put(members, alloc, "clients", clients)?;
+    put(members, alloc, "life", Value::from(life))?;
+    put(members, alloc, "queue", Value::from(queue))?;
+    let robots = write_list(alloc, opening.robots.as_slice())?;
+    put(members, alloc, "robots", robots)?;
+    put(members, alloc, "tick", Value::from(tick))
 }
 
-/// The object of a trace, from the values of its entries and its opening.
-pub(crate) fn trace_object(
+/// The object of an opening.
+fn opening_value<A: Allocator + Copy>(
     alloc: Global,
-    number: u32,
-    entries: Value,
-    opening: Value,
+    opening: &Opening<A>,
 ) -> Result<Value, AllocError>
-    ensures { IfOk result (λ v. view v ≡ object (member (codes "chapter") (counted number) (member (codes "entries") (view entries) (member (codes "opening") (view opening) (member (codes "version") (counted 2) no_members))))) }
+    ensures value { IfOk result (λ v. view v ≡ opening_data opening.now) }
+    ensures fits { OnOk result (OpeningFits opening.now) }
 {
-    json!(in alloc; {"chapter": number, "entries": entries, "opening": opening, "version": 2u32})
+    let mut members = Map::new(alloc);
+    put_opening(alloc, &mut members, opening)?;
+    Ok(Value::Object(members))
+}
+
+/// Puts in the members of a chapter's trace, where there are none.
+fn put_chapter<A: Allocator + Copy>(
+    alloc: Global,
+    members: &mut Map<String, Value>,
+    chapter: &Chapter<A>,
+) -> Result<(), AllocError>
+    requires { members_view members.old.entries ≡ no_members }
+    ensures value { OnOk result (object (members_view members.new.entries) ≡ trace_data (trace_of chapter.now)) }
+    ensures fits { OnOk result (TraceFits (trace_of chapter.now)) }
+{
+    let number = chapter.number;
+    put(members, alloc, "chapter", Value::from(number))?;
+    let entries = write_list(alloc, &chapter.entries)?;
+    put(members, alloc, "entries", entries)?;
+    let opening = opening_value(alloc, &chapter.opening)?;
+    put(members, alloc, "opening", opening)?;
+    put(members, alloc, "version", Value::from(2u32))
+}
+
+/// The object of a chapter's trace.
+pub(crate) fn trace_value<A: Allocator + Copy>(
+    alloc: Global,
+    chapter: &Chapter<A>,
+) -> Result<Value, AllocError>
+    ensures value { IfOk result (λ v. view v ≡ trace_data (trace_of chapter.now)) }
+    ensures fits { OnOk result (TraceFits (trace_of chapter.now)) }
+{
+    let mut members = Map::new(alloc);
+    put_chapter(alloc, &mut members, chapter)?;
+    Ok(Value::Object(members))
 }

@@ -33,7 +33,14 @@ pub(crate) fn write_list<T: WriteValue>(alloc: Global, items: &[T]) -> Result<Va
     for item in items {
         values.push_reserved(item.write_value(alloc)?);
     }
-    Ok(Value::Array(values))
+    Ok(array(values))
+}
+
+/// The array of a list of values.
+fn array(values: Vec<Value>) -> Value
+    ensures { view result ≡ listed (map view values.items) }
+{
+    Value::Array(values)
 }
 
 /// The array of the values.
@@ -43,7 +50,7 @@ pub(crate) fn array_of<const N: usize>(
 ) -> Result<Value, AllocError>
     ensures { IfOk result (λ v. view v ≡ listed (map view values.entry)) }
 {
-    Ok(Value::Array(Vec::from_array(alloc, values)?))
+    Ok(array(Vec::from_array(alloc, values)?))
 }
 
 /// The word as a value.

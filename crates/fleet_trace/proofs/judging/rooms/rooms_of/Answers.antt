@@ -1,10 +1,16 @@
-use Rattle.std.proofs.Common.{◌≡◌, ◌∙◌, sym, subst, arith, length, map, take, slice_index, List}
+-- Room for the errands of each robot, entry by entry.
+use Rattle.std.proofs.Common.{◌≡◌, ◌≤◌, ◌∙◌, sym, subst, arith, length, map, take, slice_index, List}
+use Rattle.std.specs.Prelude.{All}
 use Rattle.std.proofs.lemmas.List.{length-map, take_all}
 use Rattle.fleet_history.specs.declared.history.Entry.{Entry}
+use Rattle.fleet_history.specs.declared.history.RobotState.{RobotState}
 use Rattle.fleet_trace.specs.Rooms.{room_for}
 use Rattle.fleet_trace.proofs.Rooms.{rooms-opened, room-within, room-joined, room-kept}
 use Rattle.fleet_trace.proofs.judging.rooms.rooms_of.Goals as goal
 use Rattle.fleet_trace.proofs.judging.rooms.rooms_of.Goals.{in-Some, in_default}
+
+pub opened_rooms-requires : goal.opened_rooms-requires
+opened_rooms-requires g c = subst (λ (robots : List (RobotState _)). All (λ x. length x.errands ≤ c.args.opening.now.queue) robots) (sym c.as_slice.ensures) c.requires
 
 pub loop-entry-init : goal.loop-entry-init
 loop-entry-init g c =
