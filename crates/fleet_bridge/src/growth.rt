@@ -3,7 +3,7 @@
 
 ghost use Rattle.std.specs.Prelude.{◌≡◌, ◌<◌, vec_len, true};
 
-use crate::numbers::{own_numbers, read, write};
+use crate::numbers::{append, own_numbers, read, write};
 use crate::sides::Sides;
 use fleet_grid::Dir;
 use std::alloc::{AllocError, Allocator, Global};
@@ -42,21 +42,15 @@ impl<A: Allocator + Copy> Growth<A> {
     }
 }
 
-/// Places a cell below its parent, unless it is placed.
+/// Places a cell below its parent, unless it is placed. The order has room for each cell once.
 #[inline(always)]
-fn place<A: Allocator + Copy>(
-    growth: &mut Growth<A>,
-    cell: u32,
-    parent: u32,
-    root: u32,
-) -> Result<(), AllocError> {
+fn place<A: Allocator + Copy>(growth: &mut Growth<A>, cell: u32, parent: u32, root: u32) {
     if growth.is_unplaced(cell) {
         growth.placed[cell as usize] = true;
         write(&mut growth.up, cell, parent);
         write(&mut growth.top, cell, root);
-        growth.order.push(cell)?;
+        append(&mut growth.order, cell);
     }
-    Ok(())
 }
 
 /// The neighbour in a direction, unless it is placed.
@@ -101,12 +95,12 @@ fn grow<A: Allocator + Copy, B: Allocator + Copy>(
     growth: &mut Growth<A>,
     cell: u32,
     root: u32,
-) -> Result<u32, AllocError> {
+) -> u32 {
     let Some(next) = first_unplaced(sides, growth, cell) else {
-        return Ok(read(&growth.up, cell));
+        return read(&growth.up, cell);
     };
-    place(growth, next, cell, root)?;
-    Ok(next)
+    place(growth, next, cell, root);
+    next
 }
 
 /// Places the part of the root, each cell below the last one that had a way to it. So an edge off the tree leads from
@@ -116,17 +110,16 @@ fn place_part<A: Allocator + Copy, B: Allocator + Copy>(
     growth: &mut Growth<A>,
     count: u32,
     root: u32,
-) -> Result<(), AllocError> {
-    place(growth, root, root, root)?;
+) {
+    place(growth, root, root, root);
     let mut cell = root;
     for _ in 0..2 * u64::from(count) {
-        let next = grow(sides, growth, cell, root)?;
+        let next = grow(sides, growth, cell, root);
         if next == cell {
             break;
         }
         cell = next;
     }
-    Ok(())
 }
 
 /// Places each part below its first cell.
@@ -134,13 +127,12 @@ fn place_parts<A: Allocator + Copy, B: Allocator + Copy>(
     sides: &Sides<'_, A, B>,
     growth: &mut Growth<A>,
     count: u32,
-) -> Result<(), AllocError> {
+) {
     for root in 0..count {
         if sides.grid().is_floor(root) && growth.is_unplaced(root) {
-            place_part(sides, growth, count, root)?;
+            place_part(sides, growth, count, root);
         }
     }
-    Ok(())
 }
 
 /// All cells placed, each part below its first cell.
@@ -150,7 +142,7 @@ pub(crate) fn place_all<A: Allocator + Copy, B: Allocator + Copy>(
     count: u32,
 ) -> Result<Growth<A>, AllocError> {
     let mut growth = Growth::new(alloc, count)?;
-    place_parts(sides, &mut growth, count)?;
+    place_parts(sides, &mut growth, count);
     Ok(growth)
 }
 

@@ -24,6 +24,13 @@ pub(crate) fn write<A: Allocator + Copy>(list: &mut Vec<u32, A>, at: u32, value:
     }
 }
 
+/// Appends a number, if there is room.
+pub(crate) fn append<A: Allocator + Copy>(list: &mut Vec<u32, A>, value: u32) {
+    if list.len() < list.capacity() {
+        list.push_reserved(value);
+    }
+}
+
 /// Each place's own number.
 pub(crate) fn own_numbers<A: Allocator + Copy>(
     alloc: A,

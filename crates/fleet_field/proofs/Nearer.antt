@@ -1,12 +1,12 @@
 -- Steps down the ways that lead nearer are as many as the distance.
-use Rattle.std.proofs.Common.{◌≡◌, ◌≢◌, ℕ, zero, suc, ◌+◌, ◌-◌, ◌*◌, ◌<◌, ◌≤◌, ◌⊎◌, inl, inr, ◌==◌, Bool, true, false, cond, List, [], ◌∷◌, length, get_or, slice_index, Option, Some, None, MatchOption, refl, sym, ap, subst, ◌∙◌, arith}
+use Rattle.std.proofs.Common.{◌≡◌, ◌≢◌, ℕ, zero, suc, ◌+◌, ◌-◌, ◌*◌, ◌<◌, ◌≤◌, ◌⊎◌, inl, inr, ◌==◌, Bool, true, false, cond, List, [], ◌∷◌, length, get_or, slice_index, Option, Some, None, MatchOption, IsTrue, ◌↔◌, refl, sym, ap, subst, ◌∙◌, arith}
 use Rattle.std.specs.Int.{bit_at}
 use Rattle.std.proofs.lemmas.Bool.{cases_lt, eqb-true, eq-eqb, false≢true}
 use Rattle.std.proofs.lemmas.List.{get_or_past}
 use Rattle.std.proofs.lemmas.List.FromFn.{get_or-map-range_with_len, length-map-range_with_len}
 use Rattle.fleet_grid.specs.declared.dir.Dir.{Dir}
 use Rattle.fleet_grid.specs.declared.dir.Dir.TheVariants.{North, East, South, West}
-use Rattle.fleet_grid.specs.Floor.{Floor, HasForm, IsFloor, IsBeside, IsNeighbour}
+use Rattle.fleet_grid.specs.Floor.{Floor, HasForm, IsFloor, IsBeside, IsNeighbour, IsNeighbourIn}
 use Rattle.fleet_grid.specs.Walk.{Walks, IsDistance, AreApart}
 use Rattle.fleet_grid.specs.Ways.{IsWay, IsLess, AreNearer}
 use Rattle.fleet_grid.specs.Padded.{IsPadded, place}
@@ -249,3 +249,10 @@ are_nearer m h w goal ways is ew cell dir n near =
           subst (λ (x : ℕ). IsLess (get_or (aways_down h w goal ways) x None) (get_or (aways_down h w goal ways) cell None)) (beside_once w dir cell t.0 n t.1 beside) t.2),
       λ less. is.right.all cell dir n beside less,
     )
+
+-- whether one is less than another tells whether the neighbour in a direction is nearer
+pub nearer_tells : (m : Floor) (dir : Dir) (cell next w : ℕ) (away : List (Option ℕ)) (r : Bool) (a b : Option ℕ) → IsNeighbourIn m dir cell next → IsNeighbourIn m dir cell w →
+    a ≡ get_or away next None → b ≡ get_or away cell None → IsTrue r ↔ IsLess a b → IsTrue r ↔ IsLess (get_or away w None) (get_or away cell None)
+nearer_tells m dir cell next w away r a b here there p q tells =
+    let same : a ≡ get_or away w None = p ∙ ap (λ (k : ℕ). get_or away k None) (beside_once m.width dir cell next w here.beside there.beside) in
+    subst (λ (x : Option ℕ). IsTrue r ↔ IsLess x (get_or away cell None)) same (subst (λ (y : Option ℕ). IsTrue r ↔ IsLess a y) q tells)

@@ -1,5 +1,5 @@
 -- A plan as it goes from robot to robot, over lists.
-use Rattle.std.proofs.Common.{Bool, IsTrue, eqb, ◌↔◌, ◌≡◌, ◌≢◌, ℕ, ◌+◌, ◌<◌, ◌≤◌, ◌*◌, ◌⊎◌, inl, inr, Option, Some, None, List, length, slice_index, slice_set, sym, subst, ap, ◌∙◌, arith}
+use Rattle.std.proofs.Common.{Bool, IsTrue, eqb, refl, ◌↔◌, ◌≡◌, ◌≢◌, ℕ, ◌+◌, ◌<◌, ◌≤◌, ◌*◌, ◌⊎◌, inl, inr, Option, Some, None, List, length, slice_index, slice_set, sym, subst, ap, ◌∙◌, arith}
 use Rattle.std.proofs.Math.ListN.{set}
 use Rattle.std.specs.Option.{option_eq}
 use Rattle.std.proofs.lemmas.Bool.{cases_eq, cases_lt}
@@ -9,9 +9,10 @@ use Rattle.std.proofs.lemmas.Nat.{mul-le}
 use Rattle.fleet_pibt.specs.inside.Plan.{Written, Distinct}
 use Rattle.fleet_grid.specs.Floor.{Floor, HasForm, IsFloor}
 use Rattle.fleet_grid.proofs.Forms.{floor_inside}
-use Rattle.fleet_pibt.proofs.Grow.{Grown-trans, Shut-keep}
+use Rattle.fleet_pibt.proofs.Grow.{Grown-refl, Grown-trans, Shut-keep}
 use Rattle.fleet_pibt.specs.inside.Entry.{table}
-use Rattle.fleet_pibt.specs.inside.Setting.{Setting, robots, cell_of, near, cost, Stands, Unmoved, IsScene, IsStanding, IsReady, HasFailed, HasGrown, IsShut, Refused, IsChoice, IsChoices, HasTried}
+use Rattle.fleet_pibt.specs.inside.Setting.{Setting, robots, cell_of, near, cost, Stands, Unmoved, IsScene, IsStanding, IsReady, IsDone, HasFailed, HasGrown, IsShut, Refused, IsChoice, IsChoices, HasTried}
+use Rattle.fleet_pibt.specs.inside.Setting.Refused.{was_shut}
 use Rattle.fleet_pibt.proofs.Reserve.{none_or_some}
 
 -- distinct robots stand on distinct cells
@@ -73,6 +74,22 @@ pub record IsTrying (s : Setting) (target holder target' holder' : List (Option 
   pub tried : (j : ℕ) → j < k → IsShut s target' holder' robot (slice_index cells j)
   pub refused : 0 < k → Refused s target holder robot (slice_index cells 0)
   pub start : k ≡ 0 → (target' ≡ target) × (holder' ≡ holder)
+
+-- before the first choice
+pub trying-start : (s : Setting) (target holder : List (Option ℕ)) (robot : ℕ) (cells : List ℕ) → IsReady s target holder robot → IsTrying s target holder target holder robot cells 0
+trying-start s target holder robot cells ready = record {
+  grown = Grown-refl (near s) (robots s) (cell_of s) (cost s) robot (table target) (table holder) ready.tidy ready.edge ready.idle;
+  targets = refl;
+  holders = refl;
+  tried = λ j less. absurd (omega (arith, less));
+  refused = λ less. absurd (omega (arith, less));
+  start = λ e. (refl, refl);
+}
+
+-- a cell that is shut is refused at once
+pub refused-shut : (s : Setting) (target holder : List (Option ℕ)) (robot cell : ℕ) → IsReady s target holder robot → IsShut s target holder robot cell →
+    HasGrown s target holder target holder robot × IsShut s target holder robot cell × Refused s target holder robot cell
+refused-shut s target holder robot cell ready shut = (Grown-refl (near s) (robots s) (cell_of s) (cost s) robot (table target) (table holder) ready.tidy ready.edge ready.idle, shut, was_shut shut)
 
 module _ (s : Setting) (scene : IsScene s) (target holder target' holder' : List (Option ℕ)) (robot : ℕ) (cells : List ℕ) (k : ℕ)
     (ready : IsReady s target holder robot) (choices : IsChoices s robot cells) (trying : IsTrying s target holder target' holder' robot cells k) where
@@ -190,3 +207,11 @@ module _ (s : Setting) (target holder target' holder' : List (Option ℕ)) (robo
       | inr ne ↦ inr (trying.refused (omega arith))
     ],
   )
+
+  pub trying-done : IsDone s target' holder' target'' holder'' robot → IsDone s target holder target'' holder'' robot
+  trying-done done = record {
+    keep = λ r c e. done.keep r c (trying.grown.keep r c e);
+    settled = done.settled;
+    tidy = done.tidy;
+    edge = done.edge;
+  }

@@ -13,7 +13,6 @@ use Rattle.fleet_pibt.specs.Purposeful.{IsPurposeful}
 use Rattle.fleet_pibt.specs.inside.Setting.{Setting, robots, IsScene, IsPlanned, IsChosen, NamesAll}
 use Rattle.fleet_pibt.specs.inside.Tables.{IsTaken}
 use Rattle.fleet_pibt.specs.Ties.{IsByLaw}
-use Rattle.fleet_pibt.proofs.Entries.{planned-decided}
 use Rattle.fleet_pibt.proofs.Ordered.{order-names, eldest-first}
 use Rattle.fleet_pibt.proofs.Theorem.{conflict-free, purposeful, advances-at, by-law-at}
 
@@ -21,39 +20,37 @@ written : (o : Option ℕ) → o ≢ None → (v : ℕ) → ((d : ℕ) → o ≡
 written None ne v h = absurd (ne refl)
 written (Some d) ne v h = ap Some (sym (h d refl))
 
+-- a whole plan, as it is written out
+pub chosen-from : (s : Setting) (queue : List ℕ) (target0 holder0 target holder : List (Option ℕ)) (to : List ℕ) → IsEmpty target0 → IsEmpty holder0 → IsPlanned s target0 holder0 target holder queue (length queue) →
+    ((r : ℕ) → r < robots s → table target r ≢ None) → length to ≡ robots s → IsTaken target to (length to) → IsChosen s queue to
+chosen-from s queue target0 holder0 target holder to no-target no-holder planned decided same taken = (
+  target,
+  holder,
+  target0,
+  holder0,
+  no-target,
+  no-holder,
+  planned,
+  λ r l. written (table target r) (decided r l) (slice_index to r) (λ d e. taken r d (omega arith) e),
+)
+
 module _ (s : Setting) (scene : IsScene s) (waits : List (Option ℕ)) (waited : length waits ≡ robots s) (are : AreGoals s.floor s.from waits s.goals s.distance) (queue : List ℕ) (order : IsOrder waits queue)
-    (target0 holder0 target holder : List (Option ℕ)) (no-target : IsEmpty target0) (no-holder : IsEmpty holder0) (planned : IsPlanned s target0 holder0 target holder queue (length queue)) where
+    (to : List ℕ) (same : length to ≡ robots s) (chosen : IsChosen s queue to) where
   stepped-names : NamesAll s queue
   stepped-names = order-names s waits queue waited order
 
-  pub stepped-decided : (r : ℕ) → r < robots s → table target r ≢ None
-  stepped-decided = planned-decided s target0 holder0 target holder queue stepped-names planned
+  pub stepped-conflict_free : IsConflictFree s.floor s.from to
+  stepped-conflict_free = conflict-free s scene waits are queue to same stepped-names chosen
 
-  module _ (to : List ℕ) (same : length to ≡ robots s) (taken : IsTaken target to (length to)) where
-    stepped-chosen : IsChosen s queue to
-    stepped-chosen = (
-      target,
-      holder,
-      target0,
-      holder0,
-      no-target,
-      no-holder,
-      planned,
-      λ r l. written (table target r) (stepped-decided r l) (slice_index to r) (λ d e. taken r d (omega arith) e),
-    )
+  pub stepped-purposeful : IsPurposeful s.floor s.goals s.from to
+  stepped-purposeful = purposeful s scene waits are queue to same stepped-names chosen
 
-    pub stepped-conflict_free : IsConflictFree s.floor s.from to
-    stepped-conflict_free = conflict-free s scene waits are queue to same stepped-names stepped-chosen
+  pub stepped-advances : (e g : ℕ) → IsEldest waits e → s.goals e ≡ Some g → IsOpenAhead s.floor s.from g (slice_index s.from e) → Advances s.floor g (slice_index s.from e) (slice_index to e)
+  stepped-advances e g eldest is = advances-at s scene waits are queue to same stepped-names chosen e g (eldest-first waits queue order e eldest) is
 
-    pub stepped-purposeful : IsPurposeful s.floor s.goals s.from to
-    stepped-purposeful = purposeful s scene waits are queue to same stepped-names stepped-chosen
+  pub stepped-bridgeless : IsBridgeless (IsNeighbour s.floor) → IsAdvancing s.floor waits s.goals s.from to
+  stepped-bridgeless no-bridge e g eldest is = stepped-advances e g eldest is (λ w n closer. inr (no-bridge (slice_index s.from e) w))
 
-    pub stepped-advances : (e g : ℕ) → IsEldest waits e → s.goals e ≡ Some g → IsOpenAhead s.floor s.from g (slice_index s.from e) → Advances s.floor g (slice_index s.from e) (slice_index to e)
-    stepped-advances e g eldest is = advances-at s scene waits are queue to same stepped-names stepped-chosen e g (eldest-first waits queue order e eldest) is
-
-    pub stepped-bridgeless : IsBridgeless (IsNeighbour s.floor) → IsAdvancing s.floor waits s.goals s.from to
-    stepped-bridgeless no-bridge e g eldest is = stepped-advances e g eldest is (λ w n closer. inr (no-bridge (slice_index s.from e) w))
-
-    pub stepped-by_law : (e g : ℕ) (law : TieLaw) → IsEldest waits e → s.goals e ≡ Some g → IsOpenAhead s.floor s.from g (slice_index s.from e) → slice_get s.laws e ≡ Some law →
-        IsByLaw s.floor law g (slice_index s.from e) (slice_index to e)
-    stepped-by_law e g law eldest is ahead at = by-law-at s scene waits are queue to same stepped-names stepped-chosen e g (eldest-first waits queue order e eldest) is ahead law at
+  pub stepped-by_law : (e g : ℕ) (law : TieLaw) → IsEldest waits e → s.goals e ≡ Some g → IsOpenAhead s.floor s.from g (slice_index s.from e) → slice_get s.laws e ≡ Some law →
+      IsByLaw s.floor law g (slice_index s.from e) (slice_index to e)
+  stepped-by_law e g law eldest is ahead at = by-law-at s scene waits are queue to same stepped-names chosen e g (eldest-first waits queue order e eldest) is ahead law at

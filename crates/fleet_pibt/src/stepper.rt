@@ -1,14 +1,19 @@
 //! One step of all robots.
 
-ghost use Rattle.std.specs.Prelude.{IfOk, ◌≡◌, ℕ, ◌≤◌, length, map, slice_get, slice_index, Some};
-ghost use Rattle.fleet_grid.specs.Floor.{IsNeighbour};
+ghost use Rattle.std.specs.Prelude.{IfOk, ◌≡◌, ℕ, ◌<◌, ◌≤◌, length, map, slice_get, slice_index, Some};
+ghost use Rattle.fleet_grid.specs.Floor.{HasForm, IsFloor, IsNeighbour};
 ghost use Rattle.fleet_grid.specs.Step.{IsPlacement, IsConflictFree};
 ghost use Rattle.fleet_grid.specs.Walk.{IsBridgeless};
 ghost use Rattle.fleet_pibt.specs.Advancing.{Advances, IsAdvancing, IsOpenAhead};
 ghost use Rattle.fleet_pibt.specs.Eldest.{IsEldest};
 ghost use Rattle.fleet_pibt.specs.Goals.{AreGoals};
+ghost use Rattle.fleet_pibt.specs.Order.{IsOrder, IsRoll};
 ghost use Rattle.fleet_pibt.specs.Purposeful.{IsPurposeful};
 ghost use Rattle.fleet_pibt.specs.Ties.{IsByLaw};
+ghost use Rattle.fleet_pibt.specs.inside.Around.{AreArounds};
+ghost use Rattle.fleet_pibt.specs.inside.Entry.{IsEmpty};
+ghost use Rattle.fleet_pibt.specs.inside.Setting.{IsChosen};
+ghost use Rattle.fleet_pibt.specs.inside.Tables.{IsClear};
 
 use crate::around::{Around, gather};
 use crate::board::Board;
@@ -16,6 +21,8 @@ use crate::goals::Goals;
 use crate::plan::plan_all;
 use crate::priority::{numbered, put_in_order};
 use crate::scene::Scene;
+use crate::seats::Seats;
+use crate::sight::Sight;
 use crate::tables::{fetch, lift, place, settle};
 use fleet_grid::Grid;
 use fleet_hooks::TieHook;
@@ -100,12 +107,7 @@ impl<A: Allocator + Copy> Stepper<A> {
             slice_get (map (λ h. h.law) ties.now) e ≡ Some law →
             IsByLaw grid.now law g (slice_index from.now e) (slice_index to.new e) }
     {
-        // The count comes with the form of the map, which the proof reads.
-        let _cells = grid.cell_count();
-        put_in_order(waits, &mut self.queue);
-        gather(grid, from, goals, &mut self.arounds);
-        fetch(&self.arounds, &mut self.board.seats);
-        place(from, &mut self.board.seats);
+        see(grid, from, goals, &mut self.arounds, &mut self.board.seats);
         let scene = Scene {
             grid,
             goals,
@@ -114,8 +116,59 @@ impl<A: Allocator + Copy> Stepper<A> {
             arounds: &self.arounds,
             tick,
         };
-        plan_all(&scene, &mut self.board, &self.queue);
-        lift(from, &mut self.board.seats);
-        settle(&mut self.board, to);
+        decide(&scene, from, waits, &mut self.queue, &mut self.board, to);
     }
+}
+
+/// Writes down what each robot sees, and fetches the entries that its plan asks for.
+fn see<G: Goals, A: Allocator + Copy>(
+    grid: &Grid<A>,
+    from: &[u32],
+    goals: &G,
+    arounds: &mut [Around],
+    seats: &mut Seats<A>,
+)
+    requires same_length { length arounds.old ≡ length from.now }
+    requires few { length from.now ≤ 512 }
+    requires floor { (r : ℕ) → r < length from.now → IsFloor grid.now (slice_index from.now r) }
+    requires cells { length seats.old.standing ≡ length grid.now.letters }
+    requires nobody { IsEmpty seats.old.standing }
+    ensures arounds { AreArounds grid.now (G.goal_of goals.now) (G.distance goals.now) from.now arounds.new }
+    ensures cells { length seats.new.standing ≡ length seats.old.standing }
+    ensures nobody { IsEmpty seats.new.standing }
+    ensures holder { seats.new.holder ≡ seats.old.holder }
+    ensures form { HasForm grid.now }
+{
+    // The count comes with the form of the map, which the proof reads.
+    let _cells = grid.cell_count();
+    gather(grid, from, goals, arounds);
+    fetch(arounds, seats);
+}
+
+/// Plans the robots in their order of priority on an empty board, writes out where each goes, and empties the board again.
+fn decide<S: Sight, A: Allocator + Copy>(
+    scene: &S,
+    from: &[u32],
+    waits: &[Option<u64>],
+    queue: &mut [u32],
+    board: &mut Board<A>,
+    to: &mut [u32],
+)
+    requires whole { S.is_whole scene.now }
+    requires from { from.now ≡ (S.setting scene.now).from }
+    requires waited { length waits.now ≡ length from.now }
+    requires queued { length queue.old ≡ length waits.now }
+    requires roll { IsRoll queue.old }
+    requires same_length { length to.old ≡ length from.now }
+    requires clear { let s = S.setting scene.now in IsClear (length s.floor.letters) (length from.now) board.old.target board.old.seats }
+    ensures order { IsOrder waits.now queue.new }
+    ensures roll { IsRoll queue.new }
+    ensures clear { let s = S.setting scene.now in IsClear (length s.floor.letters) (length from.now) board.new.target board.new.seats }
+    ensures chosen { IsChosen (S.setting scene.now) queue.new to.new }
+{
+    put_in_order(waits, queue);
+    place(from, &mut board.seats);
+    plan_all(scene, board, queue);
+    lift(from, &mut board.seats);
+    settle(board, to);
 }

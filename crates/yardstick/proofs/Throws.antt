@@ -22,6 +22,9 @@ push_all P xs x all one k small = elim (cases_eq k (length xs)) [
   | inr ne ↦ (let less : k < length xs = omega (arith, small, ne, length_push xs x) in subst P (sym (get_or-append xs (x ∷ []) 0 k less)) (all k less))
 ]
 
+pub within_none : (m : Floor) (home : ℕ) → AreWithin m home []
+within_none m home k small = absurd (omega (arith, small))
+
 pub within_more : (m : Floor) (home : ℕ) (cells : List ℕ) (c : ℕ) → AreWithin m home cells → IsWithin m home c → AreWithin m home (cells ++ c ∷ [])
 within_more m home cells c all one = push_all (IsWithin m home) cells c all one
 

@@ -143,7 +143,7 @@ pub(crate) fn map_of(alloc: Global, kind: Kind) -> Result<MapText, AllocError>
     let mut cells = Vec::with_capacity(alloc, height as usize * width as usize)?;
     for cell in 0..height * width {
         let is_floor = kind.has_floor(cell / width, cell % width);
-        cells.push(if is_floor { b'.' } else { b'@' })?;
+        cells.push_reserved(if is_floor { b'.' } else { b'@' });
     }
     Ok(MapText {
         height,

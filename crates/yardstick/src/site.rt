@@ -1,6 +1,6 @@
 //! The map that a measure is made on, with goals and starts that are thrown over one part of it.
 
-ghost use Rattle.std.specs.Prelude.{◌≡◌, ℕ, ◌+◌, ◌<◌, ◌≤◌, length, slice_get, slice_index, slice_set, IfOk, MatchOption, Some, true, false, vec_len};
+ghost use Rattle.std.specs.Prelude.{◌≡◌, ℕ, ◌+◌, ◌<◌, ◌≤◌, length, slice_get, slice_index, slice_set, IfOk, MatchOption, Some, true, false, vec_capacity, vec_len};
 ghost use Rattle.fleet_grid.specs.Floor.{IsFloor};
 ghost use Rattle.fleet_grid.specs.Step.{IsPlacement};
 ghost use Rattle.fleet_field.specs.Field.{IsField};
@@ -44,7 +44,6 @@ impl Site {
     }
 
     /// So many cells of the part; a cell may be there more than once.
-    #[tactic(auto, using(crate::proofs::Throws::within_more))]
     pub fn goals(
         &self,
         alloc: Global,
@@ -56,13 +55,12 @@ impl Site {
     {
         let mut goals = Vec::with_capacity(alloc, count)?;
         for _ in 0..count {
-            goals.push(self.cell(random))?;
+            goals.push_reserved(self.cell(random));
         }
         Ok(goals)
     }
 
     /// The fields of so many goals in the part.
-    #[tactic(auto, using(crate::proofs::Throws::serves_none, crate::proofs::Throws::serves_more))]
     pub fn fields(
         &self,
         alloc: Global,
@@ -75,7 +73,8 @@ impl Site {
         let mut fields = Vec::with_capacity(alloc, count)?;
         for _ in 0..count {
             let goal = self.cell(random);
-            fields.push(Compass::from(alloc, &self.grid, goal)?)?;
+            let field = Compass::from(alloc, &self.grid, goal)?;
+            fields.push_reserved(field);
         }
         Ok(fields)
     }
@@ -99,7 +98,7 @@ impl Site {
                 break;
             }
             let cell = self.cell(random);
-            add_start(self, &mut taken, &mut starts, cell)?;
+            add_start(self, &mut taken, &mut starts, cell);
         }
         Ok(starts)
     }
@@ -129,7 +128,6 @@ fn is_within(grid: &Grid, home: u32, cell: u32) -> bool
 }
 
 /// Adds a cell that is of the part, and not `home`.
-#[tactic(auto, using(crate::proofs::Throws::within_more))]
 fn add_within(grid: &Grid, home: u32, cells: &mut Vec<u32>, cell: u32) -> Result<(), AllocError>
     requires home { IsFloor grid.now home }
     requires within { AreWithin grid.now home cells.old.items }
@@ -177,22 +175,17 @@ fn take(taken: &mut Vec<bool>, cell: u32) -> bool
     !was_taken
 }
 
-/// Adds a cell of the part to the starts, unless it is one of them.
-#[tactic(auto, using(crate::proofs::Throws::starts_more))]
-fn add_start(
-    site: &Site,
-    taken: &mut Vec<bool>,
-    starts: &mut Vec<u32>,
-    cell: u32,
-) -> Result<(), AllocError>
+/// Adds a cell of the part to the starts, which have room for it, unless it is one of them.
+fn add_start(site: &Site, taken: &mut Vec<bool>, starts: &mut Vec<u32>, cell: u32)
     requires within { IsWithin site.now.grid site.now.home cell }
     requires starts { AreStarts site.now.grid site.now.home taken.old.items starts.old.items }
-    ensures few { IfOk result (λ u. vec_len starts.new ≤ vec_len starts.old + 1) }
-    ensures starts { IfOk result (λ u. AreStarts site.now.grid site.now.home taken.new.items starts.new.items) }
+    requires room { vec_len starts.old < vec_capacity starts.old }
+    ensures few { vec_len starts.new ≤ vec_len starts.old + 1 }
+    ensures room { vec_capacity starts.new ≡ vec_capacity starts.old }
+    ensures starts { AreStarts site.now.grid site.now.home taken.new.items starts.new.items }
 {
     if !take(taken, cell) {
-        return Ok(());
+        return;
     }
-    starts.push(cell)?;
-    Ok(())
+    starts.push_reserved(cell);
 }

@@ -1,6 +1,7 @@
 -- The tables of a step, as they are filled and emptied.
 use Rattle.std.specs.Prelude.{◌≡◌, ℕ, ◌<◌, Option, Some, List, length, slice_get, slice_index}
-use Rattle.fleet_pibt.specs.inside.Entry.{table}
+use Rattle.fleet_pibt.specs.inside.Entry.{table, IsEmpty}
+use Rattle.fleet_pibt.specs.inside.Seating.{Seating}
 use Rattle.fleet_pibt.specs.declared.around.Around.{Around}
 
 -- each cell of the list is below the number of cells
@@ -24,3 +25,12 @@ IsTaken target to k = (r c : ℕ) → r < k → table target r ≡ Some c → sl
 pub record IsMatched (target holder : List (Option ℕ)) : Type 0 where
   pub held : (r c : ℕ) → table target r ≡ Some c → table holder c ≡ Some r
   pub kept : (c r : ℕ) → table holder c ≡ Some r → table target r ≡ Some c
+
+-- nobody stands on a board for so many cells and robots, has decided or has reserved a cell
+pub record IsClear (cells robots : ℕ) (target : List (Option ℕ)) (seats : Seating) : Type 0 where
+  pub targets : length target ≡ robots
+  pub standings : length seats.standing ≡ cells
+  pub holders : length seats.holder ≡ cells
+  pub no_target : IsEmpty target
+  pub nobody : IsEmpty seats.standing
+  pub no_holder : IsEmpty seats.holder

@@ -1,3 +1,4 @@
+-- The places up to one in doubt.
 use Rattle.std.proofs.Common.{below_more, arith}
 use Rattle.fleet_bridge.specs.inside.Places.{HasNoneAt}
 use Rattle.fleet_bridge.proofs.Steps.{none_before, none_of_spot}
@@ -26,3 +27,18 @@ returns-then-looked-most g c =
 
 pub returns : goal.returns
 returns g c = λ v lt. c.loop-at.invariant v (omega (arith, c.loop-at-test.false, lt))
+
+pub has_bare-requires-clause-laid_out : goal.has_bare-requires-clause-laid_out
+has_bare-requires-clause-laid_out g c = c.requires.laid_out
+
+pub spot_at-spot-requires-clause-laid_out : goal.spot_at-spot-requires-clause-laid_out
+spot_at-spot-requires-clause-laid_out g c = c.requires.laid_out
+
+pub spot_at-spot-requires-clause-open : goal.spot_at-spot-requires-clause-open
+spot_at-spot-requires-clause-open g c = c.has_bare.ensures.open c.if-not-has_bare.false
+
+pub steps_around-requires-clause-laid_out : goal.steps_around-requires-clause-laid_out
+steps_around-requires-clause-laid_out g c = c.requires.laid_out
+
+pub steps_around-requires-clause-spot : goal.steps_around-requires-clause-spot
+steps_around-requires-clause-spot g c = c.spot_at-spot.ensures.spot

@@ -1,4 +1,4 @@
-use Rattle.std.proofs.Common.{arith, MatchOption, subst}
+use Rattle.std.proofs.Common.{MatchOption, subst}
 use Rattle.fleet_grid.specs.Floor.{IsNeighbour}
 use Rattle.fleet_grid.specs.Walk.{IsBridgeless}
 use Rattle.fleet_bridge.specs.inside.First.{HasNoneBelow}

@@ -1,4 +1,4 @@
-use Rattle.std.proofs.Common.{arith, ◌↔◌, IfOk, IsTrue, sym, subst}
+use Rattle.std.proofs.Common.{◌↔◌, IfOk, IsTrue, sym, subst}
 use Rattle.fleet_grid.specs.Floor.{IsNeighbour}
 use Rattle.fleet_grid.specs.Walk.{IsBridge}
 use Rattle.fleet_bridge.proofs.first.is_bridge_by.Goals as goal

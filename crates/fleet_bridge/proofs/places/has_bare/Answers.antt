@@ -1,4 +1,5 @@
-use Rattle.std.proofs.Common.{arith, ◌≡◌, ◌⊎◌, inl, inr, Bool, true, false, ◌||◌, refl}
+-- Edges to the east and the south of a place.
+use Rattle.std.proofs.Common.{◌≡◌, ◌⊎◌, inl, inr, Bool, true, false, ◌||◌, refl}
 use Rattle.fleet_bridge.proofs.Squares.{neither}
 use Rattle.fleet_bridge.proofs.Rounds.{from_none}
 use Rattle.fleet_bridge.proofs.places.has_bare.Goals as goal

@@ -1,4 +1,4 @@
-use Rattle.std.proofs.Common.{arith, sym, ◌∙◌}
+use Rattle.std.proofs.Common.{sym, ◌∙◌}
 use Rattle.std.proofs.lemmas.Result.{IfOk-from_err}
 use Rattle.fleet_bridge.proofs.Inner.{under_own}
 use Rattle.fleet_bridge.proofs.reach.furthest.Goals as goal

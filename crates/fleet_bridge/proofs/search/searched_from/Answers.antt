@@ -1,4 +1,4 @@
-use Rattle.std.proofs.Common.{arith, ℕ, Option, MatchOption, subst}
+use Rattle.std.proofs.Common.{ℕ, Option, MatchOption, subst}
 use Rattle.std.proofs.lemmas.Result.{IfOk-from_err}
 use Rattle.fleet_grid.specs.declared.dir.Dir.TheVariants.{East}
 use Rattle.fleet_bridge.specs.inside.First.{HasNoneBeside, IsBeside}

@@ -1,3 +1,4 @@
+-- All that a walk comes to, cell by cell.
 use Rattle.std.proofs.Common.{◌≡◌, ◌<◌, length, arith, subst, sym, ℕ, get_or, refl, ◌∙◌}
 use Rattle.std.proofs.lemmas.List.{get_or_read_under}
 use Rattle.fleet_bridge.specs.inside.Search.{NearWithout, IsMarked}
@@ -70,3 +71,7 @@ returns-in_err-visit_around-clause-reach g c = IfOk-from_err c.from_residual-in_
 
 pub returns-clause-size : goal.returns-clause-size
 returns-clause-size g c = c.loop-head.seen.ok.0 ∙ c.loop-head.invariant.size
+
+pub loop-head-smaller : goal.loop-head-smaller
+loop-head-smaller g c =
+    omega (arith, queue_le (NearWithout c.args.grid.now c.args.from c.args.to) c.args.from (length c.args.grid.now.letters) c.loop-head.seen.items c.loop-head.queue.items c.loop-head.invariant.front, c.loop-head.queue.ok.0, c.loop-head-test.true, c.len.ensures)

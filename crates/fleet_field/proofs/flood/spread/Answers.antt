@@ -1,4 +1,4 @@
-use Rattle.std.proofs.Common.{◌≡◌, take, arith, ℕ, ◌+◌, ◌<◌, ◌≤◌, inl, inr, [], length, slice_index, refl, subst, ◌∙◌}
+use Rattle.std.proofs.Common.{◌≡◌, take, arith, ℕ, ◌+◌, ◌≤◌, inl, inr, [], length, slice_index, refl, subst, ◌∙◌}
 use Rattle.fleet_field.proofs.Spread.{front_inside, ends, begins, kept, extends_on, still_done}
 use Rattle.std.proofs.lemmas.Bool.{cases_lt}
 use Rattle.std.proofs.lemmas.List.{length-take-le}

@@ -1,4 +1,4 @@
-use Rattle.std.proofs.Common.{◌≡◌, ℕ, ◌≤◌, ◌<◌, ◌+◌, ◌-◌, length, slice_index, take}
+use Rattle.std.proofs.Common.{ℕ, ◌≤◌, ◌+◌, ◌-◌, length, take}
 use Rattle.fleet_field.specs.inside.Search.{Search, IsStart, SameWalls, far_count}
 use Rattle.fleet_field.proofs.flood.spread_all.Given as goal
 

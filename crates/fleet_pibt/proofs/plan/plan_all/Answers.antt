@@ -1,4 +1,4 @@
-use Rattle.std.proofs.Common.{◌≡◌, ◌≢◌, ◌∙◌, ℕ, Option, Some, None, length, slice_index, refl, true, false, arith, sym, subst, List}
+use Rattle.std.proofs.Common.{◌≡◌, ◌≢◌, ◌∙◌, ℕ, Option, Some, None, length, slice_index, refl, true, false, arith, sym, subst}
 use Rattle.std.specs.Option.{is_some}
 use Rattle.fleet_pibt.specs.inside.Entry.{table}
 use Rattle.fleet_pibt.proofs.Whole.{planned-skip, planned-call, planned-start, planned-ready}

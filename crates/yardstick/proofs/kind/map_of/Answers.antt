@@ -16,10 +16,14 @@ letters-more cells c all one k small = elim (cases_eq k (length cells)) [
       subst (λ (x : ℕ). is_letter x ≡ true) (sym (get_or-append cells (c ∷ []) 0 k less)) (all k less))
 ]
 
+pub push_reserved-requires : goal.push_reserved-requires
+push_reserved-requires c = omega (arith, c.loop-cell.invariant.count, c.loop-cell.invariant.room, c.loop-cell-test.true)
+
 pub loop-cell-preserved : goal.loop-cell-preserved
 loop-cell-preserved c =
-    let letter : is_letter c.if-is_floor.push ≡ true = elim c.if-is_floor.branch [ then-is_floor w ↦ ap is_letter w.push-is | else-is_floor w ↦ ap is_letter w.push-is ] in
+    let letter : is_letter c.if-is_floor.push_reserved ≡ true = elim c.if-is_floor.branch [ then-is_floor w ↦ ap is_letter w.push_reserved-is | else-is_floor w ↦ ap is_letter w.push_reserved-is ] in
     record {
-      count = omega (arith, c.in_ok-push.ensures.len, c.loop-cell.invariant.count);
-      letters = subst HasLetters (sym c.in_ok-push.ensures.items) (letters-more c.loop-cell.cells.items c.if-is_floor.push c.loop-cell.invariant.letters letter);
+      count = omega (arith, c.push_reserved.ensures.len, c.loop-cell.invariant.count);
+      room = omega (arith, c.push_reserved.ensures.capacity, c.loop-cell.invariant.room);
+      letters = subst HasLetters (sym c.push_reserved.ensures.items) (letters-more c.loop-cell.cells.items c.if-is_floor.push_reserved c.loop-cell.invariant.letters letter);
     }
