@@ -61,7 +61,7 @@ pub(crate) fn newcomers_of<N: ScriptName>(
         let client = clients.remove(0);
         let guest = Guest::new(client);
         let newcomer = Newcomer::new(guest);
-        newcomers.push(newcomer)?;
+        newcomers.push_reserved(newcomer);
     }
     Ok(newcomers)
 }
