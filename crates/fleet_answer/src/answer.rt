@@ -1,9 +1,9 @@
 //! What the program has to say to the texts that it read.
 
-ghost use Rattle.std.specs.Prelude.{◌≡◌, ◌≤◌, ◌++◌, length, IfOk, codes, string_bytes};
+ghost use Rattle.std.specs.Prelude.{◌≡◌, ◌≤◌, ◌++◌, ℕ, List, Ok, length, IfOk, codes, string_bytes};
 ghost use Rattle.std.specs.List.{list_any};
 ghost use Rattle.fleet_map.specs.Form.{HasSides};
-ghost use Rattle.fleet_map.specs.Grammar.{view};
+ghost use Rattle.fleet_map.specs.Grammar.{map_of, view};
 ghost use Rattle.fleet_calls.specs.Opening.{IsNamed};
 ghost use Rattle.fleet_report.specs.Output.{is_limit_met};
 ghost use Rattle.fleet_answer.specs.Answer.{IsBundleOutcome, IsMapOutcome, IsDescribed, IsPartsOutcome, IsScriptOutcome, IsUnplayed, floor_of_map, limited, run_output, run_outcome};
@@ -174,6 +174,25 @@ fn run_script<R: Alloc<A = Global> + Threads + Sync>(
     }
 }
 
+/// What the program has to say to a script on a map that was read.
+fn answer_script<R: Alloc<A = Global> + Threads + Sync>(
+    rt: &R,
+    map: MapText,
+    script: &[u8],
+    kit: HookKit,
+    trace: bool,
+) -> Result<Said, AllocError>
+    requires sides { HasSides (view map) }
+    requires short { length script.now ≤ 16777216 }
+    ensures { (text : List ℕ) → map_of text ≡ Ok (view map) → IfOk result (λ s. IsPartsOutcome (kit_laws kit) trace text script.now (said s)) }
+{
+    match read_script(rt.alloc(), script) {
+        Ok(script) => run_script(rt, map, script, kit, trace),
+        Err(ScriptFault::NoMemory) => Err(AllocError),
+        Err(ScriptFault::Line(line)) => faulty(rt.alloc(), Complaint::Script(line)),
+    }
+}
+
 /// What the program has to say to a map and a script.
 pub fn answer_parts<R: Alloc<A = Global> + Threads + Sync>(
     rt: &R,
@@ -185,14 +204,12 @@ pub fn answer_parts<R: Alloc<A = Global> + Threads + Sync>(
     requires { length script.now ≤ 16777216 }
     ensures { IfOk result (λ s. IsPartsOutcome (kit_laws kit) trace map.now script.now (said s)) }
 {
-    let map = match read_map(rt.alloc(), map) {
-        Ok(map) => map,
-        Err(fault) => return faulty(rt.alloc(), map_complaint(fault)?),
-    };
-    match read_script(rt.alloc(), script) {
-        Ok(script) => run_script(rt, map, script, kit, trace),
-        Err(ScriptFault::NoMemory) => Err(AllocError),
-        Err(ScriptFault::Line(line)) => faulty(rt.alloc(), Complaint::Script(line)),
+    match read_map(rt.alloc(), map) {
+        Ok(map) => answer_script(rt, map, script, kit, trace),
+        Err(fault) => {
+            drop(kit);
+            faulty(rt.alloc(), map_complaint(fault)?)
+        }
     }
 }
 
