@@ -150,6 +150,9 @@ pub entry-some : (nothing n : ℕ) → n < nothing → entry_beside nothing n �
 entry-some nothing n l = elim (eqb_tells n nothing) [ inl p ↦ absurd (omega (arith, p.1)) | inr p ↦ ap (λ (b : Bool). entry_by b n) p.0 ]
 
 -- one more robot is entered
+pub place-none : (from : List ℕ) (standing : List (Option ℕ)) → IsEmpty standing → IsPlaced from standing 0
+place-none from standing empty = record { stands = λ c r at. absurd (cc (at, empty c)); placed = λ r less. absurd (omega (arith, less)) }
+
 pub place-next : (from : List ℕ) (standing standing' standing0 : List (Option ℕ)) (k : ℕ) → Distinct (length from) (slice_index from) → k < length from → slice_index from k < length standing0 → length standing ≡ length standing0 →
     IsPlaced from standing k → standing' ≡ slice_set standing (slice_index from k) (Some k) → (length standing' ≡ length standing0) × IsPlaced from standing' (k + 1)
 place-next from standing standing' standing0 k distinct l inside same placed e =

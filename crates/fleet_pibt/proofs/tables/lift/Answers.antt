@@ -1,3 +1,4 @@
+-- The table as the robots leave it, one after another.
 use Rattle.std.proofs.Common.{refl, arith, ◌∙◌}
 use Rattle.fleet_pibt.proofs.Entries.{lift-next, lift-done}
 use Rattle.fleet_pibt.proofs.tables.lift.Goals as goal
@@ -12,3 +13,12 @@ loop-cell-preserved g c =
 
 pub returns-clause-empty : goal.returns-clause-empty
 returns-clause-empty g c = lift-done c.args.from.now c.loop-cell.seats.standing c.loop-cell.cell-index c.loop-cell-test.false c.loop-cell.invariant.rests
+
+pub leave-requires : goal.leave-requires
+leave-requires g c = omega (arith, c.requires.inside c.loop-cell.cell-index c.loop-cell-test.true, c.loop-cell.invariant.same_length)
+
+pub returns-clause-same_length : goal.returns-clause-same_length
+returns-clause-same_length g c = c.loop-cell.invariant.same_length
+
+pub returns-clause-holder : goal.returns-clause-holder
+returns-clause-holder g c = c.loop-cell.invariant.holder
