@@ -5,6 +5,7 @@ pub mod Distance
 pub mod Transfer
 pub mod Shares
 pub mod Uses
+pub mod Missing
 pub mod Together
 pub mod Sides
 pub mod Made

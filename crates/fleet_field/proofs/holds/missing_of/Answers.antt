@@ -1,6 +1,6 @@
 use Rattle.std.proofs.Common.{◌≡◌, ℕ, ◌+◌, ◌<◌, ◌⊎◌, List, [], ◌∷◌, ◌++◌, length, slice_index, sym, ap, subst, ◌∙◌, arith}
 use Rattle.fleet_field.specs.inside.Uses.{HasGoal, IsOneOf}
-use Rattle.fleet_field.proofs.Uses.{each_same, each_more, only_more}
+use Rattle.fleet_field.proofs.Missing.{each_same, each_more, only_more}
 use Rattle.fleet_field.proofs.holds.missing_of.Goals as goal
 use Rattle.fleet_field.proofs.holds.missing_of.Goals.{then-is_missing+in_ok-push, else-is_missing}
 

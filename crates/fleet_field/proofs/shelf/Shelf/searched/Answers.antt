@@ -1,7 +1,7 @@
 use Rattle.std.proofs.Common.{ℕ, ◌<◌, List, length, slice_index, IfOk, sym, subst}
 use Rattle.fleet_grid.specs.Floor.{IsFloor}
 use Rattle.fleet_field.specs.Several.{AreFields}
-use Rattle.fleet_field.proofs.Uses.{floor_missing}
+use Rattle.fleet_field.proofs.Missing.{floor_missing}
 use Rattle.fleet_field.proofs.Ahead.{searched_of}
 use Rattle.fleet_field.proofs.shelf.Shelf.searched.Goals as goal
 

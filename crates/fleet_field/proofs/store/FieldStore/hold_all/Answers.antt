@@ -6,7 +6,7 @@ use Rattle.fleet_field.specs.Field.{Aim}
 use Rattle.fleet_field.specs.Several.{AreFields, AreHeld}
 use Rattle.fleet_field.specs.Store.{shown, Serves, IsOnce}
 use Rattle.fleet_field.specs.declared.store.Held.{Held}
-use Rattle.fleet_field.proofs.Uses.{floor_missing}
+use Rattle.fleet_field.proofs.Missing.{floor_missing}
 use Rattle.fleet_field.proofs.Together.{each_with, held_with, served_with, once_with, on_ok, on_err}
 use Rattle.fleet_field.proofs.store.FieldStore.hold_all.Goals as goal
 
