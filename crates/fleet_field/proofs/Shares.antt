@@ -1,10 +1,10 @@
 -- What a change at one key leaves of a store.
-use Rattle.std.proofs.Common.{◌≡◌, ◌≢◌, ℕ, ◌+◌, ◌<◌, inl, inr, List, [], Option, Some, None, IsSome, Bool, true, false, cond, nat_le, ◌-◌, refl, sym, ap, subst, ◌∙◌, arith, rules}
-use Rattle.std.proofs.lemmas.Bool.{cases_eq, false≢true}
+use Rattle.std.proofs.Common.{◌≡◌, ◌≢◌, ℕ, ◌+◌, ◌<◌, ◌≤◌, inl, inr, List, [], Option, Some, None, IsSome, Bool, true, false, cond, nat_le, ◌-◌, refl, sym, ap, subst, ◌∙◌, arith, rules}
+use Rattle.std.proofs.lemmas.Bool.{cases_eq, false≢true, lt-leb, le-leb}
 use Rattle.fleet_grid.specs.Floor.{Floor}
 use Rattle.fleet_field.specs.Field.{Aim, IsField}
 use Rattle.fleet_field.specs.declared.store.Held.{Held}
-use Rattle.fleet_field.specs.Store.{shown, Serves, IsOnce, IsHold, IsHeldMore, IsRelease, HasUsesLeft}
+use Rattle.fleet_field.specs.Store.{shown, Serves, IsOnce, IsHold, IsHeldMore, IsRelease, HasUsesLeft, after_release}
 
 pub some_once : (a b : Held Aim) → Some a ≡ Some b → a ≡ b
 some_once a b e = search (rules, e)
@@ -57,6 +57,21 @@ module _ (old new : List (Option (Held Aim))) (key : ℕ) (others : (other : ℕ
   hold_new m aimed fresh vacant is e right one = record {
     shared = λ other held eo eg. absurd (fresh other held eo eg);
     held = subst (λ (o : Option (Held Aim)). IsHeldMore m aimed o (shown new key)) (sym vacant) (is, e, right, one);
+    others = others;
+  }
+
+  -- with one hold less the key shows the same field, and with the last one it shows nothing
+  pub released_more : (was : Held Aim) → shown old key ≡ Some was → 1 < was.uses → shown new key ≡ Some (record was { uses = was.uses - 1 }) → IsRelease old new key
+  released_more was at more now = record {
+    released = λ held e. subst (λ (h : Held Aim). shown new key ≡ after_release h) (some_once was held (sym at ∙ e))
+        (now ∙ sym (ap (λ (b : Bool). cond b None (Some (record was { uses = was.uses - 1 }))) (lt-leb was.uses 1 more)));
+    others = others;
+  }
+
+  pub released_last : (was : Held Aim) → shown old key ≡ Some was → was.uses ≤ 1 → shown new key ≡ None → IsRelease old new key
+  released_last was at last now = record {
+    released = λ held e. subst (λ (h : Held Aim). shown new key ≡ after_release h) (some_once was held (sym at ∙ e))
+        (now ∙ sym (ap (λ (b : Bool). cond b None (Some (record was { uses = was.uses - 1 }))) (le-leb was.uses 1 last)));
     others = others;
   }
 
