@@ -45,6 +45,17 @@ fn opening_fault(fault: OpenFault) -> ServeFault
     }
 }
 
+/// Why a serve ends with this fault of its conclusion.
+fn conclusion_fault(fault: ConcludeFault) -> ServeFault
+    ensures { IsLater result }
+{
+    match fault {
+        ConcludeFault::ChapterFull => ServeFault::ChapterFull,
+        // Nobody is away, so what is left is want of memory.
+        _ => ServeFault::NoMemory,
+    }
+}
+
 /// Both tickers.
 fn pair_of<N: ScriptName>(
     alloc: Global,
@@ -99,9 +110,7 @@ fn conclude<N: ScriptName, R: Alloc<A = Global> + Wait>(
         // No serve begins another chapter, so no call ends here.
         Ok(last) if last.chapter.number != 0 => Err(ServeFault::NoMemory),
         Ok(last) => Ok(Served { last, lane_full }),
-        Err((ConcludeFault::ChapterFull, _home)) => Err(ServeFault::ChapterFull),
-        // Nobody is away, so what is left is want of memory.
-        Err(_) => Err(ServeFault::NoMemory),
+        Err((fault, _home)) => Err(conclusion_fault(fault)),
     }
 }
 

@@ -1,4 +1,4 @@
-use Rattle.std.proofs.Common.{◌≡◌, ◌<◌, ◌∷◌, ◌++◌, [], length, arith, subst, sym}
+use Rattle.std.proofs.Common.{◌≡◌, ◌<◌, length, arith, subst, sym}
 use Rattle.std.proofs.lemmas.Grind.{common_steps}
 use Rattle.fleet_office.specs.Views.{AreOn, cores}
 use Rattle.fleet_office.proofs.Guests.{on_push, moves_on, all_moved}

@@ -1,5 +1,5 @@
 -- Each notice that is known moves from the front of the outlet to the end of the list.
-use Rattle.std.proofs.Common.{◌≡◌, ◌++◌, ◌∷◌, [], length, sym, ap, ◌∙◌, arith, append_assoc}
+use Rattle.std.proofs.Common.{◌++◌, ◌∷◌, [], length, sym, ap, ◌∙◌, arith, append_assoc}
 use Rattle.fleet_office.proofs.resting.move_outlet.Goals as goal
 
 pub loop-preserved : goal.loop-preserved

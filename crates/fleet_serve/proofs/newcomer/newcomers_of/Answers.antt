@@ -1,5 +1,5 @@
 -- The first client of those left, before its first line.
-use Rattle.std.proofs.Common.{◌≡◌, ◌<◌, [], length, arith, sym, subst}
+use Rattle.std.proofs.Common.{◌≡◌, [], arith, sym, subst}
 use Rattle.fleet_office.proofs.Guests.{on_first, on_rest}
 use Rattle.fleet_serve.proofs.Clients.{new-first, new-rest}
 use Rattle.fleet_serve.proofs.newcomer.newcomers_of.Goals as goal

@@ -1,4 +1,4 @@
-use Rattle.std.proofs.Common.{subst}
+use Rattle.std.proofs.Common.{refl, subst}
 use Rattle.fleet_book.specs.declared.limits.Limits.{Limits}
 use Rattle.fleet_serve.specs.Posted.{AreNew}
 use Rattle.fleet_serve.proofs.Clients.{new-pairs}
@@ -36,3 +36,39 @@ returns-in-Ok-clause-all g c = c.serve_at.ensures.all
 
 pub returns-in-Ok-clause-rest : goal.returns-in-Ok-clause-rest
 returns-in-Ok-clause-rest g c = c.serve_at.ensures.rest
+
+pub returns-in-Err-Limits-clause-first : goal.returns-in-Err-Limits-clause-first
+returns-in-Err-Limits-clause-first g c = tt
+
+pub returns-in-Err-Limits-clause-legal : goal.returns-in-Err-Limits-clause-legal
+returns-in-Err-Limits-clause-legal g c = tt
+
+pub returns-in-Err-Limits-clause-advancing : goal.returns-in-Err-Limits-clause-advancing
+returns-in-Err-Limits-clause-advancing g c = tt
+
+pub returns-in-Err-Limits-clause-tick : goal.returns-in-Err-Limits-clause-tick
+returns-in-Err-Limits-clause-tick g c = tt
+
+pub returns-in-Err-Limits-clause-posted : goal.returns-in-Err-Limits-clause-posted
+returns-in-Err-Limits-clause-posted g c = tt
+
+pub returns-in-Err-Limits-clause-all : goal.returns-in-Err-Limits-clause-all
+returns-in-Err-Limits-clause-all g c = tt
+
+pub returns-in-Err-Limits-clause-rest : goal.returns-in-Err-Limits-clause-rest
+returns-in-Err-Limits-clause-rest g c = tt
+
+pub serve_at-requires-clause-named : goal.serve_at-requires-clause-named
+serve_at-requires-clause-named g c κs within = record { ledger = refl; parts = refl; rings = refl }
+
+pub serve_at-requires-clause-clients : goal.serve_at-requires-clause-clients
+serve_at-requires-clause-clients g c κs within = c.in-Ok.ensures.ok.0
+
+pub serve_at-requires-clause-limits : goal.serve_at-requires-clause-limits
+serve_at-requires-clause-limits g c κs within = c.in-Ok.ensures.ok.1
+
+pub serve_at-requires-clause-events : goal.serve_at-requires-clause-events
+serve_at-requires-clause-events g c κs within = refl
+
+pub serve_at-requires-clause-orders : goal.serve_at-requires-clause-orders
+serve_at-requires-clause-orders g c κs within = refl

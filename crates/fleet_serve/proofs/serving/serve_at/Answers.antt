@@ -90,3 +90,24 @@ returns-in_err-starts-clause-all g c = IfOk-from_err c.from_residual.result _ c.
 
 pub returns-in_err-starts-clause-rest : goal.returns-in_err-starts-clause-rest
 returns-in_err-starts-clause-rest g c = IfOk-from_err c.from_residual.result _ c.from_residual.ensures.0
+
+pub returns-in-Err-clause-first : goal.returns-in-Err-clause-first
+returns-in-Err-clause-first g c = tt
+
+pub returns-in-Err-clause-legal : goal.returns-in-Err-clause-legal
+returns-in-Err-clause-legal g c = tt
+
+pub returns-in-Err-clause-advancing : goal.returns-in-Err-clause-advancing
+returns-in-Err-clause-advancing g c = tt
+
+pub returns-in-Err-clause-tick : goal.returns-in-Err-clause-tick
+returns-in-Err-clause-tick g c = tt
+
+pub returns-in-Err-clause-posted : goal.returns-in-Err-clause-posted
+returns-in-Err-clause-posted g c = tt
+
+pub returns-in-Err-clause-all : goal.returns-in-Err-clause-all
+returns-in-Err-clause-all g c = tt
+
+pub returns-in-Err-clause-rest : goal.returns-in-Err-clause-rest
+returns-in-Err-clause-rest g c = tt

@@ -47,3 +47,15 @@ returns-clause-told g c =
     let rests : RestsAre c.fill.new.rooms.items s.core cs = subst (RestsAre c.fill.new.rooms.items s.core) e c.fill.ensures.rests in
     told-ended g.N.OfficeName.rings s.core s.ends.items s.book.total c.self.invariant f.result.1.number (history_of f.result.1) cs c.fill.new.rooms.items
     (f.ensures.number ∙ c.fill.ensures.core.number) (f.ensures.history ∙ c.fill.ensures.core.history) c.requires.on settled rests
+
+pub fill-requires-clause-known : goal.fill-requires-clause-known
+fill-requires-clause-known g c = c.self.invariant.box_count
+
+pub returns-clause-floor : goal.returns-clause-floor
+returns-clause-floor g c = rw (← c.self.view_is) (c.finish-grid.ensures.floor ∙ c.fill.ensures.core.floor)
+
+pub returns-clause-history : goal.returns-clause-history
+returns-clause-history g c = rw (← c.self.view_is) (c.finish-grid.ensures.history ∙ c.fill.ensures.core.history)
+
+pub returns-clause-number : goal.returns-clause-number
+returns-clause-number g c = rw (← c.self.view_is) (c.finish-grid.ensures.number ∙ c.fill.ensures.core.number)

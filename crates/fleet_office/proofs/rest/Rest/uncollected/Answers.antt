@@ -1,4 +1,4 @@
-use Rattle.std.proofs.Common.{◌≤◌, ◌+◌, length, rules, get_or, ◌∙◌, arith, ap, sym}
+use Rattle.std.proofs.Common.{length, arith, ap}
 use Rattle.fleet_core.specs.Core.{pending}
 use Rattle.fleet_office.proofs.Rested.{at_most_found}
 use Rattle.fleet_office.proofs.rest.Rest.uncollected.Goals as goal

@@ -1,5 +1,5 @@
 -- The part that is given away, and what is left.
-use Rattle.std.proofs.Common.{arith, ap, sym}
+use Rattle.std.proofs.Common.{arith, ap}
 use Rattle.fleet_office.proofs.ticker.Ticker.split.Goals as goal
 
 pub invariant_of-self : goal.invariant_of-self
