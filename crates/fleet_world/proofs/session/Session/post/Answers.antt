@@ -1,6 +1,7 @@
 -- A post of a client that there is not, to a lane that is full, and one that is done.
 use Rattle.std.proofs.Common.{◌∙◌, ◌+◌, ◌<◌, ◌≤◌, length, subst, refl, ap}
 use Rattle.std.specs.Prelude.{slice_index_or, slice_set}
+use Rattle.std.proofs.lemmas.Result.{IfOk-from_err}
 use Rattle.fleet_core.proofs.Stamped.{set-back}
 use Rattle.fleet_world.specs.Run.{Lists, lane, no_lists, with_sent, state_of}
 use Rattle.fleet_world.proofs.Fronts.{lists_there}
@@ -31,3 +32,18 @@ returns-clause-step g c =
       c.in_ok-number.ensures.number ∙ ap (λ (l : Lists). length l.sent + 1) there,
       ap (λ (l : Lists). state_of c.args.self.now.world.core (slice_set all c.args.client l)) (c.in_ok-number.ensures.sent ∙ ap (λ (l : Lists). with_sent l c.args.order) there),
     )
+
+pub index_mut-lists-requires : goal.index_mut-lists-requires
+index_mut-lists-requires g c = subst (λ n. c.args.client < n) c.len.ensures c.if-client-len.false
+
+pub returns-then-client-len-clause-err : goal.returns-then-client-len-clause-err
+returns-then-client-len-clause-err g c = tt
+
+pub returns-then-lane_len-lane-clause-err : goal.returns-then-lane_len-lane-clause-err
+returns-then-lane_len-lane-clause-err g c = tt
+
+pub returns-clause-err : goal.returns-clause-err
+returns-clause-err g c = tt
+
+pub returns-in_err-number-clause-step : goal.returns-in_err-number-clause-step
+returns-in_err-number-clause-step g c = IfOk-from_err c.from_residual.result _ c.from_residual.ensures.0
