@@ -1,5 +1,5 @@
 -- A collect of a client that there is not, of a notice, and of none.
-use Rattle.std.proofs.Common.{◌≡◌, ◌∙◌, ◌<◌, ◌≤◌, [], Some, subst, sym, refl, ap}
+use Rattle.std.proofs.Common.{◌≡◌, ◌∙◌, ◌<◌, ◌≤◌, [], Some, subst, refl, ap}
 use Rattle.std.specs.Prelude.{slice_get, slice_set}
 use Rattle.fleet_core.proofs.Stamped.{set-back}
 use Rattle.fleet_world.specs.Run.{Lists, outlet, with_collected, state_of}
