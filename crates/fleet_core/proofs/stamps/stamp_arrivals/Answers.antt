@@ -1,4 +1,4 @@
-use Rattle.std.proofs.Common.{arith, ◌≡◌, ◌<◌, ◌∙◌, List, length, map, ap, subst, sym, get_or, refl}
+use Rattle.std.proofs.Common.{arith, ◌≡◌, ℕ, ◌<◌, ◌≤◌, ◌∙◌, List, length, map, ap, subst, sym, get_or, refl}
 use Rattle.std.proofs.lemmas.List.{get_or-map}
 use Rattle.fleet_hooks.specs.Law.{IsStamp}
 use Rattle.fleet_hooks.specs.declared.law.StampLaw.{StampLaw}
@@ -6,7 +6,7 @@ use Rattle.fleet_history.specs.declared.history.Arrival.{Arrival}
 use Rattle.fleet_history.specs.Legal.{Due, due_of, no_law}
 use Rattle.fleet_core.specs.Hooks.{law_at}
 use Rattle.fleet_core.proofs.Delivers.{nobody}
-use Rattle.fleet_core.proofs.Stamped.{word-at, set-alike, one-more}
+use Rattle.fleet_core.proofs.Stamped.{default-any, word-at, set-alike, one-more}
 use Rattle.fleet_core.proofs.stamps.stamp_arrivals.Goals as goal
 
 pub bounds-to-arrival : goal.bounds-to-arrival
@@ -46,3 +46,11 @@ loop-j-init g c = record { shows = refl; stamps = λ k less. absurd (omega (arit
 
 pub returns-clause-shows : goal.returns-clause-shows
 returns-clause-shows g c = c.loop-j.invariant.shows
+
+seen : {i n m j : ℕ} → i < n → n ≡ m → m ≤ j → i < j
+seen less same past = omega (arith, less, same, past)
+
+pub returns-clause-stamps : goal.returns-clause-stamps
+returns-clause-stamps g c i d l =
+    let laws = map (λ h. h.law) c.args.hooks.now in
+    subst (λ (a : Arrival). IsStamp (law_at laws a.robot) a.stamp) (default-any c.loop-j.arrived i nobody d l) (c.loop-j.invariant.stamps i (seen l c.loop-j.auto.arrived c.loop-j-test.false))

@@ -1,8 +1,9 @@
 -- A give to a client that there is not, of no notice, to an outlet that is full, and one that is done.
-use Rattle.std.proofs.Common.{◌≡◌, ◌∙◌, ◌<◌, ◌≤◌, length, subst, sym, refl, ap}
+use Rattle.std.proofs.Common.{◌∙◌, ◌<◌, ◌≤◌, length, subst, sym, refl, ap}
 use Rattle.std.specs.Prelude.{slice_index_or, slice_set}
 use Rattle.fleet_calls.proofs.Fronts.{nil_from_none}
 use Rattle.fleet_core.specs.Core.{World, pending, without_first}
+use Rattle.std.proofs.lemmas.Result.{IfOk-from_err}
 use Rattle.fleet_core.proofs.Stamped.{set-back}
 use Rattle.fleet_world.specs.Run.{Lists, no_lists, outlet, with_given, state_of}
 use Rattle.fleet_world.proofs.Fronts.{lists_there, some_first}
@@ -42,3 +43,27 @@ returns-clause-step g c =
       ap (λ (w : World g.row.A.Denot). state_of w (slice_set all c.args.client c.give.new.self)) c.give-given.ensures.rest
           ∙ ap (λ (l : Lists). state_of (without_first c.args.self.now.world.core c.args.client) (slice_set all c.args.client l)) (c.in_ok-give.ensures.ok ∙ ap (λ (l : Lists). with_given l c.in-Some.notice) there),
     )
+
+pub index_mut-lists-requires : goal.index_mut-lists-requires
+index_mut-lists-requires g c = subst (λ n. c.args.client < n) c.len.ensures c.if-client-len.false
+
+pub next_notice-requires : goal.next_notice-requires
+next_notice-requires g c = subst (λ n. c.args.client < n) (c.len.ensures ∙ c.args.self.now.count) c.if-client-len.false
+
+pub give-given-requires : goal.give-given-requires
+give-given-requires g c = subst (λ n. c.args.client < n) (c.len.ensures ∙ c.args.self.now.count) c.if-client-len.false
+
+pub returns-then-client-len-clause-err : goal.returns-then-client-len-clause-err
+returns-then-client-len-clause-err g c = tt
+
+pub returns-in_default-clause-err : goal.returns-in_default-clause-err
+returns-in_default-clause-err g c = tt
+
+pub returns-then-outlet_len-limits-clause-err : goal.returns-then-outlet_len-limits-clause-err
+returns-then-outlet_len-limits-clause-err g c = tt
+
+pub returns-clause-err : goal.returns-clause-err
+returns-clause-err g c = tt
+
+pub returns-in_err-give-clause-step : goal.returns-in_err-give-clause-step
+returns-in_err-give-clause-step g c = IfOk-from_err c.from_residual.result _ c.from_residual.ensures.0

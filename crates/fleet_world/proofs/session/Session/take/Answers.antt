@@ -33,3 +33,24 @@ returns-in-Ok-clause-step g c =
       c.take-order_no.ensures.number ∙ ap (λ (l : Lists). length l.taken + 1) again,
       ap (slice_set all c.args.client) (taken ∙ ap (λ (l : Lists). with_taken l c.in-Some.order) again),
     )
+
+pub index-requires : goal.index-requires
+index-requires g c = subst (λ n. c.args.client < n) c.len.ensures c.if-client-len.false
+
+pub index_mut-requires : goal.index_mut-requires
+index_mut-requires g c = subst (λ n. c.args.client < n) c.len.ensures c.if-client-len.false
+
+pub take-requires : goal.take-requires
+take-requires g c = subst (λ n. c.args.client < n) (c.len.ensures ∙ c.args.self.now.count) c.if-client-len.false
+
+pub returns-then-client-len-clause-err : goal.returns-then-client-len-clause-err
+returns-then-client-len-clause-err g c = tt
+
+pub returns-in_default-clause-err : goal.returns-in_default-clause-err
+returns-in_default-clause-err g c = tt
+
+pub returns-in-Ok-clause-err : goal.returns-in-Ok-clause-err
+returns-in-Ok-clause-err g c = tt
+
+pub returns-in-Err-NoMemory-clause-step : goal.returns-in-Err-NoMemory-clause-step
+returns-in-Err-NoMemory-clause-step g c = tt
