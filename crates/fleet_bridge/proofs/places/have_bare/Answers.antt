@@ -1,4 +1,4 @@
-use Rattle.std.proofs.Common.{◌≡◌, ℕ, ◌≤◌, Bool, true, false, ◌||◌, below_more, refl, arith}
+use Rattle.std.proofs.Common.{ℕ, ◌≤◌, below_more, arith}
 use Rattle.fleet_bridge.specs.inside.Places.{HasNoneAt}
 use Rattle.fleet_bridge.proofs.Squares.{neither}
 use Rattle.fleet_bridge.proofs.places.have_bare.Goals as goal
