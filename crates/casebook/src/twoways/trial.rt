@@ -1,5 +1,8 @@
 //! The trials of a seed.
 
+ghost use Rattle.fleet_map.specs.Form.{HasSides};
+ghost use Rattle.fleet_map.specs.Grammar.{view};
+
 use super::compare::{Ground, compare};
 use super::count::Count;
 use super::damage::{Stretch, numbers_in, with_other_bytes, with_other_number};
@@ -8,7 +11,7 @@ use super::script::texts_of;
 use crate::run::trace_of;
 use findings::Answer;
 use fleet_grid::Grid;
-use fleet_map::read_map;
+use fleet_map::{MapText, read_map};
 use fleet_trace::{read_trace, write_trace};
 use otherjudge::{Site, later_chapter};
 use std::alloc::{Alloc, AllocError, Global};
@@ -108,6 +111,39 @@ fn try_trace(
     }
 }
 
+/// The trials of a trace on the map that it was written on.
+fn try_on(
+    alloc: Global,
+    map: MapText,
+    dice: &mut Dice,
+    text: &[u8],
+    count: &mut Count,
+) -> Result<(), AllocError>
+    requires { HasSides (view map) }
+{
+    let site = Site::new(alloc, &map)?;
+    let grid = Grid::new(map)?;
+    let ground = Ground {
+        grid: &grid,
+        site: &site,
+    };
+    try_trace(alloc, &ground, dice, text, count)
+}
+
+/// The trials of the trace of a world, where its map is one.
+fn try_world(
+    alloc: Global,
+    map: &[u8],
+    dice: &mut Dice,
+    text: &[u8],
+    count: &mut Count,
+) -> Result<(), AllocError> {
+    match read_map(alloc, map) {
+        Ok(map) => try_on(alloc, map, dice, text, count),
+        Err(_) => Ok(()),
+    }
+}
+
 /// The trials of one seed.
 pub(crate) fn try_seed<R: Alloc<A = Global> + Threads + Sync + Wait>(
     rt: &R,
@@ -118,14 +154,5 @@ pub(crate) fn try_seed<R: Alloc<A = Global> + Threads + Sync + Wait>(
     let mut dice = Dice::from_seed(seed);
     let texts = texts_of(alloc, &mut dice)?;
     let text = trace_of(rt, texts.as_bundle())?;
-    let Ok(map) = read_map(alloc, texts.map.as_bytes()) else {
-        return Ok(());
-    };
-    let site = Site::new(alloc, &map)?;
-    let grid = Grid::new(map)?;
-    let ground = Ground {
-        grid: &grid,
-        site: &site,
-    };
-    try_trace(alloc, &ground, &mut dice, &text, count)
+    try_world(alloc, texts.map.as_bytes(), &mut dice, &text, count)
 }
