@@ -1,7 +1,6 @@
 -- Steps of a search.
-use Rattle.std.proofs.Common.{◌≡◌, ℕ, zero, suc, ◌+◌, cond, ◌<◌, ◌≤◌, ◌⊎◌, Result, inl, inr, Bool, true, false, not, List, [], ◌∷◌, ◌++◌, length, get_or, set, refl, sym, ap, subst, ◌∙◌, arith, length-append}
-use Rattle.std.specs.Prelude.{slice_index, count_by, IfOk}
-use Rattle.std.proofs.lemmas.Result.{IfOk-weaker}
+use Rattle.std.proofs.Common.{◌≡◌, ℕ, zero, suc, ◌+◌, cond, ◌<◌, ◌≤◌, ◌⊎◌, inl, inr, Bool, true, false, not, List, [], ◌∷◌, ◌++◌, length, get_or, set, refl, sym, ap, subst, ◌∙◌, arith, length-append}
+use Rattle.std.specs.Prelude.{slice_index, count_by}
 use Rattle.std.proofs.Math.ListN.{get_or-append}
 use Rattle.std.proofs.Math.Seq.{get_or-append_seam}
 use Rattle.std.proofs.lemmas.List.{length-set, get_or-set_same, get_or-set_other, length-replicate, get_or-replicate}
@@ -163,7 +162,12 @@ crossed_out m a b cell next d dir n at across edge =
     elim across [ inl there ↦ edge.there there.0 (same ∙ there.1) | inr back ↦ edge.back back.0 (same ∙ back.1) ]
 
 -- and where it was visited
-pub marked_beside : (m : Floor) (a b cell next : ℕ) (dir : Dir) (seen : List Bool) {E : Type 0} (r : Result (Unit {0}) E) → IsNeighbourIn m dir cell next → IfOk r (λ u. IsMarked seen next)
-    → IfOk r (λ u. (d : ℕ) → IsNeighbourIn m dir cell d → NearWithout m a b cell d → IsMarked seen d)
-marked_beside m a b cell next dir seen r n marked = IfOk-weaker r (λ u. IsMarked seen next) (λ u. (d : ℕ) → IsNeighbourIn m dir cell d → NearWithout m a b cell d → IsMarked seen d)
-    (λ u here d at edge. subst (IsMarked seen) (beside_once m.width dir cell next d n.beside at.beside) here) marked
+pub marked_beside : (m : Floor) (a b cell next : ℕ) (dir : Dir) (seen : List Bool) → IsNeighbourIn m dir cell next → IsMarked seen next
+    → (d : ℕ) → IsNeighbourIn m dir cell d → NearWithout m a b cell d → IsMarked seen d
+marked_beside m a b cell next dir seen n marked d at edge = subst (IsMarked seen) (beside_once m.width dir cell next d n.beside at.beside) marked
+
+-- a queue with room for all cells has room for one that is not marked
+pub front_room : (R : ℕ → ℕ → Type 0) (a n : ℕ) (seen : List Bool) (queue : List ℕ) (cell room : ℕ) → cell < n → AreJoined R a cell → get_or seen cell false ≡ false
+    → IsFront R a n seen queue → n ≤ room → length queue < room
+front_room R a n seen queue cell room small joined fresh front wide =
+    omega (arith, queue_le R a n (set seen cell true) (queue ++ cell ∷ []) (front_more R a n seen queue cell small joined fresh front), length-append queue (cell ∷ []), wide)

@@ -1,6 +1,7 @@
 //! A search that leaves one edge out.
 
 ghost use Rattle.std.specs.Prelude.{◌≡◌, ◌⊎◌, ℕ, ◌<◌, ◌≤◌, ◌↔◌, ◌*◌, length, vec_len, IfOk, MatchOption, IsTrue, Some, true, false};
+ghost use Rattle.std.specs.Vec.{vec_capacity};
 ghost use Rattle.fleet_grid.specs.Floor.{IsNeighbour, IsNeighbourIn};
 ghost use Rattle.fleet_grid.specs.Walk.{AreJoined, IsBridge};
 ghost use Rattle.fleet_bridge.specs.inside.First.{HasNoneBeside, IsBeside, HasNone, IsFirstFrom};
@@ -18,20 +19,21 @@ fn visit<A: Allocator + Copy, B: Allocator + Copy>(
     seen: &mut Vec<bool, A>,
     queue: &mut Vec<u32, A>,
     cell: u32,
-) -> Result<(), AllocError>
+)
     requires inside { cell < length grid.now.letters }
     requires joined { AreJoined (NearWithout grid.now from to) from cell }
     requires front { IsFront (NearWithout grid.now from to) from (length grid.now.letters) seen.old.items queue.old.items }
-    ensures front { IfOk result (λ u. IsFront (NearWithout grid.now from to) from (length grid.now.letters) seen.new.items queue.new.items) }
-    ensures later { IfOk result (λ u. IsLater seen.old.items queue.old.items seen.new.items queue.new.items) }
-    ensures marked { IfOk result (λ u. IsMarked seen.new.items cell) }
+    requires room { length grid.now.letters ≤ vec_capacity queue.old }
+    ensures front { IsFront (NearWithout grid.now from to) from (length grid.now.letters) seen.new.items queue.new.items }
+    ensures later { IsLater seen.old.items queue.old.items seen.new.items queue.new.items }
+    ensures marked { IsMarked seen.new.items cell }
+    ensures room { vec_capacity queue.new ≡ vec_capacity queue.old }
 {
     if seen[cell as usize] {
-        return Ok(());
+        return;
     }
-    queue.push(cell)?;
+    queue.push_reserved(cell);
     seen[cell as usize] = true;
-    Ok(())
 }
 
 /// Whether the step crosses the edge of `a` and `b`.
@@ -51,20 +53,22 @@ fn visit_beside<A: Allocator + Copy, B: Allocator + Copy>(
     queue: &mut Vec<u32, A>,
     cell: u32,
     dir: Dir,
-) -> Result<(), AllocError>
+)
     requires reached { IsMarked seen.old.items cell }
     requires front { IsFront (NearWithout grid.now from to) from (length grid.now.letters) seen.old.items queue.old.items }
-    ensures front { IfOk result (λ u. IsFront (NearWithout grid.now from to) from (length grid.now.letters) seen.new.items queue.new.items) }
-    ensures later { IfOk result (λ u. IsLater seen.old.items queue.old.items seen.new.items queue.new.items) }
-    ensures marked { IfOk result (λ u. (d : ℕ) → IsNeighbourIn grid.now dir cell d → NearWithout grid.now from to cell d → IsMarked seen.new.items d) }
+    requires room { length grid.now.letters ≤ vec_capacity queue.old }
+    ensures front { IsFront (NearWithout grid.now from to) from (length grid.now.letters) seen.new.items queue.new.items }
+    ensures later { IsLater seen.old.items queue.old.items seen.new.items queue.new.items }
+    ensures marked { (d : ℕ) → IsNeighbourIn grid.now dir cell d → NearWithout grid.now from to cell d → IsMarked seen.new.items d }
+    ensures room { vec_capacity queue.new ≡ vec_capacity queue.old }
 {
     let Some(next) = grid.neighbour(cell, dir) else {
-        return Ok(());
+        return;
     };
     if is_across(from, to, cell, next) {
-        return Ok(());
+        return;
     }
-    visit(grid, from, to, seen, queue, next)
+    visit(grid, from, to, seen, queue, next);
 }
 
 /// Visits all neighbours.
@@ -75,18 +79,19 @@ fn visit_around<A: Allocator + Copy, B: Allocator + Copy>(
     seen: &mut Vec<bool, A>,
     queue: &mut Vec<u32, A>,
     cell: u32,
-) -> Result<(), AllocError>
+)
     requires reached { IsMarked seen.old.items cell }
     requires front { IsFront (NearWithout grid.now from to) from (length grid.now.letters) seen.old.items queue.old.items }
-    ensures front { IfOk result (λ u. IsFront (NearWithout grid.now from to) from (length grid.now.letters) seen.new.items queue.new.items) }
-    ensures later { IfOk result (λ u. IsLater seen.old.items queue.old.items seen.new.items queue.new.items) }
-    ensures marked { IfOk result (λ u. (d : ℕ) → NearWithout grid.now from to cell d → IsMarked seen.new.items d) }
+    requires room { length grid.now.letters ≤ vec_capacity queue.old }
+    ensures front { IsFront (NearWithout grid.now from to) from (length grid.now.letters) seen.new.items queue.new.items }
+    ensures later { IsLater seen.old.items queue.old.items seen.new.items queue.new.items }
+    ensures marked { (d : ℕ) → NearWithout grid.now from to cell d → IsMarked seen.new.items d }
+    ensures room { vec_capacity queue.new ≡ vec_capacity queue.old }
 {
-    visit_beside(grid, from, to, seen, queue, cell, Dir::North)?;
-    visit_beside(grid, from, to, seen, queue, cell, Dir::East)?;
-    visit_beside(grid, from, to, seen, queue, cell, Dir::South)?;
-    visit_beside(grid, from, to, seen, queue, cell, Dir::West)?;
-    Ok(())
+    visit_beside(grid, from, to, seen, queue, cell, Dir::North);
+    visit_beside(grid, from, to, seen, queue, cell, Dir::East);
+    visit_beside(grid, from, to, seen, queue, cell, Dir::South);
+    visit_beside(grid, from, to, seen, queue, cell, Dir::West);
 }
 
 /// Marks the cells that a walk from `from` comes to without crossing the edge.
@@ -97,20 +102,20 @@ fn spread<A: Allocator + Copy, B: Allocator + Copy>(
     to: u32,
     seen: &mut Vec<bool, A>,
     queue: &mut Vec<u32, A>,
-) -> Result<(), AllocError>
+)
     requires inside { from < length grid.now.letters }
     requires front { IsFront (NearWithout grid.now from to) from (length grid.now.letters) seen.old.items queue.old.items }
-    ensures size { IfOk result (λ u. vec_len seen.new ≡ length grid.now.letters) }
-    ensures reach { IfOk result (λ u. IsReach (NearWithout grid.now from to) from seen.new.items) }
+    requires room { length grid.now.letters ≤ vec_capacity queue.old }
+    ensures size { vec_len seen.new ≡ length grid.now.letters }
+    ensures reach { IsReach (NearWithout grid.now from to) from seen.new.items }
 {
-    visit(grid, from, to, seen, queue, from)?;
+    visit(grid, from, to, seen, queue, from);
     let mut head = 0;
     while head < queue.len() {
         let cell = queue[head];
-        visit_around(grid, from, to, seen, queue, cell)?;
+        visit_around(grid, from, to, seen, queue, cell);
         head += 1;
     }
-    Ok(())
 }
 
 /// The cells that a walk from `from` comes to without crossing the edge.
@@ -126,8 +131,8 @@ fn search<A: Allocator + Copy, B: Allocator + Copy>(
 {
     let count = grid.cell_count() as usize;
     let mut seen = vec![in alloc; false; count]?;
-    let mut queue = Vec::new(alloc);
-    spread(grid, from, to, &mut seen, &mut queue)?;
+    let mut queue = Vec::with_capacity(alloc, count)?;
+    spread(grid, from, to, &mut seen, &mut queue);
     Ok(seen)
 }
 

@@ -1,3 +1,4 @@
+use Rattle.std.proofs.Common.{refl}
 use Rattle.fleet_grid.proofs.Forms.{floor_inside}
 use Rattle.fleet_bridge.proofs.Fronts.{later_same, step_joined, crossed_out, marked_beside}
 use Rattle.fleet_bridge.proofs.search.visit_beside.Goals as goal
@@ -39,4 +40,16 @@ returns-clause-later g c = c.visit.ensures.later
 
 pub returns-clause-marked : goal.returns-clause-marked
 returns-clause-marked g c =
-    marked_beside c.args.grid.now c.args.from c.args.to c.args.cell c.in-Some.next c.args.dir c.visit.new.seen.items c.visit.result c.in-Some.ensures c.visit.ensures.marked
+    marked_beside c.args.grid.now c.args.from c.args.to c.args.cell c.in-Some.next c.args.dir c.visit.new.seen.items c.in-Some.ensures c.visit.ensures.marked
+
+pub visit-requires-clause-room : goal.visit-requires-clause-room
+visit-requires-clause-room g c = c.requires.room
+
+pub returns-in_default-clause-room : goal.returns-in_default-clause-room
+returns-in_default-clause-room g c = refl
+
+pub returns-then-is_across-clause-room : goal.returns-then-is_across-clause-room
+returns-then-is_across-clause-room g c = refl
+
+pub returns-clause-room : goal.returns-clause-room
+returns-clause-room g c = c.visit.ensures.room
