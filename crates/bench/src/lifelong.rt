@@ -2,8 +2,7 @@
 
 ghost use Rattle.std.specs.Prelude.{◌<◌, length};
 
-use crate::steps::FLEETS;
-use crate::worlds::{LIMITS, MOST_ROBOTS, Work, give_one, measure_world, order_one};
+use crate::worlds::{LIMITS, MOST_ROBOTS, Task, Work, give_one, measure_fleets, order_one};
 use fleet_world::{Notice, World};
 use std::alloc::{Alloc, Global};
 use std::io;
@@ -64,13 +63,13 @@ pub(crate) fn measure_lifelong<R: Alloc<A = Global> + Clock + Print + Threads + 
     kind: Kind,
     site: &Site,
 ) -> io::Result<()> {
-    measure_fleets(rt, kind, site, CELLS, &site.cells)?;
+    measure_run(rt, kind, site, CELLS, &site.cells)?;
     let stations = site.goals(rt.alloc(), STATION_COUNT, &mut Random::from_seed(13))?;
-    measure_fleets(rt, kind, site, STATIONS, &stations)
+    measure_run(rt, kind, site, STATIONS, &stations)
 }
 
 /// A run of each number of robots.
-fn measure_fleets<R: Alloc<A = Global> + Clock + Print + Threads + Sync>(
+fn measure_run<R: Alloc<A = Global> + Clock + Print + Threads + Sync>(
     rt: &R,
     kind: Kind,
     site: &Site,
@@ -79,12 +78,9 @@ fn measure_fleets<R: Alloc<A = Global> + Clock + Print + Threads + Sync>(
 ) -> io::Result<()>
     requires { 0 < length goals.now }
 {
-    let mut random = Random::from_seed(11);
-    for robots in FLEETS {
-        let starts = site.starts(rt.alloc(), robots, &mut random)?;
-        measure_world(rt, kind, work, &starts, goals, &mut random)?;
-    }
-    Ok(())
+    let map = kind.name();
+    let task = Task { map, work, goals };
+    measure_fleets(rt, kind, site, task, &mut Random::from_seed(11))
 }
 
 /// Runs of a world, of which the last counts, behind so many others.

@@ -2,8 +2,7 @@
 
 ghost use Rattle.std.specs.Prelude.{◌<◌, length};
 
-use crate::steps::FLEETS;
-use crate::worlds::{LIMITS, MOST_ROBOTS, Work, give_one, measure_world, order_one};
+use crate::worlds::{LIMITS, MOST_ROBOTS, Task, Work, give_one, measure_fleets, order_one};
 use fleet_world::World;
 use std::alloc::{Alloc, Global};
 use std::io;
@@ -25,11 +24,12 @@ pub(crate) fn measure_tick<R: Alloc<A = Global> + Clock + Print + Threads + Sync
 ) -> io::Result<()> {
     let mut random = Random::from_seed(11);
     let goals = site.goals(rt.alloc(), GOALS, &mut random)?;
-    for robots in FLEETS {
-        let starts = site.starts(rt.alloc(), robots, &mut random)?;
-        measure_world(rt, kind, Work::Ticks, &starts, &goals, &mut random)?;
-    }
-    Ok(())
+    let task = Task {
+        map: kind.name(),
+        work: Work::Ticks,
+        goals: &goals,
+    };
+    measure_fleets(rt, kind, site, task, &mut random)
 }
 
 /// Ticks of a world, each timed by itself. What clients do between them is not timed.

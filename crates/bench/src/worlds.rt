@@ -3,16 +3,19 @@
 ghost use Rattle.std.specs.Prelude.{◌<◌, length};
 
 use crate::lifelong::{print_run, time_run};
+use crate::steps::FLEETS;
 use crate::ticks::time_ticks;
+use fleet_grid::Grid;
 use fleet_hooks::{
     ArrivalHook, ArrivalView, Farewell, FarewellView, Hooks, StampLaw, TieHook, TieLaw, TieView,
 };
 use fleet_world::{Limits, Notice, Order, World};
 use std::alloc::{Alloc, Global};
 use std::io::{self, ErrorKind};
+use std::mem;
 use std::thread::Threads;
 use std::time::Clock;
-use yardstick::{Kind, Random, grid_of, print_measure};
+use yardstick::{Kind, Random, Site, grid_of, print_measure};
 
 /// The mailbox has room for the notices of two errands of each robot, and for those errands. The chapter has room for all ticks
 /// of several long runs.
@@ -35,60 +38,121 @@ pub enum Work {
     Ticks,
     /// A long run, under this name, after so many of the same length that are not counted.
     Run { name: &'static str, before: u32 },
+    /// So many ticks in which the first robot goes to the first goal. Who asks for them takes the time.
+    Way { ticks: u32 },
 }
 
-/// Measures a world with one client. The closures answer 0.
-pub(crate) fn measure_world<R: Alloc<A = Global> + Clock + Print + Threads + Sync>(
+/// What is measured on a map of this name, and where its robots go.
+#[derive(Clone, Copy)]
+pub(crate) struct Task<'a> {
+    pub(crate) map: &'a str,
+    pub(crate) work: Work,
+    pub(crate) goals: &'a [u32],
+}
+
+/// A map, and where robots start on it.
+#[derive(Drop)]
+pub(crate) struct Ground {
+    pub(crate) grid: Grid,
+    pub(crate) starts: Vec<u32>,
+}
+
+/// Measures a world of each number of robots.
+pub(crate) fn measure_fleets<R: Alloc<A = Global> + Clock + Print + Threads + Sync>(
     rt: &R,
     kind: Kind,
-    work: Work,
-    starts: &[u32],
-    goals: &[u32],
+    site: &Site,
+    task: Task<'_>,
     random: &mut Random,
 ) -> io::Result<()>
-    requires { 0 < length goals.now }
+    requires { 0 < length task.goals.now }
+{
+    for robots in FLEETS {
+        let mut ground = Some(Ground {
+            starts: site.starts(rt.alloc(), robots, random)?,
+            grid: grid_of(rt.alloc(), kind)?,
+        });
+        measure_world(rt, task, &mut ground, robots, random)?;
+    }
+    Ok(())
+}
+
+/// Measures a world with one client, of so many robots on the ground, which is taken. The closures answer 0.
+pub(crate) fn measure_world<R: Alloc<A = Global> + Clock + Print + Threads + Sync>(
+    rt: &R,
+    task: Task<'_>,
+    ground: &mut Option<Ground>,
+    robots: usize,
+    random: &mut Random,
+) -> io::Result<()>
+    requires { 0 < length task.goals.now }
 {
     let alloc = rt.alloc();
     let mut hooks = Hooks::new(alloc);
-    for _robot in starts {
+    for _robot in 0..robots {
         let tie = TieHook::new(TieLaw::ANY, Box::new(alloc, |_view: TieView| 0)?);
         let arrival = ArrivalHook::new(StampLaw::ANY, Box::new(alloc, |_view: ArrivalView| 0)?);
         let farewell = Farewell::new(StampLaw::ANY, Box::new(alloc, |_view: FarewellView| 0)?);
         hooks.push(tie, arrival, farewell)?;
     }
-    let starts = Vec::from_slice(alloc, starts)?;
-    let grid = grid_of(alloc, kind)?;
-    match World::open(alloc, grid, starts, 1, LIMITS, hooks) {
-        Ok(mut world) => {
-            world.keep(KEPT);
-            let worked = work_on(rt, kind, work, &mut world, goals, random);
-            let _ended = world.finish();
-            worked
+    measure_hooked(rt, task, ground, hooks, random)
+}
+
+/// Measures a world of these closures.
+fn measure_hooked<R: Alloc<A = Global> + Clock + Print + Threads + Sync>(
+    rt: &R,
+    task: Task<'_>,
+    ground: &mut Option<Ground>,
+    hooks: Hooks,
+    random: &mut Random,
+) -> io::Result<()>
+    requires { 0 < length task.goals.now }
+{
+    match ground.take() {
+        Some(Ground { grid, starts }) => {
+            match World::open(rt.alloc(), grid, starts, 1, LIMITS, hooks) {
+                Ok(mut world) => {
+                    let worked = work_on(rt, task, &mut world, random);
+                    let _ended = world.finish();
+                    worked
+                }
+                Err(_) => Err(io::Error::from(ErrorKind::OutOfMemory)),
+            }
         }
-        Err(_) => Err(io::Error::from(ErrorKind::OutOfMemory)),
+        None => {
+            mem::drop(hooks);
+            Err(io::Error::from(ErrorKind::OutOfMemory))
+        }
     }
 }
 
 /// Measures a world, and prints the line.
 fn work_on<R: Alloc<A = Global> + Clock + Print + Threads + Sync>(
     rt: &R,
-    kind: Kind,
-    work: Work,
+    task: Task<'_>,
     world: &mut World,
-    goals: &[u32],
     random: &mut Random,
 ) -> io::Result<()>
-    requires { 0 < length goals.now }
+    requires { 0 < length task.goals.now }
 {
     let count = world.robots();
-    match work {
+    match task.work {
         Work::Ticks => {
-            let found = time_ticks(rt, world, goals, random)?;
-            print_measure(rt, "tick", kind.name(), count, count as u64, found)
+            world.keep(KEPT);
+            let found = time_ticks(rt, world, task.goals, random)?;
+            print_measure(rt, "tick", task.map, count, count as u64, found)
         }
         Work::Run { name, before } => {
-            let run = time_run(rt, world, before, goals, random)?;
-            print_run(rt, name, kind.name(), count, run)
+            world.keep(KEPT);
+            let run = time_run(rt, world, before, task.goals, random)?;
+            print_run(rt, name, task.map, count, run)
+        }
+        Work::Way { ticks } => {
+            order_one(world, 0, task.goals[0]);
+            for _tick in 0..ticks {
+                let _report = world.tick(rt);
+            }
+            Ok(())
         }
     }
 }

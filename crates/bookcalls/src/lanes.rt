@@ -7,7 +7,7 @@ use fleet_book::{Limits, Notice, Order, Verdict};
 use fleet_lanes::{Client, HallEnd, PostFault, lane_pair};
 use std::alloc::Global;
 use std::process::Abort;
-use std::thread;
+use std::thread::{self, Threads};
 
 const GO: Order = Order::Go { robot: 0, cell: 1 };
 
@@ -232,29 +232,31 @@ const ROUNDS: u64 = 2_000;
 const TRIES: u32 = 200_000_000;
 
 /// Sends so many orders and collects as many notices, and answers whether the notices came in their order.
-fn send_all(mut client: Client) -> bool {
+fn send_all(client: &mut Client) -> bool {
     let mut seen = 0;
     for _ in 0..TRIES {
         if seen >= ROUNDS {
-            return true;
+            break;
         }
         if client.sent() < ROUNDS {
             let _full = client.post(GO);
         }
         match client.collect() {
             Some(notice) if notice == accepted(seen + 1, seen + 1) => seen += 1,
-            Some(_) => return false,
+            Some(_) => break,
             None => thread::yield_now(),
         }
     }
-    false
+    seen >= ROUNDS
 }
 
 /// Takes so many orders and gives a notice for each.
-fn serve_all(mut hall: HallEnd) -> bool {
-    let mut given = 0;
-    let mut taken = 0;
+fn serve_all(hall: &mut HallEnd) -> bool {
+    let (mut given, mut taken) = (0, 0);
     for _ in 0..TRIES {
+        if given >= ROUNDS {
+            break;
+        }
         if given < taken && hall.give(accepted(given + 1, given + 1)).is_ok() {
             given += 1;
         } else if taken < ROUNDS && hall.take().is_some() {
@@ -262,16 +264,21 @@ fn serve_all(mut hall: HallEnd) -> bool {
         } else {
             thread::yield_now();
         }
-        if given >= ROUNDS {
-            return true;
-        }
     }
-    false
+    given >= ROUNDS
+}
+
+/// Both ends at work side by side.
+fn work_both(rt: &(impl Abort + Threads + Sync), client: &mut Client, hall: &mut HallEnd) {
+    let (sent, served) = thread::join(rt, || send_all(client), || serve_all(hall));
+    assert!(rt; sent && served);
 }
 
 #[test]
 fn ends_in_two_threads(rt: HostRuntime) {
-    let (client, hall) = lane_pair(rt.alloc(), 0, limits(3, 2)).expect(&rt, "memory for lanes");
-    let (sent, served) = thread::join(&rt, move || send_all(client), move || serve_all(hall));
-    assert!(rt; sent && served);
+    let (mut client, mut hall) = lane_pair(rt.alloc(), 0, limits(3, 2)).expect(
+        &rt,
+        "memory for lanes",
+    );
+    work_both(&rt, &mut client, &mut hall);
 }

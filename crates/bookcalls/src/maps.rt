@@ -4,6 +4,7 @@ use fleet_map::text::{first_line, first_word, is_blank_byte, number_up_to, trimm
 use fleet_map::{MOST_SIDE, MapFault, read_map};
 use refusing::Refusing;
 use std::alloc::{AllocError, Allocator, Global};
+use std::fmt::Write;
 use std::process::Abort;
 
 /// Maps that are read: the text, the height, the width and the letters.
@@ -110,18 +111,18 @@ const FAULTS: [(&[u8], MapFault); 18] = [
     (b"\r", MapFault::Header(1)),
 ];
 
-/// The fault of a text; none where it is a map.
-fn fault_of(alloc: impl Allocator + Copy, text: &[u8]) -> Option<MapFault> {
+/// Whether a text has this fault.
+fn is_faulty(alloc: impl Allocator + Copy, text: &[u8], fault: MapFault) -> bool {
     match read_map(alloc, text) {
-        Ok(_) => None,
-        Err(fault) => Some(fault),
+        Ok(_) => false,
+        Err(found) => found == fault,
     }
 }
 
 fn check_faults(rt: &impl Abort, alloc: Global, texts: &[(&[u8], MapFault)]) {
     for at in 0..texts.len() {
-        let (text, fault) = &texts[at];
-        assert!(rt; fault_of(alloc, text) == Some(*fault));
+        let (text, fault) = texts[at];
+        assert!(rt; is_faulty(alloc, text, fault));
     }
 }
 
@@ -144,24 +145,32 @@ fn fault_of_front(kept: usize) -> Option<MapFault> {
     }
 }
 
+/// Whether a front of the whole map has its fault, or is a map.
+fn is_read_as_front(alloc: Global, front: &[u8]) -> bool {
+    match fault_of_front(front.len()) {
+        Some(fault) => is_faulty(alloc, front, fault),
+        None => is_read_as(alloc, front, 1, 3, b"..."),
+    }
+}
+
 #[test]
 fn truncated_map(rt: HostRuntime) {
     assert!(rt; WHOLE.len() == 37);
     for kept in 0..=WHOLE.len() {
-        assert!(rt; fault_of(rt.alloc(), &WHOLE[..kept]) == fault_of_front(kept));
+        assert!(rt; is_read_as_front(rt.alloc(), &WHOLE[..kept]));
     }
 }
 
-/// A map of so many rows of so many cells.
-fn open_floor(alloc: Global, height: u64, width: u64) -> Result<String, AllocError> {
-    let mut text = format!(in alloc; "type octile\nheight {height}\nwidth {width}\nmap\n")?;
+/// Writes a map of so many rows of so many cells.
+fn write_floor(text: &mut String, height: u64, width: u64) -> Result<(), AllocError> {
+    write!(text, "type octile\nheight {height}\nwidth {width}\nmap\n")?;
     for _ in 0..height {
         for _ in 0..width {
             text.push('.')?;
         }
         text.push('\n')?;
     }
-    Ok(text)
+    Ok(())
 }
 
 /// The sides and the number of cells that are read of an open map, or its fault.
@@ -171,7 +180,8 @@ fn read_sides(
     height: u64,
     width: u64,
 ) -> Result<(u32, u32, usize), MapFault> {
-    let text = open_floor(alloc, height, width).expect(rt, "memory for a map");
+    let mut text = String::new(alloc);
+    write_floor(&mut text, height, width).expect(rt, "memory for a map");
     match read_map(alloc, text.as_bytes()) {
         Ok(map) => Ok((map.height, map.width, map.cells.len())),
         Err(fault) => Err(fault),
@@ -214,7 +224,7 @@ fn numbers_and_blanks(rt: HostRuntime) {
 
 /// Whether a read meets a refused growth. The next read over the same memory gives the map then.
 fn is_refused(rt: &impl Abort, heap: impl Allocator + Copy) -> bool {
-    let met = fault_of(heap, WHOLE) == Some(MapFault::NoMemory);
+    let met = is_faulty(heap, WHOLE, MapFault::NoMemory);
     assert!(rt; !met || is_read_as(heap, WHOLE, 1, 3, b"..."));
     met
 }
@@ -222,16 +232,15 @@ fn is_refused(rt: &impl Abort, heap: impl Allocator + Copy) -> bool {
 /// Each growth is refused in turn, until a read meets no refusal.
 #[test]
 fn refused_growths(rt: HostRuntime) {
-    let mut unrefused = None;
+    let mut refused = 0;
     for before in 0..8 {
-        if !is_refused(&rt, &Refusing::after(rt.alloc(), before)) {
-            unrefused = Some(before);
-            break;
+        if is_refused(&rt, &Refusing::after(rt.alloc(), before)) {
+            refused = before + 1;
         }
     }
     // A read grows once.
-    assert!(rt; unrefused == Some(1));
+    assert!(rt; refused == 1);
     // A fault of the head is named without memory.
     let heap = Refusing::after(rt.alloc(), 0);
-    assert!(rt; fault_of(&heap, b"type octile\n") == Some(MapFault::Header(2)));
+    assert!(rt; is_faulty(&heap, b"type octile\n", MapFault::Header(2)));
 }

@@ -5,6 +5,7 @@ use fleet_book::{Account, Book, Limits, Order};
 use fleet_lanes::lane_pair;
 use fleet_queue::{Errand, ErrandQueue};
 use linked_list_allocator::LocalHeap;
+use std::alloc::Allocator;
 
 const LONE: Errand = Errand {
     client: 0,
@@ -20,21 +21,21 @@ const SMALL: Limits = Limits {
     ..Limits::DEFAULT
 };
 
-fn makes_queue(heap: &LocalHeap) -> bool {
+fn makes_queue<A: Allocator + Copy>(heap: A) -> bool {
     let Ok(mut queue) = ErrandQueue::new(heap, 4) else {
         return false;
     };
     queue.try_push(LONE) == Ok(()) && queue.pop() == Some(LONE)
 }
 
-fn makes_book(heap: &LocalHeap) -> bool {
+fn makes_book<A: Allocator + Copy>(heap: A) -> bool {
     match Book::new(heap, 2, 3, Limits::DEFAULT) {
         Ok(book) => book.account(1) == Account::BLANK,
         Err(_) => false,
     }
 }
 
-fn makes_lanes(heap: &LocalHeap) -> bool {
+fn makes_lanes<A: Allocator + Copy>(heap: A) -> bool {
     let Ok((mut client, mut hall)) = lane_pair(heap, 0, SMALL) else {
         return false;
     };

@@ -79,8 +79,8 @@ struct Times {
 impl Times {
     /// Before the first entry.
     fn new(alloc: Global, clients: u32, robots: u32) -> Result<Times, AllocError> {
-        let accepted = (0..clients).map(|_client| Vec::new(alloc)).collect(alloc)?;
         let arrived = vec![in alloc; 0u64; robots as usize]?;
+        let accepted = (0..clients).map(|_client| Vec::new(alloc)).collect(alloc)?;
         Ok(Times { accepted, arrived })
     }
 
@@ -117,6 +117,26 @@ impl Times {
         }
         tick.saturating_sub(since)
     }
+
+    /// Notes what the chapter shows. The result is how many ticks a robot waited at most for an arrival.
+    fn read(&mut self, chapter: &Chapter) -> Result<u64, AllocError> {
+        let (mut tick, mut greatest) = (0u64, 0u64);
+        for entry in &chapter.entries {
+            match entry {
+                Entry::Take {
+                    client,
+                    verdict: Verdict::Accepted(_),
+                    ..
+                } => self.accept(*client, tick)?,
+                Entry::Tick { arrived, .. } => {
+                    greatest = self.arrive(arrived.as_slice(), tick).max(greatest);
+                    tick = tick.saturating_add(1);
+                }
+                _ => {}
+            }
+        }
+        Ok(greatest)
+    }
 }
 
 /// How many ticks a robot waited at most for an arrival that the chapter shows.
@@ -127,20 +147,5 @@ pub(crate) fn greatest_wait(
     robots: u32,
 ) -> Result<u64, AllocError> {
     let mut times = Times::new(alloc, clients, robots)?;
-    let (mut tick, mut greatest) = (0u64, 0u64);
-    for entry in &chapter.entries {
-        match entry {
-            Entry::Take {
-                client,
-                verdict: Verdict::Accepted(_),
-                ..
-            } => times.accept(*client, tick)?,
-            Entry::Tick { arrived, .. } => {
-                greatest = times.arrive(arrived.as_slice(), tick).max(greatest);
-                tick = tick.saturating_add(1);
-            }
-            _ => {}
-        }
-    }
-    Ok(greatest)
+    times.read(chapter)
 }

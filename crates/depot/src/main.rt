@@ -23,6 +23,8 @@ use std::alloc::{Alloc, AllocError, Global};
 use std::env::{self, Env};
 use std::io::{self, Write};
 use std::process::ExitCode;
+use std::sync::Wait;
+use std::thread::Threads;
 use std::time::{Clock, Instant};
 
 /// The words that the program was given.
@@ -56,15 +58,6 @@ fn line_of(alloc: Global, day: &Day) -> Result<String, AllocError> {
     )
 }
 
-/// Writes what a day came to. The result is the status.
-fn tell<W: Write, E: Write>(lines: (&str, &str), day: &Day, output: &mut W, error: &mut E) -> u8 {
-    let _ = error.write_all(lines.0.as_bytes());
-    if output.write_all(lines.1.as_bytes()).is_err() {
-        return 3;
-    }
-    if day.account.is_right() { 0 } else { 1 }
-}
-
 /// The status of a day that had no end.
 fn status_of(fault: DayFault) -> u8 {
     match fault {
@@ -74,33 +67,65 @@ fn status_of(fault: DayFault) -> u8 {
     }
 }
 
-fn main(rt: HostRuntime) -> ExitCode {
-    let alloc = rt.alloc();
-    let Ok(words) = words_given(&rt) else {
-        return ExitCode::from(7);
+/// Keeps a depot going, and says what is to be written of it. The result is the status.
+fn keep_going<R: Alloc<A = Global> + Clock + Threads + Sync + Wait>(
+    rt: &R,
+    settings: &Settings,
+    line: &mut String,
+    notes: &mut String,
+) -> Result<u8, AllocError> {
+    let Ok(start) = Instant::now(rt) else {
+        return Ok(3);
     };
-    let settings = match settings_of(alloc, &words) {
-        Ok(settings) => settings,
-        Err(SettingsFault::NoMemory) => return ExitCode::from(7),
-        Err(SettingsFault::Words(text)) => {
-            let _ = rt.stderr().write_all(text.as_bytes());
-            return ExitCode::from(2);
+    match day_of(rt, settings) {
+        Ok(day) => {
+            let nanos = match start.elapsed(rt) {
+                Ok(time) => time.as_nanos(),
+                Err(_) => 1,
+            };
+            *notes = pace_of(rt.alloc(), &day, settings, nanos)?;
+            *line = line_of(rt.alloc(), &day)?;
+            Ok(if day.account.is_right() { 0 } else { 1 })
         }
-    };
-    let Ok(start) = Instant::now(&rt) else {
-        return ExitCode::from(3);
-    };
-    let day = match day_of(&rt, &settings) {
-        Ok(day) => day,
-        Err(fault) => return ExitCode::from(status_of(fault)),
-    };
-    let nanos = match start.elapsed(&rt) {
-        Ok(time) => time.as_nanos(),
-        Err(_) => 1,
-    };
-    let (Ok(pace), Ok(line)) = (pace_of(alloc, &day, &settings, nanos), line_of(alloc, &day)) else {
+        Err(fault) => Ok(status_of(fault)),
+    }
+}
+
+/// Does what the program's words say. The result is the status.
+fn obey<R: Alloc<A = Global> + Clock + Threads + Sync + Wait>(
+    rt: &R,
+    words: &[String],
+    line: &mut String,
+    notes: &mut String,
+) -> Result<u8, AllocError> {
+    match settings_of(rt.alloc(), words) {
+        Ok(settings) => keep_going(rt, &settings, line, notes),
+        Err(SettingsFault::Words(text)) => {
+            *notes = text;
+            Ok(2)
+        }
+        Err(SettingsFault::NoMemory) => Err(AllocError),
+    }
+}
+
+/// What is written on the output and on the error writer. The result is the status.
+fn run<R: Env + Alloc<A = Global> + Clock + Threads + Sync + Wait>(
+    rt: &R,
+    line: &mut String,
+    notes: &mut String,
+) -> Result<u8, AllocError> {
+    match words_given(rt) {
+        Ok(words) => obey(rt, &words, line, notes),
+        Err(_) => Err(AllocError),
+    }
+}
+
+fn main(rt: HostRuntime) -> ExitCode {
+    let (mut line, mut notes) = (String::new(rt.alloc()), String::new(rt.alloc()));
+    let Ok(status) = run(&rt, &mut line, &mut notes) else {
         return ExitCode::from(7);
     };
-    let lines = (pace.as_str(), line.as_str());
-    ExitCode::from(tell(lines, &day, &mut rt.stdout(), &mut rt.stderr()))
+    let _ = rt.stderr().write_all(notes.as_bytes());
+    let is_written = rt.stdout().write_all(line.as_bytes()).is_ok();
+    ExitCode::from(if is_written { status } else { 3 })
 }

@@ -8,6 +8,11 @@ use refusing::Refusing;
 use std::alloc::{Allocator, Global};
 use std::process::Abort;
 
+/// The first bridge.
+fn first_in(rt: &impl Abort, heap: impl Allocator + Copy, grid: &Grid) -> Option<(u32, u32)> {
+    first_bridge(heap, grid).expect(rt, "memory for a search")
+}
+
 /// The first bridge of a map whose letters fill its sides.
 fn first_of(
     rt: &impl Abort,
@@ -17,7 +22,7 @@ fn first_of(
     cells: &[u8],
 ) -> Option<(u32, u32)> {
     let grid = grid_of(rt, alloc, height, width, cells);
-    first_bridge(alloc, &grid).expect(rt, "memory for a search")
+    first_in(rt, alloc, &grid)
 }
 
 /// Maps by their sides and letters, and their first bridge.
@@ -87,8 +92,7 @@ fn drawn(rt: &impl Abort, alloc: Global, count: u32, mut bits: u32) -> Vec<u8> {
 /// Whether the first bridge of such a map is the one that a search for each edge finds.
 fn is_as_searched(rt: &impl Abort, alloc: Global, height: u32, width: u32, cells: &[u8]) -> bool {
     let grid = grid_of(rt, alloc, height, width, cells);
-    let first = first_bridge(alloc, &grid).expect(rt, "memory for a search");
-    first == first_by_search(rt, alloc, &grid)
+    first_in(rt, alloc, &grid) == first_by_search(rt, alloc, &grid)
 }
 
 /// The sides of small maps, how many cells they have, and how many such maps there are.
@@ -135,7 +139,7 @@ fn ring_with_tail(rt: &impl Abort, alloc: Global) -> Grid {
 #[test]
 fn bridge_behind_a_long_ring(rt: HostRuntime) {
     let grid = ring_with_tail(&rt, rt.alloc());
-    assert!(rt; first_bridge(rt.alloc(), &grid) == Ok(Some((200, 201))));
+    assert!(rt; first_in(&rt, rt.alloc(), &grid) == Some((200, 201)));
 }
 
 /// Whether a growth is refused. The next call over the same memory finds the first bridge then.
@@ -146,21 +150,19 @@ fn is_refused(
     first: (u32, u32),
 ) -> bool {
     let met = first_bridge(heap, grid).is_err();
-    let found = first_bridge(heap, grid);
-    assert!(rt; !met || found == Ok(Some(first)));
+    assert!(rt; !met || first_in(rt, heap, grid) == Some(first));
     met
 }
 
 /// Refuses each growth in turn, until none is refused.
 fn refuse_growths(rt: &impl Abort, alloc: Global, grid: &Grid, first: (u32, u32)) {
-    let mut unrefused = None;
+    let mut refused = 0;
     for before in 0..64 {
-        if !is_refused(rt, &Refusing::after(alloc, before), grid, first) {
-            unrefused = Some(before);
-            break;
+        if is_refused(rt, &Refusing::after(alloc, before), grid, first) {
+            refused = before + 1;
         }
     }
-    assert!(rt; unrefused.is_some());
+    assert!(rt; refused < 64);
 }
 
 #[test]

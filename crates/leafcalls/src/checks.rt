@@ -22,26 +22,43 @@ fn hall(rt: &impl Abort, alloc: Global) -> Grid {
     grid_of(rt, alloc, 32, 32, &cells)
 }
 
+/// Whether the check of the step is answered so.
+fn is_answered(
+    heap: impl Allocator + Copy,
+    grid: &Grid,
+    from: &[u32],
+    to: &[u32],
+    outcome: Result<(), StepFault>,
+) -> bool
+    requires { IsPlacement grid.now from.now }
+{
+    check_step(heap, grid, from, to) == outcome
+}
+
 /// Steps of two robots that stand on cells 0 and 1.
-fn check_steps(rt: &impl Abort, alloc: Global, grid: &Grid) {
-    assert!(rt; is_placement(grid, &[0, 1]));
-    let cases: [(&[u32], Result<(), StepFault>); 6] = [
-        (&[1, 0], Err(StepFault::Swap(0, 1))),
-        (&[1, 1], Err(StepFault::Vertex(0, 1))),
-        (&[1], Err(StepFault::Length)),
-        (&[4, 1], Err(StepFault::OffFloor(0))),
-        (&[3, 1], Err(StepFault::NotAdjacent(0))),
-        (&[1, 3], Ok(())),
-    ];
-    for (to, outcome) in cases {
-        assert!(rt; check_step(alloc, grid, &[0, 1], to) == outcome);
+const STEPS: [(&[u32], Result<(), StepFault>); 6] = [
+    (&[1, 0], Err(StepFault::Swap(0, 1))),
+    (&[1, 1], Err(StepFault::Vertex(0, 1))),
+    (&[1], Err(StepFault::Length)),
+    (&[4, 1], Err(StepFault::OffFloor(0))),
+    (&[3, 1], Err(StepFault::NotAdjacent(0))),
+    (&[1, 3], Ok(())),
+];
+
+fn check_steps(rt: &impl Abort, alloc: Global, grid: &Grid, from: &[u32])
+    requires { IsPlacement grid.now from.now }
+{
+    for (to, outcome) in STEPS {
+        assert!(rt; is_answered(alloc, grid, from, to, outcome));
     }
 }
 
 #[test]
 fn step_faults(rt: HostRuntime) {
     let grid = square(&rt, rt.alloc());
-    check_steps(&rt, rt.alloc(), &grid);
+    let from = [0, 1];
+    assert!(rt; is_placement(&grid, &from));
+    check_steps(&rt, rt.alloc(), &grid, &from);
 }
 
 /// The numbers of these cells, of which robot 0 stands on the first.
@@ -59,20 +76,20 @@ fn change_cells(rt: &impl Abort, alloc: Global, grid: &Grid, from: &[u32], to: &
 {
     assert!(rt; to.len() == 512);
     to[511] = 510;
-    assert!(rt; check_step(alloc, grid, from, to) == Err(StepFault::Vertex(510, 511)));
+    assert!(rt; is_answered(alloc, grid, from, to, Err(StepFault::Vertex(510, 511))));
     to[510] = 511;
-    assert!(rt; check_step(alloc, grid, from, to) == Err(StepFault::Swap(510, 511)));
+    assert!(rt; is_answered(alloc, grid, from, to, Err(StepFault::Swap(510, 511))));
     to[0] = 32;
     to[32] = 0;
-    assert!(rt; check_step(alloc, grid, from, to) == Err(StepFault::Swap(0, 32)));
+    assert!(rt; is_answered(alloc, grid, from, to, Err(StepFault::Swap(0, 32))));
 }
 
 fn move_fleet(rt: &impl Abort, alloc: Global, grid: &Grid, from: &[u32])
     requires { IsPlacement grid.now from.now }
 {
-    assert!(rt; check_step(alloc, grid, from, from) == Ok(()));
+    assert!(rt; is_answered(alloc, grid, from, from, Ok(())));
     let south = cells_between(rt, alloc, 32, 544);
-    assert!(rt; check_step(alloc, grid, from, &south) == Ok(()));
+    assert!(rt; is_answered(alloc, grid, from, &south, Ok(())));
     let mut last = cells_between(rt, alloc, 0, 512);
     change_cells(rt, alloc, grid, from, &mut last);
 }
@@ -90,8 +107,8 @@ fn whole_fleet(rt: HostRuntime) {
 fn is_refused(rt: &impl Abort, heap: impl Allocator + Copy, grid: &Grid, from: &[u32]) -> bool
     requires { IsPlacement grid.now from.now }
 {
-    let met = check_step(heap, grid, from, &[1, 3, 0]) == Err(StepFault::NoMemory);
-    assert!(rt; check_step(heap, grid, from, &[1, 3, 0]) == Ok(()) || !met);
+    let met = is_answered(heap, grid, from, &[1, 3, 0], Err(StepFault::NoMemory));
+    assert!(rt; is_answered(heap, grid, from, &[1, 3, 0], Ok(())) || !met);
     met
 }
 
@@ -99,8 +116,8 @@ fn is_refused(rt: &impl Abort, heap: impl Allocator + Copy, grid: &Grid, from: &
 fn name_without_memory(rt: &impl Abort, heap: impl Allocator + Copy, grid: &Grid, from: &[u32])
     requires { IsPlacement grid.now from.now }
 {
-    assert!(rt; check_step(heap, grid, from, &[1, 3, 1, 0]) == Err(StepFault::Length));
-    assert!(rt; check_step(heap, grid, from, &[3, 3, 3]) == Err(StepFault::NotAdjacent(0)));
+    assert!(rt; is_answered(heap, grid, from, &[1, 3, 1, 0], Err(StepFault::Length)));
+    assert!(rt; is_answered(heap, grid, from, &[3, 3, 3], Err(StepFault::NotAdjacent(0))));
 }
 
 #[test]
@@ -108,29 +125,46 @@ fn refused_growths(rt: HostRuntime) {
     let grid = square(&rt, rt.alloc());
     let from = [0, 1, 2];
     assert!(rt; is_placement(&grid, &from));
-    let mut unrefused = None;
+    let mut refused = 0;
     for before in 0..8 {
-        if !is_refused(&rt, &Refusing::after(rt.alloc(), before), &grid, &from) {
-            unrefused = Some(before);
-            break;
+        if is_refused(&rt, &Refusing::after(rt.alloc(), before), &grid, &from) {
+            refused = before + 1;
         }
     }
-    assert!(rt; unrefused == Some(1));
+    assert!(rt; refused == 1);
     name_without_memory(&rt, &Refusing::after(rt.alloc(), 0), &grid, &from);
+}
+
+/// Whether a growth is refused while the step is checked. It is conflict-free.
+fn is_want_of_memory(
+    rt: &impl Abort,
+    heap: impl Allocator + Copy,
+    grid: &Grid,
+    from: &[u32],
+    to: &[u32],
+) -> bool
+    requires { IsPlacement grid.now from.now }
+{
+    match check_step(heap, grid, from, to) {
+        Ok(()) => false,
+        Err(fault) => {
+            assert!(rt; fault == StepFault::NoMemory);
+            true
+        }
+    }
 }
 
 /// How many growths are refused in turn before one check of the step meets no refusal; 16 at most.
 fn count_refused(rt: &impl Abort, alloc: Global, grid: &Grid, from: &[u32], to: &[u32]) -> u64
     requires { IsPlacement grid.now from.now }
 {
+    let mut refused = 0;
     for before in 0..16 {
-        let said = check_step(&Refusing::after(alloc, before), grid, from, to);
-        if said == Ok(()) {
-            return before;
+        if is_want_of_memory(rt, &Refusing::after(alloc, before), grid, from, to) {
+            refused = before + 1;
         }
-        assert!(rt; said == Err(StepFault::NoMemory));
     }
-    16
+    refused
 }
 
 /// How many growths are refused in turn while the first 24 robots move a row to the south.

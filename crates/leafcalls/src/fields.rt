@@ -123,11 +123,17 @@ const WAYS: [(u32, u8); 8] = [
     (8, 9),
 ];
 
+/// Whether these ways lead nearer by a field and by a compass, which tell the same distance.
+fn have_ways(grid: &Grid, field: &Field, compass: &Compass, cell: u32, ways: u8) -> bool {
+    field.ways(grid, cell) == ways
+        && compass.ways(grid, cell) == ways
+        && compass.at(cell) == field.at(cell)
+}
+
 fn check_ways(rt: &impl Abort, grid: &Grid, field: &Field, compass: &Compass) {
     assert!(rt; compass.goal() == 0);
     for (cell, ways) in WAYS {
-        assert!(rt; field.ways(grid, cell) == ways && compass.ways(grid, cell) == ways);
-        assert!(rt; compass.at(cell) == field.at(cell));
+        assert!(rt; have_ways(grid, field, compass, cell, ways));
     }
 }
 
@@ -185,12 +191,16 @@ fn held_and_released(rt: HostRuntime) {
 
 const SHARED: [u32; 3] = [0, 8, 0];
 
+/// Whether the key is one of that goal.
+fn is_key_of(store: &FieldStore, key: usize, goal: u32) -> bool {
+    store.is_held(key) && store.goal(key) == goal
+}
+
 fn check_goals(rt: &impl Abort, store: &FieldStore, keys: &[usize]) {
     assert!(rt; keys.len() == 3);
     assert!(rt; keys[0] == keys[2] && keys[0] != keys[1]);
     for at in 0..3 {
-        assert!(rt; store.is_held(keys[at]));
-        assert!(rt; store.goal(keys[at]) == SHARED[at]);
+        assert!(rt; is_key_of(store, keys[at], SHARED[at]));
     }
 }
 

@@ -74,30 +74,64 @@ fn turn_both<A: Allocator + Copy>(
     aims.turn(shelf, grid, turns)
 }
 
+/// Whether the two robots have these goals.
+fn have_goals<A: Allocator + Copy>(aims: &Aims<A>, first: Option<u32>, second: Option<u32>) -> bool
+    requires { length aims.now ≡ 2 }
+{
+    aims.goal(0) == first && aims.goal(1) == second
+}
+
+/// Whether a robot's goal is so far from the cell.
+fn is_away<A: Allocator + Copy>(aims: &Aims<A>, robot: u32, cell: u32, away: Option<u32>) -> bool
+    requires known { robot < 2 }
+    requires robots { length aims.now ≡ 2 }
+{
+    aims.at(robot, cell) == away
+}
+
+/// Robot 0 has the goal 8, and robot 1 has none.
+fn check_aimed<A: Allocator + Copy>(rt: &impl Abort, aims: &Aims<A>, grid: &Grid)
+    requires robots { length aims.now ≡ 2 }
+    requires on { AreOn grid.now aims.now }
+{
+    assert!(rt; have_goals(aims, Some(8), None));
+    assert!(rt; is_away(aims, 0, 0, Some(4)));
+    assert!(rt; is_away(aims, 0, 5, Some(1)));
+    assert!(rt; is_away(aims, 0, 4, None));
+    // East and south.
+    assert!(rt; aims.ways(grid, 0, 0) == 6 && aims.ways(grid, 1, 0) == 0);
+}
+
 /// Robot 0 is given the goal 8, then robot 1, and then robot 0 is turned to cell 1.
-fn aim_and_turn(rt: &impl Abort, aims: &mut Aims, shelf: &mut Shelf, grid: &Grid)
+fn aim_and_turn<A: Allocator + Copy>(
+    rt: &impl Abort,
+    aims: &mut Aims<A>,
+    shelf: &mut Shelf<A>,
+    grid: &Grid,
+)
     requires robots { length aims.old ≡ 2 }
     requires on { AreOn grid.now aims.old }
     requires keeps { Keeps grid.now shelf.old }
 {
-    assert!(rt; (aims.goal(0), aims.at(0, 8)) == (None, None));
+    assert!(rt; have_goals(aims, None, None) && is_away(aims, 0, 8, None));
     aim_at_corner(rt, aims, shelf, grid, 0).expect(rt, "memory for a goal");
-    assert!(rt; (aims.goal(0), aims.goal(1)) == (Some(8), None));
-    assert!(rt; [aims.at(0, 0), aims.at(0, 5), aims.at(0, 4)] == [Some(4), Some(1), None]);
-    // East and south.
-    assert!(rt; (aims.ways(grid, 0, 0), aims.ways(grid, 1, 0)) == (6, 0));
+    check_aimed(rt, aims, grid);
     aim_at_corner(rt, aims, shelf, grid, 1).expect(rt, "memory for a goal");
     turn_both(rt, aims, shelf, grid, &both(Some(1), Some(8))).expect(rt, "memory for goals");
-    assert!(rt; (aims.goal(0), aims.goal(1)) == (Some(1), Some(8)));
-    assert!(rt; (aims.at(0, 8), aims.at(1, 1)) == (Some(3), Some(3)));
+    assert!(rt; have_goals(aims, Some(1), Some(8)));
+    assert!(rt; is_away(aims, 0, 8, Some(3)) && is_away(aims, 1, 1, Some(3)));
+}
+
+fn aim_and_turn_over(rt: &impl Abort, alloc: impl Allocator + Copy, grid: &Grid) {
+    let mut aims = Aims::new(alloc, 2).expect(rt, "memory for robots");
+    let mut shelf = Shelf::new(alloc, 4096);
+    aim_and_turn(rt, &mut aims, &mut shelf, grid);
 }
 
 #[test]
 fn aimed_and_turned(rt: HostRuntime) {
     let grid = ring(&rt, rt.alloc());
-    let mut aims = Aims::new(rt.alloc(), 2).expect(&rt, "memory for robots");
-    let mut shelf = Shelf::new(rt.alloc(), 4096);
-    aim_and_turn(&rt, &mut aims, &mut shelf, &grid);
+    aim_and_turn_over(&rt, rt.alloc(), &grid);
 }
 
 /// What robot 0 aims at behind a turn to cell 1, which may be refused.
@@ -123,30 +157,28 @@ fn is_turn_refused<A: Allocator + Copy>(
     let second = turn_both(rt, aims, shelf, grid, &turns).is_err();
     assert!(rt; aims.goal(0) == Some(goal_after(second)));
     turn_both(rt, aims, shelf, grid, &turns).expect(rt, "memory for goals");
-    assert!(rt; (aims.at(0, 0), aims.at(1, 8)) == (Some(1), Some(1)));
+    assert!(rt; is_away(aims, 0, 0, Some(1)) && is_away(aims, 1, 8, Some(1)));
     first || second
 }
 
-fn is_refused(rt: &impl Abort, alloc: Global, before: u64, grid: &Grid) -> bool {
-    let heap = Refusing::after(alloc, before);
-    let Ok(mut aims) = Aims::new(&heap, 2) else {
+fn is_refused(rt: &impl Abort, heap: impl Allocator + Copy, grid: &Grid) -> bool {
+    let Ok(mut aims) = Aims::new(heap, 2) else {
         return true;
     };
-    let mut shelf = Shelf::new(&heap, 4096);
+    let mut shelf = Shelf::new(heap, 4096);
     is_turn_refused(rt, &mut aims, &mut shelf, grid)
 }
 
 #[test]
 fn refused_growths(rt: HostRuntime) {
     let grid = ring(&rt, rt.alloc());
-    let mut unrefused = None;
+    let mut refused = 0;
     for before in 0..32 {
-        if !is_refused(&rt, rt.alloc(), before, &grid) {
-            unrefused = Some(before);
-            break;
+        if is_refused(&rt, &Refusing::after(rt.alloc(), before), &grid) {
+            refused = before + 1;
         }
     }
-    assert!(rt; unrefused.is_some());
+    assert!(rt; refused < 32);
 }
 
 /// Turns a robot to the goal that it has, and to none. Where no growth was left behind the goal's own, one here would be
@@ -168,12 +200,11 @@ fn turn_without_memory<A: Allocator + Copy>(
     assert!(rt; turn_both(rt, aims, shelf, grid, &both(None, None)).is_ok());
 }
 
-fn turn_after(rt: &impl Abort, alloc: Global, before: u64, grid: &Grid) {
-    let heap = Refusing::after(alloc, before);
-    let Ok(mut aims) = Aims::new(&heap, 2) else {
+fn turn_over(rt: &impl Abort, heap: impl Allocator + Copy, grid: &Grid) {
+    let Ok(mut aims) = Aims::new(heap, 2) else {
         return;
     };
-    let mut shelf = Shelf::new(&heap, 4096);
+    let mut shelf = Shelf::new(heap, 4096);
     turn_without_memory(rt, &mut aims, &mut shelf, grid);
 }
 
@@ -182,6 +213,6 @@ fn turn_after(rt: &impl Abort, alloc: Global, before: u64, grid: &Grid) {
 fn turned_without_memory(rt: HostRuntime) {
     let grid = ring(&rt, rt.alloc());
     for before in 0..8 {
-        turn_after(&rt, rt.alloc(), before, &grid);
+        turn_over(&rt, &Refusing::after(rt.alloc(), before), &grid);
     }
 }

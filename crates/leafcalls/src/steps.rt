@@ -10,7 +10,7 @@ use fleet_grid::{Dir, Grid};
 use fleet_hooks::{TieHook, TieLaw, TieView};
 use fleet_pibt::{Goals, Stepper, order};
 use refusing::Refusing;
-use std::alloc::Allocator;
+use std::alloc::{Allocator, Global};
 use std::process::Abort;
 use std::slice;
 use std::sync::Arc;
@@ -92,11 +92,11 @@ fn order_by_wait_then_number(rt: HostRuntime) {
 }
 
 /// Where the idle robot of the map `..` goes from its first cell.
-fn step_idle(grid: &Grid, stepper: &mut Stepper, ties: &[TieHook]) -> u32
+fn step_idle(rt: &impl Abort, alloc: Global, grid: &Grid, ties: &[TieHook]) -> u32
     requires map { grid.now ≡ floor_of 1 2 (46 ∷ 46 ∷ []) }
     requires tied { length ties.now ≡ 1 }
-    requires made { stepper.old ≡ record { cells = 2; robots = 1 } }
 {
+    let mut stepper = Stepper::new(alloc, 2, 1).expect(rt, "memory for a step");
     let mut to = [9];
     stepper.step(grid, &[0], &[None], &NoGoals, ties, 1, &mut to);
     to[0]
@@ -106,10 +106,9 @@ fn step_idle(grid: &Grid, stepper: &mut Stepper, ties: &[TieHook]) -> u32
 fn idle_robot_stays(rt: HostRuntime) {
     let alloc = rt.alloc();
     let grid = grid_of(&rt, alloc, 1, 2, b"..");
-    let mut stepper = Stepper::new(alloc, 2, 1).expect(&rt, "memory for a step");
     let tie = Box::new(alloc, |_view: TieView| 0).expect(&rt, "memory for a closure");
     let tie = TieHook::new(TieLaw::ANY, tie);
-    assert!(rt; step_idle(&grid, &mut stepper, slice::from_ref(&tie)) == 0);
+    assert!(rt; step_idle(&rt, alloc, &grid, slice::from_ref(&tie)) == 0);
 }
 
 /// Where the lone robot of the map `..` goes from this cell, where it has waited so long. Its goal is cell 1.
@@ -159,23 +158,27 @@ fn lone_robot_takes_its_goal(rt: HostRuntime) {
     assert!(rt; step_east(&grid, &mut stepper, slice::from_ref(&tie), 1, 4, 2) == 1);
 }
 
+/// Whether the tables can be made.
+fn are_made(heap: impl Allocator + Copy) -> bool {
+    Stepper::new(heap, 9, 2).is_ok()
+}
+
 /// Whether a growth is refused while the tables are made. They are made again then.
 fn is_refused(rt: &impl Abort, heap: impl Allocator + Copy) -> bool {
-    let met = Stepper::new(heap, 9, 2).is_err();
-    assert!(rt; !met || Stepper::new(heap, 9, 2).is_ok());
+    let met = !are_made(heap);
+    assert!(rt; !met || are_made(heap));
     met
 }
 
 /// Each growth is refused in turn, until the tables are made without a refusal.
 #[test]
 fn refused_growths(rt: HostRuntime) {
-    let mut unrefused = None;
+    let mut refused = 0;
     for before in 0..9 {
-        if !is_refused(&rt, &Refusing::after(rt.alloc(), before)) {
-            unrefused = Some(before);
-            break;
+        if is_refused(&rt, &Refusing::after(rt.alloc(), before)) {
+            refused = before + 1;
         }
     }
     // Two tables, the queue and what the robots see.
-    assert!(rt; unrefused == Some(4));
+    assert!(rt; refused == 4);
 }

@@ -65,20 +65,18 @@ fn visit_both<A: Allocator + Copy>(
     Some((away, is_kept(shelf, 0)))
 }
 
-/// Two visits of which one growth is refused, which comes after `before` others.
-fn visit_both_after(
+/// Two visits over a heap.
+fn visit_both_over<A: Allocator + Copy>(
     rt: &impl Abort,
-    alloc: Global,
-    before: u64,
+    heap: A,
     grid: &Grid,
     other: u32,
 ) -> Option<(Option<u32>, bool)>
     requires zero { IsFloor grid.now 0 }
     requires other { IsFloor grid.now other }
 {
-    let heap = Refusing::after(alloc, before);
-    let mut store = FieldStore::new(&heap).expect(rt, "memory for a store");
-    let mut shelf = Shelf::new(&heap, 4096);
+    let mut store = FieldStore::new(heap).expect(rt, "memory for a store");
+    let mut shelf = Shelf::new(heap, 4096);
     visit_both(rt, &mut store, &mut shelf, grid, other)
 }
 
@@ -87,8 +85,9 @@ fn visit_both_after(
 fn held_again_without_memory(rt: HostRuntime) {
     let grid = ring(&rt, rt.alloc());
     for before in 0..16 {
-        if let Some(again) = visit_both_after(&rt, rt.alloc(), before, &grid, 0) {
-            assert!(rt; again == (Some(4), true));
+        let heap = Refusing::after(rt.alloc(), before);
+        if let Some((away, is_kept)) = visit_both_over(&rt, &heap, &grid, 0) {
+            assert!(rt; away == Some(4) && is_kept);
         }
     }
 }
@@ -99,7 +98,8 @@ fn kept_goes_before_want_of_memory(rt: HostRuntime) {
     let grid = ring(&rt, rt.alloc());
     let mut gone = 0;
     for before in 0..16 {
-        if let Some((away, is_kept)) = visit_both_after(&rt, rt.alloc(), before, &grid, 2) {
+        let heap = Refusing::after(rt.alloc(), before);
+        if let Some((away, is_kept)) = visit_both_over(&rt, &heap, &grid, 2) {
             assert!(rt; away == Some(2));
             if !is_kept {
                 gone = before;

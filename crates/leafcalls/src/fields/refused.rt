@@ -9,7 +9,7 @@ use crate::floor::are_floor;
 use fleet_field::FieldStore;
 use fleet_grid::Grid;
 use refusing::Refusing;
-use std::alloc::{Allocator, Global};
+use std::alloc::Allocator;
 use std::process::Abort;
 use std::thread::Threads;
 
@@ -24,25 +24,23 @@ fn hold_twice<A: Allocator + Copy>(rt: &impl Abort, store: &mut FieldStore<A>, g
     met
 }
 
-fn is_refused(rt: &impl Abort, alloc: Global, before: u64, grid: &Grid) -> bool
+fn is_refused(rt: &impl Abort, heap: impl Allocator + Copy, grid: &Grid) -> bool
     requires { IsFloor grid.now 0 }
 {
-    let heap = Refusing::after(alloc, before);
-    let mut store = FieldStore::new(&heap).expect(rt, "memory for a store");
+    let mut store = FieldStore::new(heap).expect(rt, "memory for a store");
     hold_twice(rt, &mut store, grid)
 }
 
 #[test]
 fn refused_growths(rt: HostRuntime) {
     let grid = ring(&rt, rt.alloc());
-    let mut unrefused = None;
+    let mut refused = 0;
     for before in 0..32 {
-        if !is_refused(&rt, rt.alloc(), before, &grid) {
-            unrefused = Some(before);
-            break;
+        if is_refused(&rt, &Refusing::after(rt.alloc(), before), &grid) {
+            refused = before + 1;
         }
     }
-    assert!(rt; unrefused.is_some());
+    assert!(rt; refused < 32);
 }
 
 fn check_ends<A: Allocator + Copy>(rt: &impl Abort, store: &FieldStore<A>, keys: &[usize]) {
@@ -71,24 +69,21 @@ fn hold_all_twice<A: Allocator + Copy + Send + Sync>(
 
 fn are_refused(
     rt: &(impl Abort + Threads + Sync),
-    alloc: Global,
-    before: u64,
+    heap: impl Allocator + Copy + Send + Sync,
     grid: &Grid,
 ) -> bool {
-    let heap = Refusing::after(alloc, before);
-    let mut store = FieldStore::new(&heap).expect(rt, "memory for a store");
+    let mut store = FieldStore::new(heap).expect(rt, "memory for a store");
     hold_all_twice(rt, &mut store, grid)
 }
 
 #[test]
 fn refused_growths_of_several(rt: HostRuntime) {
     let grid = ring(&rt, rt.alloc());
-    let mut unrefused = None;
+    let mut refused = 0;
     for before in 0..32 {
-        if !are_refused(&rt, rt.alloc(), before, &grid) {
-            unrefused = Some(before);
-            break;
+        if are_refused(&rt, &Refusing::after(rt.alloc(), before), &grid) {
+            refused = before + 1;
         }
     }
-    assert!(rt; unrefused.is_some());
+    assert!(rt; refused < 32);
 }
