@@ -1,6 +1,8 @@
 -- Clients that are on their office's rings, one more and one less.
-use Rattle.std.proofs.Common.{◌≡◌, suc, ◌<◌, List, [], ◌∷◌, ◌++◌, length, Some, sym, subst, refl, ap, ◌∙◌, arith, ⊎_elim, slice_index_or}
+use Rattle.std.proofs.Common.{◌≡◌, suc, ◌<◌, List, [], ◌∷◌, ◌++◌, length, Some, sym, subst, refl, ap, ◌∙◌, arith, ⊎_elim, slice_index_or, ℕ, Bool, true}
+use Rattle.std.specs.Prelude.{◌==◌}
 use Rattle.std.specs.List.{slice_get, remove}
+use Rattle.std.proofs.lemmas.Grind.{common_steps}
 use Rattle.std.proofs.lemmas.List.{map-append, append_assoc, append-nil}
 use Rattle.fleet_lanes.specs.Names.{LaneName}
 use Rattle.fleet_lanes.specs.Ends.{ClientView}
@@ -41,3 +43,7 @@ module _ {X : Type 0} where
   pub all_moved : (gs xs all : List X) → length xs ≡ 0 → gs ++ xs ≡ all → gs ≡ all
   all_moved gs [] all none are = sym (append-nil gs) ∙ are
   all_moved gs (y ∷ ys) all none are = absurd (omega arith)
+
+-- a list that is said to be empty
+pub said_empty : (empty : Bool) (n k : ℕ) → empty ≡ (n == 0) → empty ≡ true → n ≡ k → k ≡ 0
+said_empty empty n k is none same = grind (arith, common_steps)

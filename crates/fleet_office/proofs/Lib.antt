@@ -18,3 +18,4 @@ pub mod ChapterSteps
 pub mod Guests
 pub mod Counted
 pub mod TurnSteps
+pub mod Never

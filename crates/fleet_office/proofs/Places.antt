@@ -1,5 +1,5 @@
 -- What stands at a place of a list after a change.
-use Rattle.std.proofs.Common.{◌≡◌, ◌≢◌, ℕ, zero, suc, ◌<◌, List, [], ◌∷◌, ◌++◌, length, set, map, Some, ◌⊎◌, inl, inr, refl, ap, arith, ⊎_elim}
+use Rattle.std.proofs.Common.{◌≡◌, ◌≢◌, ℕ, zero, suc, ◌<◌, ◌≤◌, List, [], ◌∷◌, ◌++◌, length, set, map, Some, ◌⊎◌, inl, inr, refl, ap, arith, ⊎_elim}
 use Rattle.std.specs.List.{slice_get}
 
 pub at_push : {A : Type 0} (xs : List A) (x y : A) (k : ℕ) → slice_get (xs ++ x ∷ []) k ≡ Some y → (slice_get xs k ≡ Some y) ⊎ ((k ≡ length xs) × (x ≡ y))
@@ -41,3 +41,7 @@ pub set_there : {A : Type 0} (xs : List A) (i : ℕ) (x y : A) → slice_get xs 
 set_there [] i x y e = cc
 set_there (z ∷ xs) zero x y e = refl
 set_there (z ∷ xs) (suc i) x y e = set_there xs i x y e
+
+-- no place is before the first
+pub from_first : (k : ℕ) → 0 ≤ k
+from_first k = omega arith

@@ -1,6 +1,7 @@
 //! The program's own closures, which nothing hands out: they are made where the job is done.
 
-ghost use Rattle.std.specs.Prelude.{◌≡◌, ◌<◌, is_some};
+ghost use Rattle.std.specs.Prelude.{◌≡◌, ◌<◌, is_some, IfOk};
+ghost use Rattle.std.specs.Box.{box_value};
 ghost use Rattle.fleet_hooks.specs.Law.{IsRank};
 ghost use Rattle.fleet_program.specs.Told.{names_two};
 ghost use Rattle.fleet_program.specs.declared.closures.TheConstants.{SOUTH_FIRST};
@@ -35,6 +36,21 @@ const SOUTH_FIRST: TieLaw = TieLaw {
     high: [9, 9, 0, 9],
 };
 
+/// A box for each of these.
+fn boxes_of<T: Drop, S: Drop, F: Drop>(
+    alloc: Global,
+    tie: T,
+    arrival: S,
+    farewell: F,
+) -> Result<(Box<T>, Box<S>, Box<F>), AllocError>
+    ensures { IfOk result (λ r. (box_value r.0 ≡ tie) × (box_value r.1 ≡ arrival) × (box_value r.2 ≡ farewell)) }
+{
+    let tie = Box::new(alloc, tie)?;
+    let arrival = Box::new(alloc, arrival)?;
+    let farewell = Box::new(alloc, farewell)?;
+    Ok((tie, arrival, farewell))
+}
+
 /// Makes the program's closures and does the job with them.
 fn run_with_closures<R: Alloc<A = Global> + Threads + Sync + Wait, I: Read, W: Write, E: Write>(
     rt: &R,
@@ -47,6 +63,8 @@ fn run_with_closures<R: Alloc<A = Global> + Threads + Sync + Wait, I: Read, W: W
     requires { is_some other ≡ names_two job.now }
 {
     let alloc = rt.alloc();
+    // Where memory is refused for one of them, none is used, and all are let go at one place.
+    let mut made = true;
     let mut plain = Hooks::new(alloc);
     for _ in 0..ROBOTS {
         let tie = |_view: TieView| -> u8
@@ -58,14 +76,14 @@ fn run_with_closures<R: Alloc<A = Global> + Threads + Sync + Wait, I: Read, W: W
         let farewell = |_view: FarewellView| -> u32
             ensures { result ≡ 0 }
         { 0 };
-        let tie = Box::new(alloc, tie)?;
-        let arrival = Box::new(alloc, arrival)?;
-        let farewell = Box::new(alloc, farewell)?;
-        plain.push(
-            TieHook::new(ALIKE, tie),
-            ArrivalHook::new(NOUGHT, arrival),
-            Farewell::new(NOUGHT, farewell),
-        )?;
+        if let Ok((tie, arrival, farewell)) = boxes_of(alloc, tie, arrival, farewell) {
+            let tie = TieHook::new(ALIKE, tie);
+            let arrival = ArrivalHook::new(NOUGHT, arrival);
+            let farewell = Farewell::new(NOUGHT, farewell);
+            made &= plain.push(tie, arrival, farewell).is_ok();
+        } else {
+            made = false;
+        }
     }
     let mut south = Hooks::new(alloc);
     for _ in 0..ROBOTS {
@@ -75,16 +93,22 @@ fn run_with_closures<R: Alloc<A = Global> + Threads + Sync + Wait, I: Read, W: W
         let arrival = |view: ArrivalView| -> u32
             ensures { result < 1000 }
         { (view.tick % 1000) as u32 };
-        let tie = Box::new(alloc, tie)?;
-        let arrival = Box::new(alloc, arrival)?;
-        let farewell = Box::new(alloc, |view: FarewellView| view.cell)?;
-        south.push(
-            TieHook::new(SOUTH_FIRST, tie),
-            ArrivalHook::new(BELOW_THOUSAND, arrival),
-            Farewell::new(StampLaw::ANY, farewell),
-        )?;
+        let farewell = |view: FarewellView| view.cell;
+        if let Ok((tie, arrival, farewell)) = boxes_of(alloc, tie, arrival, farewell) {
+            let tie = TieHook::new(SOUTH_FIRST, tie);
+            let arrival = ArrivalHook::new(BELOW_THOUSAND, arrival);
+            let farewell = Farewell::new(StampLaw::ANY, farewell);
+            made &= south.push(tie, arrival, farewell).is_ok();
+        } else {
+            made = false;
+        }
     }
-    Ok(run_program(rt, job, map, other, output, error, HookKit { plain, south }))
+    let kit = HookKit { plain, south };
+    if !made {
+        drop(kit);
+        return Err(AllocError);
+    }
+    Ok(run_program(rt, job, map, other, output, error, kit))
 }
 
 /// Does the job with the program's closures. The result is the status, 7 where they could not be made.

@@ -127,9 +127,13 @@ fn serve_lines<R: Alloc<A = Global> + Threads + Sync + Wait>(
 {
     // Each event stands on a line of its own, so no file has so many.
     if script.events.len() >= 1 << 32 {
+        drop(kit);
         return Err(AllocError);
     }
-    let (grid, judged) = two_grids(rt.alloc(), map)?;
+    let Ok((grid, judged)) = two_grids(rt.alloc(), map) else {
+        drop(kit);
+        return Err(AllocError);
+    };
     serve_on(rt, grid, &judged, script, kit)
 }
 
@@ -146,6 +150,7 @@ fn serve_script<R: Alloc<A = Global> + Threads + Sync + Wait>(
     let Some(at) = first_other(script) else {
         return serve_lines(rt, map, script, kit);
     };
+    drop(kit);
     // Each event has its line, so no call ends here.
     if at >= script.lines.len() {
         return Err(AllocError);
@@ -166,8 +171,13 @@ fn answer_script<R: Alloc<A = Global> + Threads + Sync + Wait>(
 {
     match read_script(rt.alloc(), script) {
         Ok(script) => serve_script(rt, map, &script, kit),
-        Err(ScriptFault::NoMemory) => Err(AllocError),
-        Err(ScriptFault::Line(line)) => faulty(rt.alloc(), Complaint::Script(line)),
+        Err(fault) => {
+            drop(kit);
+            match fault {
+                ScriptFault::NoMemory => Err(AllocError),
+                ScriptFault::Line(line) => faulty(rt.alloc(), Complaint::Script(line)),
+            }
+        }
     }
 }
 

@@ -12,6 +12,7 @@ ghost use Rattle.fleet_core.specs.Hooks.{laws_of};
 ghost use Rattle.fleet_calls.specs.Opening.{IsNamed as IsNamedFault, IsRefused};
 ghost use Rattle.fleet_office.specs.Views.{AreOn, IsNamed, cores};
 ghost use Rattle.fleet_serve.specs.inside.Faults.{IsLater};
+ghost use Rattle.fleet_serve.specs.inside.Ends.{IsEnd};
 ghost use Rattle.fleet_serve.specs.Posted.{IsLine, AreNew, AllHaveRun, TakesPosted, TakesAll, AreLastNotices};
 
 use crate::draining::make_last_turns;
@@ -97,20 +98,21 @@ fn conclude<N: ScriptName, R: Alloc<A = Global> + Wait>(
     home: Home<N>,
 ) -> Result<Served, ServeFault>
     ensures later { IfErr result (λ fault. IsLater fault) }
-    ensures first { IfOk result (λ s. s.last.chapter.number ≡ 0) }
-    ensures legal { IfOk result (λ s. IsLegal s.last.grid (history_of s.last.chapter)) }
-    ensures advancing { IfOk result (λ s. IsBridgeless (IsNeighbour s.last.grid) → EachTick (IsAdvancingTick s.last.grid) (history_of s.last.chapter)) }
-    ensures tick { IfOk result (λ s. s.last.tick ≡ clock (history_of s.last.chapter)) }
-    ensures posted { IfOk result (λ s. TakesPosted (history_of s.last.chapter) N.events (length N.rings)) }
-    ensures all { IfOk result (λ s. s.lane_full ≡ 0 → length N.events < N.orders → TakesAll (history_of s.last.chapter) N.events (length N.rings)) }
-    ensures rest { IfOk result (λ s. AreLastNotices (history_of s.last.chapter) s.last.rest.items (length N.rings)) }
+    ensures ended { IfOk result (λ s. IsEnd N.events N.orders (length N.rings) s.lane_full s.last.grid
+        (history_of s.last.chapter) s.last.chapter.number s.last.tick s.last.rest.items) }
 {
     let (clients, lane_full, tickers) = come_to_rest(rt, &office, home)?;
     match office.conclude(rt.alloc(), clients, tickers) {
         // No serve begins another chapter, so no call ends here.
-        Ok(last) if last.chapter.number != 0 => Err(ServeFault::NoMemory),
+        Ok(last) if last.chapter.number != 0 => {
+            drop(last);
+            Err(ServeFault::NoMemory)
+        }
         Ok(last) => Ok(Served { last, lane_full }),
-        Err((fault, _home)) => Err(conclusion_fault(fault)),
+        Err((fault, home)) => {
+            drop(home);
+            Err(conclusion_fault(fault))
+        }
     }
 }
 
@@ -155,13 +157,8 @@ fn serve_opened<
     requires fresh { AreNew N.orders clients.items }
     requires events { script.now.events.items ≡ N.events }
     ensures later { IfErr result (λ fault. IsLater fault) }
-    ensures first { IfOk result (λ s. s.last.chapter.number ≡ 0) }
-    ensures legal { IfOk result (λ s. IsLegal s.last.grid (history_of s.last.chapter)) }
-    ensures advancing { IfOk result (λ s. IsBridgeless (IsNeighbour s.last.grid) → EachTick (IsAdvancingTick s.last.grid) (history_of s.last.chapter)) }
-    ensures tick { IfOk result (λ s. s.last.tick ≡ clock (history_of s.last.chapter)) }
-    ensures posted { IfOk result (λ s. TakesPosted (history_of s.last.chapter) N.events (length N.rings)) }
-    ensures all { IfOk result (λ s. s.lane_full ≡ 0 → length N.events < N.orders → TakesAll (history_of s.last.chapter) N.events (length N.rings)) }
-    ensures rest { IfOk result (λ s. AreLastNotices (history_of s.last.chapter) s.last.rest.items (length N.rings)) }
+    ensures ended { IfOk result (λ s. IsEnd N.events N.orders (length N.rings) s.lane_full s.last.grid
+        (history_of s.last.chapter) s.last.chapter.number s.last.tick s.last.rest.items) }
 {
     let home = work(rt, &office, clients, ticker, script, gate)?;
     conclude(rt, office, home)
@@ -190,14 +187,8 @@ fn serve_at<
     ensures refused { (f : OpenFault) → result ≡ Err (ServeFault.Opening f) → IsRefused grid script.now.starts.items script.now.clients script.now.limits (laws_of hooks) f }
     ensures opens { (f : OpenFault) → IsRefused grid script.now.starts.items script.now.clients script.now.limits (laws_of hooks) f →
         (result ≡ Err (ServeFault.Opening f)) ⊎ (result ≡ Err ServeFault.NoMemory) }
-    ensures first { IfOk result (λ s. s.last.chapter.number ≡ 0) }
-    ensures legal { IfOk result (λ s. IsLegal s.last.grid (history_of s.last.chapter)) }
-    ensures advancing { IfOk result (λ s. IsBridgeless (IsNeighbour s.last.grid) → EachTick (IsAdvancingTick s.last.grid) (history_of s.last.chapter)) }
-    ensures tick { IfOk result (λ s. s.last.tick ≡ clock (history_of s.last.chapter)) }
-    ensures posted { IfOk result (λ s. TakesPosted (history_of s.last.chapter) script.now.events.items script.now.clients) }
-    ensures all { IfOk result (λ s. s.lane_full ≡ 0 → length script.now.events.items < script.now.limits.orders →
-        TakesAll (history_of s.last.chapter) script.now.events.items script.now.clients) }
-    ensures rest { IfOk result (λ s. AreLastNotices (history_of s.last.chapter) s.last.rest.items script.now.clients) }
+    ensures ended { IfOk result (λ s. IsEnd script.now.events.items script.now.limits.orders script.now.clients s.lane_full s.last.grid
+        (history_of s.last.chapter) s.last.chapter.number s.last.tick s.last.rest.items) }
 {
     let alloc = rt.alloc();
     let starts = Vec::from_slice(alloc, &script.starts)?;

@@ -1,7 +1,6 @@
 use Rattle.std.proofs.Common.{◌≡◌, ◌<◌, length, arith, subst, sym}
-use Rattle.std.proofs.lemmas.Grind.{common_steps}
 use Rattle.fleet_office.specs.Views.{AreOn, cores}
-use Rattle.fleet_office.proofs.Guests.{on_push, moves_on, all_moved}
+use Rattle.fleet_office.proofs.Guests.{on_push, moves_on, all_moved, said_empty}
 use Rattle.fleet_office.proofs.guest.clients_of.Goals as goal
 
 pub push_reserved-requires : goal.push_reserved-requires
@@ -23,5 +22,6 @@ loop-clients-preserved g c =
 
 pub returns : goal.returns
 returns g c =
-    let none : length c.loop-clients.guests.items ≡ 0 = grind (arith, common_steps) in
+    let left = c.loop-clients.guests in
+    let none : length left.items ≡ 0 = said_empty c.is_empty.result left.len (length left.items) c.is_empty.ensures c.loop-clients-test.false left.ok.0 in
     record { on = c.loop-clients.invariant.0; all = all_moved c.loop-clients.clients.items c.loop-clients.guests.items c.args.guests.items none c.loop-clients.invariant.1 }

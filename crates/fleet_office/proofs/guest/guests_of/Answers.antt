@@ -1,6 +1,5 @@
 use Rattle.std.proofs.Common.{◌≡◌, ◌<◌, length, arith}
-use Rattle.std.proofs.lemmas.Grind.{common_steps}
-use Rattle.fleet_office.proofs.Guests.{on_first, on_rest, moves_on, all_moved}
+use Rattle.fleet_office.proofs.Guests.{on_first, on_rest, moves_on, all_moved, said_empty}
 use Rattle.fleet_office.proofs.guest.guests_of.Goals as goal
 
 pub new-requires : goal.new-requires
@@ -26,5 +25,6 @@ loop-clients-preserved g c =
 
 pub returns : goal.returns
 returns g c =
-    let none : length c.loop-clients.clients.items ≡ 0 = grind (arith, common_steps) in
+    let left = c.loop-clients.clients in
+    let none : length left.items ≡ 0 = said_empty c.is_empty.result left.len (length left.items) c.is_empty.ensures c.loop-clients-test.false left.ok.0 in
     record { all = all_moved c.loop-clients.guests.items c.loop-clients.clients.items c.args.clients.items none c.loop-clients.invariant.1 }

@@ -1,6 +1,6 @@
 use Rattle.std.proofs.Common.{◌<◌, ◌≤◌, arith, ⊎_elim}
 use Rattle.std.proofs.lemmas.Bool.{cases_lt}
-use Rattle.fleet_office.proofs.Places.{there_is}
+use Rattle.fleet_office.proofs.Places.{from_first, there_is}
 use Rattle.fleet_office.proofs.homing.missing.Goals as goal
 
 pub loop-c-preserved : goal.loop-c-preserved
@@ -17,7 +17,7 @@ pub loop-c-init : goal.loop-c-init
 loop-c-init g c = λ n less. absurd (omega (arith, less))
 
 pub returns-in_default-clause-some : goal.returns-in_default-clause-some
-returns-in_default-clause-some g c = (c.loop-c-test.true, λ k x at. c.in_default.ensures.none k x (omega arith) at)
+returns-in_default-clause-some g c = (c.loop-c-test.true, λ k x at. c.in_default.ensures.none k x (from_first k) at)
 
 pub loop-c-smaller : goal.loop-c-smaller
 loop-c-smaller g c = omega (arith, c.loop-c-test.true)

@@ -2,12 +2,13 @@
 use Rattle.std.proofs.Common.{◌<◌, ap, refl, rules, subst, sym}
 use Rattle.std.proofs.lemmas.Result.{err_from_is_err_and}
 use Rattle.fleet_history.specs.History.{clients}
+use Rattle.fleet_office.proofs.Never.{not_refused, not_full, not_held}
 use Rattle.fleet_office.proofs.taking.take_left_from.Goals as goal
 
 pub returns-in_err-make_room : goal.returns-in_err-make_room
 returns-in_err-make_room g c =
     let p = err_from_is_err_and c.from_residual.result c.from_residual.ensures.1 in
-    rw (p.1, p.2) record { ok = tt; full = λ e. cc; err = (c.make_room.ensures.widens, refl); room = λ e. cc }
+    rw (p.1, p.2) record { ok = tt; full = λ e. not_full e; err = (c.make_room.ensures.widens, refl); room = λ e. not_held e }
 
 pub take-requires : goal.take-requires
 take-requires g c = subst (λ n. c.args.client < n) (sym (ap (λ w. clients w.history) c.make_room.ensures.widens.world)) c.requires.client
@@ -26,7 +27,7 @@ returns-clause-ok g c = (
 )
 
 pub returns-clause-full : goal.returns-clause-full
-returns-clause-full g c = λ e. cc
+returns-clause-full g c = λ e. not_refused e
 
 pub returns-clause-room : goal.returns-clause-room
-returns-clause-room g c = λ e. cc
+returns-clause-room g c = λ e. not_refused e

@@ -14,4 +14,4 @@ returns-in-Ok g c = λ text is. said_more (IsServedScript (kit_laws c.args.kit) 
 
 pub returns : goal.returns
 returns g c = λ text is. said_is (IsServeOutcome (kit_laws c.args.kit) text c.args.script.now) c.faulty.result _ c.faulty.ensures
-    (script_faulty (view c.args.map) c.in-Err-Line.line is (fails_line c.in-Err-Line.field-0 c.in-Err-Line.line _ c.in-Err-Line.field-0-is c.in-Err-Line.ensures.read) refl)
+    (script_faulty (view c.args.map) c.in-Line.line is (fails_line c.in-Err.fault c.in-Line.line _ c.in-Line.is c.in-Err.ensures.read) refl)

@@ -9,4 +9,4 @@ use Rattle.fleet_program.specs.Outcome.{IsServed}
 use Rattle.fleet_program.proofs.service.serve_lines.Goals as goal
 
 pub returns : goal.returns
-returns g c = subst (λ (m : Floor). IfOk c.serve_on.result (λ s. IsServed (kit_laws c.args.kit) m (plan c.args.script.now) (said s))) c.in_ok-grid.ensures.served c.serve_on.ensures
+returns g c = subst (λ (m : Floor). IfOk c.serve_on.result (λ s. IsServed (kit_laws c.args.kit) m (plan c.args.script.now) (said s))) c.in-Ok.ensures.served c.serve_on.ensures

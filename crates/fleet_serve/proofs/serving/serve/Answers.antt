@@ -2,6 +2,7 @@ use Rattle.std.proofs.Common.{refl, subst}
 use Rattle.fleet_book.specs.declared.limits.Limits.{Limits}
 use Rattle.fleet_serve.specs.Posted.{AreNew}
 use Rattle.fleet_serve.proofs.Clients.{new-pairs}
+use Rattle.fleet_serve.proofs.Ended.{on_ok}
 use Rattle.fleet_serve.proofs.serving.serve.Goals as goal
 
 pub serve_at-requires-clause-fresh : goal.serve_at-requires-clause-fresh
@@ -17,25 +18,25 @@ pub returns-in-Ok-clause-opens : goal.returns-in-Ok-clause-opens
 returns-in-Ok-clause-opens g c = c.serve_at.ensures.opens
 
 pub returns-in-Ok-clause-first : goal.returns-in-Ok-clause-first
-returns-in-Ok-clause-first g c = c.serve_at.ensures.first
+returns-in-Ok-clause-first g c = on_ok c.serve_at.result c.serve_at.ensures.ended (λ s e. e.first)
 
 pub returns-in-Ok-clause-legal : goal.returns-in-Ok-clause-legal
-returns-in-Ok-clause-legal g c = c.serve_at.ensures.legal
+returns-in-Ok-clause-legal g c = on_ok c.serve_at.result c.serve_at.ensures.ended (λ s e. e.legal)
 
 pub returns-in-Ok-clause-advancing : goal.returns-in-Ok-clause-advancing
-returns-in-Ok-clause-advancing g c = c.serve_at.ensures.advancing
+returns-in-Ok-clause-advancing g c = on_ok c.serve_at.result c.serve_at.ensures.ended (λ s e. e.advancing)
 
 pub returns-in-Ok-clause-tick : goal.returns-in-Ok-clause-tick
-returns-in-Ok-clause-tick g c = c.serve_at.ensures.tick
+returns-in-Ok-clause-tick g c = on_ok c.serve_at.result c.serve_at.ensures.ended (λ s e. e.tick)
 
 pub returns-in-Ok-clause-posted : goal.returns-in-Ok-clause-posted
-returns-in-Ok-clause-posted g c = c.serve_at.ensures.posted
+returns-in-Ok-clause-posted g c = on_ok c.serve_at.result c.serve_at.ensures.ended (λ s e. e.posted)
 
 pub returns-in-Ok-clause-all : goal.returns-in-Ok-clause-all
-returns-in-Ok-clause-all g c = c.serve_at.ensures.all
+returns-in-Ok-clause-all g c = on_ok c.serve_at.result c.serve_at.ensures.ended (λ s e. e.all)
 
 pub returns-in-Ok-clause-rest : goal.returns-in-Ok-clause-rest
-returns-in-Ok-clause-rest g c = c.serve_at.ensures.rest
+returns-in-Ok-clause-rest g c = on_ok c.serve_at.result c.serve_at.ensures.ended (λ s e. e.rest)
 
 pub returns-in-Err-Limits-clause-first : goal.returns-in-Err-Limits-clause-first
 returns-in-Err-Limits-clause-first g c = tt

@@ -11,7 +11,7 @@ pub new-rest-requires : goal.new-rest-requires
 new-rest-requires g c =
     let s = c.desk.inside in
     let named : rings_of s.ends.items ≡ g.N.OfficeName.rings = ap (λ d. rings_of d.ends) c.desk.view_is ∙ c.requires.named.rings in
-    let count : c.len-count.result ≡ length s.clients.items = search rules in
+    let count : c.len-count.result ≡ length s.clients.items = c.len-count.ensures ∙ s.clients.ok.0 in
     let legal : IsLegal c.apart-core.result.0.floor c.apart-core.result.0.history = c.chapter.ensures.legal in
     rw (c.apart-core.ensures, c.in-Ok.ensures.ok, c.open-book.ensures.total, count)
     (opened c.args.grid c.args.starts.items s.limits (laws_of c.args.hooks) s.clients.items s.ends.items g.N.OfficeName.rings c.desk.invariant.0 named c.desk.invariant.2
@@ -26,7 +26,7 @@ returns-clause-clients g c =
 pub returns-in-Err-clause-refused : goal.returns-in-Err-clause-refused
 returns-in-Err-clause-refused g c fault named =
     let s = c.desk.inside in
-    let count : c.len-count.result ≡ length c.args.desk.clients = search rules in
+    let count : c.len-count.result ≡ length c.args.desk.clients = c.len-count.ensures ∙ s.clients.ok.0 ∙ ap (λ d. length d.clients) c.desk.view_is in
     let limits : s.limits ≡ c.args.desk.limits = ap (λ d. d.limits) c.desk.view_is in
     refused-err c.open.result c.in-Err.fault fault (IsRefused c.args.grid c.args.starts.items (length c.args.desk.clients) c.args.desk.limits (laws_of c.args.hooks) fault) c.in-Err.is
     (rw (← count, ← limits) (c.open.ensures.refused fault named))
@@ -34,7 +34,7 @@ returns-in-Err-clause-refused g c fault named =
 pub returns-clause-refused : goal.returns-clause-refused
 returns-clause-refused g c fault named =
     let s = c.desk.inside in
-    let count : c.len-count.result ≡ length c.args.desk.clients = search rules in
+    let count : c.len-count.result ≡ length c.args.desk.clients = c.len-count.ensures ∙ s.clients.ok.0 ∙ ap (λ d. length d.clients) c.desk.view_is in
     let limits : s.limits ≡ c.args.desk.limits = ap (λ d. d.limits) c.desk.view_is in
     refused-ok c.open.result c.in-Ok.world _ fault (IsRefused c.args.grid c.args.starts.items (length c.args.desk.clients) c.args.desk.limits (laws_of c.args.hooks) fault) c.in-Ok.is
     (rw (← count, ← limits) (c.open.ensures.refused fault named))

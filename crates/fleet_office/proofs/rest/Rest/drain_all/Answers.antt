@@ -4,6 +4,7 @@ use Rattle.fleet_office.proofs.Settling.{settled_next, settled_all, first_more}
 use Rattle.std.proofs.lemmas.Result.{IfOk-from_err, err_from_is_err_and}
 use Rattle.fleet_office.specs.Views.{AreOn, AreDistinct}
 use Rattle.std.specs.Prelude.{Ok, Err, Result, OnErr}
+use Rattle.fleet_office.proofs.Never.{not_refused}
 use Rattle.fleet_office.proofs.rest.Rest.drain_all.Goals as goal
 
 on_err : {X E P : Type 0} (r : Result X E) → P → OnErr r P
@@ -81,4 +82,4 @@ pub returns-clause-stops : goal.returns-clause-stops
 returns-clause-stops g c = tt
 
 pub returns-clause-full : goal.returns-clause-full
-returns-clause-full g c = λ e. cc
+returns-clause-full g c = λ e. not_refused e

@@ -5,7 +5,7 @@ use Rattle.fleet_lanes.specs.Names.{LaneName}
 use Rattle.fleet_lanes.specs.Ends.{ClientView}
 use Rattle.fleet_office.specs.Views.{AreOn, OthersStay, core, cores}
 use Rattle.fleet_office.specs.Draining.{Drains}
-use Rattle.fleet_office.proofs.Places.{map_at}
+use Rattle.fleet_office.proofs.Places.{from_first, map_at}
 use Rattle.fleet_office.proofs.Emptied.{drains_none}
 use Rattle.fleet_office.proofs.Settling.{cores_set, number_settled, keeps_others}
 use Rattle.fleet_office.proofs.rest.Rest.drain_number.Goals as goal
@@ -65,7 +65,7 @@ pub returns-in_default-clause-others : goal.returns-in_default-clause-others
 returns-in_default-clause-others g c = record { count = refl; each = λ k e other at. at }
 
 pub returns-in_default-clause-ok : goal.returns-in_default-clause-ok
-returns-in_default-clause-ok g c = λ k x at same. absurd (c.in_default.ensures.none k x (omega arith) at same)
+returns-in_default-clause-ok g c = λ k x at same. absurd (c.in_default.ensures.none k x (from_first k) at same)
 
 pub bounds-clients-k : goal.bounds-clients-k
 bounds-clients-k g c = c.in-Some.ensures.some.1

@@ -1,5 +1,6 @@
 use Rattle.std.proofs.Common.{length, arith, ap}
 use Rattle.fleet_core.specs.Core.{pending}
+use Rattle.fleet_office.proofs.Places.{from_first}
 use Rattle.fleet_office.proofs.Rested.{at_most_found}
 use Rattle.fleet_office.proofs.rest.Rest.uncollected.Goals as goal
 
@@ -16,7 +17,7 @@ returns g c =
     ))
 
 pub returns-in_default : goal.returns-in_default
-returns-in_default g c = λ k x at same. absurd (c.in_default.ensures.none k x (omega arith) at same)
+returns-in_default g c = λ k x at same. absurd (c.in_default.ensures.none k x (from_first k) at same)
 
 pub pending_count-pending-requires : goal.pending_count-pending-requires
 pending_count-pending-requires g c = omega (arith, c.requires.known, c.self.invariant.ring_count, c.self.invariant.end_count)

@@ -1,0 +1,23 @@
+-- What a serve that came to its end is known to be.
+use Rattle.std.specs.Prelude.{◌≡◌, ℕ, ◌<◌, List, length, Vec}
+use Rattle.std.specs.declared.alloc.Global.{Global}
+use Rattle.fleet_book.specs.declared.event.Event.{Event}
+use Rattle.fleet_book.specs.declared.notice.Notice.{Notice}
+use Rattle.fleet_grid.specs.Floor.{Floor, IsNeighbour}
+use Rattle.fleet_grid.specs.Walk.{IsBridgeless}
+use Rattle.fleet_history.specs.History.{History, clock}
+use Rattle.fleet_history.specs.Legal.{IsLegal}
+use Rattle.fleet_history.specs.Laws.{EachTick}
+use Rattle.fleet_plan.specs.Planned.{IsAdvancingTick}
+use Rattle.fleet_serve.specs.Posted.{TakesPosted, TakesAll, AreLastNotices}
+
+-- the end of a serve of these events by so many clients, each of which may send so many orders: the map, the history and the
+-- number of its chapter, its ticks, and what is left of each client's notices
+pub record IsEnd (events : List Event) (most clients lane_full : ℕ) (m : Floor) (h : History Global) (number ticks : ℕ) (rests : List (Vec Notice Global)) : Type 0 where
+  pub first : number ≡ 0
+  pub legal : IsLegal m h
+  pub advancing : IsBridgeless (IsNeighbour m) → EachTick (IsAdvancingTick m) h
+  pub tick : ticks ≡ clock h
+  pub posted : TakesPosted h events clients
+  pub all : lane_full ≡ 0 → length events < most → TakesAll h events clients
+  pub rest : AreLastNotices h rests clients
