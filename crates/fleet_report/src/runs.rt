@@ -66,6 +66,23 @@ fn write_farewells<A: Allocator + Copy>(
     Ok(())
 }
 
+/// The lines of a tick to these cells.
+fn write_moves<A: Allocator + Copy>(
+    out: &mut String<A>,
+    tick: u64,
+    to: &[u32],
+    arrived: &[Arrival],
+    farewells: &[Bye],
+) -> Result<(), AllocError>
+    ensures { OnOk result (string_bytes out.new ≡ string_bytes out.old ++ (codes "tick " ++ decimal tick ++ codes ":" ++ place_text to.now ++ codes "\n" ++ flat_map (arrival_text to.now) arrived.now ++ flat_map (λ bye. farewell_text bye.robot bye.stamp) farewells.now)) }
+{
+    write!(out, "tick {tick}:")?;
+    write_place(out, to)?;
+    write!(out, "\n")?;
+    write_arrivals(out, to, arrived)?;
+    write_farewells(out, farewells)
+}
+
 /// The lines of a tick, by its entry.
 fn write_tick<A: Allocator + Copy>(
     out: &mut String<A>,
@@ -74,21 +91,19 @@ fn write_tick<A: Allocator + Copy>(
 ) -> Result<(), AllocError>
     ensures { OnOk result (string_bytes out.new ≡ string_bytes out.old ++ tick_text tick (option_copied entry.entry)) }
 {
-    if let Some(
+    let Some(entry) = entry else {
+        return Ok(());
+    };
+    match entry {
         Entry::Tick {
             to,
             arrived,
             farewells,
-        },
-    ) = entry
-    {
-        write!(out, "tick {tick}:")?;
-        write_place(out, to.as_slice())?;
-        write!(out, "\n")?;
-        write_arrivals(out, to.as_slice(), arrived.as_slice())?;
-        write_farewells(out, farewells.as_slice())
-    } else {
-        Ok(())
+        } => {
+            let (to, arrived) = (to.as_slice(), arrived.as_slice());
+            write_moves(out, tick, to, arrived, farewells.as_slice())
+        }
+        _ => Ok(()),
     }
 }
 
@@ -109,6 +124,17 @@ fn write_parting<A: Allocator + Copy>(
     }
 }
 
+/// A line of a word, which ends with its blank, and a number.
+fn write_numbered<A: Allocator + Copy>(
+    out: &mut String<A>,
+    word: &str,
+    number: u32,
+) -> Result<(), AllocError>
+    ensures { OnOk result (string_bytes out.new ≡ string_bytes out.old ++ (word.now ++ decimal number ++ codes "\n")) }
+{
+    write!(out, "{word}{number}\n")
+}
+
 /// The line of a post.
 fn write_post<A: Allocator + Copy>(
     out: &mut String<A>,
@@ -121,8 +147,8 @@ fn write_post<A: Allocator + Copy>(
     let _order = order;
     match reply {
         Reply::Posted(number) => write!(out, "posted {client} {number}\n"),
-        Reply::LaneFull => write!(out, "lane-full {client}\n"),
-        Reply::NoClient => write!(out, "no-client {client}\n"),
+        Reply::LaneFull => write_numbered(out, "lane-full ", client),
+        Reply::NoClient => write_numbered(out, "no-client ", client),
         _ => Ok(()),
     }
 }
@@ -140,12 +166,12 @@ fn write_take<A: Allocator + Copy>(
             let verdict = VerdictText(verdict);
             write!(out, "took {client} {order_no} {verdict}\n")
         }
-        Reply::LaneEmpty => write!(out, "lane-empty {client}\n"),
+        Reply::LaneEmpty => write_numbered(out, "lane-empty ", client),
         Reply::TakeRefused(fault) => {
             let fault = TakeFaultText(fault);
             write!(out, "take-refused {client} {fault}\n")
         }
-        Reply::NoClient => write!(out, "no-client {client}\n"),
+        Reply::NoClient => write_numbered(out, "no-client ", client),
         _ => Ok(()),
     }
 }
@@ -160,9 +186,9 @@ fn write_give<A: Allocator + Copy>(
 {
     match reply {
         Reply::Gave(seq) => write!(out, "gave {client} {seq}\n"),
-        Reply::NothingPending => write!(out, "nothing {client}\n"),
-        Reply::OutletFull => write!(out, "outlet-full {client}\n"),
-        Reply::NoClient => write!(out, "no-client {client}\n"),
+        Reply::NothingPending => write_numbered(out, "nothing ", client),
+        Reply::OutletFull => write_numbered(out, "outlet-full ", client),
+        Reply::NoClient => write_numbered(out, "no-client ", client),
         _ => Ok(()),
     }
 }
@@ -180,8 +206,8 @@ fn write_collect<A: Allocator + Copy>(
             let notice = NoticeText(notice);
             write!(out, "collected {client} {notice}\n")
         }
-        Reply::NothingThere => write!(out, "none {client}\n"),
-        Reply::NoClient => write!(out, "no-client {client}\n"),
+        Reply::NothingThere => write_numbered(out, "none ", client),
+        Reply::NoClient => write_numbered(out, "no-client ", client),
         _ => Ok(()),
     }
 }
@@ -196,7 +222,7 @@ fn write_shut<A: Allocator + Copy>(
 {
     match reply {
         Reply::ShutDone(parting) => {
-            write!(out, "shut {robot}\n")?;
+            write_numbered(out, "shut ", robot)?;
             write_parting(out, robot, parting)
         }
         Reply::ShutRefused(fault) => {
@@ -244,19 +270,25 @@ fn write_event<A: Allocator + Copy>(
     }
 }
 
+/// How many entries an event made, by its reply.
+fn made_by(reply: Reply) -> usize
+    ensures { result ≡ entries_made reply }
+{
+    match reply {
+        Reply::Took { .. } | Reply::Ticked(_) | Reply::ShutDone(_) => 1,
+        _ => 0,
+    }
+}
+
 /// The entries behind the one that an event made, if its reply tells of one.
 fn behind<A: Allocator + Copy>(entries: &[Entry<A>], reply: Reply) -> &[Entry<A>]
     ensures { result.now ≡ drop (entries_made reply) entries.now }
 {
-    match reply {
-        Reply::Took { .. } | Reply::Ticked(_) | Reply::ShutDone(_) => {
-            if entries.is_empty() {
-                return entries;
-            }
-            &entries[1..]
-        }
-        _ => entries,
+    let made = made_by(reply);
+    if made > entries.len() {
+        return &[];
     }
+    &entries[made..]
 }
 
 /// What the program prints of a run: the lines of its events, by their replies and by the entries that they made.

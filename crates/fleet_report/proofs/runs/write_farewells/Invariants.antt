@@ -1,6 +1,6 @@
 use Rattle.std.proofs.Common.{◌≡◌, ◌++◌, drop, string_bytes}
 use Rattle.std.specs.List.{flat_map}
-use Rattle.fleet_report.specs.Output.{place_text, arrival_text, farewell_text}
+use Rattle.fleet_report.specs.Output.{farewell_text}
 use Rattle.fleet_report.proofs.runs.write_farewells.Given as goal
 
 abbrev pub invariant-loop-bye : goal.invariant-loop-bye

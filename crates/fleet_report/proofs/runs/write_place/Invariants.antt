@@ -1,6 +1,5 @@
 use Rattle.std.proofs.Common.{◌≡◌, ◌++◌, drop, string_bytes}
-use Rattle.std.specs.List.{flat_map}
-use Rattle.fleet_report.specs.Output.{place_text, arrival_text, farewell_text}
+use Rattle.fleet_report.specs.Output.{place_text}
 use Rattle.fleet_report.proofs.runs.write_place.Given as goal
 
 abbrev pub invariant-loop-cell : goal.invariant-loop-cell
