@@ -2,7 +2,7 @@
 use Rattle.std.proofs.Common.{◌∙◌, ◌++◌, ap, Some, option_copied, string_bytes}
 use Rattle.std.proofs.lemmas.Result.{on_ok_weaker}
 use Rattle.fleet_report.proofs.RunLines.{moved}
-use Rattle.fleet_report.proofs.runs.write_tick.Goals as goal
+use Rattle.fleet_report.proofs.ticks.write_tick.Goals as goal
 
 pub returns-in-Tick : goal.returns-in-Tick
 returns-in-Tick g c =
