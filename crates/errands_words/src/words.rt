@@ -1,6 +1,6 @@
 //! The words that the program is given, and the job that they name.
 
-ghost use Rattle.std.specs.Prelude.{◌≡◌, [], IfOk, IfErr, Some, true, map, string_bytes};
+ghost use Rattle.std.specs.Prelude.{◌≡◌, [], IfOk, IfErr, Some, true, map, codes, string_bytes};
 ghost use Rattle.clap.specs.Words.{fault_of, first_of, found_of, rows_of, subcommand_of, subcommand_rows_of, takes};
 ghost use Rattle.clap.specs.Values.{kind_of};
 ghost use Rattle.clap.specs.declared.error.kind.ErrorKind.TheVariants.{OutOfMemory};
@@ -89,6 +89,20 @@ fn has_flag(matches: &ArgMatches<'_>, name: &str) -> bool
     }
 }
 
+/// The words that stand for a map and for one more file.
+fn map_and(
+    alloc: Global,
+    matches: &ArgMatches<'_>,
+    name: &str,
+) -> Result<(String, String), AllocError>
+    ensures first { IfOk result (λ two. first_of (codes "MAP") (rows_of (found_of matches.now)) ≡ Some (string_bytes two.0)) }
+    ensures second { IfOk result (λ two. first_of name.now (rows_of (found_of matches.now)) ≡ Some (string_bytes two.1)) }
+{
+    let first = word_for(alloc, matches, "MAP")?;
+    let second = word_for(alloc, matches, name)?;
+    Ok((first, second))
+}
+
 /// The job of the words that `clap` took.
 fn job_from(alloc: Global, matches: &ArgMatches<'_>) -> Result<Job, AllocError>
     ensures { IfOk result (λ job. job_of (subcommand_rows_of matches.now) ≡ Some (asked job)) }
@@ -100,12 +114,11 @@ fn job_from(alloc: Global, matches: &ArgMatches<'_>) -> Result<Job, AllocError>
         let file = word_for(alloc, inner, "FILE")?;
         return Ok(Job::Map { file });
     }
-    let first = word_for(alloc, inner, "MAP")?;
     if name == "judge" {
-        let second = word_for(alloc, inner, "TRACE")?;
+        let (first, second) = map_and(alloc, inner, "TRACE")?;
         return Ok(Job::Judge { first, second });
     }
-    let second = word_for(alloc, inner, "SCRIPT")?;
+    let (first, second) = map_and(alloc, inner, "SCRIPT")?;
     if name == "serve" {
         return Ok(Job::Serve { first, second });
     }

@@ -128,15 +128,9 @@ impl<A: Allocator + Copy> Planner<A> {
         ensures keeps { Keeps grid.now self.new.kept }
         ensures refused { OnErr result (self.new.aims ≡ self.old.aims) }
     {
-        let Order::Go { robot, cell } = order else {
-            return Ok(());
-        };
-        let Verdict::Accepted(_) = verdict else {
-            return Ok(());
-        };
-        match state.front(robot) {
-            Some(_front) => Ok(()),
-            None => self.aims.aim(&mut self.shelf, grid, robot, cell),
+        match first_goal(state, order, verdict) {
+            Some((robot, cell)) => self.aims.aim(&mut self.shelf, grid, robot, cell),
+            None => Ok(()),
         }
     }
 }
@@ -218,6 +212,28 @@ fn put_turns<A: Allocator + Copy>(state: &FleetState<A>, to: &[u32], turns: &mut
                 goal: goal_after(state, robot),
             });
         }
+    }
+}
+
+/// The robot of an accepted order and the cell, if the errand is the robot's first. The state is that before the order is
+/// entered.
+fn first_goal<A: Allocator + Copy>(
+    state: &FleetState<A>,
+    order: Order,
+    verdict: Verdict,
+) -> Option<(u32, u32)>
+    requires { (robot cell n : ℕ) → order ≡ Order.Go robot cell → verdict ≡ Verdict.Accepted n → robot < robot_count state.now }
+    ensures { result ≡ begun state.now.queues order verdict }
+{
+    let Order::Go { robot, cell } = order else {
+        return None;
+    };
+    let Verdict::Accepted(_) = verdict else {
+        return None;
+    };
+    match state.front(robot) {
+        Some(_front) => None,
+        None => Some((robot, cell)),
     }
 }
 

@@ -7,6 +7,7 @@ mod output;
 mod runs;
 mod said;
 mod texts;
+mod ticks;
 
 pub use input::{InputFault, read_other, read_whole};
 pub use maps::map_report;

@@ -1,96 +1,18 @@
 //! What the program prints of a run, line by line.
 
-ghost use Rattle.std.specs.Prelude.{◌≡◌, ◌++◌, ◌∷◌, [], OnOk, IfOk, string_bytes, drop, codes, decimal, option_copied, Option, Some, None, slice_get, slice_index, length, ◌≤◌};
-ghost use Rattle.std.specs.List.{flat_map};
+ghost use Rattle.std.specs.Prelude.{◌≡◌, ◌++◌, ◌∷◌, [], OnOk, IfOk, string_bytes, drop, codes, decimal, option_copied, Option, Some, None, slice_get, length, ◌≤◌};
 ghost use Rattle.fleet_history.specs.declared.history.Entry.{Entry};
-ghost use Rattle.fleet_report.specs.Output.{place_text, arrival_text, farewell_text, parting_text, tick_text, event_text, run_text, entries_made};
+ghost use Rattle.fleet_report.specs.Output.{parting_text, event_text, run_text, entries_made};
 
 use crate::texts::{
-    ArrivalLine, FarewellLine, NoticeText, ShutFaultText, TakeFaultText, TickFaultText, VerdictText,
+    FarewellLine, NoticeText, ShutFaultText, TakeFaultText, TickFaultText, VerdictText,
 };
+use crate::ticks::write_tick;
 use fleet_book::Order;
-use fleet_history::{Arrival, Bye, Entry};
+use fleet_history::Entry;
 use fleet_world::{Event, Reply};
 use std::alloc::{AllocError, Allocator};
 use std::fmt::Write;
-
-/// The cells of a placement, each behind a blank.
-fn write_place<A: Allocator + Copy>(out: &mut String<A>, cells: &[u32]) -> Result<(), AllocError>
-    ensures { OnOk result (string_bytes out.new ≡ string_bytes out.old ++ place_text cells.now) }
-{
-    for cell in cells {
-        write!(out, " {cell}")?;
-    }
-    Ok(())
-}
-
-fn cell_of(cells: &[u32], robot: u32) -> u32
-    ensures { result ≡ slice_index cells.now robot }
-{
-    let at = robot as usize;
-    if at < cells.len() { cells[at] } else { 0 }
-}
-
-/// A line for each arrival.
-fn write_arrivals<A: Allocator + Copy>(
-    out: &mut String<A>,
-    to: &[u32],
-    arrived: &[Arrival],
-) -> Result<(), AllocError>
-    ensures { OnOk result (string_bytes out.new ≡ string_bytes out.old ++ flat_map (arrival_text to.now) arrived.now) }
-{
-    for arrival in arrived {
-        let line = ArrivalLine {
-            arrival: *arrival,
-            cell: cell_of(to, arrival.robot),
-        };
-        write!(out, "{line}")?;
-    }
-    Ok(())
-}
-
-/// A line for each farewell.
-fn write_farewells<A: Allocator + Copy>(
-    out: &mut String<A>,
-    farewells: &[Bye],
-) -> Result<(), AllocError>
-    ensures { OnOk result (string_bytes out.new ≡ string_bytes out.old ++ flat_map (λ bye. farewell_text bye.robot bye.stamp) farewells.now) }
-{
-    for bye in farewells {
-        let line = FarewellLine {
-            robot: bye.robot,
-            stamp: bye.stamp,
-        };
-        write!(out, "{line}")?;
-    }
-    Ok(())
-}
-
-/// The lines of a tick, by its entry.
-fn write_tick<A: Allocator + Copy>(
-    out: &mut String<A>,
-    tick: u64,
-    entry: Option<&Entry<A>>,
-) -> Result<(), AllocError>
-    ensures { OnOk result (string_bytes out.new ≡ string_bytes out.old ++ tick_text tick (option_copied entry.entry)) }
-{
-    if let Some(
-        Entry::Tick {
-            to,
-            arrived,
-            farewells,
-        },
-    ) = entry
-    {
-        write!(out, "tick {tick}:")?;
-        write_place(out, to.as_slice())?;
-        write!(out, "\n")?;
-        write_arrivals(out, to.as_slice(), arrived.as_slice())?;
-        write_farewells(out, farewells.as_slice())
-    } else {
-        Ok(())
-    }
-}
 
 /// The farewell that a shut robot takes at once, if it does.
 fn write_parting<A: Allocator + Copy>(
@@ -109,6 +31,17 @@ fn write_parting<A: Allocator + Copy>(
     }
 }
 
+/// A line of a word, which ends with its blank, and a number.
+fn write_numbered<A: Allocator + Copy>(
+    out: &mut String<A>,
+    word: &str,
+    number: u32,
+) -> Result<(), AllocError>
+    ensures { OnOk result (string_bytes out.new ≡ string_bytes out.old ++ (word.now ++ decimal number ++ codes "\n")) }
+{
+    write!(out, "{word}{number}\n")
+}
+
 /// The line of a post.
 fn write_post<A: Allocator + Copy>(
     out: &mut String<A>,
@@ -121,8 +54,8 @@ fn write_post<A: Allocator + Copy>(
     let _order = order;
     match reply {
         Reply::Posted(number) => write!(out, "posted {client} {number}\n"),
-        Reply::LaneFull => write!(out, "lane-full {client}\n"),
-        Reply::NoClient => write!(out, "no-client {client}\n"),
+        Reply::LaneFull => write_numbered(out, "lane-full ", client),
+        Reply::NoClient => write_numbered(out, "no-client ", client),
         _ => Ok(()),
     }
 }
@@ -140,12 +73,12 @@ fn write_take<A: Allocator + Copy>(
             let verdict = VerdictText(verdict);
             write!(out, "took {client} {order_no} {verdict}\n")
         }
-        Reply::LaneEmpty => write!(out, "lane-empty {client}\n"),
+        Reply::LaneEmpty => write_numbered(out, "lane-empty ", client),
         Reply::TakeRefused(fault) => {
             let fault = TakeFaultText(fault);
             write!(out, "take-refused {client} {fault}\n")
         }
-        Reply::NoClient => write!(out, "no-client {client}\n"),
+        Reply::NoClient => write_numbered(out, "no-client ", client),
         _ => Ok(()),
     }
 }
@@ -160,9 +93,9 @@ fn write_give<A: Allocator + Copy>(
 {
     match reply {
         Reply::Gave(seq) => write!(out, "gave {client} {seq}\n"),
-        Reply::NothingPending => write!(out, "nothing {client}\n"),
-        Reply::OutletFull => write!(out, "outlet-full {client}\n"),
-        Reply::NoClient => write!(out, "no-client {client}\n"),
+        Reply::NothingPending => write_numbered(out, "nothing ", client),
+        Reply::OutletFull => write_numbered(out, "outlet-full ", client),
+        Reply::NoClient => write_numbered(out, "no-client ", client),
         _ => Ok(()),
     }
 }
@@ -180,8 +113,8 @@ fn write_collect<A: Allocator + Copy>(
             let notice = NoticeText(notice);
             write!(out, "collected {client} {notice}\n")
         }
-        Reply::NothingThere => write!(out, "none {client}\n"),
-        Reply::NoClient => write!(out, "no-client {client}\n"),
+        Reply::NothingThere => write_numbered(out, "none ", client),
+        Reply::NoClient => write_numbered(out, "no-client ", client),
         _ => Ok(()),
     }
 }
@@ -196,7 +129,7 @@ fn write_shut<A: Allocator + Copy>(
 {
     match reply {
         Reply::ShutDone(parting) => {
-            write!(out, "shut {robot}\n")?;
+            write_numbered(out, "shut ", robot)?;
             write_parting(out, robot, parting)
         }
         Reply::ShutRefused(fault) => {
@@ -244,19 +177,25 @@ fn write_event<A: Allocator + Copy>(
     }
 }
 
+/// How many entries an event made, by its reply.
+fn made_by(reply: Reply) -> usize
+    ensures { result ≡ entries_made reply }
+{
+    match reply {
+        Reply::Took { .. } | Reply::Ticked(_) | Reply::ShutDone(_) => 1,
+        _ => 0,
+    }
+}
+
 /// The entries behind the one that an event made, if its reply tells of one.
 fn behind<A: Allocator + Copy>(entries: &[Entry<A>], reply: Reply) -> &[Entry<A>]
     ensures { result.now ≡ drop (entries_made reply) entries.now }
 {
-    match reply {
-        Reply::Took { .. } | Reply::Ticked(_) | Reply::ShutDone(_) => {
-            if entries.is_empty() {
-                return entries;
-            }
-            &entries[1..]
-        }
-        _ => entries,
+    let made = made_by(reply);
+    if made > entries.len() {
+        return &[];
     }
+    &entries[made..]
 }
 
 /// What the program prints of a run: the lines of its events, by their replies and by the entries that they made.

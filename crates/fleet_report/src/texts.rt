@@ -139,8 +139,10 @@ impl fmt::Display for ArrivalLine {
             stamp,
         } = self.arrival;
         let cell = self.cell;
-        write!(f, "arrived robot {robot} client {client} number {number}")?;
-        write!(f, " cell {cell} stamp {stamp}\n")
+        write!(
+            f,
+            "arrived robot {robot} client {client} number {number} cell {cell} stamp {stamp}\n"
+        )
     }
 }
 

@@ -11,3 +11,4 @@ pub mod Alike
 pub mod Calmed
 pub mod Rooms
 pub mod Shutting
+pub mod Robots

@@ -8,7 +8,7 @@ ghost use Rattle.fleet_trace.specs.Text.{opening_data, trace_data};
 ghost use Rattle.fleet_trace.specs.Fits.{OpeningFits, TraceFits};
 
 use super::values::write_list;
-use fleet_history::{Chapter, Opening};
+use fleet_history::{Chapter, Entry, Opening};
 use serde_json::{Map, Value, put};
 use std::alloc::{AllocError, Allocator, Global};
 
@@ -49,17 +49,18 @@ fn opening_value<A: Allocator + Copy>(
 fn put_chapter<A: Allocator + Copy>(
     alloc: Global,
     members: &mut Map<String, Value>,
-    chapter: &Chapter<A>,
+    number: u32,
+    opening: &Opening<A>,
+    entries: &[Entry<A>],
 ) -> Result<(), AllocError>
     requires { members_view members.old.entries ≡ no_members }
-    ensures value { OnOk result (object (members_view members.new.entries) ≡ trace_data (trace_of chapter.now)) }
-    ensures fits { OnOk result (TraceFits (trace_of chapter.now)) }
+    ensures value { OnOk result (object (members_view members.new.entries) ≡ trace_data (record { number = number; history = record { opening = opening.now; entries = entries.now } })) }
+    ensures fits { OnOk result (TraceFits (record { number = number; history = record { opening = opening.now; entries = entries.now } })) }
 {
-    let number = chapter.number;
     put(members, alloc, "chapter", Value::from(number))?;
-    let entries = write_list(alloc, &chapter.entries)?;
+    let entries = write_list(alloc, entries)?;
     put(members, alloc, "entries", entries)?;
-    let opening = opening_value(alloc, &chapter.opening)?;
+    let opening = opening_value(alloc, opening)?;
     put(members, alloc, "opening", opening)?;
     put(members, alloc, "version", Value::from(2u32))
 }
@@ -73,6 +74,11 @@ pub(crate) fn trace_value<A: Allocator + Copy>(
     ensures fits { OnOk result (TraceFits (trace_of chapter.now)) }
 {
     let mut members = Map::new(alloc);
-    put_chapter(alloc, &mut members, chapter)?;
+    let Chapter {
+        number,
+        opening,
+        entries,
+    } = chapter;
+    put_chapter(alloc, &mut members, *number, opening, entries)?;
     Ok(Value::Object(members))
 }

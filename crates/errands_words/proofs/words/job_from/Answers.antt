@@ -21,7 +21,7 @@ is_run found name first second rows trace is map judge serve one two flag = rw (
 
 pub returns : goal.returns
 returns c =
-    is_run _ c.in-Some.name.now (string_bytes c.in_ok-first.first) (string_bytes c.in_ok-second-2.second) (rows_of (found_of c.in-Some.inner.now)) c.has_flag-trace.result
+    is_run _ c.in-Some.name.now (string_bytes c.in_ok-first-2.first) (string_bytes c.in_ok-first-2.second) (rows_of (found_of c.in-Some.inner.now)) c.has_flag-trace.result
     (named _ _ _ c.in-Some.name.now (rows_of (found_of c.in-Some.inner.now)) c.in-Some.ensures.name c.in-Some.ensures.rows)
     (sym c.eq.ensures ∙ c.if-eq.false) (sym c.eq-2.ensures ∙ c.if-eq-2.false) (sym c.eq-3.ensures ∙ c.if-eq-3.false)
-    c.in_ok-first.ensures c.in_ok-second-2.ensures c.has_flag-trace.ensures
+    c.in_ok-first-2.ensures.first c.in_ok-first-2.ensures.second c.has_flag-trace.ensures

@@ -1,4 +1,4 @@
-use Rattle.std.proofs.Common.{arith, rules}
+use Rattle.std.proofs.Common.{rules}
 use Rattle.fleet_report.proofs.Transfers.{front_more}
 use Rattle.fleet_report.proofs.output.write_whole.Goals as goal
 

@@ -1,11 +1,7 @@
 -- The members of a trace, put in one by one.
-use Rattle.std.proofs.Common.{◌≡◌, ◌∙◌, ap, subst, refl, codes, map, List, arith}
-use Rattle.std.specs.List.{AllByRecursion}
+use Rattle.std.proofs.Common.{◌≡◌, refl, codes, arith}
 use Rattle.std.proofs.lemmas.Result.{on_ok_weaker}
 use Rattle.serde_json.specs.Data.{Data, Members, member, no_members, object, put}
-use Rattle.fleet_history.specs.declared.history.Entry.{Entry}
-use Rattle.fleet_trace.specs.Fits.{EntryFits}
-use Rattle.fleet_trace.specs.Text.{entry_data, listed}
 use Rattle.fleet_trace.proofs.write.objects.put_chapter.Goals as goal
 
 put_in : {a b c d e : Members} {number entries opening version number2 entries2 opening2 version2 : Data} → a ≡ no_members
@@ -16,13 +12,12 @@ put_in none p q r t u v w s = rw (s, r, q, p, none, t, u, v, w) refl
 
 pub returns-clause-value : goal.returns-clause-value
 returns-clause-value g c =
-    let entries = c.in_ok-entries.ensures.value ∙ ap (λ xs. listed (map entry_data xs)) c.deref.ensures.value in
     on_ok_weaker c.put-4.result
-    (put_in c.requires c.in_ok-put.ensures.ok c.in_ok-put-2.ensures.ok c.in_ok-put-3.ensures.ok c.from.ensures entries c.in_ok-opening.ensures.value c.from-2.ensures) c.put-4.ensures.ok
+    (put_in c.requires c.in_ok-put.ensures.ok c.in_ok-put-2.ensures.ok c.in_ok-put-3.ensures.ok c.from.ensures c.in_ok-entries.ensures.value c.in_ok-opening.ensures.value c.from-2.ensures) c.put-4.ensures.ok
 
 pub returns-clause-fits : goal.returns-clause-fits
 returns-clause-fits g c = on_ok_weaker c.put-4.result (λ _. record {
   number = omega arith;
   opening = c.in_ok-opening.ensures.fits;
-  entries = subst (λ (xs : List (Entry _)). AllByRecursion EntryFits xs) c.deref.ensures.value c.in_ok-entries.ensures.fits;
+  entries = c.in_ok-entries.ensures.fits;
 }) c.put-4.ensures.ok

@@ -1,7 +1,6 @@
 use Rattle.std.proofs.Common.{◌≡◌, ◌++◌, drop, string_bytes}
-use Rattle.std.specs.List.{flat_map}
-use Rattle.fleet_report.specs.Output.{place_text, arrival_text, farewell_text}
-use Rattle.fleet_report.proofs.runs.write_place.Given as goal
+use Rattle.fleet_report.specs.Output.{place_text}
+use Rattle.fleet_report.proofs.ticks.write_place.Given as goal
 
 abbrev pub invariant-loop-cell : goal.invariant-loop-cell
 invariant-loop-cell g l = string_bytes l.out ++ place_text (drop l.cell-index l.cells) ≡ string_bytes l.fn.out ++ place_text l.cells
