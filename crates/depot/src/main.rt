@@ -67,6 +67,20 @@ fn status_of(fault: DayFault) -> u8 {
     }
 }
 
+/// Says what is to be written of a day that took so long. The result is the status.
+fn tell(
+    alloc: Global,
+    day: &Day,
+    settings: &Settings,
+    nanos: u128,
+    line: &mut String,
+    notes: &mut String,
+) -> Result<u8, AllocError> {
+    *notes = pace_of(alloc, day, settings, nanos)?;
+    *line = line_of(alloc, day)?;
+    Ok(if day.account.is_right() { 0 } else { 1 })
+}
+
 /// Keeps a depot going, and says what is to be written of it. The result is the status.
 fn keep_going<R: Alloc<A = Global> + Clock + Threads + Sync + Wait>(
     rt: &R,
@@ -83,9 +97,7 @@ fn keep_going<R: Alloc<A = Global> + Clock + Threads + Sync + Wait>(
                 Ok(time) => time.as_nanos(),
                 Err(_) => 1,
             };
-            *notes = pace_of(rt.alloc(), &day, settings, nanos)?;
-            *line = line_of(rt.alloc(), &day)?;
-            Ok(if day.account.is_right() { 0 } else { 1 })
+            tell(rt.alloc(), &day, settings, nanos, line, notes)
         }
         Err(fault) => Ok(status_of(fault)),
     }

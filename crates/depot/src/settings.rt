@@ -46,18 +46,26 @@ fn option<'a>(alloc: Global, name: &'a str, help: &'a str) -> Arg<'a> {
         .help(help)
 }
 
+/// The options' names, and what is said of each.
+const OPTIONS: [(&str, &str); 4] = [
+    ("robots", "Robots, 1 to 512 (default 8)"),
+    ("clients", "Clients, 1 to 64 (default 3)"),
+    (
+        "turns",
+        "Orders of each client, and the least turns of each ticker (default 20)",
+    ),
+    ("seed", "Where the random errands begin (default 1)"),
+];
+
 /// The command `depot` with its options.
 fn command<'a>(alloc: Global) -> Result<Command<'a>, AllocError> {
-    Command::new(alloc, "depot")
-        .about("Keeps robots, clients and two tickers of one office going side by side")
-        .arg(option(alloc, "robots", "Robots, 1 to 512 (default 8)"))?
-        .arg(option(alloc, "clients", "Clients, 1 to 64 (default 3)"))?
-        .arg(option(
-            alloc,
-            "turns",
-            "Orders of each client, and the least turns of each ticker (default 20)",
-        ))?
-        .arg(option(alloc, "seed", "Where the random errands begin (default 1)"))
+    let mut command = Command::new(alloc, "depot").about(
+        "Keeps robots, clients and two tickers of one office going side by side",
+    );
+    for (name, help) in OPTIONS {
+        command = command.arg(option(alloc, name, help))?;
+    }
+    Ok(command)
 }
 
 /// The number of an option, or another where it is not given.
