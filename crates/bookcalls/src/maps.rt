@@ -229,7 +229,7 @@ fn is_refused(rt: &impl Abort, heap: impl Allocator + Copy) -> bool {
     met
 }
 
-/// Each growth is refused in turn, until a read meets no refusal.
+/// Each of the first growths is refused in turn.
 #[test]
 fn refused_growths(rt: HostRuntime) {
     let mut refused = 0;
