@@ -3,6 +3,7 @@
 #![tactic(auto)]
 
 mod floor;
+mod numbers;
 mod rows;
 mod serves;
 mod waiting;

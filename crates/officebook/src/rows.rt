@@ -14,6 +14,7 @@ mod refused;
 mod stage;
 mod table;
 
+use case::Case;
 use meter::Meter;
 use opening::perform;
 use plan::Plan;
@@ -23,6 +24,17 @@ use std::fmt::Write;
 use std::sync::Wait;
 use table::{REFUSED, ROWS};
 
+/// Tells of a row, behind its name.
+fn tell_row<R: Alloc<A = Global> + Wait>(
+    rt: &R,
+    meter: &Meter<Global>,
+    case: &Case<'_>,
+    told: &mut String,
+) -> Result<(), AllocError> {
+    writeln!(told, "= {}", case.name)?;
+    perform(rt, case, Plan::none(meter), told)
+}
+
 /// Tells of all rows.
 fn tell_rows<R: Alloc<A = Global> + Wait>(
     rt: &R,
@@ -30,8 +42,7 @@ fn tell_rows<R: Alloc<A = Global> + Wait>(
     told: &mut String,
 ) -> Result<(), AllocError> {
     for case in &ROWS {
-        writeln!(told, "= {}", case.name)?;
-        perform(rt, case, Plan::none(meter), told)?;
+        tell_row(rt, meter, case, told)?;
     }
     Ok(())
 }
@@ -43,10 +54,21 @@ fn tell_refused_rows<R: Alloc<A = Global> + Wait>(
     told: &mut String,
 ) -> Result<(), AllocError> {
     for case in &REFUSED {
-        writeln!(told, "= refused {}", case.name)?;
         tell_refused(rt, meter, case, told)?;
     }
     Ok(())
+}
+
+/// What is told of the rows over this heap.
+fn tell_over<R: Alloc<A = Global> + Wait>(
+    rt: &R,
+    meter: &Meter<Global>,
+    told: &mut String,
+) -> Result<(), AllocError> {
+    tell_rows(rt, meter, told)?;
+    tell_refused_rows(rt, meter, told)?;
+    let finding = find_lanes(meter);
+    writeln!(told, "= refused lane_pair\n{finding:?}")
 }
 
 /// What is told of the rows.
@@ -54,9 +76,5 @@ pub(crate) fn tell<R: Alloc<A = Global> + Wait>(
     rt: &R,
     told: &mut String,
 ) -> Result<(), AllocError> {
-    let meter = Meter::new(rt.alloc());
-    tell_rows(rt, &meter, told)?;
-    tell_refused_rows(rt, &meter, told)?;
-    let finding = find_lanes(&meter);
-    writeln!(told, "= refused lane_pair\n{finding:?}")
+    tell_over(rt, &Meter::new(rt.alloc()), told)
 }

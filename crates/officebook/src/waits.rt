@@ -6,6 +6,7 @@ mod play;
 mod shared;
 mod staff;
 
+use crate::numbers::tell_numbers;
 use opening::{Case, played};
 use std::alloc::{Alloc, AllocError, Global};
 use std::fmt::Write;
@@ -38,12 +39,13 @@ fn tell_case<R: Alloc<A = Global> + Threads + Sync + Wait>(
     match played(rt, case) {
         Ok(outcome) => {
             let flag = if outcome.seen { "seen" } else { "missed" };
-            let (posted, collected) = (outcome.posted, outcome.collected);
-            let tick = outcome.tick;
-            writeln!(
-                told,
-                "{name}: flag {flag} posted {posted} collected {collected} tick {tick}"
-            )
+            write!(told, "{name}: flag {flag}")?;
+            let numbers = [
+                ("posted", outcome.posted),
+                ("collected", outcome.collected),
+                ("tick", outcome.tick),
+            ];
+            tell_numbers(told, &numbers)
         }
         Err(fault) => writeln!(told, "{name}: {fault:?}"),
     }

@@ -6,13 +6,13 @@ mod row;
 mod show;
 
 use play::play;
-use row::ROWS;
+use row::rows;
 use std::alloc::{Alloc, AllocError, Global};
 
 /// A line for each call of each row.
 pub(crate) fn tell<R: Alloc<A = Global>>(rt: &R, told: &mut String) -> Result<(), AllocError> {
-    for row in &ROWS {
-        play(rt, row, told)?;
+    for row in rows() {
+        play(rt.alloc(), rt, row, told)?;
     }
     Ok(())
 }

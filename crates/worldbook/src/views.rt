@@ -7,7 +7,7 @@ mod row;
 
 use findings::Finding;
 use play::play;
-use row::ROWS;
+use row::{Row, rows};
 use std::alloc::{Alloc, AllocError, Global};
 use std::fmt::Write;
 use std::thread::Threads;
@@ -23,14 +23,23 @@ fn text_of(finding: Finding) -> &'static str {
     }
 }
 
+/// The line of a row.
+fn tell_row<R: Alloc<A = Global> + Threads + Sync>(
+    rt: &R,
+    row: &Row,
+    told: &mut String,
+) -> Result<(), AllocError> {
+    let words = text_of(play(rt.alloc(), rt, row)?);
+    writeln!(told, "{}: {words}", row.name)
+}
+
 /// A line for each row.
 pub(crate) fn tell<R: Alloc<A = Global> + Threads + Sync>(
     rt: &R,
     told: &mut String,
 ) -> Result<(), AllocError> {
-    for row in &ROWS {
-        let words = text_of(play(rt, row)?);
-        writeln!(told, "{}: {words}", row.name)?;
+    for row in rows() {
+        tell_row(rt, row, told)?;
     }
     Ok(())
 }

@@ -94,13 +94,14 @@ fn tell_findings<R: Alloc<A = Global> + Wait>(
     Ok(())
 }
 
-/// Plays a row, and tells of its calls whose growths are refused.
+/// Plays a row, and tells of its calls whose growths are refused, behind its name.
 pub(crate) fn tell_refused<R: Alloc<A = Global> + Wait>(
     rt: &R,
     meter: &Meter<Global>,
     case: &Case<'_>,
     told: &mut String,
 ) -> Result<(), AllocError> {
+    writeln!(told, "= refused {}", case.name)?;
     let mut row = String::new(rt.alloc());
     meter.forget();
     perform(rt, case, Plan::none(meter), &mut row)?;

@@ -1,5 +1,6 @@
 //! What is told of the rows and of the thousand serves.
 
+use crate::numbers::tell_numbers;
 use crate::serves::came::Came;
 use crate::serves::gate::{Flags, Hold};
 use crate::serves::play::{PlayFault, play};
@@ -15,21 +16,25 @@ const SERVES: u32 = 1_000;
 
 /// A fact in words, behind the line.
 fn tell_fact(fact: Fact, came: &Came, met: bool, told: &mut String) -> Result<(), AllocError> {
-    let words = match fact {
-        Fact::LaneFull => return write!(told, " lane_full {}", came.lane_full),
-        Fact::Takes => return write!(told, " takes {}", came.takes),
-        Fact::Arrivals => return write!(told, " arrivals {}", came.arrivals),
-        Fact::Unfinished => return write!(told, " unfinished {}", came.unfinished()),
-        Fact::Held if met => " met",
-        Fact::Held => " missed",
-        Fact::SameMap if came.same_map => " its map",
-        Fact::SameMap => " another map",
-        Fact::Legal if came.legal => " legal",
-        Fact::Legal => " illegal",
-        Fact::Told if came.told => " told",
-        Fact::Told => " untold",
+    let (words, number) = match fact {
+        Fact::LaneFull => (" lane_full ", Some(came.lane_full)),
+        Fact::Takes => (" takes ", Some(came.takes)),
+        Fact::Arrivals => (" arrivals ", Some(came.arrivals)),
+        Fact::Unfinished => (" unfinished ", Some(came.unfinished())),
+        Fact::Held if met => (" met", None),
+        Fact::Held => (" missed", None),
+        Fact::SameMap if came.same_map => (" its map", None),
+        Fact::SameMap => (" another map", None),
+        Fact::Legal if came.legal => (" legal", None),
+        Fact::Legal => (" illegal", None),
+        Fact::Told if came.told => (" told", None),
+        Fact::Told => (" untold", None),
     };
-    told.push_str(words)
+    told.push_str(words)?;
+    match number {
+        Some(number) => write!(told, "{number}"),
+        None => Ok(()),
+    }
 }
 
 /// What came of a row, behind its name.
@@ -88,6 +93,17 @@ impl Sum {
             .saturating_add(u64::from(came.is_accounted()));
         self.idle = self.idle.saturating_add(u64::from(is_idle));
     }
+
+    fn tell(&self, told: &mut String) -> Result<(), AllocError> {
+        let numbers = [
+            ("clients", self.clients),
+            ("lines", self.lines),
+            ("legal", self.legal),
+            ("accounted", self.accounted),
+            ("idle", self.idle),
+        ];
+        tell_numbers(told, &numbers)
+    }
 }
 
 /// Serves the script of a seed, and adds what became of it. A serve that has a fault adds nothing.
@@ -105,12 +121,11 @@ fn add_serve<R: Alloc<A = Global> + Threads + Sync + Wait>(
     Ok(())
 }
 
-/// The line of a thousand serves, in which nobody is held.
-pub(crate) fn tell_thousand<R: Alloc<A = Global> + Threads + Sync + Wait>(
+/// What became of a thousand serves with these flags.
+fn sum_of<R: Alloc<A = Global> + Threads + Sync + Wait>(
     rt: &R,
-    told: &mut String,
-) -> Result<(), AllocError> {
-    let flags = Arc::new(rt.alloc(), Flags::new(Hold::Nobody))?;
+    flags: &Arc<Flags>,
+) -> Result<Sum, AllocError> {
     let mut sum = Sum {
         clients: 0,
         lines: 0,
@@ -119,11 +134,18 @@ pub(crate) fn tell_thousand<R: Alloc<A = Global> + Threads + Sync + Wait>(
         idle: 0,
     };
     for seed in 0..SERVES {
-        add_serve(rt, seed, &flags, &mut sum)?;
+        add_serve(rt, seed, flags, &mut sum)?;
     }
-    writeln!(
-        told,
-        "a_thousand_serves: clients {} lines {} legal {} accounted {} idle {}",
-        sum.clients, sum.lines, sum.legal, sum.accounted, sum.idle
-    )
+    Ok(sum)
+}
+
+/// The line of a thousand serves, in which nobody is held.
+pub(crate) fn tell_thousand<R: Alloc<A = Global> + Threads + Sync + Wait>(
+    rt: &R,
+    told: &mut String,
+) -> Result<(), AllocError> {
+    let flags = Arc::new(rt.alloc(), Flags::new(Hold::Nobody))?;
+    let sum = sum_of(rt, &flags)?;
+    told.push_str("a_thousand_serves:")?;
+    sum.tell(told)
 }

@@ -55,10 +55,10 @@ fn play_with<R: Alloc<A = Global> + Threads + Sync + Wait>(
 fn play_hooked<R: Alloc<A = Global> + Threads + Sync + Wait>(
     rt: &R,
     case: &Case,
+    shared: &Arc<Shared>,
 ) -> Result<Result<Outcome, PlayFault>, AllocError> {
     let alloc = rt.alloc();
-    let shared = Arc::new(alloc, Shared::new(case.clients, case.posts, case.turns))?;
-    let own = Arc::try_clone(&shared)?;
+    let own = Arc::try_clone(shared)?;
     let waits = move |_view: TieView| {
         own.stand();
         0
@@ -71,12 +71,22 @@ fn play_hooked<R: Alloc<A = Global> + Threads + Sync + Wait>(
     Ok(play_with(rt, case, hooks, shared.as_ref()))
 }
 
+/// What came out of a case, or no memory for what its threads share.
+fn play_shared<R: Alloc<A = Global> + Threads + Sync + Wait>(
+    rt: &R,
+    case: &Case,
+) -> Result<Result<Outcome, PlayFault>, AllocError> {
+    let shared = Shared::new(case.clients, case.posts, case.turns);
+    let shared = Arc::new(rt.alloc(), shared)?;
+    play_hooked(rt, case, &shared)
+}
+
 /// What came out of a case.
 pub(crate) fn played<R: Alloc<A = Global> + Threads + Sync + Wait>(
     rt: &R,
     case: &Case,
 ) -> Result<Outcome, PlayFault> {
-    match play_hooked(rt, case) {
+    match play_shared(rt, case) {
         Ok(played) => played,
         Err(AllocError) => Err(PlayFault::NoMemory),
     }

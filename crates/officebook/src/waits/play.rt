@@ -9,7 +9,7 @@ use fleet_calls::OpenFault;
 use fleet_grid::Grid;
 use fleet_hooks::Hooks;
 use fleet_lanes::Client;
-use fleet_office::{ConcludeFault, Desk, Office, OfficeName, Ticker, clients_of, guests_of};
+use fleet_office::{ConcludeFault, Desk, Guest, Office, OfficeName, Ticker, clients_of, guests_of};
 use std::alloc::{Alloc, AllocError, Global};
 use std::mem;
 use std::sync::Wait;
@@ -62,26 +62,38 @@ fn outcome_of(shared: &Shared, tick: u64) -> Result<Outcome, PlayFault> {
     })
 }
 
-/// Lets the clients and two tickers work in an office. All of them come home.
+/// Lets the guests and two tickers work in an office. The result is both tickers.
 fn work_in<N: OfficeName<Global> + Send + Sync, R: Alloc<A = Global> + Threads + Sync + Wait>(
+    rt: &R,
+    office: &Office<N>,
+    guests: &mut [Guest<N>],
+    ticker: Ticker<N>,
+    shared: &Shared,
+) -> Result<Vec<Ticker<N>>, AllocError> {
+    let mut first = ticker;
+    let Some(second) = first.split() else {
+        return Err(AllocError);
+    };
+    let (first, second) = work_all(rt, office, guests, first, second, shared);
+    let mut tickers = Vec::with_capacity(rt.alloc(), 2)?;
+    tickers.push_reserved(first);
+    tickers.push_reserved(second);
+    Ok(tickers)
+}
+
+/// Lets the clients and two tickers work in an office. All of them come home.
+fn home_from<N: OfficeName<Global> + Send + Sync, R: Alloc<A = Global> + Threads + Sync + Wait>(
     rt: &R,
     office: &Office<N>,
     clients: Vec<Client>,
     ticker: Ticker<N>,
     shared: &Shared,
-) -> Result<(Vec<Client>, Vec<Ticker<N>>), PlayFault>
+) -> Result<(Vec<Client>, Vec<Ticker<N>>), AllocError>
     requires { AreOn N.rings (cores clients.items) }
     ensures { IfOk result (λ home. AreOn N.rings (cores home.0.items)) }
 {
-    let mut first = ticker;
-    let Some(second) = first.split() else {
-        return Err(PlayFault::NoMemory);
-    };
     let mut guests = guests_of::<N, Global>(rt.alloc(), clients)?;
-    let mut tickers = Vec::with_capacity(rt.alloc(), 2)?;
-    let (first, second) = work_all(rt, office, guests.as_mut_slice(), first, second, shared);
-    tickers.push_reserved(first);
-    tickers.push_reserved(second);
+    let tickers = work_in(rt, office, guests.as_mut_slice(), ticker, shared)?;
     Ok((clients_of::<N, Global>(rt.alloc(), guests)?, tickers))
 }
 
@@ -95,12 +107,9 @@ fn play_in<N: OfficeName<Global> + Send + Sync, R: Alloc<A = Global> + Threads +
 ) -> Result<Outcome, PlayFault>
     requires { AreOn N.rings (cores clients.items) }
 {
-    let (clients, tickers) = match work_in(rt, &office, clients, ticker, shared) {
-        Ok(home) => home,
-        Err(fault) => {
-            mem::drop(office);
-            return Err(fault);
-        }
+    let Ok((clients, tickers)) = home_from(rt, &office, clients, ticker, shared) else {
+        mem::drop(office);
+        return Err(PlayFault::NoMemory);
     };
     match office.conclude(rt.alloc(), clients, tickers) {
         Ok(end) => {

@@ -2,22 +2,34 @@
 
 use crate::answers::row::go;
 use fleet_world::World;
-use std::alloc::{Alloc, Global};
+use std::alloc::{Alloc, Allocator};
+use std::mem;
 
-/// Takes an order for the robot, if it has none left, and hands out what the only client is told.
-fn keep_busy(world: &mut World, robot: u32, cell: u32) {
+/// Takes an order for the robot, if it has none left.
+fn send<A: Allocator + Copy>(world: &mut World<A>, robot: u32, cell: u32) {
     if (robot as usize) < world.robots() && world.wait_of(robot).is_none() && world.clients() > 0 {
-        let _ = world.take(0, go(robot, cell));
+        mem::drop(world.take(0, go(robot, cell)));
     }
-    for _notice in 0..2 {
-        if world.clients() > 0 {
-            let _ = world.give(0);
-        }
+}
+
+/// Hands out what the only client is told next.
+fn hand_out<A: Allocator + Copy>(world: &mut World<A>) {
+    if world.clients() > 0 {
+        mem::drop(world.give(0));
+    }
+}
+
+/// Gives a new errand to each of nine robots that has none, and hands out what the only client is told.
+fn keep_busy<A: Allocator + Copy>(world: &mut World<A>, tick: u32) {
+    for robot in 0..9u32 {
+        send(world, robot, (tick / 3 % 9 * 5 + robot * 7) % 9);
+        hand_out(world);
+        hand_out(world);
     }
 }
 
 /// The robot's wait, 0 where it has no errand.
-fn wait_of(world: &World, robot: u32) -> u64 {
+fn wait_of<A: Allocator + Copy>(world: &World<A>, robot: u32) -> u64 {
     if (robot as usize) < world.robots() {
         world.wait_of(robot).unwrap_or(0)
     } else {
@@ -25,17 +37,26 @@ fn wait_of(world: &World, robot: u32) -> u64 {
     }
 }
 
+/// The greatest wait of nine robots.
+fn greatest_of<A: Allocator + Copy>(world: &World<A>) -> u64 {
+    let mut greatest = 0;
+    for robot in 0..9u32 {
+        greatest = wait_of(world, robot).max(greatest);
+    }
+    greatest
+}
+
 /// So many ticks of nine robots that get a new errand whenever they have none. The result is the greatest wait that was seen.
-pub(crate) fn greatest_wait<R: Alloc<A = Global>>(rt: &R, world: &mut World, ticks: u32) -> u64 {
+pub(crate) fn greatest_wait<A: Allocator + Copy, R: Alloc<A = A>>(
+    rt: &R,
+    world: &mut World<A>,
+    ticks: u32,
+) -> u64 {
     let mut greatest = 0;
     for tick in 0..ticks {
-        for robot in 0..9u32 {
-            keep_busy(world, robot, (tick / 3 % 9 * 5 + robot * 7) % 9);
-        }
-        let _ = world.tick(rt);
-        for robot in 0..9u32 {
-            greatest = wait_of(world, robot).max(greatest);
-        }
+        keep_busy(world, tick);
+        mem::drop(world.tick(rt));
+        greatest = greatest_of(world).max(greatest);
     }
     greatest
 }

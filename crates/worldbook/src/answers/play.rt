@@ -3,18 +3,19 @@
 use crate::answers::busy::greatest_wait;
 use crate::answers::row::{Call, Row, go};
 use crate::answers::show::{tell_busy, tell_give, tell_shut, tell_take, tell_tick, tell_world};
-use crate::site::grid_of;
+use crate::site::site_of;
 use fleet_hooks::{
     ArrivalHook, ArrivalView, Farewell, FarewellView, Hooks, StampLaw, TieHook, TieLaw, TieView,
 };
 use fleet_world::{OpenFault, World};
-use std::alloc::{Alloc, AllocError, Global};
+use std::alloc::{Alloc, AllocError, Allocator, Global};
 use std::fmt::Write;
+use std::mem;
 
 /// The lines of so many ticks.
-fn tell_ticks<R: Alloc<A = Global>>(
+fn tell_ticks<A: Allocator + Copy, R: Alloc<A = A>>(
     rt: &R,
-    world: &mut World,
+    world: &mut World<A>,
     count: u32,
     told: &mut String,
 ) -> Result<(), AllocError> {
@@ -25,9 +26,9 @@ fn tell_ticks<R: Alloc<A = Global>>(
 }
 
 /// The lines of a call. A world without clients takes and gives nothing.
-fn tell_answer<R: Alloc<A = Global>>(
+fn tell_answer<A: Allocator + Copy, R: Alloc<A = A>>(
     rt: &R,
-    world: &mut World,
+    world: &mut World<A>,
     call: Call,
     told: &mut String,
 ) -> Result<(), AllocError> {
@@ -45,10 +46,10 @@ fn tell_answer<R: Alloc<A = Global>>(
 }
 
 /// The name of a row, and the lines of its calls.
-fn tell_answers<R: Alloc<A = Global>>(
+fn tell_answers<A: Allocator + Copy, R: Alloc<A = A>>(
     rt: &R,
     row: &Row,
-    world: &mut World,
+    world: &mut World<A>,
     told: &mut String,
 ) -> Result<(), AllocError> {
     writeln!(told, "{}", row.name)?;
@@ -59,10 +60,10 @@ fn tell_answers<R: Alloc<A = Global>>(
 }
 
 /// Plays a row in its world, where that was opened.
-fn play_opened<R: Alloc<A = Global>>(
+fn play_opened<A: Allocator + Copy, R: Alloc<A = A>>(
     rt: &R,
     row: &Row,
-    opened: Result<World, OpenFault>,
+    opened: Result<World<A>, OpenFault>,
     told: &mut String,
 ) -> Result<(), AllocError> {
     match opened {
@@ -76,31 +77,36 @@ fn play_opened<R: Alloc<A = Global>>(
 }
 
 /// Plays a row with these closures.
-fn play_hooked<R: Alloc<A = Global>>(
+fn play_hooked<A: Allocator + Copy, R: Alloc<A = A>>(
     rt: &R,
     row: &Row,
-    hooks: Hooks,
+    hooks: Hooks<A>,
     told: &mut String,
 ) -> Result<(), AllocError> {
-    let alloc = rt.alloc();
-    let starts = Vec::from_slice(alloc, row.starts)?;
-    match grid_of(alloc, row.sides, row.letters)? {
-        Some(grid) => {
-            let opened = World::open(alloc, grid, starts, 1, row.limits, hooks);
+    match site_of(rt.alloc(), row.sides, row.letters, row.starts) {
+        Ok(Some((grid, starts))) => {
+            let opened = World::open(rt.alloc(), grid, starts, 1, row.limits, hooks);
             play_opened(rt, row, opened, told)
         }
-        None => writeln!(told, "{}: no map", row.name),
+        Ok(None) => {
+            mem::drop(hooks);
+            writeln!(told, "{}: no map", row.name)
+        }
+        Err(AllocError) => {
+            mem::drop(hooks);
+            Err(AllocError)
+        }
     }
 }
 
-/// Plays a row, and tells its name and the lines of its calls.
-pub(crate) fn play<R: Alloc<A = Global>>(
+/// Plays a row over the runtime's heap, and tells its name and the lines of its calls.
+pub(crate) fn play<A: Allocator + Copy, R: Alloc<A = A>>(
+    alloc: Global,
     rt: &R,
     row: &Row,
     told: &mut String,
 ) -> Result<(), AllocError> {
-    let alloc = rt.alloc();
-    let mut hooks = Hooks::new(alloc);
+    let mut hooks = Hooks::new(rt.alloc());
     for _robot in 0..row.hooked {
         let tie = TieHook::new(TieLaw::ANY, Box::new(alloc, |_view: TieView| 0)?);
         let arrival = ArrivalHook::new(

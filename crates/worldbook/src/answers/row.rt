@@ -128,7 +128,7 @@ const NARROW: Limits = Limits {
 };
 
 /// The rows.
-pub(crate) const ROWS: [Row; 10] = [
+const ROWS: [Row; 10] = [
     CALLS_IN_TURN,
     RING_OF_EIGHT,
     CORRIDOR_STANDOFF,
@@ -140,3 +140,8 @@ pub(crate) const ROWS: [Row; 10] = [
     opening!(&[0], 0, Limits::DEFAULT),
     opening!(&[0], 1, Limits::DEFAULT),
 ];
+
+/// The rows, in their order.
+pub(crate) fn rows() -> &'static [Row] {
+    &ROWS
+}

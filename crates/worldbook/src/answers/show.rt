@@ -2,7 +2,7 @@
 
 use findings::beside_bound;
 use fleet_world::{Notice, ShutFault, TakeFault, TickFault, TickReport, Verdict, World};
-use std::alloc::AllocError;
+use std::alloc::{AllocError, Allocator};
 use std::fmt::Write;
 
 /// The number behind its name.
@@ -48,6 +48,14 @@ pub(crate) fn tell_shut(
     }
 }
 
+/// These numbers, each behind its name, to the end of the line.
+fn tell_parts(told: &mut String, parts: &[(&str, u64)]) -> Result<(), AllocError> {
+    for (name, number) in parts {
+        write!(told, " {name} {number}")?;
+    }
+    told.push_str("\n")
+}
+
 /// The line of a gift.
 pub(crate) fn tell_give(told: &mut String, answer: Option<Notice>) -> Result<(), AllocError> {
     match answer {
@@ -67,10 +75,17 @@ pub(crate) fn tell_give(told: &mut String, answer: Option<Notice>) -> Result<(),
                 tick,
                 stamp,
             },
-        ) => writeln!(
-            told,
-            "give {seq}: arrived {number} robot {robot} cell {cell} tick {tick} stamp {stamp}"
-        ),
+        ) => {
+            write!(told, "give {seq}: arrived {number}")?;
+            let (robot, cell, stamp) = (u64::from(robot), u64::from(cell), u64::from(stamp));
+            let parts = [
+                ("robot", robot),
+                ("cell", cell),
+                ("tick", tick),
+                ("stamp", stamp),
+            ];
+            tell_parts(told, &parts)
+        }
         None => writeln!(told, "give: nothing"),
     }
 }
@@ -82,7 +97,7 @@ pub(crate) fn tell_busy(told: &mut String, greatest: u64, bound: u64) -> Result<
 }
 
 /// Where the robots stand and how long they have waited, a robot a word.
-fn tell_robots(told: &mut String, world: &World) -> Result<(), AllocError> {
+fn tell_robots<A: Allocator + Copy>(told: &mut String, world: &World<A>) -> Result<(), AllocError> {
     for robot in 0..512u32 {
         if robot as usize >= world.robots() {
             break;
@@ -97,7 +112,10 @@ fn tell_robots(told: &mut String, world: &World) -> Result<(), AllocError> {
 }
 
 /// The line of all that a world shows: each robot's cell and wait, the eldest, and how soon the fleet is idle.
-pub(crate) fn tell_world(told: &mut String, world: &World) -> Result<(), AllocError> {
+pub(crate) fn tell_world<A: Allocator + Copy>(
+    told: &mut String,
+    world: &World<A>,
+) -> Result<(), AllocError> {
     write!(told, "clock {} robots", world.clock())?;
     tell_robots(told, world)?;
     tell_number(told, "eldest", world.eldest().map(u64::from))?;

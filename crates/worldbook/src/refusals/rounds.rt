@@ -25,6 +25,20 @@ fn agree(played: &Played, base: &Played) -> bool
     played.same && played.showing.is_like(&base.showing)
 }
 
+/// Whether a world whose call was refused holds all that it held before.
+fn holds_as(
+    alloc: Global,
+    row: Row<'_, Call>,
+    growth: u64,
+    call: usize,
+    before: &Played,
+) -> Result<bool, AllocError> {
+    match play(alloc, row, growth, call.saturating_add(1))? {
+        Ok(refused) => Ok(refused.showing.holds_like(&before.showing)),
+        Err(_) => Ok(false),
+    }
+}
+
 /// Whether a world holds all that it held before the call that was refused.
 fn holds_the_same(
     alloc: Global,
@@ -32,11 +46,9 @@ fn holds_the_same(
     growth: u64,
     call: usize,
 ) -> Result<bool, AllocError> {
-    let refused = play(alloc, row, growth, call.saturating_add(1))?;
-    let before = play(alloc, row, MANY, call)?;
-    match (refused, before) {
-        (Ok(refused), Ok(before)) => Ok(refused.showing.holds_like(&before.showing)),
-        _ => Ok(false),
+    match play(alloc, row, MANY, call)? {
+        Ok(before) => holds_as(alloc, row, growth, call, &before),
+        Err(_) => Ok(false),
     }
 }
 

@@ -1,15 +1,16 @@
 //! A row as a run, with closures that note what they are shown.
 
-use crate::site::grid_of;
+use crate::site::site_of;
 use crate::views::note::Shown;
 use crate::views::row::Row;
 use findings::{Finding, Noted};
-use fleet_grid::{Dir, Grid};
+use fleet_grid::Dir;
 use fleet_hooks::{
     ArrivalHook, ArrivalView, Farewell, FarewellView, Hooks, StampLaw, TieHook, TieLaw, TieView,
 };
-use fleet_world::{Entry, run};
-use std::alloc::{Alloc, AllocError, Global};
+use fleet_world::{Entry, Played, RunFault, World, run};
+use std::alloc::{Alloc, AllocError, Allocator, Global};
+use std::mem;
 use std::sync::Arc;
 use std::sync::atomic::{AtomicU64, Ordering};
 use std::thread::Threads;
@@ -25,7 +26,10 @@ fn rank_of(robot: u32, dir: Dir) -> u8 {
 }
 
 /// The stamps of a run, tick by tick, those of arrivals first.
-fn stamps_of(alloc: Global, entries: &[Entry]) -> Result<Vec<u32>, AllocError> {
+fn stamps_of<A: Allocator + Copy>(
+    alloc: Global,
+    entries: &[Entry<A>],
+) -> Result<Vec<u32>, AllocError> {
     let mut stamps = Vec::new(alloc);
     for entry in entries {
         match entry {
@@ -62,10 +66,10 @@ fn row_stamps(alloc: Global, row: &Row) -> Result<Vec<u32>, AllocError> {
 }
 
 /// Compares the entries of a run, its robots' cells at the end, and what its closures noted, with the row.
-fn compare(
+fn compare<A: Allocator + Copy>(
     alloc: Global,
     row: &Row,
-    entries: &[Entry],
+    entries: &[Entry<A>],
     cells: &[u32],
     note: u64,
 ) -> Result<Finding, AllocError> {
@@ -83,36 +87,61 @@ fn compare(
     Ok(met.beside(wanted))
 }
 
-/// Runs a row in its grid with these closures, and compares what they noted.
-fn find_in<R: Alloc<A = Global> + Threads + Sync>(
-    rt: &R,
+/// Compares the world that a run of a row ended in, and what its closures noted, with the row.
+fn compare_world<A: Allocator + Copy>(
+    alloc: Global,
     row: &Row,
-    grid: Grid,
-    hooks: Hooks,
-    note: &AtomicU64,
+    world: &World<A>,
+    note: u64,
 ) -> Result<Finding, AllocError> {
-    let alloc = rt.alloc();
-    let starts = Vec::from_slice(alloc, row.starts)?;
-    let hooks = hooks.cut(starts.len());
-    let Ok(played) = run(rt, grid, starts, 2, row.limits, hooks, row.events) else {
-        return Ok(Finding::NotPlayed);
-    };
-    let (entries, cells) = (&played.world.chapter().entries, played.world.placement());
-    let found = compare(alloc, row, entries, cells, note.load(Ordering::SeqCst));
-    let _ended = played.world.finish();
-    found
+    compare(
+        alloc,
+        row,
+        &world.chapter().entries,
+        world.placement(),
+        note,
+    )
+}
+
+/// Compares what came of a run of a row, and what its closures noted, with the row.
+fn compare_run<A: Allocator + Copy>(
+    alloc: Global,
+    row: &Row,
+    ran: Result<Played<A>, RunFault>,
+    note: u64,
+) -> Result<Finding, AllocError> {
+    match ran {
+        Ok(played) => {
+            let found = compare_world(alloc, row, &played.world, note);
+            let _ended = played.world.finish();
+            found
+        }
+        Err(_) => Ok(Finding::NotPlayed),
+    }
 }
 
 /// Runs a row with these closures, and compares what they noted.
-fn find<R: Alloc<A = Global> + Threads + Sync>(
+fn find<A: Allocator + Copy + Send + Sync, R: Alloc<A = A> + Threads + Sync>(
+    alloc: Global,
     rt: &R,
     row: &Row,
-    hooks: Hooks,
+    hooks: Hooks<A>,
     note: &AtomicU64,
 ) -> Result<Finding, AllocError> {
-    match grid_of(rt.alloc(), row.sides, row.letters)? {
-        Some(grid) => find_in(rt, row, grid, hooks, note),
-        None => Ok(Finding::NotPlayed),
+    match site_of(rt.alloc(), row.sides, row.letters, row.starts) {
+        Ok(Some((grid, starts))) => {
+            let hooks = hooks.cut(starts.len());
+            let ran = run(rt, grid, starts, 2, row.limits, hooks, row.events);
+            compare_run(alloc, row, ran, note.load(Ordering::SeqCst))
+        }
+        Ok(None) => {
+            mem::drop(hooks);
+            Ok(Finding::NotPlayed)
+        }
+        Err(AllocError) => {
+            mem::drop(hooks);
+            Err(AllocError)
+        }
     }
 }
 
@@ -125,13 +154,13 @@ fn notes(
 }
 
 /// Plays a row with closures that note each view, in one note for all robots.
-fn find_noted<R: Alloc<A = Global> + Threads + Sync>(
+fn find_noted<A: Allocator + Copy + Send + Sync, R: Alloc<A = A> + Threads + Sync>(
+    alloc: Global,
     rt: &R,
     row: &Row,
     note: &Arc<AtomicU64>,
 ) -> Result<Finding, AllocError> {
-    let alloc = rt.alloc();
-    let mut hooks = Hooks::new(alloc);
+    let mut hooks = Hooks::new(rt.alloc());
     for robot in 0..3u32 {
         let (ties, arrivals, farewells) = notes(note)?;
         let tie = move |view: TieView| {
@@ -145,16 +174,17 @@ fn find_noted<R: Alloc<A = Global> + Threads + Sync>(
         let farewell = Farewell::new(StampLaw::ANY, Box::new(alloc, farewell)?);
         hooks.push(tie, arrival, farewell)?;
     }
-    find(rt, row, hooks, note)
+    find(alloc, rt, row, hooks, note)
 }
 
-/// Plays a row.
-pub(crate) fn play<R: Alloc<A = Global> + Threads + Sync>(
+/// Plays a row over the runtime's heap.
+pub(crate) fn play<A: Allocator + Copy + Send + Sync, R: Alloc<A = A> + Threads + Sync>(
+    alloc: Global,
     rt: &R,
     row: &Row,
 ) -> Result<Finding, AllocError> {
-    let note = Arc::new(rt.alloc(), AtomicU64::new(0))?;
-    find_noted(rt, row, &note)
+    let note = Arc::new(alloc, AtomicU64::new(0))?;
+    find_noted(alloc, rt, row, &note)
 }
 
 /// Notes a view behind those before it. The result is its stamp.

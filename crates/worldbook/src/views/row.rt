@@ -232,7 +232,7 @@ const CHAPTER_FULL: Row = Row {
 };
 
 /// All rows.
-pub(crate) const ROWS: [Row; 7] = [
+const ROWS: [Row; 7] = [
     FAILED_PUSH,
     TWO_CORNERS,
     TWO_FAREWELLS,
@@ -241,3 +241,8 @@ pub(crate) const ROWS: [Row; 7] = [
     CLOCK_SPENT,
     CHAPTER_FULL,
 ];
+
+/// All rows, in their order.
+pub(crate) fn rows() -> &'static [Row] {
+    &ROWS
+}
