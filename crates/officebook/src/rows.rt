@@ -22,7 +22,7 @@ use refused::{find_lanes, tell_refused};
 use std::alloc::{Alloc, AllocError, Global};
 use std::fmt::Write;
 use std::sync::Wait;
-use table::{REFUSED, ROWS};
+use table::{refused_rows, rows};
 
 /// Tells of a row, behind its name.
 fn tell_row<R: Alloc<A = Global> + Wait>(
@@ -41,7 +41,7 @@ fn tell_rows<R: Alloc<A = Global> + Wait>(
     meter: &Meter<Global>,
     told: &mut String,
 ) -> Result<(), AllocError> {
-    for case in &ROWS {
+    for case in rows() {
         tell_row(rt, meter, case, told)?;
     }
     Ok(())
@@ -53,7 +53,7 @@ fn tell_refused_rows<R: Alloc<A = Global> + Wait>(
     meter: &Meter<Global>,
     told: &mut String,
 ) -> Result<(), AllocError> {
-    for case in &REFUSED {
+    for case in refused_rows() {
         tell_refused(rt, meter, case, told)?;
     }
     Ok(())

@@ -14,7 +14,7 @@ use fleet_hooks::{
     ArrivalHook, ArrivalView, Farewell, FarewellView, Hooks, StampLaw, TieHook, TieLaw, TieView,
 };
 use fleet_office::{Desk, OfficeName};
-use std::alloc::{Alloc, AllocError, Global};
+use std::alloc::{Alloc, AllocError, Allocator, Global};
 use std::fmt::Write;
 use std::marker::Brand;
 use std::mem;
@@ -29,18 +29,27 @@ impl<'a> OfficeName<Heap<'a>> for Brand {
     ghost rings = { [] };
 }
 
-/// A row's desk, its grid, and where its robots start.
-fn site_of<'a>(
+/// A row's desk.
+fn desk_of<A: Allocator + Copy>(
+    heap: A,
     case: &Case<'_>,
-    plan: Plan<'a>,
-) -> Result<(Desk<Heap<'a>>, Grid<Heap<'a>>, Vec<u32, Heap<'a>>), OpenFault> {
-    let heap = plan.meter;
-    let grid = grid_of(heap, case.sides, case.letters)?;
-    let starts = Vec::from_slice(heap, case.starts)?;
+    plan: Plan<'_>,
+) -> Result<Desk<A>, OpenFault> {
     plan.begin(Call::Desk);
     let desk = Desk::new(heap, case.clients, case.limits);
     plan.end();
-    Ok((desk?, grid, starts))
+    desk
+}
+
+/// A row's desk, its grid, and where its robots start.
+fn site_of<A: Allocator + Copy>(
+    heap: A,
+    case: &Case<'_>,
+    plan: Plan<'_>,
+) -> Result<(Desk<A>, Grid<A>, Vec<u32, A>), OpenFault> {
+    let grid = grid_of(heap, case.sides, case.letters)?;
+    let starts = Vec::from_slice(heap, case.starts)?;
+    Ok((desk_of(heap, case, plan)?, grid, starts))
 }
 
 /// Plays a row with these closures, or says why its office was not opened.
@@ -51,7 +60,7 @@ fn play_with<'a, R: Wait>(
     plan: Plan<'a>,
     told: &mut String,
 ) -> Result<Result<(), OpenFault>, AllocError> {
-    match site_of(case, plan) {
+    match site_of(plan.meter, case, plan) {
         Ok((desk, grid, starts)) => {
             let lent = (rt, plan.meter);
             let fleet = Fleet {

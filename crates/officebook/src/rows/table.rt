@@ -194,7 +194,7 @@ const RING_OF_EIGHT: Case<'static> = Case {
 };
 
 /// The rows, in their order.
-pub(crate) const ROWS: [Case<'static>; 18] = [
+const ROWS: [Case<'static>; 18] = [
     BACK_PRESSURE,
     BACK_PRESSURE_IN_HALL,
     LANE_OF_TWO,
@@ -216,10 +216,20 @@ pub(crate) const ROWS: [Case<'static>; 18] = [
 ];
 
 /// The rows whose growths are refused.
-pub(crate) const REFUSED: [Case<'static>; 5] = [
+const REFUSED: [Case<'static>; 5] = [
     BACK_PRESSURE,
     SHUT_ROBOT,
     MISSING_CLIENT,
     TWO_TICKERS,
     NEXT_CHAPTER,
 ];
+
+/// The rows, in their order.
+pub(crate) fn rows() -> &'static [Case<'static>] {
+    &ROWS
+}
+
+/// The rows whose growths are refused.
+pub(crate) fn refused_rows() -> &'static [Case<'static>] {
+    &REFUSED
+}
