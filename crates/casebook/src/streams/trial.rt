@@ -64,57 +64,60 @@ impl Trial {
     }
 }
 
+/// Whether the same comes of these streams as of good ones.
+fn is_like<R: Alloc<A = Global> + Threads + Sync + Wait>(
+    rt: &R,
+    good: Good<'_>,
+    streams: Streams<'_>,
+) -> Result<bool, AllocError> {
+    Ok(outcome_of(rt, good.trace, streams)?.is_like(good.wanted))
+}
+
+/// Whether a file failed in a run by these streams.
+fn fails<R: Alloc<A = Global> + Threads + Sync + Wait>(
+    rt: &R,
+    trace: bool,
+    streams: Streams<'_>,
+) -> Result<bool, AllocError> {
+    Ok(outcome_of(rt, trace, streams)?.is_file_fault())
+}
+
 fn byte_by_byte<R: Alloc<A = Global> + Threads + Sync + Wait>(
     rt: &R,
     good: Good<'_>,
 ) -> Result<bool, AllocError> {
-    let map = Source {
-        step: 1,
-        ..good.streams.map
-    };
-    let script = Source {
-        step: 1,
-        ..good.streams.script
-    };
-    let streams = Streams {
-        map,
-        script,
-        ..good.streams
-    };
-    Ok(outcome_of(rt, good.trace, streams)?.is_like(good.wanted))
+    let mut streams = good.streams;
+    streams.map.step = 1;
+    streams.script.step = 1;
+    is_like(rt, good, streams)
 }
 
 fn each_read<R: Alloc<A = Global> + Threads + Sync + Wait>(
     rt: &R,
     good: Good<'_>,
 ) -> Result<bool, AllocError> {
-    let Streams { map, script, .. } = good.streams;
     let mut named = true;
-    for good_reads in 0..map.bytes.len() as u64 {
-        let map = Source {
-            step: 1,
-            good_reads,
-            ..map
-        };
-        let streams = Streams {
-            map,
-            ..good.streams
-        };
-        named &= outcome_of(rt, good.trace, streams)?.is_file_fault();
+    let mut streams = good.streams;
+    streams.map.step = 1;
+    for good_reads in 0..streams.map.bytes.len() as u64 {
+        streams.map.good_reads = good_reads;
+        named &= fails(rt, good.trace, streams)?;
     }
-    for good_reads in 0..script.bytes.len() as u64 {
-        let script = Source {
-            step: 1,
-            good_reads,
-            ..script
-        };
-        let streams = Streams {
-            script,
-            ..good.streams
-        };
-        named &= outcome_of(rt, good.trace, streams)?.is_file_fault();
+    let mut streams = good.streams;
+    streams.script.step = 1;
+    for good_reads in 0..streams.script.bytes.len() as u64 {
+        streams.script.good_reads = good_reads;
+        named &= fails(rt, good.trace, streams)?;
     }
     Ok(named)
+}
+
+/// Whether that came of a run of which so many bytes were written.
+fn is_front(met: &Outcome, wanted: &Outcome, writes: u64) -> bool {
+    met.status == 3
+        && met.complaint.as_slice() == Outcome::FILE_COMPLAINT
+        && met.output.len() as u64 == writes
+        && wanted.output.starts_with(&met.output)
 }
 
 fn each_write<R: Alloc<A = Global> + Threads + Sync + Wait>(
@@ -122,68 +125,51 @@ fn each_write<R: Alloc<A = Global> + Threads + Sync + Wait>(
     good: Good<'_>,
     fails: bool,
 ) -> Result<bool, AllocError> {
+    let mut streams = good.streams;
     let mut named = true;
     for writes in 0..good.wanted.output.len() as u64 {
-        let streams = Streams {
-            output: Room { writes, fails },
-            ..good.streams
-        };
+        streams.output = Room { writes, fails };
         let met = outcome_of(rt, good.trace, streams)?;
-        named &= met.status == 3
-            && met.complaint.as_slice() == Outcome::FILE_COMPLAINT
-            && met.output.len() as u64 == writes
-            && good.wanted.output.starts_with(&met.output);
+        named &= is_front(&met, good.wanted, writes);
     }
     Ok(named)
+}
+
+/// Whether that came of a run that wrote nothing but so many bytes of the complaint.
+fn is_front_of_complaint(met: &Outcome, writes: u64) -> bool {
+    met.status == 3
+        && met.output.is_empty()
+        && met.complaint.len() as u64 == writes
+        && Outcome::FILE_COMPLAINT.starts_with(&met.complaint)
 }
 
 fn each_complaint<R: Alloc<A = Global> + Threads + Sync + Wait>(
     rt: &R,
     good: Good<'_>,
 ) -> Result<bool, AllocError> {
+    let mut streams = good.streams;
+    streams.output = Room {
+        writes: 0,
+        fails: true,
+    };
     let mut named = true;
     for writes in 0..Outcome::FILE_COMPLAINT.len() as u64 {
-        let (output, error) = (
-            Room {
-                writes: 0,
-                fails: true,
-            },
-            Room {
-                writes,
-                fails: true,
-            },
-        );
-        let streams = Streams {
-            output,
-            error,
-            ..good.streams
+        streams.error = Room {
+            writes,
+            fails: true,
         };
         let met = outcome_of(rt, good.trace, streams)?;
-        named &= met.status == 3
-            && met.output.is_empty()
-            && met.complaint.len() as u64 == writes
-            && Outcome::FILE_COMPLAINT.starts_with(&met.complaint);
+        named &= is_front_of_complaint(&met, writes);
     }
     Ok(named)
 }
 
-/// What a run comes to where so many line feeds stand behind its script, of which so many bytes are read at once.
-fn run_longer<R: Alloc<A = Global> + Threads + Sync + Wait>(
-    rt: &R,
-    good: Good<'_>,
-    line_feeds: u64,
-    step: usize,
-) -> Result<Outcome, AllocError> {
-    let script = Source {
-        line_feeds,
-        step,
-        ..good.streams.script
-    };
-    let streams = Streams {
-        script,
-        ..good.streams
-    };
-    outcome_of(rt, good.trace, streams)
+/// The streams where so many line feeds stand behind the script, of which so many bytes are read at once.
+fn longer<'a>(streams: Streams<'a>, line_feeds: u64, step: usize) -> Streams<'a> {
+    let mut streams = streams;
+    streams.script.line_feeds = line_feeds;
+    streams.script.step = step;
+    streams
 }
 
 fn long_files<R: Alloc<A = Global> + Threads + Sync + Wait>(
@@ -192,11 +178,12 @@ fn long_files<R: Alloc<A = Global> + Threads + Sync + Wait>(
 ) -> Result<bool, AllocError> {
     let Source { bytes, step, .. } = good.streams.script;
     let line_feeds = MOST.saturating_sub(bytes.len() as u64);
-    Ok(
-        run_longer(rt, good, line_feeds, step)?.is_like(good.wanted)
-            && run_longer(rt, good, line_feeds.saturating_add(1), step)?.is_file_fault()
-            && run_longer(rt, good, u64::MAX, 1)?.is_file_fault(),
-    )
+    let [most, more, endless] = [
+        longer(good.streams, line_feeds, step),
+        longer(good.streams, line_feeds.saturating_add(1), step),
+        longer(good.streams, u64::MAX, 1),
+    ];
+    Ok(is_like(rt, good, most)? && fails(rt, good.trace, more)? && fails(rt, good.trace, endless)?)
 }
 
 /// Whether the program ends as it should in this trial.
