@@ -5,7 +5,7 @@ use fleet_grid::Grid;
 use std::alloc::{Alloc, Global};
 use std::io;
 use std::time::{Clock, Instant};
-use yardstick::{Measure, print_measure};
+use bench_ground::{Measure, print_measure};
 
 /// How often the bridge is searched on each map.
 const REPEATS: u32 = 8;

@@ -8,7 +8,7 @@ use fleet_grid::Grid;
 use std::alloc::{Alloc, Global};
 use std::io;
 use std::time::{Clock, Instant};
-use yardstick::{Measure, Random, Site, print_measure};
+use bench_ground::{Measure, Random, Site, print_measure};
 
 /// How often a step is checked.
 const REPEATS: u32 = 200;

@@ -2,7 +2,7 @@
 
 ghost use Rattle.std.specs.Prelude.{◌≡◌, ◌<◌, ◌≤◌, length, vec_len};
 ghost use Rattle.fleet_grid.specs.Step.{IsPlacement};
-ghost use Rattle.yardstick.specs.Fleet.{AreWithin, Serves, IsUnderWay};
+ghost use Rattle.bench_ground.specs.Fleet.{AreWithin, Serves, IsUnderWay};
 
 use fleet_check::check_step;
 use fleet_field::Compass;
@@ -12,7 +12,7 @@ use fleet_map::MapText;
 use fleet_pibt::Stepper;
 use std::alloc::{Alloc, AllocError, Global};
 use std::io;
-use yardstick::{Fleet, Random, Site};
+use bench_ground::{Fleet, Random, Site};
 
 /// How many robots there are: one for each cell.
 const ROBOTS: usize = 512;

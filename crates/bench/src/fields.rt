@@ -9,7 +9,7 @@ use std::alloc::{Alloc, Global};
 use std::io;
 use std::thread::Threads;
 use std::time::{Clock, Instant};
-use yardstick::{Measure, Random, Site, print_measure};
+use bench_ground::{Measure, Random, Site, print_measure};
 
 /// How often one field is searched on each map.
 const REPEATS: u32 = 48;

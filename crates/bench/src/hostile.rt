@@ -8,7 +8,7 @@ use std::alloc::{Alloc, Global};
 use std::io::{self, ErrorKind};
 use std::thread::Threads;
 use std::time::{Clock, Instant};
-use yardstick::{Random, Shape};
+use bench_ground::{Random, Shape};
 
 /// How many ticks the robot is under way.
 const TICKS: u32 = 4_096;

@@ -8,7 +8,7 @@ use std::alloc::{Alloc, Global};
 use std::io;
 use std::thread::Threads;
 use std::time::{Clock, Instant};
-use yardstick::{Kind, Random, Site};
+use bench_ground::{Kind, Random, Site};
 
 /// How many ticks times robots a run has.
 const ROBOT_TICKS: usize = 256_000;

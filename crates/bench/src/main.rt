@@ -23,7 +23,7 @@ use std::env::Env;
 use std::thread::Threads;
 use std::time::Clock;
 use std::{env, io};
-use yardstick::{Kernel, Kind, Shape};
+use bench_ground::{Kernel, Kind, Shape};
 
 /// What is printed where no kernel is named.
 const KERNELS: &str =

@@ -4,7 +4,7 @@ use crate::hostile::read_grid;
 use fleet_grid::Grid;
 use std::alloc::{Alloc, Global};
 use std::io;
-use yardstick::{Kind, Shape, grid_of};
+use bench_ground::{Kind, Shape, grid_of};
 
 /// A line of a map's counts.
 fn tell(rt: &impl Print, name: &str, grid: &Grid) -> io::Result<()> {

@@ -10,7 +10,7 @@ use std::alloc::{Alloc, Global};
 use std::io;
 use std::thread::Threads;
 use std::time::Clock;
-use yardstick::{Kernel, Kind, Site, grid_of};
+use bench_ground::{Kernel, Kind, Site, grid_of};
 
 /// Measures the kernel on each kind of map.
 pub(crate) fn measure_kinds<R: Alloc<A = Global> + Clock + Print + Threads + Sync>(

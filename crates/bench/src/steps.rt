@@ -2,7 +2,7 @@
 
 ghost use Rattle.std.specs.Prelude.{◌≡◌, ℕ, ◌<◌, ◌≤◌, length, vec_len};
 ghost use Rattle.fleet_grid.specs.Step.{IsPlacement};
-ghost use Rattle.yardstick.specs.Fleet.{AreWithin, Serves, IsUnderWay};
+ghost use Rattle.bench_ground.specs.Fleet.{AreWithin, Serves, IsUnderWay};
 
 use fleet_field::Compass;
 use fleet_hooks::{TieHook, TieLaw, TieView};
@@ -10,7 +10,7 @@ use fleet_pibt::Stepper;
 use std::alloc::{Alloc, Global};
 use std::io;
 use std::time::{Clock, Instant};
-use yardstick::{Fleet, Measure, Random, Site, print_measure};
+use bench_ground::{Fleet, Measure, Random, Site, print_measure};
 
 /// How many robots there are.
 pub const FLEETS: [usize; 3] = [16, 128, 512];

@@ -8,7 +8,7 @@ use std::alloc::{Alloc, Global};
 use std::io;
 use std::thread::Threads;
 use std::time::{Clock, Instant};
-use yardstick::{Kind, Measure, Random, Site};
+use bench_ground::{Kind, Measure, Random, Site};
 
 /// From how many cells robots take their goals.
 const GOALS: usize = 64;

@@ -15,7 +15,7 @@ use std::io::{self, ErrorKind};
 use std::mem;
 use std::thread::Threads;
 use std::time::Clock;
-use yardstick::{Kind, Random, Site, grid_of, print_measure};
+use bench_ground::{Kind, Random, Site, grid_of, print_measure};
 
 /// The mailbox has room for the notices of two errands of each robot, and for those errands. The chapter has room for all ticks
 /// of several long runs.

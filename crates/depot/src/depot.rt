@@ -18,7 +18,7 @@ use std::alloc::{Alloc, AllocError, Global};
 use std::mem;
 use std::sync::Wait;
 use std::thread::Threads;
-use yardstick::Random;
+use bench_ground::Random;
 
 /// How a day at the depot ended.
 #[derive(Drop)]

@@ -10,7 +10,7 @@ use std::sync::Wait;
 use std::sync::atomic::{AtomicU64, Ordering};
 use std::thread;
 use std::thread::{Threads, join};
-use yardstick::Random;
+use bench_ground::Random;
 
 /// How often a client looks for a free slot or a notice at most, and how many turns a ticker makes at most.
 const MOST_TRIES: u64 = 200_000_000;

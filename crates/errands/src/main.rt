@@ -6,9 +6,9 @@
 #![tactic(auto)]
 
 ghost use Rattle.std.specs.Prelude.{◌≡◌, true};
-ghost use Rattle.fleet_program.specs.Told.{names_two};
+ghost use Rattle.errands_lib.specs.Told.{names_two};
 
-use fleet_program::{InputFault, Job, WordFault, fail, parse_words, run_with_kit, write_whole};
+use errands_lib::{InputFault, Job, WordFault, fail, parse_words, run_with_kit, write_whole};
 use std::alloc::{Alloc, Global};
 use std::env::{self, Env};
 use std::fs::{File, Files};

@@ -1,0 +1,47 @@
+//! The kernels that are measured.
+
+ghost use Rattle.std.specs.Prelude.{◌≡◌};
+ghost use Rattle.bench_ground.specs.Kernels.{kernel_named};
+
+/// What is measured.
+#[derive(Clone, Copy, Debug, PartialEq, Eq)]
+pub enum Kernel {
+    /// One distance field, by floor cell of its part.
+    Field,
+    /// Many fields, over all processors, by cell.
+    Fields,
+    /// The first bridge of a map, by cell.
+    Bridge,
+    /// The check of a step, by robot.
+    Check,
+    /// A step of all robots, by robot.
+    Step,
+    /// A tick of a world, by robot.
+    Tick,
+    /// Long runs of a world, by tick and robot.
+    Lifelong,
+    /// Whole maps of a hostile shape, in milliseconds.
+    Hostile,
+    /// The maps themselves, and the steps of a full one: nothing is timed.
+    Maps,
+}
+
+impl Kernel {
+    /// The kernel of that name.
+    pub fn named(word: &str) -> Option<Kernel>
+        ensures { result ≡ kernel_named word.now }
+    {
+        match word {
+            "field" => Some(Kernel::Field),
+            "fields" => Some(Kernel::Fields),
+            "bridge" => Some(Kernel::Bridge),
+            "check" => Some(Kernel::Check),
+            "step" => Some(Kernel::Step),
+            "tick" => Some(Kernel::Tick),
+            "lifelong" => Some(Kernel::Lifelong),
+            "hostile" => Some(Kernel::Hostile),
+            "maps" => Some(Kernel::Maps),
+            _ => None,
+        }
+    }
+}

@@ -1,0 +1,40 @@
+//! What the program has to say to the texts that it read.
+
+ghost use Rattle.std.specs.Prelude.{◌≡◌, ◌≤◌, false, length, IfOk};
+ghost use Rattle.errands_words.specs.Asked.{is_serve};
+ghost use Rattle.errands_text.specs.Said.{said};
+ghost use Rattle.errands_answer.specs.Kit.{kit_laws};
+ghost use Rattle.errands_lib.specs.Outcome.{IsJobOutcome};
+
+use errands_words::Job;
+use errands_answer::{HookKit, answer_bundle, answer_map, answer_parts, answer_trace};
+use errands_text::Said;
+use std::alloc::{Alloc, AllocError, Global};
+use std::thread::Threads;
+
+/// What the program has to say to the texts of a job that is not to serve, the second of which counts only where the job
+/// names two files.
+pub(crate) fn answer<R: Alloc<A = Global> + Threads + Sync>(
+    rt: &R,
+    job: &Job,
+    first: &[u8],
+    second: &[u8],
+    kit: HookKit,
+) -> Result<Said, AllocError>
+    requires first { length first.now ≤ 16777216 }
+    requires second { length second.now ≤ 16777216 }
+    requires plain { is_serve job.now ≡ false }
+    ensures { IfOk result (λ s. IsJobOutcome (kit_laws kit) job.now first.now second.now (said s)) }
+{
+    match job {
+        Job::Bundle => answer_bundle(rt, first, kit),
+        Job::Map { .. } => answer_map(rt.alloc(), first),
+        Job::Run {
+            first: _,
+            second: _,
+            trace,
+        } => answer_parts(rt, first, second, kit, *trace),
+        Job::Judge { .. } => answer_trace(rt.alloc(), first, second),
+        Job::Serve { .. } => unreachable!(),
+    }
+}

@@ -1,0 +1,14 @@
+//! What the program `errands` does, over any readers and writers: what it says to the files of a job, with its own closures,
+//! and its status.
+#![tactic(auto)]
+
+mod answer;
+mod closures;
+mod program;
+mod service;
+
+pub use closures::run_with_kit;
+pub use errands_words::{Job, WordFault, parse_words};
+pub use errands_answer::HookKit;
+pub use errands_text::{InputFault, read_whole, write_whole};
+pub use program::{fail, run_plain, run_program};

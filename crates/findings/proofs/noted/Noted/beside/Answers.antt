@@ -1,6 +1,0 @@
--- A run that came to what was wanted.
-use Rattle.std.proofs.Common.{rules}
-use Rattle.findings.proofs.noted.Noted.beside.Goals as goal
-
-pub returns : goal.returns
-returns c = search rules

@@ -1,8 +1,0 @@
--- A chapter that is judged illegal is not said to be legal.
-use Rattle.fleet_program.proofs.service.judge_served.Goals as goal
-
-pub returns-in-Ok : goal.returns-in-Ok
-returns-in-Ok c = c.in-Ok.ensures.ok
-
-pub returns-in-Err-Illegal : goal.returns-in-Err-Illegal
-returns-in-Err-Illegal c = tt

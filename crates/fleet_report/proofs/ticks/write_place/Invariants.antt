@@ -1,6 +1,0 @@
-use Rattle.std.proofs.Common.{◌≡◌, ◌++◌, drop, string_bytes}
-use Rattle.fleet_report.specs.Output.{place_text}
-use Rattle.fleet_report.proofs.ticks.write_place.Given as goal
-
-abbrev pub invariant-loop-cell : goal.invariant-loop-cell
-invariant-loop-cell g l = string_bytes l.out ++ place_text (drop l.cell-index l.cells) ≡ string_bytes l.fn.out ++ place_text l.cells

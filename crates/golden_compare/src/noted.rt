@@ -1,0 +1,38 @@
+//! What is compared of a run with closures.
+
+ghost use Rattle.std.specs.Prelude.{◌≡◌, ◌↔◌};
+ghost use Rattle.golden_compare.specs.declared.finding.Finding.TheVariants.{AsTheRow};
+
+use crate::finding::Finding;
+
+/// What a run's closures noted, its stamps, and its robots' cells at the end.
+#[derive(Clone, Copy, Debug)]
+pub struct Noted<'a> {
+    /// One number for all views that were shown, in their order.
+    pub note: u64,
+    /// The stamps of the run, tick by tick.
+    pub stamps: &'a [u32],
+    /// By robot.
+    pub cells: &'a [u32],
+}
+
+impl Noted<'_> {
+    /// What is found of a run that came to this and was to come to `wanted`.
+    pub fn beside(self, wanted: Noted<'_>) -> Finding
+        ensures alike { (result ≡ AsTheRow) ↔
+            ((self.entry.note ≡ wanted.entry.note)
+            × (self.entry.stamps.now ≡ wanted.entry.stamps.now)
+            × (self.entry.cells.now ≡ wanted.entry.cells.now)) }
+    {
+        if self.note != wanted.note {
+            return Finding::Views;
+        }
+        if self.stamps != wanted.stamps {
+            return Finding::Stamps;
+        }
+        if self.cells != wanted.cells {
+            return Finding::Ways;
+        }
+        Finding::AsTheRow
+    }
+}

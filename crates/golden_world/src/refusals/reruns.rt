@@ -1,0 +1,100 @@
+//! A row by a run, again and again, until no growth is refused.
+
+use crate::refusals::case::{Case, Row};
+use crate::refusals::closures::run_row;
+use crate::refusals::rounds::MANY;
+use crate::refusals::runs::Run;
+use crate::refusals::stage::{Stage, read};
+use crate::refusals::tally::{Sheet, Tally, tell_end};
+use golden_compare::Ending;
+use fleet_world::Event;
+use std::alloc::{Alloc, AllocError, Global};
+use std::fmt::Write;
+use std::thread::Threads;
+
+/// Refuses each growth in turn. The result is whether it ended behind the last growth, always with the same replies and
+/// trace, also where fields that were kept made up for a growth.
+fn refuse_each<R: Alloc<A = Global> + Threads + Sync>(
+    rt: &R,
+    row: Row<'_, Event>,
+    base: &Ending,
+    sheet: &mut Sheet,
+    judged: &mut Tally,
+) -> Result<bool, AllocError> {
+    let mut alike = true;
+    for growth in 0..100_000 {
+        match run_row(rt, row, growth)? {
+            Err(stage) => sheet.count_stage(stage),
+            Ok(Run::Opening) => sheet.count_stage(Stage::Open),
+            Ok(Run::Event(event)) => sheet.count(event, true),
+            Ok(Run::Judge { again }) => judged.count(again),
+            Ok(Run::Faulty) => return Ok(false),
+            Ok(Run::Ended { ending, spent }) => {
+                alike &= ending.is_like(base);
+                if spent {
+                    return Ok(alike);
+                }
+            }
+        }
+    }
+    Ok(false)
+}
+
+/// Tells what a run replied and its trace, with these tallies.
+fn tell_ending(
+    told: &mut String,
+    base: &Ending,
+    sheet: &Sheet,
+    judged: Tally,
+) -> Result<(), AllocError> {
+    writeln!(told, "run")?;
+    sheet.tell(told, &base.replies)?;
+    judged.tell(told, "judge")?;
+    writeln!(told, "{}", base.trace)
+}
+
+/// Tells of a run that ended so, and how often it was refused memory.
+fn tell_reruns<R: Alloc<A = Global> + Threads + Sync>(
+    rt: &R,
+    row: Row<'_, Event>,
+    base: &Ending,
+    told: &mut String,
+) -> Result<(), AllocError> {
+    let mut sheet = Sheet::new(rt.alloc(), row.calls.len())?;
+    let mut judged = Tally::NONE;
+    let ended = refuse_each(rt, row, base, &mut sheet, &mut judged)?;
+    tell_ending(told, base, &sheet, judged)?;
+    tell_end(told, ended)
+}
+
+/// Runs the events of a row with no growth refused, and tells of that run.
+fn tell_run<R: Alloc<A = Global> + Threads + Sync>(
+    rt: &R,
+    row: Row<'_, Event>,
+    told: &mut String,
+) -> Result<(), AllocError> {
+    match run_row(rt, row, MANY)? {
+        Ok(Run::Ended { ending, .. }) => tell_reruns(rt, row, &ending, told),
+        _ => writeln!(told, "not run"),
+    }
+}
+
+/// Tells what a run of a row replied to each event, its trace, and how often each was refused memory.
+pub(crate) fn tell_runs<R: Alloc<A = Global> + Threads + Sync>(
+    rt: &R,
+    case: Case<'_>,
+    told: &mut String,
+) -> Result<(), AllocError> {
+    match read(rt.alloc(), case) {
+        Ok((_grid, script)) => {
+            let (robots, calls) = (script.starts.len(), script.events.as_slice());
+            let row = Row {
+                case,
+                robots,
+                calls,
+            };
+            tell_run(rt, row, told)
+        }
+        Err(_) => writeln!(told, "no row"),
+    }
+}

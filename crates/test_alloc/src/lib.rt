@@ -1,0 +1,6 @@
+//! An allocator for tests: it refuses one allocation, so that a test can see what a call answers then.
+#![tactic(auto)]
+
+mod refusing;
+
+pub use test_alloc::Refusing;

@@ -1,0 +1,221 @@
+//! Fields that are kept: who comes again takes no memory, the longest unused goes first, and all go where memory is refused;
+//! and fields that are searched ahead.
+
+ghost use Rattle.fleet_grid.specs.Floor.{IsFloor};
+ghost use Rattle.fleet_field.specs.Store.{Keeps, Serves};
+
+use super::ring;
+use crate::floor::are_floor;
+use fleet_field::{FieldStore, Shelf};
+use fleet_grid::Grid;
+use test_alloc::Refusing;
+use std::alloc::{AllocError, Allocator, Global};
+use std::process::Abort;
+use std::thread::Threads;
+
+/// Holds the goal, asks how far the cell is, and releases the goal.
+fn visit<A: Allocator + Copy>(
+    store: &mut FieldStore<A>,
+    shelf: &mut Shelf<A>,
+    grid: &Grid,
+    goal: u32,
+    cell: u32,
+) -> Result<Option<u32>, AllocError>
+    requires floor { IsFloor grid.now goal }
+    requires serves { Serves grid.now store.old }
+    requires keeps { Keeps grid.now shelf.old }
+    ensures serves { Serves grid.now store.new }
+    ensures keeps { Keeps grid.now shelf.new }
+{
+    if !store.can_hold(goal) {
+        return Err(AllocError);
+    }
+    let key = store.hold_from(shelf, grid, goal)?;
+    if !store.is_held(key) {
+        return Err(AllocError);
+    }
+    let away = store.at(key, cell);
+    store.release_to(shelf, key);
+    Ok(away)
+}
+
+/// Whether the goal's field is kept. It is taken out.
+fn is_kept<A: Allocator + Copy>(shelf: &mut Shelf<A>, goal: u32) -> bool {
+    shelf.take(goal).is_some()
+}
+
+/// Visits cell 0 and then another: how far that is from cell 8, and whether the field of cell 0 is kept then; none where
+/// the first visit is refused.
+fn visit_both<A: Allocator + Copy>(
+    rt: &impl Abort,
+    store: &mut FieldStore<A>,
+    shelf: &mut Shelf<A>,
+    grid: &Grid,
+    other: u32,
+) -> Option<(Option<u32>, bool)>
+    requires zero { IsFloor grid.now 0 }
+    requires other { IsFloor grid.now other }
+    requires serves { Serves grid.now store.old }
+    requires keeps { Keeps grid.now shelf.old }
+{
+    if visit(store, shelf, grid, 0, 8).is_err() {
+        return None;
+    }
+    let away = visit(store, shelf, grid, other, 8).expect(rt, "memory for a field");
+    Some((away, is_kept(shelf, 0)))
+}
+
+/// Two visits over a heap.
+fn visit_both_over<A: Allocator + Copy>(
+    rt: &impl Abort,
+    heap: A,
+    grid: &Grid,
+    other: u32,
+) -> Option<(Option<u32>, bool)>
+    requires zero { IsFloor grid.now 0 }
+    requires other { IsFloor grid.now other }
+{
+    let mut store = FieldStore::new(heap).expect(rt, "memory for a store");
+    let mut shelf = Shelf::new(heap, 4096);
+    visit_both(rt, &mut store, &mut shelf, grid, other)
+}
+
+/// Where no growth was left behind the first visit, one in a second visit of the same cell would be refused.
+#[test]
+fn held_again_without_memory(rt: HostRuntime) {
+    let grid = ring(&rt, rt.alloc());
+    for before in 0..16 {
+        let heap = Refusing::after(rt.alloc(), before);
+        if let Some((away, is_kept)) = visit_both_over(&rt, &heap, &grid, 0) {
+            assert!(rt; away == Some(4) && is_kept);
+        }
+    }
+}
+
+/// Whatever growth of a search is refused, the search is made where a field was kept, which goes.
+#[test]
+fn kept_goes_before_want_of_memory(rt: HostRuntime) {
+    let grid = ring(&rt, rt.alloc());
+    let mut gone = 0;
+    for before in 0..16 {
+        let heap = Refusing::after(rt.alloc(), before);
+        if let Some((away, is_kept)) = visit_both_over(&rt, &heap, &grid, 2) {
+            assert!(rt; away == Some(2));
+            if !is_kept {
+                gone = before;
+            }
+        }
+    }
+    assert!(rt; gone > 0);
+}
+
+/// Whether the fields of cells 2, 0 and 8 are kept.
+fn take_corners(shelf: &mut Shelf) -> [bool; 3] {
+    [is_kept(shelf, 2), is_kept(shelf, 0), is_kept(shelf, 8)]
+}
+
+/// Visits cells 0 and 2, then cell 0 again, and then cell 8.
+fn visit_corners(
+    rt: &impl Abort,
+    store: &mut FieldStore,
+    shelf: &mut Shelf,
+    grid: &Grid,
+) -> [bool; 3]
+    requires zero { IsFloor grid.now 0 }
+    requires two { IsFloor grid.now 2 }
+    requires eight { IsFloor grid.now 8 }
+    requires serves { Serves grid.now store.old }
+    requires keeps { Keeps grid.now shelf.old }
+{
+    let _first = visit(store, shelf, grid, 0, 8).expect(rt, "memory for a field");
+    let _second = visit(store, shelf, grid, 2, 8).expect(rt, "memory for a field");
+    let _again = visit(store, shelf, grid, 0, 8).expect(rt, "memory for a field");
+    let _third = visit(store, shelf, grid, 8, 8).expect(rt, "memory for a field");
+    take_corners(shelf)
+}
+
+/// Two fields of nine cells have place.
+#[test]
+fn longest_unused_goes_first(rt: HostRuntime) {
+    let grid = ring(&rt, rt.alloc());
+    let mut store = FieldStore::new(rt.alloc()).expect(&rt, "memory for a store");
+    let mut shelf = Shelf::new(rt.alloc(), 26);
+    assert!(rt; visit_corners(&rt, &mut store, &mut shelf, &grid) == [false, true, true]);
+}
+
+/// Whether all these goals have a kept field where two fields have place.
+fn is_searched(
+    rt: &(impl Abort + Threads + Sync),
+    shelf: &mut Shelf,
+    grid: &Grid,
+    goals: &[u32],
+) -> bool
+    requires { Keeps grid.now shelf.old }
+    ensures { Keeps grid.now shelf.new }
+{
+    assert!(rt; are_floor(grid, goals));
+    shelf
+        .search_ahead(rt, grid, goals)
+        .expect(rt, "memory for fields")
+}
+
+fn visit_searched(rt: &impl Abort, alloc: Global, shelf: &mut Shelf, grid: &Grid) -> Option<u32>
+    requires floor { IsFloor grid.now 8 }
+    requires keeps { Keeps grid.now shelf.old }
+{
+    let mut store = FieldStore::new(alloc).expect(rt, "memory for a store");
+    visit(&mut store, shelf, grid, 8, 0).expect(rt, "memory for a field")
+}
+
+fn search_and_visit(
+    rt: &(impl Abort + Threads + Sync),
+    alloc: Global,
+    shelf: &mut Shelf,
+    grid: &Grid,
+)
+    requires floor { IsFloor grid.now 8 }
+    requires keeps { Keeps grid.now shelf.old }
+{
+    assert!(rt; is_searched(rt, shelf, grid, &[0, 2]));
+    assert!(rt; !is_searched(rt, shelf, grid, &[0, 8, 2]));
+    assert!(rt; visit_searched(rt, alloc, shelf, grid) == Some(4));
+    assert!(rt; take_corners(shelf) == [false, true, true]);
+}
+
+/// Two fields have place. What was searched ahead is found, and the longest unused of other goals made way.
+#[test]
+fn searched_ahead(rt: HostRuntime) {
+    let grid = ring(&rt, rt.alloc());
+    let mut shelf = Shelf::new(rt.alloc(), 26);
+    search_and_visit(&rt, rt.alloc(), &mut shelf, &grid);
+}
+
+/// Whether a field is kept until fewer bytes are.
+fn keep_less(rt: &impl Abort, alloc: Global, store: &mut FieldStore, grid: &Grid) -> bool
+    requires floor { IsFloor grid.now 0 }
+    requires serves { Serves grid.now store.old }
+    ensures serves { Serves grid.now store.new }
+{
+    let mut shelf = Shelf::new(alloc, 4096);
+    let _kept = visit(store, &mut shelf, grid, 0, 8).expect(rt, "memory for a field");
+    shelf.keep(8);
+    is_kept(&mut shelf, 0)
+}
+
+/// Whether a field is kept in too few bytes for one.
+fn keep_none(rt: &impl Abort, alloc: Global, store: &mut FieldStore, grid: &Grid) -> bool
+    requires floor { IsFloor grid.now 2 }
+    requires serves { Serves grid.now store.old }
+{
+    let mut small = Shelf::new(alloc, 8);
+    let _gone = visit(store, &mut small, grid, 2, 8).expect(rt, "memory for a field");
+    is_kept(&mut small, 2)
+}
+
+#[test]
+fn nothing_is_kept(rt: HostRuntime) {
+    let grid = ring(&rt, rt.alloc());
+    let mut store = FieldStore::new(rt.alloc()).expect(&rt, "memory for a store");
+    assert!(rt; !keep_less(&rt, rt.alloc(), &mut store, &grid));
+    assert!(rt; !keep_none(&rt, rt.alloc(), &mut store, &grid));
+}

@@ -1,0 +1,89 @@
+//! Each growth of a store is refused in turn.
+
+ghost use Rattle.std.specs.Prelude.{◌≡◌, []};
+ghost use Rattle.fleet_grid.specs.Floor.{IsFloor};
+ghost use Rattle.fleet_field.specs.Store.{Serves};
+
+use super::{SHARED, hold, ring};
+use crate::floor::are_floor;
+use fleet_field::FieldStore;
+use fleet_grid::Grid;
+use test_alloc::Refusing;
+use std::alloc::Allocator;
+use std::process::Abort;
+use std::thread::Threads;
+
+/// Holds cell 0 while one growth is refused, and once more. Whether one was refused.
+fn hold_twice<A: Allocator + Copy>(rt: &impl Abort, store: &mut FieldStore<A>, grid: &Grid) -> bool
+    requires floor { IsFloor grid.now 0 }
+    requires serves { Serves grid.now store.old }
+{
+    let met = hold(store, grid, 0).is_err();
+    let key = hold(store, grid, 0).expect(rt, "memory for a field");
+    assert!(rt; store.at(key, 8) == Some(4));
+    met
+}
+
+fn is_refused(rt: &impl Abort, heap: impl Allocator + Copy, grid: &Grid) -> bool
+    requires { IsFloor grid.now 0 }
+{
+    let mut store = FieldStore::new(heap).expect(rt, "memory for a store");
+    hold_twice(rt, &mut store, grid)
+}
+
+#[test]
+fn refused_growths(rt: HostRuntime) {
+    let grid = ring(&rt, rt.alloc());
+    let mut refused = 0;
+    for before in 0..32 {
+        if is_refused(&rt, &Refusing::after(rt.alloc(), before), &grid) {
+            refused = before + 1;
+        }
+    }
+    assert!(rt; refused < 32);
+}
+
+fn check_ends<A: Allocator + Copy>(rt: &impl Abort, store: &FieldStore<A>, keys: &[usize]) {
+    assert!(rt; keys.len() == 3 && keys[0] == keys[2]);
+    assert!(rt; store.is_held(keys[1]) && store.at(keys[1], 0) == Some(4));
+}
+
+/// Holds all goals of a list, while one growth is refused, and once more where it was. Whether it was.
+fn hold_all_twice<A: Allocator + Copy + Send + Sync>(
+    rt: &(impl Abort + Threads + Sync),
+    store: &mut FieldStore<A>,
+    grid: &Grid,
+) -> bool
+    requires { store.old ≡ [] }
+{
+    assert!(rt; are_floor(grid, &SHARED));
+    if store.hold_all(rt, grid, &SHARED).is_ok() {
+        return false;
+    }
+    let keys = store
+        .hold_all(rt, grid, &SHARED)
+        .expect(rt, "memory for fields");
+    check_ends(rt, store, &keys);
+    true
+}
+
+fn are_refused(
+    rt: &(impl Abort + Threads + Sync),
+    heap: impl Allocator + Copy + Send + Sync,
+    grid: &Grid,
+) -> bool {
+    let mut store = FieldStore::new(heap).expect(rt, "memory for a store");
+    hold_all_twice(rt, &mut store, grid)
+}
+
+#[test]
+fn refused_growths_of_several(rt: HostRuntime) {
+    let grid = ring(&rt, rt.alloc());
+    let mut refused = 0;
+    for before in 0..32 {
+        if are_refused(&rt, &Refusing::after(rt.alloc(), before), &grid) {
+            refused = before + 1;
+        }
+    }
+    assert!(rt; refused < 32);
+}

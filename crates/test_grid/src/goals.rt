@@ -1,0 +1,218 @@
+//! Goals given and turned, robots that share a goal, and each growth refused in turn.
+
+mod allowed;
+
+ghost use Rattle.std.specs.Prelude.{◌≡◌, ◌<◌, length};
+ghost use Rattle.fleet_field.specs.Store.{Keeps};
+ghost use Rattle.fleet_goals.specs.Aims.{AreOn};
+
+use crate::floor::grid_of;
+use allowed::are_allowed;
+use fleet_field::Shelf;
+use fleet_goals::{Aims, Turn};
+use fleet_grid::Grid;
+use fleet_pibt::Goals;
+use test_alloc::Refusing;
+use std::alloc::{AllocError, Allocator, Global};
+use std::process::Abort;
+
+/// The map `.../.@./...`.
+fn ring(rt: &impl Abort, alloc: Global) -> Grid {
+    grid_of(rt, alloc, 3, 3, b"....@....")
+}
+
+/// A turn of each of two robots.
+fn both(first: Option<u32>, second: Option<u32>) -> [Turn; 2] {
+    [
+        Turn {
+            robot: 0,
+            goal: first,
+        },
+        Turn {
+            robot: 1,
+            goal: second,
+        },
+    ]
+}
+
+/// Gives the robot, one of two, the goal 8.
+fn aim_at_corner<A: Allocator + Copy>(
+    rt: &impl Abort,
+    aims: &mut Aims<A>,
+    shelf: &mut Shelf<A>,
+    grid: &Grid,
+    robot: u32,
+) -> Result<(), AllocError>
+    requires known { robot < 2 }
+    requires robots { length aims.old ≡ 2 }
+    requires on { AreOn grid.now aims.old }
+    requires keeps { Keeps grid.now shelf.old }
+    ensures robots { length aims.new ≡ 2 }
+    ensures on { AreOn grid.now aims.new }
+    ensures keeps { Keeps grid.now shelf.new }
+{
+    assert!(rt; grid.is_floor(8));
+    aims.aim(shelf, grid, robot, 8)
+}
+
+/// Turns two robots.
+fn turn_both<A: Allocator + Copy>(
+    rt: &impl Abort,
+    aims: &mut Aims<A>,
+    shelf: &mut Shelf<A>,
+    grid: &Grid,
+    turns: &[Turn; 2],
+) -> Result<(), AllocError>
+    requires robots { length aims.old ≡ 2 }
+    requires on { AreOn grid.now aims.old }
+    requires keeps { Keeps grid.now shelf.old }
+    ensures robots { length aims.new ≡ 2 }
+    ensures on { AreOn grid.now aims.new }
+    ensures keeps { Keeps grid.now shelf.new }
+{
+    assert!(rt; are_allowed(grid, 2, turns));
+    aims.turn(shelf, grid, turns)
+}
+
+/// Whether the two robots have these goals.
+fn have_goals<A: Allocator + Copy>(aims: &Aims<A>, first: Option<u32>, second: Option<u32>) -> bool
+    requires { length aims.now ≡ 2 }
+{
+    aims.goal(0) == first && aims.goal(1) == second
+}
+
+/// Whether a robot's goal is so far from the cell.
+fn is_away<A: Allocator + Copy>(aims: &Aims<A>, robot: u32, cell: u32, away: Option<u32>) -> bool
+    requires known { robot < 2 }
+    requires robots { length aims.now ≡ 2 }
+{
+    aims.at(robot, cell) == away
+}
+
+/// Robot 0 has the goal 8, and robot 1 has none.
+fn check_aimed<A: Allocator + Copy>(rt: &impl Abort, aims: &Aims<A>, grid: &Grid)
+    requires robots { length aims.now ≡ 2 }
+    requires on { AreOn grid.now aims.now }
+{
+    assert!(rt; have_goals(aims, Some(8), None));
+    assert!(rt; is_away(aims, 0, 0, Some(4)));
+    assert!(rt; is_away(aims, 0, 5, Some(1)));
+    assert!(rt; is_away(aims, 0, 4, None));
+    // East and south.
+    assert!(rt; aims.ways(grid, 0, 0) == 6 && aims.ways(grid, 1, 0) == 0);
+}
+
+/// Robot 0 is given the goal 8, then robot 1, and then robot 0 is turned to cell 1.
+fn aim_and_turn<A: Allocator + Copy>(
+    rt: &impl Abort,
+    aims: &mut Aims<A>,
+    shelf: &mut Shelf<A>,
+    grid: &Grid,
+)
+    requires robots { length aims.old ≡ 2 }
+    requires on { AreOn grid.now aims.old }
+    requires keeps { Keeps grid.now shelf.old }
+{
+    assert!(rt; have_goals(aims, None, None) && is_away(aims, 0, 8, None));
+    aim_at_corner(rt, aims, shelf, grid, 0).expect(rt, "memory for a goal");
+    check_aimed(rt, aims, grid);
+    aim_at_corner(rt, aims, shelf, grid, 1).expect(rt, "memory for a goal");
+    turn_both(rt, aims, shelf, grid, &both(Some(1), Some(8))).expect(rt, "memory for goals");
+    assert!(rt; have_goals(aims, Some(1), Some(8)));
+    assert!(rt; is_away(aims, 0, 8, Some(3)) && is_away(aims, 1, 1, Some(3)));
+}
+
+fn aim_and_turn_over(rt: &impl Abort, alloc: impl Allocator + Copy, grid: &Grid) {
+    let mut aims = Aims::new(alloc, 2).expect(rt, "memory for robots");
+    let mut shelf = Shelf::new(alloc, 4096);
+    aim_and_turn(rt, &mut aims, &mut shelf, grid);
+}
+
+#[test]
+fn aimed_and_turned(rt: HostRuntime) {
+    let grid = ring(&rt, rt.alloc());
+    aim_and_turn_over(&rt, rt.alloc(), &grid);
+}
+
+/// What robot 0 aims at behind a turn to cell 1, which may be refused.
+fn goal_after(refused: bool) -> u32 {
+    if refused { 8 } else { 1 }
+}
+
+/// Whether a growth is refused while robots are given goals and turned to others. What is refused changes nothing.
+fn is_turn_refused<A: Allocator + Copy>(
+    rt: &impl Abort,
+    aims: &mut Aims<A>,
+    shelf: &mut Shelf<A>,
+    grid: &Grid,
+) -> bool
+    requires robots { length aims.old ≡ 2 }
+    requires on { AreOn grid.now aims.old }
+    requires keeps { Keeps grid.now shelf.old }
+{
+    let first = aim_at_corner(rt, aims, shelf, grid, 0).is_err();
+    assert!(rt; aims.goal(0).is_none() == first);
+    aim_at_corner(rt, aims, shelf, grid, 0).expect(rt, "memory for a goal");
+    let turns = both(Some(1), Some(5));
+    let second = turn_both(rt, aims, shelf, grid, &turns).is_err();
+    assert!(rt; aims.goal(0) == Some(goal_after(second)));
+    turn_both(rt, aims, shelf, grid, &turns).expect(rt, "memory for goals");
+    assert!(rt; is_away(aims, 0, 0, Some(1)) && is_away(aims, 1, 8, Some(1)));
+    first || second
+}
+
+fn is_refused(rt: &impl Abort, heap: impl Allocator + Copy, grid: &Grid) -> bool {
+    let Ok(mut aims) = Aims::new(heap, 2) else {
+        return true;
+    };
+    let mut shelf = Shelf::new(heap, 4096);
+    is_turn_refused(rt, &mut aims, &mut shelf, grid)
+}
+
+#[test]
+fn refused_growths(rt: HostRuntime) {
+    let grid = ring(&rt, rt.alloc());
+    let mut refused = 0;
+    for before in 0..32 {
+        if is_refused(&rt, &Refusing::after(rt.alloc(), before), &grid) {
+            refused = before + 1;
+        }
+    }
+    assert!(rt; refused < 32);
+}
+
+/// Turns a robot to the goal that it has, and to none. Where no growth was left behind the goal's own, one here would be
+/// refused.
+fn turn_without_memory<A: Allocator + Copy>(
+    rt: &impl Abort,
+    aims: &mut Aims<A>,
+    shelf: &mut Shelf<A>,
+    grid: &Grid,
+)
+    requires robots { length aims.old ≡ 2 }
+    requires on { AreOn grid.now aims.old }
+    requires keeps { Keeps grid.now shelf.old }
+{
+    let Ok(()) = aim_at_corner(rt, aims, shelf, grid, 0) else {
+        return;
+    };
+    assert!(rt; turn_both(rt, aims, shelf, grid, &both(Some(8), None)).is_ok());
+    assert!(rt; turn_both(rt, aims, shelf, grid, &both(None, None)).is_ok());
+}
+
+fn turn_over(rt: &impl Abort, heap: impl Allocator + Copy, grid: &Grid) {
+    let Ok(mut aims) = Aims::new(heap, 2) else {
+        return;
+    };
+    let mut shelf = Shelf::new(heap, 4096);
+    turn_without_memory(rt, &mut aims, &mut shelf, grid);
+}
+
+/// Robots that keep their goals, share one, or lose them, take no memory.
+#[test]
+fn turned_without_memory(rt: HostRuntime) {
+    let grid = ring(&rt, rt.alloc());
+    for before in 0..8 {
+        turn_over(&rt, &Refusing::after(rt.alloc(), before), &grid);
+    }
+}
