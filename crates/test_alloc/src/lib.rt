@@ -3,4 +3,4 @@
 
 mod refusing;
 
-pub use test_alloc::Refusing;
+pub use refusing::Refusing;
