@@ -1,5 +1,5 @@
 -- How fields are put in, and uses counted.
-use Rattle.std.proofs.Common.{◌≡◌, ◌≢◌, ℕ, zero, suc, ◌+◌, ◌<◌, ◌≤◌, ◌⊎◌, inl, inr, ◌==◌, Bool, true, false, cond, List, [], ◌∷◌, ◌++◌, length, take, get_or, slice_index, Option, Some, None, MatchOption, refl, sym, ap, subst, ◌∙◌, arith}
+use Rattle.std.proofs.Common.{◌≡◌, ◌≢◌, ℕ, zero, suc, ◌+◌, ◌-◌, ◌<◌, ◌≤◌, ◌⊎◌, inl, inr, ◌==◌, Bool, true, false, cond, List, [], ◌∷◌, ◌++◌, length, take, get_or, slice_index, Option, Some, None, MatchOption, refl, sym, ap, subst, ◌∙◌, arith}
 use Rattle.std.specs.List.{Contains}
 use Rattle.std.proofs.lemmas.Bool.{cases_eq, eq-eqb, ne_eqb}
 use Rattle.std.proofs.lemmas.List.{take_more, length_push}
@@ -10,8 +10,8 @@ use Rattle.std.proofs.Math.Seq.{get_or-append_seam}
 use Rattle.fleet_grid.specs.Floor.{Floor}
 use Rattle.fleet_field.specs.Field.{Aim, aim_of, IsField}
 use Rattle.fleet_field.specs.declared.store.Held.{Held}
-use Rattle.fleet_field.specs.Store.{shown, Serves, IsOnce}
-use Rattle.fleet_field.specs.Several.{AreFields, AreHeld, times}
+use Rattle.fleet_field.specs.Store.{shown, Serves, IsOnce, HasUsesLeft}
+use Rattle.fleet_field.specs.Several.{AreFields, AreHeld, HaveUsesLeft, times}
 use Rattle.fleet_field.specs.inside.Uses.{HasGoal, IsOneOf, IsFilled, IsUsed, IsUsedOnce, AreShown}
 use Rattle.fleet_field.proofs.Shares.{some_once, none_some, once_new, once_same}
 
@@ -175,15 +175,6 @@ fields_count m [] (f ∷ fs) z = absurd z
 fields_count m (g ∷ gs) [] z = absurd z
 fields_count m (g ∷ gs) (f ∷ fs) z = ap suc (fields_count m gs fs z.1)
 
-pub fields_push : (m : Floor) (goals : List ℕ) (fields : List Aim) (g : ℕ) (f : Aim) → AreFields m goals fields → IsField m g f → AreFields m (goals ++ g ∷ []) (fields ++ f ∷ [])
-fields_push m [] [] g f z right = (right, tt)
-fields_push m [] (x ∷ xs) g f z right = absurd z
-fields_push m (a ∷ rest) [] g f z right = absurd z
-fields_push m (a ∷ rest) (x ∷ xs) g f z right = (z.0, fields_push m rest xs g f z.1 right)
-
-pub fields_more : (m : Floor) (goals : List ℕ) (fields : List Aim) (i : ℕ) (f : Aim) → i < length goals → AreFields m (take i goals) fields → IsField m (slice_index goals i) f → AreFields m (take (i + 1) goals) (fields ++ f ∷ [])
-fields_more m goals fields i f less z right = subst (λ (xs : List ℕ). AreFields m xs (fields ++ f ∷ [])) (sym (take_more goals i 0 less)) (fields_push m (take i goals) fields (slice_index goals i) f z right)
-
 module _ (m : Floor) (goals missing : List ℕ) (fields : List Aim) (old mid new : List (Option (Held Aim))) (keys : List ℕ)
     (made : AreFields m missing fields) (only : (i : ℕ) → i < length missing → IsOneOf goals (slice_index missing i))
     (filled : IsFilled fields old mid) (used : IsUsed goals mid new) (s : AreShown goals new keys) where
@@ -226,45 +217,51 @@ module _ (m : Floor) (goals missing : List ℕ) (fields : List Aim) (old mid new
   ]
 
 -- no use overflows
-times_few : (goals : List ℕ) (a i : ℕ) → i ≤ length goals → times (take i goals) a ≤ i
-times_few goals a zero within = let e : times (take 0 goals) a ≡ 0 = refl in omega (arith, e)
-times_few goals a (suc i) within = subst (λ (n : ℕ). times (take n goals) a ≤ n) (next i) (
+times_up_to : (goals : List ℕ) (a i : ℕ) → i ≤ length goals → times (take i goals) a ≤ i
+times_up_to goals a zero within = let e : times (take 0 goals) a ≡ 0 = refl in omega (arith, e)
+times_up_to goals a (suc i) within = subst (λ (n : ℕ). times (take n goals) a ≤ n) (next i) (
     let t = times_more goals i a (omega (arith, within)) in
-    let r = times_few goals a i (omega (arith, within)) in
+    let r = times_up_to goals a i (omega (arith, within)) in
     let o = one_if_few (slice_index goals i == a) in
     omega (arith, t, r, o))
   where
     next : (i : ℕ) → i + 1 ≡ suc i
     next i = omega arith
 
+-- a goal is no more often among these than they are
+pub times_few : (goals : List ℕ) (a : ℕ) → times goals a ≤ length goals
+times_few goals a = subst (λ (xs : List ℕ). times xs a ≤ length goals) (take_whole goals) (times_up_to goals a (length goals) (omega arith))
+
+-- where nothing is held, few goals can be
+pub few_new : (goals : List ℕ) → length goals < 4294967296 → HaveUsesLeft [] goals
+few_new goals small aimed = (let t = times_few goals aimed in omega (arith, t, small), λ key held e _. absurd (none_some held None refl e))
+
+times_below : (goals : List ℕ) (a : ℕ) (i k : ℕ) → i + k ≡ length goals → times (take i goals) a ≤ times goals a
+times_below goals a i zero e = subst (λ (n : ℕ). times (take n goals) a ≤ times goals a) (omega (arith, e)) (subst (λ (xs : List ℕ). times xs a ≤ times goals a) (sym (take_whole goals)) (omega arith))
+times_below goals a i (suc k) e =
+    let t = times_more goals i a (omega (arith, e)) in
+    let r = times_below goals a (i + 1) k (omega (arith, e)) in
+    omega (arith, t, r)
+
 pub uses_few : (goals : List ℕ) (i : ℕ) (old cur : List (Option (Held Aim))) → IsUsed (take i goals) old cur → i < length goals
-    → ((key : ℕ) (at : Held Aim) → shown old key ≡ Some at → at.uses + length goals < 4294967296) → (key : ℕ) (at : Held Aim) → shown cur key ≡ Some at → at.uses + 1 < 4294967296
-uses_few goals i old cur used less few key at e = elim (something (shown old key)) [
+    → HaveUsesLeft old goals → HasUsesLeft cur (slice_index goals i) 1
+uses_few goals i old cur used less few key at e is = elim (something (shown old key)) [
   | inl none ↦ absurd (none_some at (shown cur key) (used.none key none) e)
   | inr was ↦ (
       let one : record was.0 { uses = was.0.uses + times (take i goals) was.0.field.goal } ≡ at = some_once (record was.0 { uses = was.0.uses + times (take i goals) was.0.field.goal }) at (sym (used.more key was.0 was.1) ∙ e) in
       let uses : was.0.uses + times (take i goals) was.0.field.goal ≡ at.uses = ap (λ (h : Held Aim). h.uses) one in
-      let t = times_few goals was.0.field.goal i (omega (arith, less)) in
-      let f = few key was.0 was.1 in
-      omega (arith, uses, t, f, less))
+      let same : slice_index goals i ≡ was.0.field.goal = sym (ap (λ (h : Held Aim). h.field.goal) one ∙ is) in
+      let yes : one_if (slice_index goals i == was.0.field.goal) ≡ 1 = ap one_if (eq-eqb (slice_index goals i) was.0.field.goal same) in
+      let t = times_more goals i was.0.field.goal less in
+      let b = times_below goals was.0.field.goal (i + 1) (length goals - (i + 1)) (omega (arith, less)) in
+      let f = (few was.0.field.goal).1 key was.0 was.1 refl in
+      omega (arith, uses, yes, t, b, f))
 ]
 
-pub few_filled : (fields : List Aim) (n : ℕ) (old mid : List (Option (Held Aim))) → IsFilled fields old mid → n < 4294967296
-    → ((key : ℕ) (at : Held Aim) → shown old key ≡ Some at → at.uses + n < 4294967296) → (key : ℕ) (at : Held Aim) → shown mid key ≡ Some at → at.uses + n < 4294967296
-few_filled fields n old mid filled small few key at e = elim (something (shown old key)) [
-  | inl none ↦ (let z = (filled.fresh key at none e).0 in omega (arith, z, small))
-  | inr was ↦ (let one : was.0 ≡ at = some_once was.0 at (sym (filled.kept key was.0 was.1) ∙ e) in subst (λ (h : Held Aim). h.uses + n < 4294967296) one (few key was.0 was.1))
-]
-
--- each goal has its field
-pub there_all : (m : Floor) (goals missing : List ℕ) (fields : List Aim) (old mid : List (Option (Held Aim))) → AreFields m missing fields → IsFilled fields old mid
-    → ((field : Aim) → Contains fields field → HasGoal mid field.goal) → ((i : ℕ) → i < length goals → HasGoal old (slice_index goals i) ⊎ IsOneOf missing (slice_index goals i))
-    → (i : ℕ) → i < length goals → HasGoal mid (slice_index goals i)
-there_all m goals missing fields old mid made filled there each i less = elim (each i less) [
-  | inl has ↦ still_there fields old mid (slice_index goals i) filled has
-  | inr one ↦ (
-      let inside : one.0 < length fields = omega (arith, one.1, fields_count m missing fields made) in
-      let field : Aim = get_or fields one.0 (aim_of 0 []) in
-      let right : IsField m (slice_index missing one.0) field = each_field m missing fields made one.0 (aim_of 0 []) inside in
-      subst (HasGoal mid) (right.goal ∙ one.2) (there field (Contains-get_or fields one.0 (aim_of 0 []) inside)))
-]
+pub few_filled : (fields : List Aim) (goals : List ℕ) (old mid : List (Option (Held Aim))) → IsFilled fields old mid → HaveUsesLeft old goals → HaveUsesLeft mid goals
+few_filled fields goals old mid filled few aimed = ((few aimed).0, λ key at e is. elim (something (shown old key)) [
+  | inl none ↦ (let z = (filled.fresh key at none e).0 in let s = (few aimed).0 in omega (arith, z, s))
+  | inr was ↦ (
+      let one : was.0 ≡ at = some_once was.0 at (sym (filled.kept key was.0 was.1) ∙ e) in
+      subst (λ (h : Held Aim). h.field.goal ≡ aimed → h.uses + times goals aimed < 4294967296) one ((few aimed).1 key was.0 was.1) is)
+])

@@ -1,9 +1,9 @@
 -- Several fields, and several holds.
-use Rattle.std.specs.Prelude.{◌≡◌, ℕ, ◌+◌, ◌<◌, ◌==◌, List, Option, Some, None, length, slice_index, count_by}
+use Rattle.std.specs.Prelude.{◌≡◌, ℕ, ◌+◌, ◌^◌, ◌<◌, ◌==◌, List, Option, Some, None, length, slice_index, count_by}
 use Rattle.std.specs.List.{AllZip}
 use Rattle.fleet_grid.specs.Floor.{Floor}
 use Rattle.fleet_field.specs.Field.{Aim, IsField}
-use Rattle.fleet_field.specs.Store.{shown}
+use Rattle.fleet_field.specs.Store.{shown, HasUsesLeft}
 use Rattle.fleet_field.specs.declared.store.Held.{Held}
 
 -- for each goal in turn its field
@@ -13,6 +13,10 @@ AreFields m goals fields = AllZip (IsField m) goals fields
 -- how often a goal is among these
 abbrev pub times : List ℕ → ℕ → ℕ
 times goals aimed = count_by (λ goal. goal == aimed) goals
+
+-- with one hold more for each of the goals, each goal is held fewer than 2^32 times
+abbrev pub HaveUsesLeft : List (Option (Held Aim)) → List ℕ → Type 0
+HaveUsesLeft store goals = (aimed : ℕ) → (times goals aimed < 2 ^ 32) × HasUsesLeft store aimed (times goals aimed)
 
 -- holds of several goals, each with its key: a key that showed a field shows it still, and as many holds more as its goal
 -- is among them; a key that showed nothing shows nothing, or one of the goals with as many holds

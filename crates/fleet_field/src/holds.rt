@@ -2,7 +2,8 @@
 
 ghost use Rattle.std.specs.Prelude.{◌≡◌, ◌≢◌, ◌≤◌, ◌⊎◌, ℕ, ◌+◌, ◌<◌, ◌^◌, [], ◌∷◌, None, Some, true, false, length, vec_len, vec_capacity, slice_index, IfOk, OnErr, IsSome, MatchOption};
 ghost use Rattle.fleet_field.specs.Field.{Aim};
-ghost use Rattle.fleet_field.specs.Store.{IsOnce};
+ghost use Rattle.fleet_field.specs.Several.{HaveUsesLeft};
+ghost use Rattle.fleet_field.specs.Store.{IsOnce, HasUsesLeft};
 ghost use Rattle.fleet_field.specs.inside.Uses.{HasGoal, HasFieldOf, IsOneOf, IsFilled, IsUsed, IsUsedOnce, AreShown, AreUsed};
 ghost use Rattle.slab.specs.Slab.{get, slab_len, HasRoomFor};
 ghost use Rattle.std.specs.List.{Contains};
@@ -124,7 +125,7 @@ fn put_all<A: Allocator + Copy>(
 fn use_goal<A: Allocator + Copy>(held: &mut Slab<Held<Compass<A>>, A>, goal: u32) -> usize
     requires once { IsOnce held.old.slots }
     requires there { HasGoal held.old.slots goal }
-    requires fewer { (key : ℕ) → (at : HeldView Aim) → get held.old key ≡ Some at → at.uses + 1 < 2 ^ 32 }
+    requires fewer { HasUsesLeft held.old.slots goal 1 }
     ensures used { IsUsedOnce goal held.old.slots held.new.slots }
     ensures shows { (at : HeldView Aim) × (get held.new result ≡ Some at) × (at.field.goal ≡ goal) }
 {
@@ -145,7 +146,7 @@ fn use_all<A: Allocator + Copy>(
 )
     requires once { IsOnce held.old.slots }
     requires there { (i : ℕ) → i < length goals.now → HasGoal held.old.slots (slice_index goals.now i) }
-    requires fewer { (key : ℕ) → (at : HeldView Aim) → get held.old key ≡ Some at → at.uses + length goals.now < 2 ^ 32 }
+    requires fewer { HaveUsesLeft held.old.slots goals.now }
     requires room { length goals.now ≤ vec_capacity keys.old }
     requires empty { keys.old.items ≡ [] }
     ensures used { IsUsed goals.now held.old.slots held.new.slots }
@@ -166,8 +167,7 @@ pub(crate) fn hold_with<A: Allocator + Copy>(
 ) -> Result<Vec<usize, A>, AllocError>
     requires once { IsOnce held.old.slots }
     requires each { (i : ℕ) → i < length goals.now → HasGoal held.old.slots (slice_index goals.now i) ⊎ HasFieldOf fields.items (slice_index goals.now i) }
-    requires few { length goals.now < 2 ^ 32 }
-    requires fewer { (key : ℕ) → (at : HeldView Aim) → get held.old key ≡ Some at → at.uses + length goals.now < 2 ^ 32 }
+    requires fewer { HaveUsesLeft held.old.slots goals.now }
     ensures used { IfOk result (λ keys. AreUsed fields.items goals.now held.old.slots held.new.slots keys.items) }
     ensures refused { OnErr result (held.new.slots ≡ held.old.slots) }
 {

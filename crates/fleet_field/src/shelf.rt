@@ -4,7 +4,6 @@ ghost use Rattle.std.specs.Prelude.{◌≡◌, ◌⊎◌, ◌↔◌, ℕ, ◌<�
 ghost use Rattle.std.specs.List.{All, Contains};
 ghost use Rattle.fleet_grid.specs.Floor.{Floor, IsFloor};
 ghost use Rattle.fleet_field.specs.Field.{Aim, IsField};
-ghost use Rattle.fleet_field.specs.Several.{AreFields};
 ghost use Rattle.fleet_field.specs.Shelf.{cells_kept, places, HasKept, AreKept, IsFieldOf};
 ghost use Rattle.fleet_field.specs.Store.{Keeps};
 ghost use Rattle.fleet_field.specs.inside.Uses.{IsOneOf};
@@ -156,28 +155,6 @@ impl<A: Allocator + Copy> Shelf<A> {
         self.search(grid, goal, out)
     }
 
-    /// The fields of several goals, one after another, as `field` gives each.
-    pub(crate) fn fields<B: Allocator + Copy>(
-        &mut self,
-        grid: &Grid<B>,
-        goals: &[u32],
-        out: usize,
-    ) -> Result<Vec<Compass<A>, A>, AllocError>
-        requires floor { (i : ℕ) → i < length goals.now → IsFloor grid.now (slice_index goals.now i) }
-        requires keeps { Keeps grid.now self.old }
-        ensures fields { IfOk result (λ fields. AreFields grid.now goals.now fields.items) }
-        ensures keeps { Keeps grid.now self.new }
-    {
-        let mut fields = Vec::with_capacity(*self.kept.allocator(), goals.len())?;
-        for goal in goals {
-            let field = self.field(grid, *goal, out)?;
-            fields.push_reserved(field);
-        }
-        Ok(fields)
-    }
-}
-
-impl<A: Allocator + Copy> Shelf<A> {
     /// Whether each of the goals has a kept field.
     fn has_all(&self, goals: &[u32]) -> bool
         ensures { IsTrue result ↔ AreKept goals.now self.now }

@@ -5,7 +5,7 @@ ghost use Rattle.fleet_grid.specs.Floor.{Floor, IsFloor};
 ghost use Rattle.fleet_grid.specs.Ways.{AreNearer};
 ghost use Rattle.fleet_field.specs.Field.{Aim};
 ghost use Rattle.fleet_field.specs.Store.{shown, Serves, Keeps, IsOnce, IsHold, IsRelease, HasUsesLeft};
-ghost use Rattle.fleet_field.specs.Several.{AreHeld};
+ghost use Rattle.fleet_field.specs.Several.{AreHeld, HaveUsesLeft};
 ghost use Rattle.fleet_field.specs.declared.store.Held.{Held as HeldView};
 
 use crate::compass::Compass;
@@ -167,7 +167,7 @@ impl<A: Allocator + Copy> FieldStore<A> {
 
 impl<A: Allocator + Copy + Send + Sync> FieldStore<A> {
     /// Holds the fields of several goals, floor cells, and gives their keys in turn. Fields that the store has not are
-    /// searched together. Each goal is held fewer than 2^32 times at once.
+    /// searched together, side by side. Each goal is held fewer than 2^32 times at once, these holds counted.
     pub fn hold_all<B: Allocator + Copy + Send + Sync>(
         &mut self,
         rt: &(impl Threads + Sync),
@@ -176,8 +176,7 @@ impl<A: Allocator + Copy + Send + Sync> FieldStore<A> {
     ) -> Result<Vec<usize, A>, AllocError>
         requires floor { (i : ℕ) → i < length goals.now → IsFloor grid.now (slice_index goals.now i) }
         requires serves { Serves grid.now self.old }
-        requires few { length goals.now < 2 ^ 32 }
-        requires fewer { (key : ℕ) → (held : HeldView Aim) → shown self.old key ≡ Some held → held.uses + length goals.now < 2 ^ 32 }
+        requires fewer { HaveUsesLeft self.old goals.now }
         ensures held { IfOk result (λ keys. AreHeld goals.now self.old keys.items self.new) }
         ensures serves { Serves grid.now self.new }
         ensures once { OnOk result (IsOnce self.new) }
@@ -185,51 +184,6 @@ impl<A: Allocator + Copy + Send + Sync> FieldStore<A> {
     {
         let missing = missing_of(self.alloc, &self.held, goals)?;
         let fresh = compasses(rt, self.alloc, grid, &missing)?;
-        hold_with(self.alloc, &mut self.held, fresh, goals)
-    }
-}
-
-impl<A: Allocator + Copy> FieldStore<A> {
-    /// Holds the fields of several goals, floor cells, and gives their keys in turn, as `hold_all` does. Fields that the
-    /// store has not are searched one after another. Each goal is held fewer than 2^32 times at once.
-    pub fn hold_each<B: Allocator + Copy>(
-        &mut self,
-        grid: &Grid<B>,
-        goals: &[u32],
-    ) -> Result<Vec<usize, A>, AllocError>
-        requires floor { (i : ℕ) → i < length goals.now → IsFloor grid.now (slice_index goals.now i) }
-        requires serves { Serves grid.now self.old }
-        requires few { length goals.now < 2 ^ 32 }
-        requires fewer { (key : ℕ) → (held : HeldView Aim) → shown self.old key ≡ Some held → held.uses + length goals.now < 2 ^ 32 }
-        ensures held { IfOk result (λ keys. AreHeld goals.now self.old keys.items self.new) }
-        ensures serves { Serves grid.now self.new }
-        ensures once { OnOk result (IsOnce self.new) }
-        ensures refused { OnErr result (self.new ≡ self.old) }
-    {
-        self.hold_each_from(&mut Shelf::new(self.alloc, 0), grid, goals)
-    }
-
-    /// Holds the fields of several goals, as `hold_each` does; fields that are kept take no search.
-    pub fn hold_each_from<B: Allocator + Copy>(
-        &mut self,
-        shelf: &mut Shelf<A>,
-        grid: &Grid<B>,
-        goals: &[u32],
-    ) -> Result<Vec<usize, A>, AllocError>
-        requires floor { (i : ℕ) → i < length goals.now → IsFloor grid.now (slice_index goals.now i) }
-        requires serves { Serves grid.now self.old }
-        requires keeps { Keeps grid.now shelf.old }
-        requires few { length goals.now < 2 ^ 32 }
-        requires fewer { (key : ℕ) → (held : HeldView Aim) → shown self.old key ≡ Some held → held.uses + length goals.now < 2 ^ 32 }
-        ensures held { IfOk result (λ keys. AreHeld goals.now self.old keys.items self.new) }
-        ensures serves { Serves grid.now self.new }
-        ensures keeps { Keeps grid.now shelf.new }
-        ensures once { OnOk result (IsOnce self.new) }
-        ensures refused { OnErr result (self.new ≡ self.old) }
-    {
-        let missing = missing_of(self.alloc, &self.held, goals)?;
-        let out = self.held.len().saturating_add(missing.len());
-        let fresh = shelf.fields(grid, &missing, out)?;
         hold_with(self.alloc, &mut self.held, fresh, goals)
     }
 }

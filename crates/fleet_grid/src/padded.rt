@@ -22,14 +22,16 @@ pub fn place_of(width: u32, stride: u32, cell: u32) -> usize
     row * stride as usize + (cell % width) as usize
 }
 
-/// The length of a padded row. Lengths near a multiple of 1,024 would make the rows of a map share cache lines.
+/// The length of a padded row: one column of walls, and more where rows of nearly 1,024 places would share cache lines.
 pub(crate) fn stride_of(width: u32) -> u32
     requires { width ≤ 1024 }
-    ensures { (width < result) × (result ≤ width + 17) }
+    ensures room { (width < result) × (result ≤ 1041) }
+    ensures plain { width + 1 < 1008 → result ≡ width + 1 }
+    ensures apart { 1008 ≤ result → result ≡ 1041 }
 {
     let plain = width + 1;
-    if plain % 1024 < 17 || plain % 1024 > 1007 {
-        width + 17
+    if (1008..=1040).contains(&plain) {
+        1041
     } else {
         plain
     }

@@ -115,7 +115,7 @@ fn padding(grid: &Grid) -> (u32, [usize; 3]) {
 fn padded_form(rt: HostRuntime) {
     assert!(rt; place_of(3, 20, 2) == 22);
     let grid = grid_of(&rt, rt.alloc(), 1, 3, b".@.");
-    assert!(rt; padding(&grid) == (20, [60, 2, 58]));
+    assert!(rt; padding(&grid) == (4, [12, 2, 10]));
 }
 
 #[test]

@@ -23,8 +23,8 @@ use_all-requires-clause-there g c =
 pub use_all-requires-clause-fewer : goal.use_all-requires-clause-fewer
 use_all-requires-clause-fewer g c =
     let same : c.reserve.new.self.slots ≡ c.args.held.now.slots = ap (λ s. s.slots) c.reserve.ensures.rest_kept in
-    few_filled c.args.fields.items (length c.args.goals.now) c.args.held.now.slots c.put_all.new.held.slots
-    (subst (λ (s : List (Option (Held Aim))). IsFilled c.args.fields.items s c.put_all.new.held.slots) same c.put_all.ensures.filled) c.requires.few c.requires.fewer
+    few_filled c.args.fields.items c.args.goals.now c.args.held.now.slots c.put_all.new.held.slots
+    (subst (λ (s : List (Option (Held Aim))). IsFilled c.args.fields.items s c.put_all.new.held.slots) same c.put_all.ensures.filled) c.requires.fewer
 
 pub returns-clause-used : goal.returns-clause-used
 returns-clause-used g c =

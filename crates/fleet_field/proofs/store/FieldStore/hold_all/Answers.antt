@@ -3,7 +3,7 @@ use Rattle.std.specs.Prelude.{IfOk}
 use Rattle.std.proofs.lemmas.Result.{on_err_weaker, IfOk-from_err}
 use Rattle.fleet_grid.specs.Floor.{IsFloor}
 use Rattle.fleet_field.specs.Field.{Aim}
-use Rattle.fleet_field.specs.Several.{AreFields, AreHeld}
+use Rattle.fleet_field.specs.Several.{AreFields, AreHeld, HaveUsesLeft}
 use Rattle.fleet_field.specs.Store.{shown, Serves, IsOnce}
 use Rattle.fleet_field.specs.declared.store.Held.{Held}
 use Rattle.fleet_field.proofs.Missing.{floor_missing}
@@ -24,7 +24,7 @@ hold_with-requires-clause-each g c =
     each_with c.args.grid.now c.args.goals.now c.in_ok-missing.missing.items c.in_ok-fresh.fresh.items c.self.inside.held.slots made c.in_ok-missing.ensures.each
 
 pub hold_with-requires-clause-fewer : goal.hold_with-requires-clause-fewer
-hold_with-requires-clause-fewer g c = λ key at e. c.requires.fewer key at (ap (λ s. shown s key) (sym c.self.view_is) ∙ e)
+hold_with-requires-clause-fewer g c = subst (λ (s : List (Option (Held Aim))). HaveUsesLeft s c.args.goals.now) (sym c.self.view_is) c.requires.fewer
 
 pub invariant_of-self : goal.invariant_of-self
 invariant_of-self g c =
@@ -47,9 +47,6 @@ returns-clause-once g c = on_ok (IsOnce c.hold_with.new.held.slots) c.hold_with.
 
 pub returns-clause-refused : goal.returns-clause-refused
 returns-clause-refused g c = on_err_weaker c.hold_with.result (λ same. same ∙ c.self.view_is) c.hold_with.ensures.refused
-
-pub hold_with-requires-clause-few : goal.hold_with-requires-clause-few
-hold_with-requires-clause-few g c = c.requires.few
 
 pub returns-in_err-missing-clause-held : goal.returns-in_err-missing-clause-held
 returns-in_err-missing-clause-held g c = IfOk-from_err c.from_residual.result _ c.from_residual.ensures.0
