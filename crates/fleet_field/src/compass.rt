@@ -10,8 +10,8 @@ ghost use Rattle.fleet_field.specs.Compass.{next_cell, steps_down};
 use crate::bits::{free_ways, ways_of_cells};
 use crate::columns::Columns;
 use crate::search::search;
-use crate::ways::{is_less, is_way, ways_of};
-use fleet_grid::{Dir, Grid};
+use crate::ways::{is_less, is_way};
+use fleet_grid::{Dir, Grid, four_ways};
 use std::alloc::{AllocError, Allocator, Global};
 use std::marker::Model;
 
@@ -138,7 +138,7 @@ impl<A: Allocator + Copy> Compass<A> {
     fn ways_elsewhere<B: Allocator + Copy>(&self, grid: &Grid<B>, cell: u32) -> u8
         ensures { AreNearer grid.now (λ c. slice_index_or self.now.away c None) cell result }
     {
-        ways_of(
+        four_ways(
             self.is_nearer(grid, cell, Dir::North),
             self.is_nearer(grid, cell, Dir::East),
             self.is_nearer(grid, cell, Dir::South),

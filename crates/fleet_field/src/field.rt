@@ -7,8 +7,8 @@ ghost use Rattle.fleet_field.specs.Field.{IsField};
 
 use crate::columns::Columns;
 use crate::flood::flood;
-use crate::ways::{is_less, ways_of};
-use fleet_grid::{Dir, Grid, WALL};
+use crate::ways::is_less;
+use fleet_grid::{Dir, Grid, WALL, four_ways};
 use std::alloc::{AllocError, Allocator, Global};
 use std::marker::Model;
 
@@ -82,7 +82,7 @@ impl<A: Allocator + Copy> Field<A> {
     pub fn ways<B: Allocator + Copy>(&self, grid: &Grid<B>, cell: u32) -> u8
         ensures { AreNearer grid.now (λ c. slice_index_or self.now.away c None) cell result }
     {
-        ways_of(
+        four_ways(
             self.is_nearer(grid, cell, Dir::North),
             self.is_nearer(grid, cell, Dir::East),
             self.is_nearer(grid, cell, Dir::South),

@@ -19,3 +19,4 @@ pub use law::{
     neighbours_differ_by_one, walks_join_and_turn,
 };
 pub use padded::{FAR, WALL, place_of};
+pub use ways::four_ways;

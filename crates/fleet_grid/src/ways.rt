@@ -10,8 +10,8 @@ use crate::cells::Cells;
 use crate::dir::Dir;
 use std::alloc::{AllocError, Allocator};
 
-/// The ways that are open of the four.
-fn byte_of(north: bool, east: bool, south: bool, west: bool) -> u8
+/// Ways as a byte: bit `dir.number()` stands for the way in a direction.
+pub fn four_ways(north: bool, east: bool, south: bool, west: bool) -> u8
     ensures north { IsWay result North ↔ IsTrue north }
     ensures east { IsWay result East ↔ IsTrue east }
     ensures south { IsWay result South ↔ IsTrue south }
@@ -68,7 +68,7 @@ fn open_ways<A: Allocator + Copy>(cells: &Cells<A>, cell: u32, column: u32) -> u
     if !cells.is_floor(cell) {
         return 0;
     }
-    byte_of(
+    four_ways(
         leads(cells, cell, Dir::North, cell.checked_sub(width)),
         leads(cells, cell, Dir::East, east_of(width, cell, column)),
         leads(cells, cell, Dir::South, Some(cell + width)),

@@ -1,5 +1,5 @@
 -- Neighbours differ by one in their distance to a goal, so that the ways that lead nearer tell what they cost.
-use Rattle.std.proofs.Common.{◌≡◌, ℕ, ◌+◌, ◌<◌, ◌⊎◌, ◌↔◌, inl, inr, Option, Some, List, slice_get, sym, ap, ◌∙◌, arith}
+use Rattle.std.proofs.Common.{◌≡◌, ℕ, ◌+◌, ◌<◌, ◌⊎◌, ◌↔◌, inl, inr, Option, Some, List, slice_get, IsSome, refl, sym, ap, subst, ◌∙◌, arith}
 use Rattle.std.specs.Int.{bit_at}
 use Rattle.std.proofs.lemmas.Nat.Bits.{bit_at-zero}
 use Rattle.fleet_grid.specs.Direction.{dir_number}
@@ -38,7 +38,7 @@ module _ (s : Setting) (scene : IsScene s) (waits : List (Option ℕ)) (are : Ar
   way-tells r around l e dir w n = elim (none_or_some (s.goals r)) [
     | inl none ↦ (let own = idle-own s scene waits are r l none in (λ way. absurd (no-way around.nearer dir ((seen.asked r around e).idle none) way), λ less. absurd (omega (arith, less, own))))
     | inr some ↦ (
-        let tells = (seen.asked r around e).tells dir w n in
+        let tells = (seen.asked r around e).tells (subst IsSome (sym some.1) refl) dir w n in
         let less = closer-less s scene waits are r l some.0 some.1 w (dir, n) in
         (λ way. less.0 (tells.0 way), λ c. tells.1 (less.1 c)))
   ]

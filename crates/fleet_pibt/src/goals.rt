@@ -1,12 +1,14 @@
 //! What a step asks about the robots' goals.
 
-ghost use Rattle.std.specs.Prelude.{◌≡◌, ℕ, Option, None};
-ghost use Rattle.fleet_grid.specs.Ways.{AreNearer};
+ghost use Rattle.std.specs.Prelude.{◌≡◌, ◌↔◌, ℕ, Option, None, IsSome, IsTrue};
+ghost use Rattle.fleet_grid.specs.Floor.{IsNeighbourIn};
+ghost use Rattle.fleet_grid.specs.Ways.{AreNearer, IsLess};
 
-use fleet_grid::Grid;
+use fleet_grid::{Dir, Grid, four_ways};
 use std::alloc::Allocator;
 
-/// Where each robot goes, and how far that is.
+/// Where each robot goes, and how far that is. An implementation says `goal` and `at`; `ways` follows from them, and may be
+/// given where a quicker way to it is at hand.
 pub trait Goals {
     ghost goal_of: { Self → ℕ → Option ℕ };
 
@@ -23,6 +25,39 @@ pub trait Goals {
     /// The ways out of the cell that lead nearer to the robot's goal: bit `dir.number()` stands for the way in that direction,
     /// and tells of a floor neighbour whether it has a lesser distance. An idle robot has none.
     fn ways<A: Allocator + Copy>(&self, grid: &Grid<A>, robot: u32, cell: u32) -> u8
-        ensures nearer { AreNearer grid.now (distance self.now robot) cell result }
-        ensures idle { goal_of self.now robot ≡ None → result ≡ 0 };
+        ensures nearer { IsSome (goal_of self.now robot) → AreNearer grid.now (distance self.now robot) cell result }
+        ensures idle { goal_of self.now robot ≡ None → result ≡ 0 }
+    {
+        if self.goal(robot).is_none() {
+            return 0;
+        }
+        let own = self.at(robot, cell);
+        four_ways(
+            is_less(self.at(robot, beside(grid, cell, Dir::North)), own),
+            is_less(self.at(robot, beside(grid, cell, Dir::East)), own),
+            is_less(self.at(robot, beside(grid, cell, Dir::South)), own),
+            is_less(self.at(robot, beside(grid, cell, Dir::West)), own),
+        )
+    }
+}
+
+/// The floor neighbour of the cell in a direction; where there is none, the cell.
+#[tactic(auto, using(crate::proofs::Rated::beside_once))]
+fn beside<A: Allocator + Copy>(grid: &Grid<A>, cell: u32, dir: Dir) -> u32
+    ensures { (w : ℕ) → IsNeighbourIn grid.now dir cell w → result ≡ w }
+{
+    match grid.neighbour(cell, dir) {
+        Some(next) => next,
+        None => cell,
+    }
+}
+
+/// Whether both are distances, and the first is less.
+fn is_less(a: Option<u32>, b: Option<u32>) -> bool
+    ensures { IsTrue result ↔ IsLess a b }
+{
+    match (a, b) {
+        (Some(a), Some(b)) => a < b,
+        _ => false,
+    }
 }

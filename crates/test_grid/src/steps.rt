@@ -1,12 +1,11 @@
 //! Worked orders, the smallest steps, how often a tie closure is asked, and each growth refused in turn. Whole runs are
 //! tested above, over proved distances.
 
-ghost use Rattle.std.specs.Prelude.{◌≡◌, ℕ, ◌↔◌, IsTrue, Option, Some, None, cond, ◌==◌, ◌<◌, [], ◌∷◌, length};
-ghost use Rattle.fleet_grid.specs.Floor.{IsNeighbourIn, floor_of};
-ghost use Rattle.fleet_grid.specs.Ways.{IsLess};
+ghost use Rattle.std.specs.Prelude.{◌≡◌, ℕ, Option, Some, None, cond, ◌==◌, ◌<◌, [], ◌∷◌, length};
+ghost use Rattle.fleet_grid.specs.Floor.{floor_of};
 
 use crate::floor::grid_of;
-use fleet_grid::{Dir, Grid};
+use fleet_grid::Grid;
 use fleet_hooks::{TieHook, TieLaw, TieView};
 use fleet_pibt::{Goals, Stepper, order};
 use test_alloc::Refusing;
@@ -31,24 +30,6 @@ impl Goals for NoGoals {
     fn at(&self, _robot: u32, _cell: u32) -> Option<u32> {
         None
     }
-
-    fn ways<A: Allocator + Copy>(&self, _grid: &Grid<A>, _robot: u32, _cell: u32) -> u8 {
-        0
-    }
-}
-
-/// Whether a way leads to cell 1 from another cell.
-#[tactic(auto, using(fleet_pibt::proofs::Rated::beside_once))]
-fn leads_east<A: Allocator + Copy>(grid: &Grid<A>, cell: u32, dir: Dir) -> bool
-    ensures { (w : ℕ) → IsNeighbourIn grid.now dir cell w → IsTrue result ↔ IsLess (Some (cond (w == 1) 0 1)) (Some (cond (cell == 1) 0 1)) }
-{
-    if cell == 1 {
-        return false;
-    }
-    match grid.neighbour(cell, dir) {
-        Some(other) => other == 1,
-        None => false,
-    }
 }
 
 /// Each robot goes to cell 1, on the map `..`.
@@ -65,16 +46,6 @@ impl Goals for ToTheEast {
 
     fn at(&self, _robot: u32, cell: u32) -> Option<u32> {
         Some(if cell == 1 { 0 } else { 1 })
-    }
-
-    fn ways<A: Allocator + Copy>(&self, grid: &Grid<A>, _robot: u32, cell: u32) -> u8 {
-        let [north, east, south, west] = [
-            leads_east(grid, cell, Dir::North),
-            leads_east(grid, cell, Dir::East),
-            leads_east(grid, cell, Dir::South),
-            leads_east(grid, cell, Dir::West),
-        ];
-        u8::from(north) + 2 * u8::from(east) + 4 * u8::from(south) + 8 * u8::from(west)
     }
 }
 

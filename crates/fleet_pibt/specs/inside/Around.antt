@@ -1,5 +1,5 @@
 -- What a robot sees from its cell: the cells beside it, and which of them are nearer to its goal.
-use Rattle.std.specs.Prelude.{◌≡◌, ◌≢◌, ℕ, ◌+◌, List, length, slice_get, slice_index, Option, Some, None}
+use Rattle.std.specs.Prelude.{◌≡◌, ◌≢◌, ℕ, ◌+◌, List, length, slice_get, slice_index, Option, Some, None, IsSome}
 use Rattle.fleet_grid.specs.Floor.{Floor, IsNeighbourIn}
 use Rattle.fleet_grid.specs.Ways.{IsWay, AreNearer}
 use Rattle.fleet_grid.specs.declared.dir.Dir.{Dir}
@@ -24,7 +24,7 @@ pub record IsAround (m : Floor) (own : ℕ) (around : Around) : Type 0 where
 
 -- of the ways that a robot sees from its cell those lead nearer to its goal, and an idle robot has none
 pub record IsAsked (m : Floor) (goal : Option ℕ) (distance : ℕ → Option ℕ) (own nearer : ℕ) : Type 0 where
-  pub tells : AreNearer m distance own nearer
+  pub tells : IsSome goal → AreNearer m distance own nearer
   pub idle : goal ≡ None → nearer ≡ 0
 
 -- the list has for each robot the ways that lead nearer

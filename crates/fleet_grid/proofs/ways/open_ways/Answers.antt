@@ -10,5 +10,5 @@ leads-requires-4-clause-beside g c =
 
 pub returns-clause-open : goal.returns-clause-open
 returns-clause-open g c =
-    four_open c.args.cells.now c.args.cell c.byte_of.result c.leads.result c.leads-2.result c.leads-3.result c.leads-4.result
-    c.byte_of.ensures.north c.byte_of.ensures.east c.byte_of.ensures.south c.byte_of.ensures.west c.leads.ensures c.leads-2.ensures c.leads-3.ensures c.leads-4.ensures
+    four_open c.args.cells.now c.args.cell c.four_ways.result c.leads.result c.leads-2.result c.leads-3.result c.leads-4.result
+    c.four_ways.ensures.north c.four_ways.ensures.east c.four_ways.ensures.south c.four_ways.ensures.west c.leads.ensures c.leads-2.ensures c.leads-3.ensures c.leads-4.ensures
