@@ -60,7 +60,7 @@ fn attempt<S: Sight, A: Allocator + Copy>(
         return true;
     }
     board.hand_back(robot, other, cell);
-    false
+    false // The robot tries its next cell.
 }
 
 /// Lets the robot try its cells in order, until it has one. A robot that gets none stays, which its caller writes down.
