@@ -250,9 +250,7 @@ impl<A: Allocator + Copy> World<A> {
     {
         self.core.give(client)
     }
-}
 
-impl<A: Allocator + Copy> World<A> {
     /// Moves all robots by one step.
     ///
     /// Refused in this order: the ticks are spent, the chapter is full, want of memory.

@@ -133,9 +133,7 @@ impl<A: Allocator + Copy> Planner<A> {
             None => Ok(()),
         }
     }
-}
 
-impl<A: Allocator + Copy> Planner<A> {
     /// Aims the robots at the goals that they have behind a tick to these cells: those that land turn, the others keep
     /// theirs. The state is that before the tick is entered. No list is allocated.
     pub(crate) fn turn(

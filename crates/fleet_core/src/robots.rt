@@ -198,9 +198,7 @@ impl<A: Allocator + Copy> Core<A> {
         }
         Err(ShutFault::NoMemory)
     }
-}
 
-impl<A: Allocator + Copy> Core<A> {
     /// Moves all robots by one step, as a world does, with the closures beside the core.
     pub fn tick_by<R: Alloc<A = A>>(
         &mut self,

@@ -89,9 +89,7 @@ impl<A: Allocator + Copy> Aims<A> {
         };
         self.turn(shelf, grid, &[turn])
     }
-}
 
-impl<A: Allocator + Copy> Aims<A> {
     /// From now on the robots of these turns aim at their goals, floor cells, or at nothing; of two turns of one robot the
     /// later one holds. There are at most as many turns as robots. Distances to new goals are searched one after another,
     /// where they are not kept. No list is allocated.

@@ -3,7 +3,6 @@
 ghost use Rattle.std.specs.Prelude.{◌≡◌, ◌<◌, ◌+◌, List, ℕ, map, length, slice_get};
 ghost use Rattle.std.specs.List.{range_with_len};
 ghost use Rattle.fleet_history.specs.History.{place, clock, robots, clients, front, unfinished, owed, is_shut, taken_count, accepted_count};
-ghost use Rattle.fleet_history.specs.Notices.{noticed_count};
 ghost use Rattle.fleet_history.specs.Waits.{wait};
 ghost use Rattle.fleet_state.specs.Robots.{queue_at};
 ghost use Rattle.fleet_state.specs.State.{Of, robot_count, client_count, by_robot};
@@ -132,13 +131,5 @@ impl<A: Allocator + Copy> FleetState<A> {
         ensures { Of self.now (λ h. result ≡ taken_count h client) }
     {
         self.clients.tally(client).taken
-    }
-
-    /// How many notices were made for the client.
-    pub fn noticed(&self, client: u32) -> u64
-        requires { client < client_count self.now }
-        ensures { Of self.now (λ h. result ≡ noticed_count h client) }
-    {
-        self.clients.tally(client).noticed
     }
 }

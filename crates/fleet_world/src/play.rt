@@ -23,7 +23,6 @@ use fleet_calls::World;
 use fleet_grid::Grid;
 use fleet_hooks::Hooks;
 use std::alloc::{Alloc, Allocator, Global};
-use std::thread::Threads;
 
 /// What a run leaves, by client where a list is one of lists.
 #[derive(Drop)]
@@ -44,7 +43,7 @@ pub struct Played<A: Allocator + Copy = Global> {
 /// of its event. What was sent, taken, given and collected is told by this chapter alone (`rings`), and as in any (`each_ring`).
 /// `end_of` reckons what was sent and taken from the history: the clause `run` ties these to the events. Each call meets the
 /// condition, without which no call may hand closures out to another crate.
-pub fn run<A: Allocator + Copy + Send + Sync, R: Alloc<A = A> + Threads + Sync>(
+pub fn run<A: Allocator + Copy, R: Alloc<A = A>>(
     rt: &R,
     grid: Grid<A>,
     starts: Vec<u32, A>,

@@ -11,7 +11,6 @@ use crate::session::Session;
 use fleet_book::{Event, Notice, Order};
 use fleet_core::{ShutFault, TakeFault, TickFault};
 use std::alloc::{Alloc, AllocError, Allocator};
-use std::thread::Threads;
 
 impl<A: Allocator + Copy> Session<A> {
     /// A post: the order joins the lane, unless that is full.
@@ -98,14 +97,9 @@ impl<A: Allocator + Copy> Session<A> {
             Err(fault) => Ok(Reply::ShutRefused(fault)),
         }
     }
-}
 
-impl<A: Allocator + Copy + Send + Sync> Session<A> {
     /// A tick: all robots make one step.
-    pub(crate) fn tick<R: Alloc<A = A> + Threads + Sync>(
-        &mut self,
-        rt: &R,
-    ) -> Result<Reply, AllocError>
+    pub(crate) fn tick<R: Alloc<A = A>>(&mut self, rt: &R) -> Result<Reply, AllocError>
         ensures step { IfOk result (λ reply. Step (state self.old) Event.Tick reply (state self.new)) }
         ensures err { OnErr result (state self.new ≡ state self.old) }
     {
@@ -117,7 +111,7 @@ impl<A: Allocator + Copy + Send + Sync> Session<A> {
     }
 
     /// Any one event.
-    pub(crate) fn step<R: Alloc<A = A> + Threads + Sync>(
+    pub(crate) fn step<R: Alloc<A = A>>(
         &mut self,
         rt: &R,
         event: Event,
@@ -136,7 +130,7 @@ impl<A: Allocator + Copy + Send + Sync> Session<A> {
     }
 
     /// Applies a list of events, one after another. Want of memory ends it at the index of its event.
-    pub(crate) fn play<R: Alloc<A = A> + Threads + Sync>(
+    pub(crate) fn play<R: Alloc<A = A>>(
         &mut self,
         rt: &R,
         events: &[Event],

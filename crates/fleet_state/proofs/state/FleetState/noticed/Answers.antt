@@ -1,7 +1,0 @@
-use Rattle.std.proofs.Common.{◌∙◌, arith, ap}
-use Rattle.fleet_state.specs.declared.clients.Tally.{Tally}
-use Rattle.fleet_state.proofs.Parts.{inside, tally-count, tally-of}
-use Rattle.fleet_state.proofs.state.FleetState.noticed.Goals as goal
-
-pub returns : goal.returns
-returns g c m h k = ap (λ (t : Tally). t.noticed) (c.tally.ensures ∙ tally-of (inside c.self.view_is k) c.args.client (omega (arith, c.requires, tally-count k)))
