@@ -15,17 +15,16 @@ ghost use Rattle.fleet_script.specs.Shown.{plan};
 ghost use Rattle.errands_text.specs.declared.said.Complaint.{Complaint};
 
 use crate::kit::HookKit;
+use errands_text::{Complaint, Said, faulty, line_of, map_complaint, map_report, report};
 use fleet_grid::Grid;
 use fleet_history::Chapter;
 use fleet_map::{MapText, read_map};
-use errands_text::{Complaint, Said, faulty, line_of, map_complaint, map_report, report};
 use fleet_script::{Script, ScriptFault, read_script, split_bundle};
 use fleet_trace::write_trace;
 use fleet_world::{
     Event, OpenFault, Played, Reply, RunFault, ShutFault, TakeFault, TickFault, run,
 };
 use std::alloc::{Alloc, AllocError, Global};
-use std::thread::Threads;
 
 /// Whether a limit was met.
 fn is_limit(reply: Reply) -> bool
@@ -147,7 +146,7 @@ fn unplayed(alloc: Global, fault: RunFault) -> Result<Said, AllocError>
 }
 
 /// Runs a script on a map.
-fn run_script<R: Alloc<A = Global> + Threads + Sync>(
+fn run_script<R: Alloc<A = Global>>(
     rt: &R,
     map: MapText,
     script: Script,
@@ -175,7 +174,7 @@ fn run_script<R: Alloc<A = Global> + Threads + Sync>(
 }
 
 /// What the program has to say to a script on a map that was read.
-fn answer_script<R: Alloc<A = Global> + Threads + Sync>(
+fn answer_script<R: Alloc<A = Global>>(
     rt: &R,
     map: MapText,
     script: &[u8],
@@ -194,7 +193,7 @@ fn answer_script<R: Alloc<A = Global> + Threads + Sync>(
 }
 
 /// What the program has to say to a map and a script.
-pub fn answer_parts<R: Alloc<A = Global> + Threads + Sync>(
+pub fn answer_parts<R: Alloc<A = Global>>(
     rt: &R,
     map: &[u8],
     script: &[u8],
@@ -214,7 +213,7 @@ pub fn answer_parts<R: Alloc<A = Global> + Threads + Sync>(
 }
 
 /// What the program has to say to a bundle.
-pub fn answer_bundle<R: Alloc<A = Global> + Threads + Sync>(
+pub fn answer_bundle<R: Alloc<A = Global>>(
     rt: &R,
     bytes: &[u8],
     kit: HookKit,

@@ -9,10 +9,10 @@ ghost use Rattle.errands_answer.specs.Answer.{IsJudged, IsJudgeOutcome, IsTraceN
 ghost use Rattle.errands_text.specs.Said.{said};
 ghost use Rattle.errands_text.specs.declared.said.Complaint.{Complaint};
 
+use errands_text::{Complaint, Said, faulty, map_complaint};
 use fleet_grid::Grid;
 use fleet_history::Chapter;
 use fleet_map::{MapText, read_map};
-use errands_text::{Complaint, Said, faulty, map_complaint};
 use fleet_trace::{JudgeFault, TraceFault, judge, read_trace};
 use std::alloc::{AllocError, Global};
 

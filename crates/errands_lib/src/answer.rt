@@ -6,15 +6,14 @@ ghost use Rattle.errands_text.specs.Said.{said};
 ghost use Rattle.errands_answer.specs.Kit.{kit_laws};
 ghost use Rattle.errands_lib.specs.Outcome.{IsJobOutcome};
 
-use errands_words::Job;
 use errands_answer::{HookKit, answer_bundle, answer_map, answer_parts, answer_trace};
 use errands_text::Said;
+use errands_words::Job;
 use std::alloc::{Alloc, AllocError, Global};
-use std::thread::Threads;
 
 /// What the program has to say to the texts of a job that is not to serve, the second of which counts only where the job
 /// names two files.
-pub(crate) fn answer<R: Alloc<A = Global> + Threads + Sync>(
+pub(crate) fn answer<R: Alloc<A = Global>>(
     rt: &R,
     job: &Job,
     first: &[u8],

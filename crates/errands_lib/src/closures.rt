@@ -7,13 +7,13 @@ ghost use Rattle.errands_lib.specs.Told.{names_two};
 ghost use Rattle.errands_lib.specs.declared.closures.TheConstants.{SOUTH_FIRST};
 
 use crate::program::{fail, run_program};
-use errands_words::Job;
 use errands_answer::HookKit;
+use errands_text::InputFault;
+use errands_words::Job;
 use fleet_grid::Dir;
 use fleet_hooks::{
     ArrivalHook, ArrivalView, Farewell, FarewellView, Hooks, StampLaw, TieHook, TieLaw, TieView,
 };
-use errands_text::InputFault;
 use std::alloc::{Alloc, AllocError, Global};
 use std::io::{Read, Write};
 use std::sync::Wait;

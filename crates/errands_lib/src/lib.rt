@@ -8,7 +8,7 @@ mod program;
 mod service;
 
 pub use closures::run_with_kit;
-pub use errands_words::{Job, WordFault, parse_words};
 pub use errands_answer::HookKit;
 pub use errands_text::{InputFault, read_whole, write_whole};
+pub use errands_words::{Job, WordFault, parse_words};
 pub use program::{fail, run_plain, run_program};

@@ -9,9 +9,9 @@ ghost use Rattle.errands_text.specs.Said.{said as said_of};
 
 use crate::answer::answer;
 use crate::service::answer_job;
-use errands_words::Job;
 use errands_answer::HookKit;
 use errands_text::{Complaint, InputFault, Said, read_other, read_whole, write_whole};
+use errands_words::Job;
 use std::alloc::{Alloc, Global};
 use std::io::{Read, Write};
 use std::sync::Wait;
@@ -62,7 +62,7 @@ fn read_files<I: Read>(
 }
 
 /// What there is to say to the files of a job that is not to serve, which are read in their order.
-fn answer_files<R: Alloc<A = Global> + Threads + Sync, I: Read>(
+fn answer_files<R: Alloc<A = Global>, I: Read>(
     rt: &R,
     job: &Job,
     map: &mut I,
@@ -104,7 +104,7 @@ fn answer_served<R: Alloc<A = Global> + Threads + Sync + Wait, I: Read>(
 }
 
 /// Does a job that is not to serve, and waits for nobody. The result is the status, as for `run_program`.
-pub fn run_plain<R: Alloc<A = Global> + Threads + Sync, I: Read, W: Write, E: Write>(
+pub fn run_plain<R: Alloc<A = Global>, I: Read, W: Write, E: Write>(
     rt: &R,
     job: &Job,
     map: &mut I,
