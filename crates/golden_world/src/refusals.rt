@@ -2,11 +2,14 @@
 //!
 //! The rows stand in a text. A line `= NAME` begins a row, and a bundle of a map and a script stands behind it. The script is
 //! played twice, by a world's own calls and by a run, over an allocator that refuses one growth: the first, then the second,
-//! until none is refused. Two comments of a script are calls of the world: `#next` begins the next chapter, and
-//! `#widen CLIENT NUMBER` widens the client's mailbox. A row that has them is played by the world's calls alone.
+//! until none is refused. Four comments of a script are calls of the world: `#next` begins the next chapter,
+//! `#widen CLIENT NUMBER` widens the client's mailbox, `#keep BYTES` says how much of unused fields is kept, and `#ahead` searches
+//! the fields of next errands ahead. A row that has them is played by the world's calls alone.
 //!
 //! A line tells what a call answered and how many growths it was refused. It ends with `same` where each refused call showed
 //! and held afterwards what it did before, called no arrival or farewell closure, and answered alike when it was made again.
+//! Of a run, which makes no event again, it ends with `same` where each refused run named the event whose growth it was: over
+//! the events before that one, with the same growth refused, a run ends well, and over these and that one it names it again.
 
 mod calls;
 mod case;
@@ -40,7 +43,7 @@ pub(crate) fn tell<R: Alloc<A = Global> + Threads + Sync>(
             break;
         };
         writeln!(told, "= {}", case.name)?;
-        tell_calls(rt.alloc(), case, told)?;
+        tell_calls(rt, case, told)?;
         if case.is_run() {
             tell_runs(rt, case, told)?;
         }

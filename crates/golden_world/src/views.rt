@@ -10,7 +10,6 @@ use play::play;
 use row::{Row, rows};
 use std::alloc::{Alloc, AllocError, Global};
 use std::fmt::Write;
-use std::thread::Threads;
 
 /// The finding in words.
 fn text_of(finding: Finding) -> &'static str {
@@ -24,20 +23,13 @@ fn text_of(finding: Finding) -> &'static str {
 }
 
 /// The line of a row.
-fn tell_row<R: Alloc<A = Global> + Threads + Sync>(
-    rt: &R,
-    row: &Row,
-    told: &mut String,
-) -> Result<(), AllocError> {
+fn tell_row<R: Alloc<A = Global>>(rt: &R, row: &Row, told: &mut String) -> Result<(), AllocError> {
     let words = text_of(play(rt.alloc(), rt, row)?);
     writeln!(told, "{}: {words}", row.name)
 }
 
 /// A line for each row.
-pub(crate) fn tell<R: Alloc<A = Global> + Threads + Sync>(
-    rt: &R,
-    told: &mut String,
-) -> Result<(), AllocError> {
+pub(crate) fn tell<R: Alloc<A = Global>>(rt: &R, told: &mut String) -> Result<(), AllocError> {
     for row in rows() {
         tell_row(rt, row, told)?;
     }

@@ -1,7 +1,7 @@
 //! Robots that never rest.
 
 use crate::answers::row::go;
-use fleet_world::World;
+use fleet_world::{TickFault, TickReport, World};
 use std::alloc::{Alloc, Allocator};
 use std::mem;
 
@@ -46,17 +46,26 @@ fn greatest_of<A: Allocator + Copy>(world: &World<A>) -> u64 {
     greatest
 }
 
-/// So many ticks of nine robots that get a new errand whenever they have none. The result is the greatest wait that was seen.
+/// How many arrivals a tick came with, none where it was refused.
+fn arrivals_of(answer: Result<TickReport, TickFault>) -> u64 {
+    match answer {
+        Ok(report) => u64::from(report.arrived),
+        Err(_) => 0,
+    }
+}
+
+/// So many ticks of nine robots that get a new errand whenever they have none. The result is the greatest wait that was seen,
+/// and how many arrivals there were.
 pub(crate) fn greatest_wait<A: Allocator + Copy, R: Alloc<A = A>>(
     rt: &R,
     world: &mut World<A>,
     ticks: u32,
-) -> u64 {
-    let mut greatest = 0;
+) -> (u64, u64) {
+    let (mut greatest, mut arrivals) = (0, 0u64);
     for tick in 0..ticks {
         keep_busy(world, tick);
-        mem::drop(world.tick(rt));
+        arrivals = arrivals.saturating_add(arrivals_of(world.tick(rt)));
         greatest = greatest_of(world).max(greatest);
     }
-    greatest
+    (greatest, arrivals)
 }

@@ -41,7 +41,10 @@ fn tell_answer<A: Allocator + Copy, R: Alloc<A = A>>(
         Call::Tick(count) => tell_ticks(rt, world, count, told),
         Call::Shut(robot) => tell_shut(told, world.shut(robot)),
         Call::Show => tell_world(told, world),
-        Call::Busy(count, bound) => tell_busy(told, greatest_wait(rt, world, count), bound),
+        Call::Busy(count, bound) => {
+            let (greatest, arrivals) = greatest_wait(rt, world, count);
+            tell_busy(told, greatest, bound, arrivals)
+        }
     }
 }
 

@@ -1,7 +1,7 @@
 //! What a world answers and shows, in words.
 
-use golden_compare::beside_bound;
 use fleet_world::{Notice, ShutFault, TakeFault, TickFault, TickReport, Verdict, World};
+use golden_compare::beside_bound;
 use std::alloc::{AllocError, Allocator};
 use std::fmt::Write;
 
@@ -90,10 +90,15 @@ pub(crate) fn tell_give(told: &mut String, answer: Option<Notice>) -> Result<(),
     }
 }
 
-/// The line of a greatest wait beside a bound.
-pub(crate) fn tell_busy(told: &mut String, greatest: u64, bound: u64) -> Result<(), AllocError> {
+/// The line of a greatest wait beside a bound, with the arrivals.
+pub(crate) fn tell_busy(
+    told: &mut String,
+    greatest: u64,
+    bound: u64,
+    arrivals: u64,
+) -> Result<(), AllocError> {
     let kept = beside_bound(greatest, bound);
-    writeln!(told, "greatest wait: {kept} {bound}")
+    writeln!(told, "greatest wait: {kept} {bound}, {arrivals} arrivals")
 }
 
 /// Where the robots stand and how long they have waited, a robot a word.

@@ -11,6 +11,8 @@ pub(crate) enum Call {
     Event(Event),
     Widen { client: u32, extra: u64 },
     NextChapter,
+    Keep(u64),
+    SearchAhead,
 }
 
 /// The call that a comment of a script is.
@@ -18,6 +20,13 @@ fn call_in(line: &[u8]) -> Option<Call> {
     let (word, rest) = first_word(line)?;
     if word == b"#next".as_slice() {
         return Some(Call::NextChapter);
+    }
+    if word == b"#ahead".as_slice() {
+        return Some(Call::SearchAhead);
+    }
+    if word == b"#keep".as_slice() {
+        let (bytes, _) = first_word(rest)?;
+        return Some(Call::Keep(number_up_to(bytes, 65_536)?));
     }
     if word != b"#widen".as_slice() {
         return None;

@@ -11,11 +11,11 @@ use fleet_hooks::{
     ArrivalHook, ArrivalView, Farewell, FarewellView, Hooks, StampLaw, TieHook, TieLaw, TieView,
 };
 use fleet_world::{Event, OpenFault, World, run};
-use test_alloc::Refusing;
 use std::alloc::{Alloc, AllocError, Allocator, Global};
 use std::sync::Arc;
 use std::sync::atomic::{AtomicU64, Ordering};
 use std::thread::Threads;
+use test_alloc::Refusing;
 
 const ALIKE: TieLaw = TieLaw {
     low: [0, 0, 0, 0],
@@ -25,15 +25,16 @@ const ALIKE: TieLaw = TieLaw {
 const NOUGHT: StampLaw = StampLaw { low: 0, high: 0 };
 
 /// Plays the first `last` calls of a row, of which the growth behind `before` others is refused.
-pub(crate) fn play(
-    alloc: Global,
+pub(crate) fn play<R: Alloc<A = Global> + Threads + Sync>(
+    rt: &R,
     row: Row<'_, Call>,
     before: u64,
     last: usize,
 ) -> Result<Result<Played, Stage>, AllocError> {
+    let alloc = rt.alloc();
     let stamped = Arc::new(alloc, AtomicU64::new(0))?;
     let heap = Refusing::after(alloc, before);
-    play_over(alloc, &((), &heap), row, last, &stamped)
+    play_over(alloc, &(rt, &heap), row, last, &stamped)
 }
 
 /// A counter of stamps, for the arrivals and for the farewells of a robot.
@@ -42,7 +43,7 @@ fn counters(stamped: &Arc<AtomicU64>) -> Result<(Arc<AtomicU64>, Arc<AtomicU64>)
 }
 
 /// Plays the first `last` calls of a row, all of whose memory is the runtime's, with closures that count their stamps.
-fn play_over<A: Allocator + Copy, R: Alloc<A = A>>(
+fn play_over<A: Allocator + Copy + Send + Sync, R: Alloc<A = A> + Threads + Sync>(
     alloc: Global,
     rt: &R,
     row: Row<'_, Call>,
@@ -73,7 +74,7 @@ fn play_over<A: Allocator + Copy, R: Alloc<A = A>>(
 }
 
 /// Plays the first `last` calls of a row with these closures.
-fn play_hooked<A: Allocator + Copy, R: Alloc<A = A>>(
+fn play_hooked<A: Allocator + Copy + Send + Sync, R: Alloc<A = A> + Threads + Sync>(
     setting: &Setting<'_, R>,
     row: Row<'_, Call>,
     last: usize,
@@ -91,7 +92,7 @@ fn play_hooked<A: Allocator + Copy, R: Alloc<A = A>>(
 }
 
 /// Plays the first `last` calls of a row in its world, where that was opened.
-fn play_opened<A: Allocator + Copy, R: Alloc<A = A>>(
+fn play_opened<A: Allocator + Copy + Send + Sync, R: Alloc<A = A> + Threads + Sync>(
     setting: &Setting<'_, R>,
     row: Row<'_, Call>,
     last: usize,
@@ -124,7 +125,7 @@ fn count(stamped: &AtomicU64) -> u32
 }
 
 /// Runs the events of a row's script, of which the growth behind `before` others is refused.
-pub(crate) fn run_row<R: Alloc<A = Global> + Threads + Sync>(
+pub(crate) fn run_row<R: Alloc<A = Global>>(
     rt: &R,
     row: Row<'_, Event>,
     before: u64,
@@ -134,7 +135,7 @@ pub(crate) fn run_row<R: Alloc<A = Global> + Threads + Sync>(
 }
 
 /// Runs the events of a row's script, all of whose memory is the runtime's.
-fn run_over<A: Allocator + Copy + Send + Sync, R: Alloc<A = A> + Threads + Sync>(
+fn run_over<A: Allocator + Copy, R: Alloc<A = A>>(
     alloc: Global,
     rt: &R,
     row: Row<'_, Event>,
@@ -161,7 +162,7 @@ fn run_over<A: Allocator + Copy + Send + Sync, R: Alloc<A = A> + Threads + Sync>
 }
 
 /// Runs the events of a row's script with these closures.
-fn run_hooked<A: Allocator + Copy + Send + Sync, R: Alloc<A = A> + Threads + Sync>(
+fn run_hooked<A: Allocator + Copy, R: Alloc<A = A>>(
     alloc: Global,
     rt: &R,
     row: Row<'_, Event>,

@@ -6,6 +6,7 @@ use fleet_trace::write_trace;
 use fleet_world::{Chapter, ChapterFault, Event, ShutFault, TakeFault, TickFault, World};
 use std::alloc::{Alloc, AllocError, Allocator, Global};
 use std::fmt::Write;
+use std::thread::Threads;
 
 /// Takes the client's first order. It stays in its lane where it is refused.
 fn take<A: Allocator + Copy>(
@@ -126,8 +127,21 @@ fn next_chapter<A: Allocator + Copy>(
     }
 }
 
+/// Searches the fields of the robots' next errands.
+fn search_ahead<A: Allocator + Copy + Send + Sync, R: Threads + Sync>(
+    rt: &R,
+    world: &mut World<A>,
+    told: &mut String,
+) -> Result<bool, AllocError> {
+    match world.search_ahead(rt) {
+        Err(AllocError) => return Ok(false),
+        Ok(()) => told.push_str("search ahead\n")?,
+    }
+    Ok(true)
+}
+
 /// Makes a call, and tells what it answered.
-pub(crate) fn make<A: Allocator + Copy, R: Alloc<A = A>>(
+pub(crate) fn make<A: Allocator + Copy + Send + Sync, R: Alloc<A = A> + Threads + Sync>(
     alloc: Global,
     rt: &R,
     world: &mut World<A>,
@@ -150,6 +164,11 @@ pub(crate) fn make<A: Allocator + Copy, R: Alloc<A = A>>(
         Call::Event(Event::Shut(robot)) => return shut(world, robot, told),
         Call::Widen { client, extra } => return widen(world, client, extra, told),
         Call::NextChapter => return next_chapter(alloc, world, told),
+        Call::Keep(bytes) => {
+            world.keep(bytes as usize);
+            writeln!(told, "keep {bytes}")?;
+        }
+        Call::SearchAhead => return search_ahead(rt, world, told),
     }
     Ok(true)
 }

@@ -4,11 +4,12 @@ use crate::refusals::calls::Call;
 use crate::refusals::clients::Clients;
 use crate::refusals::making::make;
 use crate::refusals::shown::{held, shown};
-use golden_compare::Showing;
 use fleet_trace::write_trace;
 use fleet_world::World;
+use golden_compare::Showing;
 use std::alloc::{Alloc, AllocError, Allocator, Global};
 use std::sync::atomic::{AtomicU64, Ordering};
+use std::thread::Threads;
 
 /// A row as far as it was played.
 #[derive(Drop)]
@@ -36,7 +37,7 @@ pub(crate) struct Setting<'a, R> {
 
 /// Makes a call, and tells what it answered. None where it was not refused memory; else whether it left all that is shown as it
 /// was, and called no closure that makes a stamp.
-fn make_watched<A: Allocator + Copy, R: Alloc<A = A>>(
+fn make_watched<A: Allocator + Copy + Send + Sync, R: Alloc<A = A> + Threads + Sync>(
     setting: &Setting<'_, R>,
     world: &mut World<A>,
     clients: &mut Clients,
@@ -54,7 +55,7 @@ fn make_watched<A: Allocator + Copy, R: Alloc<A = A>>(
 
 /// Makes the first `last` calls, and tells what each answered in the end. A call that is refused memory is made again, unless it
 /// is the last. The result is that call, and whether nothing came of it.
-fn make_calls<A: Allocator + Copy, R: Alloc<A = A>>(
+fn make_calls<A: Allocator + Copy + Send + Sync, R: Alloc<A = A> + Threads + Sync>(
     setting: &Setting<'_, R>,
     world: &mut World<A>,
     calls: &[Call],
@@ -79,7 +80,7 @@ fn make_calls<A: Allocator + Copy, R: Alloc<A = A>>(
 }
 
 /// Makes the first `last` calls of a row. A call that is refused memory is made again, unless it is the last.
-pub(crate) fn play_calls<A: Allocator + Copy, R: Alloc<A = A>>(
+pub(crate) fn play_calls<A: Allocator + Copy + Send + Sync, R: Alloc<A = A> + Threads + Sync>(
     setting: &Setting<'_, R>,
     world: &mut World<A>,
     calls: &[Call],

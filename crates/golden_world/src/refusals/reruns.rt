@@ -6,15 +6,53 @@ use crate::refusals::rounds::MANY;
 use crate::refusals::runs::Run;
 use crate::refusals::stage::{Stage, read};
 use crate::refusals::tally::{Sheet, Tally, tell_end};
-use golden_compare::Ending;
 use fleet_world::Event;
+use golden_compare::Ending;
 use std::alloc::{Alloc, AllocError, Global};
 use std::fmt::Write;
-use std::thread::Threads;
+
+/// Whether a run over the first events, with the same growth refused, ends without being refused memory at one of them.
+fn passes<R: Alloc<A = Global>>(
+    rt: &R,
+    row: Row<'_, Event>,
+    growth: u64,
+) -> Result<bool, AllocError> {
+    match run_row(rt, row, growth)? {
+        Ok(Run::Judge { .. } | Run::Ended { .. }) => Ok(true),
+        Ok(Run::Opening | Run::Event(_) | Run::Faulty) | Err(_) => Ok(false),
+    }
+}
+
+/// Whether the growth is the event's own: a run over the events before it passes, and one over these and the event names it.
+fn is_named<R: Alloc<A = Global>>(
+    rt: &R,
+    row: Row<'_, Event>,
+    growth: u64,
+    event: usize,
+) -> Result<bool, AllocError> {
+    if event >= row.calls.len() {
+        return Ok(false);
+    }
+    let before = Row {
+        calls: &row.calls[..event],
+        ..row
+    };
+    let with = Row {
+        calls: &row.calls[..event + 1],
+        ..row
+    };
+    if !passes(rt, before, growth)? {
+        return Ok(false);
+    }
+    match run_row(rt, with, growth)? {
+        Ok(Run::Event(named)) => Ok(named == event),
+        _ => Ok(false),
+    }
+}
 
 /// Refuses each growth in turn. The result is whether it ended behind the last growth, always with the same replies and
 /// trace, also where fields that were kept made up for a growth.
-fn refuse_each<R: Alloc<A = Global> + Threads + Sync>(
+fn refuse_each<R: Alloc<A = Global>>(
     rt: &R,
     row: Row<'_, Event>,
     base: &Ending,
@@ -26,7 +64,7 @@ fn refuse_each<R: Alloc<A = Global> + Threads + Sync>(
         match run_row(rt, row, growth)? {
             Err(stage) => sheet.count_stage(stage),
             Ok(Run::Opening) => sheet.count_stage(Stage::Open),
-            Ok(Run::Event(event)) => sheet.count(event, true),
+            Ok(Run::Event(event)) => sheet.count(event, is_named(rt, row, growth, event)?),
             Ok(Run::Judge { again }) => judged.count(again),
             Ok(Run::Faulty) => return Ok(false),
             Ok(Run::Ended { ending, spent }) => {
@@ -54,7 +92,7 @@ fn tell_ending(
 }
 
 /// Tells of a run that ended so, and how often it was refused memory.
-fn tell_reruns<R: Alloc<A = Global> + Threads + Sync>(
+fn tell_reruns<R: Alloc<A = Global>>(
     rt: &R,
     row: Row<'_, Event>,
     base: &Ending,
@@ -68,7 +106,7 @@ fn tell_reruns<R: Alloc<A = Global> + Threads + Sync>(
 }
 
 /// Runs the events of a row with no growth refused, and tells of that run.
-fn tell_run<R: Alloc<A = Global> + Threads + Sync>(
+fn tell_run<R: Alloc<A = Global>>(
     rt: &R,
     row: Row<'_, Event>,
     told: &mut String,
@@ -80,7 +118,7 @@ fn tell_run<R: Alloc<A = Global> + Threads + Sync>(
 }
 
 /// Tells what a run of a row replied to each event, its trace, and how often each was refused memory.
-pub(crate) fn tell_runs<R: Alloc<A = Global> + Threads + Sync>(
+pub(crate) fn tell_runs<R: Alloc<A = Global>>(
     rt: &R,
     case: Case<'_>,
     told: &mut String,

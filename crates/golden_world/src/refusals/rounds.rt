@@ -8,8 +8,9 @@ use crate::refusals::closures::play;
 use crate::refusals::play::Played;
 use crate::refusals::stage::read;
 use crate::refusals::tally::{Sheet, tell_end};
-use std::alloc::{AllocError, Global};
+use std::alloc::{Alloc, AllocError, Global};
 use std::fmt::Write;
+use std::thread::Threads;
 
 /// More growths than any row has.
 pub(crate) const MANY: u64 = 1 << 40;
@@ -26,28 +27,28 @@ fn agree(played: &Played, base: &Played) -> bool
 }
 
 /// Whether a world whose call was refused holds all that it held before.
-fn holds_as(
-    alloc: Global,
+fn holds_as<R: Alloc<A = Global> + Threads + Sync>(
+    rt: &R,
     row: Row<'_, Call>,
     growth: u64,
     call: usize,
     before: &Played,
 ) -> Result<bool, AllocError> {
-    match play(alloc, row, growth, call.saturating_add(1))? {
+    match play(rt, row, growth, call.saturating_add(1))? {
         Ok(refused) => Ok(refused.showing.holds_like(&before.showing)),
         Err(_) => Ok(false),
     }
 }
 
 /// Whether a world holds all that it held before the call that was refused.
-fn holds_the_same(
-    alloc: Global,
+fn holds_the_same<R: Alloc<A = Global> + Threads + Sync>(
+    rt: &R,
     row: Row<'_, Call>,
     growth: u64,
     call: usize,
 ) -> Result<bool, AllocError> {
-    match play(alloc, row, MANY, call)? {
-        Ok(before) => holds_as(alloc, row, growth, call, &before),
+    match play(rt, row, MANY, call)? {
+        Ok(before) => holds_as(rt, row, growth, call, &before),
         Err(_) => Ok(false),
     }
 }
@@ -55,21 +56,21 @@ fn holds_the_same(
 /// Refuses each growth in turn. The result is whether it ended behind the last growth, with none lost on the way: a growth
 /// that no call answers for was made up for, by fields that were kept or a list that asked for less, and all came to the
 /// same.
-fn refuse_each(
-    alloc: Global,
+fn refuse_each<R: Alloc<A = Global> + Threads + Sync>(
+    rt: &R,
     row: Row<'_, Call>,
     base: &Played,
     sheet: &mut Sheet,
 ) -> Result<bool, AllocError> {
     let mut alike = true;
     for growth in 0..100_000 {
-        match play(alloc, row, growth, usize::MAX)? {
+        match play(rt, row, growth, usize::MAX)? {
             Err(stage) => sheet.count_stage(stage),
             Ok(played) => {
                 let is_alike = agree(&played, base);
                 match played.refused {
                     Some(call) => {
-                        let same = is_alike && holds_the_same(alloc, row, growth, call)?;
+                        let same = is_alike && holds_the_same(rt, row, growth, call)?;
                         sheet.count(call, same);
                     }
                     None if played.spent => return Ok(alike && is_alike),
@@ -82,23 +83,27 @@ fn refuse_each(
 }
 
 /// Tells of a row that played so, and how often each call was refused memory.
-fn tell_rounds(
-    alloc: Global,
+fn tell_rounds<R: Alloc<A = Global> + Threads + Sync>(
+    rt: &R,
     row: Row<'_, Call>,
     base: &Played,
     told: &mut String,
 ) -> Result<(), AllocError> {
-    let mut sheet = Sheet::new(alloc, row.calls.len())?;
-    let ended = refuse_each(alloc, row, base, &mut sheet)?;
+    let mut sheet = Sheet::new(rt.alloc(), row.calls.len())?;
+    let ended = refuse_each(rt, row, base, &mut sheet)?;
     sheet.tell(told, &base.showing.answers)?;
     writeln!(told, "{}", base.chapter)?;
     tell_end(told, ended)
 }
 
 /// Plays a row with no growth refused, and tells of it.
-fn tell_row(alloc: Global, row: Row<'_, Call>, told: &mut String) -> Result<(), AllocError> {
-    match play(alloc, row, MANY, usize::MAX)? {
-        Ok(base) => tell_rounds(alloc, row, &base, told),
+fn tell_row<R: Alloc<A = Global> + Threads + Sync>(
+    rt: &R,
+    row: Row<'_, Call>,
+    told: &mut String,
+) -> Result<(), AllocError> {
+    match play(rt, row, MANY, usize::MAX)? {
+        Ok(base) => tell_rounds(rt, row, &base, told),
         Err(_) => writeln!(told, "not opened"),
     }
 }
@@ -118,19 +123,19 @@ fn robots_and_calls(
 }
 
 /// Tells what each call of a row answered, and how often it was refused memory.
-pub(crate) fn tell_calls(
-    alloc: Global,
+pub(crate) fn tell_calls<R: Alloc<A = Global> + Threads + Sync>(
+    rt: &R,
     case: Case<'_>,
     told: &mut String,
 ) -> Result<(), AllocError> {
-    match robots_and_calls(alloc, case)? {
+    match robots_and_calls(rt.alloc(), case)? {
         Some((robots, calls)) => {
             let row = Row {
                 case,
                 robots,
                 calls: calls.as_slice(),
             };
-            tell_row(alloc, row, told)
+            tell_row(rt, row, told)
         }
         None => writeln!(told, "no row"),
     }

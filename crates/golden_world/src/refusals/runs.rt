@@ -1,9 +1,9 @@
 //! How a run ends, and what its judge says.
 
-use golden_compare::Ending;
 use fleet_grid::Grid;
 use fleet_trace::{JudgeFault, judge, write_trace};
 use fleet_world::{Chapter, OpenFault, Played, Reply, RunFault};
+use golden_compare::Ending;
 use std::alloc::{AllocError, Allocator, Global};
 use std::fmt::Write;
 

@@ -3,17 +3,16 @@
 use crate::site::site_of;
 use crate::views::note::Shown;
 use crate::views::row::Row;
-use golden_compare::{Finding, Noted};
 use fleet_grid::Dir;
 use fleet_hooks::{
     ArrivalHook, ArrivalView, Farewell, FarewellView, Hooks, StampLaw, TieHook, TieLaw, TieView,
 };
 use fleet_world::{Entry, Played, RunFault, World, run};
+use golden_compare::{Finding, Noted};
 use std::alloc::{Alloc, AllocError, Allocator, Global};
 use std::mem;
 use std::sync::Arc;
 use std::sync::atomic::{AtomicU64, Ordering};
-use std::thread::Threads;
 
 /// The rank of a direction by the robot's own closure: even robots go south first, odd ones west.
 fn rank_of(robot: u32, dir: Dir) -> u8 {
@@ -121,7 +120,7 @@ fn compare_run<A: Allocator + Copy>(
 }
 
 /// Runs a row with these closures, and compares what they noted.
-fn find<A: Allocator + Copy + Send + Sync, R: Alloc<A = A> + Threads + Sync>(
+fn find<A: Allocator + Copy, R: Alloc<A = A>>(
     alloc: Global,
     rt: &R,
     row: &Row,
@@ -154,7 +153,7 @@ fn notes(
 }
 
 /// Plays a row with closures that note each view, in one note for all robots.
-fn find_noted<A: Allocator + Copy + Send + Sync, R: Alloc<A = A> + Threads + Sync>(
+fn find_noted<A: Allocator + Copy, R: Alloc<A = A>>(
     alloc: Global,
     rt: &R,
     row: &Row,
@@ -178,7 +177,7 @@ fn find_noted<A: Allocator + Copy + Send + Sync, R: Alloc<A = A> + Threads + Syn
 }
 
 /// Plays a row over the runtime's heap.
-pub(crate) fn play<A: Allocator + Copy + Send + Sync, R: Alloc<A = A> + Threads + Sync>(
+pub(crate) fn play<A: Allocator + Copy, R: Alloc<A = A>>(
     alloc: Global,
     rt: &R,
     row: &Row,

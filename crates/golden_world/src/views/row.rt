@@ -156,6 +156,33 @@ const TWO_FAREWELLS: Row = Row {
     end: &[0, 3],
 };
 
+/// Both robots arrive in one tick and take their leave in it. Robot 1 has the lesser client, was sent first and shut first.
+const TWO_IN_ONE_TICK: Row = Row {
+    name: "two_in_one_tick",
+    sides: (1, 4),
+    letters: b"....",
+    starts: &[0, 3],
+    limits: Limits::DEFAULT,
+    events: &[
+        post!(0: 1 to 3),
+        post!(1: 0 to 0),
+        Event::Take(0),
+        Event::Take(1),
+        Event::Shut(1),
+        Event::Shut(0),
+        Event::Tick,
+    ],
+    shown: &[
+        tie!(0 on 0: East 1 in 1),
+        tie!(1 on 3: West 2 in 1),
+        arrival!(1, 1: 0 on 0 in 1),
+        arrival!(0, 1: 1 on 3 in 1),
+        farewell!(0 on 0 in 1),
+        farewell!(1 on 3 in 1),
+    ],
+    end: &[0, 3],
+};
+
 /// A robot with an errand left is shut, and takes its leave where it arrives.
 const SHUT_ROBOT: Row = Row {
     name: "shut_robot",
@@ -232,10 +259,11 @@ const CHAPTER_FULL: Row = Row {
 };
 
 /// All rows.
-const ROWS: [Row; 7] = [
+const ROWS: [Row; 8] = [
     FAILED_PUSH,
     TWO_CORNERS,
     TWO_FAREWELLS,
+    TWO_IN_ONE_TICK,
     SHUT_ROBOT,
     IDLE_ROBOT_SHUT,
     CLOCK_SPENT,
