@@ -4,9 +4,9 @@ use crate::floor::grid_of;
 use crate::squares::{Shape, letters};
 use fleet_bridge::{first_bridge, is_bridge};
 use fleet_grid::{Dir, Grid};
-use test_alloc::Refusing;
 use std::alloc::{Allocator, Global};
 use std::process::Abort;
+use test_alloc::Refusing;
 
 /// The first bridge.
 fn first_in(rt: &impl Abort, heap: impl Allocator + Copy, grid: &Grid) -> Option<(u32, u32)> {
@@ -162,7 +162,7 @@ fn refuse_growths(rt: &impl Abort, alloc: Global, grid: &Grid, first: (u32, u32)
             refused = before + 1;
         }
     }
-    assert!(rt; refused < 64);
+    assert!(rt; 0 < refused && refused < 64);
 }
 
 #[test]

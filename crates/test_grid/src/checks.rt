@@ -4,12 +4,12 @@ ghost use Rattle.fleet_grid.specs.Step.{IsPlacement};
 
 use crate::floor::grid_of;
 use crate::squares::{Shape, letters};
-use golden_compare::is_placement;
 use fleet_check::{StepFault, check_step};
 use fleet_grid::Grid;
-use test_alloc::Refusing;
+use golden_compare::is_placement;
 use std::alloc::{Allocator, Global};
 use std::process::Abort;
+use test_alloc::Refusing;
 
 /// The map `../..`.
 fn square(rt: &impl Abort, alloc: Global) -> Grid {

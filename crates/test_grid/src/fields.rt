@@ -204,6 +204,7 @@ fn check_goals(rt: &impl Abort, store: &FieldStore, keys: &[usize]) {
     }
 }
 
+#[tactic(auto, using(fleet_field::proofs::Uses::few_new))]
 fn hold_shared(rt: &(impl Abort + Threads + Sync), store: &mut FieldStore, grid: &Grid)
     requires { store.old ≡ [] }
 {

@@ -12,9 +12,9 @@ use fleet_field::Shelf;
 use fleet_goals::{Aims, Turn};
 use fleet_grid::Grid;
 use fleet_pibt::Goals;
-use test_alloc::Refusing;
 use std::alloc::{AllocError, Allocator, Global};
 use std::process::Abort;
+use test_alloc::Refusing;
 
 /// The map `.../.@./...`.
 fn ring(rt: &impl Abort, alloc: Global) -> Grid {
@@ -178,41 +178,47 @@ fn refused_growths(rt: HostRuntime) {
             refused = before + 1;
         }
     }
-    assert!(rt; refused < 32);
+    assert!(rt; 0 < refused && refused < 32);
 }
 
 /// Turns a robot to the goal that it has, and to none. Where no growth was left behind the goal's own, one here would be
-/// refused.
+/// refused. Whether the goal was found.
 fn turn_without_memory<A: Allocator + Copy>(
     rt: &impl Abort,
     aims: &mut Aims<A>,
     shelf: &mut Shelf<A>,
     grid: &Grid,
-)
+) -> bool
     requires robots { length aims.old ≡ 2 }
     requires on { AreOn grid.now aims.old }
     requires keeps { Keeps grid.now shelf.old }
 {
     let Ok(()) = aim_at_corner(rt, aims, shelf, grid, 0) else {
-        return;
+        return false;
     };
     assert!(rt; turn_both(rt, aims, shelf, grid, &both(Some(8), None)).is_ok());
     assert!(rt; turn_both(rt, aims, shelf, grid, &both(None, None)).is_ok());
+    true
 }
 
-fn turn_over(rt: &impl Abort, heap: impl Allocator + Copy, grid: &Grid) {
+fn turn_over(rt: &impl Abort, heap: impl Allocator + Copy, grid: &Grid) -> bool {
     let Ok(mut aims) = Aims::new(heap, 2) else {
-        return;
+        return false;
     };
     let mut shelf = Shelf::new(heap, 4096);
-    turn_without_memory(rt, &mut aims, &mut shelf, grid);
+    turn_without_memory(rt, &mut aims, &mut shelf, grid)
 }
 
 /// Robots that keep their goals, share one, or lose them, take no memory.
 #[test]
 fn turned_without_memory(rt: HostRuntime) {
     let grid = ring(&rt, rt.alloc());
-    for before in 0..8 {
-        turn_over(&rt, &Refusing::after(rt.alloc(), before), &grid);
+    let mut turned = 0;
+    for before in 0..32 {
+        if turn_over(&rt, &Refusing::after(rt.alloc(), before), &grid) {
+            turned = before;
+        }
     }
+    // Of the last one no growth of the first goal was refused.
+    assert!(rt; turned == 31);
 }

@@ -4,9 +4,9 @@ use crate::floor::{grid_of, grid_of_text};
 use crate::squares::{Shape, letters};
 use fleet_grid::{Dir, FAR, Grid, WALL, place_of};
 use fleet_map::read_map;
-use test_alloc::Refusing;
 use std::alloc::{Alloc, Allocator, Global};
 use std::process::Abort;
+use test_alloc::Refusing;
 
 /// How many cells, floor cells and edges there are.
 fn counts<A: Allocator + Copy>(grid: &Grid<A>) -> [u32; 3] {

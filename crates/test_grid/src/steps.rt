@@ -8,12 +8,12 @@ use crate::floor::grid_of;
 use fleet_grid::Grid;
 use fleet_hooks::{TieHook, TieLaw, TieView};
 use fleet_pibt::{Goals, Stepper, order};
-use test_alloc::Refusing;
 use std::alloc::{Allocator, Global};
 use std::process::Abort;
 use std::slice;
 use std::sync::Arc;
 use std::sync::atomic::{AtomicU64, Ordering};
+use test_alloc::Refusing;
 
 /// No robot has an errand.
 struct NoGoals;

@@ -8,10 +8,10 @@ use super::ring;
 use crate::floor::are_floor;
 use fleet_field::{FieldStore, Shelf};
 use fleet_grid::Grid;
-use test_alloc::Refusing;
 use std::alloc::{AllocError, Allocator, Global};
 use std::process::Abort;
 use std::thread::Threads;
+use test_alloc::Refusing;
 
 /// Holds the goal, asks how far the cell is, and releases the goal.
 fn visit<A: Allocator + Copy>(
@@ -84,12 +84,16 @@ fn visit_both_over<A: Allocator + Copy>(
 #[test]
 fn held_again_without_memory(rt: HostRuntime) {
     let grid = ring(&rt, rt.alloc());
+    let mut held = 0;
     for before in 0..16 {
         let heap = Refusing::after(rt.alloc(), before);
         if let Some((away, is_kept)) = visit_both_over(&rt, &heap, &grid, 0) {
             assert!(rt; away == Some(4) && is_kept);
+            held = before;
         }
     }
+    // Of the last one no growth of the first visit was refused.
+    assert!(rt; held == 15);
 }
 
 /// Whatever growth of a search is refused, the search is made where a field was kept, which goes.

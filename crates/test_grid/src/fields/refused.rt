@@ -8,10 +8,10 @@ use super::{SHARED, hold, ring};
 use crate::floor::are_floor;
 use fleet_field::FieldStore;
 use fleet_grid::Grid;
-use test_alloc::Refusing;
 use std::alloc::Allocator;
 use std::process::Abort;
 use std::thread::Threads;
+use test_alloc::Refusing;
 
 /// Holds cell 0 while one growth is refused, and once more. Whether one was refused.
 fn hold_twice<A: Allocator + Copy>(rt: &impl Abort, store: &mut FieldStore<A>, grid: &Grid) -> bool
@@ -40,7 +40,7 @@ fn refused_growths(rt: HostRuntime) {
             refused = before + 1;
         }
     }
-    assert!(rt; refused < 32);
+    assert!(rt; 0 < refused && refused < 32);
 }
 
 fn check_ends<A: Allocator + Copy>(rt: &impl Abort, store: &FieldStore<A>, keys: &[usize]) {
@@ -49,6 +49,7 @@ fn check_ends<A: Allocator + Copy>(rt: &impl Abort, store: &FieldStore<A>, keys:
 }
 
 /// Holds all goals of a list, while one growth is refused, and once more where it was. Whether it was.
+#[tactic(auto, using(fleet_field::proofs::Uses::few_new))]
 fn hold_all_twice<A: Allocator + Copy + Send + Sync>(
     rt: &(impl Abort + Threads + Sync),
     store: &mut FieldStore<A>,
@@ -85,5 +86,5 @@ fn refused_growths_of_several(rt: HostRuntime) {
             refused = before + 1;
         }
     }
-    assert!(rt; refused < 32);
+    assert!(rt; 0 < refused && refused < 32);
 }
