@@ -6,7 +6,7 @@ ghost use Rattle.fleet_field.specs.Store.{Serves};
 
 use super::{SHARED, hold, ring};
 use crate::floor::are_floor;
-use fleet_field::FieldStore;
+use fleet_field::{FieldStore, fields};
 use fleet_grid::Grid;
 use std::alloc::Allocator;
 use std::process::Abort;
@@ -83,6 +83,31 @@ fn refused_growths_of_several(rt: HostRuntime) {
     let mut refused = 0;
     for before in 0..32 {
         if are_refused(&rt, &Refusing::after(rt.alloc(), before), &grid) {
+            refused = before + 1;
+        }
+    }
+    assert!(rt; 0 < refused && refused < 32);
+}
+
+/// Whether a growth is refused while several fields are searched. They are searched again then.
+fn is_search_refused(
+    rt: &(impl Abort + Threads + Sync),
+    heap: impl Allocator + Copy + Send + Sync,
+    grid: &Grid,
+) -> bool {
+    assert!(rt; are_floor(grid, &SHARED));
+    let met = fields(rt, heap, grid, &SHARED).is_err();
+    let several = fields(rt, heap, grid, &SHARED).expect(rt, "memory for fields");
+    assert!(rt; several.len() == 3 && several[1].at(0) == Some(4));
+    met
+}
+
+#[test]
+fn refused_growths_of_fields(rt: HostRuntime) {
+    let grid = ring(&rt, rt.alloc());
+    let mut refused = 0;
+    for before in 0..32 {
+        if is_search_refused(&rt, &Refusing::after(rt.alloc(), before), &grid) {
             refused = before + 1;
         }
     }
