@@ -1,5 +1,5 @@
 -- The rows of a map and the lines of traces, one by one.
-use Rattle.std.proofs.Common.{◌≡◌, ◌∙◌, ℕ, zero, suc, ◌+◌, ◌-◌, ◌*◌, ◌<◌, ◌≤◌, List, [], ◌∷◌, ◌++◌, length, take, drop, length-drop, get_or, map, sym, ap, subst, refl, codes, arith, append_assoc}
+use Rattle.std.proofs.Common.{◌≡◌, ◌∙◌, ℕ, suc, ◌+◌, ◌-◌, ◌*◌, ◌<◌, List, ◌++◌, length, take, drop, length-drop, sym, ap, subst, refl, codes, arith, append_assoc}
 use Rattle.fleet_trace.specs.Trace.{Trace}
 use Rattle.fleet_map.specs.Grammar.{Map}
 use Rattle.fleet_view.specs.Page.{rows_text, chapters_text, page_text}

@@ -1,5 +1,5 @@
 -- Texts that tell traces, one by one.
-use Rattle.std.proofs.Common.{◌≡◌, ◌∙◌, ℕ, suc, ◌+◌, ◌<◌, ◌≤◌, List, [], ◌∷◌, ◌++◌, length, get_or, map, take, drop, sym, ap, subst, refl, arith}
+use Rattle.std.proofs.Common.{◌≡◌, ◌∙◌, ℕ, ◌+◌, ◌<◌, ◌≤◌, List, [], ◌∷◌, ◌++◌, length, get_or, map, take, drop, sym, ap, subst}
 use Rattle.std.proofs.lemmas.List.{take_more, drop_more, take_all, take-append-drop, map-append}
 use Rattle.std.specs.declared.alloc.Global.{Global}
 use Rattle.fleet_trace.specs.declared.fault.TraceFault.{TraceFault}

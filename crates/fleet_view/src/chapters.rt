@@ -1,6 +1,6 @@
 //! Traces of chapters that follow one another.
 
-ghost use Rattle.std.specs.Prelude.{◌≡◌, ◌+◌, ◌<◌, ◌^◌, Some, None, map, length, IfOk, IfErr, OnSome, MatchOption, true, false};
+ghost use Rattle.std.specs.Prelude.{◌≡◌, ◌+◌, ◌<◌, ◌^◌, Some, None, map, length, IfOk, IfErr, IfSome, MatchOption, option_copied, option_map, true, false};
 ghost use Rattle.fleet_history.specs.History.{history_of, place_after, clock};
 ghost use Rattle.fleet_trace.specs.Trace.{trace_of};
 ghost use Rattle.fleet_trace.specs.Reads.{IsTraceFault};
@@ -83,10 +83,25 @@ fn goes_on(alloc: Global, first: &Chapter, next: &Chapter) -> Result<bool, Alloc
 
 /// Whether the chapter may stand behind another, where there is one.
 fn fits_behind(alloc: Global, before: Option<&Chapter>, next: &Chapter) -> Result<bool, AllocError>
-    ensures none { before.entry ≡ None → IfOk result (λ b. b ≡ true) }
+    ensures { IfOk result (λ b. b ≡ fits_behind (option_map trace_of (option_copied before.entry)) (trace_of next.now)) }
 {
     match before {
         Some(before) => goes_on(alloc, before, next),
         None => Ok(true),
     }
+}
+
+/// The place, from 0, of the first chapter that does not go on where the one before it ends.
+pub(crate) fn first_unfit(alloc: Global, chapters: &[Chapter]) -> Result<Option<usize>, AllocError>
+    ensures first { IfOk result (λ place. place ≡ first_unfit 0 None (map trace_of chapters.now)) }
+    ensures within { IfOk result (λ place. IfSome place (λ p. p < length chapters.now)) }
+{
+    let mut before = None;
+    for (place, next) in chapters.iter().enumerate() {
+        if !fits_behind(alloc, before, next)? {
+            return Ok(Some(place));
+        }
+        before = Some(next);
+    }
+    Ok(None)
 }

@@ -32,11 +32,11 @@ main { display: grid; grid-template-columns: minmax(0, 1fr) 360px; gap: 14px; pa
 @media (max-width: 900px) { main { grid-template-columns: minmax(0, 1fr); } }
 aside { display: flex; flex-direction: column; gap: 14px; min-width: 0; }
 .card { background: var(--card); border: 1px solid var(--line); border-radius: 10px; padding: 12px; min-width: 0; }
-.frame { position: relative; }
 #map { display: block; width: 100%; border-radius: 6px; background: var(--floor); cursor: grab; touch-action: none; }
 #map.held { cursor: grabbing; }
 :focus-visible { outline: 2px solid var(--accent); outline-offset: 2px; }
-.zoom { position: absolute; top: 8px; right: 8px; display: flex; flex-direction: column; gap: 4px; opacity: .9; }
+.zoom { display: inline-flex; gap: 4px; }
+.zoom button { padding: 1px 9px; }
 .bar { display: flex; flex-wrap: wrap; gap: 8px 14px; align-items: center; margin-top: 10px; }
 .bar input[type="range"] { flex: 1; min-width: 120px; accent-color: var(--accent); }
 #clock { font-variant-numeric: tabular-nums; min-width: 130px; text-align: right; }
@@ -72,14 +72,7 @@ tr.eldest > * { background: color-mix(in srgb, var(--accent) 14%, transparent); 
 </header>
 <main>
 <section class="card stage" aria-label="Map and time">
-<div class="frame">
 <canvas id="map" tabindex="0" role="img" aria-label="Robots on the map" aria-describedby="keys"></canvas>
-<div class="zoom" role="group" aria-label="Zoom">
-<button type="button" id="zoom-in" aria-label="Zoom in">+</button>
-<button type="button" id="zoom-out" aria-label="Zoom out">&minus;</button>
-<button type="button" id="zoom-fit" aria-label="Show the whole map">fit</button>
-</div>
-</div>
 <div class="bar" role="group" aria-label="Time">
 <button type="button" id="play" aria-label="Play">&#9654;</button>
 <button type="button" id="back" aria-label="One tick back">&#8249;</button>
@@ -92,6 +85,11 @@ tr.eldest > * { background: color-mix(in srgb, var(--accent) 14%, transparent); 
 <label><input type="checkbox" id="show-heat"> heat</label>
 <label><input type="checkbox" id="show-goals" checked> goals</label>
 <label><input type="checkbox" id="show-lines" checked> lines</label>
+<span class="zoom" role="group" aria-label="Zoom">
+<button type="button" id="zoom-in" aria-label="Zoom in">+</button>
+<button type="button" id="zoom-out" aria-label="Zoom out">&minus;</button>
+<button type="button" id="zoom-fit" aria-label="Show the whole map">fit</button>
+</span>
 <span id="hover" class="soft"></span>
 </div>
 <p id="keys" class="soft">Space plays, arrow keys go a tick back or on (with shift ten), Home and End to either end, + and &minus; zoom, 0 shows the whole map; drag moves it.</p>

@@ -449,7 +449,7 @@ class MapView {
 
   resize() {
     const { height, width } = this.replay.map;
-    const room = this.canvas.parentElement.clientWidth;
+    const room = this.canvas.clientWidth;
     const high = Math.max(160, Math.min(room * height / width, window.innerHeight * 0.78));
     this.ratio = window.devicePixelRatio || 1;
     this.canvas.style.height = `${high}px`;
@@ -686,7 +686,7 @@ class Curve {
     pen.lineWidth = 1.6 * ratio;
     pen.lineJoin = 'round';
     pen.beginPath();
-    const columns = Math.min(values.length, canvas.width);
+    const columns = Math.min(values.length, canvas.width - Math.round(30 * ratio));
     for (let column = 0; column < columns; column += 1) {
       const from = Math.floor(column * values.length / columns);
       const to = Math.max(from + 1, Math.floor((column + 1) * values.length / columns));
@@ -699,12 +699,14 @@ class Curve {
     pen.stroke();
     pen.fillStyle = colours.soft;
     pen.font = `${11 * ratio}px system-ui, sans-serif`;
-    pen.fillText(String(this.most), 6 * ratio, 14 * ratio);
-    pen.fillText('0', 6 * ratio, canvas.height - 5 * ratio);
+    pen.textAlign = 'right';
+    pen.fillText(String(this.most), 26 * ratio, 14 * ratio);
+    pen.fillText('0', 26 * ratio, canvas.height - 5 * ratio);
   }
 
   xOf(at) {
-    return 2 + at / Math.max(1, this.values.length - 1) * (this.canvas.width - 4);
+    const left = 30 * this.ratio;
+    return left + at / Math.max(1, this.values.length - 1) * (this.canvas.width - left - 2);
   }
 
   yOf(value) {
