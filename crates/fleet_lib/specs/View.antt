@@ -1,8 +1,7 @@
 -- What the word `view` comes to.
 use Rattle.std.specs.Prelude.{◌≡◌, ℕ, List, [], ◌++◌, Option, Some, None, codes, decimal}
-use Rattle.errands_text.specs.declared.said.Complaint.{Complaint}
 use Rattle.errands_text.specs.declared.said.Complaint.TheVariants as complaint
-use Rattle.errands_text.specs.Complaint.{complaint_text, status_of}
+use Rattle.errands_text.specs.Complaint.{complaint_text}
 use Rattle.fleet_view.specs.declared.fault.ViewFault.{ViewFault}
 use Rattle.fleet_view.specs.declared.fault.ViewFault.TheVariants as fault
 use Rattle.fleet_view.specs.View.{IsPage, IsPicture, IsUnshown}

@@ -286,13 +286,18 @@ class Replay {
         } else if (entry[0] === 'take') {
           this.push(takeEvent(this.state, entry));
         } else {
-          this.push({ kind: 'shut', frame: this.state.frame, robot: entry[1], entry });
+          this.push({ kind: this.kindFor('shut', entry[1]), frame: this.state.frame, robot: entry[1], entry });
         }
       }
       trace.entries = null;
     }
     this.measure(arrived);
     this.mostHeat = this.state.heat.reduce((most, count) => Math.max(most, count), 1);
+  }
+
+  // An illegal trace may tell of a robot that there is none of: nothing changes by that.
+  kindFor(kind, robot) {
+    return robot < this.robots ? kind : 'note';
   }
 
   push(event) {
@@ -318,7 +323,7 @@ class Replay {
       state.heat[to[robot]] += 1;
     }
     this.moveStart[frame + 1] = at;
-    for (const arrival of arrived) this.push({ kind: 'arrive', frame, robot: arrival[0], entry: ['arrival', to[arrival[0]], ...arrival] });
+    for (const arrival of arrived) this.push({ kind: this.kindFor('arrive', arrival[0]), frame, robot: arrival[0], entry: ['arrival', to[arrival[0]], ...arrival] });
     for (const farewell of farewells) this.push({ kind: 'note', frame, entry: ['farewell', ...farewell] });
   }
 
@@ -686,7 +691,7 @@ class Curve {
     pen.lineWidth = 1.6 * ratio;
     pen.lineJoin = 'round';
     pen.beginPath();
-    const columns = Math.min(values.length, canvas.width - Math.round(30 * ratio));
+    const columns = Math.min(values.length, canvas.width - Math.round(50 * ratio));
     for (let column = 0; column < columns; column += 1) {
       const from = Math.floor(column * values.length / columns);
       const to = Math.max(from + 1, Math.floor((column + 1) * values.length / columns));
@@ -700,12 +705,12 @@ class Curve {
     pen.fillStyle = colours.soft;
     pen.font = `${11 * ratio}px system-ui, sans-serif`;
     pen.textAlign = 'right';
-    pen.fillText(String(this.most), 26 * ratio, 14 * ratio);
-    pen.fillText('0', 26 * ratio, canvas.height - 5 * ratio);
+    pen.fillText(String(this.most), 46 * ratio, 14 * ratio);
+    pen.fillText('0', 46 * ratio, canvas.height - 5 * ratio);
   }
 
   xOf(at) {
-    const left = 30 * this.ratio;
+    const left = 50 * this.ratio;
     return left + at / Math.max(1, this.values.length - 1) * (this.canvas.width - left - 2);
   }
 
