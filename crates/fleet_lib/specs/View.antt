@@ -1,5 +1,5 @@
 -- What the word `view` comes to.
-use Rattle.std.specs.Prelude.{◌≡◌, ℕ, List, [], ◌++◌, Option, Some, None, codes, decimal}
+use Rattle.std.specs.Prelude.{◌≡◌, ℕ, List, [], ◌++◌, Some, None, codes, decimal}
 use Rattle.errands_text.specs.declared.said.Complaint.TheVariants as complaint
 use Rattle.errands_text.specs.Complaint.{complaint_text}
 use Rattle.fleet_view.specs.declared.fault.ViewFault.{ViewFault}
