@@ -1,0 +1,56 @@
+//! `fleet`: for the people around a fleet of robots. `fleet view MAP TRACE..` prints a page that replays traces on a map, with `--svg` a
+//! moving picture, with `--tick N` a picture of what stands after N ticks. What each word does stands in `fleet_lib`.
+#![tactic(auto)]
+
+mod ends;
+mod view;
+
+use fleet_lib::{InputFault, Job, WordFault, fail, parse_words, write_whole};
+use std::alloc::{Alloc, Global};
+use std::env::{self, Env};
+use std::io::{self, ErrorKind, Write};
+use std::process::ExitCode;
+use view::run_view;
+
+/// The words that the program was given.
+fn words_given(rt: &(impl Env + Alloc<A = Global>)) -> io::Result<Vec<String>> {
+    Ok(env::args(rt)?.collect(rt.alloc())?)
+}
+
+/// Says that the words could not be read: memory ran out, or one is no text. The result is the status.
+fn fail_words<E: Write>(fault: &io::Error, error: &mut E) -> u8 {
+    if fault.kind() == ErrorKind::OutOfMemory {
+        return fail(InputFault::NoMemory, error);
+    }
+    write_whole(
+        error,
+        b"error: invalid UTF-8 was detected in one or more arguments\n",
+    );
+    2
+}
+
+/// The job that the program's words name, or the status where they name none.
+fn job_given<E: Write>(rt: &(impl Env + Alloc<A = Global>), error: &mut E) -> Result<Job, u8> {
+    let words = match words_given(rt) {
+        Ok(words) => words,
+        Err(fault) => return Err(fail_words(&fault, error)),
+    };
+    match parse_words(rt.alloc(), &words) {
+        Ok(job) => Ok(job),
+        Err(WordFault::NoMemory) => Err(fail(InputFault::NoMemory, error)),
+        Err(WordFault::Words(text)) => {
+            write_whole(error, text.as_bytes());
+            Err(2)
+        }
+    }
+}
+
+fn main(rt: HostRuntime) -> ExitCode {
+    let mut output = rt.stdout();
+    let mut error = rt.stderr();
+    let status = match job_given(&rt, &mut error) {
+        Ok(Job::View(view)) => run_view(&rt, &view, &mut output, &mut error),
+        Err(status) => status,
+    };
+    ExitCode::from(status)
+}

@@ -1,0 +1,43 @@
+//! What the program has to say, and how it is written.
+
+ghost use Rattle.std.specs.Prelude.{◌≡◌};
+ghost use Rattle.fleet_lib.specs.Said.{Failed, IsTold, said_of};
+
+use crate::input::InputFault;
+use errands_text::write_whole;
+use std::io::Write;
+
+/// A text for the output, the status, and a text for the error writer.
+#[derive(Debug, Drop)]
+pub struct Said {
+    pub output: Vec<u8>,
+    pub status: u8,
+    pub complaint: String,
+}
+
+/// Says on the error writer that a file or memory failed. The result is the status.
+pub fn fail<E: Write>(fault: InputFault, error: &mut E) -> u8
+    ensures { Failed fault (E.contents error.old) (E.contents error.new) result }
+{
+    match fault {
+        InputFault::File => {
+            write_whole(error, b"fleet: file\n");
+            3
+        }
+        InputFault::NoMemory => {
+            write_whole(error, b"fleet: memory\n");
+            7
+        }
+    }
+}
+
+/// Writes what there is to say. The result is the status: 3 where the output was not taken whole.
+pub fn tell<W: Write, E: Write>(said: &Said, output: &mut W, error: &mut E) -> u8
+    ensures { IsTold (said_of said.now) (W.contents output.old) (W.contents output.new) (E.contents error.old) (E.contents error.new) result }
+{
+    if !write_whole(output, &said.output) {
+        return fail(InputFault::File, error);
+    }
+    write_whole(error, said.complaint.as_bytes());
+    said.status
+}

@@ -1,0 +1,4 @@
+pub mod Rows
+pub mod Tellings
+pub mod Pieces
+pub mod Closed

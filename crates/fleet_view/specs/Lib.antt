@@ -1,0 +1,5 @@
+pub mod Page
+pub mod Chapters
+pub mod Picture
+pub mod View
+pub mod Closed

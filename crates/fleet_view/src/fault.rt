@@ -1,0 +1,28 @@
+//! Why a map and traces are not shown.
+
+use fleet_map::MapFault;
+use fleet_trace::TraceFault;
+use std::alloc::AllocError;
+
+/// Why a map and traces are not shown.
+#[derive(Clone, Copy, Debug, PartialEq, Eq)]
+pub enum ViewFault {
+    /// The bytes are no map.
+    Map(MapFault),
+    /// The bytes of one of the traces tell none.
+    Trace(TraceFault),
+    /// The trace with this number, from 1, does not go on where the one before it ends.
+    Chapter(u64),
+    NoMemory,
+}
+
+impl From<AllocError> for ViewFault {
+    ghost use Rattle.std.specs.Prelude.{◌≡◌};
+    ghost use Rattle.fleet_view.specs.declared.fault.ViewFault.TheVariants.{NoMemory};
+
+    ghost from_gives = { λ _ e. e ≡ NoMemory };
+
+    fn from(_error: AllocError) -> ViewFault {
+        ViewFault::NoMemory
+    }
+}

@@ -1,0 +1,18 @@
+//! A trace to look at: a page that replays it, and a picture of it, as text.
+#![tactic(auto)]
+
+mod chapters;
+mod fault;
+mod frame;
+mod law;
+mod page;
+mod picture;
+mod script;
+mod shapes;
+mod view;
+
+pub use fault::ViewFault;
+pub use law::input_ends_no_element;
+pub use page::page_of;
+pub use picture::picture_of;
+pub use view::{view_page, view_picture};

@@ -1,0 +1,99 @@
+//! What there is to show of the text of a map and of traces on it.
+
+ghost use Rattle.std.specs.Prelude.{◌≡◌, ℕ, List, Ok, map, IfOk, IfErr, string_bytes};
+ghost use Rattle.fleet_map.specs.Form.{HasSides};
+ghost use Rattle.fleet_map.specs.Grammar.{Gives, map_of, view};
+ghost use Rattle.fleet_trace.specs.Trace.{trace_of};
+ghost use Rattle.fleet_view.specs.View.{AreInTurn, AreNotInTurn, IsPage, IsPicture, IsUnshown};
+
+use crate::chapters::{first_unfit, read_chapters};
+use crate::fault::ViewFault;
+use crate::page::page_of;
+use crate::picture::picture_of;
+use fleet_history::Chapter;
+use fleet_map::{MapFault, MapText, read_map};
+use fleet_trace::TraceFault;
+use std::alloc::{AllocError, Global};
+
+/// The chapters of these texts, where each goes on where the one before it ends.
+fn chapters_in_turn(alloc: Global, texts: &[Vec<u8>]) -> Result<Vec<Chapter>, ViewFault>
+    ensures told { IfOk result (λ chapters. AreInTurn (map (λ text. text.items) texts.now) (map trace_of chapters.items)) }
+    ensures fault { IfErr result (λ fault. AreNotInTurn (map (λ text. text.items) texts.now) fault) }
+{
+    let chapters = match read_chapters(alloc, texts) {
+        Ok(chapters) => chapters,
+        Err(TraceFault::NoMemory) => return Err(ViewFault::NoMemory),
+        Err(fault) => return Err(ViewFault::Trace(fault)),
+    };
+    match first_unfit(alloc, &chapters) {
+        Ok(None) => Ok(chapters),
+        Ok(Some(place)) => Err(ViewFault::Chapter(place as u64 + 1)),
+        Err(AllocError) => Err(ViewFault::NoMemory),
+    }
+}
+
+/// The page of a map that was read.
+fn page_on(alloc: Global, floor: &MapText, texts: &[Vec<u8>]) -> Result<Vec<u8>, ViewFault>
+    requires { HasSides (view floor.now) }
+    ensures page { IfOk result (λ page. (bytes : List ℕ) → map_of bytes ≡ Ok (view floor.now) → IsPage bytes (map (λ text. text.items) texts.now) page.items) }
+    ensures fault { IfErr result (λ fault. AreNotInTurn (map (λ text. text.items) texts.now) fault) }
+{
+    match chapters_in_turn(alloc, texts) {
+        Ok(chapters) => match page_of(alloc, floor, &chapters) {
+            Ok(page) => Ok(page),
+            Err(AllocError) => Err(ViewFault::NoMemory),
+        },
+        Err(fault) => Err(fault),
+    }
+}
+
+/// The picture on a map that was read.
+fn picture_on(
+    alloc: Global,
+    floor: &MapText,
+    texts: &[Vec<u8>],
+    tick: Option<u32>,
+) -> Result<String, ViewFault>
+    requires { HasSides (view floor.now) }
+    ensures picture { IfOk result (λ picture. (bytes : List ℕ) → map_of bytes ≡ Ok (view floor.now) → IsPicture tick bytes (map (λ text. text.items) texts.now) (string_bytes picture)) }
+    ensures fault { IfErr result (λ fault. AreNotInTurn (map (λ text. text.items) texts.now) fault) }
+{
+    match chapters_in_turn(alloc, texts) {
+        Ok(chapters) => match picture_of(alloc, floor, &chapters, tick) {
+            Ok(picture) => Ok(picture),
+            Err(AllocError) => Err(ViewFault::NoMemory),
+        },
+        Err(fault) => Err(fault),
+    }
+}
+
+/// The page of a map and of traces on it: chapters, each of which goes on where the one before it ends. The map is read first, then
+/// the traces in their order; whether each goes on is looked at when all are read.
+pub fn view_page(alloc: Global, bytes: &[u8], texts: &[Vec<u8>]) -> Result<Vec<u8>, ViewFault>
+    ensures page { IfOk result (λ page. IsPage bytes.now (map (λ text. text.items) texts.now) page.items) }
+    ensures fault { IfErr result (λ fault. IsUnshown bytes.now (map (λ text. text.items) texts.now) fault) }
+{
+    match read_map(alloc, bytes) {
+        Ok(floor) => page_on(alloc, &floor, texts),
+        Err(MapFault::NoMemory) => Err(ViewFault::NoMemory),
+        Err(fault) => Err(ViewFault::Map(fault)),
+    }
+}
+
+/// The picture of a map and of traces on it, which are chapters as for `view_page`: each tick of theirs, or what stands after one.
+/// Ticks count from the first opening. The faults come as there.
+pub fn view_picture(
+    alloc: Global,
+    bytes: &[u8],
+    texts: &[Vec<u8>],
+    tick: Option<u32>,
+) -> Result<String, ViewFault>
+    ensures picture { IfOk result (λ picture. IsPicture tick bytes.now (map (λ text. text.items) texts.now) (string_bytes picture)) }
+    ensures fault { IfErr result (λ fault. IsUnshown bytes.now (map (λ text. text.items) texts.now) fault) }
+{
+    match read_map(alloc, bytes) {
+        Ok(floor) => picture_on(alloc, &floor, texts, tick),
+        Err(MapFault::NoMemory) => Err(ViewFault::NoMemory),
+        Err(fault) => Err(ViewFault::Map(fault)),
+    }
+}

@@ -1,0 +1,20 @@
+-- The job of the word that was met.
+use Rattle.std.proofs.Common.{◌≡◌, ◌∙◌, ap, sym, refl, List, ℕ, Option, Some, None, codes, option_map}
+use Rattle.std.proofs.lemmas.Slice.Eq.{bytes_eq-Decides}
+use Rattle.clap.specs.Words.{Row, Text, found_of, rows_of}
+use Rattle.fleet_words.proofs.words.job_from.Goals as goal
+
+-- the subcommand by its name and by its rows
+abbrev pair : {B : Type 0} → (B → Text) → (B → List Row) → B → Text × List Row
+pair f g b = (f b, g b)
+
+named : {B : Type 0} (f : B → Text) (g : B → List Row) (found : Option B) (name : Text) (rows : List Row) → Some name ≡ option_map f found
+    → Some rows ≡ option_map (λ (p : Text × List Row). p.1) (option_map (pair f g) found) → option_map (pair f g) found ≡ Some (name, rows)
+named f g None name rows e h = absurd cc
+named f g (Some b) name rows e h = let one : name ≡ f b = cc in let two : rows ≡ g b = cc in rw (one, two) refl
+
+pub returns-in_ok-view_in-in-Some : goal.returns-in_ok-view_in-in-Some
+returns-in_ok-view_in-in-Some c =
+    let rows = rows_of (found_of c.in-Some.inner.now) in
+    let name_is : c.in-Some.name.now ≡ codes "view" = (bytes_eq-Decides c.in-Some.name.now (codes "view")).0 (sym c.eq.ensures ∙ c.if-eq.true) in
+    (rows, named _ _ _ c.in-Some.name.now rows c.in-Some.ensures.name c.in-Some.ensures.rows ∙ ap (λ (n : Text). Some (n, rows)) name_is, c.in_ok-view_in-in-Some.ensures)

@@ -1,0 +1,20 @@
+-- Words that `clap` takes name a job, and only these.
+use Rattle.std.proofs.Common.{◌≡◌, [], true, ap, map, subst, sym, string_bytes}
+use Rattle.clap.specs.Words.{App, fault_of, takes}
+use Rattle.clap.specs.Faults.{is_simple_and_free}
+use Rattle.fleet_words.proofs.words.parse_words.Goals as goal
+
+pub returns-in_ok-job_from-in-Ok-clause-taken : goal.returns-in_ok-job_from-in-Ok-clause-taken
+returns-in_ok-job_from-in-Ok-clause-taken c =
+    subst (λ (a : App). fault_of a (map (λ w. string_bytes w) c.args.words.now) ≡ []) c.in_ok-command.ensures
+    (c.in-Ok.ensures.kinds (ap is_simple_and_free c.in_ok-command.ensures))
+
+pub returns-in-Err-clause-taken : goal.returns-in-Err-clause-taken
+returns-in-Err-clause-taken c = tt
+
+pub returns-in-Err-clause-job : goal.returns-in-Err-clause-job
+returns-in-Err-clause-job c = tt
+
+pub returns-in-Err-clause-refused : goal.returns-in-Err-clause-refused
+returns-in-Err-clause-refused c = λ e.
+    c.fault_from.ensures (c.in-Err.ensures.passes (subst (λ (a : App). takes a (map (λ w. string_bytes w) c.args.words.now) ≡ true) (sym c.in_ok-command.ensures) e))

@@ -1,0 +1,32 @@
+-- The words that the program takes.
+use Rattle.std.specs.Prelude.{Some, true, pos, codes}
+use Rattle.clap.specs.declared.builder.action.ArgAction.TheVariants.{Append, SetTrue}
+use Rattle.clap.specs.declared.builder.value_parser.ValueParser.TheVariants.{Signed}
+use Rattle.clap.specs.Words.{App, Rule, Text, new_app, new_rule, with_rule, with_subcommand}
+
+-- an argument that has to be there
+abbrev pub file_rule : Text → Rule
+file_rule name = record (new_rule name) { required = true }
+
+-- an argument that has to be there, once or more
+abbrev pub files_rule : Text → Rule
+files_rule name = record (new_rule name) { required = true; action = Some Append }
+
+-- a flag, as --svg
+abbrev pub flag_rule : Text → Rule
+flag_rule name = record (new_rule name) { long = Some name; action = Some SetTrue }
+
+-- --tick N, a number below 2^32
+abbrev pub tick_rule : Rule
+tick_rule = record (new_rule (codes "tick")) { long = Some (codes "tick"); value_names = 1; parser = Some (Signed (pos 0) (pos 4294967295)) }
+
+-- view [--svg] [--tick N] MAP TRACE..
+abbrev pub view_app : App
+view_app = with_rule (with_rule (with_rule (with_rule (new_app (codes "view")) (flag_rule (codes "svg"))) tick_rule) (file_rule (codes "MAP"))) (files_rule (codes "TRACE"))
+
+-- fleet, which tells its version and wants a word
+abbrev pub fleet_top : App
+fleet_top = let app = new_app (codes "fleet") in record app { top = record app.top { has_version = true; subcommand_required = true } }
+
+abbrev pub fleet_app : App
+fleet_app = with_subcommand fleet_top view_app.top

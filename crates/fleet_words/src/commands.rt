@@ -1,0 +1,35 @@
+//! The command `fleet` and its subcommands, as `clap` has them.
+
+ghost use Rattle.std.specs.Prelude.{◌≡◌, IfOk, IsOkAnd, false};
+ghost use Rattle.clap.specs.declared.builder.command.Command.TheViews.{out-Command as fields_of};
+ghost use Rattle.clap.specs.Words.{app_of, with_subcommand as with_sub};
+ghost use Rattle.fleet_words.specs.Command.{fleet_app};
+
+use crate::view::view_command;
+use clap::Command;
+use std::alloc::{AllocError, Global};
+
+/// The command with one more subcommand, where there was memory for that one.
+fn with_subcommand<'a>(
+    command: Command<'a>,
+    subcommand: Result<Command<'a>, AllocError>,
+) -> Result<Command<'a>, AllocError>
+    requires { IfOk subcommand (λ s. (fields_of s).has_globals ≡ false) }
+    ensures { IfOk result (λ c. IsOkAnd subcommand.entry (λ s. app_of c ≡ with_sub (app_of command.entry) (app_of s).top)) }
+{
+    match subcommand {
+        Ok(subcommand) => command.subcommand(subcommand),
+        Err(error) => Err(error),
+    }
+}
+
+/// The command `fleet` with its subcommands.
+pub(crate) fn fleet_command<'a>(alloc: Global) -> Result<Command<'a>, AllocError>
+    ensures { IfOk result (λ c. app_of c ≡ fleet_app) }
+{
+    let command = Command::new(alloc, "fleet")
+        .about("Looks at fleets of robots: at maps, and at traces of what robots did on them")
+        .version("0.1.0")
+        .subcommand_required(true);
+    with_subcommand(command, view_command(alloc))
+}

@@ -1,0 +1,11 @@
+//! The words that the program `fleet` is given, as `clap` takes them, and the job that they name. A word is a file of its own
+//! (`view`), a variant of `Job`, and a line in `commands` and in `job_from`.
+#![tactic(auto)]
+
+mod arguments;
+mod commands;
+mod view;
+mod words;
+
+pub use view::{Shown, View};
+pub use words::{Job, WordFault, parse_words};

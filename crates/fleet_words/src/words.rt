@@ -1,0 +1,86 @@
+//! The words that the program is given, and the job that they name.
+
+ghost use Rattle.std.specs.Prelude.{◌≡◌, [], IfOk, IfErr, true, map, string_bytes};
+ghost use Rattle.clap.specs.Words.{fault_of, subcommand_of, subcommand_rows_of, takes};
+ghost use Rattle.clap.specs.Values.{kind_of};
+ghost use Rattle.clap.specs.declared.error.kind.ErrorKind.TheVariants.{OutOfMemory};
+ghost use Rattle.fleet_words.specs.Command.{fleet_app};
+ghost use Rattle.fleet_words.specs.Asked.{IsJobOf};
+ghost use Rattle.fleet_words.specs.declared.words.WordFault.TheVariants.{NoMemory};
+
+use crate::commands::fleet_command;
+use crate::view::{View, view_in};
+use clap::error::ErrorKind;
+use clap::{ArgMatches, Error};
+use std::alloc::{AllocError, Global};
+
+/// What the program is to do.
+#[derive(Debug, Drop)]
+pub enum Job {
+    View(View),
+}
+
+/// Why the words name no job.
+#[derive(Debug, Drop)]
+pub enum WordFault {
+    /// What `clap` says of the words. A request for help is among these.
+    Words(String),
+    NoMemory,
+}
+
+impl From<AllocError> for WordFault {
+    ghost use Rattle.std.specs.Prelude.{◌≡◌};
+    ghost use Rattle.fleet_words.specs.declared.words.WordFault.TheVariants.{NoMemory};
+
+    ghost from_gives = { λ _ e. e ≡ NoMemory };
+
+    fn from(_error: AllocError) -> WordFault {
+        WordFault::NoMemory
+    }
+}
+
+/// The job of the words that `clap` took.
+fn job_from(alloc: Global, matches: &ArgMatches<'_>) -> Result<Job, AllocError>
+    ensures { IfOk result (λ job. IsJobOf (subcommand_rows_of matches.now) job) }
+{
+    match matches.subcommand() {
+        Some((name, inner)) => {
+            if name == "view" {
+                Ok(Job::View(view_in(alloc, inner)?))
+            } else {
+                // `clap` takes no other word, so this never runs
+                Err(AllocError)
+            }
+        }
+        // `clap` takes no words without one of these, so this never runs
+        None => Err(AllocError),
+    }
+}
+
+/// Why `clap` did not take the words.
+fn fault_from(alloc: Global, error: &Error) -> WordFault
+    ensures { kind_of error.now ≡ OutOfMemory → result ≡ NoMemory }
+{
+    if error.kind() == ErrorKind::OutOfMemory {
+        return WordFault::NoMemory;
+    }
+    match error.to_string(alloc) {
+        Ok(text) => WordFault::Words(text),
+        Err(_) => WordFault::NoMemory,
+    }
+}
+
+/// The job that the words name. The first word is the program's own name.
+pub fn parse_words(alloc: Global, words: &[String]) -> Result<Job, WordFault>
+    // only words that `clap` takes name a job
+    ensures taken { IfOk result (λ job. fault_of fleet_app (map (λ w. string_bytes w) words.now) ≡ []) }
+    ensures job { IfOk result (λ job. IsJobOf (subcommand_of fleet_app (map (λ w. string_bytes w) words.now)) job) }
+    // words that `clap` takes are refused for want of memory alone
+    ensures refused { IfErr result (λ f. takes fleet_app (map (λ w. string_bytes w) words.now) ≡ true → f ≡ NoMemory) }
+{
+    let command = fleet_command(alloc)?;
+    match command.try_get_matches_from(words) {
+        Ok(matches) => Ok(job_from(alloc, &matches)?),
+        Err(error) => Err(fault_from(alloc, &error)),
+    }
+}
