@@ -1,0 +1,8 @@
+//! Plans of other planners: read from the texts that the field's tools write, judged step by step, and written.
+#![tactic(auto)]
+
+mod costs;
+mod judging;
+
+pub use costs::{costs_of, makespan, on_goals, sum_of_costs};
+pub use judging::{PlanFault, judge_plan};
