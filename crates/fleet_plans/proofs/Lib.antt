@@ -1,2 +1,3 @@
 mod Placed
 mod Moves
+pub mod Parts

@@ -1,2 +1,3 @@
 pub mod Valid
 pub mod Costs
+pub mod Cells

@@ -1,8 +1,11 @@
 //! Plans of other planners: read from the texts that the field's tools write, judged step by step, and written.
 #![tactic(auto)]
 
+mod cells;
 mod costs;
 mod judging;
+mod sides;
 
 pub use costs::{costs_of, makespan, on_goals, sum_of_costs};
 pub use judging::{PlanFault, judge_plan};
+pub use sides::Sides;
