@@ -58,3 +58,7 @@ all_read width height parts cells r = sym (r ∙ ap (λ (l : List ℕ). Some l) 
     nil : (xs : List ℕ) → xs ++ [] ≡ xs
     nil [] = refl
     nil (x ∷ xs) = ap (λ l. x ∷ l) (nil xs)
+
+-- all that stands after a place, as a range of a slice has it
+pub rest_of : (s : List ℕ) (k : ℕ) → take (length s - k) (drop k s) ≡ drop k s
+rest_of s k = behind s k

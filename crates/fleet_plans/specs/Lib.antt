@@ -1,3 +1,5 @@
 pub mod Valid
 pub mod Costs
 pub mod Cells
+pub mod Head
+pub mod Shown

@@ -3,9 +3,12 @@
 
 mod cells;
 mod costs;
+mod fault;
+mod head;
 mod judging;
 mod sides;
 
 pub use costs::{costs_of, makespan, on_goals, sum_of_costs};
+pub use fault::PlanTextFault;
 pub use judging::{PlanFault, judge_plan};
 pub use sides::Sides;

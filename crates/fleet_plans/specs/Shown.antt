@@ -1,0 +1,19 @@
+-- Values of the program without where they lie in memory.
+use Rattle.std.specs.Prelude.{◌≡◌, ℕ, Result, Ok, Err}
+use Rattle.fleet_map.specs.Text.{lines_of}
+use Rattle.fleet_plans.specs.declared.fault.PlanTextFault.{PlanTextFault}
+use Rattle.fleet_plans.specs.declared.fault.PlanTextFault.TheVariants.{Line, NoMemory}
+use Rattle.fleet_plans.specs.declared.head.Head.{Head}
+use Rattle.fleet_plans.specs.Head as spec
+
+abbrev pub shown : {A : Type 0} → Head A → spec.Head
+shown d = record { starts = d.starts; goals = d.goals; is_moves = d.is_moves }
+
+abbrev pub FailsAt : {Y : Type 0} → PlanTextFault → Result Y ℕ → Type 0
+FailsAt NoMemory read = Unit {0}
+FailsAt (Line line) read = read ≡ Err line
+
+-- what a function returned, seen by see, is what reading gives, unless memory ran out
+abbrev pub Gives : {X Y : Type 0} → (X → Y) → Result X PlanTextFault → Result Y ℕ → Type 0
+Gives see (Ok x) read = read ≡ Ok (see x)
+Gives see (Err e) read = FailsAt e read
