@@ -2,4 +2,5 @@ pub mod Valid
 pub mod Costs
 pub mod Cells
 pub mod Head
+pub mod Places
 pub mod Shown

@@ -4,10 +4,14 @@ use Rattle.fleet_map.specs.Text.{lines_of}
 use Rattle.fleet_plans.specs.declared.fault.PlanTextFault.{PlanTextFault}
 use Rattle.fleet_plans.specs.declared.fault.PlanTextFault.TheVariants.{Line, NoMemory}
 use Rattle.fleet_plans.specs.declared.head.Head.{Head}
+use Rattle.fleet_plans.specs.declared.head.Opened.{Opened}
 use Rattle.fleet_plans.specs.Head as spec
 
 abbrev pub shown : {A : Type 0} → Head A → spec.Head
 shown d = record { starts = d.starts; goals = d.goals; is_moves = d.is_moves }
+
+abbrev pub opened : {A : Type 0} → Opened A → spec.Opened
+opened x = record { head = shown x.head; number = x.number; lines = lines_of x.rest.now }
 
 abbrev pub FailsAt : {Y : Type 0} → PlanTextFault → Result Y ℕ → Type 0
 FailsAt NoMemory read = Unit {0}

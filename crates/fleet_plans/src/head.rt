@@ -4,8 +4,8 @@ ghost use Rattle.std.specs.Prelude.{◌≡◌, ◌≤◌, ◌+◌, ◌<◌, ◌^
 ghost use Rattle.std.specs.List.{position};
 ghost use Rattle.std.specs.Option.{option_map};
 ghost use Rattle.fleet_map.specs.Text.{lines_of};
-ghost use Rattle.fleet_plans.specs.Head.{Opened, blank_head, split_once, if_new, form_in, with_value, with_pair, with_line, or_line, head_of};
-ghost use Rattle.fleet_plans.specs.Shown.{shown, Gives};
+ghost use Rattle.fleet_plans.specs.Head.{blank_head, split_once, if_new, form_in, with_value, with_pair, with_line, or_line, head_of};
+ghost use Rattle.fleet_plans.specs.Shown.{shown, opened, Gives};
 
 use crate::cells::cells_of;
 use crate::fault::PlanTextFault;
@@ -119,4 +119,42 @@ impl<A: Allocator + Copy> Head<A> {
             None => Err(PlanTextFault::Line(number)),
         }
     }
+}
+
+/// A plan's text whose head is read.
+pub(crate) struct Opened<'a, A: Allocator + Copy = Global> {
+    pub(crate) head: Head<A>,
+    /// The number of the first line after the head.
+    pub(crate) number: u32,
+    /// The text from that line on.
+    pub(crate) rest: &'a [u8],
+}
+
+/// Reads the head of a plan's text.
+#[tactic(auto, unfolding(crate::specs::Head::head_of))]
+pub(crate) fn read_head<A: Allocator + Copy>(
+    alloc: A,
+    sides: Sides,
+    text: &[u8],
+) -> Result<Opened<'_, A>, PlanTextFault>
+    requires { length text.now ≤ 16777216 }
+    ensures read { Gives opened result (head_of sides.width sides.height blank_head 1 (lines_of text.now)) }
+    ensures room { IfOk result (λ x. x.number + length x.rest.now ≤ 2 + 16777216) }
+{
+    let mut head = Head::new();
+    let mut number = 1;
+    let mut rest = text;
+    while let Some((line, after)) = first_line(rest) {
+        if line == b"solution=".as_slice() {
+            return Ok(Opened {
+                head,
+                number: number + 1,
+                rest: after,
+            });
+        }
+        head.add_line(alloc, sides, number, line)?;
+        number += 1;
+        rest = after;
+    }
+    Err(PlanTextFault::Line(number))
 }

@@ -6,6 +6,7 @@ mod costs;
 mod fault;
 mod head;
 mod judging;
+mod places;
 mod sides;
 
 pub use costs::{costs_of, makespan, on_goals, sum_of_costs};
