@@ -3,4 +3,5 @@ pub mod Costs
 pub mod Cells
 pub mod Head
 pub mod Places
+pub mod Tracks
 pub mod Shown

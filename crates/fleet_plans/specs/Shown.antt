@@ -1,5 +1,6 @@
 -- Values of the program without where they lie in memory.
-use Rattle.std.specs.Prelude.{◌≡◌, ℕ, Result, Ok, Err}
+use Rattle.std.specs.Prelude.{◌≡◌, ℕ, List, Result, Ok, Err, map}
+use Rattle.std.specs.Borrow.{Bor}
 use Rattle.fleet_map.specs.Text.{lines_of}
 use Rattle.fleet_plans.specs.declared.fault.PlanTextFault.{PlanTextFault}
 use Rattle.fleet_plans.specs.declared.fault.PlanTextFault.TheVariants.{Line, NoMemory}
@@ -12,6 +13,10 @@ shown d = record { starts = d.starts; goals = d.goals; is_moves = d.is_moves }
 
 abbrev pub opened : {A : Type 0} → Opened A → spec.Opened
 opened x = record { head = shown x.head; number = x.number; lines = lines_of x.rest.now }
+
+-- what the texts are
+abbrev pub texts : List (Bor (List ℕ)) → List (List ℕ)
+texts lines = map (λ x. x.now) lines
 
 abbrev pub FailsAt : {Y : Type 0} → PlanTextFault → Result Y ℕ → Type 0
 FailsAt NoMemory read = Unit {0}

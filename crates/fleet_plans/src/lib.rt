@@ -8,6 +8,7 @@ mod head;
 mod judging;
 mod places;
 mod sides;
+mod tracks;
 
 pub use costs::{costs_of, makespan, on_goals, sum_of_costs};
 pub use fault::PlanTextFault;

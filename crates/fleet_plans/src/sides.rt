@@ -1,6 +1,6 @@
 //! The sides of a map, and the numbers of its cells.
 
-ghost use Rattle.std.specs.Prelude.{◌≡◌, ◌≤◌, ◌<◌, ◌^◌};
+ghost use Rattle.std.specs.Prelude.{◌≡◌, ◌≤◌, ◌<◌, ◌*◌, ◌^◌};
 ghost use Rattle.fleet_plans.specs.Cells.{cell_at};
 
 /// What stands for a cell outside of the map: no map has a cell of this number.
@@ -11,10 +11,18 @@ pub(crate) const NO_CELL: u32 = u32::MAX;
 pub struct Sides {
     pub width: u32,
     pub height: u32,
-    ghost small: { width ≤ 1024 },
+    ghost few_columns: { width ≤ 1024 },
+    ghost few_rows: { height ≤ 1024 },
 }
 
 impl Sides {
+    /// The number of cells.
+    pub(crate) fn cells(self) -> u32
+        ensures { result ≡ self.width * self.height }
+    {
+        self.width * self.height
+    }
+
     /// The number of the cell in column x and row y, counted row by row from 0; `u32::MAX` outside of the map.
     pub(crate) fn cell_at(self, x: u32, y: u32) -> u32
         requires { y ≤ 1024 }

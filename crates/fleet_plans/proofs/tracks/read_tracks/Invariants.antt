@@ -1,0 +1,14 @@
+use Rattle.std.proofs.Common.{◌≡◌, ◌+◌, ◌≤◌, [], length}
+use Rattle.fleet_map.specs.Text.{lines_of}
+use Rattle.fleet_plans.specs.Tracks.{tracks_of}
+use Rattle.fleet_plans.specs.Shown.{texts}
+use Rattle.fleet_plans.proofs.tracks.read_tracks.Given as goal
+
+abbrev pub invariant-loop-line : goal.invariant-loop-line
+invariant-loop-line g l = record {
+  read : tracks_of l.robots (texts l.tracks.items) l.number (lines_of l.rest) ≡ tracks_of l.robots [] l.fn.number (lines_of l.text);
+  room : l.number + length l.rest ≤ l.fn.number + length l.text;
+}
+
+abbrev pub decreases-loop-line : goal.decreases-loop-line
+decreases-loop-line g l = length l.rest
