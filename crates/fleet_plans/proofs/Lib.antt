@@ -1,3 +1,6 @@
 mod Placed
 mod Moves
 pub mod Parts
+mod Cuts
+mod Walks
+mod Solutions

@@ -1,10 +1,10 @@
 -- What follows from steps that are conflict-free.
-use Rattle.std.proofs.Common.{◌≡◌, ◌≢◌, ℕ, ◌+◌, ◌-◌, ◌<◌, ◌≤◌, ◌⊎◌, inl, inr, List, [], length, slice_index, slice_index_or, sym, subst, ◌∙◌, arith}
-use Rattle.std.proofs.lemmas.List.{get_or_default}
+use Rattle.std.proofs.Common.{◌≡◌, ◌≢◌, ℕ, ◌+◌, ◌-◌, ◌<◌, ◌≤◌, ◌⊎◌, inl, inr, List, [], length, slice_index, zero, suc, add-one, refl, ap, sym, subst, ◌∙◌, arith}
 use Rattle.std.proofs.lemmas.Bool.{cases_eq}
 use Rattle.fleet_grid.specs.Floor.{Floor}
 use Rattle.fleet_grid.specs.Step.{IsPlacement, IsConflictFree}
-use Rattle.fleet_plans.specs.Valid.{place_at, AreStepsFree}
+use Rattle.fleet_plans.specs.Valid.{place_at, AreStepsFree, IsValidPlan}
+use Rattle.fleet_plans.specs.Costs.{IsOneFleet}
 
 -- after a conflict-free step the robots are on distinct floor cells
 pub placed_after : (m : Floor) (from to : List ℕ) → IsConflictFree m from to → IsPlacement m to
@@ -24,11 +24,15 @@ one_more m places time from before step = λ t less. elim (cases_eq t (time - 1)
   | inr below ↦ before t (omega (arith, below, less, from))
 ]
 
--- the robots' cells that an index reads
-pub read_at : (places : List (List ℕ)) (t : ℕ) (place read : List ℕ) → t < length places → read ≡ slice_index_or places t read → place ≡ read → place ≡ place_at places t
-read_at places t place read inside is same = same ∙ (is ∙ get_or_default places t read [] inside)
-
 pub now_next : (m : Floor) (places : List (List ℕ)) (time : ℕ) → IsPlacement m (place_at places time) → IsPlacement m (place_at places (time + 1 - 1))
 now_next m places time placed =
     let same : time ≡ time + 1 - 1 = omega arith in
     subst (λ (t : ℕ). IsPlacement m (place_at places t)) same placed
+
+-- the placements of a valid plan have as many robots as the first
+pub one_fleet : (m : Floor) (places : List (List ℕ)) → IsValidPlan m places → IsOneFleet places
+one_fleet m places valid zero less = refl
+one_fleet m places valid (suc t) less =
+    let step = valid.steps t (omega arith) in
+    let here : place_at places (t + 1) ≡ place_at places (suc t) = ap (place_at places) (add-one t) in
+    ap (λ (p : List ℕ). length p) (sym here) ∙ (step.same_length ∙ one_fleet m places valid t (omega arith))

@@ -5,3 +5,7 @@ pub mod Head
 pub mod Places
 pub mod Tracks
 pub mod Shown
+pub mod Text
+pub mod Report
+pub mod Cut
+pub mod inside

@@ -1,10 +1,10 @@
 //! What a plan costs.
 
-ghost use Rattle.std.specs.Prelude.{◌≡◌, ◌<◌, ◌-◌, ◌+◌, ◌^◌, ◌==◌, ℕ, length, slice_index, replicate, sum, count_by, fold, max, zip, IfOk};
+ghost use Rattle.std.specs.Prelude.{◌≡◌, ◌<◌, ◌≤◌, ◌-◌, ◌+◌, ◌^◌, ◌==◌, ℕ, length, slice_index, replicate, sum, count_by, fold, max, zip, IfOk};
 ghost use Rattle.fleet_plans.specs.Valid.{place_at};
 ghost use Rattle.fleet_plans.specs.Costs.{IsOneFleet, AreCostsBy, IsNoted, greatest};
 
-use fleet_history::Row;
+use crate::placements::Placements;
 use std::alloc::{AllocError, Allocator};
 
 /// Notes of each robot that moves in a step to this time that it does.
@@ -21,7 +21,7 @@ fn note_moves(costs: &mut [u32], from: &[u32], to: &[u32], time: u32)
 }
 
 /// Puts each robot's cost in the place of a 0.
-fn fill_costs<A: Allocator + Copy>(costs: &mut [u32], places: &[Row<u32, A>])
+fn fill_costs<A: Allocator + Copy>(costs: &mut [u32], places: &Placements<A>)
     requires times { length places.now < 2 ^ 32 }
     requires fleet { IsOneFleet places.now }
     requires each_one { length costs.old ≡ length (place_at places.now 0) }
@@ -29,9 +29,7 @@ fn fill_costs<A: Allocator + Copy>(costs: &mut [u32], places: &[Row<u32, A>])
     ensures { AreCostsBy places.now (length places.now - 1) costs.new }
 {
     for time in 1..places.len() {
-        let from = places[time - 1].as_slice();
-        let to = places[time].as_slice();
-        note_moves(costs, from, to, time as u32);
+        note_moves(costs, places.at(time - 1), places.at(time), time as u32);
     }
 }
 
@@ -39,17 +37,13 @@ fn fill_costs<A: Allocator + Copy>(costs: &mut [u32], places: &[Row<u32, A>])
 /// which the robot stays where it ends. Item t of `places` has the robots' cells at time t.
 pub fn costs_of<A: Allocator + Copy>(
     alloc: A,
-    places: &[Row<u32, A>],
+    places: &Placements<A>,
 ) -> Result<Vec<u32, A>, AllocError>
     requires times { length places.now < 2 ^ 32 }
     requires fleet { IsOneFleet places.now }
     ensures { IfOk result (λ costs. AreCostsBy places.now (length places.now - 1) costs.items) }
 {
-    let robots = match places.first() {
-        Some(starts) => starts.len(),
-        None => 0,
-    };
-    let mut costs = zeros(alloc, robots)?;
+    let mut costs = zeros(alloc, places.at(0).len())?;
     fill_costs(costs.as_mut_slice(), places);
     Ok(costs)
 }
@@ -80,7 +74,8 @@ pub fn makespan(costs: &[u32]) -> u32
 
 /// The number of robots whose last cell is their goal.
 pub fn on_goals(goals: &[u32], last: &[u32]) -> usize
-    ensures { result ≡ count_by (λ p. p.0 == p.1) (zip goals.now last.now) }
+    ensures value { result ≡ count_by (λ p. p.0 == p.1) (zip goals.now last.now) }
+    ensures most { result ≤ length last.now }
 {
     goals.iter().zip(last).filter(|(goal, cell)| **goal == **cell).count()
 }

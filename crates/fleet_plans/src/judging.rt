@@ -4,9 +4,9 @@ ghost use Rattle.std.specs.Prelude.{◌≡◌, ◌<◌, ◌+◌, ◌-◌, ◌^�
 ghost use Rattle.fleet_grid.specs.Step.{IsPlacement};
 ghost use Rattle.fleet_plans.specs.Valid.{place_at, AreStepsFree, IsValidPlan, IsStepFault, IsPlanFault};
 
+use crate::placements::Placements;
 use fleet_check::{StepFault, check_placement, check_step};
 use fleet_grid::Grid;
-use fleet_history::Row;
 use std::alloc::Allocator;
 
 /// The first placement of a plan that is at fault.
@@ -22,7 +22,7 @@ pub struct PlanFault {
 fn judge_steps<A: Allocator + Copy, B: Allocator + Copy>(
     alloc: A,
     grid: &Grid<B>,
-    places: &[Row<u32, A>],
+    places: &Placements<A>,
 ) -> Result<(), PlanFault>
     requires starts { IsPlacement grid.now (place_at places.now 0) }
     requires few { length places.now < 2 ^ 32 }
@@ -30,9 +30,7 @@ fn judge_steps<A: Allocator + Copy, B: Allocator + Copy>(
     ensures fault { IfErr result (λ f. (t : ℕ) × (f.time ≡ t + 1) × IsStepFault grid.now places.now t f.fault) }
 {
     for time in 1..places.len() {
-        let from = places[time - 1].as_slice();
-        let to = places[time].as_slice();
-        if let Err(fault) = check_step(alloc, grid, from, to) {
+        if let Err(fault) = check_step(alloc, grid, places.at(time - 1), places.at(time)) {
             let time = time as u32;
             return Err(PlanFault { time, fault });
         }
@@ -48,7 +46,7 @@ fn judge_steps<A: Allocator + Copy, B: Allocator + Copy>(
 pub fn judge_plan<A: Allocator + Copy, B: Allocator + Copy>(
     alloc: A,
     grid: &Grid<B>,
-    places: &[Row<u32, A>],
+    places: &Placements<A>,
 ) -> Result<(), PlanFault>
     requires times { length places.now < 2 ^ 32 }
     requires robots { length (place_at places.now 0) < 2 ^ 32 }
@@ -56,10 +54,7 @@ pub fn judge_plan<A: Allocator + Copy, B: Allocator + Copy>(
     ensures fault { IfErr result (λ f. IsPlanFault grid.now places.now f.time f.fault) }
     ensures lawful { IsValidPlan grid.now places.now → IfErr result (λ f. f.fault ≡ StepFault.NoMemory) }
 {
-    let Some(starts) = places.first() else {
-        return Ok(());
-    };
-    if let Err(fault) = check_placement(alloc, grid, starts.as_slice()) {
+    if let Err(fault) = check_placement(alloc, grid, places.at(0)) {
         return Err(PlanFault { time: 0, fault });
     }
     judge_steps(alloc, grid, places)

@@ -6,11 +6,18 @@ mod costs;
 mod fault;
 mod head;
 mod judging;
+mod placements;
+mod plan;
 mod places;
+mod report;
 mod sides;
 mod tracks;
+mod walk;
 
 pub use costs::{costs_of, makespan, on_goals, sum_of_costs};
 pub use fault::PlanTextFault;
 pub use judging::{PlanFault, judge_plan};
+pub use placements::Placements;
+pub use plan::{Plan, read_plan};
+pub use report::{PlanReport, check_plan};
 pub use sides::Sides;

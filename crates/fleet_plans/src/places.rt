@@ -9,6 +9,7 @@ ghost use Rattle.fleet_plans.specs.Shown.{shown, Gives};
 use crate::cells::cells_of;
 use crate::fault::PlanTextFault;
 use crate::head::{Head, split_once};
+use crate::placements::Placements;
 use crate::sides::Sides;
 use fleet_history::Row;
 use fleet_map::text::{first_line, number_up_to};
@@ -50,7 +51,7 @@ fn agrees<A: Allocator + Copy>(starts: &Option<Row<u32, A>>, place: &[u32]) -> b
 }
 
 /// Whether each robot has a goal, where goals are named.
-fn covers<A: Allocator + Copy>(goals: &Option<Row<u32, A>>, place: &[u32]) -> bool
+pub(crate) fn covers<A: Allocator + Copy>(goals: &Option<Row<u32, A>>, place: &[u32]) -> bool
     ensures { result ≡ covers goals.now place.now }
 {
     match goals {
@@ -71,11 +72,11 @@ fn add_step<A: Allocator + Copy>(
     alloc: A,
     sides: Sides,
     head: &Head<A>,
-    places: &mut Vec<Row<u32, A>, A>,
+    places: &mut Placements<A>,
     number: u32,
     line: &[u8],
 ) -> Result<(), PlanTextFault>
-    ensures { Gives (λ done. places.new.items) result (or_line number (with_step sides.width sides.height (shown head.now) places.old.items line.now)) }
+    ensures { Gives (λ done. places.new) result (or_line number (with_step sides.width sides.height (shown head.now) places.old line.now)) }
 {
     if line.is_empty() {
         return Ok(());
@@ -83,11 +84,10 @@ fn add_step<A: Allocator + Copy>(
     let Some(place) = place_of(alloc, sides, places.len(), line)? else {
         return Err(PlanTextFault::Line(number));
     };
-    if places.is_empty() && !begins(head, place.as_slice()) {
+    if places.len() == 0 && !begins(head, place.as_slice()) {
         return Err(PlanTextFault::Line(number));
     }
-    places.push(place)?;
-    Ok(())
+    Ok(places.push(place.as_slice())?)
 }
 
 /// The placements of a solution whose first line has this number.
@@ -98,11 +98,11 @@ pub(crate) fn read_places<A: Allocator + Copy>(
     head: &Head<A>,
     number: u32,
     text: &[u8],
-) -> Result<Vec<Row<u32, A>, A>, PlanTextFault>
+) -> Result<Placements<A>, PlanTextFault>
     requires { number + length text.now < 2 ^ 32 }
-    ensures { Gives (λ places. places.items) result (places_of sides.width sides.height (shown head.now) [] number (lines_of text.now)) }
+    ensures { Gives (λ places. places) result (places_of sides.width sides.height (shown head.now) [] number (lines_of text.now)) }
 {
-    let mut places = Vec::new(alloc);
+    let mut places = Placements::new(alloc);
     let mut number = number;
     let mut rest = text;
     while let Some((line, after)) = first_line(rest) {
@@ -110,7 +110,7 @@ pub(crate) fn read_places<A: Allocator + Copy>(
         number += 1;
         rest = after;
     }
-    if places.is_empty() {
+    if places.len() == 0 {
         return Err(PlanTextFault::Line(number));
     }
     Ok(places)

@@ -52,7 +52,7 @@ pub(crate) fn read_tracks<A: Allocator + Copy>(
 }
 
 /// Where a move leads.
-fn moved(sides: Sides, cell: u32, letter: u8) -> u32
+pub(crate) fn moved(sides: Sides, cell: u32, letter: u8) -> u32
     ensures { result ≡ moved sides.width sides.height cell letter }
 {
     let (width, cells) = (sides.width, sides.cells());

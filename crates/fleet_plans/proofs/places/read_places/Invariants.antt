@@ -6,7 +6,7 @@ use Rattle.fleet_plans.proofs.places.read_places.Given as goal
 
 abbrev pub invariant-loop-line : goal.invariant-loop-line
 invariant-loop-line g l = record {
-  read : places_of l.sides.width l.sides.height (shown l.head) l.places.items l.number (lines_of l.rest)
+  read : places_of l.sides.width l.sides.height (shown l.head) l.places l.number (lines_of l.rest)
     ≡ places_of l.sides.width l.sides.height (shown l.head) [] l.fn.number (lines_of l.text);
   room : l.number + length l.rest ≤ l.fn.number + length l.text;
 }
