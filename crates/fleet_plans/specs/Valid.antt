@@ -1,5 +1,5 @@
 -- Valid plans, and what is at fault in others. Item t of a plan's placements has the robots' cells at time t.
-use Rattle.std.specs.Prelude.{◌≡◌, ℕ, ◌+◌, ◌<◌, ◌⊎◌, List, [], length, slice_index_or}
+use Rattle.std.specs.Prelude.{◌≡◌, ℕ, ◌+◌, ◌^◌, ◌<◌, ◌≤◌, ◌⊎◌, List, [], length, slice_index_or}
 use Rattle.fleet_grid.specs.Floor.{Floor}
 use Rattle.fleet_grid.specs.Step.{IsPlacement, IsConflictFree}
 use Rattle.fleet_check.specs.Fault.{IsPlacementFault, IsFirstFault}
@@ -29,3 +29,9 @@ pub record IsStepFault (m : Floor) (places : List (List ℕ)) (t : ℕ) (fault :
 abbrev pub IsPlanFault : Floor → List (List ℕ) → ℕ → StepFault → Type 0
 IsPlanFault m places time fault =
     ((time ≡ 0) × IsPlacementFault m (place_at places 0) fault) ⊎ ((t : ℕ) × (time ≡ t + 1) × IsStepFault m places t fault)
+
+-- as many times and robots as a text of at most 16,777,216 bytes can have
+pub record HasSize (places : List (List ℕ)) : Type 0 where
+  pub some : 1 ≤ length places
+  pub times : length places < 2 ^ 32
+  pub robots : length (place_at places 0) < 2 ^ 32

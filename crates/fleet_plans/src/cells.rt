@@ -1,6 +1,6 @@
 //! Cells in a plan's text.
 
-ghost use Rattle.std.specs.Prelude.{◌≡◌, ◌∷◌, [], ◌<◌, ◌≤◌, length, MatchOption, IfOk, IfSome, Some, None};
+ghost use Rattle.std.specs.Prelude.{◌≡◌, ◌∷◌, [], ◌<◌, ◌≤◌, ◌+◌, length, MatchOption, IfOk, IfSome, Some, None};
 ghost use Rattle.std.specs.List.{position};
 ghost use Rattle.std.specs.Option.{option_map};
 ghost use Rattle.fleet_plans.specs.Cells.{is_comma, parts_of, coordinate, column_in, row_in, pair_in, cells_in};
@@ -77,7 +77,8 @@ pub(crate) fn cells_of<A: Allocator + Copy>(
     sides: Sides,
     text: &[u8],
 ) -> Result<Option<Row<u32, A>>, AllocError>
-    ensures { IfOk result (λ cells. cells ≡ cells_in sides.width sides.height (parts_of text.now)) }
+    ensures read { IfOk result (λ cells. cells ≡ cells_in sides.width sides.height (parts_of text.now)) }
+    ensures few { IfOk result (λ cells. IfSome cells (λ list. length list ≤ length text.now)) }
 {
     let mut cells = Vec::new(alloc);
     let mut rest = text;

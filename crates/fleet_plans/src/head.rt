@@ -1,10 +1,11 @@
 //! The head of a plan's text.
 
-ghost use Rattle.std.specs.Prelude.{◌≡◌, ◌≤◌, ◌+◌, ◌<◌, ◌^◌, ◌==◌, length, IfOk, Some, Ok, Err};
+ghost use Rattle.std.specs.Prelude.{◌≡◌, ◌≤◌, ◌+◌, ◌<◌, ◌^◌, ◌==◌, length, IfOk, IfSome, Some, Ok, Err};
 ghost use Rattle.std.specs.List.{position};
 ghost use Rattle.std.specs.Option.{option_map};
 ghost use Rattle.fleet_map.specs.Text.{lines_of};
 ghost use Rattle.fleet_plans.specs.Head.{blank_head, split_once, if_new, form_in, with_value, with_pair, with_line, or_line, head_of};
+ghost use Rattle.fleet_plans.specs.inside.Few.{HasFewStarts};
 ghost use Rattle.fleet_plans.specs.Shown.{shown, opened, Gives};
 
 use crate::cells::cells_of;
@@ -31,7 +32,8 @@ fn place_of(line: &[u8], byte: u8) -> Option<usize>
 /// What stands before the first such byte, and what stands after it.
 #[tactic(auto, using(crate::proofs::Parts::rest_of))]
 pub(crate) fn split_once(line: &[u8], byte: u8) -> Option<(&[u8], &[u8])>
-    ensures { option_map (λ x. (x.0.now, x.1.now)) result ≡ split_once byte line.now }
+    ensures value { option_map (λ x. (x.0.now, x.1.now)) result ≡ split_once byte line.now }
+    ensures within { IfSome result (λ x. length x.0.now + length x.1.now < length line.now) }
 {
     let at = place_of(line, byte)?;
     Some((&line[..at], &line[at + 1..]))
@@ -85,7 +87,8 @@ impl<A: Allocator + Copy> Head<A> {
         key: &[u8],
         value: &[u8],
     ) -> Result<(), PlanTextFault>
-        ensures { Gives (λ done. shown self.new) result (or_line number (with_value sides.width sides.height (shown self.old) key.now value.now)) }
+        ensures read { Gives (λ done. shown self.new) result (or_line number (with_value sides.width sides.height (shown self.old) key.now value.now)) }
+        ensures few { length value.now ≤ 16777216 → HasFewStarts (shown self.old) → IfOk result (λ _. HasFewStarts (shown self.new)) }
     {
         let fault = PlanTextFault::Line(number);
         if key == b"starts".as_slice() {
@@ -109,7 +112,8 @@ impl<A: Allocator + Copy> Head<A> {
         number: u32,
         line: &[u8],
     ) -> Result<(), PlanTextFault>
-        ensures { Gives (λ done. shown self.new) result (or_line number (with_line sides.width sides.height (shown self.old) line.now)) }
+        ensures read { Gives (λ done. shown self.new) result (or_line number (with_line sides.width sides.height (shown self.old) line.now)) }
+        ensures few { length line.now ≤ 16777216 → HasFewStarts (shown self.old) → IfOk result (λ _. HasFewStarts (shown self.new)) }
     {
         if line.is_empty() {
             return Ok(());
@@ -140,6 +144,8 @@ pub(crate) fn read_head<A: Allocator + Copy>(
     requires { length text.now ≤ 16777216 }
     ensures read { Gives opened result (head_of sides.width sides.height blank_head 1 (lines_of text.now)) }
     ensures room { IfOk result (λ x. x.number + length x.rest.now ≤ 2 + 16777216) }
+    ensures few { IfOk result (λ x. HasFewStarts (shown x.head)) }
+    ensures short { IfOk result (λ x. length x.rest.now ≤ 16777216) }
 {
     let mut head = Head::new();
     let mut number = 1;

@@ -1,10 +1,11 @@
 //! The solution of a plan's text, as one line of cells a time.
 
-ghost use Rattle.std.specs.Prelude.{◌≡◌, ◌≤◌, ◌+◌, ◌<◌, ◌^◌, [], length, IfOk, Some, Ok, Err};
+ghost use Rattle.std.specs.Prelude.{◌≡◌, ◌≤◌, ◌+◌, ◌<◌, ◌^◌, [], length, IfOk, IfSome, Some, Ok, Err};
 ghost use Rattle.fleet_map.specs.Text.{lines_of, number_of};
 ghost use Rattle.fleet_plans.specs.Head.{split_once, or_line};
 ghost use Rattle.fleet_plans.specs.Places.{is_number, place_in, agrees, covers, begins, with_step, places_of};
 ghost use Rattle.fleet_plans.specs.Shown.{shown, Gives};
+ghost use Rattle.fleet_plans.specs.Valid.{place_at};
 
 use crate::cells::cells_of;
 use crate::fault::PlanTextFault;
@@ -32,7 +33,8 @@ fn place_of<A: Allocator + Copy>(
     time: usize,
     line: &[u8],
 ) -> Result<Option<Row<u32, A>>, AllocError>
-    ensures { IfOk result (λ place. place ≡ place_in sides.width sides.height time (split_once 58 line.now)) }
+    ensures read { IfOk result (λ place. place ≡ place_in sides.width sides.height time (split_once 58 line.now)) }
+    ensures few { IfOk result (λ place. IfSome place (λ cells. length cells ≤ length line.now)) }
 {
     match split_once(line, b':') {
         Some((number, cells)) if is_number(time, number) => cells_of(alloc, sides, cells),
@@ -76,7 +78,9 @@ fn add_step<A: Allocator + Copy>(
     number: u32,
     line: &[u8],
 ) -> Result<(), PlanTextFault>
-    ensures { Gives (λ done. places.new) result (or_line number (with_step sides.width sides.height (shown head.now) places.old line.now)) }
+    ensures read { Gives (λ done. places.new) result (or_line number (with_step sides.width sides.height (shown head.now) places.old line.now)) }
+    ensures count { length places.new ≤ length places.old + 1 }
+    ensures few { length line.now ≤ 16777216 → length (place_at places.old 0) ≤ 16777216 → length (place_at places.new 0) ≤ 16777216 }
 {
     if line.is_empty() {
         return Ok(());
@@ -100,7 +104,10 @@ pub(crate) fn read_places<A: Allocator + Copy>(
     text: &[u8],
 ) -> Result<Placements<A>, PlanTextFault>
     requires { number + length text.now < 2 ^ 32 }
-    ensures { Gives (λ places. places) result (places_of sides.width sides.height (shown head.now) [] number (lines_of text.now)) }
+    ensures read { Gives (λ places. places) result (places_of sides.width sides.height (shown head.now) [] number (lines_of text.now)) }
+    ensures some { IfOk result (λ places. 1 ≤ length places) }
+    ensures times { IfOk result (λ places. length places ≤ length text.now) }
+    ensures few { length text.now ≤ 16777216 → IfOk result (λ places. length (place_at places 0) ≤ 16777216) }
 {
     let mut places = Placements::new(alloc);
     let mut number = number;

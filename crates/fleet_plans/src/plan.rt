@@ -5,6 +5,8 @@ ghost use Rattle.fleet_map.specs.Text.{lines_of};
 ghost use Rattle.fleet_plans.specs.Head.{head_of, blank_head};
 ghost use Rattle.fleet_plans.specs.Text.{source_of, source_after, after, from_starts, IsReadAs};
 ghost use Rattle.fleet_plans.specs.Shown.{shown, FailsAt};
+ghost use Rattle.fleet_plans.specs.inside.Few.{HasFewStarts};
+ghost use Rattle.fleet_plans.specs.Valid.{HasSize};
 
 use crate::fault::PlanTextFault;
 use crate::head::{Head, Opened, read_head};
@@ -33,9 +35,12 @@ fn plan_of_moves<A: Allocator + Copy>(
     number: u32,
     text: &[u8],
 ) -> Result<Plan<A>, PlanTextFault>
-    requires { number + length text.now < 2 ^ 32 }
+    requires room { number + length text.now ≤ 2 + 16777216 }
+    requires few { HasFewStarts (shown head) }
+    requires short { length text.now ≤ 16777216 }
     ensures found { IfOk result (λ plan. IsReadAs sides.width sides.height (from_starts (shown head) number (lines_of text.now) (shown head).starts) plan.goals plan.places) }
     ensures fault { IfErr result (λ fault. FailsAt fault (from_starts (shown head) number (lines_of text.now) (shown head).starts)) }
+    ensures size { IfOk result (λ plan. HasSize plan.places) }
 {
     let Head {
         starts,
@@ -61,9 +66,12 @@ fn plan_after<A: Allocator + Copy>(
     number: u32,
     text: &[u8],
 ) -> Result<Plan<A>, PlanTextFault>
-    requires { number + length text.now < 2 ^ 32 }
+    requires room { number + length text.now ≤ 2 + 16777216 }
+    requires few { HasFewStarts (shown head) }
+    requires short { length text.now ≤ 16777216 }
     ensures found { IfOk result (λ plan. IsReadAs sides.width sides.height (source_after sides.width sides.height (after (shown head) number (lines_of text.now))) plan.goals plan.places) }
     ensures fault { IfErr result (λ fault. FailsAt fault (source_after sides.width sides.height (after (shown head) number (lines_of text.now)))) }
+    ensures size { IfOk result (λ plan. HasSize plan.places) }
 {
     if head.is_moves.unwrap_or(false) {
         return plan_of_moves(alloc, sides, head, number, text);
@@ -89,6 +97,7 @@ pub fn read_plan<A: Allocator + Copy>(
     requires { length text.now ≤ 16777216 }
     ensures found { IfOk result (λ plan. IsReadAs sides.width sides.height (source_of sides.width sides.height text.now) plan.goals plan.places) }
     ensures fault { IfErr result (λ fault. FailsAt fault (source_of sides.width sides.height text.now)) }
+    ensures size { IfOk result (λ plan. HasSize plan.places) }
 {
     match read_head(alloc, sides, text) {
         Ok(Opened { head, number, rest }) => plan_after(alloc, sides, head, number, rest),

@@ -2,7 +2,7 @@
 
 ghost use Rattle.std.specs.Prelude.{◌≡◌, ◌≤◌, ◌<◌, ◌^◌, ◌-◌, ℕ, length, OnOk, IfOk, IfErr};
 ghost use Rattle.std.specs.Option.{option_map};
-ghost use Rattle.fleet_plans.specs.Valid.{place_at, IsValidPlan, IsPlanFault};
+ghost use Rattle.fleet_plans.specs.Valid.{place_at, HasSize, IsValidPlan, IsPlanFault};
 ghost use Rattle.fleet_plans.specs.Report.{IsReportOf, goals_reached};
 
 use crate::costs::{costs_of, makespan, on_goals, sum_of_costs};
@@ -46,9 +46,7 @@ fn report_of<A: Allocator + Copy, B: Allocator + Copy>(
     grid: &Grid<B>,
     plan: &Plan<A>,
 ) -> Result<PlanReport, AllocError>
-    requires some { 1 ≤ length plan.now.places }
-    requires times { length plan.now.places < 2 ^ 32 }
-    requires robots { length (place_at plan.now.places 0) < 2 ^ 32 }
+    requires size { HasSize plan.now.places }
     requires valid { IsValidPlan grid.now plan.now.places }
     ensures { IfOk result (λ report. IsReportOf plan.now.goals plan.now.places report) }
 {
@@ -69,9 +67,7 @@ pub fn check_plan<A: Allocator + Copy, B: Allocator + Copy>(
     grid: &Grid<B>,
     plan: &Plan<A>,
 ) -> Result<PlanReport, PlanFault>
-    requires some { 1 ≤ length plan.now.places }
-    requires times { length plan.now.places < 2 ^ 32 }
-    requires robots { length (place_at plan.now.places 0) < 2 ^ 32 }
+    requires { HasSize plan.now.places }
     ensures valid { OnOk result (IsValidPlan grid.now plan.now.places) }
     ensures report { IfOk result (λ report. IsReportOf plan.now.goals plan.now.places report) }
     ensures fault { IfErr result (λ f. IsPlanFault grid.now plan.now.places f.time f.fault) }

@@ -31,7 +31,8 @@ pub(crate) fn read_tracks<A: Allocator + Copy>(
     text: &[u8],
 ) -> Result<Vec<&[u8], A>, PlanTextFault>
     requires { number + length text.now < 2 ^ 32 }
-    ensures { Gives (λ tracks. texts tracks.items) result (tracks_of robots [] number (lines_of text.now)) }
+    ensures read { Gives (λ tracks. texts tracks.items) result (tracks_of robots [] number (lines_of text.now)) }
+    ensures short { IfOk result (λ tracks. (r : ℕ) → length (slice_index_or (texts tracks.items) r []) ≤ length text.now) }
 {
     let mut tracks = Vec::new(alloc);
     let mut number = number;

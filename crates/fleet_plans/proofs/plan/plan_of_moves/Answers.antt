@@ -18,7 +18,7 @@ returns-clause-found g c =
     let tracks = texts c.in_ok-tracks.tracks.items in
     let places = c.in_ok-places.places in
     let covered : covers goals starts ≡ true = sym (c.if-not-covers.ensures ∙ ap (λ (s : List ℕ). covers goals s) c.as_slice.ensures) in
-    let read : tracks_of (length starts) [] number lines ≡ Ok tracks = subst (λ (n : ℕ). tracks_of n [] number lines ≡ Ok tracks) c.len.ensures c.in_ok-tracks.ensures in
+    let read : tracks_of (length starts) [] number lines ≡ Ok tracks = subst (λ (n : ℕ). tracks_of n [] number lines ≡ Ok tracks) c.len.ensures c.in_ok-tracks.ensures.read in
     let given : texts c.as_slice-3.result.now ≡ tracks = ap texts c.as_slice-3.ensures.value in
     let walks : AreWalked w h starts tracks places =
         subst (λ (s : List ℕ). AreWalked w h s tracks places) c.as_slice-2.ensures

@@ -11,4 +11,4 @@ goals_of-requires g c =
     let places = c.args.plan.now.places in
     let steps = c.len-steps.result - 1 in
     let same = one_fleet c.args.grid.now places c.requires.valid steps (omega arith) in
-    omega (arith, ap (λ (p : List ℕ). length p) c.at-2.ensures, same, c.requires.robots)
+    omega (arith, ap (λ (p : List ℕ). length p) c.at-2.ensures, same, c.requires.size.robots)
