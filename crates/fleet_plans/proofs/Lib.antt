@@ -4,3 +4,4 @@ pub mod Parts
 mod Cuts
 mod Walks
 mod Solutions
+mod Answered

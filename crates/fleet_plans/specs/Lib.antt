@@ -7,5 +7,6 @@ pub mod Tracks
 pub mod Shown
 pub mod Text
 pub mod Report
+pub mod Answer
 pub mod Cut
 pub mod inside

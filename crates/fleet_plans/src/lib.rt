@@ -1,6 +1,7 @@
 //! Plans of other planners: read from the texts that the field's tools write, judged step by step, and written.
 #![tactic(auto)]
 
+mod answer;
 mod cells;
 mod costs;
 mod fault;
@@ -14,6 +15,7 @@ mod sides;
 mod tracks;
 mod walk;
 
+pub use answer::{FaultText, PlanAnswer, check_texts};
 pub use costs::{costs_of, makespan, on_goals, sum_of_costs};
 pub use fault::PlanTextFault;
 pub use judging::{PlanFault, judge_plan};
