@@ -70,7 +70,10 @@ fn first_not_adjacent<B: Allocator + Copy>(
 }
 
 /// The robot that comes to each cell, where no two come to one; else the first two that do.
-pub(crate) fn seats_of<A: Allocator + Copy>(alloc: A, to: &[u32]) -> Result<BTreeMap<u32, u32, A>, StepFault>
+pub(crate) fn seats_of<A: Allocator + Copy>(
+    alloc: A,
+    to: &[u32],
+) -> Result<BTreeMap<u32, u32, A>, StepFault>
     requires { length to.now < 2 ^ 32 }
     ensures { MatchResult result (λ seats. AreSeats to.now (get nat_cmp seats)) (λ fault. IsSeatFault to.now fault) }
 {

@@ -1,5 +1,5 @@
 -- How robots' costs go on from one time to the next.
-use Rattle.std.proofs.Common.{◌≡◌, ◌≢◌, ℕ, ◌+◌, ◌-◌, ◌<◌, ◌≤◌, ◌⊎◌, inl, inr, List, [], length, slice_index, sym, subst, ◌∙◌, ap, arith, refl}
+use Rattle.std.proofs.Common.{◌≡◌, ◌≢◌, ℕ, ◌+◌, ◌-◌, ◌<◌, ◌≤◌, ◌⊎◌, inl, inr, List, [], length, slice_index, sym, subst, ◌∙◌, ap, arith}
 use Rattle.std.proofs.lemmas.Bool.{cases_eq}
 use Rattle.std.proofs.lemmas.List.{get_or_past}
 use Rattle.fleet_plans.specs.Valid.{place_at}
@@ -16,7 +16,7 @@ module _ (places : List (List ℕ)) (time r : ℕ) (early : 1 ≤ time) where
     rests = λ t from less. elim (cases_eq t (time - 1)) [
       | inl same ↦
           subst (λ (u : ℕ). slice_index (place_at places (u + 1)) r ≡ slice_index (place_at places u) r) (sym same)
-            (subst (λ (v : ℕ). slice_index (place_at places v) r ≡ slice_index (place_at places (time - 1)) r) (sym before) stayed.0)
+          (subst (λ (v : ℕ). slice_index (place_at places v) r ≡ slice_index (place_at places (time - 1)) r) (sym before) stayed.0)
       | inr other ↦ was.rests t (omega (arith, from, stayed.1)) (omega (arith, less, other, early))
     ];
   }
@@ -35,8 +35,8 @@ pub costs_more : (places : List (List ℕ)) (time : ℕ) (old new : List ℕ) �
 costs_more places time old new early was same noted = record {
   each_one = same ∙ was.each_one;
   cost = λ r less.
-    let inner : r < length old = omega (arith, less, same) in
-    cost_more places time r early (slice_index old r) (slice_index new r) (was.cost r inner) (noted r inner);
+      let inner : r < length old = omega (arith, less, same) in
+      cost_more places time r early (slice_index old r) (slice_index new r) (was.cost r inner) (noted r inner);
 }
 
 pub costs_begin : (places : List (List ℕ)) (costs : List ℕ) → length costs ≡ length (place_at places 0) → ((r : ℕ) → slice_index costs r ≡ 0) → AreCostsBy places (1 - 1) costs

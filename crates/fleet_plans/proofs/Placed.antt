@@ -1,5 +1,5 @@
 -- What follows from steps that are conflict-free.
-use Rattle.std.proofs.Common.{◌≡◌, ◌≢◌, ℕ, ◌+◌, ◌-◌, ◌<◌, ◌≤◌, ◌⊎◌, inl, inr, List, [], length, slice_index, zero, suc, add-one, refl, ap, sym, subst, ◌∙◌, arith}
+use Rattle.std.proofs.Common.{◌≡◌, ℕ, ◌+◌, ◌-◌, ◌≤◌, inl, inr, List, length, zero, suc, add-one, refl, ap, sym, subst, ◌∙◌, arith}
 use Rattle.std.proofs.lemmas.Bool.{cases_eq}
 use Rattle.fleet_grid.specs.Floor.{Floor}
 use Rattle.fleet_grid.specs.Step.{IsPlacement, IsConflictFree}
@@ -20,7 +20,7 @@ one_more m places time from before step = λ t less. elim (cases_eq t (time - 1)
   | inl same ↦
       let next : time ≡ t + 1 = omega (arith, same, from) in
       subst (λ (u : ℕ). IsConflictFree m (place_at places t) (place_at places u)) next
-        (subst (λ (s : ℕ). IsConflictFree m (place_at places s) (place_at places time)) (sym same) step)
+      (subst (λ (s : ℕ). IsConflictFree m (place_at places s) (place_at places time)) (sym same) step)
   | inr below ↦ before t (omega (arith, below, less, from))
 ]
 

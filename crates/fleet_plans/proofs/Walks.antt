@@ -1,5 +1,5 @@
 -- Robots that move one after the other, and the longest of tracks.
-use Rattle.std.proofs.Common.{◌≡◌, ◌≢◌, ℕ, ◌+◌, ◌<◌, ◌≤◌, ◌⊎◌, inl, inr, List, [], ◌∷◌, ◌++◌, length, get_or, set, slice_index_or, refl, sym, ap, ◌∙◌, subst, arith}
+use Rattle.std.proofs.Common.{◌≡◌, ◌≢◌, ℕ, ◌+◌, ◌<◌, ◌≤◌, ◌⊎◌, inl, inr, List, [], ◌∷◌, ◌++◌, length, get_or, set, slice_index_or, sym, ap, ◌∙◌, subst, arith}
 use Rattle.std.proofs.lemmas.Bool.{cases_eq}
 use Rattle.std.proofs.lemmas.List.{get_or-set_same, get_or-set_other, get_or_append_left, get_or_push, length-append}
 use Rattle.fleet_plans.specs.Valid.{place_at}
@@ -15,8 +15,8 @@ set_more f list k v inside done here = λ r less. elim (cases_eq r k) [
 
 pub set_rest : (list init : List ℕ) (k v : ℕ) → ((r : ℕ) → k ≤ r → get_or list r 0 ≡ get_or init r 0) → (r : ℕ) → k + 1 ≤ r → get_or (set list k v) r 0 ≡ get_or init r 0
 set_rest list init k v rest = λ r past.
-  let other : r ≢ k = λ same. omega (arith, past, same) in
-  get_or-set_other list k r v 0 other ∙ rest r (omega (arith, past))
+    let other : r ≢ k = λ same. omega (arith, past, same) in
+    get_or-set_other list k r v 0 other ∙ rest r (omega (arith, past))
 
 module _ (tracks : List (List ℕ)) (n old : ℕ) (inside : n < length tracks) (is : IsLongest tracks n old) where
   pub longer : (new : ℕ) → new ≡ length (slice_index_or tracks n []) → old < length (slice_index_or tracks n []) → IsLongest tracks (n + 1) new
@@ -59,11 +59,11 @@ module _ (w h : ℕ) (starts : List ℕ) (tracks places more : List (List ℕ)) 
       | inl same ↦
           let P : ℕ → Type 0 = λ x. IsMoved w h tracks x (place_at more x) (place_at more (x + 1)) in
           subst P (sym same)
-            (subst (λ (q : List ℕ). IsMoved w h tracks n q (place_at more (n + 1))) (sym (old_at n (omega arith)))
-              (subst (λ (q : List ℕ). IsMoved w h tracks n (place_at places n) q) (sym new_at) moves))
+          (subst (λ (q : List ℕ). IsMoved w h tracks n q (place_at more (n + 1))) (sym (old_at n (omega arith)))
+          (subst (λ (q : List ℕ). IsMoved w h tracks n (place_at places n) q) (sym new_at) moves))
       | inr other ↦
           subst (λ (q : List ℕ). IsMoved w h tracks t q (place_at more (t + 1))) (sym (old_at t (omega (arith, less, other))))
-            (subst (λ (q : List ℕ). IsMoved w h tracks t (place_at places t) q) (sym (old_at (t + 1) (omega (arith, less, other)))) (is.step t (omega (arith, less, other))))
+          (subst (λ (q : List ℕ). IsMoved w h tracks t (place_at places t) q) (sym (old_at (t + 1) (omega (arith, less, other)))) (is.step t (omega (arith, less, other))))
     ];
   }
 

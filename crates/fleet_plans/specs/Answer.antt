@@ -1,5 +1,5 @@
 -- What there is to say of a map and a plan's text, and what it prints as.
-use Rattle.std.specs.Prelude.{◌≡◌, ◌≢◌, ℕ, List, [], ◌++◌, Option, Some, None, Result, Ok, Err, codes, decimal}
+use Rattle.std.specs.Prelude.{◌≡◌, ◌≢◌, ℕ, List, [], ◌++◌, Option, Some, None, Ok, Err, codes, decimal}
 use Rattle.fleet_map.specs.declared.fault.MapFault.{MapFault}
 use Rattle.fleet_map.specs.Grammar.{Map, map_of}
 use Rattle.fleet_grid.specs.Floor.{Floor, floor_of}
@@ -23,7 +23,7 @@ IsJudged m goals places (answer.Text line) = ⊥
 pub data IsTextAnswer (m : Map) (text : List ℕ) (a : PlanAnswer) : Type 0 where
   no_plan : (line : ℕ) → source_of m.width m.height text ≡ Err line → a ≡ answer.Text line → IsTextAnswer m text a
   judged : (goals : Option (List ℕ)) (places : List (List ℕ)) → IsReadAs m.width m.height (source_of m.width m.height text) goals places
-    → IsJudged (floor_of m.height m.width m.cells) goals places a → IsTextAnswer m text a
+      → IsJudged (floor_of m.height m.width m.cells) goals places a → IsTextAnswer m text a
 
 -- the map before both
 pub data IsPlanAnswer (map text : List ℕ) (a : PlanAnswer) : Type 0 where

@@ -1,8 +1,7 @@
 -- The plan that a text is.
-use Rattle.std.specs.Prelude.{◌≡◌, ℕ, Bool, true, false, List, [], ◌∷◌, length, Option, Some, None, Result, Ok, Err, ◌==◌, if◌then◌else◌, unwrap_or}
-use Rattle.std.specs.Option.{option_map}
+use Rattle.std.specs.Prelude.{◌≡◌, ℕ, false, List, [], length, Option, Some, None, Result, Ok, Err, if◌then◌else◌, unwrap_or}
 use Rattle.fleet_map.specs.Text.{lines_of}
-use Rattle.fleet_plans.specs.Head.{Head, Opened, blank_head, head_of, or_line, and_then}
+use Rattle.fleet_plans.specs.Head.{Head, Opened, blank_head, head_of, and_then}
 use Rattle.fleet_plans.specs.Places.{covers, places_of}
 use Rattle.fleet_plans.specs.Tracks.{tracks_of, AreWalked}
 

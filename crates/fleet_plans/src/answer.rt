@@ -53,10 +53,12 @@ fn judge_on<A: Allocator + Copy>(
 {
     match check_plan(alloc, grid, plan) {
         Ok(report) => Ok(PlanAnswer::Valid(report)),
-        Err(PlanFault {
-            fault: StepFault::NoMemory,
-            ..
-        }) => Err(AllocError),
+        Err(
+            PlanFault {
+                fault: StepFault::NoMemory,
+                ..
+            },
+        ) => Err(AllocError),
         Err(fault) => Ok(PlanAnswer::Invalid(fault)),
     }
 }

@@ -77,5 +77,9 @@ pub fn on_goals(goals: &[u32], last: &[u32]) -> usize
     ensures value { result ≡ count_by (λ p. p.0 == p.1) (zip goals.now last.now) }
     ensures most { result ≤ length last.now }
 {
-    goals.iter().zip(last).filter(|(goal, cell)| **goal == **cell).count()
+    goals
+        .iter()
+        .zip(last)
+        .filter(|(goal, cell)| **goal == **cell)
+        .count()
 }

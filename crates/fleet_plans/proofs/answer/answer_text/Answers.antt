@@ -1,5 +1,4 @@
 -- What is said of a plan that is read, and of a text that is none.
-use Rattle.std.proofs.Common.{◌≡◌, ℕ}
 use Rattle.fleet_map.specs.Grammar.{view}
 use Rattle.fleet_plans.specs.declared.answer.PlanAnswer.{PlanAnswer}
 use Rattle.fleet_plans.specs.Answer.{IsJudged, IsTextAnswer}
@@ -19,5 +18,5 @@ returns-in_ok-grid-in-Ok g c =
     let m = view c.args.map in
     let text = c.args.text.now in
     let step : (a : PlanAnswer) → IsJudged grid plan.goals plan.places a → IsTextAnswer m text a =
-        λ a is. text_is_judged m s.result.width s.result.height text plan.goals plan.places grid a s.ensures.width s.ensures.height c.in-Ok.ensures.found c.in_ok-grid-in-Ok.ensures is in
+    λ a is. text_is_judged m s.result.width s.result.height text plan.goals plan.places grid a s.ensures.width s.ensures.height c.in-Ok.ensures.found c.in_ok-grid-in-Ok.ensures is in
     if_ok_then c.judge_on.result (IsJudged grid plan.goals plan.places) (IsTextAnswer m text) step c.judge_on.ensures

@@ -15,8 +15,8 @@ loop-first-preserved g c =
     let cell = c.in-Some-cell_of.cell in
     let more : c.push.new.self.items ≡ old ++ cell ∷ [] = c.in_ok-push.ensures.items in
     let left : IsRead w h parts old (first ∷ c.in-Some-first_part.second.now ∷ parts_of c.in-Some-first_part.after.now) =
-        subst (λ (ps : List (List ℕ)). IsRead w h parts old (first ∷ ps)) c.in-Some-first_part.ensures.cut
-          (subst (λ (ps : List (List ℕ)). IsRead w h parts old ps) c.in-Some.ensures.cut c.loop-first.invariant.read) in
+    subst (λ (ps : List (List ℕ)). IsRead w h parts old (first ∷ ps)) c.in-Some-first_part.ensures.cut
+    (subst (λ (ps : List (List ℕ)). IsRead w h parts old ps) c.in-Some.ensures.cut c.loop-first.invariant.read) in
     record {
       read = rw more (one_cell_more w h parts old first c.in-Some-first_part.second.now (parts_of c.in-Some-first_part.after.now) cell (sym c.in-Some-cell_of.ensures) left);
       few = omega (arith, ap (λ (l : List ℕ). length l) more, length-append old (cell ∷ []), c.loop-first.invariant.few, c.in-Some.ensures.shorter, c.in-Some-first_part.ensures.shorter);

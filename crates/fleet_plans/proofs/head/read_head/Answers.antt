@@ -1,6 +1,5 @@
 -- The head with one more line.
-use Rattle.std.proofs.Common.{rules, ◌≡◌, ◌≤◌, ◌+◌, length, arith}
-use Rattle.std.proofs.lemmas.Grind.{common_steps}
+use Rattle.std.proofs.Common.{rules, arith}
 use Rattle.fleet_plans.specs.Head.{head_of}
 use Rattle.fleet_plans.proofs.head.read_head.Goals as goal
 

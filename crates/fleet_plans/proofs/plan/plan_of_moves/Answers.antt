@@ -21,6 +21,6 @@ returns-clause-found g c =
     let read : tracks_of (length starts) [] number lines ≡ Ok tracks = subst (λ (n : ℕ). tracks_of n [] number lines ≡ Ok tracks) c.len.ensures c.in_ok-tracks.ensures.read in
     let given : texts c.as_slice-3.result.now ≡ tracks = ap texts c.as_slice-3.ensures.value in
     let walks : AreWalked w h starts tracks places =
-        subst (λ (s : List ℕ). AreWalked w h s tracks places) c.as_slice-2.ensures
-          (subst (λ (ts : List (List ℕ)). AreWalked w h c.as_slice-2.result.now ts places) given c.in_ok-places.ensures) in
+    subst (λ (s : List ℕ). AreWalked w h s tracks places) c.as_slice-2.ensures
+    (subst (λ (ts : List (List ℕ)). AreWalked w h c.as_slice-2.result.now ts places) given c.in_ok-places.ensures) in
     goes_by_tracks w h (shown c.args.head) number lines starts tracks places c.in-Some.is covered read walks

@@ -1,5 +1,5 @@
 -- The robots of a valid plan stay as many.
-use Rattle.std.proofs.Common.{◌≡◌, ℕ, ◌-◌, ◌<◌, List, length, ap, arith}
+use Rattle.std.proofs.Common.{ℕ, ◌-◌, List, length, ap, arith}
 use Rattle.fleet_plans.proofs.Placed.{one_fleet}
 use Rattle.fleet_plans.proofs.report.report_of.Goals as goal
 

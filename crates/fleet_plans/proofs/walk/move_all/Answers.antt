@@ -1,5 +1,5 @@
 -- The robots up to this one have moved.
-use Rattle.std.proofs.Common.{◌≡◌, ℕ, ◌+◌, ◌<◌, ◌≤◌, List, length, slice_index, sym, ap, ◌∙◌, subst, arith}
+use Rattle.std.proofs.Common.{◌≡◌, ℕ, slice_index, ap, ◌∙◌, arith}
 use Rattle.fleet_plans.specs.Tracks.{moved, letter_at}
 use Rattle.fleet_plans.specs.Shown.{texts}
 use Rattle.fleet_plans.proofs.Walks.{set_more, set_rest}
@@ -16,7 +16,7 @@ loop-robot-preserved c =
     let letter = c.letter_at.result in
     let cell : slice_index place robot ≡ slice_index init robot = c.loop-robot.invariant.rest robot (omega arith) in
     let here : c.moved.result ≡ f robot =
-        c.moved.ensures ∙ (ap (λ (x : ℕ). moved w h x letter) cell ∙ ap (λ (l : ℕ). moved w h (slice_index init robot) l) c.letter_at.ensures) in
+    c.moved.ensures ∙ (ap (λ (x : ℕ). moved w h x letter) cell ∙ ap (λ (l : ℕ). moved w h (slice_index init robot) l) c.letter_at.ensures) in
     record {
       done = set_more f place robot c.moved.result (omega arith) c.loop-robot.invariant.done here;
       rest = set_rest place init robot c.moved.result c.loop-robot.invariant.rest;

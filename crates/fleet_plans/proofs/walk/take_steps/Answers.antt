@@ -1,5 +1,5 @@
 -- One more step is taken.
-use Rattle.std.proofs.Common.{◌≡◌, ℕ, List, [], ◌∷◌, ◌++◌, sym, ap, ◌∙◌, subst, refl, arith}
+use Rattle.std.proofs.Common.{◌≡◌, ℕ, List, [], ◌∷◌, ◌++◌, sym, ap, subst}
 use Rattle.fleet_plans.specs.Valid.{place_at}
 use Rattle.fleet_plans.specs.Tracks.{IsMoved}
 use Rattle.fleet_plans.specs.Shown.{texts}
@@ -27,7 +27,7 @@ loop-time-preserved g c =
     let n = c.loop-time.time in
     let added : more ≡ places ++ place ∷ [] = c.in_ok-push.ensures.added in
     let moves : IsMoved w h tracks n (place_at places n) place =
-        subst (λ (q : List ℕ). IsMoved w h tracks n q place) (sym c.loop-time.invariant.last) c.move_all.ensures in
+    subst (λ (q : List ℕ). IsMoved w h tracks n q place) (sym c.loop-time.invariant.last) c.move_all.ensures in
     record {
       steps = step_more w h starts tracks places more place n c.loop-time.invariant.steps added moves;
       last = new_at w h starts tracks places more place n c.loop-time.invariant.steps added;
