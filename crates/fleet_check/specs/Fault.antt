@@ -48,3 +48,12 @@ IsFirstFault m from to (NotAdjacent r) = AreOnFloor m from to × IsFirst (λ k. 
 IsFirstFault m from to NoMemory = AreMoves m from to
 IsFirstFault m from to (Vertex i j) = AreMoves m from to × IsFirstPair (ShareCell to) (length from) i j
 IsFirstFault m from to (Swap i j) = AreMoves m from to × ((k l : ℕ) → k < l → l < length from → ShareCell to k l → ⊥) × IsFirstPair (Exchange from to) (length from) i j
+
+-- why cells are no placement: the least robot off the floor, else the first two robots on one cell
+abbrev pub IsPlacementFault : Floor → List ℕ → StepFault → Type 0
+IsPlacementFault m cells (OffFloor r) = IsFirst (λ k. IsFloor m (slice_index cells k) → ⊥) (length cells) r
+IsPlacementFault m cells (Vertex i j) = ((r : ℕ) → r < length cells → IsFloor m (slice_index cells r)) × IsFirstPair (ShareCell cells) (length cells) i j
+IsPlacementFault m cells NoMemory = (r : ℕ) → r < length cells → IsFloor m (slice_index cells r)
+IsPlacementFault m cells Length = ⊥
+IsPlacementFault m cells (NotAdjacent r) = ⊥
+IsPlacementFault m cells (Swap i j) = ⊥

@@ -14,7 +14,7 @@ use std::alloc::{Allocator, Global};
 use std::collections::BTreeMap;
 
 /// The first robot whose new cell is not floor.
-fn first_off_floor<B: Allocator + Copy>(grid: &Grid<B>, to: &[u32]) -> Option<usize>
+pub(crate) fn first_off_floor<B: Allocator + Copy>(grid: &Grid<B>, to: &[u32]) -> Option<usize>
     ensures { MatchOption result ((r : ℕ) → r < length to.now → IsFloor grid.now (slice_index to.now r)) (λ r. IsFirst (λ r. IsFloor grid.now (slice_index to.now r) → ⊥) (length to.now) r) }
 {
     for (robot, cell) in to.iter().enumerate() {
@@ -70,7 +70,10 @@ fn first_not_adjacent<B: Allocator + Copy>(
 }
 
 /// The robot that comes to each cell, where no two come to one; else the first two that do.
-fn seats_of<A: Allocator + Copy>(alloc: A, to: &[u32]) -> Result<BTreeMap<u32, u32, A>, StepFault>
+pub(crate) fn seats_of<A: Allocator + Copy>(
+    alloc: A,
+    to: &[u32],
+) -> Result<BTreeMap<u32, u32, A>, StepFault>
     requires { length to.now < 2 ^ 32 }
     ensures { MatchResult result (λ seats. AreSeats to.now (get nat_cmp seats)) (λ fault. IsSeatFault to.now fault) }
 {

@@ -3,6 +3,8 @@
 
 mod check;
 mod fault;
+mod placement;
 
 pub use check::check_step;
 pub use fault::StepFault;
+pub use placement::check_placement;

@@ -1,0 +1,7 @@
+mod Placed
+mod Moves
+pub mod Parts
+mod Cuts
+mod Walks
+mod Solutions
+mod Answered

@@ -1,0 +1,77 @@
+-- Robots that move one after the other, and the longest of tracks.
+use Rattle.std.proofs.Common.{◌≡◌, ◌≢◌, ℕ, ◌+◌, ◌<◌, ◌≤◌, ◌⊎◌, inl, inr, List, [], ◌∷◌, ◌++◌, length, get_or, set, slice_index_or, sym, ap, ◌∙◌, subst, arith}
+use Rattle.std.proofs.lemmas.Bool.{cases_eq}
+use Rattle.std.proofs.lemmas.List.{get_or-set_same, get_or-set_other, get_or_append_left, get_or_push, length-append}
+use Rattle.fleet_plans.specs.Valid.{place_at}
+use Rattle.fleet_plans.specs.Tracks.{IsMoved, AreWalked}
+use Rattle.fleet_plans.specs.inside.Walk.{IsLongest, AreSteps}
+
+-- one more item is written
+pub set_more : (f : ℕ → ℕ) (list : List ℕ) (k v : ℕ) → k < length list → ((r : ℕ) → r < k → get_or list r 0 ≡ f r) → v ≡ f k → (r : ℕ) → r < k + 1 → get_or (set list k v) r 0 ≡ f r
+set_more f list k v inside done here = λ r less. elim (cases_eq r k) [
+  | inl same ↦ subst (λ (x : ℕ). get_or (set list k v) x 0 ≡ f x) (sym same) (get_or-set_same list k v 0 inside ∙ here)
+  | inr other ↦ get_or-set_other list k r v 0 other ∙ done r (omega (arith, less, other))
+]
+
+pub set_rest : (list init : List ℕ) (k v : ℕ) → ((r : ℕ) → k ≤ r → get_or list r 0 ≡ get_or init r 0) → (r : ℕ) → k + 1 ≤ r → get_or (set list k v) r 0 ≡ get_or init r 0
+set_rest list init k v rest = λ r past.
+    let other : r ≢ k = λ same. omega (arith, past, same) in
+    get_or-set_other list k r v 0 other ∙ rest r (omega (arith, past))
+
+module _ (tracks : List (List ℕ)) (n old : ℕ) (inside : n < length tracks) (is : IsLongest tracks n old) where
+  pub longer : (new : ℕ) → new ≡ length (slice_index_or tracks n []) → old < length (slice_index_or tracks n []) → IsLongest tracks (n + 1) new
+  longer new here more = record {
+    most = λ r less. elim (cases_eq r n) [
+      | inl same ↦ let P : ℕ → Type 0 = λ x. length (slice_index_or tracks x []) ≤ new in subst P (sym same) (omega (arith, here))
+      | inr other ↦ let before = is.most r (omega (arith, less, other)) in omega (arith, before, here, more)
+    ];
+    one = inr (n, inside, sym here);
+  }
+
+  pub no_longer : (new : ℕ) → new ≡ old → length (slice_index_or tracks n []) ≤ old → IsLongest tracks (n + 1) new
+  no_longer new same_as less_here = record {
+    most = λ r less. elim (cases_eq r n) [
+      | inl same ↦ let P : ℕ → Type 0 = λ x. length (slice_index_or tracks x []) ≤ new in subst P (sym same) (omega (arith, same_as, less_here))
+      | inr other ↦ let before = is.most r (omega (arith, less, other)) in omega (arith, before, same_as)
+    ];
+    one = let P : ℕ → Type 0 = λ x. (x ≡ 0) ⊎ ((r : ℕ) × (r < length tracks) × (length (slice_index_or tracks r []) ≡ x)) in subst P (sym same_as) is.one;
+  }
+
+pub begun : (w h : ℕ) (starts : List ℕ) (tracks places : List (List ℕ)) → places ≡ starts ∷ [] → AreSteps w h starts tracks places 0
+begun w h starts tracks places is = record {
+  count = ap (λ (ps : List (List ℕ)). length ps) is ∙ omega arith;
+  begin = ap (λ (ps : List (List ℕ)). place_at ps 0) is;
+  step = λ t less. absurd (omega (arith, less));
+}
+
+module _ (w h : ℕ) (starts : List ℕ) (tracks places more : List (List ℕ)) (place : List ℕ) (n : ℕ) (is : AreSteps w h starts tracks places n) (added : more ≡ places ++ place ∷ []) where
+  old_at : (t : ℕ) → t < n + 1 → place_at more t ≡ place_at places t
+  old_at t less = ap (λ (ps : List (List ℕ)). place_at ps t) added ∙ get_or_append_left places (place ∷ []) [] t (omega (arith, less, is.count))
+
+  pub new_at : place_at more (n + 1) ≡ place
+  new_at = ap (λ (ps : List (List ℕ)). place_at ps (n + 1)) added ∙ get_or_push places place [] (n + 1) is.count
+
+  pub step_more : IsMoved w h tracks n (place_at places n) place → AreSteps w h starts tracks more (n + 1)
+  step_more moves = record {
+    count = ap (λ (ps : List (List ℕ)). length ps) added ∙ (length-append places (place ∷ []) ∙ omega (arith, is.count));
+    begin = old_at 0 (omega arith) ∙ is.begin;
+    step = λ t less. elim (cases_eq t n) [
+      | inl same ↦
+          let P : ℕ → Type 0 = λ x. IsMoved w h tracks x (place_at more x) (place_at more (x + 1)) in
+          subst P (sym same)
+          (subst (λ (q : List ℕ). IsMoved w h tracks n q (place_at more (n + 1))) (sym (old_at n (omega arith)))
+          (subst (λ (q : List ℕ). IsMoved w h tracks n (place_at places n) q) (sym new_at) moves))
+      | inr other ↦
+          subst (λ (q : List ℕ). IsMoved w h tracks t q (place_at more (t + 1))) (sym (old_at t (omega (arith, less, other))))
+          (subst (λ (q : List ℕ). IsMoved w h tracks t (place_at places t) q) (sym (old_at (t + 1) (omega (arith, less, other)))) (is.step t (omega (arith, less, other))))
+    ];
+  }
+
+-- all steps of the longest track are made
+pub walked : (w h : ℕ) (starts : List ℕ) (tracks places : List (List ℕ)) (n : ℕ) → AreSteps w h starts tracks places n → IsLongest tracks (length tracks) n → AreWalked w h starts tracks places
+walked w h starts tracks places n is longest = record {
+  begin = is.begin;
+  step = λ t less. is.step t (omega (arith, less, is.count));
+  whole = λ r less. let below = longest.most r less in omega (arith, below, is.count);
+  no_more = elim longest.one [ inl none ↦ inl (omega (arith, none, is.count)) | inr p ↦ inr (p.0, p.1, omega (arith, p.2, is.count)) ];
+}

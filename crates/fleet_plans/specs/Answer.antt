@@ -1,0 +1,51 @@
+-- What there is to say of a map and a plan's text, and what it prints as.
+use Rattle.std.specs.Prelude.{◌≡◌, ◌≢◌, ℕ, List, [], ◌++◌, Option, Some, None, Ok, Err, codes, decimal}
+use Rattle.fleet_map.specs.declared.fault.MapFault.{MapFault}
+use Rattle.fleet_map.specs.Grammar.{Map, map_of}
+use Rattle.fleet_grid.specs.Floor.{Floor, floor_of}
+use Rattle.fleet_check.specs.declared.fault.StepFault.{StepFault}
+use Rattle.fleet_check.specs.declared.fault.StepFault.TheVariants.{Length, OffFloor, NotAdjacent, NoMemory, Vertex, Swap}
+use Rattle.fleet_plans.specs.declared.answer.PlanAnswer.{PlanAnswer}
+use Rattle.fleet_plans.specs.declared.answer.PlanAnswer.TheVariants as answer
+use Rattle.fleet_plans.specs.declared.report.PlanReport.{PlanReport}
+use Rattle.fleet_plans.specs.Text.{source_of, IsReadAs}
+use Rattle.fleet_plans.specs.Valid.{IsValidPlan, IsPlanFault}
+use Rattle.fleet_plans.specs.Report.{IsReportOf}
+
+-- a plan on a map is valid, with this report, or this is its first fault
+abbrev pub IsJudged : Floor → Option (List ℕ) → List (List ℕ) → PlanAnswer → Type 0
+IsJudged m goals places (answer.Valid report) = IsValidPlan m places × IsReportOf goals places report
+IsJudged m goals places (answer.Invalid fault) = IsPlanFault m places fault.time fault.fault × (fault.fault ≢ NoMemory)
+IsJudged m goals places (answer.Map fault) = ⊥
+IsJudged m goals places (answer.Text line) = ⊥
+
+-- the text first, then the plan
+pub data IsTextAnswer (m : Map) (text : List ℕ) (a : PlanAnswer) : Type 0 where
+  no_plan : (line : ℕ) → source_of m.width m.height text ≡ Err line → a ≡ answer.Text line → IsTextAnswer m text a
+  judged : (goals : Option (List ℕ)) (places : List (List ℕ)) → IsReadAs m.width m.height (source_of m.width m.height text) goals places
+      → IsJudged (floor_of m.height m.width m.cells) goals places a → IsTextAnswer m text a
+
+-- the map before both
+pub data IsPlanAnswer (map text : List ℕ) (a : PlanAnswer) : Type 0 where
+  no_map : (fault : MapFault) → map_of map ≡ Err fault → a ≡ answer.Map fault → IsPlanAnswer map text a
+  on_map : (m : Map) → map_of map ≡ Ok m → IsTextAnswer m text a → IsPlanAnswer map text a
+
+-- the kind of a fault, with its robots
+abbrev pub fault_text : StepFault → List ℕ
+fault_text Length = codes "length"
+fault_text (OffFloor r) = codes "off-floor " ++ decimal r
+fault_text (NotAdjacent r) = codes "not-adjacent " ++ decimal r
+fault_text NoMemory = codes "no-memory"
+fault_text (Vertex i j) = codes "vertex " ++ decimal i ++ codes " " ++ decimal j
+fault_text (Swap i j) = codes "swap " ++ decimal i ++ codes " " ++ decimal j
+
+abbrev pub goals_text : Option ℕ → List ℕ
+goals_text None = []
+goals_text (Some reached) = codes "on-goals " ++ decimal reached ++ codes "\n"
+
+abbrev pub report_text : PlanReport → List ℕ
+report_text r =
+    codes "valid " ++ decimal r.steps ++ codes " " ++ decimal r.robots
+    ++ codes "\nsum-of-costs " ++ decimal r.sum_of_costs
+    ++ codes "\nmakespan " ++ decimal r.makespan
+    ++ codes "\n" ++ goals_text r.on_goals

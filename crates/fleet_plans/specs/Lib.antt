@@ -1,0 +1,12 @@
+pub mod Valid
+pub mod Costs
+pub mod Cells
+pub mod Head
+pub mod Places
+pub mod Tracks
+pub mod Shown
+pub mod Text
+pub mod Report
+pub mod Answer
+pub mod Cut
+pub mod inside

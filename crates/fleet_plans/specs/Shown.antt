@@ -1,0 +1,28 @@
+-- Values of the program without where they lie in memory.
+use Rattle.std.specs.Prelude.{◌≡◌, ℕ, List, Result, Ok, Err, map}
+use Rattle.std.specs.Borrow.{Bor}
+use Rattle.fleet_map.specs.Text.{lines_of}
+use Rattle.fleet_plans.specs.declared.fault.PlanTextFault.{PlanTextFault}
+use Rattle.fleet_plans.specs.declared.fault.PlanTextFault.TheVariants.{Line, NoMemory}
+use Rattle.fleet_plans.specs.declared.head.Head.{Head}
+use Rattle.fleet_plans.specs.declared.head.Opened.{Opened}
+use Rattle.fleet_plans.specs.Head as spec
+
+abbrev pub shown : {A : Type 0} → Head A → spec.Head
+shown d = record { starts = d.starts; goals = d.goals; is_moves = d.is_moves }
+
+abbrev pub opened : {A : Type 0} → Opened A → spec.Opened
+opened x = record { head = shown x.head; number = x.number; lines = lines_of x.rest.now }
+
+-- what the texts are
+abbrev pub texts : List (Bor (List ℕ)) → List (List ℕ)
+texts lines = map (λ x. x.now) lines
+
+abbrev pub FailsAt : {Y : Type 0} → PlanTextFault → Result Y ℕ → Type 0
+FailsAt NoMemory read = Unit {0}
+FailsAt (Line line) read = read ≡ Err line
+
+-- what a function returned, seen by see, is what reading gives, unless memory ran out
+abbrev pub Gives : {X Y : Type 0} → (X → Y) → Result X PlanTextFault → Result Y ℕ → Type 0
+Gives see (Ok x) read = read ≡ Ok (see x)
+Gives see (Err e) read = FailsAt e read

@@ -1,0 +1,15 @@
+-- How far robots have gone by their tracks.
+use Rattle.std.specs.Prelude.{◌≡◌, ℕ, ◌+◌, ◌<◌, ◌≤◌, ◌⊎◌, List, [], length, slice_index_or}
+use Rattle.fleet_plans.specs.Valid.{place_at}
+use Rattle.fleet_plans.specs.Tracks.{IsMoved}
+
+-- the length of the longest of the first n tracks
+pub record IsLongest (tracks : List (List ℕ)) (n len : ℕ) : Type 0 where
+  pub most : (r : ℕ) → r < n → length (slice_index_or tracks r []) ≤ len
+  pub one : (len ≡ 0) ⊎ ((r : ℕ) × (r < length tracks) × (length (slice_index_or tracks r []) ≡ len))
+
+-- the placements after each of the first n steps
+pub record AreSteps (w h : ℕ) (starts : List ℕ) (tracks places : List (List ℕ)) (n : ℕ) : Type 0 where
+  pub count : length places ≡ n + 1
+  pub begin : place_at places 0 ≡ starts
+  pub step : (t : ℕ) → t < n → IsMoved w h tracks t (place_at places t) (place_at places (t + 1))

@@ -1,0 +1,167 @@
+//! What there is to say of a map and a plan's text.
+
+ghost use Rattle.std.specs.Prelude.{◌≡◌, ◌≢◌, ◌≤◌, ◌++◌, Some, codes, decimal, length, IfOk};
+ghost use Rattle.fleet_map.specs.Form.{HasSides};
+ghost use Rattle.fleet_map.specs.Grammar.{view};
+ghost use Rattle.fleet_plans.specs.Valid.{HasSize};
+ghost use Rattle.fleet_plans.specs.Answer.{IsJudged, IsTextAnswer, IsPlanAnswer, fault_text, goals_text, report_text};
+
+use crate::fault::PlanTextFault;
+use crate::judging::PlanFault;
+use crate::plan::{Plan, read_plan};
+use crate::report::{PlanReport, check_plan};
+use crate::sides::Sides;
+use fleet_check::StepFault;
+use fleet_grid::Grid;
+use fleet_map::{MapFault, MapText, read_map};
+use std::alloc::{AllocError, Allocator};
+use std::fmt;
+
+/// What there is to say of a map and a plan's text.
+#[derive(Clone, Copy, Debug, PartialEq, Eq)]
+pub enum PlanAnswer {
+    /// The map cannot be read.
+    Map(MapFault),
+    /// The text is no plan: the first line that may not stand where it does, from 1.
+    Text(u32),
+    /// The plan is valid.
+    Valid(PlanReport),
+    /// The plan is not valid.
+    Invalid(PlanFault),
+}
+
+/// The sides of a map.
+fn sides_of<A: Allocator + Copy>(map: &MapText<A>) -> Sides
+    requires { HasSides (view map.now) }
+    ensures width { result.width ≡ map.now.width }
+    ensures height { result.height ≡ map.now.height }
+{
+    Sides {
+        width: map.width,
+        height: map.height,
+    }
+}
+
+/// Judges a plan on a map.
+fn judge_on<A: Allocator + Copy>(
+    alloc: A,
+    grid: &Grid<A>,
+    plan: &Plan<A>,
+) -> Result<PlanAnswer, AllocError>
+    requires { HasSize plan.now.places }
+    ensures { IfOk result (λ answer. IsJudged grid.now plan.now.goals plan.now.places answer) }
+{
+    match check_plan(alloc, grid, plan) {
+        Ok(report) => Ok(PlanAnswer::Valid(report)),
+        Err(
+            PlanFault {
+                fault: StepFault::NoMemory,
+                ..
+            },
+        ) => Err(AllocError),
+        Err(fault) => Ok(PlanAnswer::Invalid(fault)),
+    }
+}
+
+/// The line of a fault. Out of memory has none.
+fn line_of(fault: PlanTextFault) -> Result<u32, AllocError>
+    ensures { IfOk result (λ line. fault ≡ PlanTextFault.Line line) }
+{
+    match fault {
+        PlanTextFault::Line(line) => Ok(line),
+        PlanTextFault::NoMemory => Err(AllocError),
+    }
+}
+
+/// What there is to say of a plan's text on a map.
+fn answer_text<A: Allocator + Copy>(
+    alloc: A,
+    map: MapText<A>,
+    text: &[u8],
+) -> Result<PlanAnswer, AllocError>
+    requires sides { HasSides (view map) }
+    requires short { length text.now ≤ 16777216 }
+    ensures { IfOk result (λ answer. IsTextAnswer (view map) text.now answer) }
+{
+    match read_plan(alloc, sides_of(&map), text) {
+        Ok(plan) => {
+            let grid = Grid::new(map)?;
+            judge_on(alloc, &grid, &plan)
+        }
+        Err(fault) => Ok(PlanAnswer::Text(line_of(fault)?)),
+    }
+}
+
+/// The fault of a map. Out of memory is none.
+fn map_fault(fault: MapFault) -> Result<MapFault, AllocError>
+    ensures same { IfOk result (λ named. named ≡ fault) }
+    ensures named { IfOk result (λ named. named ≢ MapFault.NoMemory) }
+{
+    match fault {
+        MapFault::NoMemory => Err(AllocError),
+        named => Ok(named),
+    }
+}
+
+/// What there is to say of a map and a plan's text: the first of a fault of the map, a fault of the text, and the
+/// verdict on the plan.
+pub fn check_texts<A: Allocator + Copy>(
+    alloc: A,
+    map: &[u8],
+    text: &[u8],
+) -> Result<PlanAnswer, AllocError>
+    requires { length text.now ≤ 16777216 }
+    ensures { IfOk result (λ answer. IsPlanAnswer map.now text.now answer) }
+{
+    match read_map(alloc, map) {
+        Ok(map) => answer_text(alloc, map, text),
+        Err(fault) => Ok(PlanAnswer::Map(map_fault(fault)?)),
+    }
+}
+
+/// A step's fault as it prints: its kind, and its robots.
+#[derive(Clone, Copy)]
+pub struct FaultText(pub StepFault);
+
+impl fmt::Display for FaultText {
+    ghost output = { λ t. Some (fault_text t.0) };
+
+    fn fmt<W: fmt::Write>(&self, f: &mut fmt::Formatter<W>) -> fmt::Result {
+        match self.0 {
+            StepFault::Length => f.write_str("length"),
+            StepFault::OffFloor(robot) => write!(f, "off-floor {robot}"),
+            StepFault::NotAdjacent(robot) => write!(f, "not-adjacent {robot}"),
+            StepFault::NoMemory => f.write_str("no-memory"),
+            StepFault::Vertex(first, second) => write!(f, "vertex {first} {second}"),
+            StepFault::Swap(first, second) => write!(f, "swap {first} {second}"),
+        }
+    }
+}
+
+/// How many robots end on their goals, as it prints.
+#[derive(Clone, Copy)]
+struct GoalsText(Option<u32>);
+
+impl fmt::Display for GoalsText {
+    ghost output = { λ t. Some (goals_text t.0) };
+
+    fn fmt<W: fmt::Write>(&self, f: &mut fmt::Formatter<W>) -> fmt::Result {
+        match self.0 {
+            Some(reached) => writeln!(f, "on-goals {reached}"),
+            None => Ok(()),
+        }
+    }
+}
+
+impl fmt::Display for PlanReport {
+    ghost output = { λ r. Some (report_text r) };
+
+    fn fmt<W: fmt::Write>(&self, f: &mut fmt::Formatter<W>) -> fmt::Result {
+        let (steps, robots, goals) = (self.steps, self.robots, GoalsText(self.on_goals));
+        let (cost, most) = (self.sum_of_costs, self.makespan);
+        write!(
+            f,
+            "valid {steps} {robots}\nsum-of-costs {cost}\nmakespan {most}\n{goals}"
+        )
+    }
+}

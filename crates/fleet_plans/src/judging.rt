@@ -1,0 +1,61 @@
+//! The judge of plans.
+
+ghost use Rattle.std.specs.Prelude.{◌≡◌, ◌<◌, ◌+◌, ◌-◌, ◌^◌, ◌⊎◌, ℕ, length, OnOk, IfErr};
+ghost use Rattle.fleet_grid.specs.Step.{IsPlacement};
+ghost use Rattle.fleet_plans.specs.Valid.{place_at, AreStepsFree, IsValidPlan, IsStepFault, IsPlanFault};
+
+use crate::placements::Placements;
+use fleet_check::{StepFault, check_placement, check_step};
+use fleet_grid::Grid;
+use std::alloc::Allocator;
+
+/// The first placement of a plan that is at fault.
+#[derive(Clone, Copy, Debug, PartialEq, Eq)]
+pub struct PlanFault {
+    /// Its time: 0 where the robots cannot start so, else the number of the step that leads to it.
+    pub time: u32,
+    /// What is wrong with it.
+    pub fault: StepFault,
+}
+
+/// Judges the steps of a plan whose robots can start so.
+fn judge_steps<A: Allocator + Copy, B: Allocator + Copy>(
+    alloc: A,
+    grid: &Grid<B>,
+    places: &Placements<A>,
+) -> Result<(), PlanFault>
+    requires starts { IsPlacement grid.now (place_at places.now 0) }
+    requires few { length places.now < 2 ^ 32 }
+    ensures ok { OnOk result (AreStepsFree grid.now places.now (length places.now - 1)) }
+    ensures fault { IfErr result (λ f. (t : ℕ) × (f.time ≡ t + 1) × IsStepFault grid.now places.now t f.fault) }
+{
+    for time in 1..places.len() {
+        if let Err(fault) = check_step(alloc, grid, places.at(time - 1), places.at(time)) {
+            let time = time as u32;
+            return Err(PlanFault { time, fault });
+        }
+    }
+    Ok(())
+}
+
+/// Judges a plan: item t of `places` has the robots' cells at time t.
+///
+/// It is valid where the robots can start so (distinct cells, each on the floor) and each step is conflict-free (Stern
+/// et al., SoCS 2019). The fault is that of the first placement at fault, as `check_placement` names it at time 0 and
+/// `check_step` at each later one; `NoMemory` where the search for conflicts found no room.
+pub fn judge_plan<A: Allocator + Copy, B: Allocator + Copy>(
+    alloc: A,
+    grid: &Grid<B>,
+    places: &Placements<A>,
+) -> Result<(), PlanFault>
+    requires times { length places.now < 2 ^ 32 }
+    requires robots { length (place_at places.now 0) < 2 ^ 32 }
+    ensures valid { OnOk result (IsValidPlan grid.now places.now) }
+    ensures fault { IfErr result (λ f. IsPlanFault grid.now places.now f.time f.fault) }
+    ensures lawful { IsValidPlan grid.now places.now → IfErr result (λ f. f.fault ≡ StepFault.NoMemory) }
+{
+    if let Err(fault) = check_placement(alloc, grid, places.at(0)) {
+        return Err(PlanFault { time: 0, fault });
+    }
+    judge_steps(alloc, grid, places)
+}

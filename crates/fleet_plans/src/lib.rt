@@ -1,0 +1,25 @@
+//! Plans of other planners: read from the texts that the field's tools write, judged step by step, and written.
+#![tactic(auto)]
+
+mod answer;
+mod cells;
+mod costs;
+mod fault;
+mod head;
+mod judging;
+mod placements;
+mod places;
+mod plan;
+mod report;
+mod sides;
+mod tracks;
+mod walk;
+
+pub use answer::{FaultText, PlanAnswer, check_texts};
+pub use costs::{costs_of, makespan, on_goals, sum_of_costs};
+pub use fault::PlanTextFault;
+pub use judging::{PlanFault, judge_plan};
+pub use placements::Placements;
+pub use plan::{Plan, read_plan};
+pub use report::{PlanReport, check_plan};
+pub use sides::Sides;
