@@ -259,9 +259,12 @@ uses_few goals i old cur used less few key at e is = elim (something (shown old 
 ]
 
 pub few_filled : (fields : List Aim) (goals : List ℕ) (old mid : List (Option (Held Aim))) → IsFilled fields old mid → HaveUsesLeft old goals → HaveUsesLeft mid goals
-few_filled fields goals old mid filled few aimed = ((few aimed).0, λ key at e is. elim (something (shown old key)) [
-  | inl none ↦ (let z = (filled.fresh key at none e).0 in let s = (few aimed).0 in omega (arith, z, s))
-  | inr was ↦ (
-      let one : was.0 ≡ at = some_once was.0 at (sym (filled.kept key was.0 was.1) ∙ e) in
-      subst (λ (h : Held Aim). h.field.goal ≡ aimed → h.uses + times goals aimed < 4294967296) one ((few aimed).1 key was.0 was.1) is)
-])
+few_filled fields goals old mid filled few aimed = (
+  (few aimed).0,
+  λ key at e is. elim (something (shown old key)) [
+    | inl none ↦ (let z = (filled.fresh key at none e).0 in let s = (few aimed).0 in omega (arith, z, s))
+    | inr was ↦ (
+        let one : was.0 ≡ at = some_once was.0 at (sym (filled.kept key was.0 was.1) ∙ e) in
+        subst (λ (h : Held Aim). h.field.goal ≡ aimed → h.uses + times goals aimed < 4294967296) one ((few aimed).1 key was.0 was.1) is)
+  ],
+)
