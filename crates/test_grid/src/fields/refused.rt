@@ -6,7 +6,7 @@ ghost use Rattle.fleet_field.specs.Store.{Serves};
 
 use super::{SHARED, hold, ring};
 use crate::floor::are_floor;
-use fleet_field::FieldStore;
+use fleet_field::{FieldStore, fields};
 use fleet_grid::Grid;
 use std::alloc::Allocator;
 use std::process::Abort;
@@ -83,6 +83,33 @@ fn refused_growths_of_several(rt: HostRuntime) {
     let mut refused = 0;
     for before in 0..32 {
         if are_refused(&rt, &Refusing::after(rt.alloc(), before), &grid) {
+            refused = before + 1;
+        }
+    }
+    assert!(rt; 0 < refused && refused < 32);
+}
+
+/// Searches several fields while one growth is refused, and once more where it was. Whether it was.
+fn is_search_refused(
+    rt: &(impl Abort + Threads + Sync),
+    heap: impl Allocator + Copy + Send + Sync,
+    grid: &Grid,
+) -> bool {
+    assert!(rt; are_floor(grid, &SHARED));
+    if fields(rt, heap, grid, &SHARED).is_ok() {
+        return false;
+    }
+    let several = fields(rt, heap, grid, &SHARED).expect(rt, "memory for fields");
+    assert!(rt; several.len() == 3 && several[1].at(0) == Some(4));
+    true
+}
+
+#[test]
+fn refused_growths_of_fields(rt: HostRuntime) {
+    let grid = ring(&rt, rt.alloc());
+    let mut refused = 0;
+    for before in 0..32 {
+        if is_search_refused(&rt, &Refusing::after(rt.alloc(), before), &grid) {
             refused = before + 1;
         }
     }
