@@ -19,7 +19,7 @@ use std::marker::Model;
 use std::thread::Threads;
 
 /// Fields of one map that nobody holds, the last used first, up to a number of bytes; the longest unused goes first.
-/// Contracts see the kept fields.
+/// Contracts see the kept fields, and the bytes.
 #[derive(Drop)]
 pub struct Shelf<A: Allocator + Copy = Global> {
     kept: VecDeque<Compass<A>, A>,
