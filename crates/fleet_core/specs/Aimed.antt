@@ -4,6 +4,7 @@ use Rattle.std.specs.List.{flat_map, range_with_len}
 use Rattle.fleet_grid.specs.Floor.{Floor, IsNeighbour}
 use Rattle.fleet_grid.specs.Walk.{IsBridgeless}
 use Rattle.fleet_field.specs.Field.{Aim}
+use Rattle.fleet_field.specs.Shelf.{Shelf}
 use Rattle.fleet_field.specs.Store.{Keeps}
 use Rattle.fleet_goals.specs.declared.turns.Turn.{Turn}
 use Rattle.fleet_goals.specs.Aims.{goals_of, AreOn}
@@ -27,7 +28,7 @@ pub record Planner : Type 0 where
   pub aims : List (Option Aim)
   pub size : Size
   pub bridgeless : Bool
-  pub kept : List Aim
+  pub kept : Shelf
 
 -- the planner goes by the goals after the history
 pub record IsAimed {A : Type 0} (m : Floor) (h : History A) (p : Planner) : Type 0 where

@@ -10,23 +10,17 @@ use Rattle.fleet_grid.specs.Floor.{Floor}
 use Rattle.fleet_field.specs.Field.{Aim, aim_of, IsField}
 use Rattle.fleet_field.specs.Several.{AreFields}
 use Rattle.fleet_field.specs.Shelf.{HasKept, IsFieldOf}
-use Rattle.fleet_field.specs.Store.{Keeps}
 use Rattle.fleet_field.specs.inside.Uses.{IsOneOf}
 use Rattle.fleet_field.proofs.Uses.{each_field, fields_count}
 
 module _ (m : Floor) (goals : List ℕ) where
   -- a field that was searched is that of one of the goals
-  made_of : (missing : List ℕ) (fields : List Aim) → AreFields m missing fields → ((i : ℕ) → i < length missing → IsOneOf goals (slice_index missing i)) → (field : Aim) → Contains fields field → IsFieldOf m goals field
+  pub made_of : (missing : List ℕ) (fields : List Aim) → AreFields m missing fields → ((i : ℕ) → i < length missing → IsOneOf goals (slice_index missing i)) → (field : Aim) → Contains fields field → IsFieldOf m goals field
   made_of missing fields made only field c =
       let right : IsField m (slice_index missing c.0) (get_or fields c.0 field) = each_field m missing fields made c.0 field c.1 in
       let at : IsField m (slice_index missing c.0) field = subst (IsField m (slice_index missing c.0)) c.2 right in
       let one = only c.0 (omega (arith, c.1, fields_count m missing fields made)) in
       (one.0, one.1, subst (λ (x : ℕ). IsField m x field) (sym one.2) at)
-
-  pub searched_of : {V E : Type 0} (missing : List ℕ) (items : V → List Aim) (r : Result V E) → ((i : ℕ) → i < length missing → IsOneOf goals (slice_index missing i)) → IfOk r (λ v. AreFields m missing (items v))
-      → IfOk r (λ v. (field : Aim) → Contains (items v) field → IsFieldOf m goals field)
-  searched_of missing items (Ok v) only made = made_of missing (items v) made only
-  searched_of missing items (Err e) only made = tt
 
   pub ahead_only : (fields old mid new : List Aim) → ((field : Aim) → Contains fields field → IsFieldOf m goals field) → All (Contains old) mid
       → All (λ (f : Aim). Contains fields f ⊎ Contains mid f) new → All (λ (f : Aim). IsFieldOf m goals f ⊎ Contains old f) new
@@ -34,7 +28,7 @@ module _ (m : Floor) (goals : List ℕ) where
       All-weaker (λ (f : Aim). Contains fields f ⊎ Contains mid f) (λ (f : Aim). IsFieldOf m goals f ⊎ Contains old f)
       (λ f p. elim p [ inl c ↦ inl (made f c) | inr c ↦ inr (All-contains (Contains old) mid f among c) ]) new put
 
-  pub ahead_keeps : (old new : List Aim) → All (λ (f : Aim). IsFieldOf m goals f ⊎ Contains old f) new → Keeps m old → Keeps m new
+  pub ahead_keeps : (old new : List Aim) → All (λ (f : Aim). IsFieldOf m goals f ⊎ Contains old f) new → All (λ (f : Aim). IsField m f.goal f) old → All (λ (f : Aim). IsField m f.goal f) new
   ahead_keeps old new only keeps =
       All-weaker (λ (f : Aim). IsFieldOf m goals f ⊎ Contains old f) (λ (f : Aim). IsField m f.goal f)
       (λ f p. elim p [

@@ -22,3 +22,4 @@ pub mod Around
 pub mod Levels
 pub mod Shades
 pub mod Unsearched
+pub mod Fronted

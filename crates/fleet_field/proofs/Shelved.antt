@@ -4,7 +4,7 @@ use Rattle.std.specs.Prelude.{OnSome, IfNone}
 use Rattle.std.specs.List.{All, Contains, remove}
 use Rattle.fleet_grid.specs.Floor.{Floor}
 use Rattle.fleet_field.specs.Field.{Aim, IsField}
-use Rattle.fleet_field.specs.Store.{Keeps}
+use Rattle.fleet_field.specs.Shelf.{Shelf}
 use Rattle.std.proofs.lemmas.List.Elements.{All-take, All-drop, All-append, All-cons, All-tail, All-weaker, All-contains, All-contains_itself}
 
 module _ {X : Type 0} where
@@ -28,6 +28,10 @@ module _ {X : Type 0} where
   all_among P old new among all = All-weaker (Contains old) P (λ x there. All-contains P old x all there) new among
 
 -- a field of the map is put beside those of the map
-pub keeps_put : (m : Floor) (field : Aim) (old new : List Aim) → All (Contains (field ∷ old)) new → IsField m field.goal field → Keeps m old → Keeps m new
+pub keeps_put : (m : Floor) (field : Aim) (old new : List Aim) → All (Contains (field ∷ old)) new → IsField m field.goal field → All (λ (f : Aim). IsField m f.goal f) old → All (λ (f : Aim). IsField m f.goal f) new
 keeps_put m field old new among right keeps =
     all_among (λ (f : Aim). IsField m f.goal f) (field ∷ old) new among (All-cons (λ (f : Aim). IsField m f.goal f) field old right keeps)
+
+-- a shelf of these fields
+abbrev pub shelf_of : List Aim → ℕ → Shelf
+shelf_of kept bytes = record { kept = kept; bytes = bytes }

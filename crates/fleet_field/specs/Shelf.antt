@@ -4,6 +4,11 @@ use Rattle.std.specs.List.{Contains}
 use Rattle.fleet_grid.specs.Floor.{Floor}
 use Rattle.fleet_field.specs.Field.{Aim, IsField, aim_of}
 
+-- the kept fields, the last used first, and the bytes that they may have
+pub record Shelf : Type 0 where
+  pub kept : List Aim
+  pub bytes : ℕ
+
 -- how many cells the kept fields have, as the last used one shows
 abbrev pub cells_kept : List Aim → ℕ
 cells_kept kept = length (slice_index_or kept 0 (aim_of 0 [])).away

@@ -3,3 +3,4 @@ pub mod Search
 pub mod Bytes
 pub mod Uses
 pub mod Work
+pub mod Sorted

@@ -9,6 +9,7 @@ mod field;
 mod flood;
 mod fronts;
 mod holds;
+mod kept;
 mod search;
 mod several;
 mod shelf;

@@ -6,9 +6,9 @@ use Rattle.fleet_field.proofs.shelf.Shelf.field.Goals as goal
 
 pub returns-in-Some-clause-keeps : goal.returns-in-Some-clause-keeps
 returns-in-Some-clause-keeps g c =
-    all_among (λ (field : Aim). IsField c.args.grid.now field.goal field) c.args.self.now c.take.new.self c.take.ensures.others c.requires.keeps
+    all_among (λ (field : Aim). IsField c.args.grid.now field.goal field) c.args.self.now.kept c.take.new.self.kept c.take.ensures.others c.requires.keeps
 
 pub returns-in-Ok-clause-keeps : goal.returns-in-Ok-clause-keeps
 returns-in-Ok-clause-keeps g c =
     subst (Keeps c.args.grid.now) (sym c.search.ensures.same)
-    (all_among (λ (field : Aim). IsField c.args.grid.now field.goal field) c.args.self.now c.take.new.self c.take.ensures.others c.requires.keeps)
+    (all_among (λ (field : Aim). IsField c.args.grid.now field.goal field) c.args.self.now.kept c.take.new.self.kept c.take.ensures.others c.requires.keeps)

@@ -1,9 +1,12 @@
 -- What is kept where fewer bytes are there.
-use Rattle.std.proofs.Common.{ℕ, take, ap, ◌∙◌}
-use Rattle.fleet_field.specs.Shelf.{places}
+use Rattle.std.proofs.Common.{ℕ, List, take, ap, ◌∙◌}
+use Rattle.fleet_field.specs.Field.{Aim}
+use Rattle.fleet_field.specs.Shelf.{Shelf, places}
+use Rattle.fleet_field.proofs.Shelved.{shelf_of}
 use Rattle.fleet_field.proofs.shelf.Shelf.keep.Goals as goal
 
 pub returns : goal.returns
 returns g c =
+    let kept = ap (λ (s : Shelf). s.kept) c.self.view_is in
     let left = c.places-left.ensures ∙ ap (places c.args.bytes) c.cells.ensures in
-    c.truncate.ensures.items ∙ (ap (take c.places-left.result) c.self.view_is ∙ ap (λ (n : ℕ). take n c.args.self.now) left)
+    ap (λ (xs : List Aim). shelf_of xs c.args.bytes) (c.truncate.ensures.items ∙ (ap (take c.places-left.result) kept ∙ ap (λ (n : ℕ). take n c.args.self.now.kept) left))

@@ -22,7 +22,7 @@ invariant_of-self-else-uses-gt1 g c =
 pub returns-else-uses-gt1-clause-keeps : goal.returns-else-uses-gt1-clause-keeps
 returns-else-uses-gt1-clause-keeps g c = λ m serves keeps.
     let was : shown c.args.self.now c.args.key ≡ Some _ = sym (ap (λ s. shown s c.args.key) c.self.view_is) ∙ c.remove-field.ensures.value in
-    keeps_put m c.remove-field.result.field c.args.shelf.now c.put.new.self c.put.ensures (serves c.args.key _ was) keeps
+    keeps_put m c.remove-field.result.field c.args.shelf.now.kept c.put.new.self.kept c.put.ensures (serves c.args.key _ was) keeps
 
 pub returns-then-uses-gt1-clause-released : goal.returns-then-uses-gt1-clause-released
 returns-then-uses-gt1-clause-released g c =

@@ -1,0 +1,19 @@
+use Rattle.std.proofs.Common.{◌≡◌, ℕ, ◌+◌, ◌≤◌, ◌⊎◌, take, vec_len}
+use Rattle.std.specs.List.{All, Contains}
+use Rattle.std.specs.VecDeque.{deque_len, deque_capacity}
+use Rattle.fleet_field.specs.Field.{Aim}
+use Rattle.fleet_field.specs.Shelf.{HasKept}
+use Rattle.fleet_field.proofs.kept.put_first.Given as goal
+
+abbrev pub invariant-loop-field : goal.invariant-loop-field
+invariant-loop-field g l = record {
+  room : deque_len l.kept + vec_len l.fields ≤ deque_capacity l.kept;
+  among : All (λ (f : Aim). Contains l.fn.fields.items f ⊎ Contains l.fn.kept.items f) l.kept.items;
+  subset : (f : Aim) → Contains l.fields.items f → Contains l.fn.fields.items f;
+  fewer : vec_len l.fields ≤ vec_len l.fn.fields;
+  within : (d n other : ℕ) → d + vec_len l.fields ≡ vec_len l.fn.fields → HasKept (take n l.fn.kept.items) other → HasKept (take (n + d) l.kept.items) other;
+  first : (d : ℕ) (f : Aim) → d + vec_len l.fields ≡ vec_len l.fn.fields → Contains l.fn.fields.items f → Contains l.fields.items f ⊎ HasKept (take d l.kept.items) f.goal;
+}
+
+abbrev pub decreases-loop-field : goal.decreases-loop-field
+decreases-loop-field g l = vec_len l.fields
