@@ -24,7 +24,7 @@ impl From<AllocError> for InputFault {
     }
 }
 
-/// All that the reader has, which is at most so many bytes.
+/// All that the reader has, which is at most `most` bytes.
 pub fn read_up_to<A: Allocator + Copy, R: Read>(
     alloc: A,
     reader: &mut R,

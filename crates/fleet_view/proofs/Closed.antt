@@ -36,7 +36,7 @@ and-right : (a b : Bool) → (a && b) ≡ true → b ≡ true
 and-right true b e = e
 and-right false b e = absurd cc
 
--- two texts, one behind the other
+-- two texts, one after the other
 pub both : (xs ys : List ℕ) → HasNoTag xs → HasNoTag ys → HasNoTag (xs ++ ys)
 both [] ys e f = f
 both (x ∷ xs) ys e f = and-intro (is_other x) (list_all is_other (xs ++ ys)) (and-left (is_other x) (list_all is_other xs) e) (both xs ys (and-right (is_other x) (list_all is_other xs) e) f)

@@ -1,4 +1,4 @@
--- Pieces of text that are written one behind the other.
+-- Pieces of text that are written one after the other.
 use Rattle.std.proofs.Common.{◌≡◌, List, [], ℕ, ◌++◌, refl, append_assoc}
 
 -- the parts of a shape that moves

@@ -23,7 +23,7 @@ module _ (n k width : ℕ) (less : k < n) where
       let all : length rest ≡ suc (n - (k + 1)) * width = before ∙ ap (λ (j : ℕ). j * width) one-more in
       ap length behind-is ∙ length-drop width rest ∙ omega (arith, all)
 
--- the pieces of a page, one written behind the other
+-- the pieces of a page, one written after the other
 pub page-is : {A : Type 0} (m : Map) (ts : List (Trace A)) (head a b cells c middle d e tail : List ℕ) → a ≡ head → head ≡ HEAD.now → b ≡ a ++ rows_text m.height m.width cells → cells ≡ m.cells → c ≡ b ++ middle → middle ≡ MIDDLE.now
     → d ≡ c ++ chapters_text ts → e ≡ d ++ tail → tail ≡ TAIL.now → e ≡ page_text m ts
 page-is m ts head a b cells c middle d e tail a-is head-is b-is cells-is c-is middle-is d-is e-is tail-is =

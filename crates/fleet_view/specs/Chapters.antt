@@ -27,7 +27,7 @@ goes_on t u = (u.number == t.number + 1)
     && ((length u.history.opening.clients == length t.history.opening.clients)
     && ((u.history.opening.queue == t.history.opening.queue) && (u.history.opening.life == t.history.opening.life)))))
 
--- whether a trace may stand behind another, where there is one
+-- whether a trace may follow another, where there is one
 abbrev pub fits_behind : {A : Type 0} → Option (Trace A) → Trace A → Bool
 fits_behind None u = true
 fits_behind (Some t) u = goes_on t u

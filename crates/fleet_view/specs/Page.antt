@@ -7,7 +7,7 @@ use Rattle.fleet_trace.specs.Text.{trace_text}
 use Rattle.fleet_view.specs.declared.frame.TheConstants.{HEAD, MIDDLE}
 use Rattle.fleet_view.specs.declared.script.TheConstants.{TAIL}
 
--- so many rows of this width, a line each
+-- n rows of this width, a line each
 abbrev pub rows_text : ℕ → ℕ → List ℕ → List ℕ
 rows_text zero width cells = []
 rows_text (suc rows) width cells = take width cells ++ codes "\n" ++ rows_text rows width (drop width cells)

@@ -31,14 +31,14 @@ head_text height width =
 
 -- ---- the robots
 
--- a robot's cells behind each tick of the entries
+-- a robot's cells after each tick of the entries
 abbrev pub cells_over : {A : Type 0} → ℕ → List (Entry A) → List ℕ
 cells_over r [] = []
 cells_over r (Tick to arrived farewells ∷ es) = slice_index to r ∷ cells_over r es
 cells_over r (Take client order verdict ∷ es) = cells_over r es
 cells_over r (Shut robot farewell ∷ es) = cells_over r es
 
--- a robot's cells behind each tick of the traces
+-- a robot's cells after each tick of the traces
 abbrev pub cells_in : {A : Type 0} → ℕ → List (Trace A) → List ℕ
 cells_in r ts = flat_map (λ t. cells_over r t.history.entries) ts
 
@@ -46,7 +46,7 @@ cells_in r ts = flat_map (λ t. cells_over r t.history.entries) ts
 abbrev pub points_text : ℕ → List ℕ → List ℕ
 points_text width cells = flat_map (λ cell. codes ";" ++ point_text width cell) cells
 
--- the values that a robot's shape goes through: where it stands at the opening, then behind each tick
+-- the values that a robot's shape goes through: where it stands at the opening, then after each tick
 abbrev pub values_text : ℕ → ℕ → List ℕ → List ℕ
 values_text width start cells = point_text width start ++ points_text width cells
 
@@ -58,14 +58,14 @@ disc_text r = DISC.now ++ decimal (r % 360 * 137 % 360) ++ NUMBER.now ++ decimal
 abbrev pub moving_text : ℕ → ℕ → ℕ → List ℕ → List ℕ
 moving_text width r start cells = TRACK.now ++ values_text width start cells ++ TRACK_TIME.now ++ decimal (2 * max 1 (length cells)) ++ TRACK_END.now ++ disc_text r
 
--- where a robot stands behind so many ticks, or behind the last
+-- where a robot stands after a number of ticks, or after the last
 abbrev pub cell_behind : ℕ → ℕ → List ℕ → ℕ
 cell_behind tick start cells = slice_index (start ∷ cells) (min tick (length cells))
 
 abbrev pub still_text : ℕ → ℕ → ℕ → List ℕ
 still_text width r cell = STILL.now ++ point_text width cell ++ STILL_END.now ++ disc_text r
 
--- a robot's shape: it moves, or stands as behind some tick
+-- a robot's shape: it moves, or stands as after some tick
 abbrev pub shape_text : ℕ → Option ℕ → ℕ → ℕ → List ℕ → List ℕ
 shape_text width None r start cells = moving_text width r start cells
 shape_text width (Some tick) r start cells = still_text width r (cell_behind tick start cells)
@@ -83,6 +83,6 @@ robots_in (t ∷ ts) = t.history.opening.robots
 abbrev pub walls_text : Map → List ℕ
 walls_text m = WALLS.now ++ walls_from m.width 0 m.cells ++ WALLS_END.now
 
--- the picture of a map and of traces on it: all ticks, one after the other, or what stands behind one of them
+-- the picture of a map and of traces on it: all ticks, one after the other, or what stands after one of them
 abbrev pub picture_text : {A : Type 0} → Map → List (Trace A) → Option ℕ → List ℕ
 picture_text m ts tick = head_text m.height m.width ++ walls_text m ++ shapes_from m.width tick ts 0 (robots_in ts) ++ SVG_END.now

@@ -10,7 +10,7 @@ use fleet_history::{Chapter, Entry, RobotState};
 use fleet_trace::{TraceFault, read_trace};
 use std::alloc::{AllocError, Global};
 
-/// The chapters that these texts tell, each one. The fault is that of the first that tells none.
+/// The chapters of these texts. The fault is that of the first text that is no trace.
 pub(crate) fn read_chapters(alloc: Global, texts: &[Vec<u8>]) -> Result<Vec<Chapter>, TraceFault>
     ensures told { IfOk result (λ chapters. TellEach (map (λ text. text.items) texts.now) (map trace_of chapters.items)) }
     ensures fault { IfErr result (λ fault. TellsNot (map (λ text. text.items) texts.now) fault) }
@@ -81,7 +81,7 @@ fn goes_on(alloc: Global, first: &Chapter, next: &Chapter) -> Result<bool, Alloc
     Ok(same)
 }
 
-/// Whether the chapter may stand behind another, where there is one.
+/// Whether the chapter may follow another, where there is one.
 fn fits_behind(alloc: Global, before: Option<&Chapter>, next: &Chapter) -> Result<bool, AllocError>
     ensures { IfOk result (λ b. b ≡ fits_behind (option_map trace_of (option_copied before.entry)) (trace_of next.now)) }
 {

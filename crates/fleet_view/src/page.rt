@@ -40,7 +40,7 @@ fn write_chapters(alloc: Global, out: &mut Vec<u8>, chapters: &[Chapter]) -> Res
     Ok(())
 }
 
-/// The page of a map and of chapters on it. The error is want of memory.
+/// The page of a map and of chapters on it. The only error is that memory runs out.
 pub fn page_of(alloc: Global, floor: &MapText, chapters: &[Chapter]) -> Result<Vec<u8>, AllocError>
     requires { HasSides (view floor.now) }
     ensures { IfOk result (λ text. text.items ≡ page_text (view floor.now) (map trace_of chapters.now)) }

@@ -153,7 +153,7 @@ fn write_moving(
     write_disc(out, robot)
 }
 
-/// Where a robot stands after so many ticks, or after the last.
+/// Where a robot stands after a number of ticks, or after the last.
 fn cell_behind(tick: u32, start: u32, cells: &[u32]) -> u32
     ensures { result ≡ cell_behind tick start cells.now }
 {
@@ -235,7 +235,7 @@ fn write_floor(out: &mut String, floor: &MapText) -> Result<(), AllocError>
     Ok(())
 }
 
-/// The picture of a map and of chapters on it: each tick of theirs, or what stands after one. The error is want of memory.
+/// The picture of a map and of chapters on it: each tick of theirs, or what stands after one. The only error is that memory runs out.
 pub fn picture_of(
     alloc: Global,
     floor: &MapText,

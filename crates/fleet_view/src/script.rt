@@ -1,6 +1,6 @@
 //! The page's script. Written by `tools/view/embed --write` from `tools/view`.
 
-/// The page behind the traces.
+/// The page after the traces.
 pub(crate) const TAIL: &str = r##"</script>
 <script>
 'use strict';

@@ -14,13 +14,13 @@ use Rattle.fleet_words.specs.declared.words.Job.TheVariants as job
 abbrev pub has_flag : Text → List Row → Bool
 has_flag name rows = option_map_or (λ word. bytes_eq word (codes "true")) (first_of name rows) false
 
--- how the words behind `view` say that traces are shown
+-- how the words after `view` say that traces are shown
 abbrev pub IsShownAs : List Row → Shown → Type 0
 IsShownAs rows Page = (first_of (codes "tick") rows ≡ None) × (has_flag (codes "svg") rows ≡ false)
 IsShownAs rows Moving = (first_of (codes "tick") rows ≡ None) × (has_flag (codes "svg") rows ≡ true)
 IsShownAs rows (Still tick) = (word : Text) × (first_of (codes "tick") rows ≡ Some word) × (tick ≡ digits_value 10 (without_leading_plus word))
 
--- what the words behind `view` ask for
+-- what the words after `view` ask for
 pub record IsView (rows : List Row) (view : ViewJob) : Type 0 where
   pub floor : first_of (codes "MAP") rows ≡ Some (string_bytes view.map)
   pub traces : all_of (codes "TRACE") rows ≡ Some (map (λ s. string_bytes s) view.traces.items)

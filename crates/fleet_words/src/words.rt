@@ -75,7 +75,7 @@ pub fn parse_words(alloc: Global, words: &[String]) -> Result<Job, WordFault>
     // only words that `clap` takes name a job
     ensures taken { IfOk result (λ job. fault_of fleet_app (map (λ w. string_bytes w) words.now) ≡ []) }
     ensures job { IfOk result (λ job. IsJobOf (subcommand_of fleet_app (map (λ w. string_bytes w) words.now)) job) }
-    // words that `clap` takes are refused for want of memory alone
+    // words that `clap` takes are refused only where memory runs out
     ensures refused { IfErr result (λ f. takes fleet_app (map (λ w. string_bytes w) words.now) ≡ true → f ≡ NoMemory) }
 {
     let command = fleet_command(alloc)?;
