@@ -1,6 +1,6 @@
 //! The files that a job names.
 
-ghost use Rattle.std.specs.Prelude.{◌<◌, ◌^◌};
+ghost use Rattle.std.specs.Prelude.{◌<◌, ◌≤◌, ◌^◌, vec_len, IfOk};
 
 use fleet_lib::{InputFault, read_up_to};
 use std::alloc::{Alloc, Global};
@@ -17,6 +17,7 @@ pub(crate) fn file_bytes<R: Files + Alloc<A = Global>>(
     most: usize,
 ) -> Result<Vec<u8>, InputFault>
     requires { most < 2 ^ 32 }
+    ensures { IfOk result (λ bytes. vec_len bytes ≤ most) }
 {
     match File::open(rt, name) {
         Ok(mut file) => read_up_to(rt.alloc(), &mut file, most),

@@ -1,10 +1,13 @@
 //! `fleet`: for the people around a fleet of robots. `fleet view MAP TRACE..` prints a page that replays traces on a map, with `--svg` a
-//! moving picture, with `--tick N` a picture of what stands after N ticks. What each word does stands in `fleet_lib`.
+//! moving picture, with `--tick N` a picture of what stands after N ticks. `fleet check MAP PLAN` judges a plan of any planner. What each word
+//! does is in `fleet_lib`.
 #![tactic(auto)]
 
+mod check;
 mod ends;
 mod view;
 
+use check::run_check;
 use fleet_lib::{InputFault, Job, WordFault, fail, parse_words, write_whole};
 use std::alloc::{Alloc, Global};
 use std::env::{self, Env};
@@ -50,6 +53,7 @@ fn main(rt: HostRuntime) -> ExitCode {
     let mut error = rt.stderr();
     let status = match job_given(&rt, &mut error) {
         Ok(Job::View(view)) => run_view(&rt, &view, &mut output, &mut error),
+        Ok(Job::Check(check)) => run_check(&rt, &check, &mut output, &mut error),
         Err(status) => status,
     };
     ExitCode::from(status)

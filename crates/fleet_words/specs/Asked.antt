@@ -7,6 +7,7 @@ use Rattle.clap.specs.Words.{Text, Row, first_of, all_of}
 use Rattle.fleet_words.specs.declared.view.Shown.{Shown}
 use Rattle.fleet_words.specs.declared.view.Shown.TheVariants.{Page, Moving, Still}
 use Rattle.fleet_words.specs.declared.view.View.{View as ViewJob}
+use Rattle.fleet_words.specs.declared.check.Check.{Check as CheckJob}
 use Rattle.fleet_words.specs.declared.words.Job.{Job}
 use Rattle.fleet_words.specs.declared.words.Job.TheVariants as job
 
@@ -26,6 +27,12 @@ pub record IsView (rows : List Row) (view : ViewJob) : Type 0 where
   pub traces : all_of (codes "TRACE") rows ≡ Some (map (λ s. string_bytes s) view.traces.items)
   pub shown : IsShownAs rows view.shown
 
+-- what the words after `check` ask for
+pub record IsCheck (rows : List Row) (check : CheckJob) : Type 0 where
+  pub floor : first_of (codes "MAP") rows ≡ Some (string_bytes check.map)
+  pub plan : first_of (codes "PLAN") rows ≡ Some (string_bytes check.plan)
+
 -- the job of a subcommand and the words that stand for its arguments
 abbrev pub IsJobOf : Option (Text × List Row) → Job → Type 0
 IsJobOf found (job.View view) = (rows : List Row) × (found ≡ Some (codes "view", rows)) × IsView rows view
+IsJobOf found (job.Check check) = (rows : List Row) × (found ≡ Some (codes "check", rows)) × IsCheck rows check

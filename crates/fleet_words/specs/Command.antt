@@ -24,9 +24,13 @@ tick_rule = record (new_rule (codes "tick")) { long = Some (codes "tick"); value
 abbrev pub view_app : App
 view_app = with_rule (with_rule (with_rule (with_rule (new_app (codes "view")) (flag_rule (codes "svg"))) tick_rule) (file_rule (codes "MAP"))) (files_rule (codes "TRACE"))
 
+-- check MAP PLAN
+abbrev pub check_app : App
+check_app = with_rule (with_rule (new_app (codes "check")) (file_rule (codes "MAP"))) (file_rule (codes "PLAN"))
+
 -- fleet, which tells its version and wants a word
 abbrev pub fleet_top : App
 fleet_top = let app = new_app (codes "fleet") in record app { top = record app.top { has_version = true; subcommand_required = true } }
 
 abbrev pub fleet_app : App
-fleet_app = with_subcommand fleet_top view_app.top
+fleet_app = with_subcommand (with_subcommand fleet_top view_app.top) check_app.top

@@ -5,6 +5,7 @@ ghost use Rattle.clap.specs.declared.builder.command.Command.TheViews.{out-Comma
 ghost use Rattle.clap.specs.Words.{app_of, with_subcommand as with_sub};
 ghost use Rattle.fleet_words.specs.Command.{fleet_app};
 
+use crate::check::check_command;
 use crate::view::view_command;
 use clap::Command;
 use std::alloc::{AllocError, Global};
@@ -28,8 +29,9 @@ pub(crate) fn fleet_command<'a>(alloc: Global) -> Result<Command<'a>, AllocError
     ensures { IfOk result (λ c. app_of c ≡ fleet_app) }
 {
     let command = Command::new(alloc, "fleet")
-        .about("Looks at fleets of robots: at maps, and at traces of what robots did on them")
+        .about("Looks at fleets of robots: shows traces of what they did, and judges plans")
         .version("0.1.0")
         .subcommand_required(true);
-    with_subcommand(command, view_command(alloc))
+    let command = with_subcommand(command, view_command(alloc))?;
+    with_subcommand(command, check_command(alloc))
 }

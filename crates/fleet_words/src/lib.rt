@@ -3,9 +3,11 @@
 #![tactic(auto)]
 
 mod arguments;
+mod check;
 mod commands;
 mod view;
 mod words;
 
+pub use check::Check;
 pub use view::{Shown, View};
 pub use words::{Job, WordFault, parse_words};

@@ -8,6 +8,7 @@ ghost use Rattle.fleet_words.specs.Command.{fleet_app};
 ghost use Rattle.fleet_words.specs.Asked.{IsJobOf};
 ghost use Rattle.fleet_words.specs.declared.words.WordFault.TheVariants.{NoMemory};
 
+use crate::check::{Check, check_in};
 use crate::commands::fleet_command;
 use crate::view::{View, view_in};
 use clap::error::ErrorKind;
@@ -18,6 +19,7 @@ use std::alloc::{AllocError, Global};
 #[derive(Debug, Drop)]
 pub enum Job {
     View(View),
+    Check(Check),
 }
 
 /// Why the words name no job.
@@ -47,6 +49,8 @@ fn job_from(alloc: Global, matches: &ArgMatches<'_>) -> Result<Job, AllocError>
         Some((name, inner)) => {
             if name == "view" {
                 Ok(Job::View(view_in(alloc, inner)?))
+            } else if name == "check" {
+                Ok(Job::Check(check_in(alloc, inner)?))
             } else {
                 // `clap` takes no other word, so this never runs
                 Err(AllocError)

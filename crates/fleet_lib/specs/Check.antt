@@ -1,0 +1,25 @@
+-- What the word `check` prints.
+use Rattle.std.specs.Prelude.{◌≡◌, ℕ, List, [], ◌++◌, codes, decimal}
+use Rattle.errands_text.specs.declared.said.Complaint.TheVariants as complaint
+use Rattle.errands_text.specs.Complaint.{complaint_text}
+use Rattle.fleet_plans.specs.declared.answer.PlanAnswer.{PlanAnswer}
+use Rattle.fleet_plans.specs.declared.answer.PlanAnswer.TheVariants as answer
+use Rattle.fleet_plans.specs.Answer.{IsPlanAnswer, fault_text, report_text}
+use Rattle.fleet_lib.specs.Said.{Outcome}
+
+abbrev pub good : List ℕ → ℕ → Outcome
+good text status = record { output = text; status = status; complaint = [] }
+
+abbrev pub refused : List ℕ → ℕ → Outcome
+refused complaint status = record { output = []; status = status; complaint = complaint }
+
+-- a report with status 0; the first fault of a plan with 6; a text that is no plan with 6, and its line; a map with 4
+abbrev pub outcome_of : PlanAnswer → Outcome
+outcome_of (answer.Map fault) = refused (codes "fleet: " ++ complaint_text (complaint.Map fault) ++ codes "\n") 4
+outcome_of (answer.Text line) = refused (codes "fleet: plan " ++ decimal line ++ codes "\n") 6
+outcome_of (answer.Valid report) = good (report_text report) 0
+outcome_of (answer.Invalid fault) = good (codes "invalid " ++ decimal fault.time ++ codes " " ++ fault_text fault.fault ++ codes "\n") 6
+
+-- what is said to a map and a plan
+abbrev pub IsCheckOutcome : List ℕ → List ℕ → Outcome → Type 0
+IsCheckOutcome map plan o = (a : PlanAnswer) × IsPlanAnswer map plan a × (o ≡ outcome_of a)
