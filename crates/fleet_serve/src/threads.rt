@@ -71,7 +71,7 @@ fn run_all<
     ensures { IfErr result (λ fault. IsLater fault) }
 {
     let mut threads = Vec::new(rt.alloc());
-    thread::scope(thread::scope_env(), rt, |scope| {
+    let started = thread::scope(thread::scope_env(), rt, |scope| {
         for newcomer in newcomers {
             let Ok(thread) = scope.spawn(move || shift.run(newcomer)) else {
                 return Err(ServeFault::NoThread);
@@ -81,7 +81,12 @@ fn run_all<
             }
         }
         Ok(())
-    })?;
+    });
+    match started {
+        Ok(()) => {}
+        Err(ServeFault::NoMemory) => return Err(ServeFault::NoMemory),
+        Err(_) => return Err(ServeFault::NoThread),
+    }
     let mut ran = Vec::with_capacity(rt.alloc(), threads.len())?;
     for thread in threads {
         ran.push_reserved(thread.join(rt));
