@@ -73,6 +73,18 @@ pub record Refuses (f s stopped : Option TurnCause) (r : Result (Unit {0}) Serve
   pub second : f ≡ None → stopped ≡ s
   pub refused : (cause : TurnCause) → stopped ≡ Some cause → r ≡ Err (fault_of cause)
 
+module _ (f s stopped : Option TurnCause) (r : Result (Unit {0}) ServeFault) (h : Refuses f s stopped r) where
+  unnamed : {P : Type 0} (u : Unit {0}) (cause : TurnCause) → r ≡ Ok u → stopped ≡ Some cause → P
+  unnamed {P} u cause is stop =
+      let both : ◌≡◌ {A = Result (Unit {0}) ServeFault} (Ok u) (Err (fault_of cause)) = sym is ∙ h.refused cause stop in
+      absurd cc
+
+  pub first-none : {P : Type 0} (u : Unit {0}) → r ≡ Ok u → (cause : TurnCause) → f ≡ Some cause → P
+  first-none u is cause own = unnamed u cause is (h.first cause own)
+
+  pub second-none : {P : Type 0} (u : Unit {0}) → r ≡ Ok u → (cause : TurnCause) → f ≡ None → s ≡ Some cause → P
+  second-none u is cause none own = unnamed u cause is (h.second none ∙ own)
+
 module _ {S : Type 0} (f s stopped : Option TurnCause) (r : Result (Unit {0}) ServeFault) (h : Refuses f s stopped r) where
   named : (fault : ServeFault) (cause : TurnCause) → r ≡ Err fault → stopped ≡ Some cause → ◌≡◌ {A = Result S ServeFault} (Err fault) (Err (fault_of cause))
   named fault cause is stop =
@@ -80,19 +92,8 @@ module _ {S : Type 0} (f s stopped : Option TurnCause) (r : Result (Unit {0}) Se
       let same : fault ≡ fault_of cause = cc in
       ap (λ (x : ServeFault). Err x) same
 
-  unnamed : {P : Type 0} (u : Unit {0}) (cause : TurnCause) → r ≡ Ok u → stopped ≡ Some cause → P
-  unnamed {P} u cause is stop =
-      let both : ◌≡◌ {A = Result (Unit {0}) ServeFault} (Ok u) (Err (fault_of cause)) = sym is ∙ h.refused cause stop in
-      absurd cc
-
   pub first-named : (fault : ServeFault) → r ≡ Err fault → (cause : TurnCause) → f ≡ Some cause → ◌≡◌ {A = Result S ServeFault} (Err fault) (Err (fault_of cause))
   first-named fault is cause own = named fault cause is (h.first cause own)
 
   pub second-named : (fault : ServeFault) → r ≡ Err fault → (cause : TurnCause) → f ≡ None → s ≡ Some cause → ◌≡◌ {A = Result S ServeFault} (Err fault) (Err (fault_of cause))
   second-named fault is cause none own = named fault cause is (h.second none ∙ own)
-
-  pub first-none : {P : Type 0} (u : Unit {0}) → r ≡ Ok u → (cause : TurnCause) → f ≡ Some cause → P
-  first-none u is cause own = unnamed u cause is (h.first cause own)
-
-  pub second-none : {P : Type 0} (u : Unit {0}) → r ≡ Ok u → (cause : TurnCause) → f ≡ None → s ≡ Some cause → P
-  second-none u is cause none own = unnamed u cause is (h.second none ∙ own)
