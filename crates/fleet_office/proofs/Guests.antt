@@ -1,6 +1,6 @@
 -- Clients that are on their office's rings, one more and one less.
-use Rattle.std.proofs.Common.{◌≡◌, suc, List, [], ◌∷◌, ◌++◌, length, Some, sym, subst, refl, ap, ◌∙◌, arith, ⊎_elim}
-use Rattle.std.specs.List.{slice_get}
+use Rattle.std.proofs.Common.{◌≡◌, suc, ◌<◌, slice_index_or, List, [], ◌∷◌, ◌++◌, length, Some, sym, subst, refl, ap, ◌∙◌, arith, ⊎_elim}
+use Rattle.std.specs.List.{slice_get, remove}
 use Rattle.std.proofs.lemmas.List.{map-append, append_assoc, append-nil}
 use Rattle.fleet_lanes.specs.Names.{LaneName}
 use Rattle.fleet_lanes.specs.Ends.{ClientView}
@@ -14,6 +14,14 @@ module _ {A : Type 0} (rings : List (LaneName A)) where
 
   pub on_tail : (xs ys : List (ClientView A)) (x : ClientView A) → xs ≡ x ∷ ys → AreOn rings (cores xs) → AreOn rings (cores ys)
   on_tail xs ys x is on = λ k z at. subst (λ zs. AreOn rings (cores zs)) is on (suc k) z at
+
+  pub on_first : (xs : List (ClientView A)) (x : ClientView A) → 0 < length xs → x ≡ slice_index_or xs 0 x → AreOn rings (cores xs) → slice_get rings x.number ≡ Some x.lane
+  on_first [] x some is on = absurd (omega arith)
+  on_first (y ∷ ys) x some is on = subst (λ (z : ClientView A). slice_get rings z.number ≡ Some z.lane) (sym is) (on 0 (core y) refl)
+
+  pub on_rest : (xs : List (ClientView A)) → AreOn rings (cores xs) → AreOn rings (cores (remove xs 0))
+  on_rest [] on = on
+  on_rest (y ∷ ys) on = λ k x at. on (suc k) x at
 
   pub on_push : (xs : List (ClientView A)) (x : ClientView A) → AreOn rings (cores xs) → slice_get rings x.number ≡ Some x.lane → AreOn rings (cores (xs ++ x ∷ []))
   on_push xs x on here = λ k y at.
