@@ -6,6 +6,7 @@ ghost use Rattle.fleet_office.specs.Views.{IsNamed, AreOn, cores};
 use crate::account::Account;
 use crate::tally::Tally;
 use crate::work::{Shift, Shifted, Worker, work_all};
+use bench_ground::Random;
 use fleet_calls::OpenFault;
 use fleet_grid::Grid;
 use fleet_history::Chapter;
@@ -18,7 +19,6 @@ use std::alloc::{Alloc, AllocError, Global};
 use std::mem;
 use std::sync::Wait;
 use std::thread::Threads;
-use bench_ground::Random;
 
 /// How a day at the depot ended.
 #[derive(Drop)]
@@ -26,8 +26,8 @@ pub(crate) struct Day {
     pub(crate) account: Account,
     pub(crate) chapter: Chapter,
     pub(crate) tick: u64,
-    /// No two cells are further apart.
-    pub(crate) reach: u32,
+    /// The floor cells.
+    pub(crate) floor: u32,
 }
 
 /// Why a day at the depot had no end.
@@ -61,7 +61,9 @@ fn workers_of<N: OfficeName<Global>>(
 ) -> Result<Vec<Worker<N>>, AllocError>
     requires { AreOn N.rings (cores clients.items) }
 {
-    let guests = guests_of::<N, Global>(alloc, clients)?;
+    let Ok(guests) = guests_of::<N, Global>(alloc, clients) else {
+        return Err(AllocError);
+    };
     let mut workers = Vec::with_capacity(alloc, guests.len())?;
     for guest in guests {
         let random = Random::from_seed(seed.wrapping_add(u64::from(guest.number())));
@@ -87,7 +89,10 @@ fn home_of<N: OfficeName<Global>>(
         guests.push_reserved(worker.guest);
         tallies.push_reserved(worker.tally);
     }
-    Ok((clients_of::<N, Global>(alloc, guests)?, tallies))
+    match clients_of::<N, Global>(alloc, guests) {
+        Ok(clients) => Ok((clients, tallies)),
+        Err(_guests) => Err(AllocError),
+    }
 }
 
 /// What became of all orders.
@@ -133,6 +138,7 @@ fn work_in<N: OfficeName<Global> + Send + Sync, R: Alloc<A = Global> + Threads +
     ensures { IfOk result (λ home. AreOn N.rings (cores home.0.items)) }
 {
     let mut first = ticker;
+    // A ticker that was just opened has all parts of the ledger, so no call ends here.
     let Some(second) = first.split() else {
         return Err(DayFault::NoMemory);
     };
@@ -148,7 +154,7 @@ fn day_at(end: Final, tallies: &[Tally]) -> Day {
     Day {
         account: account_of(&end, tallies),
         tick: end.tick,
-        reach: end.grid.floor_count(),
+        floor: end.grid.floor_count(),
         chapter: end.chapter,
     }
 }

@@ -3,7 +3,11 @@
 //! orders, and each ticker makes N turns and further ones until all errands are done. Its last line is `accounted: orders N
 //! verdicts N accepted N arrived N queued N`, and its status 0 exactly where nothing was lost or doubled.
 //!
-//! What depends on the threads' schedule is told on the error writer: ticks a second, and the greatest wait beside its bound.
+//! What depends on the threads' schedule is printed on the error writer: ticks a second, and the greatest wait with its bound.
+//!
+//! Statuses, each but 0 with a line on the error writer: 0 all orders accounted for; 1 an order or a notice lost or doubled;
+//! 2 the words, or a request for help; 3 the clock or an output failed; 5 the office was not opened; 7 out of memory; 8 a
+//! turn or the end was refused, as where a limit is met.
 #![tactic(auto)]
 
 mod account;
@@ -17,6 +21,7 @@ mod yard;
 use account::greatest_wait;
 use depot::{Day, DayFault};
 use fleet_calls::OpenFault;
+use fleet_office::{ConcludeFault, TurnCause};
 use opening::day_of;
 use settings::{Settings, SettingsFault, settings_of};
 use std::alloc::{Alloc, AllocError, Global};
@@ -41,7 +46,7 @@ fn pace_of(
 ) -> Result<String, AllocError> {
     let ticks = u128::from(day.tick) * 1_000_000_000 / nanos.max(1);
     let wait = greatest_wait(alloc, &day.chapter, settings.clients, settings.robots)?;
-    let bound = u64::from(settings.robots).saturating_mul(u64::from(day.reach));
+    let bound = u64::from(settings.robots).saturating_mul(u64::from(day.floor));
     format!(in alloc; "ticks a second: {ticks}\ngreatest wait: {wait}, below {bound}\n")
 }
 
@@ -61,9 +66,29 @@ fn line_of(alloc: Global, day: &Day) -> Result<String, AllocError> {
 /// The status of a day that had no end.
 fn status_of(fault: DayFault) -> u8 {
     match fault {
-        DayFault::Opening(OpenFault::NoMemory) | DayFault::NoMemory => 7,
+        DayFault::Opening(OpenFault::NoMemory)
+        | DayFault::Turn(TurnCause::NoMemory)
+        | DayFault::Conclude(ConcludeFault::NoMemory)
+        | DayFault::NoMemory => 7,
         DayFault::Opening(_) => 5,
         DayFault::Turn(_) | DayFault::Conclude(_) => 8,
+    }
+}
+
+/// The line of a day that had no end.
+fn words_of(alloc: Global, fault: DayFault) -> Result<String, AllocError> {
+    match fault {
+        DayFault::Opening(OpenFault::NoMemory)
+        | DayFault::Turn(TurnCause::NoMemory)
+        | DayFault::Conclude(ConcludeFault::NoMemory)
+        | DayFault::NoMemory => format!(in alloc; "depot: out of memory\n"),
+        DayFault::Opening(fault) => {
+            format!(in alloc; "depot: the office was not opened: {fault:?}\n")
+        }
+        DayFault::Turn(cause) => format!(in alloc; "depot: a turn was refused: {cause:?}\n"),
+        DayFault::Conclude(fault) => {
+            format!(in alloc; "depot: the office was not concluded: {fault:?}\n")
+        }
     }
 }
 
@@ -78,7 +103,11 @@ fn tell(
 ) -> Result<u8, AllocError> {
     *notes = pace_of(alloc, day, settings, nanos)?;
     *line = line_of(alloc, day)?;
-    Ok(if day.account.is_right() { 0 } else { 1 })
+    if day.account.is_right() {
+        return Ok(0);
+    }
+    notes.push_str("depot: an order or a notice was lost or doubled\n")?;
+    Ok(1)
 }
 
 /// Keeps a depot going, and says what is to be written of it. The result is the status.
@@ -89,6 +118,7 @@ fn keep_going<R: Alloc<A = Global> + Clock + Threads + Sync + Wait>(
     notes: &mut String,
 ) -> Result<u8, AllocError> {
     let Ok(start) = Instant::now(rt) else {
+        notes.push_str("depot: the clock cannot be read\n")?;
         return Ok(3);
     };
     match day_of(rt, settings) {
@@ -99,7 +129,10 @@ fn keep_going<R: Alloc<A = Global> + Clock + Threads + Sync + Wait>(
             };
             tell(rt.alloc(), &day, settings, nanos, line, notes)
         }
-        Err(fault) => Ok(status_of(fault)),
+        Err(fault) => {
+            *notes = words_of(rt.alloc(), fault)?;
+            Ok(status_of(fault))
+        }
     }
 }
 
@@ -135,9 +168,15 @@ fn run<R: Env + Alloc<A = Global> + Clock + Threads + Sync + Wait>(
 fn main(rt: HostRuntime) -> ExitCode {
     let (mut line, mut notes) = (String::new(rt.alloc()), String::new(rt.alloc()));
     let Ok(status) = run(&rt, &mut line, &mut notes) else {
+        let _ = rt.stderr().write_all(b"depot: out of memory\n");
         return ExitCode::from(7);
     };
     let _ = rt.stderr().write_all(notes.as_bytes());
-    let is_written = rt.stdout().write_all(line.as_bytes()).is_ok();
-    ExitCode::from(if is_written { status } else { 3 })
+    if rt.stdout().write_all(line.as_bytes()).is_err() {
+        let _ = rt
+            .stderr()
+            .write_all(b"depot: the output cannot be written\n");
+        return ExitCode::from(3);
+    }
+    ExitCode::from(status)
 }

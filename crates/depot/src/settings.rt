@@ -16,6 +16,7 @@ pub(crate) struct Settings {
     pub(crate) clients: u32,
     /// Orders of each client, and turns that each ticker makes at least: 1 to 1,000,000.
     pub(crate) turns: u64,
+    /// 0 to 4,294,967,295.
     pub(crate) seed: u64,
 }
 
@@ -52,9 +53,12 @@ const OPTIONS: [(&str, &str); 4] = [
     ("clients", "Clients, 1 to 64 (default 3)"),
     (
         "turns",
-        "Orders of each client, and the least turns of each ticker (default 20)",
+        "Orders of each client, and the least turns of each ticker, 1 to 1,000,000 (default 20)",
     ),
-    ("seed", "Where the random errands begin (default 1)"),
+    (
+        "seed",
+        "Where the random errands begin, 0 to 4,294,967,295 (default 1)",
+    ),
 ];
 
 /// The command `depot` with its options.
@@ -68,40 +72,46 @@ fn command<'a>(alloc: Global) -> Result<Command<'a>, AllocError> {
     Ok(command)
 }
 
+/// The least and the greatest number of an option.
+type Range = (u64, u64);
+
 /// The number of an option, or another where it is not given.
 fn number_of(
     alloc: Global,
     matches: &ArgMatches<'_>,
     name: &str,
     other: u64,
-    most: u64,
+    range: Range,
 ) -> Result<u64, SettingsFault>
-    requires { (other ≤ most) × (most ≤ 4294967295) }
-    ensures { IfOk result (λ n. n ≤ most) }
+    requires other { (range.0 ≤ other) × (other ≤ range.1) }
+    requires most { range.1 ≤ 4294967295 }
+    ensures { IfOk result (λ n. (range.0 ≤ n) × (n ≤ range.1)) }
 {
     let Some(word) = matches.get_str(name) else {
         return Ok(other);
     };
+    let (least, most) = range;
     match number_up_to(word.as_bytes(), most + 1) {
-        Some(number) if number <= most => Ok(number),
-        _ => Err(SettingsFault::Words(out_of_range(alloc, name, word, most)?)),
+        Some(number) if least <= number && number <= most => Ok(number),
+        _ => Err(SettingsFault::Words(out_of_range(alloc, name, word, range)?)),
     }
 }
 
-/// What is said of a word that is no number up to the most, in the form of `clap`'s own errors.
-fn out_of_range(alloc: Global, name: &str, word: &str, most: u64) -> Result<String, AllocError> {
+/// What is said of a word that is no number in the range, in the form of `clap`'s own errors.
+fn out_of_range(alloc: Global, name: &str, word: &str, range: Range) -> Result<String, AllocError> {
+    let (least, most) = range;
     format!(in alloc;
-        "error: invalid value '{word}' for '--{name} <{name}>': no whole number up to {most}\n\nFor more information, try '--help'.\n"
+        "error: invalid value '{word}' for '--{name} <{name}>': no whole number from {least} to {most}\n\nFor more information, try '--help'.\n"
     )
 }
 
 /// The settings that the options are.
 fn settings_from(alloc: Global, matches: &ArgMatches<'_>) -> Result<Settings, SettingsFault> {
     Ok(Settings {
-        robots: number_of(alloc, matches, "robots", 8, 512)? as u32,
-        clients: number_of(alloc, matches, "clients", 3, 64)? as u32,
-        turns: number_of(alloc, matches, "turns", 20, 1_000_000)?,
-        seed: number_of(alloc, matches, "seed", 1, 4_294_967_295)?,
+        robots: number_of(alloc, matches, "robots", 8, (1, 512))? as u32,
+        clients: number_of(alloc, matches, "clients", 3, (1, 64))? as u32,
+        turns: number_of(alloc, matches, "turns", 20, (1, 1_000_000))?,
+        seed: number_of(alloc, matches, "seed", 1, (0, 4_294_967_295))?,
     })
 }
 

@@ -3,14 +3,15 @@
 ghost use Rattle.std.specs.Prelude.{◌≡◌, ◌<◌, ◌^◌, vec_len};
 
 use crate::tally::Tally;
+use bench_ground::Random;
 use fleet_book::Order;
+use fleet_lanes::PostFault;
 use fleet_office::{Guest, Office, OfficeName, Ticker, TurnCause, side_by_side};
 use std::alloc::{Alloc, Global};
 use std::sync::Wait;
 use std::sync::atomic::{AtomicU64, Ordering};
 use std::thread;
 use std::thread::{Threads, join};
-use bench_ground::Random;
 
 /// How often a client looks for a free slot or a notice at most, and how many turns a ticker makes at most.
 const MOST_TRIES: u64 = 200_000_000;
@@ -27,6 +28,16 @@ pub(crate) struct Worker<N: OfficeName<Global>> {
     pub(crate) guest: Guest<N>,
     pub(crate) random: Random,
     pub(crate) tally: Tally,
+}
+
+/// What came of a post.
+#[derive(Clone, Copy, PartialEq, Eq)]
+enum Posted {
+    Sent,
+    /// The lane has no room now; the same errand is posted again later.
+    LaneFull,
+    /// No further order can be sent.
+    Refused,
 }
 
 /// What all threads share: how many robots there are, on which cells errands lie, how many orders each client sends and where
@@ -55,8 +66,8 @@ impl<N: OfficeName<Global>> Worker<N> {
         }
     }
 
-    /// Posts a random errand, and says whether the lane took it.
-    fn post(&mut self, shift: &Shift) -> bool {
+    /// Posts a random errand.
+    fn post(&mut self, shift: &Shift) -> Posted {
         let mut random = self.random;
         let robot = random.below(shift.robots as usize) as u32;
         let cell = shift.cells[random.below(shift.cells.len())];
@@ -64,9 +75,11 @@ impl<N: OfficeName<Global>> Worker<N> {
             Ok(number) => {
                 self.random = random;
                 self.tally.orders = number;
-                true
+                Posted::Sent
             }
-            Err(_full) => false,
+            Err(PostFault::LaneFull(_order)) => Posted::LaneFull,
+            // Nobody closes, and there are numbers for all orders, so no call ends here.
+            Err(PostFault::Closed) | Err(PostFault::NumbersSpent(_)) => Posted::Refused,
         }
     }
 }
@@ -76,8 +89,10 @@ fn work<N: OfficeName<Global>>(worker: &mut Worker<N>, shift: &Shift) {
     for _ in 0..MOST_TRIES {
         worker.collect();
         if worker.tally.orders < shift.orders {
-            if !worker.post(shift) {
-                thread::yield_now();
+            match worker.post(shift) {
+                Posted::Sent => {}
+                Posted::LaneFull => thread::yield_now(),
+                Posted::Refused => break,
             }
         } else if worker.tally.is_settled() {
             break;

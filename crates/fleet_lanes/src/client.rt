@@ -82,7 +82,10 @@ impl<A: Allocator> Client<A> {
         }
     }
 
-    /// Sends an order, and answers its number in the lane, from 1. The last number is kept for Close.
+    /// Sends an order, and returns its number in the lane, from 1. The last number is kept for Close.
+    ///
+    /// Refused in this order: `Closed` after Close was sent; `NumbersSpent` where no number is left for it; `LaneFull` where the
+    /// ring has no free slot. Nothing has changed then, and the last two hand the order back.
     pub fn post(&mut self, order: Order) -> Result<u64, PostFault>
         ensures ok { IfOk result (λ number. (number ≡ length self.old.sent + 1)
             × (self.new ≡ record self.old { sent = self.old.sent ++ order ∷ []; free = self.new.free })
@@ -110,7 +113,7 @@ impl<A: Allocator> Client<A> {
         Ok(number)
     }
 
-    /// Sends Close, the client's last order, and answers its number.
+    /// Sends Close, the client's last order, and returns its number. Refused in this order: `Closed`, `LaneFull`.
     pub fn close(&mut self) -> Result<u64, PostFault>
         ensures ok { IfOk result (λ number. (number ≡ length self.old.sent + 1)
             × (self.new ≡ record self.old { sent = self.old.sent ++ Order.Close ∷ []; free = self.new.free })
@@ -124,7 +127,7 @@ impl<A: Allocator> Client<A> {
         self.post(Order::Close)
     }
 
-    /// The oldest notice that is found on the outlet.
+    /// The oldest notice that is found on the outlet, which is taken off it. `None` where none is found.
     pub fn collect(&mut self) -> Option<Notice>
         ensures some { IfSome result (λ notice. (self.new
             ≡ record self.old { collected = self.old.collected ++ notice ∷ []; known = self.new.known })
@@ -173,7 +176,7 @@ impl<A: Allocator> Client<A> {
         self.closed
     }
 
-    /// Looks at both rings beside their other ends.
+    /// Looks at both rings with their other ends at hand.
     pub(crate) fn beside(
         &mut self,
         orders: &mut Consumer<Order, A>,

@@ -2,7 +2,7 @@
 
 use fleet_book::Order;
 
-/// Why an order was not sent. What was refused is handed back.
+/// Why an order was not sent. All but the first hand the order back.
 #[derive(Clone, Copy, Debug, PartialEq, Eq)]
 pub enum PostFault {
     /// Close was sent before.

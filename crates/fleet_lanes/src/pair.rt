@@ -9,8 +9,8 @@ use fleet_book::Limits;
 use rtrb::RingBuffer;
 use std::alloc::{AllocError, Allocator};
 
-/// The two ends of the rings of the client of this number, with `lane` slots for orders and `outlet` slots for
-/// notices.
+/// The client of this number and its hall end: the two ends of two new rings, with `lane` slots for orders and `outlet` slots
+/// for notices. `AllocError` where memory was refused.
 pub fn lane_pair<A: Allocator + Copy>(
     alloc: A,
     client: u32,

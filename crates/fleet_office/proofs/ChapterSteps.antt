@@ -1,11 +1,12 @@
 -- The next chapter keeps the law of the lock.
 use Rattle.std.proofs.Common.{◌≡◌, ℕ, List, sym, ap, subst, arith, ◌∙◌}
 use Rattle.std.specs.Prelude.{Ok, Err, Result, OnErr, OnOk, IfOk}
-use Rattle.fleet_grid.specs.Floor.{Floor, IsNeighbour}
+use Rattle.fleet_grid.specs.Floor.{IsNeighbour}
 use Rattle.fleet_grid.specs.Walk.{IsBridgeless}
-use Rattle.fleet_history.specs.History.{History, history_of}
+use Rattle.fleet_history.specs.History.{history_of}
 use Rattle.fleet_history.specs.Laws.{EachTick}
-use Rattle.fleet_plan.specs.Planned.{IsAdvancingTick}
+use Rattle.fleet_plan.specs.Planned.{IsPlanned, IsAdvancingTick}
+use Rattle.fleet_bound.specs.Bound.{WaitsAreBounded}
 use Rattle.fleet_history.specs.Legal.{IsLegal}
 use Rattle.fleet_history.specs.declared.history.Chapter.{Chapter}
 use Rattle.fleet_history.proofs.Rings.{ring-next}
@@ -15,6 +16,7 @@ use Rattle.fleet_core.specs.declared.faults.ChapterFault.{ChapterFault}
 use Rattle.fleet_lanes.specs.Names.{LaneName}
 use Rattle.fleet_lanes.specs.Ends.{EndView}
 use Rattle.fleet_office.specs.Hall.{HallView, IsLawful, next_hall}
+use Rattle.fleet_office.specs.Chapters.{IsChapterOf}
 use Rattle.fleet_office.proofs.Places.{within}
 
 module _ {A : Type 0} (rings : List (LaneName A)) where
@@ -39,13 +41,24 @@ module _ {A : Type 0} (rings : List (LaneName A)) where
   kept-next w v ends t (Ok x) ok err legal h = subst (λ x. IsLawful rings x ends t) (sym ok) (lawful_next w ends t (subst (λ (x : World A). IsLegal x.floor x.history) ok legal) h)
   kept-next w v ends t (Err e) ok err legal h = subst (λ x. IsLawful rings x ends t) (sym err) h
 
--- what is handed out is a legal history of some map
-pub handed : {A : Type 0} (m : Floor) (h : History A) (r : Result (Chapter A) ChapterFault) → IfOk r (λ c. history_of c ≡ h) → OnOk r (IsLegal m h) →
-    OnOk r (IsBridgeless (IsNeighbour m) → EachTick (IsAdvancingTick m) h) →
-    IfOk r (λ c. (x : Floor) × IsLegal x (history_of c) × (IsBridgeless (IsNeighbour x) → EachTick (IsAdvancingTick x) (history_of c)))
-handed m h (Ok c) is legal advancing =
-    (m, subst (IsLegal m) (sym is) legal, λ b. subst (EachTick (IsAdvancingTick m)) (sym is) (advancing b))
-handed m h (Err e) is legal advancing = tt
+-- what is handed out is the chapter of a lawful hall
+pub handed : {A : Type 0} (rings : List (LaneName A)) (v : HallView A) (r : Result (Chapter A) ChapterFault) → IsLawful rings v.world v.ends v.total →
+    IfOk r (λ c. history_of c ≡ v.world.history) → IfOk r (λ c. c.number ≡ v.world.number) → OnOk r (EachTick (IsPlanned v.world.floor v.world.ties) v.world.history) →
+    OnOk r (IsBridgeless (IsNeighbour v.world.floor) → EachTick (IsAdvancingTick v.world.floor) v.world.history) →
+    OnOk r (IsBridgeless (IsNeighbour v.world.floor) → WaitsAreBounded v.world.floor v.world.history) →
+    IfOk r (λ c. (h : HallView A) × IsChapterOf rings h c.number (history_of c))
+handed rings v (Ok c) lawful is number planned advancing bounded = (
+  v,
+  record {
+    lawful = lawful;
+    history = is;
+    number = number;
+    planned = subst (EachTick (IsPlanned v.world.floor v.world.ties)) (sym is) planned;
+    advancing = λ b. subst (EachTick (IsAdvancingTick v.world.floor)) (sym is) (advancing b);
+    bounded = λ b. subst (WaitsAreBounded v.world.floor) (sym is) (bounded b);
+  },
+)
+handed rings v (Err e) lawful is number planned advancing bounded = tt
 
 abbrev hall_of : {A : Type 0} → World A → List (EndView A) → ℕ → HallView A
 hall_of w ends t = record { world = w; ends = ends; total = t }

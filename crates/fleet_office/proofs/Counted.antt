@@ -63,7 +63,7 @@ module _ {A : Type 0} where
   many-given (suc n) h g c t = order-given t.0 g c t.1 t.3 ∙ many-given n h t.0 c t.2
 
   enough-given : (h g : HallView A) (c n : ℕ) (held : Bool) → IsEnough h c n held g → given_count g ≡ given_count h
-  enough-given h g c n true e = looks-given h g e.1
+  enough-given h g c n true e = looks-given h g e.looks
   enough-given h g c n false e = ⊎_elim (λ (s : (n ≡ h.world.limits.lane) × (g ≡ h)). ap given_count s.1) (λ (s : TakesNone h c g). looks-given h g s.looks) e
 
   pub first-given : (k : ℕ) (h g : HallView A) (taken held : ℕ) → TakesFirst k h taken held g → given_count g ≡ given_count h

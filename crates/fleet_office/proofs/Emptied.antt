@@ -1,5 +1,5 @@
 -- A client's lane is emptied order by order.
-use Rattle.std.proofs.Common.{◌≡◌, ℕ, ◌+◌, ◌*◌, ◌<◌, ◌≤◌, ◌++◌, ◌∷◌, [], true, List, length, Some, refl, ap, sym, ◌∙◌, subst, arith, ⊎_elim, inl, inr, append_assoc, eq-eqb}
+use Rattle.std.proofs.Common.{◌≡◌, ℕ, ◌+◌, ◌*◌, ◌<◌, ◌≤◌, ◌++◌, ◌∷◌, [], true, List, length, Some, refl, ap, sym, ◌∙◌, subst, arith, ⊎_elim, inl, inr, append_assoc, length-append, eq-eqb}
 use Rattle.std.specs.Prelude.{slice_get}
 use Rattle.std.proofs.lemmas.List.{append-nil, get_or-set_other}
 use Rattle.std.proofs.lemmas.List.Elements.{All-nil, All-append}
@@ -55,6 +55,7 @@ module _ {A : Type 0} where
   -- i orders of n were taken
   pub record DrainsSome (w : World A) (c n i : ℕ) (v : World A) : Type 0 where
     pub drains : Drains w c n v
+    pub count : length drains.more ≡ i
     pub few : used v c ≤ used w c + 2 * i
 
   pub drains_none : (w : World A) (c n : ℕ) → Drains w c n w
@@ -71,8 +72,14 @@ module _ {A : Type 0} where
     wide = inl refl;
   }
 
+  -- no order was taken, of none that were left
+  pub none_taken : (w : World A) (c : ℕ) → (d : Drains w c 0 w) × (length d.more ≡ 0)
+  unfolding drains_none
+  none_taken w c = (drains_none w c 0, refl)
+
   pub some_none : (w v : World A) (c n : ℕ) → v ≡ w → DrainsSome w c n 0 v
-  some_none w v c n same = subst (DrainsSome w c n 0) (sym same) (record { drains = drains_none w c n; few = omega arith })
+  unfolding drains_none
+  some_none w v c n same = subst (DrainsSome w c n 0) (sym same) (record { drains = drains_none w c n; count = refl; few = omega arith })
 
   -- after a widening, which is for no more orders than are left
   pub drains_wide : (w v u : World A) (c n i left : ℕ) → c < length w.mailboxes → left + i ≤ n → DrainsSome w c n i v → Widens v c left u → Drains w c n u
@@ -126,7 +133,16 @@ module _ {A : Type 0} where
 
   -- one order more
   pub some_more : (w v u : World A) (c n i left : ℕ) → c < length w.mailboxes → left + i ≤ n → DrainsSome w c n i v → TakesNext v c left u → used u c ≤ used v c + 2 → DrainsSome w c n (i + 1) u
-  some_more w v u c n i left inside few some next one = record {
-    drains = drains_take w next.wide u c n next.order next.verdict inside (drains_wide w v next.wide c n i left inside few some next.widens) next.takes;
-    few = let m = some.few in omega arith;
-  }
+  unfolding drains_take drains_wide
+  some_more w v u c n i left inside few some next one =
+      let en : Entry A = entry.Take c next.order next.verdict in
+      record {
+        drains = drains_take w next.wide u c n next.order next.verdict inside (drains_wide w v next.wide c n i left inside few some next.widens) next.takes;
+        count = length-append some.drains.more (en ∷ []) ∙ ap (λ k. k + 1) some.count;
+        few = let m = some.few in omega arith;
+      }
+
+  -- the next was refused, after its mailbox may have been widened
+  pub some_refused : (w v u : World A) (c n i left : ℕ) → c < length w.mailboxes → left + i ≤ n → i < n → DrainsSome w c n i v → Widens v c left u → (d : Drains w c n u) × (length d.more < n)
+  unfolding drains_wide
+  some_refused w v u c n i left inside few less some wide = (drains_wide w v u c n i left inside few some wide, subst (λ k. k < n) (sym some.count) less)

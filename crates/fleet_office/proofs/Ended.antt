@@ -12,6 +12,7 @@ use Rattle.fleet_history.specs.Notices.{notices}
 use Rattle.fleet_history.specs.Rings.{KeepsRing}
 use Rattle.fleet_history.proofs.Rings.{ring-first}
 use Rattle.fleet_plan.specs.Planned.{IsPlanned, IsAdvancingTick}
+use Rattle.fleet_bound.specs.Bound.{WaitsAreBounded}
 use Rattle.fleet_core.specs.Core.{World, pending}
 use Rattle.fleet_lanes.specs.Names.{LaneName}
 use Rattle.fleet_lanes.specs.Ends.{EndView, ClientView}
@@ -32,6 +33,10 @@ module _ {A : Type 0} (w v : World A) (m : Floor) (h : History A) (floor : m ≡
   pub advancing-ended : (IsBridgeless (IsNeighbour v.floor) → EachTick (IsAdvancingTick v.floor) v.history) → IsBridgeless (IsNeighbour m) → EachTick (IsAdvancingTick m) h
   advancing-ended p = subst (λ k. IsBridgeless (IsNeighbour m) → EachTick (IsAdvancingTick m) k) (sym history)
       (subst (λ k. IsBridgeless (IsNeighbour k) → EachTick (IsAdvancingTick k) v.history) (sym floor) p)
+
+  pub bounded-ended : (IsBridgeless (IsNeighbour v.floor) → WaitsAreBounded v.floor v.history) → IsBridgeless (IsNeighbour m) → WaitsAreBounded m h
+  bounded-ended p = subst (λ k. IsBridgeless (IsNeighbour m) → WaitsAreBounded m k) (sym history)
+      (subst (λ k. IsBridgeless (IsNeighbour k) → WaitsAreBounded k v.history) (sym floor) p)
 
 module _ {A : Type 0} (rings : List (LaneName A)) (w : World A) (ends : List (EndView A)) (t : ℕ) (law : IsLawful rings w ends t) where
   -- what each client was told, once its lane is empty

@@ -24,10 +24,15 @@ module _ {X Y E : Type 0} where
     (λ p. let bad : ok_of E x ≡ err_of X f = sym is ∙ h.1 p in cc),
   )
 
--- a fault that one world gives is a fault that some world gives
-pub some-world : {W X E : Type 0} (P : W → E → Type 0) (r : Result X E) (w : W) → IfErr r (λ e. P w e) → IfErr r (λ e. (v : W) × P v e)
-some-world P (Ok x) w h = tt
-some-world P (Err e) w h = (w, h)
+-- a fault that one hall of a kind gives is a fault that some of that kind gives
+pub some-fault : {W X E : Type 0} (L : W → Type 0) (P : W → E → Type 0) (w : W) (r : Result X E) → L w → IfErr r (λ e. P w e) → IfErr r (λ e. (v : W) × L v × P v e)
+some-fault L P w (Ok x) l h = tt
+some-fault L P w (Err e) l h = (w, l, h)
+
+-- and so of what a hall comes to
+pub some-kind : {W X E : Type 0} (L : W → Type 0) (P : W → X → Type 0) (w : W) (r : Result X E) → L w → IfOk r (λ x. P w x) → IfOk r (λ x. (v : W) × L v × P v x)
+some-kind L P w (Ok x) l h = (w, l, h)
+some-kind L P w (Err e) l h = tt
 
 -- what an answer says of the world that it leaves, it says of some world
 pub some-outcome : {W X E : Type 0} {R : X → Type 0} (P : W → X → Type 0) (w : W) (r : Result X E) → ((x : X) → R x → P w x) → IfOk r R → IfOk r (λ x. (v : W) × P v x)

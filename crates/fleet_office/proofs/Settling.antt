@@ -7,9 +7,9 @@ use Rattle.std.proofs.lemmas.Option.{get_or_from_slice_get, slice_get_within}
 use Rattle.fleet_core.specs.Core.{World}
 use Rattle.fleet_lanes.specs.Names.{LaneName}
 use Rattle.fleet_lanes.specs.Ends.{EndView, ClientView}
-use Rattle.fleet_office.specs.Views.{OthersStay, IsSettled, core, cores, IsNumberSettled, KeepsOthers, AreDistinct, AreSettled, AreOn}
-use Rattle.fleet_office.specs.Draining.{Drains, DrainsFirst}
-use Rattle.fleet_office.proofs.Places.{at_set, map_at}
+use Rattle.fleet_office.specs.Views.{OthersStay, IsSettled, ClientCore, core, cores, IsNumberSettled, KeepsOthers, AreDistinct, AreSettled, AreOn}
+use Rattle.fleet_office.specs.Draining.{IsLeft, AreLeft, Drains, DrainsFirst}
+use Rattle.fleet_office.proofs.Places.{at_set, at_map, map_at, there_is, within}
 
 split : (a b : ℕ) → a < b + 1 → (a < b) ⊎ (a ≡ b)
 split a b l = grind arith
@@ -59,18 +59,62 @@ module _ {A : Type 0} where
       let ring = on k (core x) (sym (ap (λ y. slice_get y k) same) ∙ map_at core cs k x at) in
       below k x (omega (arith, slice_get_within rings x.number x.lane ring)) at
 
-  pub first_more : (w v u : World A) (k n : ℕ) → DrainsFirst k w v → Drains v k n u → DrainsFirst (k + 1) w u
-  first_more w v u k n before last =
+  -- the hall ends of the numbers from n on are as they were
+  pub record StayFrom (n : ℕ) (old new : List (EndView A)) : Type 0 where
+    pub count : length new ≡ length old
+    pub each : (k : ℕ) (e : EndView A) → n ≤ k → slice_get old k ≡ Some e → slice_get new k ≡ Some e
+
+  pub stay_all : (ends : List (EndView A)) → StayFrom 0 ends ends
+  stay_all ends = record { count = refl; each = λ k e more at. at }
+
+  -- the end of number n changed
+  pub stay_next : (n : ℕ) (old mid new : List (EndView A)) → StayFrom n old mid → OthersStay n mid new → StayFrom (n + 1) old new
+  stay_next n old mid new stay others = record {
+    count = others.count ∙ stay.count;
+    each = λ k e more at.
+        let was = stay.each k e (omega (arith, more)) at in
+        let d = there_is new k (omega (arith, within mid k e was, others.count)) in
+        let same : slice_get mid k ≡ Some d.0 = others.each k d.0 (λ s. omega (arith, s, more)) d.1 in
+        let both : Some e ≡ Some d.0 = sym was ∙ same in
+        let own : e ≡ d.0 = cc in
+        d.1 ∙ ap Some (sym own);
+  }
+
+  -- ---- the orders that are left
+
+  -- those of the client at place k are those of its number
+  pub left_number : (ends : List (EndView A)) (cs : List (ClientView A)) (number k n : ℕ) (x : ClientView A) → slice_get cs k ≡ Some x → x.number ≡ number → AreDistinct (cores cs) →
+      IsLeft ends (core x) n → AreLeft ends (cores cs) number n
+  left_number ends cs number k n x here is distinct left j y at same =
+      let there = map_at core cs k x here in
+      let jk : j ≡ k = distinct j k y (core x) at there (same ∙ sym is) in
+      let both : Some (core x) ≡ Some y = sym there ∙ ap (slice_get (cores cs)) (sym jk) ∙ at in
+      let own : core x ≡ y = cc in
+      subst (λ (z : ClientCore A). IsLeft ends z n) own left
+
+  -- none are, where nobody has the number
+  pub left_none : (ends : List (EndView A)) (cs : List (ClientView A)) (number n : ℕ) → ((k : ℕ) (x : ClientView A) → slice_get cs k ≡ Some x → x.number ≢ number) → AreLeft ends (cores cs) number n
+  left_none ends cs number n nobody j y at same =
+      let x = at_map core cs j y at in
+      absurd (nobody j x.0 x.1 (ap (λ (z : ClientCore A). z.number) x.2 ∙ same))
+
+  -- those of a lane whose hall end is as it was
+  pub left_before : (old now : List (EndView A)) (cs : List (ClientCore A)) (c n : ℕ) → StayFrom c old now → AreLeft now cs c n → AreLeft old cs c n
+  left_before old now cs c n stay left k x at same e there = left k x at same e (stay.each x.number e (omega (arith, same)) there)
+
+  pub first_more : (ends : List (EndView A)) (cs : List (ClientCore A)) (w v u : World A) (k n : ℕ) → AreLeft ends cs k n → DrainsFirst k ends cs w v → (d : Drains v k n u) → length d.more ≡ n →
+      DrainsFirst (k + 1) ends cs w u
+  first_more ends cs w v u k n left before last all =
       let e : suc k ≡ k + 1 = omega arith in
-      let all : DrainsFirst (suc k) w u = (v, n, before, last) in
-      subst (λ m. DrainsFirst m w u) e all
+      let done : DrainsFirst (suc k) ends cs w u = (v, n, left, before, (last, all)) in
+      subst (λ m. DrainsFirst m ends cs w u) e done
 
   -- no more than histories and mailboxes change
-  pub first_frame : (k : ℕ) (w v : World A) → DrainsFirst k w v → (v.floor ≡ w.floor) × (v.ties ≡ w.ties) × (v.number ≡ w.number)
-  first_frame zero w v same = (ap (λ x. x.floor) same, ap (λ x. x.ties) same, ap (λ x. x.number) same)
-  first_frame (suc k) w v d =
-      let b = first_frame k w d.0 d.2 in
-      (d.3.floor ∙ b.0, d.3.ties ∙ b.1, d.3.number ∙ b.2)
+  pub first_frame : (k : ℕ) (ends : List (EndView A)) (cs : List (ClientCore A)) (w v : World A) → DrainsFirst k ends cs w v → (v.floor ≡ w.floor) × (v.ties ≡ w.ties) × (v.number ≡ w.number)
+  first_frame zero ends cs w v same = (ap (λ x. x.floor) same, ap (λ x. x.ties) same, ap (λ x. x.number) same)
+  first_frame (suc k) ends cs w v d =
+      let b = first_frame k ends cs w d.0 d.3 in
+      (d.4.0.floor ∙ b.0, d.4.0.ties ∙ b.1, d.4.0.number ∙ b.2)
 
   -- clients lent as a slice come back
   pub lent_back : (xs ys : List (ClientView A)) (n : ℕ) → n ≡ length ys → cores xs ≡ cores ys → take n (xs ++ drop (length xs) ys) ≡ xs

@@ -8,8 +8,9 @@ use Rattle.fleet_history.specs.Laws.{orders}
 use Rattle.fleet_history.specs.Notices.{notices}
 use Rattle.fleet_history.specs.Rings.{KeepsRing}
 use Rattle.fleet_core.specs.Core.{World, HasNoEntries}
-use Rattle.fleet_lanes.specs.Ends.{ClientView}
-use Rattle.fleet_office.specs.Views.{TickerView, AreDistinct, cores}
+use Rattle.fleet_lanes.specs.Ends.{EndView, ClientView}
+use Rattle.fleet_office.specs.Views.{TickerView, ClientCore, AreDistinct, cores}
+use Rattle.fleet_office.specs.Hall.{HallView}
 use Rattle.fleet_office.specs.Draining.{DrainsFirst, StopsDraining}
 use Rattle.fleet_office.specs.declared.conclude.ConcludeFault.{ConcludeFault}
 use Rattle.fleet_office.specs.declared.conclude.ConcludeFault.TheVariants.{Missing, Twice, Tickers, ChapterFull, NoMemory}
@@ -45,17 +46,14 @@ IsAway count cs ts ticks (Tickers m) = HasAll count cs × AreDistinct (cores cs)
 IsAway count cs ts ticks ChapterFull = ⊥
 IsAway count cs ts ticks NoMemory = ⊥
 
--- lanes were emptied, some or all
-abbrev pub DrainsPart : {A : Type 0} → ℕ → World A → World A → Type 0
-DrainsPart count w v = StopsDraining count w v ⊎ DrainsFirst count w v
-
--- what was met where the lanes were emptied
-abbrev pub IsMet : {A : Type 0} → World A → ConcludeFault → Type 0
-IsMet v (Missing c) = ⊥
-IsMet v (Twice c) = ⊥
-IsMet v (Tickers m) = ⊥
-IsMet v ChapterFull = HasNoEntries v
-IsMet v NoMemory = Unit {0}
+-- what was met where the lanes were emptied: an order that was left and no room for it in the chapter, or want of memory, for
+-- a take or when all lanes were empty
+abbrev pub IsMet : {A : Type 0} → ℕ → List (EndView A) → List (ClientCore A) → World A → World A → ConcludeFault → Type 0
+IsMet count ends cs w v (Missing c) = ⊥
+IsMet count ends cs w v (Twice c) = ⊥
+IsMet count ends cs w v (Tickers m) = ⊥
+IsMet count ends cs w v ChapterFull = StopsDraining count ends cs w v × HasNoEntries v
+IsMet count ends cs w v NoMemory = StopsDraining count ends cs w v ⊎ DrainsFirst count ends cs w v
 
 -- all that a client sent was taken, and what it collected and then its rest is all that it was ever told
 pub record IsTold {A : Type 0} (number : ℕ) (h : History A) (x : ClientView A) (rest : List Notice) : Type 0 where
@@ -67,15 +65,16 @@ pub record IsTold {A : Type 0} (number : ℕ) (h : History A) (x : ClientView A)
 abbrev pub AreTold : {A : Type 0} → ℕ → History A → List (ClientView A) → List (Vec Notice A) → Type 0
 AreTold {A} number h cs rests = (k : ℕ) (x : ClientView A) → slice_get cs k ≡ Some x → (v : Vec Notice A) × (slice_get rests x.number ≡ Some v) × IsTold number h x v.items
 
--- the map and the chapter of a world, once the lanes were emptied into it
-pub record IsLast {A : Type 0} (count : ℕ) (w : World A) (m : Floor) (n : ℕ) (h : History A) : Type 0 where
+-- the map and the chapter of a hall's world, once the lanes of these clients were emptied into it
+pub record IsLast {A : Type 0} (count : ℕ) (hall : HallView A) (cs : List (ClientCore A)) (m : Floor) (n : ℕ) (h : History A) : Type 0 where
   pub world : World A
-  pub drains : DrainsFirst count w world
-  pub floor : m ≡ w.floor
-  pub number : n ≡ w.number
+  pub drains : DrainsFirst count hall.ends cs hall.world world
+  pub floor : m ≡ hall.world.floor
+  pub number : n ≡ hall.world.number
   pub history : h ≡ world.history
 
 -- somebody is away, or a take or the room was refused
-abbrev pub IsUnconcluded : {A : Type 0} → ℕ → World A → List (ClientView A) → List TickerView → ConcludeFault → Type 0
-IsUnconcluded {A} count w cs ts fault =
-    IsAway count cs ts (clock w.history) fault ⊎ (AreHome count cs ts (clock w.history) × ((v : World A) × DrainsPart count w v × IsMet v fault))
+abbrev pub IsUnconcluded : {A : Type 0} → ℕ → HallView A → List (ClientView A) → List TickerView → ConcludeFault → Type 0
+IsUnconcluded {A} count hall cs ts fault =
+    IsAway count cs ts (clock hall.world.history) fault
+    ⊎ (AreHome count cs ts (clock hall.world.history) × ((v : World A) × IsMet count hall.ends (cores cs) hall.world v fault))

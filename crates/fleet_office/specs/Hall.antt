@@ -154,13 +154,21 @@ abbrev pub TakesMany : {A : Type 0} → ℕ → HallView A → ℕ → HallView 
 TakesMany zero h c g = g ≡ h
 TakesMany {A} (suc n) h c g = (mid : HallView A) × (v : Verdict) × TakesMany n h c mid × TakesOrder mid c v g
 
--- why no further order of the client was taken, of n: it is the limit, or none was found, or its mailbox is full
+-- n orders of the client were taken, and one more that its lane shows has no room in its mailbox
+pub record IsHeld {A : Type 0} (h : HallView A) (c n : ℕ) (g : HallView A) : Type 0 where
+  pub fewer : n < h.world.limits.lane
+  pub shows : ShowsOrder g c
+  pub full : HasNoRoom h.world c
+  pub looks : Looks h g
+
+-- why no further order of the client was taken, of n: its mailbox is full, or n is the limit, or none was found
 abbrev pub IsEnough : {A : Type 0} → HallView A → ℕ → ℕ → Bool → HallView A → Type 0
-IsEnough h c n true g = HasNoRoom h.world c × Looks h g
+IsEnough h c n true g = IsHeld h c n g
 IsEnough h c n false g = ((n ≡ h.world.limits.lane) × (g ≡ h)) ⊎ TakesNone h c g
 
--- so many orders of the client were taken, and whether it met a full mailbox
+-- n orders of the client were taken, at most `lane`, and whether it met a full mailbox
 pub record TakesSome {A : Type 0} (h : HallView A) (c n : ℕ) (held : Bool) (g : HallView A) : Type 0 where
+  pub most : n ≤ h.world.limits.lane
   pub mid : HallView A
   pub takes : TakesMany n h c mid
   pub enough : IsEnough mid c n held g
@@ -175,17 +183,24 @@ TakesFirst {A} (suc k) h taken held g =
     (mid : HallView A) × (m : ℕ) × (j : ℕ) × (n : ℕ) × (full : Bool)
     × TakesFirst k h m j mid × TakesSome mid k n full g × (taken ≡ m + n) × (held ≡ j + held_count full)
 
--- why a turn ends before its tick
-abbrev pub IsCause : {A : Type 0} → HallView A → TurnCause → Type 0
-IsCause h cause.ClockSpent = clock h.world.history ≡ h.world.limits.clock
-IsCause h cause.ChapterFull = HasNoEntries h.world
-IsCause h cause.NoMemory = Unit {0}
+-- why a take ends a turn: the lane shows an order that has room in the mailbox and none in the chapter, or memory was refused
+abbrev pub IsTakeCause : {A : Type 0} → HallView A → ℕ → TurnCause → HallView A → Type 0
+IsTakeCause h c cause.ClockSpent g = ⊥
+IsTakeCause h c cause.ChapterFull g = ShowsOrder g c × HasRoom h.world c × HasNoEntries h.world
+IsTakeCause h c cause.NoMemory g = Unit {0}
 
--- so many orders of the client were taken, and then one was refused
+-- why a tick ends a turn, the clock before the chapter
+abbrev pub IsTickCause : {A : Type 0} → HallView A → TurnCause → Type 0
+IsTickCause h cause.ClockSpent = clock h.world.history ≡ h.world.limits.clock
+IsTickCause h cause.ChapterFull = (clock h.world.history < h.world.limits.clock) × HasNoEntries h.world
+IsTickCause h cause.NoMemory = Unit {0}
+
+-- n orders of the client were taken, fewer than `lane`, and then one was refused
 pub record TakesUntil {A : Type 0} (h : HallView A) (c n : ℕ) (why : TurnCause) (g : HallView A) : Type 0 where
+  pub fewer : n < h.world.limits.lane
   pub mid : HallView A
   pub takes : TakesMany n h c mid
-  pub cause : IsCause mid why
+  pub cause : IsTakeCause mid c why g
   pub looks : Looks mid g
 
 -- the orders of the first clients were taken, until one was refused
@@ -226,7 +241,7 @@ pub record StopsTurn {A : Type 0} (h : HallView A) (fault : TurnFault) (g : Hall
   pub given : HallView A
   pub gives : GivesAll h fault.report.given given
   pub stops : StopsTaking given fault.report.taken fault.report.held fault.cause g
-      ⊎ (TakesFirst (length h.ends) given fault.report.taken fault.report.held g × IsCause g fault.cause)
+      ⊎ (TakesFirst (length h.ends) given fault.report.taken fault.report.held g × IsTickCause g fault.cause)
   pub none_arrived : fault.report.arrived ≡ 0
   pub no_tick : fault.report.tick ≡ None
 

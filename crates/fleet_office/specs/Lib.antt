@@ -6,4 +6,5 @@ pub mod Draining
 pub mod Shown
 pub mod Concluded
 pub mod Shut
+pub mod Chapters
 pub mod inside

@@ -1,3 +1,4 @@
 -- What only proofs and private functions use.
 pub mod Causes
+pub mod Lanes
 pub mod Rests

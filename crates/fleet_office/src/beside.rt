@@ -3,10 +3,10 @@
 use crate::office::OfficeOf;
 use std::thread::{Threads, join};
 
-/// Does the work at the office twice, side by side, each time with what one thread brings, as a ticker. Answers what either came to.
+/// Calls `work` in two threads at one office, with `first` in the one and `second` in the other (two tickers, say), and returns
+/// both results. Where no thread can be started, the caller's does both.
 ///
-/// It knows the office by its parts alone: that each may cross threads is shown apart, where the whole is too large to be shown
-/// at once.
+/// It is generic in the office's parts, since the check finds of each part that it may cross threads, and of the whole not.
 pub fn side_by_side<
     X: Send,
     Y: Send,

@@ -7,6 +7,7 @@ ghost use Rattle.fleet_history.specs.History.{history_of};
 ghost use Rattle.fleet_history.specs.Laws.{EachTick};
 ghost use Rattle.fleet_history.specs.Legal.{IsLegal};
 ghost use Rattle.fleet_plan.specs.Planned.{IsPlanned, IsAdvancingTick};
+ghost use Rattle.fleet_bound.specs.Bound.{WaitsAreBounded};
 ghost use Rattle.fleet_office.specs.Hall.{next_hall};
 
 use crate::hall::Hall;
@@ -25,10 +26,12 @@ impl<N: OfficeName<A>, A: Allocator + Copy> Rest<N, A> {
         ensures legal { OnOk result (IsLegal self.old.world.floor self.old.world.history) }
         ensures planned { OnOk result (EachTick (IsPlanned self.old.world.floor self.old.world.ties) self.old.world.history) }
         ensures advancing { OnOk result (IsBridgeless (IsNeighbour self.old.world.floor) → EachTick (IsAdvancingTick self.old.world.floor) self.old.world.history) }
+        ensures bounded { OnOk result (IsBridgeless (IsNeighbour self.old.world.floor) → WaitsAreBounded self.old.world.floor self.old.world.history) }
         ensures next { OnOk result (self.new ≡ next_hall self.old) }
         ensures err { OnErr result (self.new ≡ self.old) }
     {
         let handed = self.core.next_chapter();
+        // States that the next chapter is legal.
         let _ = self.core.chapter();
         handed
     }
@@ -46,6 +49,7 @@ impl<N: OfficeName<A>, A: Allocator + Copy> Hall<N, A> {
         ensures legal { OnOk result (IsLegal self.old.rest.world.floor self.old.rest.world.history) }
         ensures planned { OnOk result (EachTick (IsPlanned self.old.rest.world.floor self.old.rest.world.ties) self.old.rest.world.history) }
         ensures advancing { OnOk result (IsBridgeless (IsNeighbour self.old.rest.world.floor) → EachTick (IsAdvancingTick self.old.rest.world.floor) self.old.rest.world.history) }
+        ensures bounded { OnOk result (IsBridgeless (IsNeighbour self.old.rest.world.floor) → WaitsAreBounded self.old.rest.world.floor self.old.rest.world.history) }
         ensures next { OnOk result (self.new.rest ≡ next_hall self.old.rest) }
         ensures err { OnErr result (self.new.rest ≡ self.old.rest) }
     {

@@ -8,10 +8,11 @@ ghost use Rattle.fleet_history.specs.History.{history_of, clock};
 ghost use Rattle.fleet_history.specs.Legal.{IsLegal};
 ghost use Rattle.fleet_history.specs.Laws.{EachTick};
 ghost use Rattle.fleet_plan.specs.Planned.{IsPlanned, IsAdvancingTick};
+ghost use Rattle.fleet_bound.specs.Bound.{WaitsAreBounded};
 ghost use Rattle.fleet_office.specs.Views.{AreOn, AreDistinct, AreSettled, cores};
 ghost use Rattle.fleet_office.specs.Draining.{DrainsFirst};
 ghost use Rattle.fleet_office.specs.inside.Rests.{AreRooms};
-ghost use Rattle.fleet_office.specs.Concluded.{AreHome, HasAll, IsAway, DrainsPart, IsMet, AreTold, IsLast, IsUnconcluded};
+ghost use Rattle.fleet_office.specs.Concluded.{AreHome, HasAll, IsAway, IsMet, AreTold, IsLast, IsUnconcluded};
 
 use crate::hall::{Hall, HallOf};
 use crate::homing::{missing, twice};
@@ -35,7 +36,7 @@ pub enum ConcludeFault {
     Missing(u32),
     /// The client was handed in twice.
     Twice(u32),
-    /// So many ticks were made by tickers that were not handed in.
+    /// This many ticks were made by tickers that were not handed in.
     Tickers(u64),
     /// The chapter has all the entries that it may have, and an order is left in a lane.
     ChapterFull,
@@ -47,16 +48,21 @@ pub enum ConcludeFault {
 #[derive(Drop)]
 pub struct Home<N: OfficeName<A>, A: Allocator + Copy = Global> {
     pub office: Office<N, A>,
+    /// In the order in which they were handed in.
     pub clients: Vec<Client<A>, A>,
+    /// In the order in which they were handed in.
     pub tickers: Vec<Ticker<N>, A>,
 }
 
-/// The map, the last chapter, the ticks, and by client the notices that it had not collected.
+/// What an office comes to.
 #[derive(Drop)]
 pub struct Final<A: Allocator + Copy = Global> {
     pub grid: Grid<A>,
+    /// The last chapter.
     pub chapter: Chapter<A>,
+    /// The ticks made, in all chapters.
     pub tick: u64,
+    /// By client the notices that it had not collected.
     pub rest: Vec<Vec<Notice, A>, A>,
 }
 
@@ -97,10 +103,9 @@ impl<N: OfficeName<A>, A: Allocator + Copy> Rest<N, A> {
         ensures clients { cores clients.new ≡ cores clients.old }
         ensures total { self.new.total ≡ self.old.total }
         ensures settled { OnOk result (AreSettled self.new.ends clients.new) }
-        ensures drains { OnOk result (DrainsFirst (length N.rings) self.old.world self.new.world) }
+        ensures drains { OnOk result (DrainsFirst (length N.rings) self.old.ends (cores clients.old) self.old.world self.new.world) }
         ensures rooms { IfOk result (λ v. AreRooms v.items self.new.world clients.new) }
-        ensures part { OnErr result (DrainsPart (length N.rings) self.old.world self.new.world) }
-        ensures err { IfErr result (λ e. IsMet self.new.world e) }
+        ensures err { IfErr result (λ e. IsMet (length N.rings) self.old.ends (cores clients.old) self.old.world self.new.world e) }
     {
         match self.drain_all(clients) {
             Ok(()) => {}
@@ -129,6 +134,7 @@ impl<N: OfficeName<A>, A: Allocator + Copy> Rest<N, A> {
         ensures legal { IsLegal result.0 (history_of result.1) }
         ensures planned { EachTick (IsPlanned result.0 self.world.ties) (history_of result.1) }
         ensures advancing { IsBridgeless (IsNeighbour result.0) → EachTick (IsAdvancingTick result.0) (history_of result.1) }
+        ensures bounded { IsBridgeless (IsNeighbour result.0) → WaitsAreBounded result.0 (history_of result.1) }
         ensures told { AreTold result.1.number (history_of result.1) clients.items result.2.items }
     {
         let Rest {
@@ -154,21 +160,23 @@ impl<N: OfficeName<A>, A: Allocator + Copy> Hall<N, A> {
         tickers: Vec<Ticker<N>, A>,
     ) -> Result<Final<A>, (ConcludeFault, Home<N, A>)>
         requires on { AreOn N.rings (cores clients.items) }
-        ensures drains { IfOk result (λ f. IsLast (length N.rings) self.rest.world f.grid f.chapter.number (history_of f.chapter)) }
+        ensures drains { IfOk result (λ f. IsLast (length N.rings) self.rest (cores clients.items) f.grid f.chapter.number (history_of f.chapter)) }
         ensures legal { IfOk result (λ f. IsLegal f.grid (history_of f.chapter)) }
         ensures planned { IfOk result (λ f. EachTick (IsPlanned f.grid self.rest.world.ties) (history_of f.chapter)) }
         ensures advancing { IfOk result (λ f. IsBridgeless (IsNeighbour f.grid) → EachTick (IsAdvancingTick f.grid) (history_of f.chapter)) }
+        ensures bounded { IfOk result (λ f. IsBridgeless (IsNeighbour f.grid) → WaitsAreBounded f.grid (history_of f.chapter)) }
         ensures told { IfOk result (λ f. AreTold f.chapter.number (history_of f.chapter) clients.items f.rest.items) }
         ensures tick { IfOk result (λ f. (f.tick ≡ clock (history_of f.chapter)) × (f.tick ≡ sum_by (λ t. t.count) tickers.items)) }
         ensures all { OnOk result (HasAll (length N.rings) clients.items) }
         ensures home { OnOk result (AreHome (length N.rings) clients.items tickers.items (clock self.rest.world.history)) }
-        ensures err { IfErr result (λ e. IsUnconcluded (length N.rings) self.rest.world clients.items tickers.items e.0) }
+        ensures err { IfErr result (λ e. IsUnconcluded (length N.rings) self.rest clients.items tickers.items e.0) }
         ensures back { IfErr result (λ e. (cores e.1.clients.items ≡ cores clients.items) × (e.1.tickers.items ≡ tickers.items)) }
+        ensures on { IfErr result (λ e. AreOn N.rings (cores e.1.clients.items)) }
     {
         let mut hall = self;
         let mut clients = clients;
         let mut tickers = tickers;
-        hall.rest.lawful();
+        hall.rest.recall_laws();
         if let Err(fault) = hall.rest.see_home(clients.as_slice(), &mut tickers) {
             return Err((fault, come_home(hall, clients, tickers)));
         }
@@ -176,7 +184,7 @@ impl<N: OfficeName<A>, A: Allocator + Copy> Hall<N, A> {
             Ok(rooms) => rooms,
             Err(fault) => return Err((fault, come_home(hall, clients, tickers))),
         };
-        hall.rest.lawful();
+        hall.rest.recall_laws();
         let tick = hall.rest.clock();
         let HallOf { rest, robots: _ } = hall;
         let (grid, chapter, rest) = rest.finish(clients, rooms);

@@ -34,7 +34,9 @@ impl<A: Allocator + Copy> Model for Desk<A> {
 }
 
 impl<A: Allocator + Copy> Desk<A> {
-    /// The lanes of so many clients.
+    /// New lanes for 1 to 64 clients, who are numbered from 0, and a ledger of 65,536 parts.
+    ///
+    /// Refused in this order: `Limits` where a limit, or the number of clients, is out of range; `NoMemory`.
     pub fn new(alloc: A, clients: u32, limits: Limits) -> Result<Desk<A>, OpenFault>
         ensures refused { (result ≡ Err OpenFault.Limits) ↔ (AreInRange clients limits → ⊥) }
         ensures ok { IfOk result (λ d. (length d.clients ≡ clients) × (d.limits ≡ limits) × (d.parts ≡ 65536)
@@ -49,6 +51,7 @@ impl<A: Allocator + Copy> Desk<A> {
         }
     }
 
+    /// The lanes and the ledger, of limits that are in range.
     fn make(alloc: A, count: u32, limits: Limits) -> Result<Desk<A>, AllocError>
         requires { AreInRange count limits }
         ensures ok { IfOk result (λ d. (length d.clients ≡ count) × (d.limits ≡ limits) × (d.parts ≡ 65536)

@@ -4,7 +4,8 @@ ghost use Rattle.std.specs.Prelude.{◌≡◌, ◌+◌, ◌<◌, ◌≤◌, ◌+
 ghost use Rattle.fleet_core.specs.Core.{HasNoEntries};
 ghost use Rattle.fleet_lanes.specs.Ends.{EndView};
 ghost use Rattle.fleet_office.specs.Views.{core, cores, AreOn, AreDistinct, AreSettled, IsSettled, IsNumberSettled, KeepsOthers, OthersStay, Moves};
-ghost use Rattle.fleet_office.specs.Draining.{used, Widens, TakesNext, Drains, DrainsFirst, StopsDraining};
+ghost use Rattle.fleet_office.specs.Draining.{used, IsLeft, AreLeft, Widens, TakesNext, DrainsFirst, StopsDraining};
+ghost use Rattle.fleet_office.specs.inside.Lanes.{DrainsLane};
 
 use crate::homing::place_of;
 use crate::names::OfficeName;
@@ -15,13 +16,14 @@ use fleet_lanes::Client;
 use std::alloc::Allocator;
 
 impl<N: OfficeName<A>, A: Allocator + Copy> Rest<N, A> {
-    /// Looks at the client's rings beside the hall's own ends. Answers how many orders are left in the lane.
+    /// Looks at the client's rings next to the hall's own ends. Returns how many orders are left in the lane.
     fn beside(&mut self, client: &mut Client<A>) -> usize
         requires { slice_get N.rings client.old.number ≡ Some client.old.lane }
         ensures client { core client.new ≡ core client.old }
         ensures world { (self.new.world ≡ self.old.world) × (self.new.total ≡ self.old.total) }
         ensures others { OthersStay client.old.number self.old.ends self.new.ends }
         ensures there { client.old.number < length self.new.ends }
+        ensures left { IsLeft self.old.ends (core client.old) result }
         ensures met { (e : EndView A) → slice_get self.new.ends client.old.number ≡ Some e → (e.taken ++ e.known ≡ client.new.sent)
             × (client.new.collected ++ client.new.known ≡ e.given) × (result ≡ length e.known) }
     {
@@ -31,7 +33,7 @@ impl<N: OfficeName<A>, A: Allocator + Copy> Rest<N, A> {
         end.known()
     }
 
-    /// Takes the next of so many orders that are known to be in the client's lane.
+    /// Takes the next of the orders that are left in the client's lane.
     fn take_left(&mut self, client: u32, left: usize) -> Result<(), TakeFault>
         requires client { client < length self.old.ends }
         requires known { (e : EndView A) → slice_get self.old.ends client ≡ Some e → 0 < length e.known }
@@ -45,6 +47,7 @@ impl<N: OfficeName<A>, A: Allocator + Copy> Rest<N, A> {
         ensures total { self.new.total ≡ self.old.total }
         ensures boxed { client < length self.old.world.mailboxes }
     {
+        // States that what the client uses of its mailbox is little enough to be counted.
         let _ = self.core.chapter();
         take_left_from(
             &mut self.core,
@@ -59,7 +62,7 @@ impl<N: OfficeName<A>, A: Allocator + Copy> Rest<N, A> {
         requires { slice_get N.rings client.old.number ≡ Some client.old.lane }
         ensures client { core client.new ≡ core client.old }
         ensures others { OthersStay client.old.number self.old.ends self.new.ends }
-        ensures drains { (n : ℕ) × Drains self.old.world client.old.number n self.new.world }
+        ensures drains { (n : ℕ) × IsLeft self.old.ends (core client.old) n × DrainsLane self.old.world client.old.number n self.new.world result }
         ensures full { result ≡ Err TakeFault.ChapterFull → HasNoEntries self.new.world }
         ensures total { self.new.total ≡ self.old.total }
         ensures ok { OnOk result (IsSettled self.new.ends client.new) }
@@ -79,7 +82,7 @@ impl<N: OfficeName<A>, A: Allocator + Copy> Rest<N, A> {
         ensures clients { cores clients.new ≡ cores clients.old }
         ensures kept { KeepsOthers number clients.old clients.new }
         ensures others { OthersStay number self.old.ends self.new.ends }
-        ensures drains { (n : ℕ) × Drains self.old.world number n self.new.world }
+        ensures drains { (n : ℕ) × AreLeft self.old.ends (cores clients.old) number n × DrainsLane self.old.world number n self.new.world result }
         ensures full { result ≡ Err TakeFault.ChapterFull → HasNoEntries self.new.world }
         ensures total { self.new.total ≡ self.old.total }
         ensures ok { OnOk result (IsNumberSettled number self.new.ends clients.new) }
@@ -95,8 +98,8 @@ impl<N: OfficeName<A>, A: Allocator + Copy> Rest<N, A> {
         requires on { AreOn N.rings (cores clients.old) }
         requires distinct { AreDistinct (cores clients.old) }
         ensures clients { cores clients.new ≡ cores clients.old }
-        ensures drains { OnOk result (DrainsFirst (length N.rings) self.old.world self.new.world) }
-        ensures stops { OnErr result (StopsDraining (length N.rings) self.old.world self.new.world) }
+        ensures drains { OnOk result (DrainsFirst (length N.rings) self.old.ends (cores clients.old) self.old.world self.new.world) }
+        ensures stops { OnErr result (StopsDraining (length N.rings) self.old.ends (cores clients.old) self.old.world self.new.world) }
         ensures full { result ≡ Err TakeFault.ChapterFull → HasNoEntries self.new.world }
         ensures total { self.new.total ≡ self.old.total }
         ensures ok { OnOk result (AreSettled self.new.ends clients.new) }

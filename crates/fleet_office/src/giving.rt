@@ -20,6 +20,7 @@ pub(crate) fn give_from<A: Allocator + Copy>(
     ensures gives { Gives core.old core.new end.old end.new client result }
     ensures until { ((pending core.new client).notices ≡ []) ⊎ (end.new.free ≡ 0) }
 {
+    // States that the notices are few enough to be counted.
     let _most = core.pending_count(client);
     let mut count = 0u64;
     while let Some(notice) = core.next_notice(client) {

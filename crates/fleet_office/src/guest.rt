@@ -1,6 +1,7 @@
 //! A client that its office knows again, whatever thread it went through.
 
 ghost use Rattle.std.specs.Prelude.{◌≡◌, ◌+◌, ◌<◌, ◌≤◌, ◌↔◌, ◌⊎◌, ◌++◌, ◌∷◌, [], true, length, Some, slice_get, Err, IfOk, IfErr, IfSome, IfNone, IsSome};
+ghost use mathlib.Core.List.{IsPrefix};
 ghost use Rattle.fleet_lanes.specs.Ends.{has_close};
 ghost use Rattle.fleet_lanes.specs.Posts.{AreSpent, HandsBack};
 ghost use Rattle.fleet_office.specs.Views.{AreOn, cores};
@@ -70,8 +71,9 @@ impl<N: OfficeName<A>, A: Allocator + Copy> Guest<N, A> {
 
     /// The oldest notice that is found on the outlet.
     pub fn collect(&mut self) -> Option<Notice>
-        ensures some { IfSome result (λ notice. self.new
-            ≡ record self.old { collected = self.old.collected ++ notice ∷ []; known = self.new.known }) }
+        ensures some { IfSome result (λ notice. (self.new
+            ≡ record self.old { collected = self.old.collected ++ notice ∷ []; known = self.new.known })
+            × IsPrefix self.old.known (notice ∷ self.new.known)) }
         ensures none { IfNone result (self.new ≡ self.old) }
         ensures succeeds { 0 < length self.old.known → IsSome result }
     {
@@ -92,6 +94,13 @@ impl<N: OfficeName<A>, A: Allocator + Copy> Guest<N, A> {
         self.client.sent()
     }
 
+    /// Whether Close was sent.
+    pub fn is_closed(&self) -> bool
+        ensures { result ≡ has_close self.now.sent }
+    {
+        self.client.is_closed()
+    }
+
     /// The client, which its office knows.
     pub fn into_client(self) -> Client<A>
         ensures same { result ≡ self }
@@ -102,34 +111,44 @@ impl<N: OfficeName<A>, A: Allocator + Copy> Guest<N, A> {
 }
 
 /// The clients of an office as its guests, each in its place.
+///
+/// Out of memory, it hands the clients back as they were, so that the call can be made again.
 pub fn guests_of<N: OfficeName<A>, A: Allocator + Copy>(
     alloc: A,
     clients: Vec<Client<A>, A>,
-) -> Result<Vec<Guest<N, A>, A>, AllocError>
+) -> Result<Vec<Guest<N, A>, A>, Vec<Client<A>, A>>
     requires on { AreOn N.rings (cores clients.items) }
     ensures all { IfOk result (λ guests. guests.items ≡ clients.items) }
+    ensures back { IfErr result (λ back. back.items ≡ clients.items) }
+    ensures on { IfErr result (λ back. AreOn N.rings (cores back.items)) }
 {
-    let mut clients = clients;
-    let mut guests = Vec::with_capacity(alloc, clients.len())?;
-    while !clients.is_empty() {
-        let client = clients.remove(0);
+    let mut guests = match Vec::with_capacity(alloc, clients.len()) {
+        Ok(list) => list,
+        Err(AllocError) => return Err(clients),
+    };
+    for client in clients {
         guests.push_reserved(Guest::new(client));
     }
     Ok(guests)
 }
 
 /// The clients that these guests are, as their office knows them, each in its place.
+///
+/// Out of memory, it hands the guests back as they were, so that the call can be made again.
 pub fn clients_of<N: OfficeName<A>, A: Allocator + Copy>(
     alloc: A,
     guests: Vec<Guest<N, A>, A>,
-) -> Result<Vec<Client<A>, A>, AllocError>
+) -> Result<Vec<Client<A>, A>, Vec<Guest<N, A>, A>>
     ensures on { IfOk result (λ clients. AreOn N.rings (cores clients.items)) }
     ensures all { IfOk result (λ clients. clients.items ≡ guests.items) }
+    ensures back { IfErr result (λ back. back.items ≡ guests.items) }
 {
-    let mut guests = guests;
-    let mut clients = Vec::with_capacity(alloc, guests.len())?;
-    while !guests.is_empty() {
-        clients.push_reserved(guests.remove(0).into_client());
+    let mut clients = match Vec::with_capacity(alloc, guests.len()) {
+        Ok(list) => list,
+        Err(AllocError) => return Err(guests),
+    };
+    for guest in guests {
+        clients.push_reserved(guest.into_client());
     }
     Ok(clients)
 }

@@ -28,11 +28,13 @@ pub struct HallOf<X, Y> {
     pub(crate) robots: Y,
 }
 
-/// The lock's value: all that one name speaks of, and the closures.
+/// The lock's value: the world, the hall's ends of the rings and the book of the ticks, with the robots' closures.
 pub type Hall<N, A = Global> = HallOf<Rest<N, A>, Robots<A>>;
 
 impl<N: OfficeName<A>, A: Allocator + Copy> Hall<N, A> {
-    /// Takes one order out of the client's lane into the world.
+    /// Takes one order out of the client's lane into the world, and returns its verdict. `None` where none is found.
+    ///
+    /// Refused in this order: `MailboxFull`, `ChapterFull`, `NoMemory`. The order stays in the lane then.
     pub fn take_one(&mut self, client: u32) -> Result<Option<Verdict>, TakeFault>
         requires { client < length self.old.rest.ends }
         ensures ok { IfOk result (λ r. TakesOne self.old.rest client r self.new.rest) }
@@ -44,7 +46,7 @@ impl<N: OfficeName<A>, A: Allocator + Copy> Hall<N, A> {
         self.rest.take_one(client)
     }
 
-    /// Gives each client's notices, client by client.
+    /// Gives each client's notices, client by client, until its mailbox is empty or its outlet full. Returns how many were given.
     pub fn give_all(&mut self) -> u64
         requires { 0 ≤ self.old.rest.total }
         ensures gives { GivesAll self.old.rest result self.new.rest }
@@ -53,7 +55,9 @@ impl<N: OfficeName<A>, A: Allocator + Copy> Hall<N, A> {
         self.rest.give_all()
     }
 
-    /// Shuts a robot.
+    /// Shuts a robot. Returns the stamp of its farewell where that was made at once.
+    ///
+    /// Refused in this order: `NoRobot`, `Already`, `ChapterFull`, `NoMemory`.
     pub fn shut(&mut self, robot: u32) -> Result<Option<u32>, ShutFault>
         requires { robot < 2 ^ 32 }
         ensures ok { IfOk result (λ farewell. Shuts self.old.rest.world robot farewell self.new.rest.world
@@ -95,6 +99,7 @@ impl<N: OfficeName<A>, A: Allocator + Copy> Hall<N, A> {
             Err(fault) => return Err(fault),
         };
         let (core, robots) = world.apart();
+        // States that the opening is legal.
         let _ = core.chapter();
         let (book, share) = blank.open::<N>();
         let rest = Rest::new(core, ends, book);
@@ -104,6 +109,8 @@ impl<N: OfficeName<A>, A: Allocator + Copy> Hall<N, A> {
 
 impl<N: OfficeName<A>, A: Allocator + Copy> Hall<N, A> {
     /// One tick of the world, counted by the ticker.
+    ///
+    /// Refused in this order: `ClockSpent`, `ChapterFull`, `NoMemory`. Nothing has changed then.
     pub fn tick_with<R: Alloc<A = A>>(
         &mut self,
         rt: &R,
@@ -122,7 +129,7 @@ impl<N: OfficeName<A>, A: Allocator + Copy> Hall<N, A> {
         self.rest.tick_with(rt, &mut self.robots, ticker)
     }
 
-    /// A turn: gives all notices, takes the orders, makes one tick, and gives all notices.
+    /// A turn: gives all notices, takes the orders, makes one tick, and gives all notices. `Office::turn` says when it is refused.
     pub fn turn<R: Alloc<A = A>>(
         &mut self,
         rt: &R,

@@ -70,7 +70,7 @@ impl<N: OfficeName<A>, A: Allocator + Copy> Rest<N, A> {
         ensures tick { IfOk result (λ look. seen ≤ look.tick) }
         ensures shown { IfOk result (Shows self.now.world) }
     {
-        self.lawful();
+        self.recall_laws();
         let look = self.look(alloc)?;
         // The ledger shows that no call ends here.
         if look.tick < seen {

@@ -1,18 +1,21 @@
 //! The hall under its lock.
 
-ghost use Rattle.std.specs.Prelude.{◌≡◌, ◌+◌, ◌<◌, ◌≤◌, ◌^◌, ◌↔◌, length, Err, IfOk, IfErr, IfSome, OnOk, OnErr};
+ghost use Rattle.std.specs.Prelude.{List, ◌≡◌, ◌+◌, ◌<◌, ◌≤◌, ◌^◌, ◌↔◌, length, Err, IfOk, IfErr, IfSome, OnOk, OnErr};
 ghost use Rattle.std.specs.List.{sum_by};
-ghost use Rattle.fleet_grid.specs.Floor.{Floor, IsNeighbour};
+ghost use Rattle.fleet_grid.specs.Floor.{IsNeighbour};
 ghost use Rattle.fleet_grid.specs.Walk.{IsBridgeless};
 ghost use Rattle.fleet_history.specs.History.{history_of, clock};
 ghost use Rattle.fleet_history.specs.Legal.{IsLegal};
 ghost use Rattle.fleet_history.specs.Laws.{EachTick};
-ghost use Rattle.fleet_plan.specs.Planned.{IsAdvancingTick};
+ghost use Rattle.fleet_plan.specs.Planned.{IsPlanned, IsAdvancingTick};
+ghost use Rattle.fleet_bound.specs.Bound.{WaitsAreBounded};
+ghost use Rattle.fleet_hooks.specs.declared.law.TieLaw.{TieLaw};
 ghost use Rattle.fleet_core.specs.Hooks.{laws_of};
 ghost use Rattle.fleet_calls.specs.Opening.{IsRefused, IsNamed as IsNamedFault};
 ghost use Rattle.fleet_office.specs.Views.{IsNamed, AreOn, cores};
 ghost use Rattle.fleet_office.specs.Hall.{HallView, IsLawful, Turns, StopsTurn};
-ghost use Rattle.fleet_office.specs.Concluded.{AreTold, HasAll, IsUnconcluded};
+ghost use Rattle.fleet_office.specs.Chapters.{IsChapterOf};
+ghost use Rattle.fleet_office.specs.Concluded.{AreTold, HasAll, IsLast, IsUnconcluded};
 ghost use Rattle.fleet_office.specs.Shown.{Shows};
 ghost use Rattle.fleet_office.specs.Shut.{AnswersShut};
 ghost use Rattle.fleet_core.specs.Core.{World};
@@ -44,7 +47,11 @@ pub struct OfficeOf<X, Y> {
 pub type Office<N, A = Global> = OfficeOf<Rest<N, A>, Robots<A>>;
 
 impl<N: OfficeName<A>, A: Allocator + Copy> Office<N, A> {
-    /// Opens an office over the desk's lanes.
+    /// Opens an office over the desk's lanes. Returns it with its clients by number, and with a ticker that has all 65,536 parts
+    /// of the ledger.
+    ///
+    /// Refused as `World::open` is, for the first of these that stands: `Limits`, `NoRobots`, `Start`, `Shared`, `Hooks`,
+    /// `NoMemory`.
     pub fn open(
         alloc: A,
         desk: Desk<A>,
@@ -77,8 +84,11 @@ impl<N: OfficeName<A>, A: Allocator + Copy> Office<N, A> {
     /// The office's end: takes every order that is left in the lanes, and hands out the map, the chapter and what the
     /// clients had not collected. It makes no tick. Waits for nobody.
     ///
-    /// Refused in this order: a client that is not handed in, a client twice, ticks of tickers that are not handed in, a
-    /// full chapter where an order is left, want of memory. After the last two the takes made stand; no notice is lost.
+    /// Refused in this order: `Missing`, a client that is not handed in; `Twice`, a client that is handed in twice; `Tickers`,
+    /// the ticks of tickers that are not handed in (one that made no tick may stay away); `ChapterFull`, where an order is left
+    /// in a lane; `NoMemory`. After the last two the takes made stand, and mailboxes may be wider: by no more than their notices,
+    /// their client's unfinished errands and two for each order that was left. No notice is lost: all comes back for a further
+    /// call.
     pub fn conclude(
         self,
         alloc: A,
@@ -86,44 +96,56 @@ impl<N: OfficeName<A>, A: Allocator + Copy> Office<N, A> {
         tickers: Vec<Ticker<N>, A>,
     ) -> Result<Final<A>, (ConcludeFault, Home<N, A>)>
         requires on { AreOn N.rings (cores clients.items) }
+        ensures drains { IfOk result (λ f. (h : HallView A) × IsLawful N.rings h.world h.ends h.total
+            × IsLast (length N.rings) h (cores clients.items) f.grid f.chapter.number (history_of f.chapter)) }
         ensures legal { IfOk result (λ f. IsLegal f.grid (history_of f.chapter)) }
+        ensures planned { IfOk result (λ f. (ties : List TieLaw) × EachTick (IsPlanned f.grid ties) (history_of f.chapter)) }
         ensures advancing { IfOk result (λ f. IsBridgeless (IsNeighbour f.grid) → EachTick (IsAdvancingTick f.grid) (history_of f.chapter)) }
+        ensures bounded { IfOk result (λ f. IsBridgeless (IsNeighbour f.grid) → WaitsAreBounded f.grid (history_of f.chapter)) }
         ensures told { IfOk result (λ f. AreTold f.chapter.number (history_of f.chapter) clients.items f.rest.items) }
         ensures tick { IfOk result (λ f. (f.tick ≡ clock (history_of f.chapter)) × (f.tick ≡ sum_by (λ t. t.count) tickers.items)) }
         ensures all { OnOk result (HasAll (length N.rings) clients.items) }
-        ensures err { IfErr result (λ e. (w : World A) × IsUnconcluded (length N.rings) w clients.items tickers.items e.0) }
+        ensures err { IfErr result (λ e. (h : HallView A) × IsLawful N.rings h.world h.ends h.total
+            × IsUnconcluded (length N.rings) h clients.items tickers.items e.0) }
         ensures back { IfErr result (λ e. (cores e.1.clients.items ≡ cores clients.items) × (e.1.tickers.items ≡ tickers.items)) }
+        ensures on { IfErr result (λ e. AreOn N.rings (cores e.1.clients.items)) }
     {
         let OfficeOf { hall } = self;
-        hall.into_inner().conclude(alloc, clients, tickers)
+        let hall = hall.into_inner();
+        hall.rest.recall_laws();
+        hall.conclude(alloc, clients, tickers)
     }
 
-    /// Shuts a robot, in the world as it stands when the lock is held.
+    /// Shuts a robot, in the world as it stands when the lock is held: it takes no further errands. Returns the stamp of its
+    /// farewell where it has no errand left, so that the farewell was made at once; else `None`, and a later tick makes it.
+    ///
+    /// Refused in this order: `NoRobot`, `Already`, `ChapterFull`, `NoMemory`. Nothing has changed then.
     pub fn shut<R: Wait>(&self, rt: &R, robot: u32) -> Result<Option<u32>, ShutFault>
         requires { robot < 2 ^ 32 }
         ensures { (w : World A) × AnswersShut w robot result }
     {
         let mut held = self.hall.lock(rt);
         let hall = &mut *held;
-        hall.rest.lawful();
+        hall.rest.recall_laws();
         hall.shut(robot)
     }
 
     /// Hands the chapter out and begins the next, whose opening is the state now.
+    ///
+    /// Refused in this order: `BookSpent` in the last of the chapters, `NoMemory`. Nothing has changed then.
     pub fn next_chapter<R: Wait>(&self, rt: &R) -> Result<Chapter<A>, ChapterFault>
         requires { 0 ≤ 1 }
-        ensures handed { IfOk result (λ chapter. (m : Floor) × IsLegal m (history_of chapter)
-            × (IsBridgeless (IsNeighbour m) → EachTick (IsAdvancingTick m) (history_of chapter))) }
+        ensures handed { IfOk result (λ chapter. (h : HallView A) × IsChapterOf N.rings h chapter.number (history_of chapter)) }
         ensures spent { (result ≡ Err ChapterFault.BookSpent) →
             (h : HallView A) × IsLawful N.rings h.world h.ends h.total × (h.world.number + 1 ≡ h.world.limits.chapters) }
     {
         let mut held = self.hall.lock(rt);
         let hall = &mut *held;
-        hall.rest.lawful();
+        hall.rest.recall_laws();
         hall.next_chapter()
     }
 
-    /// What the office shows: no fewer ticks than the ticker made.
+    /// What the office shows: no fewer ticks than the ticker made. `AllocError` where memory was refused.
     pub fn look<R: Alloc<A = A> + Wait>(
         &self,
         rt: &R,
@@ -134,13 +156,19 @@ impl<N: OfficeName<A>, A: Allocator + Copy> Office<N, A> {
         ensures shown { IfOk result (λ look. (w : World A) × Shows w look) }
     {
         let hall = self.hall.lock(rt);
-        hall.rest.lawful();
+        hall.rest.recall_laws();
         hall.rest.look_from(rt.alloc(), ticker.ticks())
     }
 }
 
 impl<N: OfficeName<A>, A: Allocator + Copy> Office<N, A> {
-    /// A turn, of the hall as it stands when the lock is held.
+    /// A turn, of the hall as it stands when the lock is held: gives each client's notices, takes at most `lane` orders of each
+    /// client, by number, makes one tick, and gives again. A closure that it calls must not call this office: it would wait for
+    /// ever.
+    ///
+    /// Refused for the first of these that is met: in the takes `ChapterFull`, where an order has no room, and `NoMemory`; at the
+    /// tick `ClockSpent`, `ChapterFull`, `NoMemory`. What was given and taken before stands, and the fault's report says how
+    /// much; the ticker has not changed.
     pub fn turn<R: Alloc<A = A> + Wait>(
         &self,
         rt: &R,
@@ -154,8 +182,23 @@ impl<N: OfficeName<A>, A: Allocator + Copy> Office<N, A> {
         ensures stopped { IfErr result (λ e. (h g : HallView A) × IsLawful N.rings h.world h.ends h.total × StopsTurn h e g) }
     {
         let mut held = self.hall.lock(rt);
-        let hall = &mut *held;
-        hall.rest.lawful();
-        hall.turn(rt, ticker)
+        turn_held(&mut *held, rt, ticker)
     }
+}
+
+/// A turn of a hall that is under its lock: what is known of it when the lock is given back.
+fn turn_held<N: OfficeName<A>, A: Allocator + Copy, R: Alloc<A = A>>(
+    hall: &mut Hall<N, A>,
+    rt: &R,
+    ticker: &mut Ticker<N>,
+) -> Result<TurnReport, TurnFault>
+    requires { 0 ≤ ticker.old.count }
+    ensures ticker { IfOk result (λ r. (ticker.new ≡ record { count = ticker.old.count + 1; parts = ticker.old.parts })
+        × IfSome r.tick (λ t. ticker.new.count ≤ t)) }
+    ensures kept { OnErr result (ticker.new ≡ ticker.old) }
+    ensures turned { IfOk result (λ r. (h g : HallView A) × IsLawful N.rings h.world h.ends h.total × Turns h r g) }
+    ensures stopped { IfErr result (λ e. (h g : HallView A) × IsLawful N.rings h.world h.ends h.total × StopsTurn h e g) }
+{
+    hall.rest.recall_laws();
+    hall.turn(rt, ticker)
 }

@@ -8,6 +8,7 @@ ghost use Rattle.fleet_grid.specs.Walk.{IsBridgeless};
 ghost use Rattle.fleet_history.specs.Legal.{IsLegal};
 ghost use Rattle.fleet_history.specs.Laws.{EachTick};
 ghost use Rattle.fleet_plan.specs.Planned.{IsPlanned, IsAdvancingTick};
+ghost use Rattle.fleet_bound.specs.Bound.{KeepsBound, WaitsAreBounded};
 ghost use Rattle.fleet_core.specs.Core.{Shuts, HasRoom, HasNoRoom, HasEntries, HasNoEntries};
 ghost use Rattle.fleet_office.specs.Views.{TickerView};
 ghost use Rattle.fleet_office.specs.Hall.{HallView, IsLawful, ShowsOrder, TakesOne, GivesOne, GivesAll, given_count, TakesSome, TakesUntil, TakesFirst, StopsTaking, TicksOnce, Turns, StopsTurn, Looks};
@@ -53,9 +54,13 @@ impl<N: OfficeName<A>, A: Allocator + Copy> Rest<N, A> {
         Rest { core, ends, book }
     }
 
-    /// What always holds.
-    pub fn lawful(&self)
-        ensures { IsLawful N.rings self.now.world self.now.ends self.now.total }
+    /// States what always holds, for a proof of its caller. It does nothing.
+    pub fn recall_laws(&self)
+        ensures lawful { IsLawful N.rings self.now.world self.now.ends self.now.total }
+        ensures planned { EachTick (IsPlanned self.now.world.floor self.now.world.ties) self.now.world.history }
+        ensures advancing { IsBridgeless (IsNeighbour self.now.world.floor) → EachTick (IsAdvancingTick self.now.world.floor) self.now.world.history }
+        ensures bounded { IsBridgeless (IsNeighbour self.now.world.floor) → WaitsAreBounded self.now.world.floor self.now.world.history }
+        ensures keeps_bound { IsBridgeless (IsNeighbour self.now.world.floor) → KeepsBound self.now.world.floor self.now.world.history }
     {
         let _ = self.core.chapter();
     }

@@ -12,6 +12,7 @@ use fleet_core::{Core, TakeFault};
 use fleet_lanes::HallEnd;
 use std::alloc::{AllocError, Allocator};
 
+/// One order out of the lane into the world. `None` where none is found.
 pub(crate) fn take_from<A: Allocator + Copy>(
     core: &mut Core<A>,
     end: &mut HallEnd<A>,
@@ -31,7 +32,7 @@ pub(crate) fn take_from<A: Allocator + Copy>(
     Ok(Some(verdict))
 }
 
-/// Room in the client's mailbox for one order more; where there is none, for so many.
+/// Room in the client's mailbox for one order more; where there is none, for all that are left.
 fn make_room<A: Allocator + Copy>(
     core: &mut Core<A>,
     client: u32,
@@ -53,7 +54,7 @@ fn make_room<A: Allocator + Copy>(
     core.widen(client, used + 2 * orders - limit)
 }
 
-/// The next of so many orders that are known to be in the lane, into a mailbox with room for it.
+/// The next of the orders that are left in the lane, into a mailbox with room for it.
 pub(crate) fn take_left_from<A: Allocator + Copy>(
     core: &mut Core<A>,
     end: &mut HallEnd<A>,

@@ -1,4 +1,4 @@
--- Clients one by one, before their lines and behind them.
+-- Clients one by one, before their lines and after them.
 use Rattle.std.proofs.Common.{◌≡◌, ℕ, suc, ◌+◌, ◌<◌, List, [], ◌∷◌, ◌++◌, length, Some, refl, sym, ap, subst, arith, ⊎_elim, slice_index_or}
 use Rattle.std.specs.Prelude.{min, ◌-◌, ◌^◌}
 use Rattle.std.specs.List.{slice_get, remove}
@@ -9,13 +9,12 @@ use Rattle.fleet_office.specs.Views.{ArePairs}
 use Rattle.fleet_office.proofs.Places.{at_push, within, there_is}
 use Rattle.fleet_serve.specs.Posted.{IsNew, AreNew, HasRun, AllHaveRun}
 
-pub new-first : {A : Type 0} (most : ℕ) (xs : List (ClientView A)) (x : ClientView A) → 0 < length xs → x ≡ slice_index_or xs 0 x → AreNew most xs → IsNew x most
-new-first most [] x some is new = absurd (omega arith)
-new-first most (y ∷ ys) x some is new = subst (λ z. IsNew z most) (sym is) (new 0 y refl)
+-- the first of those left, and the others
+pub new-head : {A : Type 0} (most : ℕ) (xs ys : List (ClientView A)) (x : ClientView A) → xs ≡ x ∷ ys → AreNew most xs → IsNew x most
+new-head most xs ys x is new = subst (AreNew most) is new 0 x refl
 
-pub new-rest : {A : Type 0} (most : ℕ) (xs : List (ClientView A)) → AreNew most xs → AreNew most (remove xs 0)
-new-rest most [] new = new
-new-rest most (y ∷ ys) new = λ k x at. new (suc k) x at
+pub new-tail : {A : Type 0} (most : ℕ) (xs ys : List (ClientView A)) (x : ClientView A) → xs ≡ x ∷ ys → AreNew most xs → AreNew most ys
+new-tail most xs ys x is new = λ k y at. subst (AreNew most) is new (suc k) y at
 
 -- the clients of a new desk
 pub new-pairs : {A : Type 0} (clients : List (ClientView A)) (ends : List (EndView A)) (limits : Limits) → ArePairs clients ends limits → AreNew limits.orders clients

@@ -10,7 +10,9 @@ use Rattle.fleet_history.specs.History.{History, clock}
 use Rattle.fleet_history.specs.Legal.{IsLegal}
 use Rattle.fleet_history.specs.Laws.{orders, EachTick}
 use Rattle.fleet_history.specs.Notices.{notices}
-use Rattle.fleet_plan.specs.Planned.{IsAdvancingTick}
+use Rattle.fleet_hooks.specs.declared.law.TieLaw.{TieLaw}
+use Rattle.fleet_plan.specs.Planned.{IsPlanned, IsAdvancingTick}
+use Rattle.fleet_bound.specs.Bound.{WaitsAreBounded}
 use Rattle.fleet_lanes.specs.Ends.{ClientView}
 use Rattle.fleet_office.specs.Concluded.{AreTold, HasAll}
 use Rattle.fleet_serve.specs.Posted.{posts, until_close, IsSubsequence, AllHaveRun, TakesPosted, TakesAll, AreLastNotices}
@@ -40,12 +42,15 @@ module _ {A : Type 0} (h : History A) (number count : ℕ) (cs : List (ClientVie
 
 -- a serve that came to its end
 pub is-end : (m : Floor) (h : History Global) (number ticks count : ℕ) (cs : List (ClientView Global)) (rests : List (Vec Notice Global)) → number ≡ 0 → AreTold number h cs rests → HasAll count cs
-    → (events : List Event) (most full : ℕ) → AllHaveRun events most cs full → IsLegal m h → (IsBridgeless (IsNeighbour m) → EachTick (IsAdvancingTick m) h) → ticks ≡ clock h
+    → (events : List Event) (most full : ℕ) → AllHaveRun events most cs full → IsLegal m h → ((ties : List TieLaw) × EachTick (IsPlanned m ties) h) → (IsBridgeless (IsNeighbour m) → EachTick (IsAdvancingTick m) h)
+    → (IsBridgeless (IsNeighbour m) → WaitsAreBounded m h) → ticks ≡ clock h
     → IsEnd events most count full m h number ticks rests
-is-end m h number ticks count cs rests first told all events most full ran legal advancing tick = record {
+is-end m h number ticks count cs rests first told all events most full ran legal planned advancing bounded tick = record {
   first = first;
   legal = legal;
+  planned = planned;
   advancing = advancing;
+  bounded = bounded;
   tick = tick;
   posted = takes-posted h number count cs rests first told all events most full ran;
   all = takes-all h number count cs rests first told all events most full ran;

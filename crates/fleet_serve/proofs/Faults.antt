@@ -1,5 +1,5 @@
 -- When a serve answers a fault of its opening.
-use Rattle.std.proofs.Common.{◌≡◌, ◌∙◌, ℕ, inl, List, Result, Ok, Err, refl, sym, ap, subst}
+use Rattle.std.proofs.Common.{◌≡◌, ◌∙◌, ℕ, inl, List, Option, Some, None, Result, Ok, Err, refl, sym, ap, subst}
 use Rattle.std.specs.Prelude.{◌⊎◌, ◌↔◌, IfErr}
 use Rattle.fleet_grid.specs.Floor.{Floor}
 use Rattle.fleet_book.specs.declared.limits.Limits.{Limits}
@@ -10,9 +10,10 @@ use Rattle.fleet_calls.specs.declared.faults.OpenFault.TheVariants as open_fault
 use Rattle.fleet_calls.specs.Opening.{IsRefused, IsNamed}
 use Rattle.fleet_serve.specs.declared.served.ServeFault.{ServeFault}
 use Rattle.fleet_serve.specs.declared.served.ServeFault.TheVariants.{Opening, NoMemory}
-use Rattle.fleet_serve.specs.inside.Faults.{IsLater}
+use Rattle.fleet_office.specs.declared.report.TurnCause.{TurnCause}
+use Rattle.fleet_serve.specs.inside.Faults.{IsLater, fault_of}
 
--- a fault behind the opening is none of it
+-- a fault after the opening is none of it
 pub later-none : {S : Type 0} (r : Result S ServeFault) (f : OpenFault) → IfErr r (λ x. IsLater x) → r ≡ Err (Opening f) → ⊥
 later-none r f later is = subst (λ x. IfErr x (λ y. IsLater y)) is later
 
@@ -65,3 +66,34 @@ module _ (m : Floor) (starts others : List ℕ) (clients count : ℕ) (limits sa
   opens-ok {P} opened exact f why =
       let e : ◌≡◌ {A = Result P OpenFault} (Ok opened) (Err f) = (exact f (refused-named m starts clients limits laws f why)).1 (to-names f why) in
       absurd cc
+
+-- what turns that are refused for the tickers' cause come to
+pub record Refuses (f s stopped : Option TurnCause) (r : Result (Unit {0}) ServeFault) : Type 0 where
+  pub first : (cause : TurnCause) → f ≡ Some cause → stopped ≡ Some cause
+  pub second : f ≡ None → stopped ≡ s
+  pub refused : (cause : TurnCause) → stopped ≡ Some cause → r ≡ Err (fault_of cause)
+
+module _ (f s stopped : Option TurnCause) (r : Result (Unit {0}) ServeFault) (h : Refuses f s stopped r) where
+  unnamed : {P : Type 0} (u : Unit {0}) (cause : TurnCause) → r ≡ Ok u → stopped ≡ Some cause → P
+  unnamed {P} u cause is stop =
+      let both : ◌≡◌ {A = Result (Unit {0}) ServeFault} (Ok u) (Err (fault_of cause)) = sym is ∙ h.refused cause stop in
+      absurd cc
+
+  pub first-none : {P : Type 0} (u : Unit {0}) → r ≡ Ok u → (cause : TurnCause) → f ≡ Some cause → P
+  first-none u is cause own = unnamed u cause is (h.first cause own)
+
+  pub second-none : {P : Type 0} (u : Unit {0}) → r ≡ Ok u → (cause : TurnCause) → f ≡ None → s ≡ Some cause → P
+  second-none u is cause none own = unnamed u cause is (h.second none ∙ own)
+
+module _ {S : Type 0} (f s stopped : Option TurnCause) (r : Result (Unit {0}) ServeFault) (h : Refuses f s stopped r) where
+  named : (fault : ServeFault) (cause : TurnCause) → r ≡ Err fault → stopped ≡ Some cause → ◌≡◌ {A = Result S ServeFault} (Err fault) (Err (fault_of cause))
+  named fault cause is stop =
+      let both : ◌≡◌ {A = Result (Unit {0}) ServeFault} (Err fault) (Err (fault_of cause)) = sym is ∙ h.refused cause stop in
+      let same : fault ≡ fault_of cause = cc in
+      ap (λ (x : ServeFault). Err x) same
+
+  pub first-named : (fault : ServeFault) → r ≡ Err fault → (cause : TurnCause) → f ≡ Some cause → ◌≡◌ {A = Result S ServeFault} (Err fault) (Err (fault_of cause))
+  first-named fault is cause own = named fault cause is (h.first cause own)
+
+  pub second-named : (fault : ServeFault) → r ≡ Err fault → (cause : TurnCause) → f ≡ None → s ≡ Some cause → ◌≡◌ {A = Result S ServeFault} (Err fault) (Err (fault_of cause))
+  second-named fault is cause none own = named fault cause is (h.second none ∙ own)

@@ -1,7 +1,8 @@
 //! The turns that a serve makes when its threads have ended.
 
-ghost use Rattle.std.specs.Prelude.{IfErr};
-ghost use Rattle.fleet_serve.specs.inside.Faults.{IsLater};
+ghost use Rattle.std.specs.Prelude.{◌≡◌, Some, Err, IfErr};
+ghost use Rattle.fleet_office.specs.declared.report.TurnCause.{TurnCause};
+ghost use Rattle.fleet_serve.specs.inside.Faults.{IsLater, fault_of};
 
 use crate::names::ScriptName;
 use crate::ran::Ran;
@@ -15,7 +16,8 @@ const MOST_TURNS: u32 = 1_000_000;
 
 /// Why a serve ends with this fault of a turn.
 fn fault_of(cause: TurnCause) -> ServeFault
-    ensures { IsLater result }
+    ensures value { result ≡ fault_of cause }
+    ensures later { IsLater result }
 {
     match cause {
         TurnCause::ClockSpent => ServeFault::ClockSpent,
@@ -24,7 +26,7 @@ fn fault_of(cause: TurnCause) -> ServeFault
     }
 }
 
-/// A turn, and all clients collect behind it.
+/// A turn, after which all clients collect.
 fn turn<N: ScriptName, R: Alloc<A = Global> + Wait>(
     rt: &R,
     office: &Office<N>,
@@ -90,7 +92,8 @@ pub(crate) fn make_last_turns<N: ScriptName, R: Alloc<A = Global> + Wait>(
     ticker: &mut Ticker<N>,
     ran: &mut [Ran<N>],
 ) -> Result<(), ServeFault>
-    ensures { IfErr result (λ fault. IsLater fault) }
+    ensures later { IfErr result (λ fault. IsLater fault) }
+    ensures stopped { (cause : TurnCause) → stopped ≡ Some cause → result ≡ Err (fault_of cause) }
 {
     if let Some(cause) = stopped {
         return Err(fault_of(cause));

@@ -29,6 +29,7 @@ impl<N: ScriptName> Model for Newcomer<N> {
 }
 
 impl<N: ScriptName> Newcomer<N> {
+    /// A client that has sent nothing yet.
     pub fn new(guest: Guest<N>) -> Newcomer<N>
         requires fresh { guest.sent ≡ [] }
         requires orders { guest.orders ≡ N.orders }
@@ -55,10 +56,8 @@ pub(crate) fn newcomers_of<N: ScriptName>(
     requires on { AreOn N.rings (cores clients.items) }
     requires fresh { AreNew N.orders clients.items }
 {
-    let mut clients = clients;
     let mut newcomers = Vec::with_capacity(alloc, clients.len())?;
-    while !clients.is_empty() {
-        let client = clients.remove(0);
+    for client in clients {
         let guest = Guest::new(client);
         let newcomer = Newcomer::new(guest);
         newcomers.push_reserved(newcomer);

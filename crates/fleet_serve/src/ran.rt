@@ -43,6 +43,7 @@ fn collect_all<N: ScriptName>(guest: &mut Guest<N>)
 }
 
 impl<N: ScriptName> Ran<N> {
+    /// A client that has run its lines, and how many of its posts met a full lane.
     pub fn new(guest: Guest<N>, lane_full: u32) -> Ran<N>
         requires { HasRun N.events N.orders guest lane_full }
         ensures { result ≡ record { client = guest; lane_full = lane_full } }
@@ -82,11 +83,9 @@ pub(crate) fn clients_of<N: ScriptName>(
     ensures on { IfOk result (λ r. AreOn N.rings (cores r.0.items)) }
     ensures ran { IfOk result (λ r. AllHaveRun N.events N.orders r.0.items r.1) }
 {
-    let mut ran = ran;
     let mut lane_full = 0u32;
     let mut clients = Vec::with_capacity(alloc, ran.len())?;
-    while !ran.is_empty() {
-        let one = ran.remove(0);
+    for one in ran {
         lane_full = lane_full.saturating_add(one.lane_full());
         clients.push_reserved(one.into_guest().into_client());
     }

@@ -28,7 +28,7 @@ pub enum ServeFault {
     Drain,
     /// Memory was refused.
     NoMemory,
-    /// Not every client got its thread. Those that got one have ended.
+    /// A client's thread could not be started. The others have ended.
     NoThread,
 }
 

@@ -1,17 +1,20 @@
 //! A script is served: its clients and two tickers work at one office, and the office is concluded.
 
-ghost use Rattle.std.specs.Prelude.{◌≡◌, ◌<◌, ◌^◌, ◌⊎◌, length, Err, IfOk, IfErr};
+ghost use Rattle.std.specs.Prelude.{List, ◌≡◌, ◌<◌, ◌^◌, ◌⊎◌, length, Some, None, Err, IfOk, IfErr};
 ghost use Rattle.std.specs.List.{All};
 ghost use Rattle.fleet_grid.specs.Floor.{IsNeighbour};
 ghost use Rattle.fleet_grid.specs.Walk.{IsBridgeless};
 ghost use Rattle.fleet_history.specs.History.{history_of, clock};
 ghost use Rattle.fleet_history.specs.Legal.{IsLegal};
 ghost use Rattle.fleet_history.specs.Laws.{EachTick};
-ghost use Rattle.fleet_plan.specs.Planned.{IsAdvancingTick};
+ghost use Rattle.fleet_hooks.specs.declared.law.TieLaw.{TieLaw};
+ghost use Rattle.fleet_plan.specs.Planned.{IsPlanned, IsAdvancingTick};
+ghost use Rattle.fleet_bound.specs.Bound.{WaitsAreBounded};
 ghost use Rattle.fleet_core.specs.Hooks.{laws_of};
 ghost use Rattle.fleet_calls.specs.Opening.{IsNamed as IsNamedFault, IsRefused};
 ghost use Rattle.fleet_office.specs.Views.{AreOn, IsNamed, cores};
-ghost use Rattle.fleet_serve.specs.inside.Faults.{IsLater};
+ghost use Rattle.fleet_office.specs.declared.report.TurnCause.{TurnCause};
+ghost use Rattle.fleet_serve.specs.inside.Faults.{IsLater, fault_of};
 ghost use Rattle.fleet_serve.specs.inside.Ends.{IsEnd};
 ghost use Rattle.fleet_serve.specs.Posted.{IsLine, AreNew, AllHaveRun, TakesPosted, TakesAll, AreLastNotices};
 
@@ -19,7 +22,7 @@ use crate::draining::make_last_turns;
 use crate::gate::Gate;
 use crate::names::ScriptName;
 use crate::newcomer::newcomers_of;
-use crate::ran::clients_of;
+use crate::ran::{Ran, clients_of};
 use crate::served::{ServeFault, Served};
 use crate::shift::Shift;
 use crate::threads::{Home, work_all};
@@ -27,7 +30,7 @@ use fleet_calls::OpenFault;
 use fleet_grid::Grid;
 use fleet_hooks::Hooks;
 use fleet_lanes::Client;
-use fleet_office::{ConcludeFault, Desk, Office, Ticker};
+use fleet_office::{ConcludeFault, Desk, Office, Ticker, TurnCause};
 use fleet_script::Script;
 use std::alloc::{Alloc, AllocError, Global};
 use std::marker::Brand;
@@ -72,23 +75,51 @@ fn pair_of<N: ScriptName>(
 /// The clients of a drained office, how many of their posts met a full lane, and both tickers.
 type Rested<N> = (Vec<Client>, u32, Vec<Ticker<N>>);
 
-/// Makes the turns that are left when all threads have ended, with the first ticker.
+/// Why the tickers stopped early, if one did: the first one's cause comes first.
+fn first_cause(first: Option<TurnCause>, second: Option<TurnCause>) -> Option<TurnCause>
+    ensures first { (cause : TurnCause) → first ≡ Some cause → result ≡ Some cause }
+    ensures second { first ≡ None → result ≡ second }
+{
+    match first {
+        Some(cause) => Some(cause),
+        None => second,
+    }
+}
+
+/// What comes home after the last turn.
+fn rested<N: ScriptName>(
+    alloc: Global,
+    ran: Vec<Ran<N>>,
+    first: Ticker<N>,
+    second: Ticker<N>,
+) -> Result<Rested<N>, ServeFault>
+    ensures later { IfErr result (λ fault. IsLater fault) }
+    ensures on { IfOk result (λ r. AreOn N.rings (cores r.0.items)) }
+    ensures ran { IfOk result (λ r. AllHaveRun N.events N.orders r.0.items r.1) }
+{
+    let tickers = pair_of(alloc, first, second)?;
+    let (clients, lane_full) = clients_of(alloc, ran)?;
+    Ok((clients, lane_full, tickers))
+}
+
+/// Makes the turns that are left when all threads have ended, with the first ticker. None is made where a ticker stopped early.
 fn come_to_rest<N: ScriptName, R: Alloc<A = Global> + Wait>(
     rt: &R,
     office: &Office<N>,
     home: Home<N>,
 ) -> Result<Rested<N>, ServeFault>
     ensures later { IfErr result (λ fault. IsLater fault) }
+    ensures first { (cause : TurnCause) → home.1.stopped ≡ Some cause → result ≡ Err (fault_of cause) }
+    ensures second { (cause : TurnCause) → home.1.stopped ≡ None → home.2.stopped ≡ Some cause → result ≡ Err (fault_of cause) }
     ensures on { IfOk result (λ r. AreOn N.rings (cores r.0.items)) }
     ensures ran { IfOk result (λ r. AllHaveRun N.events N.orders r.0.items r.1) }
 {
-    let alloc = rt.alloc();
     let (mut ran, mut first, second) = home;
-    let stopped = first.stopped.or(second.stopped);
-    make_last_turns(rt, office, stopped, &mut first.ticker, ran.as_mut_slice())?;
-    let tickers = pair_of(alloc, first.ticker, second.ticker)?;
-    let (clients, lane_full) = clients_of(alloc, ran)?;
-    Ok((clients, lane_full, tickers))
+    let stopped = first_cause(first.stopped, second.stopped);
+    match make_last_turns(rt, office, stopped, &mut first.ticker, ran.as_mut_slice()) {
+        Ok(()) => rested(rt.alloc(), ran, first.ticker, second.ticker),
+        Err(fault) => Err(fault),
+    }
 }
 
 /// The drained office, concluded by the clients and the tickers that came home.
@@ -202,8 +233,9 @@ fn serve_at<
 /// each. Then one ticker makes turns until the lanes are empty and, on a bridgeless map, until nobody has an errand, while
 /// all clients collect; and the office is concluded.
 ///
-/// A post that meets a full lane is counted and not tried again; one of a client that closed, or that spent its numbers, sends
-/// nothing. `ServeFault` says which fault comes before which. What the clients collect is dropped.
+/// A post that meets a full lane is counted in `lane_full` and not tried again; one of a client that closed, or that spent its
+/// numbers, sends nothing and is not counted. `ServeFault` says which fault comes before which. What the clients collect is
+/// dropped.
 pub fn serve<R: Alloc<A = Global> + Threads + Sync + Wait, G: Gate + Sync>(
     rt: &R,
     grid: Grid,
@@ -219,7 +251,9 @@ pub fn serve<R: Alloc<A = Global> + Threads + Sync + Wait, G: Gate + Sync>(
         (result ≡ Err (ServeFault.Opening f)) ⊎ (result ≡ Err ServeFault.NoMemory) }
     ensures first { IfOk result (λ s. s.last.chapter.number ≡ 0) }
     ensures legal { IfOk result (λ s. IsLegal s.last.grid (history_of s.last.chapter)) }
+    ensures planned { IfOk result (λ s. (ties : List TieLaw) × EachTick (IsPlanned s.last.grid ties) (history_of s.last.chapter)) }
     ensures advancing { IfOk result (λ s. IsBridgeless (IsNeighbour s.last.grid) → EachTick (IsAdvancingTick s.last.grid) (history_of s.last.chapter)) }
+    ensures bounded { IfOk result (λ s. IsBridgeless (IsNeighbour s.last.grid) → WaitsAreBounded s.last.grid (history_of s.last.chapter)) }
     ensures tick { IfOk result (λ s. s.last.tick ≡ clock (history_of s.last.chapter)) }
     ensures posted { IfOk result (λ s. TakesPosted (history_of s.last.chapter) script.now.events.items script.now.clients) }
     ensures all { IfOk result (λ s. s.lane_full ≡ 0 → length script.now.events.items < script.now.limits.orders →

@@ -60,6 +60,7 @@ fn run_line<N: ScriptName, G: Gate>(
 }
 
 impl<'a, N: ScriptName, G: Gate> Shift<'a, N, G> {
+    /// The lines of a script, and the gate that is asked before each of them.
     pub fn new(events: &'a [Event], gate: &'a G) -> Shift<'a, N, G>
         requires { events.now ≡ N.events }
     {
@@ -74,7 +75,7 @@ impl<'a, N: ScriptName, G: Gate> Shift<'a, N, G> {
     pub fn run(&self, newcomer: Newcomer<N>) -> Ran<N> {
         let mut guest = newcomer.into_guest();
         let mut lane_full = 0;
-        // the client's lines so far, fewer than there are numbers
+        // The client's lines so far. The counter cannot overflow: a script has fewer than 2^32 lines.
         let mut line = 0u32;
         for at in 0..self.events.len() {
             let event = self.events[at];

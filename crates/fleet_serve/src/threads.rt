@@ -10,7 +10,7 @@ use crate::ran::Ran;
 use crate::served::ServeFault;
 use crate::shift::Shift;
 use fleet_office::{Office, Ticker, TurnCause, side_by_side};
-use std::alloc::{Alloc, Global};
+use std::alloc::{Alloc, AllocError, Global};
 use std::sync::Wait;
 use std::thread;
 use std::thread::{Threads, join};
@@ -61,6 +61,39 @@ fn tick_both<N: ScriptName + Send + Sync, R: Alloc<A = Global> + Threads + Sync 
     )
 }
 
+/// A thread for each client, which runs its lines. All threads that were started have ended when it returns, also where one
+/// could not be started.
+fn run_all<
+    N: ScriptName + Send + Sync,
+    R: Alloc<A = Global> + Threads + Sync + Wait,
+    G: Gate + Sync,
+>(rt: &R, newcomers: Vec<Newcomer<N>>, shift: &Shift<'_, N, G>) -> Result<Vec<Ran<N>>, ServeFault>
+    ensures { IfErr result (λ fault. IsLater fault) }
+{
+    let mut threads = Vec::new(rt.alloc());
+    let started = thread::scope(thread::scope_env(), rt, |scope| {
+        for newcomer in newcomers {
+            let Ok(thread) = scope.spawn(move || shift.run(newcomer)) else {
+                return Err(ServeFault::NoThread);
+            };
+            if let Err(refused) = threads.push(thread) {
+                return Err(AllocError::from(refused).into());
+            }
+        }
+        Ok(())
+    });
+    match started {
+        Ok(()) => {}
+        Err(ServeFault::NoMemory) => return Err(ServeFault::NoMemory),
+        Err(_) => return Err(ServeFault::NoThread),
+    }
+    let mut ran = Vec::with_capacity(rt.alloc(), threads.len())?;
+    for thread in threads {
+        ran.push_reserved(thread.join(rt));
+    }
+    Ok(ran)
+}
+
 /// The clients that have run their lines.
 pub(crate) type Home<N> = (Vec<Ran<N>>, Shifted<N>, Shifted<N>);
 
@@ -82,11 +115,8 @@ pub(crate) fn work_all<
     let (first, second) = tickers;
     let (ran, (first, second)) = join(
         rt,
-        || thread::map_vec(rt, newcomers, &|newcomer| shift.run(newcomer)),
+        || run_all(rt, newcomers, shift),
         || tick_both(rt, office, first, second, turns),
     );
-    match ran {
-        Ok(ran) => Ok((ran, first, second)),
-        Err(_) => Err(ServeFault::NoThread),
-    }
+    Ok((ran?, first, second))
 }

@@ -8,7 +8,9 @@ use Rattle.fleet_grid.specs.Walk.{IsBridgeless}
 use Rattle.fleet_history.specs.History.{History, clock}
 use Rattle.fleet_history.specs.Legal.{IsLegal}
 use Rattle.fleet_history.specs.Laws.{EachTick}
-use Rattle.fleet_plan.specs.Planned.{IsAdvancingTick}
+use Rattle.fleet_hooks.specs.declared.law.TieLaw.{TieLaw}
+use Rattle.fleet_plan.specs.Planned.{IsPlanned, IsAdvancingTick}
+use Rattle.fleet_bound.specs.Bound.{WaitsAreBounded}
 use Rattle.fleet_serve.specs.Posted.{TakesPosted, TakesAll, AreLastNotices}
 
 -- the end of a serve of these events by so many clients, each of which may send so many orders: the map, the history and the
@@ -16,7 +18,10 @@ use Rattle.fleet_serve.specs.Posted.{TakesPosted, TakesAll, AreLastNotices}
 pub record IsEnd (events : List Event) (most clients lane_full : ℕ) (m : Floor) (h : History Global) (number ticks : ℕ) (rests : List (Vec Notice Global)) : Type 0 where
   pub first : number ≡ 0
   pub legal : IsLegal m h
+  -- each tick is planned, by the laws of some tie closures
+  pub planned : (ties : List TieLaw) × EachTick (IsPlanned m ties) h
   pub advancing : IsBridgeless (IsNeighbour m) → EachTick (IsAdvancingTick m) h
+  pub bounded : IsBridgeless (IsNeighbour m) → WaitsAreBounded m h
   pub tick : ticks ≡ clock h
   pub posted : TakesPosted h events clients
   pub all : lane_full ≡ 0 → length events < most → TakesAll h events clients

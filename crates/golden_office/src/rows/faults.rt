@@ -129,3 +129,51 @@ pub(crate) const SMALL_MAILBOX: Case<'static> = Case {
     ],
     ..TWO_CELLS
 };
+
+/// A turn that took `lane` orders holds nobody, though the mailbox has no room for another.
+pub(crate) const FULL_TURN: Case<'static> = Case {
+    name: "office_full_turn",
+    limits: Limits {
+        lane: 1,
+        mailbox: 2,
+        ..Limits::DEFAULT
+    },
+    steps: &[Step::Post(0, TO_1), Step::Turn(0)],
+    ..TWO_CELLS
+};
+
+/// The clock is spent and the chapter full: the clock is named.
+pub(crate) const CLOCK_FIRST: Case<'static> = Case {
+    name: "office_clock_first",
+    limits: Limits {
+        clock: 1,
+        chapter: 1,
+        ..Limits::DEFAULT
+    },
+    steps: &[Step::Turn(0), Step::Turn(0)],
+    ..TWO_CELLS
+};
+
+/// A refused end widens the mailbox for the orders that were left in the lane, and for no further ones.
+pub(crate) const WIDER_MAILBOX: Case<'static> = Case {
+    name: "office_wider_mailbox",
+    limits: Limits {
+        mailbox: 2,
+        outlet: 1,
+        chapter: 4,
+        chapters: 2,
+        ..Limits::DEFAULT
+    },
+    steps: &[
+        Step::Post(0, TO_1),
+        Step::Post(0, TO_1),
+        Step::Post(0, TO_1),
+        Step::Post(0, TO_1),
+        Step::Post(0, TO_1),
+        Step::Conclude(1, 1),
+        Step::NextChapter,
+        Step::Post(0, TO_1),
+        Step::Turn(0),
+    ],
+    ..TWO_CELLS
+};

@@ -76,7 +76,7 @@ pub(crate) fn play_hall<N: OfficeName<A>, A: Allocator + Copy, R: Alloc<A = A>>(
         Ok((mut hall, clients, mut ticker)) => {
             let played = match guests_of::<N, A>(rt.alloc(), clients) {
                 Ok(mut guests) => play_steps(rt, &mut hall, &mut ticker, &mut guests, steps, told),
-                Err(AllocError) => Err(AllocError),
+                Err(_clients) => Err(AllocError),
             };
             mem::drop(hall);
             Ok(Ok(played?))

@@ -40,8 +40,10 @@ fn seated<N: OfficeName<A>, A: Allocator + Copy>(
 {
     let mut tickers = Vec::with_capacity(alloc, 1)?;
     tickers.push_reserved(ticker);
-    let guests = guests_of::<N, A>(alloc, clients)?;
-    Ok((guests, tickers))
+    match guests_of::<N, A>(alloc, clients) {
+        Ok(guests) => Ok((guests, tickers)),
+        Err(_clients) => Err(AllocError),
+    }
 }
 
 /// Opens an office.
@@ -139,9 +141,11 @@ fn come_back<N: OfficeName<A>, A: Allocator + Copy>(
         tickers,
     } = home;
     mem::drop(stage.office.replace(office));
-    let guests = guests_of::<N, A>(alloc, clients);
     put_back(&mut stage.tickers, tickers)?;
-    put_back(&mut stage.guests, guests?)
+    match guests_of::<N, A>(alloc, clients) {
+        Ok(guests) => put_back(&mut stage.guests, guests),
+        Err(_clients) => Err(AllocError),
+    }
 }
 
 /// The first so many guests as clients, and the first so many tickers.
@@ -154,7 +158,10 @@ fn handed_in<N: OfficeName<A>, A: Allocator + Copy>(
 {
     let tickers = taken_from(&mut stage.tickers, handed.1)?;
     let guests = taken_from(&mut stage.guests, handed.0)?;
-    Ok((clients_of::<N, A>(alloc, guests)?, tickers))
+    match clients_of::<N, A>(alloc, guests) {
+        Ok(clients) => Ok((clients, tickers)),
+        Err(_guests) => Err(AllocError),
+    }
 }
 
 /// Concludes with the first so many clients and tickers. After a fault all is on the stage again.

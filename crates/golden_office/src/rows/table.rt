@@ -2,8 +2,8 @@
 
 use crate::rows::case::{Case, HallStep, Step};
 use crate::rows::faults::{
-    FULL_CHAPTER, IDLE_TICKER, MISSING_CLIENT, NEXT_CHAPTER, SECOND_CLIENT, SMALL_MAILBOX,
-    SMALL_OUTLET, SPENT_CLOCK, TWO_TICKERS,
+    CLOCK_FIRST, FULL_CHAPTER, FULL_TURN, IDLE_TICKER, MISSING_CLIENT, NEXT_CHAPTER, SECOND_CLIENT,
+    SMALL_MAILBOX, SMALL_OUTLET, SPENT_CLOCK, TWO_TICKERS, WIDER_MAILBOX,
 };
 use fleet_book::{Limits, Order};
 
@@ -194,7 +194,7 @@ const RING_OF_EIGHT: Case<'static> = Case {
 };
 
 /// The rows, in their order.
-const ROWS: [Case<'static>; 18] = [
+const ROWS: [Case<'static>; 21] = [
     BACK_PRESSURE,
     BACK_PRESSURE_IN_HALL,
     LANE_OF_TWO,
@@ -210,6 +210,9 @@ const ROWS: [Case<'static>; 18] = [
     SECOND_CLIENT,
     FULL_CHAPTER,
     SMALL_MAILBOX,
+    FULL_TURN,
+    CLOCK_FIRST,
+    WIDER_MAILBOX,
     TWO_CHAPTERS,
     RING_OF_EIGHT,
     THOUSAND_ROUNDS,

@@ -18,6 +18,7 @@ pub(crate) struct Came {
     pub(crate) posts: u64,
     /// Posts that met a full lane.
     pub(crate) lane_full: u64,
+    pub(crate) ticks: u64,
     /// Orders taken, errands accepted and withdrawn, and arrivals.
     pub(crate) takes: u64,
     pub(crate) accepted: u64,
@@ -137,6 +138,7 @@ impl Came {
             lines: script.events.len() as u64,
             posts: posts_of(&script.events),
             lane_full: u64::from(served.lane_full),
+            ticks: last.tick,
             takes: 0,
             accepted: 0,
             withdrawn: 0,
@@ -176,7 +178,7 @@ impl Came {
             .saturating_sub(self.withdrawn)
     }
 
-    /// Whether each of the script's posts, none of which stands behind a close of its client, is accounted for.
+    /// Whether each of the script's posts, none of which stands after a close of its client, is accounted for.
     pub(crate) fn is_accounted(&self) -> bool {
         self.told && self.takes.saturating_add(self.lane_full) == self.posts
     }

@@ -1,5 +1,7 @@
 //! What holds the clients' threads of a row, and the closure that holds a tick.
 
+ghost use Rattle.std.specs.Prelude.{◌<◌};
+
 use crate::waiting::wait_for;
 use fleet_serve::Gate;
 use std::sync::atomic::{AtomicU64, Ordering};
@@ -18,8 +20,8 @@ pub(crate) enum Hold {
 #[derive(Drop)]
 pub(crate) struct Flags {
     hold: Hold,
-    /// The first lines that were reached.
-    first: AtomicU64,
+    /// Whether each of two clients reached its first line.
+    first: [AtomicU64; 2],
     /// The third lines that were reached.
     third: AtomicU64,
     /// Whether a tie closure was called.
@@ -32,7 +34,7 @@ impl Flags {
     pub(crate) fn new(hold: Hold) -> Flags {
         Flags {
             hold,
-            first: AtomicU64::new(0),
+            first: [AtomicU64::new(0), AtomicU64::new(0)],
             third: AtomicU64::new(0),
             called: AtomicU64::new(0),
             missed: AtomicU64::new(0),
@@ -44,6 +46,14 @@ impl Flags {
         if !wait_for(flag, least) {
             self.missed.fetch_add(1, Ordering::SeqCst);
         }
+    }
+
+    /// The first line of one of two clients, which waits until the other's is reached.
+    fn meet(&self, own: usize, other: usize)
+        requires { (own < 2) × (other < 2) }
+    {
+        self.first[own].store(1, Ordering::SeqCst);
+        self.wait_for(&self.first[other], 1);
     }
 
     /// What a tie closure does: where a tick is held, its first call waits.
@@ -61,14 +71,12 @@ impl Flags {
 }
 
 impl Gate for Flags {
-    fn before(&self, _client: u32, line: u32) {
-        match (self.hold, line) {
-            (Hold::FirstLines, 1) => {
-                self.first.fetch_add(1, Ordering::SeqCst);
-                self.wait_for(&self.first, 2);
-            }
-            (Hold::LineAndTick, 1) => self.wait_for(&self.called, 1),
-            (Hold::LineAndTick, 3) => self.third.store(1, Ordering::SeqCst),
+    fn before(&self, client: u32, line: u32) {
+        match (self.hold, client, line) {
+            (Hold::FirstLines, 0, 1) => self.meet(0, 1),
+            (Hold::FirstLines, 1, 1) => self.meet(1, 0),
+            (Hold::LineAndTick, 0, 1) => self.wait_for(&self.called, 1),
+            (Hold::LineAndTick, 0, 3) => self.third.store(1, Ordering::SeqCst),
             _ => {}
         }
     }

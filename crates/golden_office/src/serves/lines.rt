@@ -21,6 +21,7 @@ fn tell_fact(fact: Fact, came: &Came, met: bool, told: &mut String) -> Result<()
         Fact::Takes => (" takes ", Some(came.takes)),
         Fact::Arrivals => (" arrivals ", Some(came.arrivals)),
         Fact::Unfinished => (" unfinished ", Some(came.unfinished())),
+        Fact::Ticks => (" ticks ", Some(came.ticks)),
         Fact::Held if met => (" met", None),
         Fact::Held => (" missed", None),
         Fact::SameMap if came.same_map => (" its map", None),

@@ -12,6 +12,7 @@ pub(crate) enum Fact {
     Takes,
     Arrivals,
     Unfinished,
+    Ticks,
     SameMap,
     Legal,
     Told,
@@ -90,12 +91,78 @@ const CLOCK_SPENT: Row = Row {
     ..STANDOFF
 };
 
+/// A post after the client's Close sends nothing, and meets no full lane.
+const AFTER_CLOSE: Row = Row {
+    name: "post_after_close",
+    yard: TWO_CELLS,
+    script: b"robots 0\nturns 1\npost 0 close\npost 0 go 0 1\n",
+    hold: Hold::Nobody,
+    facts: &[Fact::LaneFull, Fact::Takes, Fact::Legal, Fact::Told],
+};
+
+/// Nor does a post of a client that has no number left for it.
+const NUMBERS_SPENT: Row = Row {
+    name: "numbers_spent",
+    script: b"robots 0\nturns 1\norders 2\npost 0 go 0 1\npost 0 go 0 1\n",
+    ..AFTER_CLOSE
+};
+
+/// An outlet of one notice: the lane is emptied as the client collects.
+const SMALL_OUTLET: Row = Row {
+    name: "small_outlet",
+    yard: RING,
+    script: b"robots 0\nturns 1\noutlet 1\nmailbox 2\npost 0 go 0 0\npost 0 go 0 0\npost 0 go 0 0\npost 0 go 0 0\n",
+    hold: Hold::Nobody,
+    facts: &[Fact::Takes, Fact::Arrivals, Fact::Legal, Fact::Told],
+};
+
+/// Two tickers with three turns each, and one further turn that takes nothing.
+const THREE_TURNS: Row = Row {
+    name: "three_turns",
+    yard: TWO_CELLS,
+    script: b"robots 0\nturns 3\n",
+    hold: Hold::Nobody,
+    facts: &[Fact::Takes, Fact::Ticks, Fact::Legal],
+};
+
+/// The further turns end as soon as nobody has an errand: a walk of four steps is done within six ticks.
+const IDLE_IN_TIME: Row = Row {
+    name: "idle_in_time",
+    yard: RING,
+    script: b"robots 0\nturns 1\nclock 6\npost 0 go 0 8\n",
+    hold: Hold::Nobody,
+    facts: &[Fact::Arrivals, Fact::Unfinished, Fact::Legal, Fact::Told],
+};
+
+/// Both tickers' ticks fill the chapter, and the next one is refused.
+const CHAPTER_FULL: Row = Row {
+    name: "chapter_full",
+    yard: TWO_CELLS,
+    script: b"robots 0\nturns 1\nchapter 2\n",
+    hold: Hold::Nobody,
+    facts: &[Fact::Takes],
+};
+
+/// A clock that ends after 100,000 ticks: the further turns are not given up before.
+const CLOCK_SPENT_LATE: Row = Row {
+    name: "clock_spent_late",
+    script: b"robots 0 2\nturns 1\nmailbox 2\nclock 100000\nchapter 2000000\npost 0 go 0 2\npost 0 go 1 0\n",
+    ..STANDOFF
+};
+
 /// All rows.
-pub(crate) const ROWS: [Row; 6] = [
+pub(crate) const ROWS: [Row; 13] = [
     SIDE_BY_SIDE,
     LANE_OF_ONE,
     IDLE_AT_THE_END,
     STANDOFF,
     NEVER_DRAINED,
     CLOCK_SPENT,
+    AFTER_CLOSE,
+    NUMBERS_SPENT,
+    SMALL_OUTLET,
+    THREE_TURNS,
+    IDLE_IN_TIME,
+    CHAPTER_FULL,
+    CLOCK_SPENT_LATE,
 ];

@@ -92,9 +92,14 @@ fn home_from<N: OfficeName<Global> + Send + Sync, R: Alloc<A = Global> + Threads
     requires { AreOn N.rings (cores clients.items) }
     ensures { IfOk result (λ home. AreOn N.rings (cores home.0.items)) }
 {
-    let mut guests = guests_of::<N, Global>(rt.alloc(), clients)?;
+    let Ok(mut guests) = guests_of::<N, Global>(rt.alloc(), clients) else {
+        return Err(AllocError);
+    };
     let tickers = work_in(rt, office, guests.as_mut_slice(), ticker, shared)?;
-    Ok((clients_of::<N, Global>(rt.alloc(), guests)?, tickers))
+    match clients_of::<N, Global>(rt.alloc(), guests) {
+        Ok(clients) => Ok((clients, tickers)),
+        Err(_guests) => Err(AllocError),
+    }
 }
 
 /// Lets the clients and two tickers work in an office, and concludes.

@@ -1,27 +1,30 @@
-use Rattle.std.proofs.Common.{◌≡◌, ◌<◌, length, arith, subst, sym}
+use Rattle.std.proofs.Common.{◌≡◌, ◌∷◌, length, sym, subst, ap, ◌∙◌, arith}
+use Rattle.std.specs.Vec.Iter.{into_iter_items}
 use Rattle.fleet_office.specs.Views.{AreOn, cores}
-use Rattle.fleet_office.proofs.Guests.{on_push, moves_on, all_moved, said_empty}
+use Rattle.fleet_office.proofs.Guests.{on_push, moves_on, all_moved}
 use Rattle.fleet_office.proofs.guest.clients_of.Goals as goal
 
 pub push_reserved-requires : goal.push_reserved-requires
-push_reserved-requires g c = omega (arith, c.remove.ensures.len, c.loop-clients.invariant.2)
+push_reserved-requires g c = omega (arith, c.in-Some.ensures.steps.1, c.loop-guest.invariant.3)
 
-pub loop-clients-preserved : goal.loop-clients-preserved
-loop-clients-preserved g c =
-    let i = c.loop-clients.invariant in
-    let left = c.loop-clients.guests in
-    let moved = c.loop-clients.clients.items in
+pub loop-guest-preserved : goal.loop-guest-preserved
+loop-guest-preserved g c =
+    let at = c.loop-guest in
+    let i = at.invariant in
+    let s = c.in-Some.ensures.steps in
+    let steps : into_iter_items at.guest-iterator ≡ c.in-Some.guest ∷ into_iter_items c.next.new.self = s.0 in
     let client = c.into_client.result in
-    let r = c.remove.ensures in
-    let p = c.push_reserved.ensures in
-    let some : 0 < length left.items = omega (arith, r.len, left.ok.0) in (
-      subst (λ xs. AreOn g.N.OfficeName.rings (cores xs)) (sym p.items) (on_push g.N.OfficeName.rings moved client i.0 c.into_client.ensures.on),
-      moves_on moved left.items c.args.guests.items c.push_reserved.new.self.items c.remove.new.self.items c.remove.result client some r.value c.into_client.ensures.same r.items p.items i.1,
-      omega (arith, r.len, p.len, p.capacity, i.2),
+    let p = c.push_reserved.ensures in (
+      subst (λ xs. AreOn g.N.OfficeName.rings (cores xs)) (sym p.items) (on_push g.N.OfficeName.rings at.clients.items client i.0 c.into_client.ensures.on),
+      moves_on at.clients.items c.push_reserved.new.self.items (into_iter_items at.guest-iterator) (into_iter_items c.next.new.self) c.args.guests.items c.in-Some.guest client steps c.into_client.ensures.same p.items i.1,
+      omega (arith, s.1, ap length steps, i.2),
+      omega (arith, s.1, p.len, p.capacity, i.3),
     )
 
-pub returns : goal.returns
-returns g c =
-    let left = c.loop-clients.guests in
-    let none : length left.items ≡ 0 = said_empty c.is_empty.result left.len (length left.items) c.is_empty.ensures c.loop-clients-test.false left.ok.0 in
-    record { on = c.loop-clients.invariant.0; all = all_moved c.loop-clients.clients.items c.loop-clients.guests.items c.args.guests.items none c.loop-clients.invariant.1 }
+pub returns-clause-on : goal.returns-clause-on
+returns-clause-on g c = c.loop-guest.invariant.0
+
+pub returns-clause-all : goal.returns-clause-all
+returns-clause-all g c =
+    let at = c.loop-guest in
+    all_moved at.clients.items (into_iter_items at.guest-iterator) c.args.guests.items (sym at.invariant.2 ∙ c.in-None.ensures.steps.0) at.invariant.1

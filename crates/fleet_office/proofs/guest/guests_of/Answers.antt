@@ -1,30 +1,30 @@
-use Rattle.std.proofs.Common.{◌≡◌, ◌<◌, length, arith}
-use Rattle.fleet_office.proofs.Guests.{on_first, on_rest, moves_on, all_moved, said_empty}
+use Rattle.std.proofs.Common.{◌≡◌, ◌∷◌, length, sym, ap, ◌∙◌, arith}
+use Rattle.std.specs.Vec.Iter.{into_iter_items}
+use Rattle.fleet_office.proofs.Guests.{on_head, on_tail, moves_on, all_moved}
 use Rattle.fleet_office.proofs.guest.guests_of.Goals as goal
 
 pub new-requires : goal.new-requires
 new-requires g c =
-    let left = c.loop-clients.clients in
-    let r = c.remove-client.ensures in
-    on_first g.N.OfficeName.rings left.items c.remove-client.result (omega (arith, r.len, left.ok.0)) r.value c.loop-clients.invariant.0
+    let at = c.loop-client in
+    on_head g.N.OfficeName.rings (into_iter_items at.client-iterator) (into_iter_items c.next.new.self) c.in-Some.client c.in-Some.ensures.steps.0 at.invariant.0
 
 pub push_reserved-requires : goal.push_reserved-requires
-push_reserved-requires g c = omega (arith, c.remove-client.ensures.len, c.loop-clients.invariant.2)
+push_reserved-requires g c = omega (arith, c.in-Some.ensures.steps.1, c.loop-client.invariant.3)
 
-pub loop-clients-preserved : goal.loop-clients-preserved
-loop-clients-preserved g c =
-    let i = c.loop-clients.invariant in
-    let left = c.loop-clients.clients in
-    let r = c.remove-client.ensures in
-    let p = c.push_reserved.ensures in
-    let some : 0 < length left.items = omega (arith, r.len, left.ok.0) in (
-      rw r.items (on_rest g.N.OfficeName.rings left.items i.0),
-      moves_on c.loop-clients.guests.items left.items c.args.clients.items c.push_reserved.new.self.items c.remove-client.new.self.items c.remove-client.result c.new.result some r.value c.new.ensures r.items p.items i.1,
-      omega (arith, r.len, p.len, p.capacity, i.2),
+pub loop-client-preserved : goal.loop-client-preserved
+loop-client-preserved g c =
+    let at = c.loop-client in
+    let i = at.invariant in
+    let s = c.in-Some.ensures.steps in
+    let steps : into_iter_items at.client-iterator ≡ c.in-Some.client ∷ into_iter_items c.next.new.self = s.0 in
+    let p = c.push_reserved.ensures in (
+      on_tail g.N.OfficeName.rings (into_iter_items at.client-iterator) (into_iter_items c.next.new.self) c.in-Some.client steps i.0,
+      moves_on at.guests.items c.push_reserved.new.self.items (into_iter_items at.client-iterator) (into_iter_items c.next.new.self) c.args.clients.items c.in-Some.client c.new.result steps c.new.ensures p.items i.1,
+      omega (arith, s.1, ap length steps, i.2),
+      omega (arith, s.1, p.len, p.capacity, i.3),
     )
 
-pub returns : goal.returns
-returns g c =
-    let left = c.loop-clients.clients in
-    let none : length left.items ≡ 0 = said_empty c.is_empty.result left.len (length left.items) c.is_empty.ensures c.loop-clients-test.false left.ok.0 in
-    record { all = all_moved c.loop-clients.guests.items c.loop-clients.clients.items c.args.clients.items none c.loop-clients.invariant.1 }
+pub returns-clause-all : goal.returns-clause-all
+returns-clause-all g c =
+    let at = c.loop-client in
+    all_moved at.guests.items (into_iter_items at.client-iterator) c.args.clients.items (sym at.invariant.2 ∙ c.in-None.ensures.steps.0) at.invariant.1

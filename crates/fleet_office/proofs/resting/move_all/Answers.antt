@@ -1,4 +1,4 @@
-use Rattle.std.proofs.Common.{ℕ, ◌≡◌, ◌+◌, ◌≤◌, ◌++◌, List, [], length, get_or, set, vec_len, ap, ◌∙◌, arith, length-append}
+use Rattle.std.proofs.Common.{ℕ, ◌≡◌, ◌++◌, List, [], length, get_or, set, ap, ◌∙◌, arith, length-append}
 use Rattle.std.specs.Prelude.{vec_capacity, Vec, slice_get, Some}
 use Rattle.std.proofs.lemmas.Option.{get_or_from_slice_get, slice_get_within}
 use Rattle.fleet_core.specs.Core.{pending}

@@ -1,4 +1,4 @@
-use Rattle.std.proofs.Common.{refl, arith}
+use Rattle.std.proofs.Common.{arith}
 use Rattle.fleet_office.proofs.ticker.ticks_of_all.Goals as goal
 
 pub returns-then-made-clock-clause-value : goal.returns-then-made-clock-clause-value

@@ -1,14 +1,12 @@
-use Rattle.std.proofs.Common.{◌+◌, ◌≤◌, length, vec_len}
+use Rattle.std.proofs.Common.{◌+◌, ◌≤◌, vec_len}
 use Rattle.std.specs.Vec.{vec_capacity}
+use Rattle.std.specs.Vec.Iter.{into_iter_items, into_iter_len}
 use Rattle.fleet_office.specs.Views.{AreOn, cores}
 use Rattle.fleet_serve.specs.Posted.{AreNew}
 use Rattle.fleet_serve.proofs.newcomer.newcomers_of.Given as goal
 
-abbrev pub invariant-loop-clients : goal.invariant-loop-clients
-invariant-loop-clients g l =
-    AreOn g.N.OfficeName.rings (cores l.clients.items)
-    × AreNew g.N.ScriptName.orders l.clients.items
-    × (vec_len l.newcomers + vec_len l.clients ≤ vec_capacity l.newcomers)
-
-abbrev pub decreases-loop-clients : goal.decreases-loop-clients
-decreases-loop-clients g l = length l.clients.items
+abbrev pub invariant-loop-client : goal.invariant-loop-client
+invariant-loop-client g l =
+    AreOn g.N.OfficeName.rings (cores (into_iter_items l.client-iterator))
+    × AreNew g.N.ScriptName.orders (into_iter_items l.client-iterator)
+    × (vec_len l.newcomers + into_iter_len l.client-iterator ≤ vec_capacity l.newcomers)

@@ -26,6 +26,12 @@ returns-in-Ok-clause-legal g c = on_ok c.serve_at.result c.serve_at.ensures.ende
 pub returns-in-Ok-clause-advancing : goal.returns-in-Ok-clause-advancing
 returns-in-Ok-clause-advancing g c = on_ok c.serve_at.result c.serve_at.ensures.ended (λ s e. e.advancing)
 
+pub returns-in-Ok-clause-planned : goal.returns-in-Ok-clause-planned
+returns-in-Ok-clause-planned g c = on_ok c.serve_at.result c.serve_at.ensures.ended (λ s e. e.planned)
+
+pub returns-in-Ok-clause-bounded : goal.returns-in-Ok-clause-bounded
+returns-in-Ok-clause-bounded g c = on_ok c.serve_at.result c.serve_at.ensures.ended (λ s e. e.bounded)
+
 pub returns-in-Ok-clause-tick : goal.returns-in-Ok-clause-tick
 returns-in-Ok-clause-tick g c = on_ok c.serve_at.result c.serve_at.ensures.ended (λ s e. e.tick)
 
@@ -46,6 +52,12 @@ returns-in-Err-Limits-clause-legal g c = tt
 
 pub returns-in-Err-Limits-clause-advancing : goal.returns-in-Err-Limits-clause-advancing
 returns-in-Err-Limits-clause-advancing g c = tt
+
+pub returns-in-Err-Limits-clause-planned : goal.returns-in-Err-Limits-clause-planned
+returns-in-Err-Limits-clause-planned g c = tt
+
+pub returns-in-Err-Limits-clause-bounded : goal.returns-in-Err-Limits-clause-bounded
+returns-in-Err-Limits-clause-bounded g c = tt
 
 pub returns-in-Err-Limits-clause-tick : goal.returns-in-Err-Limits-clause-tick
 returns-in-Err-Limits-clause-tick g c = tt

@@ -8,6 +8,7 @@ returns g c = record {
   legal = c.next_chapter.ensures.legal;
   planned = c.next_chapter.ensures.planned;
   advancing = c.next_chapter.ensures.advancing;
+  bounded = c.next_chapter.ensures.bounded;
   next = c.next_chapter.ensures.next;
   err = c.next_chapter.ensures.err;
 }

@@ -1,14 +1,22 @@
-use Rattle.std.proofs.Common.{◌≡◌, length, sym, ap, ◌∙◌, subst, arith, inl, inr}
+use Rattle.std.proofs.Common.{ℕ, List, ◌≡◌, length, sym, ap, ◌∙◌, subst, arith, inl, inr}
 use Rattle.fleet_history.specs.History.{history_of, clock}
 use Rattle.fleet_history.specs.Laws.{EachTick}
 use Rattle.fleet_plan.specs.Planned.{IsPlanned}
-use Rattle.fleet_office.specs.Views.{AreOn, AreDistinct, AreSettled, cores}
+use Rattle.fleet_core.specs.Core.{World}
+use Rattle.fleet_office.specs.Hall.{HallView}
+use Rattle.fleet_office.specs.Views.{ClientCore, AreOn, AreDistinct, AreSettled, cores}
 use Rattle.fleet_office.specs.Draining.{DrainsFirst}
 use Rattle.fleet_office.specs.inside.Rests.{AreRooms}
-use Rattle.fleet_office.specs.Concluded.{AreHome, IsAway, DrainsPart, AreTold}
+use Rattle.fleet_office.specs.Concluded.{AreHome, IsAway, IsMet, AreTold}
 use Rattle.fleet_office.proofs.Settling.{first_frame, lent_back}
 use Rattle.fleet_office.proofs.Ended.{told-same}
 use Rattle.fleet_office.proofs.conclude.Hall+N+A.conclude.Goals as goal
+
+-- lanes that were emptied from the hall and the clients as they were handed in
+begun_with : {A : Type 0} (count : ℕ) (seen hall : HallView A) (cs items : List (ClientCore A)) (last : World A) → seen ≡ hall → cs ≡ items →
+    DrainsFirst count seen.ends cs seen.world last → DrainsFirst count hall.ends items hall.world last
+begun_with count seen hall cs items last same clients drains =
+    subst (λ xs. DrainsFirst count hall.ends xs hall.world last) clients (subst (λ v. DrainsFirst count v.ends cs v.world last) same drains)
 
 pub come_to_rest-requires-clause-on : goal.come_to_rest-requires-clause-on
 come_to_rest-requires-clause-on g c =
@@ -27,8 +35,13 @@ returns-in-Err-come_to_rest-clause-err g c =
     let a = c.as_slice.ensures.value in
     let home : AreHome count c.args.clients.items c.args.tickers.items (clock c.args.self.rest.world.history) =
     subst (λ xs. AreHome count xs c.args.tickers.items (clock c.args.self.rest.world.history)) a c.in_default.ensures.ok in
-    let f = c.in-Err-come_to_rest.ensures in
-    inr (home, (c.come_to_rest.new.self.world, subst (λ v. DrainsPart count v.world c.come_to_rest.new.self.world) c.see_home.ensures.same f.part, f.err))
+    let last = c.come_to_rest.new.self.world in
+    let clients = ap cores c.as_mut_slice.ensures.value in
+    let same = c.see_home.ensures.same in
+    let met : IsMet count c.args.self.rest.ends (cores c.args.clients.items) c.args.self.rest.world last c.in-Err-come_to_rest.fault =
+    subst (λ xs. IsMet count c.args.self.rest.ends xs c.args.self.rest.world last c.in-Err-come_to_rest.fault) clients
+    (subst (λ v. IsMet count v.ends (cores c.as_mut_slice.result.now) v.world last c.in-Err-come_to_rest.fault) same c.in-Err-come_to_rest.ensures.err) in
+    inr (home, (last, met))
 
 pub returns-in-Err-come_to_rest-clause-back : goal.returns-in-Err-come_to_rest-clause-back
 returns-in-Err-come_to_rest-clause-back g c =
@@ -77,8 +90,10 @@ returns-clause-drains g c =
     let count = length g.N.OfficeName.rings in
     let last = c.come_to_rest.new.self.world in
     let f = c.finish-grid.ensures in
-    let drains : DrainsFirst count c.args.self.rest.world last = subst (λ v. DrainsFirst count v.world last) c.see_home.ensures.same c.in-Ok.ensures.drains in
-    let frame = first_frame count c.args.self.rest.world last drains in
+    let hall = c.args.self.rest in
+    let items = c.args.clients.items in
+    let drains = begun_with count c.see_home.new.self hall (cores c.as_mut_slice.result.now) (cores items) last c.see_home.ensures.same (ap cores c.as_mut_slice.ensures.value) c.in-Ok.ensures.drains in
+    let frame = first_frame count hall.ends (cores items) hall.world last drains in
     record { world = last; drains = drains; floor = f.floor ∙ frame.0; number = f.number ∙ frame.2; history = f.history }
 
 pub returns-clause-planned : goal.returns-clause-planned
@@ -86,8 +101,10 @@ returns-clause-planned g c =
     let count = length g.N.OfficeName.rings in
     let last = c.come_to_rest.new.self.world in
     let f = c.finish-grid in
-    let drains : DrainsFirst count c.args.self.rest.world last = subst (λ v. DrainsFirst count v.world last) c.see_home.ensures.same c.in-Ok.ensures.drains in
-    subst (λ t. EachTick (IsPlanned f.result.0 t) (history_of f.result.1)) (first_frame count c.args.self.rest.world last drains).1 f.ensures.planned
+    let hall = c.args.self.rest in
+    let items = c.args.clients.items in
+    let drains = begun_with count c.see_home.new.self hall (cores c.as_mut_slice.result.now) (cores items) last c.see_home.ensures.same (ap cores c.as_mut_slice.ensures.value) c.in-Ok.ensures.drains in
+    subst (λ t. EachTick (IsPlanned f.result.0 t) (history_of f.result.1)) (first_frame count hall.ends (cores items) hall.world last drains).1 f.ensures.planned
 
 pub returns-clause-told : goal.returns-clause-told
 returns-clause-told g c =
@@ -116,12 +133,14 @@ returns-in-Err g c =
       legal = tt;
       planned = tt;
       advancing = tt;
+      bounded = tt;
       told = tt;
       tick = tt;
       all = tt;
       home = tt;
       err = inl (subst (λ xs. IsAway count xs c.args.tickers.items (clock c.args.self.rest.world.history) c.in-Err.fault) c.as_slice.ensures.value c.in-Err.ensures.err);
       back = (ap cores h.0, h.1 ∙ c.see_home.ensures.tickers);
+      on = subst (AreOn g.N.OfficeName.rings) (ap cores (sym h.0)) c.requires.on;
     }
 
 pub returns-clause-legal : goal.returns-clause-legal
@@ -135,7 +154,7 @@ returns-clause-tick g c =
     let was = c.in_default.ensures.ok.counted in
     let total = c.come_to_rest.ensures.total ∙ ap (λ v. v.total) c.see_home.ensures.same in
     let made = c.clock-tick.ensures in
-    (made ∙ ap clock (sym c.finish-grid.ensures.history), made ∙ sym c.lawful-2.ensures.clock ∙ total ∙ c.lawful.ensures.clock ∙ sym was)
+    (made ∙ ap clock (sym c.finish-grid.ensures.history), made ∙ sym c.recall_laws-2.ensures.lawful.clock ∙ total ∙ c.recall_laws.ensures.lawful.clock ∙ sym was)
 
 pub returns-clause-home : goal.returns-clause-home
 returns-clause-home g c =
@@ -146,6 +165,24 @@ returns-clause-err g c = tt
 
 pub returns-clause-back : goal.returns-clause-back
 returns-clause-back g c = tt
+
+pub returns-clause-on : goal.returns-clause-on
+returns-clause-on g c = tt
+
+pub returns-clause-bounded : goal.returns-clause-bounded
+returns-clause-bounded g c = c.finish-grid.ensures.bounded
+
+pub returns-in-Err-come_to_rest-clause-bounded : goal.returns-in-Err-come_to_rest-clause-bounded
+returns-in-Err-come_to_rest-clause-bounded g c = tt
+
+pub returns-in-Err-come_to_rest-clause-on : goal.returns-in-Err-come_to_rest-clause-on
+returns-in-Err-come_to_rest-clause-on g c =
+    let items = c.args.clients.items in
+    let e = c.as_mut_slice.ensures.value in
+    let same : cores c.come_to_rest.new.clients ≡ cores items = c.come_to_rest.ensures.clients ∙ ap cores e in
+    let now = lent_back c.come_to_rest.new.clients items c.args.clients.len (omega (arith, c.args.clients.ok.0)) same in
+    let h = c.come_home-in-Err-come_to_rest.ensures in
+    subst (AreOn g.N.OfficeName.rings) (sym (ap cores (h.0 ∙ now) ∙ same)) c.requires.on
 
 pub returns-in-Err-come_to_rest-clause-drains : goal.returns-in-Err-come_to_rest-clause-drains
 returns-in-Err-come_to_rest-clause-drains g c = tt

@@ -1,4 +1,4 @@
-use Rattle.std.proofs.Common.{◌≡◌, length, ap, ◌∙◌, rules}
+use Rattle.std.proofs.Common.{◌≡◌, length, ap, ◌∙◌}
 use Rattle.fleet_core.specs.Hooks.{laws_of}
 use Rattle.fleet_history.specs.Legal.{IsLegal}
 use Rattle.fleet_calls.specs.Opening.{IsRefused}

@@ -1,17 +1,30 @@
 use Rattle.std.proofs.Common.{length}
-use Rattle.fleet_office.specs.Concluded.{IsUnconcluded}
-use Rattle.fleet_office.proofs.Over.{some-world}
+use Rattle.fleet_history.specs.History.{history_of}
+use Rattle.fleet_history.specs.Laws.{EachTick}
+use Rattle.fleet_plan.specs.Planned.{IsPlanned}
+use Rattle.fleet_office.specs.Hall.{IsLawful}
+use Rattle.fleet_office.specs.Views.{cores}
+use Rattle.fleet_office.specs.Concluded.{IsLast, IsUnconcluded}
+use Rattle.fleet_office.proofs.Over.{some-kind, some-outcome, some-fault}
 use Rattle.fleet_office.proofs.office.Office+N+A.conclude.Goals as goal
 
 pub returns : goal.returns
 returns g c =
+    let rings = g.N.OfficeName.rings in
+    let hall = c.into_inner-hall.result.rest in
+    let lawful = c.recall_laws.ensures.lawful in
+    let r = c.conclude.result in
     let e = c.conclude.ensures in
     record {
+      drains = some-kind (λ h. IsLawful rings h.world h.ends h.total) (λ h f. IsLast (length rings) h (cores c.args.clients.items) f.grid f.chapter.number (history_of f.chapter)) hall r lawful e.drains;
       legal = e.legal;
+      planned = some-outcome (λ ties f. EachTick (IsPlanned f.grid ties) (history_of f.chapter)) hall.world.ties r (λ f planned. planned) e.planned;
       advancing = e.advancing;
+      bounded = e.bounded;
       told = e.told;
       tick = e.tick;
       all = e.all;
-      err = some-world (λ w e. IsUnconcluded (length g.N.OfficeName.rings) w c.args.clients.items c.args.tickers.items e.0) c.conclude.result c.into_inner.result.rest.world e.err;
+      err = some-fault (λ h. IsLawful rings h.world h.ends h.total) (λ h e. IsUnconcluded (length rings) h c.args.clients.items c.args.tickers.items e.0) hall r lawful e.err;
       back = e.back;
+      on = e.on;
     }

@@ -7,7 +7,7 @@ returns g c =
     let w = c.deref_mut-hall.result.now.rest.world in (
       w,
       record {
-        legal = c.lawful.ensures.legal;
+        legal = c.recall_laws.ensures.lawful.legal;
         no_robot = c.shut.ensures.no_robot;
         already = c.shut.ensures.already;
         chapter_full = c.shut.ensures.chapter_full;

@@ -1,5 +1,5 @@
 use Rattle.fleet_office.specs.Views.{core}
-use Rattle.std.proofs.Common.{◌≡◌, ◌<◌, length, set, Some, refl, sym, ◌∙◌, ap, arith}
+use Rattle.std.proofs.Common.{◌≡◌, ◌<◌, ◌++◌, length, length-append, set, Some, refl, sym, ◌∙◌, ap, subst, arith}
 use Rattle.std.specs.Prelude.{slice_get}
 use Rattle.std.proofs.lemmas.Option.{slice_get_read, slice_get_within}
 use Rattle.std.proofs.Math.ListN.{length-set}
@@ -34,6 +34,18 @@ pub returns-clause-there : goal.returns-clause-there
 returns-clause-there g c =
     let s = c.self.inside in
     omega (arith, length-set s.ends.items c.number-c.result c.beside.new.self, slice_get_within g.N.OfficeName.rings c.args.client.now.number c.args.client.now.lane c.requires, c.self.invariant.ring_count)
+
+pub returns-clause-left : goal.returns-clause-left
+returns-clause-left g c = λ e at.
+    let s = c.self.inside in
+    let end = c.index_mut-end.result.now in
+    let inside : c.number-c.result < length s.ends.items = omega (arith, slice_get_within g.N.OfficeName.rings c.args.client.now.number c.args.client.now.lane c.requires, c.self.invariant.ring_count, c.number-c.ensures) in
+    let there : slice_get s.ends.items c.number-c.result ≡ Some end = slice_get_read s.ends.items (length s.ends.items) c.number-c.result end refl inside c.index_mut-end.ensures.value in
+    let here : slice_get s.ends.items c.args.client.now.number ≡ Some e = subst (λ v. slice_get v.ends c.args.client.now.number ≡ Some e) (sym c.self.view_is) at in
+    let own : end ≡ e = same_name end e (sym there ∙ ap (slice_get s.ends.items) c.number-c.ensures ∙ here) in
+    let taken : c.beside.new.self.taken ≡ e.taken = ap (λ x. x.taken) c.beside.ensures.hall ∙ ap (λ x. x.taken) own in
+    let all : c.beside.new.self.taken ++ c.beside.new.self.known ≡ c.args.client.now.sent = c.beside.ensures.orders ∙ ap (λ x. x.sent) c.beside.ensures.client in
+    omega (arith, ap length taken, ap length all, length-append c.beside.new.self.taken c.beside.new.self.known, c.known.ensures)
 
 pub returns-clause-met : goal.returns-clause-met
 returns-clause-met g c = λ e at.

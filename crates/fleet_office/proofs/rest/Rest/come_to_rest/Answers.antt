@@ -14,11 +14,8 @@ returns-in-Err-ChapterFull-clause-clients g c = c.drain_all.ensures.clients
 pub returns-in-Err-ChapterFull-clause-total : goal.returns-in-Err-ChapterFull-clause-total
 returns-in-Err-ChapterFull-clause-total g c = c.drain_all.ensures.total
 
-pub returns-in-Err-ChapterFull-clause-part : goal.returns-in-Err-ChapterFull-clause-part
-returns-in-Err-ChapterFull-clause-part g c = inl c.in-Err-ChapterFull.ensures.stops
-
 pub returns-in-Err-ChapterFull-clause-err : goal.returns-in-Err-ChapterFull-clause-err
-returns-in-Err-ChapterFull-clause-err g c = c.drain_all.ensures.full (c.in-Err-ChapterFull.is ∙ ap Err c.in-Err-ChapterFull.field-0-is)
+returns-in-Err-ChapterFull-clause-err g c = (c.in-Err-ChapterFull.ensures.stops, c.drain_all.ensures.full (c.in-Err-ChapterFull.is ∙ ap Err c.in-Err-ChapterFull.field-0-is))
 
 pub returns-in-Err : goal.returns-in-Err
 returns-in-Err g c = record {
@@ -27,8 +24,7 @@ returns-in-Err g c = record {
   settled = tt;
   drains = tt;
   rooms = tt;
-  part = inl c.in-Err.ensures.stops;
-  err = tt;
+  err = inl c.in-Err.ensures.stops;
 }
 
 pub rooms-requires-clause-on : goal.rooms-requires-clause-on
@@ -58,5 +54,5 @@ returns-in-Err-rooms-clause-clients g c = c.drain_all.ensures.clients
 pub returns-in-Err-rooms-clause-total : goal.returns-in-Err-rooms-clause-total
 returns-in-Err-rooms-clause-total g c = c.drain_all.ensures.total
 
-pub returns-in-Err-rooms-clause-part : goal.returns-in-Err-rooms-clause-part
-returns-in-Err-rooms-clause-part g c = inr c.in-Ok.ensures.drains
+pub returns-in-Err-rooms-clause-err : goal.returns-in-Err-rooms-clause-err
+returns-in-Err-rooms-clause-err g c = inr c.in-Ok.ensures.drains

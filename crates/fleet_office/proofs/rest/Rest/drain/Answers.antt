@@ -1,7 +1,10 @@
-use Rattle.std.proofs.Common.{◌≡◌, ◌-◌, ◌<◌, ◌∙◌, ap, subst, arith}
+use Rattle.std.proofs.Common.{◌≡◌, ◌-◌, ◌<◌, ◌∙◌, Result, Ok, Err, length, ap, subst, arith}
+use Rattle.std.specs.Prelude.{OnErr}
+use Rattle.std.proofs.lemmas.Result.{IfOk-from_err}
 use Rattle.fleet_office.specs.Views.{OthersStay}
-use Rattle.fleet_office.specs.Draining.{Drains}
-use Rattle.fleet_office.proofs.Emptied.{others_trans, left_step, left_end, Left, some_none, some_more}
+use Rattle.fleet_core.specs.declared.faults.TakeFault.{TakeFault}
+use Rattle.fleet_office.specs.inside.Lanes.{DrainsLane}
+use Rattle.fleet_office.proofs.Emptied.{others_trans, left_step, left_end, Left, some_none, some_more, some_refused}
 use Rattle.fleet_office.proofs.rest.Rest.drain.Goals as goal
 
 pub loop-taken-init : goal.loop-taken-init
@@ -66,7 +69,28 @@ returns-clause-others g c =
 pub returns-clause-drains : goal.returns-clause-drains
 returns-clause-drains g c =
     let n : c.number-number.result ≡ c.args.client.now.number = c.number-number.ensures ∙ ap (λ x. x.number) c.beside-left.ensures.client in
-    (c.beside-left.result, subst (λ m. Drains c.args.self.now.world m c.beside-left.result c.loop-taken.self.world) n c.loop-taken.invariant.4.drains)
+    let i = c.loop-taken.invariant.4 in
+    let all : length i.drains.more ≡ c.beside-left.result = omega (arith, i.count, c.loop-taken-test.false, c.loop-taken.auto.taken-end) in
+    let lane : DrainsLane {E = TakeFault} c.args.self.now.world c.number-number.result c.beside-left.result c.loop-taken.self.world (Ok tt) = (i.drains, all, tt) in
+    (c.beside-left.result, c.beside-left.ensures.left, subst (λ m. DrainsLane {E = TakeFault} c.args.self.now.world m c.beside-left.result c.loop-taken.self.world (Ok tt)) n lane)
+
+on_err : {X E P : Type 0} (r : Result X E) → P → OnErr r P
+on_err (Ok x) p = tt
+on_err (Err e) p = p
+
+pub returns-in_err-take_left-clause-drains : goal.returns-in_err-take_left-clause-drains
+returns-in_err-take_left-clause-drains g c =
+    let n : c.number-number.result ≡ c.args.client.now.number = c.number-number.ensures ∙ ap (λ x. x.number) c.beside-left.ensures.client in
+    let i = c.loop-taken.invariant.4 in
+    let k = c.loop-taken.taken in
+    let left = c.beside-left.result in
+    let less : k < left = c.loop-taken-test.true in
+    let r = c.from_residual.result in
+    let w = c.args.self.now.world in
+    let v = c.take_left.new.self.world in
+    let d = some_refused w c.loop-taken.self.world v c.number-number.result left k (left - k) (omega (arith, c.take_left.ensures.boxed, i.drains.box_count)) (omega (arith, less)) less i c.in_err-take_left.ensures.err in
+    let lane : DrainsLane w c.number-number.result left v r = (d.0, IfOk-from_err r _ c.from_residual.ensures.0, on_err r d.1) in
+    (left, c.beside-left.ensures.left, subst (λ m. DrainsLane w m left v r) n lane)
 
 pub returns-clause-total : goal.returns-clause-total
 returns-clause-total g c = c.loop-taken.invariant.1

@@ -1,7 +1,7 @@
 use Rattle.std.proofs.Common.{◌≡◌}
 use Rattle.fleet_office.specs.Views.{cores}
 use Rattle.fleet_office.specs.Draining.{DrainsFirst}
-use Rattle.fleet_office.proofs.Settling.{SettledBelow}
+use Rattle.fleet_office.proofs.Settling.{SettledBelow, StayFrom}
 use Rattle.fleet_office.proofs.rest.Rest.drain_all.Given as goal
 
 abbrev pub invariant-loop-number : goal.invariant-loop-number
@@ -9,4 +9,5 @@ invariant-loop-number g l =
     (cores l.clients ≡ cores l.fn.clients)
     × (l.self.total ≡ l.fn.self.total)
     × SettledBelow l.number l.self.ends l.clients
-    × DrainsFirst l.number l.fn.self.world l.self.world
+    × StayFrom l.number l.fn.self.ends l.self.ends
+    × DrainsFirst l.number l.fn.self.ends (cores l.fn.clients) l.fn.self.world l.self.world

@@ -1,13 +1,13 @@
-use Rattle.std.proofs.Common.{rules, ◌≡◌, ◌<◌, ℕ, length, get_or, subst, Some, List, refl, arith}
+use Rattle.std.proofs.Common.{rules, ◌≡◌, ◌<◌, ℕ, length, get_or, subst, Some, List, refl}
 use Rattle.std.specs.Prelude.{Ok, Err, Result, OnOk, slice_get}
 use Rattle.std.proofs.lemmas.Option.{slice_get-get_or}
 use Rattle.fleet_lanes.specs.Names.{LaneName}
 use Rattle.fleet_lanes.specs.Ends.{ClientView}
 use Rattle.fleet_office.specs.Views.{AreOn, OthersStay, core, cores}
-use Rattle.fleet_office.specs.Draining.{Drains}
+use Rattle.fleet_office.specs.inside.Lanes.{DrainsLane}
 use Rattle.fleet_office.proofs.Places.{from_first, map_at}
-use Rattle.fleet_office.proofs.Emptied.{drains_none}
-use Rattle.fleet_office.proofs.Settling.{cores_set, number_settled, keeps_others}
+use Rattle.fleet_office.proofs.Emptied.{none_taken}
+use Rattle.fleet_office.proofs.Settling.{cores_set, number_settled, keeps_others, left_number, left_none}
 use Rattle.fleet_office.proofs.rest.Rest.drain_number.Goals as goal
 
 on_at : {A : Type 0} (rings : List (LaneName A)) (cs : List (ClientView A)) (k : ℕ) (r : ClientView A) → k < length cs → AreOn rings (cores cs) → slice_get rings (get_or cs k r).number ≡ Some (get_or cs k r).lane
@@ -21,7 +21,9 @@ on_ok_map (Ok x) f p = f p
 on_ok_map (Err e) f p = tt
 
 pub returns-in_default-clause-drains : goal.returns-in_default-clause-drains
-returns-in_default-clause-drains g c = (0, drains_none c.args.self.now.world c.args.number 0)
+returns-in_default-clause-drains g c =
+    let d = none_taken c.args.self.now.world c.args.number in
+    (0, left_none c.args.self.now.ends c.args.clients.now c.args.number 0 (λ k x at. c.in_default.ensures.none k x (from_first k) at), (d.0, d.1, tt))
 
 pub returns-clause-clients : goal.returns-clause-clients
 returns-clause-clients g c =
@@ -48,7 +50,12 @@ pub returns-clause-drains : goal.returns-clause-drains
 returns-clause-drains g c =
     let x = get_or c.args.clients.now c.in-Some.k c.index-clients-k.result in
     let at = slice_get-get_or c.args.clients.now c.in-Some.k c.index-clients-k.result c.in-Some.ensures.some.1 in
-    subst (λ m. (n : ℕ) × Drains c.args.self.now.world m n c.drain.new.self.world) (c.in-Some.ensures.some.2 x at) c.drain.ensures.drains
+    let number = c.in-Some.ensures.some.2 x at in
+    let d = c.drain.ensures.drains in (
+      d.0,
+      left_number c.args.self.now.ends c.args.clients.now c.args.number c.in-Some.k d.0 x at number c.requires.distinct d.1,
+      subst (λ m. DrainsLane c.args.self.now.world m d.0 c.drain.new.self.world c.drain.result) number d.2,
+    )
 
 pub returns-clause-ok : goal.returns-clause-ok
 returns-clause-ok g c =

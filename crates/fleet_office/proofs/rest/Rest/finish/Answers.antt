@@ -5,7 +5,7 @@ use Rattle.fleet_history.specs.History.{history_of}
 use Rattle.fleet_office.specs.Views.{AreDistinct, AreSettled, core, cores}
 use Rattle.fleet_office.specs.inside.Rests.{AreRooms, RestsAre}
 use Rattle.fleet_office.proofs.Places.{map_at}
-use Rattle.fleet_office.proofs.Ended.{planned-ended, advancing-ended, told-ended}
+use Rattle.fleet_office.proofs.Ended.{planned-ended, advancing-ended, bounded-ended, told-ended}
 use Rattle.fleet_office.proofs.rest.Rest.finish.Goals as goal
 
 pub fill-requires-clause-inside : goal.fill-requires-clause-inside
@@ -36,6 +36,11 @@ pub returns-clause-advancing : goal.returns-clause-advancing
 returns-clause-advancing g c =
     let f = c.finish-grid in
     advancing-ended c.self.inside.core c.fill.new.core f.result.0 (history_of f.result.1) f.ensures.floor f.ensures.history c.fill.ensures.core f.ensures.advancing
+
+pub returns-clause-bounded : goal.returns-clause-bounded
+returns-clause-bounded g c =
+    let f = c.finish-grid in
+    bounded-ended c.self.inside.core c.fill.new.core f.result.0 (history_of f.result.1) f.ensures.floor f.ensures.history c.fill.ensures.core f.ensures.bounded
 
 pub returns-clause-told : goal.returns-clause-told
 returns-clause-told g c =

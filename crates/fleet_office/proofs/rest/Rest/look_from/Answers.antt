@@ -1,4 +1,3 @@
-use Rattle.std.proofs.Common.{arith}
 use Rattle.std.proofs.lemmas.Result.{IfOk-from_err}
 use Rattle.fleet_office.proofs.rest.Rest.look_from.Goals as goal
 
@@ -15,7 +14,7 @@ pub returns-clause-shown : goal.returns-clause-shown
 returns-clause-shown g c =
     let e = c.in_ok-look.ensures in
     record {
-      legal = c.lawful.ensures.legal;
+      legal = c.recall_laws.ensures.lawful.legal;
       tick = e.tick;
       placement = e.placement;
       eldest = e.eldest;

@@ -20,6 +20,7 @@ returns g c =
       legal = e.legal;
       planned = e.planned;
       advancing = e.advancing;
+      bounded = e.bounded;
       next = hall-next s.core n.new.self s.ends.items s.book.total n.result e.next;
       err = hall-stays s.core n.new.self s.ends.items s.book.total n.result e.err;
     }

@@ -1,6 +1,5 @@
-use Rattle.std.proofs.Common.{◌≡◌, ◌∷◌, ◌++◌, [], length, ap, sym, arith, vec_len}
+use Rattle.std.proofs.Common.{◌≡◌, length, arith}
 use Rattle.std.specs.Vec.{vec_capacity}
-use Rattle.fleet_office.specs.Views.{AreOn}
 use Rattle.fleet_office.proofs.Rested.{rooms_more, rooms_all}
 use Rattle.std.proofs.lemmas.Result.{IfOk-from_err}
 use Rattle.fleet_office.proofs.rest.Rest.rooms.Goals as goal

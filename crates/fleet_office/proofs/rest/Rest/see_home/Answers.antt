@@ -1,4 +1,4 @@
-use Rattle.std.proofs.Common.{◌∙◌, refl, arith, ap}
+use Rattle.std.proofs.Common.{arith, ap}
 use Rattle.fleet_history.specs.History.{clock}
 use Rattle.fleet_office.proofs.rest.Rest.see_home.Goals as goal
 

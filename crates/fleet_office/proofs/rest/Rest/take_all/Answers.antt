@@ -1,4 +1,4 @@
-use Rattle.std.proofs.Common.{◌≡◌, ◌∙◌, length, refl, subst, arith, true, false}
+use Rattle.std.proofs.Common.{◌≡◌, ◌∙◌, length, refl, subst, arith}
 use Rattle.fleet_office.specs.Hall.{TakesFirst}
 use Rattle.fleet_office.proofs.TurnSteps.{first-taken, held-few}
 use Rattle.fleet_office.proofs.rest.Rest.take_all.Goals as goal

@@ -1,6 +1,5 @@
-use Rattle.std.proofs.Common.{◌≡◌, ◌<◌, ◌∙◌, length, refl, sym, ap, subst, arith, inl, inr}
+use Rattle.std.proofs.Common.{◌≡◌, ◌<◌, ◌∙◌, refl, sym, ap, subst, arith, inl, inr}
 use Rattle.std.specs.Prelude.{Err}
-use Rattle.fleet_core.specs.declared.faults.TakeFault.TheVariants.{MailboxFull, ChapterFull}
 use Rattle.fleet_office.specs.Hall.{TakesOne, TakesOrder, TakesNone, TakesMany}
 use Rattle.fleet_office.proofs.ManySteps.{as_many-order, as_many-looks, limits-order, many-more}
 use Rattle.fleet_office.proofs.rest.Rest.take_some.Goals as goal
@@ -27,7 +26,12 @@ returns-in-Ok-None g c =
     let s = c.in-Ok-None in
     let t : TakesNone c.loop-taken.self c.args.client c.take_one.new.self = subst (λ r. TakesOne c.loop-taken.self c.args.client r c.take_one.new.self) s.field-0-is s.ensures.ok in
     record {
-      ok = record { mid = c.loop-taken.self; takes = i.0; enough = inr t };
+      ok = record {
+        most = omega (arith, c.loop-taken-test.true, c.lane-lane.ensures.value);
+        mid = c.loop-taken.self;
+        takes = i.0;
+        enough = inr t;
+      };
       small = omega (arith, c.loop-taken-test.true, c.lane-lane.ensures.small);
       err = tt;
       small_err = tt;
@@ -40,7 +44,17 @@ returns-in-Err-MailboxFull g c =
     let s = c.in-Err-MailboxFull in
     let full = c.take_one.ensures.mailbox_full.0 (s.is ∙ ap (λ f. Err f) s.field-0-is) in
     record {
-      ok = record { mid = c.loop-taken.self; takes = i.0; enough = (full.1, s.ensures.err) };
+      ok = record {
+        most = omega (arith, c.loop-taken-test.true, c.lane-lane.ensures.value);
+        mid = c.loop-taken.self;
+        takes = i.0;
+        enough = record {
+          fewer = omega (arith, c.loop-taken-test.true, c.lane-lane.ensures.value, ap (λ l. l.lane) i.2);
+          shows = full.0;
+          full = full.1;
+          looks = s.ensures.err;
+        };
+      };
       small = omega (arith, c.loop-taken-test.true, c.lane-lane.ensures.small);
       err = tt;
       small_err = tt;
@@ -55,7 +69,13 @@ returns-in-Err-ChapterFull g c =
     record {
       ok = tt;
       small = tt;
-      err = record { mid = c.loop-taken.self; takes = i.0; cause = full.2; looks = s.ensures.err };
+      err = record {
+        fewer = omega (arith, c.loop-taken-test.true, c.lane-lane.ensures.value);
+        mid = c.loop-taken.self;
+        takes = i.0;
+        cause = full;
+        looks = s.ensures.err;
+      };
       small_err = omega (arith, c.loop-taken-test.true, c.lane-lane.ensures.small);
       as_many = as_many-looks c.loop-taken.self c.take_one.new.self s.ensures.err ∙ i.1;
     }
@@ -67,7 +87,13 @@ returns-in-Err-NoMemory g c =
     record {
       ok = tt;
       small = tt;
-      err = record { mid = c.loop-taken.self; takes = i.0; cause = tt; looks = s.ensures.err };
+      err = record {
+        fewer = omega (arith, c.loop-taken-test.true, c.lane-lane.ensures.value);
+        mid = c.loop-taken.self;
+        takes = i.0;
+        cause = tt;
+        looks = s.ensures.err;
+      };
       small_err = omega (arith, c.loop-taken-test.true, c.lane-lane.ensures.small);
       as_many = as_many-looks c.loop-taken.self c.take_one.new.self s.ensures.err ∙ i.1;
     }
@@ -78,6 +104,7 @@ returns g c =
     let all : c.loop-taken.taken ≡ c.lane-lane.result = omega (arith, c.loop-taken-test.false, c.loop-taken.auto.taken-end) in
     record {
       ok = record {
+        most = omega (arith, c.lane-lane.ensures.value);
         mid = c.loop-taken.self;
         takes = subst (λ n. TakesMany n c.args.self.now c.args.client c.loop-taken.self) all i.0;
         enough = inl (c.lane-lane.ensures.value ∙ ap (λ l. l.lane) (sym i.2), refl);

@@ -1,5 +1,5 @@
-use Rattle.std.proofs.Common.{◌≡◌, ◌≤◌, arith, refl, sym, ap, subst}
-use Rattle.fleet_office.specs.Hall.{HallView, IsLawful}
+use Rattle.std.proofs.Common.{◌≤◌, arith, refl, sym, subst}
+use Rattle.fleet_office.specs.Hall.{IsLawful}
 use Rattle.fleet_office.proofs.Laws.{lawful_tick}
 use Rattle.fleet_office.proofs.rest.Rest.tick_with.Goals as goal
 

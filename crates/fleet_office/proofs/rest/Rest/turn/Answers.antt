@@ -1,6 +1,6 @@
 use Rattle.std.proofs.Common.{◌≡◌, arith, length, refl, sym, subst, inl, inr}
 use Rattle.fleet_office.specs.inside.Causes.{cause_of}
-use Rattle.fleet_office.specs.Hall.{given_count, TakesFirst, IsCause}
+use Rattle.fleet_office.specs.Hall.{given_count, TakesFirst, IsTickCause}
 use Rattle.fleet_office.proofs.Counted.{first-given, ticks-given}
 use Rattle.fleet_office.proofs.TurnSteps.{cause-met}
 use Rattle.fleet_office.proofs.rest.Rest.turn.Goals as goal
@@ -82,7 +82,7 @@ returns-in-Err-tick_with g c =
       err = rw (c.so_far-in-Err-tick_with.ensures, c.cause_of.ensures) record {
         given = first.new.self;
         gives = first.ensures.all;
-        stops = inr (subst (λ x. TakesFirst (length c.args.self.now.ends) first.new.self n.0 n.1 x × IsCause x (cause_of t.fault)) (sym same) (takes, cause));
+        stops = inr (subst (λ x. TakesFirst (length c.args.self.now.ends) first.new.self n.0 n.1 x × IsTickCause x (cause_of t.fault)) (sym same) (takes, cause));
         none_arrived = refl;
         no_tick = refl;
       };

@@ -1,0 +1,20 @@
+-- The chapter that a hall holds.
+use Rattle.std.specs.Prelude.{ℕ, ◌≡◌, List}
+use Rattle.fleet_grid.specs.Floor.{IsNeighbour}
+use Rattle.fleet_grid.specs.Walk.{IsBridgeless}
+use Rattle.fleet_history.specs.History.{History}
+use Rattle.fleet_history.specs.Laws.{EachTick}
+use Rattle.fleet_plan.specs.Planned.{IsPlanned, IsAdvancingTick}
+use Rattle.fleet_bound.specs.Bound.{WaitsAreBounded}
+use Rattle.fleet_lanes.specs.Names.{LaneName}
+use Rattle.fleet_office.specs.Hall.{HallView, IsLawful}
+
+-- this is the chapter of a lawful hall, with its number: each tick is planned, and where the map has no bridge each tick
+-- advances and every wait is below the bound
+pub record IsChapterOf {A : Type 0} (rings : List (LaneName A)) (hall : HallView A) (n : ℕ) (h : History A) : Type 0 where
+  pub lawful : IsLawful rings hall.world hall.ends hall.total
+  pub history : h ≡ hall.world.history
+  pub number : n ≡ hall.world.number
+  pub planned : EachTick (IsPlanned hall.world.floor hall.world.ties) h
+  pub advancing : IsBridgeless (IsNeighbour hall.world.floor) → EachTick (IsAdvancingTick hall.world.floor) h
+  pub bounded : IsBridgeless (IsNeighbour hall.world.floor) → WaitsAreBounded hall.world.floor h
