@@ -6,9 +6,9 @@ ghost use Rattle.errands_text.specs.Said.{said};
 ghost use Rattle.errands_answer.specs.Kit.{kit_laws};
 ghost use Rattle.errands_lib.specs.Outcome.{IsJobOutcome};
 
-use errands_words::Job;
 use errands_answer::{HookKit, answer_bundle, answer_map, answer_parts, answer_trace};
 use errands_text::Said;
+use errands_words::Job;
 use std::alloc::{Alloc, AllocError, Global};
 use std::thread::Threads;
 

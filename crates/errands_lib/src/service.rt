@@ -16,12 +16,12 @@ ghost use Rattle.errands_lib.specs.Outcome.{IsServed, IsServedScript, IsServeOut
 ghost use Rattle.errands_text.specs.Said.{said};
 ghost use Rattle.errands_words.specs.Asked.{is_serve};
 
-use errands_words::Job;
 use errands_answer::{HookKit, ended, trace_line};
+use errands_text::{Complaint, Said, faulty, map_complaint};
+use errands_words::Job;
 use fleet_grid::Grid;
 use fleet_history::Chapter;
 use fleet_map::{MapText, read_map};
-use errands_text::{Complaint, Said, faulty, map_complaint};
 use fleet_script::{Script, ScriptFault, read_script};
 use fleet_serve::{Gate, ServeFault, Served, first_other, serve};
 use fleet_trace::{JudgeFault, judge};
