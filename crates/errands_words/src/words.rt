@@ -171,10 +171,10 @@ fn fault_from(alloc: Global, error: &Error) -> WordFault
 
 /// The job that the words name. The first word is the program's own name.
 pub fn parse_words(alloc: Global, words: &[String]) -> Result<Job, WordFault>
-    // only words that `clap` takes name a job
+    // Only words that `clap` takes name a job.
     ensures taken { IfOk result (λ job. fault_of errands_app (map (λ w. string_bytes w) words.now) ≡ []) }
     ensures job { IfOk result (λ job. job_of (subcommand_of errands_app (map (λ w. string_bytes w) words.now)) ≡ Some (asked job)) }
-    // words that `clap` takes are refused for want of memory alone
+    // Words that `clap` takes are refused where memory ran out alone.
     ensures refused { IfErr result (λ f. takes errands_app (map (λ w. string_bytes w) words.now) ≡ true → f ≡ NoMemory) }
 {
     let command = errands_command(alloc)?;
