@@ -88,7 +88,7 @@ fn output_of(
     )
 }
 
-/// What is said with this output, and whether a limit was met.
+/// What is said of a run or a serve with this output, in which a limit was met or none was.
 pub fn ended(alloc: Global, met: bool, output: String) -> Result<Said, AllocError>
     ensures { IfOk result (λ s. said s ≡ limited met (string_bytes output)) }
 {

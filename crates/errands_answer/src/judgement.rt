@@ -16,7 +16,7 @@ use fleet_map::{MapText, read_map};
 use fleet_trace::{JudgeFault, TraceFault, judge, read_trace};
 use std::alloc::{AllocError, Global};
 
-/// The complaint of a file that tells no trace for this reason. Want of memory is none.
+/// The complaint of a file that has no trace for this reason. Out of memory is none.
 fn trace_complaint(fault: TraceFault) -> Result<Complaint, AllocError>
     ensures named { IfOk result (λ c. IsTraceNamed fault) }
     ensures value { IfOk result (λ c. c ≡ Complaint.Trace fault) }

@@ -19,3 +19,9 @@ pub for_both : (all other : Option (List ℕ)) (P Q : List ℕ → List ℕ → 
 for_both None other P Q f p = tt
 for_both (Some x) None P Q f p = tt
 for_both (Some x) (Some y) P Q f p = f x y p
+
+-- what holds whatever both readers had
+pub for_each : (all other : Option (List ℕ)) (P : List ℕ → List ℕ → Type 0) → ((x y : List ℕ) → P x y) → IfSome all (λ x. IfSome other (λ y. P x y))
+for_each None other P p = tt
+for_each (Some x) None P p = tt
+for_each (Some x) (Some y) P p = p x y

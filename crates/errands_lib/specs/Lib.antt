@@ -1,2 +1,4 @@
+pub mod Inputs
+pub mod Laws
 pub mod Outcome
 pub mod Told

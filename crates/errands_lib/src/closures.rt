@@ -1,9 +1,11 @@
-//! The program's own closures, which nothing hands out: they are made where the job is done.
+//! The program's own closures. No function may hand out a boxed closure that it made, so they are made where the job is done.
 
-ghost use Rattle.std.specs.Prelude.{◌≡◌, ◌<◌, is_some, IfOk};
+ghost use Rattle.std.specs.Prelude.{◌≡◌, ◌<◌, is_some, IfOk, IfSome, OnErr};
 ghost use Rattle.std.specs.Box.{box_value};
 ghost use Rattle.fleet_hooks.specs.Law.{IsRank};
-ghost use Rattle.errands_lib.specs.Told.{names_two};
+ghost use Rattle.errands_text.specs.Transfer.{bytes_of};
+ghost use Rattle.errands_lib.specs.Laws.{program_laws};
+ghost use Rattle.errands_lib.specs.Told.{IsShown, names_two};
 ghost use Rattle.errands_lib.specs.declared.closures.TheConstants.{SOUTH_FIRST};
 
 use crate::program::{fail, run_program};
@@ -61,6 +63,10 @@ fn run_with_closures<R: Alloc<A = Global> + Threads + Sync + Wait, I: Read, W: W
     error: &mut E,
 ) -> Result<u8, AllocError>
     requires { is_some other ≡ names_two job.now }
+    ensures done { IfOk result (λ status. IfSome (I.remaining map.old) (λ first. IfSome (bytes_of I.remaining other.entry) (λ second.
+        IsShown program_laws job.now first second (W.contents output.old) (W.contents output.new) (E.contents error.old) (E.contents error.new) status))) }
+    ensures output { OnErr result (output.new ≡ output.old) }
+    ensures error { OnErr result (error.new ≡ error.old) }
 {
     let alloc = rt.alloc();
     // Where memory is refused for one of them, none is used, and all are let go at one place.
@@ -121,6 +127,8 @@ pub fn run_with_kit<R: Alloc<A = Global> + Threads + Sync + Wait, I: Read, W: Wr
     error: &mut E,
 ) -> u8
     requires { is_some other ≡ names_two job.now }
+    ensures { IfSome (I.remaining map.old) (λ first. IfSome (bytes_of I.remaining other.entry) (λ second.
+        IsShown program_laws job.now first second (W.contents output.old) (W.contents output.new) (E.contents error.old) (E.contents error.new) result)) }
 {
     match run_with_closures(rt, job, map, other, output, error) {
         Ok(status) => status,

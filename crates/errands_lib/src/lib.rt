@@ -4,11 +4,17 @@
 
 mod answer;
 mod closures;
+mod inputs;
 mod program;
 mod service;
+mod words;
 
 pub use closures::run_with_kit;
 pub use errands_answer::HookKit;
 pub use errands_text::{InputFault, read_whole, write_whole};
 pub use errands_words::{Job, WordFault, parse_words};
+pub use fleet_script::{Script, ScriptFault, read_script};
+pub use fleet_serve::{Gate, ServeFault, Served, serve};
+pub use inputs::Inputs;
 pub use program::{fail, run_plain, run_program};
+pub use words::{refuse_words, run_words};

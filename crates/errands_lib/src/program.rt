@@ -10,7 +10,9 @@ ghost use Rattle.errands_text.specs.Said.{said as said_of};
 use crate::answer::answer;
 use crate::service::answer_job;
 use errands_answer::HookKit;
-use errands_text::{Complaint, InputFault, Said, read_other, read_whole, write_whole};
+use errands_text::{
+    Complaint, InputFault, Said, failure_line, read_other, read_whole, write_whole,
+};
 use errands_words::Job;
 use std::alloc::{Alloc, Global};
 use std::io::{Read, Write};
@@ -19,18 +21,10 @@ use std::thread::Threads;
 
 /// Says on the error writer that a file or memory failed. The result is the status.
 pub fn fail<E: Write>(fault: InputFault, error: &mut E) -> u8
-    ensures { Failed (E.contents error.old) (E.contents error.new) result }
+    ensures { Failed fault (E.contents error.old) (E.contents error.new) result }
 {
-    match fault {
-        InputFault::File => {
-            write_whole(error, b"errands: file\n");
-            Complaint::File.status()
-        }
-        InputFault::NoMemory => {
-            write_whole(error, b"errands: memory\n");
-            Complaint::Memory.status()
-        }
-    }
+    write_whole(error, failure_line(fault).as_bytes());
+    Complaint::from(fault).status()
 }
 
 /// Writes what there is to say. The result is the status.
@@ -38,8 +32,7 @@ fn tell<W: Write, E: Write>(said: &Said, output: &mut W, error: &mut E) -> u8
     ensures { IsTold (said_of said.now) (W.contents output.old) (W.contents output.new) (E.contents error.old) (E.contents error.new) result }
 {
     if !write_whole(output, said.output.as_bytes()) {
-        write_whole(error, b"errands: file\n");
-        return Complaint::File.status();
+        return fail(InputFault::File, error);
     }
     write_whole(error, said.complaint.as_bytes());
     said.status

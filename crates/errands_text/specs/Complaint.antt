@@ -2,6 +2,8 @@
 use Rattle.std.specs.Prelude.{ℕ, List, ◌++◌, codes, decimal}
 use Rattle.errands_text.specs.declared.said.Complaint.{Complaint}
 use Rattle.errands_text.specs.declared.said.Complaint.TheVariants as complaint
+use Rattle.errands_text.specs.declared.input.InputFault.{InputFault}
+use Rattle.errands_text.specs.declared.input.InputFault.TheVariants as input_fault
 use Rattle.errands_text.specs.Output.{map_fault_text, open_fault_text, trace_fault_text}
 
 abbrev pub complaint_text : Complaint → List ℕ
@@ -24,3 +26,8 @@ status_of (complaint.Opening fault) = 5
 status_of (complaint.Trace fault) = 6
 status_of complaint.Memory = 7
 status_of complaint.Limit = 8
+
+-- what is complained of where an input failed
+abbrev pub complaint_of : InputFault → Complaint
+complaint_of input_fault.File = complaint.File
+complaint_of input_fault.NoMemory = complaint.Memory

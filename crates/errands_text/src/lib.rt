@@ -13,4 +13,4 @@ pub use input::{InputFault, read_other, read_whole};
 pub use maps::map_report;
 pub use output::write_whole;
 pub use runs::report;
-pub use said::{Complaint, Said, faulty, line_of, map_complaint};
+pub use said::{Complaint, Said, failure_line, faulty, line_of, map_complaint};

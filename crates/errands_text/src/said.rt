@@ -1,10 +1,11 @@
 //! What the program has to say, and how it names what is wrong.
 
 ghost use Rattle.std.specs.Prelude.{◌≡◌, ◌++◌, Some, IfOk, string_bytes};
-ghost use Rattle.errands_text.specs.Complaint.{complaint_text, complaint_line, status_of};
+ghost use Rattle.errands_text.specs.Complaint.{complaint_of, complaint_text, complaint_line, status_of};
 ghost use Rattle.errands_text.specs.Outcome.{IsMapNamed, fault};
 ghost use Rattle.errands_text.specs.Said.{said};
 
+use crate::input::InputFault;
 use crate::texts::{MapFaultText, OpenFaultText, TraceFaultText};
 use fleet_map::MapFault;
 use fleet_trace::TraceFault;
@@ -23,8 +24,22 @@ pub enum Complaint {
     Opening(OpenFault),
     Trace(TraceFault),
     Memory,
-    /// The clock or the chapter was full at some event.
+    /// The clock was spent or the chapter full at some event; in a serve, a lane was full, or lanes were not emptied.
     Limit,
+}
+
+impl From<InputFault> for Complaint {
+    ghost use Rattle.std.specs.Prelude.{◌≡◌};
+    ghost use Rattle.errands_text.specs.Complaint.{complaint_of};
+
+    ghost from_gives = { λ fault c. c ≡ complaint_of fault };
+
+    fn from(fault: InputFault) -> Complaint {
+        match fault {
+            InputFault::File => Complaint::File,
+            InputFault::NoMemory => Complaint::Memory,
+        }
+    }
 }
 
 impl Complaint {
@@ -81,6 +96,16 @@ pub fn line_of(alloc: Global, complaint: Complaint) -> Result<String, AllocError
     ensures { IfOk result (λ line. string_bytes line ≡ complaint_line complaint) }
 {
     format!(in alloc; "errands: {complaint}\n")
+}
+
+/// The line that the error writer is told where a file or memory failed. It takes no memory.
+pub fn failure_line(fault: InputFault) -> &'static str
+    ensures { result.now ≡ complaint_line (complaint_of fault) }
+{
+    match fault {
+        InputFault::File => "errands: file\n",
+        InputFault::NoMemory => "errands: memory\n",
+    }
 }
 
 /// What is said where there is nothing but a complaint.

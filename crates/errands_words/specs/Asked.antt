@@ -5,6 +5,8 @@ use Rattle.std.specs.Str.{bytes_eq}
 use Rattle.clap.specs.Words.{Text, Row, first_of}
 use Rattle.errands_words.specs.declared.words.Job.{Job}
 use Rattle.errands_words.specs.declared.words.Job.TheVariants.{Bundle, Map, Run, Judge, Serve}
+use Rattle.errands_words.specs.declared.words.JobFiles.{JobFiles}
+use Rattle.errands_words.specs.declared.words.JobFiles.TheVariants as job_files
 
 -- a job without where its words lie in memory
 pub data Asked : Type 0 where
@@ -46,3 +48,22 @@ is_serve (Map file) = false
 is_serve (Run first second trace) = false
 is_serve (Judge first second) = false
 is_serve (Serve first second) = true
+
+-- the names of a job's files, in their order
+pub data Files : Type 0 where
+  none : Files
+  one : Text → Files
+  two : Text → Text → Files
+
+abbrev pub files_of : Job → Files
+files_of Bundle = none
+files_of (Map file) = one (string_bytes file)
+files_of (Run first second trace) = two (string_bytes first) (string_bytes second)
+files_of (Judge first second) = two (string_bytes first) (string_bytes second)
+files_of (Serve first second) = two (string_bytes first) (string_bytes second)
+
+-- the names without where they lie in memory
+abbrev pub files_named : JobFiles → Files
+files_named job_files.None = none
+files_named (job_files.One name) = one name.now
+files_named (job_files.Two first second) = two first.now second.now

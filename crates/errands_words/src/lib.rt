@@ -4,4 +4,4 @@
 mod commands;
 mod words;
 
-pub use words::{Job, WordFault, parse_words};
+pub use words::{Job, JobFiles, WordFault, parse_words};

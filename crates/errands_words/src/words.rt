@@ -5,7 +5,7 @@ ghost use Rattle.clap.specs.Words.{fault_of, first_of, found_of, rows_of, subcom
 ghost use Rattle.clap.specs.Values.{kind_of};
 ghost use Rattle.clap.specs.declared.error.kind.ErrorKind.TheVariants.{OutOfMemory};
 ghost use Rattle.errands_words.specs.Command.{errands_app};
-ghost use Rattle.errands_words.specs.Asked.{asked, job_of, has_flag, is_serve};
+ghost use Rattle.errands_words.specs.Asked.{asked, job_of, has_flag, is_serve, files_of, files_named};
 ghost use Rattle.errands_words.specs.declared.words.WordFault.TheVariants.{NoMemory};
 
 use crate::commands::errands_command;
@@ -40,12 +40,38 @@ pub enum Job {
     },
 }
 
+/// The names of the files of a job, in the order in which they are opened and read.
+#[derive(Clone, Copy, Debug)]
+pub enum JobFiles<'a> {
+    /// None: the job reads standard input.
+    None,
+    One(&'a str),
+    Two(&'a str, &'a str),
+}
+
 impl Job {
     /// Whether the job is to serve a script, which waits for threads.
     pub fn is_serve(&self) -> bool
         ensures { result ≡ is_serve self.now }
     {
         matches!(self, Job::Serve { .. })
+    }
+
+    /// The names of the job's files.
+    pub fn files(&self) -> JobFiles<'_>
+        ensures { files_named result ≡ files_of self.now }
+    {
+        match self {
+            Job::Bundle => JobFiles::None,
+            Job::Map { file } => JobFiles::One(file.as_str()),
+            Job::Run {
+                first,
+                second,
+                trace: _,
+            }
+            | Job::Judge { first, second }
+            | Job::Serve { first, second } => JobFiles::Two(first.as_str(), second.as_str()),
+        }
     }
 }
 
@@ -145,10 +171,10 @@ fn fault_from(alloc: Global, error: &Error) -> WordFault
 
 /// The job that the words name. The first word is the program's own name.
 pub fn parse_words(alloc: Global, words: &[String]) -> Result<Job, WordFault>
-    // only words that `clap` takes name a job
+    // Only words that `clap` takes name a job.
     ensures taken { IfOk result (λ job. fault_of errands_app (map (λ w. string_bytes w) words.now) ≡ []) }
     ensures job { IfOk result (λ job. job_of (subcommand_of errands_app (map (λ w. string_bytes w) words.now)) ≡ Some (asked job)) }
-    // words that `clap` takes are refused for want of memory alone
+    // Words that `clap` takes are refused where memory ran out alone.
     ensures refused { IfErr result (λ f. takes errands_app (map (λ w. string_bytes w) words.now) ≡ true → f ≡ NoMemory) }
 {
     let command = errands_command(alloc)?;

@@ -83,6 +83,7 @@ fn judge_entries<A: Allocator + Copy>(
             let at = at as u64 + 1;
             return Err(JudgeFault::Illegal { at, rule });
         }
+        // `rooms_of` gave each queue room for all that the entries accept, so no call ends here; it is not proved.
         if !has_place(state, entry) {
             return Err(JudgeFault::NoMemory);
         }
@@ -139,6 +140,7 @@ pub fn judge<A: Allocator + Copy>(
     if !is_in_order(alloc, grid, &chapter.opening)? {
         return Err(JudgeFault::Illegal { at: 0, rule: 1 });
     }
+    // What a state counts is known to have room for fewer entries alone. No text of a trace that the program reads has so many.
     if entries.len() >= 1 << 32 {
         return Err(JudgeFault::NoMemory);
     }

@@ -3,6 +3,7 @@
 //!
 //! - `== cases`: what the program answers to words, input and files.
 //! - `== steps`: whether `check_step` finds each tick of a row's trace conflict-free.
+//! - `== serves`: what comes of scripts that the program serves, and whether it finds their traces legal.
 //! - `== streams`: whether the program ends as it should where each read and each write fails in turn.
 //! - `== twoways`: whether two ways of judging traces come to one answer, on seeded worlds and damaged traces. It has no rows.
 //!
@@ -13,9 +14,11 @@ mod block;
 mod bundle;
 mod cases;
 mod run;
+mod serves;
 mod steps;
 mod streams;
 mod twoways;
+mod words;
 
 use block::{Block, blocks_of};
 use errands_lib::{InputFault, read_whole, write_whole};
@@ -34,6 +37,7 @@ fn tell<R: Alloc<A = Global> + Threads + Sync + Wait>(
     match section.name {
         "cases" => cases::tell(rt, section.text, told),
         "steps" => steps::tell(rt, section.text, told),
+        "serves" => serves::tell(rt, section.text, told),
         "streams" => streams::tell(rt, section.text, told),
         "twoways" => twoways::tell(rt, told, notes),
         _ => Ok(()),

@@ -9,14 +9,14 @@ use std::alloc::{Alloc, AllocError, Global};
 use std::sync::Wait;
 use std::thread::Threads;
 
-/// The job of a run, by lines or by its trace.
-pub(crate) fn run_job(alloc: Global, trace: bool) -> Result<Job, AllocError>
+/// The job that writes the trace of a run.
+fn trace_job(alloc: Global) -> Result<Job, AllocError>
     ensures { IfOk result (λ job. true ≡ names_two job) }
 {
     Ok(Job::Run {
         first: String::from_str(alloc, "map")?,
         second: String::from_str(alloc, "script")?,
-        trace,
+        trace: true,
     })
 }
 
@@ -26,7 +26,7 @@ pub(crate) fn trace_of<R: Alloc<A = Global> + Threads + Sync + Wait>(
     bundle: Bundle<'_>,
 ) -> Result<Vec<u8>, AllocError> {
     let alloc = rt.alloc();
-    let job = run_job(alloc, true)?;
+    let job = trace_job(alloc)?;
     let Bundle {
         mut map,
         mut script,

@@ -1,13 +1,12 @@
 //! Each tick of rows, judged by itself.
 //!
-//! A row is a bundle of a map and a script. Its line tells how many steps the row has, that each of them is conflict-free, or which is
-//! not, and how many arrivals they bring.
+//! A row is a map, the line `script` and a script, which is run, or a map, the line `trace` and a trace. Its line tells how many steps
+//! the row has, that each of them is conflict-free, or which is not, and how many arrivals they bring.
 
 mod find;
 mod walk;
 
-use crate::block::blocks_of;
-use crate::bundle::Bundle;
+use crate::block::{Block, blocks_of};
 use find::find;
 use std::alloc::{Alloc, AllocError, Global};
 use std::sync::Wait;
@@ -33,12 +32,11 @@ fn line_of(alloc: Global, name: &str, found: Option<Finding>) -> Result<String, 
 /// Tells of the steps of a row.
 fn tell_row<R: Alloc<A = Global> + Threads + Sync + Wait>(
     rt: &R,
-    name: &str,
-    bundle: Bundle<'_>,
+    block: Block<'_>,
     told: &mut Vec<u8>,
 ) -> Result<(), AllocError> {
-    let found = find(rt, bundle)?;
-    let line = line_of(rt.alloc(), name, found)?;
+    let found = find(rt, block.text)?;
+    let line = line_of(rt.alloc(), block.name, found)?;
     told.extend_from_slice(line.as_bytes())
 }
 
@@ -49,9 +47,7 @@ pub(crate) fn tell<R: Alloc<A = Global> + Threads + Sync + Wait>(
     told: &mut Vec<u8>,
 ) -> Result<(), AllocError> {
     for block in &blocks_of(rt.alloc(), text, b"= ")? {
-        if let Some(bundle) = Bundle::of(block.text) {
-            tell_row(rt, block.name, bundle, told)?;
-        }
+        tell_row(rt, *block, told)?;
     }
     Ok(())
 }

@@ -1,6 +1,7 @@
 //! What is found of a row as the program writes it down.
 
 use super::walk::{Finding, walk};
+use crate::block::split_at;
 use crate::bundle::Bundle;
 use crate::run::trace_of;
 use fleet_grid::Grid;
@@ -26,14 +27,25 @@ fn find_in(alloc: Global, grid: &Grid, trace: &[u8]) -> Result<Option<Finding>, 
     }
 }
 
-/// What is found of the steps of a row. None where the program writes no chapter.
-pub(crate) fn find<R: Alloc<A = Global> + Threads + Sync + Wait>(
-    rt: &R,
-    bundle: Bundle<'_>,
-) -> Result<Option<Finding>, AllocError> {
-    let trace = trace_of(rt, bundle)?;
-    match grid_of(rt.alloc(), bundle.map)? {
-        Some(grid) => find_in(rt.alloc(), &grid, &trace),
+/// What is found of the steps of a trace on a map.
+fn find_on(alloc: Global, map: &[u8], trace: &[u8]) -> Result<Option<Finding>, AllocError> {
+    match grid_of(alloc, map)? {
+        Some(grid) => find_in(alloc, &grid, trace),
         None => Ok(None),
     }
+}
+
+/// What is found of the steps of a row. None where it has no chapter.
+pub(crate) fn find<R: Alloc<A = Global> + Threads + Sync + Wait>(
+    rt: &R,
+    text: &[u8],
+) -> Result<Option<Finding>, AllocError> {
+    if let Some((map, _, trace)) = split_at(text, b"trace") {
+        return find_on(rt.alloc(), map, trace);
+    }
+    let Some(bundle) = Bundle::of(text) else {
+        return Ok(None);
+    };
+    let trace = trace_of(rt, bundle)?;
+    find_on(rt.alloc(), bundle.map, &trace)
 }

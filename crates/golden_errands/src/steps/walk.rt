@@ -1,9 +1,9 @@
 //! The steps of a chapter, one after another.
 
-use golden_compare::is_placement;
 use fleet_check::{StepFault, check_step};
 use fleet_grid::Grid;
 use fleet_history::{Chapter, Entry};
+use golden_compare::is_placement;
 use std::alloc::{AllocError, Global};
 
 /// What is found of a chapter's steps.

@@ -1,55 +1,148 @@
-//! A run by readers and writers that may fail.
+//! A job by readers and writers that may fail.
 
 use super::sink::{Room, Sink};
 use super::source::Source;
-use crate::bundle::Bundle;
-use crate::run::run_job;
+use crate::words::words_of;
+use errands_lib::{InputFault, Inputs, run_words};
 use golden_compare::Outcome;
-use errands_lib::run_with_kit;
 use std::alloc::{Alloc, AllocError, Global};
 use std::sync::Wait;
 use std::thread::Threads;
 
-/// What a run reads, and how much room there is for what it writes.
+/// A job of the program that is tried.
+#[derive(Clone, Copy, PartialEq, Eq)]
+pub(crate) enum Task {
+    Lines,
+    Trace,
+    Bundle,
+    Map,
+    Judge,
+}
+
+/// Where a job reads.
+#[derive(Clone, Copy, PartialEq, Eq)]
+pub(crate) enum Place {
+    FirstFile,
+    SecondFile,
+    Input,
+}
+
+impl Task {
+    pub(crate) const ALL: [Task; 5] = [
+        Task::Lines,
+        Task::Trace,
+        Task::Bundle,
+        Task::Map,
+        Task::Judge,
+    ];
+
+    pub(crate) fn name(self) -> &'static str {
+        match self {
+            Task::Lines => "lines",
+            Task::Trace => "trace",
+            Task::Bundle => "bundle",
+            Task::Map => "map",
+            Task::Judge => "judge",
+        }
+    }
+
+    /// The program's words after its own name.
+    fn words(self) -> &'static str {
+        match self {
+            Task::Lines => "run first second",
+            Task::Trace => "run --trace first second",
+            Task::Bundle => "",
+            Task::Map => "map first",
+            Task::Judge => "judge first second",
+        }
+    }
+
+    /// Where the job reads, in its order.
+    pub(crate) fn places(self) -> &'static [Place] {
+        match self {
+            Task::Lines | Task::Trace | Task::Judge => &[Place::FirstFile, Place::SecondFile],
+            Task::Bundle => &[Place::Input],
+            Task::Map => &[Place::FirstFile],
+        }
+    }
+}
+
+/// What a job reads, and how much room there is for what it writes.
 #[derive(Clone, Copy)]
 pub(crate) struct Streams<'a> {
-    pub(crate) map: Source<'a>,
-    pub(crate) script: Source<'a>,
+    first: Source<'a>,
+    second: Source<'a>,
+    input: Source<'a>,
     pub(crate) output: Room,
     pub(crate) error: Room,
 }
 
 impl<'a> Streams<'a> {
-    /// A bundle's, none of which fails.
-    pub(crate) fn of(bundle: Bundle<'a>) -> Streams<'a> {
+    /// Readers of these texts, and writers, none of which fails.
+    pub(crate) fn of(first: &'a [u8], second: &'a [u8], input: &'a [u8]) -> Streams<'a> {
         Streams {
-            map: Source::of(bundle.map),
-            script: Source::of(bundle.script),
+            first: Source::of(first),
+            second: Source::of(second),
+            input: Source::of(input),
             output: Room::ALL,
             error: Room::ALL,
         }
     }
+
+    pub(crate) fn source(&self, place: Place) -> Source<'a> {
+        match place {
+            Place::FirstFile => self.first,
+            Place::SecondFile => self.second,
+            Place::Input => self.input,
+        }
+    }
+
+    /// The same with another reader there.
+    pub(crate) fn with(self, place: Place, source: Source<'a>) -> Streams<'a> {
+        let mut streams = self;
+        match place {
+            Place::FirstFile => streams.first = source,
+            Place::SecondFile => streams.second = source,
+            Place::Input => streams.input = source,
+        }
+        streams
+    }
 }
 
-/// What a run of the script on the map comes to, by lines or by its trace.
+impl<'a> Inputs for Streams<'a> {
+    type File = Source<'a>;
+
+    type Input = Source<'a>;
+
+    ghost opens = { λ _ _ _ _. Unit {0} };
+
+    ghost reads = { λ _ _ _. Unit {0} };
+
+    fn open(&mut self, name: &str) -> Result<Source<'a>, InputFault> {
+        match name {
+            "first" => Ok(self.first),
+            "second" => Ok(self.second),
+            _ => Err(InputFault::File),
+        }
+    }
+
+    fn input(&mut self) -> Source<'a> {
+        self.input
+    }
+}
+
+/// What a job comes to by these streams.
 pub(crate) fn outcome_of<R: Alloc<A = Global> + Threads + Sync + Wait>(
     rt: &R,
-    trace: bool,
+    task: Task,
     streams: Streams<'_>,
 ) -> Result<Outcome, AllocError> {
     let alloc = rt.alloc();
-    let job = run_job(alloc, trace)?;
-    let (mut map, mut script) = (streams.map, streams.script);
+    let words = words_of(alloc, task.words())?;
+    let mut inputs = streams;
     let mut output = Sink::new(alloc, streams.output);
     let mut error = Sink::new(alloc, streams.error);
-    let status = run_with_kit(
-        rt,
-        &job,
-        &mut map,
-        Some(&mut script),
-        &mut output,
-        &mut error,
-    );
+    let status = run_words(rt, &words, &mut inputs, &mut output, &mut error);
     Ok(Outcome {
         status,
         output: output.bytes,

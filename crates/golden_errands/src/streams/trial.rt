@@ -1,9 +1,8 @@
-//! Trials of a row: its readers and writers fail, each in turn.
+//! Trials of a job: its readers and writers fail, each in turn.
 
-use super::job::{Streams, outcome_of};
+use super::job::{Place, Streams, Task, outcome_of};
 use super::sink::Room;
 use super::source::Source;
-use crate::bundle::Bundle;
 use golden_compare::Outcome;
 use std::alloc::{Alloc, AllocError, Global};
 use std::sync::Wait;
@@ -12,26 +11,26 @@ use std::thread::Threads;
 /// The greatest length of a file.
 const MOST: u64 = 16_777_216;
 
-/// A run whose readers and writers are good, and what it comes to.
+/// A job whose readers and writers are good, and what it comes to.
 #[derive(Clone, Copy)]
-struct Good<'a> {
-    trace: bool,
-    streams: Streams<'a>,
-    wanted: &'a Outcome,
+pub(crate) struct Good<'a> {
+    pub(crate) task: Task,
+    pub(crate) streams: Streams<'a>,
+    pub(crate) wanted: &'a Outcome,
 }
 
 /// What is tried.
 #[derive(Clone, Copy)]
-enum Trial {
+pub(crate) enum Trial {
     /// Reads of one byte: the same comes out.
     ByteByByte,
-    /// Each read of a byte fails in turn, the one that finds the end of the file too.
+    /// Each read of a byte fails in turn, the one that finds the end of the file too: a file failed, and nothing is written.
     EachRead,
-    /// Each write fails in turn: a front of the output is written, and a file failed.
+    /// Each write fails in turn: a prefix of the output is written, and a file failed.
     EachWrite,
     /// Each write takes no byte in turn: alike.
     EachEmptyWrite,
-    /// Each write of the complaint fails in turn: the status stays, and so does a front of the complaint.
+    /// Each write of the complaint fails in turn: the status stays, and so does a prefix of the complaint.
     EachComplaint,
     /// A script that goes on with line feeds: to the greatest length of a file the same comes out, with one byte more a file
     /// failed, and so it does where it never ends. For the lines alone, since it takes long.
@@ -39,7 +38,7 @@ enum Trial {
 }
 
 impl Trial {
-    const ALL: [Trial; 6] = [
+    pub(crate) const ALL: [Trial; 6] = [
         Trial::ByteByByte,
         Trial::EachRead,
         Trial::EachWrite,
@@ -48,7 +47,7 @@ impl Trial {
         Trial::LongFiles,
     ];
 
-    fn name(self) -> &'static str {
+    pub(crate) fn name(self) -> &'static str {
         match self {
             Trial::ByteByByte => "read byte by byte",
             Trial::EachRead => "each read fails",
@@ -59,8 +58,9 @@ impl Trial {
         }
     }
 
-    fn is_of(self, good: Good<'_>) -> bool {
-        !(good.trace && matches!(self, Trial::LongFiles))
+    /// Whether this is tried of the task.
+    pub(crate) fn is_of(self, task: Task) -> bool {
+        !matches!(self, Trial::LongFiles) || matches!(task, Task::Lines)
     }
 }
 
@@ -70,16 +70,16 @@ fn is_like<R: Alloc<A = Global> + Threads + Sync + Wait>(
     good: Good<'_>,
     streams: Streams<'_>,
 ) -> Result<bool, AllocError> {
-    Ok(outcome_of(rt, good.trace, streams)?.is_like(good.wanted))
+    Ok(outcome_of(rt, good.task, streams)?.is_like(good.wanted))
 }
 
-/// Whether a file failed in a run by these streams.
+/// Whether a file failed in a job by these streams.
 fn fails<R: Alloc<A = Global> + Threads + Sync + Wait>(
     rt: &R,
-    trace: bool,
+    task: Task,
     streams: Streams<'_>,
 ) -> Result<bool, AllocError> {
-    Ok(outcome_of(rt, trace, streams)?.is_file_fault())
+    Ok(outcome_of(rt, task, streams)?.is_file_fault())
 }
 
 fn byte_by_byte<R: Alloc<A = Global> + Threads + Sync + Wait>(
@@ -87,9 +87,28 @@ fn byte_by_byte<R: Alloc<A = Global> + Threads + Sync + Wait>(
     good: Good<'_>,
 ) -> Result<bool, AllocError> {
     let mut streams = good.streams;
-    streams.map.step = 1;
-    streams.script.step = 1;
+    for place in good.task.places() {
+        let mut source = streams.source(*place);
+        source.step = 1;
+        streams = streams.with(*place, source);
+    }
     is_like(rt, good, streams)
+}
+
+/// Whether a file failed at each read from this place, of a byte each, and at the one that finds the end.
+fn each_read_of<R: Alloc<A = Global> + Threads + Sync + Wait>(
+    rt: &R,
+    good: Good<'_>,
+    place: Place,
+) -> Result<bool, AllocError> {
+    let mut named = true;
+    let mut source = good.streams.source(place);
+    source.step = 1;
+    for good_reads in 0..=source.bytes.len() as u64 {
+        source.good_reads = good_reads;
+        named &= fails(rt, good.task, good.streams.with(place, source))?;
+    }
+    Ok(named)
 }
 
 fn each_read<R: Alloc<A = Global> + Threads + Sync + Wait>(
@@ -97,23 +116,14 @@ fn each_read<R: Alloc<A = Global> + Threads + Sync + Wait>(
     good: Good<'_>,
 ) -> Result<bool, AllocError> {
     let mut named = true;
-    let mut streams = good.streams;
-    streams.map.step = 1;
-    for good_reads in 0..streams.map.bytes.len() as u64 {
-        streams.map.good_reads = good_reads;
-        named &= fails(rt, good.trace, streams)?;
-    }
-    let mut streams = good.streams;
-    streams.script.step = 1;
-    for good_reads in 0..streams.script.bytes.len() as u64 {
-        streams.script.good_reads = good_reads;
-        named &= fails(rt, good.trace, streams)?;
+    for place in good.task.places() {
+        named &= each_read_of(rt, good, *place)?;
     }
     Ok(named)
 }
 
-/// Whether that came of a run of which so many bytes were written.
-fn is_front(met: &Outcome, wanted: &Outcome, writes: u64) -> bool {
+/// Whether that came of a job of whose output this many bytes were written.
+fn is_prefix(met: &Outcome, wanted: &Outcome, writes: u64) -> bool {
     met.status == 3
         && met.complaint.as_slice() == Outcome::FILE_COMPLAINT
         && met.output.len() as u64 == writes
@@ -129,14 +139,14 @@ fn each_write<R: Alloc<A = Global> + Threads + Sync + Wait>(
     let mut named = true;
     for writes in 0..good.wanted.output.len() as u64 {
         streams.output = Room { writes, fails };
-        let met = outcome_of(rt, good.trace, streams)?;
-        named &= is_front(&met, good.wanted, writes);
+        let met = outcome_of(rt, good.task, streams)?;
+        named &= is_prefix(&met, good.wanted, writes);
     }
     Ok(named)
 }
 
-/// Whether that came of a run that wrote nothing but so many bytes of the complaint.
-fn is_front_of_complaint(met: &Outcome, writes: u64) -> bool {
+/// Whether that came of a job that wrote nothing but this many bytes of the complaint.
+fn is_prefix_of_complaint(met: &Outcome, writes: u64) -> bool {
     met.status == 3
         && met.output.is_empty()
         && met.complaint.len() as u64 == writes
@@ -158,36 +168,37 @@ fn each_complaint<R: Alloc<A = Global> + Threads + Sync + Wait>(
             writes,
             fails: true,
         };
-        let met = outcome_of(rt, good.trace, streams)?;
-        named &= is_front_of_complaint(&met, writes);
+        let met = outcome_of(rt, good.task, streams)?;
+        named &= is_prefix_of_complaint(&met, writes);
     }
     Ok(named)
 }
 
-/// The streams where so many line feeds stand behind the script, of which so many bytes are read at once.
-fn longer<'a>(streams: Streams<'a>, line_feeds: u64, step: usize) -> Streams<'a> {
-    let mut streams = streams;
-    streams.script.line_feeds = line_feeds;
-    streams.script.step = step;
-    streams
+/// The streams where line feeds stand after the text of the last place, of which this many bytes are read at once.
+fn longer<'a>(good: Good<'a>, place: Place, line_feeds: u64, step: usize) -> Streams<'a> {
+    let mut source = good.streams.source(place);
+    source.line_feeds = line_feeds;
+    source.step = step;
+    good.streams.with(place, source)
 }
 
 fn long_files<R: Alloc<A = Global> + Threads + Sync + Wait>(
     rt: &R,
     good: Good<'_>,
 ) -> Result<bool, AllocError> {
-    let Source { bytes, step, .. } = good.streams.script;
+    let Some(place) = good.task.places().last() else {
+        return Ok(false);
+    };
+    let Source { bytes, step, .. } = good.streams.source(*place);
     let line_feeds = MOST.saturating_sub(bytes.len() as u64);
-    let [most, more, endless] = [
-        longer(good.streams, line_feeds, step),
-        longer(good.streams, line_feeds.saturating_add(1), step),
-        longer(good.streams, u64::MAX, 1),
-    ];
-    Ok(is_like(rt, good, most)? && fails(rt, good.trace, more)? && fails(rt, good.trace, endless)?)
+    let most = longer(good, *place, line_feeds, step);
+    let more = longer(good, *place, line_feeds.saturating_add(1), step);
+    let endless = longer(good, *place, u64::MAX, 1);
+    Ok(is_like(rt, good, most)? && fails(rt, good.task, more)? && fails(rt, good.task, endless)?)
 }
 
 /// Whether the program ends as it should in this trial.
-fn is_good<R: Alloc<A = Global> + Threads + Sync + Wait>(
+pub(crate) fn is_good<R: Alloc<A = Global> + Threads + Sync + Wait>(
     rt: &R,
     good: Good<'_>,
     trial: Trial,
@@ -200,54 +211,4 @@ fn is_good<R: Alloc<A = Global> + Threads + Sync + Wait>(
         Trial::EachComplaint => each_complaint(rt, good),
         Trial::LongFiles => long_files(rt, good),
     }
-}
-
-/// The line of a trial.
-fn line_of(
-    alloc: Global,
-    name: &str,
-    trace: bool,
-    trial: Trial,
-    is_good: bool,
-) -> Result<String, AllocError> {
-    let form = if trace { "trace" } else { "lines" };
-    let answer = if is_good { "as it should" } else { "WRONG" };
-    format!(in alloc; "{name}, {form}: {}: {answer}\n", trial.name())
-}
-
-/// Tells of each trial of a run.
-fn tell_trials<R: Alloc<A = Global> + Threads + Sync + Wait>(
-    rt: &R,
-    name: &str,
-    good: Good<'_>,
-    told: &mut Vec<u8>,
-) -> Result<(), AllocError> {
-    for trial in Trial::ALL {
-        if trial.is_of(good) {
-            let is_good = is_good(rt, good, trial)?;
-            let line = line_of(rt.alloc(), name, good.trace, trial, is_good)?;
-            told.extend_from_slice(line.as_bytes())?;
-        }
-    }
-    Ok(())
-}
-
-/// Tells of a row, by its lines and by its trace.
-pub(crate) fn tell_row<R: Alloc<A = Global> + Threads + Sync + Wait>(
-    rt: &R,
-    name: &str,
-    bundle: Bundle<'_>,
-    told: &mut Vec<u8>,
-) -> Result<(), AllocError> {
-    let streams = Streams::of(bundle);
-    for trace in [false, true] {
-        let wanted = outcome_of(rt, trace, streams)?;
-        let good = Good {
-            trace,
-            streams,
-            wanted: &wanted,
-        };
-        tell_trials(rt, name, good, told)?;
-    }
-    Ok(())
 }

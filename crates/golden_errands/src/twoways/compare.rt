@@ -3,10 +3,10 @@
 ghost use Rattle.std.specs.Prelude.{◌≡◌, ℕ, None, Some, Ok, Err};
 ghost use Rattle.fleet_trace.specs.declared.fault.JudgeFault.TheVariants.{Illegal};
 
-use golden_compare::Answer;
 use fleet_grid::Grid;
 use fleet_history::Chapter;
 use fleet_trace::{JudgeFault, TraceFault, judge, read_trace};
+use golden_compare::Answer;
 use golden_judge::{Site, first_fault};
 use std::alloc::{AllocError, Global};
 

@@ -7,4 +7,4 @@ use Rattle.errands_lib.proofs.program.tell.Goals as goal
 pub returns-then-not-write_whole : goal.returns-then-not-write_whole
 returns-then-not-write_whole g c =
     let front = subst (λ (text : List ℕ). AppendsFront (g.W.Write.contents c.args.output.now) (g.W.Write.contents c.write_whole.new.writer) text) c.as_bytes.ensures.value c.write_whole.ensures.front in
-    cut_short front c.status.ensures c.write_whole-then-not-write_whole.ensures.front
+    cut_short front c.fail.ensures

@@ -1,0 +1,97 @@
+//! What the program does with its words.
+
+ghost use Rattle.std.specs.Prelude.{◌≡◌, IfSome, is_some, map, string_bytes};
+ghost use Rattle.errands_text.specs.Transfer.{bytes_of};
+ghost use Rattle.errands_lib.specs.Inputs.{DoesJob, DoesWords, Refuses};
+ghost use Rattle.errands_lib.specs.Laws.{program_laws};
+ghost use Rattle.errands_lib.specs.Told.{IsShown, names_two};
+
+use crate::closures::run_with_kit;
+use crate::inputs::{Inputs, open_both};
+use crate::program::fail;
+use errands_text::{InputFault, write_whole};
+use errands_words::{Job, JobFiles, WordFault, parse_words};
+use std::alloc::{Alloc, Global};
+use std::io::{Read, Write};
+use std::sync::Wait;
+use std::thread::Threads;
+
+/// The status of words that name no job.
+const BAD_WORDS: u8 = 2;
+
+/// Says on the error writer why words name no job. The result is the status: 2, or 7 where memory ran out.
+pub fn refuse_words<E: Write>(fault: &WordFault, error: &mut E) -> u8
+    ensures { Refuses fault.now (E.contents error.old) (E.contents error.new) result }
+{
+    match fault {
+        WordFault::Words(text) => {
+            write_whole(error, text.as_bytes());
+            BAD_WORDS
+        }
+        WordFault::NoMemory => fail(InputFault::NoMemory, error),
+    }
+}
+
+/// `run_with_kit`, with one lifetime for both files: a file that is not there has that of the other.
+fn run_on<'a, R: Alloc<A = Global> + Threads + Sync + Wait, I: Read, W: Write, E: Write>(
+    rt: &R,
+    job: &Job,
+    file: &'a mut I,
+    other: Option<&'a mut I>,
+    output: &mut W,
+    error: &mut E,
+) -> u8
+    requires { is_some other ≡ names_two job.now }
+    ensures { IfSome (I.remaining file.old) (λ first. IfSome (bytes_of I.remaining other.entry) (λ second.
+        IsShown program_laws job.now first second (W.contents output.old) (W.contents output.new) (E.contents error.old) (E.contents error.new) result)) }
+{
+    run_with_kit(rt, job, file, other, output, error)
+}
+
+/// Opens what a job names and does the job. The result is the status.
+fn run_job<R: Alloc<A = Global> + Threads + Sync + Wait, I: Inputs, W: Write, E: Write>(
+    rt: &R,
+    job: &Job,
+    inputs: &mut I,
+    output: &mut W,
+    error: &mut E,
+) -> u8
+    ensures { DoesJob I.opens I.reads I.File.remaining I.Input.remaining job.now inputs.old inputs.new
+        (W.contents output.old) (W.contents output.new) (E.contents error.old) (E.contents error.new) result }
+{
+    match job.files() {
+        JobFiles::None => run_on(rt, job, &mut inputs.input(), None, output, error),
+        JobFiles::One(name) => match inputs.open(name) {
+            Ok(mut file) => run_on(rt, job, &mut file, None, output, error),
+            Err(fault) => fail(fault, error),
+        },
+        JobFiles::Two(first, second) => match open_both(inputs, first, second) {
+            Ok((mut first, mut second)) => {
+                run_on(rt, job, &mut first, Some(&mut second), output, error)
+            }
+            Err(fault) => fail(fault, error),
+        },
+    }
+}
+
+/// Does what the words say, of which the first is the program's name, and writes what there is to say. The result is the
+/// status.
+///
+/// Words that name no job, a request for help among them, end with status 2 and `clap`'s text on the error writer; nothing is
+/// opened. Files are opened in their order, the second only where the first could be, and before either is read; one that
+/// cannot be is status 3. What comes then is `run_program`'s.
+pub fn run_words<R: Alloc<A = Global> + Threads + Sync + Wait, I: Inputs, W: Write, E: Write>(
+    rt: &R,
+    words: &[String],
+    inputs: &mut I,
+    output: &mut W,
+    error: &mut E,
+) -> u8
+    ensures { DoesWords I.opens I.reads I.File.remaining I.Input.remaining (map (λ w. string_bytes w) words.now) inputs.old inputs.new
+        (W.contents output.old) (W.contents output.new) (E.contents error.old) (E.contents error.new) result }
+{
+    match parse_words(rt.alloc(), words) {
+        Ok(job) => run_job(rt, &job, inputs, output, error),
+        Err(fault) => refuse_words(&fault, error),
+    }
+}
