@@ -1,11 +1,11 @@
 //! The measure of the first bridge.
 
+use bench_ground::{Measure, print_measure};
 use fleet_bridge::first_bridge;
 use fleet_grid::Grid;
 use std::alloc::{Alloc, Global};
 use std::io;
 use std::time::{Clock, Instant};
-use bench_ground::{Measure, print_measure};
 
 /// How often the bridge is searched on each map.
 const REPEATS: u32 = 8;

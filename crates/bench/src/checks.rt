@@ -3,12 +3,12 @@
 ghost use Rattle.fleet_grid.specs.Step.{IsPlacement};
 
 use crate::steps::FLEETS;
+use bench_ground::{Measure, Random, Site, print_measure};
 use fleet_check::check_step;
 use fleet_grid::Grid;
 use std::alloc::{Alloc, Global};
 use std::io;
 use std::time::{Clock, Instant};
-use bench_ground::{Measure, Random, Site, print_measure};
 
 /// How often a step is checked.
 const REPEATS: u32 = 200;

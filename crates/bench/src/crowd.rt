@@ -4,6 +4,7 @@ ghost use Rattle.std.specs.Prelude.{◌≡◌, ◌<◌, ◌≤◌, length, vec_l
 ghost use Rattle.fleet_grid.specs.Step.{IsPlacement};
 ghost use Rattle.bench_ground.specs.Fleet.{AreWithin, Serves, IsUnderWay};
 
+use bench_ground::{Fleet, Random, Site};
 use fleet_check::check_step;
 use fleet_field::Compass;
 use fleet_grid::Grid;
@@ -12,7 +13,6 @@ use fleet_map::MapText;
 use fleet_pibt::Stepper;
 use std::alloc::{Alloc, AllocError, Global};
 use std::io;
-use bench_ground::{Fleet, Random, Site};
 
 /// How many robots there are: one for each cell.
 const ROBOTS: usize = 512;

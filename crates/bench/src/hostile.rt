@@ -1,6 +1,7 @@
 //! Whole maps of a hostile shape: read, described, and run through by one robot.
 
 use crate::worlds::{Ground, Task, Work, measure_world};
+use bench_ground::{Random, Shape};
 use fleet_bridge::first_bridge;
 use fleet_grid::Grid;
 use fleet_map::read_map;
@@ -8,7 +9,6 @@ use std::alloc::{Alloc, Global};
 use std::io::{self, ErrorKind};
 use std::thread::Threads;
 use std::time::{Clock, Instant};
-use bench_ground::{Random, Shape};
 
 /// How many ticks the robot is under way.
 const TICKS: u32 = 4_096;

@@ -3,12 +3,12 @@
 ghost use Rattle.std.specs.Prelude.{◌<◌, length};
 
 use crate::worlds::{LIMITS, MOST_ROBOTS, Task, Work, give_one, measure_fleets, order_one};
+use bench_ground::{Kind, Random, Site};
 use fleet_world::{Notice, World};
 use std::alloc::{Alloc, Global};
 use std::io;
 use std::thread::Threads;
 use std::time::{Clock, Instant};
-use bench_ground::{Kind, Random, Site};
 
 /// How many ticks times robots a run has.
 const ROBOT_TICKS: usize = 256_000;

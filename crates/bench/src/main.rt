@@ -14,6 +14,7 @@ mod steps;
 mod ticks;
 mod worlds;
 
+use bench_ground::{Kernel, Kind, Shape};
 use crowd::tell_crowd;
 use hostile::measure_hostile;
 use maps::tell_maps;
@@ -23,7 +24,6 @@ use std::env::Env;
 use std::thread::Threads;
 use std::time::Clock;
 use std::{env, io};
-use bench_ground::{Kernel, Kind, Shape};
 
 /// What is printed where no kernel is named.
 const KERNELS: &str =

@@ -1,10 +1,10 @@
 //! The maps that are measured, each with its counts.
 
 use crate::hostile::read_grid;
+use bench_ground::{Kind, Shape, grid_of};
 use fleet_grid::Grid;
 use std::alloc::{Alloc, Global};
 use std::io;
-use bench_ground::{Kind, Shape, grid_of};
 
 /// A line of a map's counts.
 fn tell(rt: &impl Print, name: &str, grid: &Grid) -> io::Result<()> {

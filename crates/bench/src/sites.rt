@@ -6,11 +6,11 @@ use crate::fields::{measure_field, measure_fields};
 use crate::lifelong::measure_lifelong;
 use crate::steps::measure_step;
 use crate::ticks::measure_tick;
+use bench_ground::{Kernel, Kind, Site, grid_of};
 use std::alloc::{Alloc, Global};
 use std::io;
 use std::thread::Threads;
 use std::time::Clock;
-use bench_ground::{Kernel, Kind, Site, grid_of};
 
 /// Measures the kernel on each kind of map.
 pub(crate) fn measure_kinds<R: Alloc<A = Global> + Clock + Print + Threads + Sync>(

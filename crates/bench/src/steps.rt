@@ -4,13 +4,13 @@ ghost use Rattle.std.specs.Prelude.{◌≡◌, ℕ, ◌<◌, ◌≤◌, length, 
 ghost use Rattle.fleet_grid.specs.Step.{IsPlacement};
 ghost use Rattle.bench_ground.specs.Fleet.{AreWithin, Serves, IsUnderWay};
 
+use bench_ground::{Fleet, Measure, Random, Site, print_measure};
 use fleet_field::Compass;
 use fleet_hooks::{TieHook, TieLaw, TieView};
 use fleet_pibt::Stepper;
 use std::alloc::{Alloc, Global};
 use std::io;
 use std::time::{Clock, Instant};
-use bench_ground::{Fleet, Measure, Random, Site, print_measure};
 
 /// How many robots there are.
 pub const FLEETS: [usize; 3] = [16, 128, 512];

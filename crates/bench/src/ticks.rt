@@ -3,12 +3,12 @@
 ghost use Rattle.std.specs.Prelude.{◌<◌, length};
 
 use crate::worlds::{LIMITS, MOST_ROBOTS, Task, Work, give_one, measure_fleets, order_one};
+use bench_ground::{Kind, Measure, Random, Site};
 use fleet_world::World;
 use std::alloc::{Alloc, Global};
 use std::io;
 use std::thread::Threads;
 use std::time::{Clock, Instant};
-use bench_ground::{Kind, Measure, Random, Site};
 
 /// From how many cells robots take their goals.
 const GOALS: usize = 64;

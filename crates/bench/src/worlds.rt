@@ -5,6 +5,7 @@ ghost use Rattle.std.specs.Prelude.{◌<◌, length};
 use crate::lifelong::{print_run, time_run};
 use crate::steps::FLEETS;
 use crate::ticks::time_ticks;
+use bench_ground::{Kind, Random, Site, grid_of, print_measure};
 use fleet_grid::Grid;
 use fleet_hooks::{
     ArrivalHook, ArrivalView, Farewell, FarewellView, Hooks, StampLaw, TieHook, TieLaw, TieView,
@@ -15,7 +16,6 @@ use std::io::{self, ErrorKind};
 use std::mem;
 use std::thread::Threads;
 use std::time::Clock;
-use bench_ground::{Kind, Random, Site, grid_of, print_measure};
 
 /// The mailbox has room for the notices of two errands of each robot, and for those errands. The chapter has room for all ticks
 /// of several long runs.

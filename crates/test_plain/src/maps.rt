@@ -2,10 +2,10 @@
 
 use fleet_map::text::{first_line, first_word, is_blank_byte, number_up_to, trimmed_line};
 use fleet_map::{MOST_SIDE, MapFault, read_map};
-use test_alloc::Refusing;
 use std::alloc::{AllocError, Allocator, Global};
 use std::fmt::Write;
 use std::process::Abort;
+use test_alloc::Refusing;
 
 /// Maps that are read: the text, the height, the width and the letters.
 const MAPS: [(&[u8], u32, u32, &[u8]); 3] = [
