@@ -1,0 +1,71 @@
+//! Plans in both forms, valid and with each kind of fault. The expected values were worked out by hand.
+
+use fleet_plans::{FaultText, PlanAnswer, check_texts};
+use std::alloc::{AllocError, Global};
+
+/// Two rows of three cells; the middle of the second is a wall.
+const MAP: &str = "type octile\nheight 2\nwidth 3\nmap\n...\n.@.\n";
+
+/// Robot 0 goes round two corners; robot 1 follows it, and waits a step.
+const CELLS: &str =
+    "agents=2\nsolver=PIBT\nstarts=(0,0),(0,1),\ngoals=(2,1),(1,0),\nsolution=\n0:(0,0),(0,1),\n1:(1,0),(0,0),\n2:(2,0),(0,0),\n3:(2,1),(1,0),\n";
+
+/// The same plan as moves.
+const MOVES: &str = "form=moves\nstarts=(0,0),(0,1)\nsolution=\nrrd\nuwr\n";
+
+/// Both robots' second cell is the upper middle one.
+const VERTEX: &str = "starts=(0,0),(2,0),\nsolution=\n0:(0,0),(2,0),\n1:(1,0),(1,0),\n";
+
+const SWAP: &str = "form=moves\nstarts=(0,0),(1,0)\nsolution=\nwr\nwl\n";
+
+/// Robot 1 stands on the wall at time 0.
+const WALL: &str = "form=moves\nstarts=(0,0),(1,1)\nsolution=\nw\nw\n";
+
+/// Robot 1 leaves the map by its east side.
+const OUTSIDE: &str = "form=moves\nstarts=(0,0),(2,0)\nsolution=\nww\nwr\n";
+
+const JUMP: &str = "solution=\n0:(0,0)\n1:(2,0)\n";
+
+const SHORT: &str = "solution=\n0:(0,0),(2,0)\n1:(0,0)\n";
+
+const NO_TIME_ONE: &str = "solution=\n0:(0,0)\n2:(1,0)\n";
+
+const TWO_STARTS: &str = "starts=(0,0)\nstarts=(0,0)\nsolution=\n0:(0,0)\n";
+
+/// What is said of a plan on the map, as it prints; `plan N` of a text that is none.
+fn answer(alloc: Global, plan: &str) -> Result<String, AllocError> {
+    if plan.len() > 4096 {
+        return Err(AllocError);
+    }
+    match check_texts(alloc, MAP.as_bytes(), plan.as_bytes())? {
+        PlanAnswer::Map(_) => String::from_str(alloc, "map"),
+        PlanAnswer::Text(line) => format!(in alloc; "plan {line}"),
+        PlanAnswer::Valid(report) => format!(in alloc; "{report}"),
+        PlanAnswer::Invalid(found) => {
+            let (time, fault) = (found.time, FaultText(found.fault));
+            format!(in alloc; "{time} {fault}")
+        }
+    }
+}
+
+#[test]
+fn plans_are_judged(rt: HostRuntime) {
+    let cases = [
+        (CELLS, "valid 3 2\nsum-of-costs 6\nmakespan 3\non-goals 2\n"),
+        (MOVES, "valid 3 2\nsum-of-costs 6\nmakespan 3\n"),
+        (VERTEX, "1 vertex 0 1"),
+        (SWAP, "2 swap 0 1"),
+        (WALL, "0 off-floor 1"),
+        (OUTSIDE, "2 off-floor 1"),
+        (JUMP, "1 not-adjacent 0"),
+        (SHORT, "1 length"),
+        (NO_TIME_ONE, "plan 3"),
+        (TWO_STARTS, "plan 2"),
+        ("solution=\n", "plan 2"),
+        ("no key\n", "plan 1"),
+    ];
+    for (plan, expected) in &cases {
+        let said = answer(rt.alloc(), plan).expect(&rt, "memory for an answer");
+        assert_eq!(rt; said.as_str(), *expected);
+    }
+}
