@@ -1,17 +1,31 @@
 //! The word `check`.
 
-ghost use Rattle.std.specs.Prelude.{◌≡◌, ◌≤◌, length, IfOk, string_bytes};
+ghost use Rattle.std.specs.Prelude.{◌≡◌, ◌≤◌, Some, length, IfOk};
 ghost use Rattle.fleet_plans.specs.Answer.{IsPlanAnswer};
 ghost use Rattle.fleet_lib.specs.Said.{said_of};
-ghost use Rattle.fleet_lib.specs.Check.{IsCheckOutcome, good, refused, outcome_of};
+ghost use Rattle.fleet_lib.specs.Check.{IsCheckOutcome, good, outcome_of, invalid_text};
 
 use crate::said::Said;
 use errands_text::Complaint;
 use fleet_plans::{FaultText, PlanAnswer, PlanFault, check_texts};
 use std::alloc::{AllocError, Global};
+use std::fmt;
 
 /// The greatest length of a plan, in bytes.
 pub const MOST_PLAN_BYTES: usize = 16_777_216;
+
+/// The line of a plan that is not valid.
+#[derive(Clone, Copy)]
+struct InvalidText(PlanFault);
+
+impl fmt::Display for InvalidText {
+    ghost output = { λ t. Some (invalid_text t.0) };
+
+    fn fmt<W: fmt::Write>(&self, f: &mut fmt::Formatter<W>) -> fmt::Result {
+        let (time, fault) = (self.0.time, FaultText(self.0.fault));
+        writeln!(f, "invalid {time} {fault}")
+    }
+}
 
 /// What is said on the output, with a status.
 fn printed(alloc: Global, text: &str, status: u8) -> Result<Said, AllocError>
@@ -46,9 +60,9 @@ fn said_of_answer(alloc: Global, answer: PlanAnswer) -> Result<Said, AllocError>
             let text = format!(in alloc; "{report}")?;
             printed(alloc, &text, 0)
         }
-        PlanAnswer::Invalid(PlanFault { time, fault }) => {
-            let fault = FaultText(fault);
-            let text = format!(in alloc; "invalid {time} {fault}\n")?;
+        PlanAnswer::Invalid(fault) => {
+            let line = InvalidText(fault);
+            let text = format!(in alloc; "{line}")?;
             printed(alloc, &text, 6)
         }
     }

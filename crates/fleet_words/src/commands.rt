@@ -3,7 +3,7 @@
 ghost use Rattle.std.specs.Prelude.{◌≡◌, IfOk, IsOkAnd, false};
 ghost use Rattle.clap.specs.declared.builder.command.Command.TheViews.{out-Command as fields_of};
 ghost use Rattle.clap.specs.Words.{app_of, with_subcommand as with_sub};
-ghost use Rattle.fleet_words.specs.Command.{fleet_app};
+ghost use Rattle.fleet_words.specs.Command.{fleet_app, fleet_top};
 
 use crate::check::check_command;
 use crate::view::view_command;
@@ -24,14 +24,20 @@ fn with_subcommand<'a>(
     }
 }
 
+/// The command `fleet` without its subcommands.
+fn top_command<'a>(alloc: Global) -> Command<'a>
+    ensures { app_of result ≡ fleet_top }
+{
+    Command::new(alloc, "fleet")
+        .about("Looks at fleets of robots: shows traces of what they did, and judges plans")
+        .version("0.1.0")
+        .subcommand_required(true)
+}
+
 /// The command `fleet` with its subcommands.
 pub(crate) fn fleet_command<'a>(alloc: Global) -> Result<Command<'a>, AllocError>
     ensures { IfOk result (λ c. app_of c ≡ fleet_app) }
 {
-    let command = Command::new(alloc, "fleet")
-        .about("Looks at fleets of robots: shows traces of what they did, and judges plans")
-        .version("0.1.0")
-        .subcommand_required(true);
-    let command = with_subcommand(command, view_command(alloc))?;
+    let command = with_subcommand(top_command(alloc), view_command(alloc))?;
     with_subcommand(command, check_command(alloc))
 }

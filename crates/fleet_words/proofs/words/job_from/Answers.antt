@@ -22,5 +22,5 @@ returns-in_ok-view_in-in-Some c =
 pub returns-in_ok-check_in-in-Some : goal.returns-in_ok-check_in-in-Some
 returns-in_ok-check_in-in-Some c =
     let rows = rows_of (found_of c.in-Some.inner.now) in
-    let name_is : c.in-Some.name.now ≡ codes "check" = (bytes_eq-Decides c.in-Some.name.now (codes "check")).0 (sym c.eq-2.ensures ∙ c.if-eq-2.true) in
+    let name_is : c.in-Some.name.now ≡ codes "check" = (bytes_eq-Decides c.in-Some.name.now (codes "check")).0 (sym c.eq-else-eq.ensures ∙ c.if-eq-2.true) in
     (rows, named _ _ _ c.in-Some.name.now rows c.in-Some.ensures.name c.in-Some.ensures.rows ∙ ap (λ (n : Text). Some (n, rows)) name_is, c.in_ok-check_in-in-Some.ensures)

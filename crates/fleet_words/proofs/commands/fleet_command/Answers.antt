@@ -1,0 +1,18 @@
+-- The command with both of its subcommands.
+use Rattle.std.proofs.Common.{◌≡◌, ◌∙◌, ap, Result, Ok, Err}
+use Rattle.std.specs.Result.{IfOk, IsOkAnd}
+use Rattle.std.proofs.lemmas.Result.{IfOk-weaker}
+use Rattle.clap.specs.declared.builder.command.Command.{Command}
+use Rattle.clap.specs.Words.{App, app_of, with_subcommand}
+use Rattle.fleet_words.specs.Command.{view_app, check_app}
+use Rattle.fleet_words.proofs.commands.fleet_command.Goals as goal
+
+added : {E : Type 0} (r : Result Command E) (new old : App) (a : App) → IsOkAnd r (λ s. new ≡ with_subcommand old (app_of s).top)
+    → IfOk r (λ s. app_of s ≡ a) → new ≡ with_subcommand old a.top
+added (Ok s) new old a h e = h ∙ ap (λ (b : App). with_subcommand old b.top) e
+added (Err x) new old a h e = absurd h
+
+pub returns : goal.returns
+returns c =
+    let viewed = added c.view_command.result _ (app_of c.top_command.result) view_app c.in_ok-command.ensures c.view_command.ensures.app ∙ ap (λ (a : App). with_subcommand a view_app.top) c.top_command.ensures in
+    IfOk-weaker c.with_subcommand-2.result _ _ (λ m h. added c.check_command.result (app_of m) (app_of c.in_ok-command.command) check_app h c.check_command.ensures.app ∙ ap (λ (a : App). with_subcommand a check_app.top) viewed) c.with_subcommand-2.ensures
