@@ -1,5 +1,7 @@
 //! What a world answers to a call, as a line, where it does not want for memory. Each call here gives whether it did not.
 
+ghost use Rattle.std.specs.Prelude.{◌<◌, ◌^◌};
+
 use crate::refusals::calls::Call;
 use crate::refusals::clients::Clients;
 use fleet_trace::write_trace;
@@ -127,6 +129,19 @@ fn next_chapter<A: Allocator + Copy>(
     }
 }
 
+/// Keeps fields that no robot aims at any more, up to this many bytes.
+fn keep<A: Allocator + Copy>(
+    world: &mut World<A>,
+    bytes: u64,
+    told: &mut String,
+) -> Result<(), AllocError>
+    // Always met: what has closures is lent from crate to crate only by a call with a condition.
+    requires { bytes < 2 ^ 64 }
+{
+    world.keep(bytes as usize);
+    writeln!(told, "keep {bytes}")
+}
+
 /// Searches the fields of the robots' next errands.
 fn search_ahead<A: Allocator + Copy + Send + Sync, R: Threads + Sync>(
     rt: &R,
@@ -164,10 +179,7 @@ pub(crate) fn make<A: Allocator + Copy + Send + Sync, R: Alloc<A = A> + Threads 
         Call::Event(Event::Shut(robot)) => return shut(world, robot, told),
         Call::Widen { client, extra } => return widen(world, client, extra, told),
         Call::NextChapter => return next_chapter(alloc, world, told),
-        Call::Keep(bytes) => {
-            world.keep(bytes as usize);
-            writeln!(told, "keep {bytes}")?;
-        }
+        Call::Keep(bytes) => keep(world, bytes, told)?,
         Call::SearchAhead => return search_ahead(rt, world, told),
     }
     Ok(true)
