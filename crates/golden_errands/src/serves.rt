@@ -126,13 +126,17 @@ fn tell_row<R: Alloc<A = Global> + Threads + Sync + Wait>(
     told: &mut Vec<u8>,
 ) -> Result<(), AllocError> {
     let Bundle { map, script } = bundle;
-    let mut files = ServeFiles {
+    let files = ServeFiles {
         map,
         script,
         trace: b"",
     };
     let served = outcome_of(rt, "serve map script", files)?;
-    files.trace = &served.output;
+    let files = ServeFiles {
+        map,
+        script,
+        trace: &served.output,
+    };
     let judged = outcome_of(rt, "judge map trace", files)?;
     let status = served.status;
     let complaint = trimmed(&served.complaint);
