@@ -30,7 +30,7 @@ pub(crate) struct Worker<N: OfficeName<Global>> {
     pub(crate) tally: Tally,
 }
 
-/// What came of a post.
+/// The result of posting an errand.
 #[derive(Clone, Copy, PartialEq, Eq)]
 enum Posted {
     Sent,

@@ -61,7 +61,7 @@ fn report_of<A: Allocator + Copy, B: Allocator + Copy>(
     })
 }
 
-/// Judges a plan and says what it comes to, as `judge_plan` and `costs_of` do.
+/// Judges a plan and reports its costs, as `judge_plan` and `costs_of` do.
 pub fn check_plan<A: Allocator + Copy, B: Allocator + Copy>(
     alloc: A,
     grid: &Grid<B>,

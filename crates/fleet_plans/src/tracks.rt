@@ -22,7 +22,7 @@ fn are_moves(line: &[u8]) -> bool
     })
 }
 
-/// The tracks of so many robots, of a solution whose first line has this number.
+/// The tracks of n robots, of a solution whose first line has this number.
 #[tactic(auto, unfolding(crate::specs::Tracks::tracks_of))]
 pub(crate) fn read_tracks<A: Allocator + Copy>(
     alloc: A,

@@ -118,7 +118,7 @@ fn trimmed(text: &[u8]) -> &str {
     str::from_utf8(text.trim_ascii()).unwrap_or("no text")
 }
 
-/// Tells of a row.
+/// Prints a test case.
 fn tell_row<R: Alloc<A = Global> + Threads + Sync + Wait>(
     rt: &R,
     name: &str,
@@ -150,7 +150,7 @@ fn tell_row<R: Alloc<A = Global> + Threads + Sync + Wait>(
     told.extend_from_slice(line.as_bytes())
 }
 
-/// Tells of each row.
+/// Prints each test case.
 pub(crate) fn tell<R: Alloc<A = Global> + Threads + Sync + Wait>(
     rt: &R,
     text: &[u8],

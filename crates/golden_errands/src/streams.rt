@@ -29,7 +29,7 @@ fn line_of(
     format!(in alloc; "{name}, {}: {}: {answer}\n", task.name(), trial.name())
 }
 
-/// Tells of each trial of a job by these streams.
+/// Prints each trial of a job by these streams.
 fn tell_task<R: Alloc<A = Global> + Threads + Sync + Wait>(
     rt: &R,
     name: &str,
@@ -53,7 +53,7 @@ fn tell_task<R: Alloc<A = Global> + Threads + Sync + Wait>(
     Ok(())
 }
 
-/// Tells of each job that is tried of a row.
+/// Prints each job that is tried of a test case.
 fn tell_row<R: Alloc<A = Global> + Threads + Sync + Wait>(
     rt: &R,
     block: Block<'_>,
@@ -72,7 +72,7 @@ fn tell_row<R: Alloc<A = Global> + Threads + Sync + Wait>(
     Ok(())
 }
 
-/// Tells of each row.
+/// Prints each test case.
 pub(crate) fn tell<R: Alloc<A = Global> + Threads + Sync + Wait>(
     rt: &R,
     text: &[u8],

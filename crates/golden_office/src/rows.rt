@@ -24,7 +24,7 @@ use std::fmt::Write;
 use std::sync::Wait;
 use table::{refused_rows, rows};
 
-/// Tells of a row, behind its name.
+/// Prints a test case, after its name.
 fn tell_row<R: Alloc<A = Global> + Wait>(
     rt: &R,
     meter: &Meter<Global>,

@@ -11,7 +11,7 @@ use std::thread::Threads;
 /// The greatest length of a file.
 const MOST: u64 = 16_777_216;
 
-/// A job whose readers and writers are good, and what it comes to.
+/// A job whose readers and writers are good, and its result.
 #[derive(Clone, Copy)]
 pub(crate) struct Good<'a> {
     pub(crate) task: Task,

@@ -82,7 +82,7 @@ fn refuse_each<R: Alloc<A = Global> + Threads + Sync>(
     Ok(false)
 }
 
-/// Tells of a row that played so, and how often each call was refused memory.
+/// Prints a test case that played so, and how often each call was refused memory.
 fn tell_rounds<R: Alloc<A = Global> + Threads + Sync>(
     rt: &R,
     row: Row<'_, Call>,
