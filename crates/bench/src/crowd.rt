@@ -20,7 +20,7 @@ const ROBOTS: usize = 512;
 /// How many steps are made.
 const STEPS: u32 = 200;
 
-/// What came of the steps.
+/// The result of the steps.
 #[derive(Clone, Copy)]
 struct Steps {
     /// Those without a conflict.

@@ -83,7 +83,7 @@ fn measure_run<R: Alloc<A = Global> + Clock + Print + Threads + Sync>(
     measure_fleets(rt, kind, site, task, &mut Random::from_seed(11))
 }
 
-/// Runs of a world, of which the last counts, behind so many others.
+/// Runs of a world, of which the last counts, after this many others.
 pub(crate) fn time_run<R: Alloc<A = Global> + Clock + Threads + Sync>(
     rt: &R,
     world: &mut World,

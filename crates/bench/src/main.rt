@@ -29,7 +29,7 @@ use std::{env, io};
 const KERNELS: &str =
     "bench: name a kernel: field, fields, bridge, check, step, tick, lifelong, hostile or maps\n";
 
-/// The kernel that the first word behind the program's name is.
+/// The kernel that the first word after the program's name is.
 fn kernel_asked(rt: &(impl Env + Alloc)) -> io::Result<Option<Kernel>> {
     let mut words = env::args(rt)?;
     let _program = words.next();

@@ -36,9 +36,9 @@ pub const MOST_ROBOTS: u32 = 512;
 pub enum Work {
     /// Each tick by itself.
     Ticks,
-    /// A long run, under this name, after so many of the same length that are not counted.
+    /// A long run, under this name, after this many of the same length that are not counted.
     Run { name: &'static str, before: u32 },
-    /// So many ticks in which the first robot goes to the first goal. Who asks for them takes the time.
+    /// This many ticks in which the first robot goes to the first goal. Who asks for them takes the time.
     Way { ticks: u32 },
 }
 
@@ -77,7 +77,7 @@ pub(crate) fn measure_fleets<R: Alloc<A = Global> + Clock + Print + Threads + Sy
     Ok(())
 }
 
-/// Measures a world with one client, of so many robots on the ground, which is taken. The closures answer 0.
+/// Measures a world with one client, of this many robots on the ground, which is taken. The closures answer 0.
 pub(crate) fn measure_world<R: Alloc<A = Global> + Clock + Print + Threads + Sync>(
     rt: &R,
     task: Task<'_>,

@@ -117,7 +117,7 @@ fn joins_north(row: u32, col: u32) -> bool {
     col == 0 || (mixed ^ (mixed >> 15)).wrapping_mul(3266489917) >> 31 == 1
 }
 
-/// Whether the corridor of a spiral of so many rows and columns comes there. It is made of rings, each cut before its first
+/// Whether the corridor of a spiral of this many rows and columns comes there. It is made of rings, each cut before its first
 /// cell, and joined there to the next one, if there is one.
 pub(crate) fn is_corridor(side: u32, row: u32, col: u32) -> bool
     requires low { row < 1024 }

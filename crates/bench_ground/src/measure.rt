@@ -4,7 +4,7 @@ ghost use Rattle.std.specs.Prelude.{◌≡◌, ◌+◌, ◌<◌, ◌^◌, min};
 
 use std::{fmt, io};
 
-/// So many repeats on a map, and the time of the fastest and of all together.
+/// This many repeats on a map, and the time of the fastest and of all together.
 #[derive(Clone, Copy, Debug, PartialEq, Eq)]
 pub struct Measure {
     /// How many times the work was done.
@@ -23,7 +23,7 @@ impl Measure {
         all: 0,
     };
 
-    /// With one repeat more, which took so many nanoseconds.
+    /// With one repeat more, which took this many nanoseconds.
     pub fn with(self, nanos: u128) -> Measure
         ensures more { self.repeats + 1 < 2 ^ 64 → result.repeats ≡ self.repeats + 1 }
         ensures least { result.least ≡ min self.least nanos }

@@ -43,7 +43,7 @@ impl Site {
         self.cells[random.below(self.cells.len())]
     }
 
-    /// So many cells of the part; a cell may be there more than once.
+    /// This many cells of the part; a cell may be there more than once.
     pub fn goals(
         &self,
         alloc: Global,
@@ -60,7 +60,7 @@ impl Site {
         Ok(goals)
     }
 
-    /// The fields of so many goals in the part.
+    /// The fields of this many goals in the part.
     pub fn fields(
         &self,
         alloc: Global,
@@ -79,7 +79,7 @@ impl Site {
         Ok(fields)
     }
 
-    /// So many cells of the part, each once, or fewer where they are hard to find.
+    /// This many cells of the part, each once, or fewer where they are hard to find.
     #[tactic(auto, using(crate::proofs::Throws::starts_none))]
     pub fn starts(
         &self,

@@ -84,7 +84,7 @@ impl Times {
         Ok(Times { accepted, arrived })
     }
 
-    /// Notes that an errand of the client was accepted behind so many ticks.
+    /// Notes that an errand of the client was accepted after this many ticks.
     fn accept(&mut self, client: u32, tick: u64) -> Result<(), AllocError> {
         match self.accepted.get_mut(client as usize) {
             Some(errands) => Ok(errands.push(tick)?),
@@ -92,7 +92,7 @@ impl Times {
         }
     }
 
-    /// Notes the arrivals of a tick behind so many others. The result is how long the longest of their robots had waited.
+    /// Notes the arrivals of a tick after this many others. The result is how long the longest of their robots had waited.
     fn arrive(&mut self, arrived: &[Arrival], tick: u64) -> u64 {
         let mut greatest = 0;
         for arrival in arrived {

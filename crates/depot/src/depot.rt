@@ -5,9 +5,9 @@ ghost use Rattle.fleet_office.specs.Views.{IsNamed, AreOn, cores};
 
 use crate::account::Account;
 use crate::tally::Tally;
-use crate::work::{Shift, Shifted, Worker, work_all};
+use crate::work::{Shift, TickerEnd, Worker, work_all};
 use bench_ground::Random;
-use fleet_calls::OpenFault;
+use fleet_core::OpenFault;
 use fleet_grid::Grid;
 use fleet_history::Chapter;
 use fleet_hooks::Hooks;
@@ -22,7 +22,7 @@ use std::thread::Threads;
 
 /// How a day at the depot ended.
 #[derive(Drop)]
-pub(crate) struct Day {
+pub(crate) struct DepotReport {
     pub(crate) account: Account,
     pub(crate) chapter: Chapter,
     pub(crate) tick: u64,
@@ -32,26 +32,26 @@ pub(crate) struct Day {
 
 /// Why a day at the depot had no end.
 #[derive(Clone, Copy)]
-pub(crate) enum DayFault {
+pub(crate) enum DepotFault {
     Opening(OpenFault),
     Turn(TurnCause),
     Conclude(ConcludeFault),
     NoMemory,
 }
 
-impl From<AllocError> for DayFault {
+impl From<AllocError> for DepotFault {
     ghost use Rattle.std.specs.Prelude.{◌≡◌};
-    ghost use Rattle.depot.specs.declared.depot.DayFault.TheVariants.{NoMemory};
+    ghost use Rattle.depot.specs.declared.depot.DepotFault.TheVariants.{NoMemory};
 
     ghost from_gives = { λ _ e. e ≡ NoMemory };
 
-    fn from(_e: AllocError) -> DayFault {
-        DayFault::NoMemory
+    fn from(_e: AllocError) -> DepotFault {
+        DepotFault::NoMemory
     }
 }
 
 /// The clients and the tickers that come home from their work, and what each client was told.
-type Home<N> = (Vec<Client>, Vec<Ticker<N>>, Vec<Tally>);
+type WorkEnd<N> = (Vec<Client>, Vec<Ticker<N>>, Vec<Tally>);
 
 /// The clients at their work, each with a seed of its own.
 fn workers_of<N: OfficeName<Global>>(
@@ -114,11 +114,11 @@ fn account_of(end: &Final, tallies: &[Tally]) -> Account {
 /// Both tickers after their work, neither of which stopped early.
 fn tickers_of<N: OfficeName<Global>>(
     alloc: Global,
-    first: Shifted<N>,
-    second: Shifted<N>,
-) -> Result<Vec<Ticker<N>>, DayFault> {
+    first: TickerEnd<N>,
+    second: TickerEnd<N>,
+) -> Result<Vec<Ticker<N>>, DepotFault> {
     if let Some(cause) = first.stopped.or(second.stopped) {
-        return Err(DayFault::Turn(cause));
+        return Err(DepotFault::Turn(cause));
     }
     let mut tickers = Vec::with_capacity(alloc, 2)?;
     tickers.push_reserved(first.ticker);
@@ -126,21 +126,21 @@ fn tickers_of<N: OfficeName<Global>>(
     Ok(tickers)
 }
 
-/// Lets the clients of an office that was just opened send their orders, beside two tickers. All of them come home.
+/// Lets the clients of an office that was just opened send their orders, with two tickers. All of them come home.
 fn work_in<N: OfficeName<Global> + Send + Sync, R: Alloc<A = Global> + Threads + Sync + Wait>(
     rt: &R,
     office: &Office<N>,
     clients: Vec<Client>,
     ticker: Ticker<N>,
     shift: &Shift,
-) -> Result<Home<N>, DayFault>
+) -> Result<WorkEnd<N>, DepotFault>
     requires { AreOn N.rings (cores clients.items) }
     ensures { IfOk result (λ home. AreOn N.rings (cores home.0.items)) }
 {
     let mut first = ticker;
     // A ticker that was just opened has all parts of the ledger, so no call ends here.
     let Some(second) = first.split() else {
-        return Err(DayFault::NoMemory);
+        return Err(DepotFault::NoMemory);
     };
     let mut workers = workers_of::<N>(rt.alloc(), clients, shift.seed)?;
     let (first, second) = work_all(rt, office, workers.as_mut_slice(), first, second, shift);
@@ -150,8 +150,8 @@ fn work_in<N: OfficeName<Global> + Send + Sync, R: Alloc<A = Global> + Threads +
 }
 
 /// The day of an office that ended so.
-fn day_at(end: Final, tallies: &[Tally]) -> Day {
-    Day {
+fn day_at(end: Final, tallies: &[Tally]) -> DepotReport {
+    DepotReport {
         account: account_of(&end, tallies),
         tick: end.tick,
         floor: end.grid.floor_count(),
@@ -163,8 +163,8 @@ fn day_at(end: Final, tallies: &[Tally]) -> Day {
 fn conclude<N: OfficeName<Global>>(
     alloc: Global,
     office: Office<N>,
-    home: Home<N>,
-) -> Result<Day, DayFault>
+    home: WorkEnd<N>,
+) -> Result<DepotReport, DepotFault>
     requires { AreOn N.rings (cores home.0.items) }
 {
     let (clients, tickers, tallies) = home;
@@ -172,7 +172,7 @@ fn conclude<N: OfficeName<Global>>(
         Ok(end) => Ok(day_at(end, &tallies)),
         Err((fault, home)) => {
             mem::drop(home);
-            Err(DayFault::Conclude(fault))
+            Err(DepotFault::Conclude(fault))
         }
     }
 }
@@ -188,7 +188,7 @@ pub(crate) fn spend_day<
     starts: Vec<u32>,
     hooks: Hooks,
     shift: &Shift,
-) -> Result<Day, DayFault>
+) -> Result<DepotReport, DepotFault>
     requires { IsNamed desk N.name N.parts N.rings }
 {
     match Office::<N>::open(rt.alloc(), desk, grid, starts, hooks) {
@@ -201,6 +201,6 @@ pub(crate) fn spend_day<
                 }
             }
         }
-        Err(fault) => Err(DayFault::Opening(fault)),
+        Err(fault) => Err(DepotFault::Opening(fault)),
     }
 }

@@ -19,8 +19,8 @@ mod work;
 mod yard;
 
 use account::greatest_wait;
-use depot::{Day, DayFault};
-use fleet_calls::OpenFault;
+use depot::{DepotFault, DepotReport};
+use fleet_core::OpenFault;
 use fleet_office::{ConcludeFault, TurnCause};
 use opening::day_of;
 use settings::{Settings, SettingsFault, settings_of};
@@ -37,10 +37,10 @@ fn words_given(rt: &(impl Env + Alloc<A = Global>)) -> io::Result<Vec<String>> {
     Ok(env::args(rt)?.collect(rt.alloc())?)
 }
 
-/// What depends on the schedule: the pace, and how long a robot waited at most, beside the bound that no wait reaches.
+/// What depends on the schedule: the pace, and how long a robot waited at most, next to the bound that no wait reaches.
 fn pace_of(
     alloc: Global,
-    day: &Day,
+    day: &DepotReport,
     settings: &Settings,
     nanos: u128,
 ) -> Result<String, AllocError> {
@@ -50,8 +50,8 @@ fn pace_of(
     format!(in alloc; "ticks a second: {ticks}\ngreatest wait: {wait}, below {bound}\n")
 }
 
-/// The line of what became of all orders.
-fn line_of(alloc: Global, day: &Day) -> Result<String, AllocError> {
+/// The line of the fate of all orders.
+fn line_of(alloc: Global, day: &DepotReport) -> Result<String, AllocError> {
     let told = &day.account.told;
     format!(in alloc;
         "accounted: orders {} verdicts {} accepted {} arrived {} queued {}\n",
@@ -64,29 +64,29 @@ fn line_of(alloc: Global, day: &Day) -> Result<String, AllocError> {
 }
 
 /// The status of a day that had no end.
-fn status_of(fault: DayFault) -> u8 {
+fn status_of(fault: DepotFault) -> u8 {
     match fault {
-        DayFault::Opening(OpenFault::NoMemory)
-        | DayFault::Turn(TurnCause::NoMemory)
-        | DayFault::Conclude(ConcludeFault::NoMemory)
-        | DayFault::NoMemory => 7,
-        DayFault::Opening(_) => 5,
-        DayFault::Turn(_) | DayFault::Conclude(_) => 8,
+        DepotFault::Opening(OpenFault::NoMemory)
+        | DepotFault::Turn(TurnCause::NoMemory)
+        | DepotFault::Conclude(ConcludeFault::NoMemory)
+        | DepotFault::NoMemory => 7,
+        DepotFault::Opening(_) => 5,
+        DepotFault::Turn(_) | DepotFault::Conclude(_) => 8,
     }
 }
 
 /// The line of a day that had no end.
-fn words_of(alloc: Global, fault: DayFault) -> Result<String, AllocError> {
+fn words_of(alloc: Global, fault: DepotFault) -> Result<String, AllocError> {
     match fault {
-        DayFault::Opening(OpenFault::NoMemory)
-        | DayFault::Turn(TurnCause::NoMemory)
-        | DayFault::Conclude(ConcludeFault::NoMemory)
-        | DayFault::NoMemory => format!(in alloc; "depot: out of memory\n"),
-        DayFault::Opening(fault) => {
+        DepotFault::Opening(OpenFault::NoMemory)
+        | DepotFault::Turn(TurnCause::NoMemory)
+        | DepotFault::Conclude(ConcludeFault::NoMemory)
+        | DepotFault::NoMemory => format!(in alloc; "depot: out of memory\n"),
+        DepotFault::Opening(fault) => {
             format!(in alloc; "depot: the office was not opened: {fault:?}\n")
         }
-        DayFault::Turn(cause) => format!(in alloc; "depot: a turn was refused: {cause:?}\n"),
-        DayFault::Conclude(fault) => {
+        DepotFault::Turn(cause) => format!(in alloc; "depot: a turn was refused: {cause:?}\n"),
+        DepotFault::Conclude(fault) => {
             format!(in alloc; "depot: the office was not concluded: {fault:?}\n")
         }
     }
@@ -95,7 +95,7 @@ fn words_of(alloc: Global, fault: DayFault) -> Result<String, AllocError> {
 /// Says what is to be written of a day that took so long. The result is the status.
 fn tell(
     alloc: Global,
-    day: &Day,
+    day: &DepotReport,
     settings: &Settings,
     nanos: u128,
     line: &mut String,

@@ -2,12 +2,12 @@
 
 ghost use Rattle.std.specs.Prelude.{◌≡◌};
 
-use crate::depot::{Day, DayFault, spend_day};
+use crate::depot::{DepotFault, DepotReport, spend_day};
 use crate::settings::Settings;
 use crate::work::Shift;
 use crate::yard::{floor_of, starts_on, warehouse};
 use fleet_book::Limits;
-use fleet_calls::OpenFault;
+use fleet_core::OpenFault;
 use fleet_grid::Grid;
 use fleet_hooks::{
     ArrivalHook, ArrivalView, Farewell, FarewellView, Hooks, StampLaw, TieHook, TieLaw, TieView,
@@ -73,14 +73,14 @@ fn day_with<R: Alloc<A = Global> + Threads + Sync + Wait>(
     rt: &R,
     settings: &Settings,
     hooks: Hooks,
-) -> Result<Day, DayFault> {
+) -> Result<DepotReport, DepotFault> {
     match site_of(rt.alloc(), settings) {
         Ok((desk, grid, starts, shift)) => {
             spend_day::<Brand, R>(rt, desk, grid, starts, hooks, &shift)
         }
         Err(fault) => {
             mem::drop(hooks);
-            Err(DayFault::Opening(fault))
+            Err(DepotFault::Opening(fault))
         }
     }
 }
@@ -89,7 +89,7 @@ fn day_with<R: Alloc<A = Global> + Threads + Sync + Wait>(
 fn hooked_day<R: Alloc<A = Global> + Threads + Sync + Wait>(
     rt: &R,
     settings: &Settings,
-) -> Result<Result<Day, DayFault>, AllocError> {
+) -> Result<Result<DepotReport, DepotFault>, AllocError> {
     let alloc = rt.alloc();
     let mut hooks = Hooks::new(alloc);
     for _robot in 0..settings.robots {
@@ -105,9 +105,9 @@ fn hooked_day<R: Alloc<A = Global> + Threads + Sync + Wait>(
 pub(crate) fn day_of<R: Alloc<A = Global> + Threads + Sync + Wait>(
     rt: &R,
     settings: &Settings,
-) -> Result<Day, DayFault> {
+) -> Result<DepotReport, DepotFault> {
     match hooked_day(rt, settings) {
         Ok(day) => day,
-        Err(AllocError) => Err(DayFault::NoMemory),
+        Err(AllocError) => Err(DepotFault::NoMemory),
     }
 }

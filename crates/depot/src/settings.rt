@@ -63,9 +63,9 @@ const OPTIONS: [(&str, &str); 4] = [
 
 /// The command `depot` with its options.
 fn command<'a>(alloc: Global) -> Result<Command<'a>, AllocError> {
-    let mut command = Command::new(alloc, "depot").about(
-        "Keeps robots, clients and two tickers of one office going side by side",
-    );
+    let mut command = Command::new(alloc, "depot")
+        .about("Keeps robots, clients and two tickers of one office going side by side")
+        .bin_name("depot")?;
     for (name, help) in OPTIONS {
         command = command.arg(option(alloc, name, help))?;
     }

@@ -105,7 +105,7 @@ fn work<N: OfficeName<Global>>(worker: &mut Worker<N>, shift: &Shift) {
 
 /// A ticker, and why it stopped early.
 #[derive(Drop)]
-pub(crate) struct Shifted<N: OfficeName<Global>> {
+pub(crate) struct TickerEnd<N: OfficeName<Global>> {
     pub(crate) ticker: Ticker<N>,
     pub(crate) stopped: Option<TurnCause>,
 }
@@ -116,20 +116,20 @@ fn tick<N: OfficeName<Global>, R: Alloc<A = Global> + Wait>(
     office: &Office<N>,
     ticker: Ticker<N>,
     shift: &Shift,
-) -> Shifted<N> {
+) -> TickerEnd<N> {
     let mut ticker = ticker;
     for turn in 0..MOST_TRIES {
         if turn >= shift.turns && shift.done.load(Ordering::SeqCst) >= shift.clients {
             break;
         }
         if let Err(fault) = office.turn(rt, &mut ticker) {
-            return Shifted {
+            return TickerEnd {
                 ticker,
                 stopped: Some(fault.cause),
             };
         }
     }
-    Shifted {
+    TickerEnd {
         ticker,
         stopped: None,
     }
@@ -142,7 +142,7 @@ fn tick_both<N: OfficeName<Global> + Send + Sync, R: Alloc<A = Global> + Threads
     first: Ticker<N>,
     second: Ticker<N>,
     shift: &Shift,
-) -> (Shifted<N>, Shifted<N>) {
+) -> (TickerEnd<N>, TickerEnd<N>) {
     side_by_side(
         rt,
         office,
@@ -152,7 +152,7 @@ fn tick_both<N: OfficeName<Global> + Send + Sync, R: Alloc<A = Global> + Threads
     )
 }
 
-/// All clients side by side, beside the tickers.
+/// All clients in parallel, with the tickers.
 pub(crate) fn work_all<
     N: OfficeName<Global> + Send + Sync,
     R: Alloc<A = Global> + Threads + Sync + Wait,
@@ -163,7 +163,7 @@ pub(crate) fn work_all<
     first: Ticker<N>,
     second: Ticker<N>,
     shift: &Shift,
-) -> (Shifted<N>, Shifted<N>) {
+) -> (TickerEnd<N>, TickerEnd<N>) {
     let ((), tickers) = join(
         rt,
         || {

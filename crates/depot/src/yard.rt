@@ -44,7 +44,7 @@ pub(crate) fn floor_of(alloc: Global, grid: &Grid) -> Result<Vec<u32>, AllocErro
         .collect(alloc)
 }
 
-/// Where so many robots start: spread over the cells.
+/// Where this many robots start: spread over the cells.
 pub(crate) fn starts_on(alloc: Global, cells: &[u32], robots: u32) -> Result<Vec<u32>, AllocError> {
     let robots = robots as usize;
     (0..robots)

@@ -13,7 +13,7 @@ use Rattle.fleet_world.proofs.Plays.{end-once}
 use Rattle.fleet_history.specs.Legal.{IsLegal}
 use Rattle.fleet_history.specs.Laws.{ArrivesInOrder, ArrivalsRise, EachTick, HasNoConflict, AcceptsNoneClosed}
 use Rattle.fleet_history.specs.Numbering.{AreNumbered}
-use Rattle.fleet_plan.specs.Planned.{IsPlanned, IsAdvancingTick}
+use Rattle.fleet_planner.specs.Planned.{IsPlanned, IsAdvancingTick}
 use Rattle.fleet_history.specs.History.{History}
 use Rattle.fleet_trace.specs.declared.fault.JudgeFault.{JudgeFault}
 use Rattle.fleet_trace.specs.declared.fault.JudgeFault.TheVariants as judge_fault
@@ -28,11 +28,11 @@ use Rattle.fleet_map.specs.declared.fault.MapFault.{MapFault}
 use Rattle.fleet_map.specs.declared.fault.MapFault.TheVariants as map_fault
 use Rattle.fleet_map.specs.Grammar.{Fails, map_of}
 use Rattle.fleet_book.specs.declared.limits.Limits.{Limits}
-use Rattle.fleet_calls.specs.declared.faults.OpenFault.{OpenFault}
-use Rattle.fleet_calls.specs.declared.faults.OpenFault.TheVariants as open_fault
+use Rattle.fleet_core.specs.declared.faults.OpenFault.{OpenFault}
+use Rattle.fleet_core.specs.declared.faults.OpenFault.TheVariants as open_fault
 use Rattle.fleet_world.specs.declared.faults.RunFault.{RunFault}
 use Rattle.fleet_world.specs.declared.faults.RunFault.TheVariants as run_fault
-use Rattle.fleet_calls.specs.Opening.{IsNamed, IsRefused}
+use Rattle.fleet_core.specs.OpeningFaults.{IsNamed, IsRefused}
 use Rattle.errands_text.specs.Said.{said}
 use Rattle.fleet_script.specs.Shown.{FailsAt}
 use Rattle.fleet_script.specs.declared.script.ScriptFault.{ScriptFault}

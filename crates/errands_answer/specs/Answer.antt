@@ -9,17 +9,17 @@ use Rattle.fleet_grid.specs.Floor.{Floor, IsNeighbour, floor_of}
 use Rattle.fleet_grid.specs.Walk.{IsBridgeless}
 use Rattle.fleet_book.specs.declared.event.Event.{Event}
 use Rattle.fleet_world.specs.declared.reply.Reply.{Reply}
-use Rattle.fleet_calls.specs.declared.faults.OpenFault.{OpenFault}
+use Rattle.fleet_core.specs.declared.faults.OpenFault.{OpenFault}
 use Rattle.fleet_core.specs.Core.{World}
 use Rattle.fleet_world.specs.Run.{State, Run, opened_state}
-use Rattle.fleet_calls.specs.Opening.{IsNamed, IsRefused}
+use Rattle.fleet_core.specs.OpeningFaults.{IsNamed, IsRefused}
 use Rattle.fleet_world.specs.declared.faults.RunFault.{RunFault}
 use Rattle.fleet_world.specs.declared.faults.RunFault.TheVariants as run_fault
 use Rattle.fleet_world.specs.Laws.{KeepsRings, KeepsEachRing, CollectsInOrder}
 use Rattle.fleet_history.specs.Legal.{IsLegal}
 use Rattle.fleet_history.specs.Laws.{ArrivesInOrder, ArrivalsRise, EachTick, HasNoConflict, AcceptsNoneClosed}
 use Rattle.fleet_history.specs.Numbering.{AreNumbered}
-use Rattle.fleet_plan.specs.Planned.{IsPlanned, IsAdvancingTick}
+use Rattle.fleet_planner.specs.Planned.{IsPlanned, IsAdvancingTick}
 use Rattle.fleet_history.specs.History.{History}
 use Rattle.fleet_trace.specs.declared.fault.TraceFault.{TraceFault}
 use Rattle.fleet_trace.specs.declared.fault.TraceFault.TheVariants as trace_fault
@@ -40,7 +40,7 @@ use Rattle.errands_text.specs.Outcome.{Outcome, fault, good}
 abbrev pub floor_of_map : Map → Floor
 floor_of_map m = floor_of m.height m.width m.cells
 
--- a fault other than want of memory
+-- a fault other than out of memory
 abbrev pub IsTraceNamed : TraceFault → Type 0
 IsTraceNamed trace_fault.NoMemory = ⊥
 IsTraceNamed _ = Unit {0}

@@ -4,7 +4,7 @@ ghost use Rattle.std.specs.Prelude.{◌≡◌, ◌≤◌, ◌++◌, ℕ, List, O
 ghost use Rattle.std.specs.List.{list_any};
 ghost use Rattle.fleet_map.specs.Form.{HasSides};
 ghost use Rattle.fleet_map.specs.Grammar.{map_of, view};
-ghost use Rattle.fleet_calls.specs.Opening.{IsNamed};
+ghost use Rattle.fleet_core.specs.OpeningFaults.{IsNamed};
 ghost use Rattle.errands_text.specs.Output.{is_limit_met};
 ghost use Rattle.errands_answer.specs.Answer.{IsBundleOutcome, IsMapOutcome, IsDescribed, IsPartsOutcome, IsScriptOutcome, IsUnplayed, floor_of_map, limited, run_output, run_outcome};
 ghost use Rattle.fleet_trace.specs.Trace.{trace_of};
@@ -46,7 +46,7 @@ fn meets_limit(replies: &[Reply]) -> bool
     replies.iter().any(|reply| is_limit(*reply))
 }
 
-/// The complaint of a world that is not opened for this reason. Want of memory is none.
+/// The complaint of a world that is not opened for this reason. Out of memory is none.
 fn opening_complaint(fault: OpenFault) -> Result<Complaint, AllocError>
     ensures named { IfOk result (λ c. IsNamed fault) }
     ensures value { IfOk result (λ c. c ≡ Complaint.Opening fault) }

@@ -8,8 +8,8 @@ use Rattle.fleet_grid.specs.Floor.{Floor}
 use Rattle.fleet_history.specs.History.{History}
 use Rattle.fleet_history.specs.Legal.{IsLegal}
 use Rattle.fleet_core.specs.Hooks.{HookLaws}
-use Rattle.fleet_calls.specs.declared.faults.OpenFault.{OpenFault}
-use Rattle.fleet_calls.specs.Opening.{IsRefused}
+use Rattle.fleet_core.specs.declared.faults.OpenFault.{OpenFault}
+use Rattle.fleet_core.specs.OpeningFaults.{IsRefused}
 use Rattle.fleet_script.specs.Script.{Plan}
 use Rattle.fleet_trace.specs.Trace.{Trace}
 use Rattle.fleet_trace.specs.Text.{trace_text}

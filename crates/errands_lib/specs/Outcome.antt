@@ -1,12 +1,12 @@
--- What a job comes to: the text for the output, the status, and the text for the error writer.
+-- The result of a job: the text for the output, the status, and the text for the error writer.
 use Rattle.std.specs.Prelude.{◌≡◌, ℕ, ◌<◌, List, ◌++◌, codes, length, nat_lt, slice_index, Ok, Err}
 use Rattle.std.specs.declared.alloc.Global.{Global}
 use Rattle.std.specs.List.{All}
 use Rattle.fleet_map.specs.declared.fault.MapFault.{MapFault}
 use Rattle.fleet_map.specs.Grammar.{Map, map_of}
 use Rattle.fleet_grid.specs.Floor.{Floor}
-use Rattle.fleet_calls.specs.declared.faults.OpenFault.{OpenFault}
-use Rattle.fleet_calls.specs.Opening.{IsRefused}
+use Rattle.fleet_core.specs.declared.faults.OpenFault.{OpenFault}
+use Rattle.fleet_core.specs.OpeningFaults.{IsRefused}
 use Rattle.fleet_history.specs.Legal.{IsLegal}
 use Rattle.fleet_history.specs.History.{History}
 use Rattle.fleet_trace.specs.Text.{trace_text}
@@ -27,7 +27,7 @@ use Rattle.errands_answer.specs.Answer.{IsBundleOutcome, IsJudgeOutcome, IsMapOu
 abbrev pub MayOpen : KitLaws → Floor → Plan → Type 0
 MayOpen kit m plan = (f : OpenFault) → IsRefused m plan.starts plan.clients plan.limits (chosen_laws kit plan) f → ⊥
 
--- the trace of a history that is legal on the map and takes what the script's clients post, so many of whose posts met a full lane
+-- the trace of a history that is legal on the map and takes what the script's clients post, this many of whose posts met a full lane
 pub record IsServedText (m : Floor) (plan : Plan) (lane_full : ℕ) (o : Outcome) : Type 0 where
   pub history : History Global
   pub legal : IsLegal m history

@@ -9,7 +9,7 @@ use Rattle.errands_text.specs.Complaint.{complaint_line, complaint_of, status_of
 use Rattle.errands_answer.specs.Kit.{KitLaws}
 use Rattle.errands_text.specs.Outcome.{Outcome}
 use Rattle.errands_lib.specs.Outcome.{IsJobOutcome}
-use Rattle.errands_text.specs.Transfer.{AppendsFront}
+use Rattle.errands_text.specs.Transfer.{AppendsPrefix}
 
 -- whether the job names two files
 abbrev pub names_two : Job → Bool
@@ -22,12 +22,12 @@ names_two (job.Serve map script) = true
 -- the program ended for this reason, and the error writer got a prefix of the line that says so
 pub record Failed (fault : InputFault) (old_err new_err : Option (List ℕ)) (status : ℕ) : Type 0 where
   pub ends : status ≡ status_of (complaint_of fault)
-  pub line : AppendsFront old_err new_err (complaint_line (complaint_of fault))
+  pub line : AppendsPrefix old_err new_err (complaint_line (complaint_of fault))
 
 -- what there is to say was written: all of it, or a prefix of it where a write failed
 pub data IsTold (o : Outcome) (old_out new_out old_err new_err : Option (List ℕ)) (status : ℕ) : Type 0 where
-  whole : status ≡ o.status → Appends old_out new_out o.output → AppendsFront old_err new_err o.complaint → IsTold o old_out new_out old_err new_err status
-  cut_short : AppendsFront old_out new_out o.output → Failed input_fault.File old_err new_err status → IsTold o old_out new_out old_err new_err status
+  whole : status ≡ o.status → Appends old_out new_out o.output → AppendsPrefix old_err new_err o.complaint → IsTold o old_out new_out old_err new_err status
+  cut_short : AppendsPrefix old_out new_out o.output → Failed input_fault.File old_err new_err status → IsTold o old_out new_out old_err new_err status
 
 -- what there is to say of files that hold these bytes
 pub record IsAnswer (kit : KitLaws) (job : Job) (first second : List ℕ) (o : Outcome) : Type 0 where

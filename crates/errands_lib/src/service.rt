@@ -94,7 +94,7 @@ fn two_grids(alloc: Global, map: MapText) -> Result<(Grid, Grid), AllocError>
     Ok((Grid::new(map)?, judged))
 }
 
-/// Serves a script of so many lines on a grid, and judges the trace on another of the same map.
+/// Serves a script of this many lines on a grid, and judges the trace on another of the same map.
 fn serve_on<R: Alloc<A = Global> + Threads + Sync + Wait>(
     rt: &R,
     grid: Grid,
@@ -125,7 +125,7 @@ fn serve_lines<R: Alloc<A = Global> + Threads + Sync + Wait>(
     requires lines { All (IsLine script.now.clients) script.now.events.items }
     ensures { IfOk result (λ s. IsServed (kit_laws kit) (floor_of_map (view map)) (plan script.now) (said s)) }
 {
-    // Each event stands on a line of its own, so no file has so many.
+    // Each event stands on a line of its own, so no file has that many.
     if script.events.len() >= 1 << 32 {
         drop(kit);
         return Err(AllocError);

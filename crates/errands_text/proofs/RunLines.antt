@@ -46,6 +46,6 @@ seven a b c d e f g = five a b c d _ ∙ (sym (append_assoc (a ++ b ++ c ++ d) e
 pub eleven : (a b c d e f g h i j k : List ℕ) → a ++ (b ++ (c ++ (d ++ (e ++ (f ++ (g ++ (h ++ (i ++ (j ++ k))))))))) ≡ a ++ b ++ c ++ d ++ e ++ f ++ g ++ h ++ i ++ j ++ k
 eleven a b c d e f g h i j k = seven a b c d e f _ ∙ five (a ++ b ++ c ++ d ++ e ++ f) g h i _ ∙ sym (append_assoc (a ++ b ++ c ++ d ++ e ++ f ++ g ++ h ++ i) j k)
 
--- what is written behind something
+-- what is written after something
 pub on : (old x d t s : List ℕ) → t ≡ old ++ x → s ≡ t ++ d → s ≡ old ++ (x ++ d)
 on old x d t s before more = more ∙ (ap (λ l. l ++ d) before ∙ append_assoc old x d)

@@ -18,7 +18,7 @@ fault c = record { output = []; status = status_of c; complaint = complaint_line
 abbrev pub good : List ℕ → Outcome
 good text = record { output = text; status = 0; complaint = [] }
 
--- a fault other than want of memory
+-- a fault other than out of memory
 abbrev pub IsMapNamed : MapFault → Type 0
 IsMapNamed map_fault.NoMemory = ⊥
 IsMapNamed _ = Unit {0}

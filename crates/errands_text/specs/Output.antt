@@ -1,12 +1,13 @@
 -- What the program prints of a run: the lines of each event, by its reply and by the entry that it made.
 use Rattle.fleet_map.specs.declared.fault.MapFault.{MapFault}
 use Rattle.fleet_map.specs.declared.fault.MapFault.TheVariants as map_fault
-use Rattle.fleet_calls.specs.declared.faults.OpenFault.{OpenFault}
-use Rattle.fleet_calls.specs.declared.faults.OpenFault.TheVariants as open_fault
+use Rattle.fleet_core.specs.declared.faults.OpenFault.{OpenFault}
+use Rattle.fleet_core.specs.declared.faults.OpenFault.TheVariants as open_fault
 use Rattle.std.specs.Prelude.{Bool, true, false, ℕ, List, [], ◌∷◌, ◌++◌, Option, Some, None, codes, decimal, slice_index, drop, slice_get}
 use Rattle.std.specs.List.{flat_map}
 use Rattle.fleet_book.specs.declared.verdict.Verdict.{Verdict}
 use Rattle.fleet_book.specs.declared.verdict.Verdict.TheVariants as verdict
+use Rattle.fleet_book.specs.Refusals.{refusal_code, verdict_name}
 use Rattle.fleet_book.specs.declared.notice.Notice.{Notice}
 use Rattle.fleet_book.specs.declared.notice.Notice.TheVariants as notice
 use Rattle.fleet_history.specs.declared.history.Entry.{Entry}
@@ -25,20 +26,18 @@ use Rattle.fleet_core.specs.declared.faults.ShutFault.TheVariants as shut_fault
 use Rattle.fleet_trace.specs.declared.fault.TraceFault.{TraceFault}
 use Rattle.fleet_trace.specs.declared.fault.TraceFault.TheVariants as trace_fault
 
+-- an order that was carried out
+abbrev pub done_text : Verdict → List ℕ
+done_text (verdict.Accepted number) = codes "accepted " ++ decimal number
+done_text v = verdict_name v
+
+-- a verdict, by the number of the refusal if it is one
+abbrev pub answer_text : Option ℕ → Verdict → List ℕ
+answer_text (Some code) v = codes "refused " ++ decimal code ++ codes " " ++ verdict_name v
+answer_text None v = done_text v
+
 abbrev pub verdict_text : Verdict → List ℕ
-verdict_text (verdict.Accepted number) = codes "accepted " ++ decimal number
-verdict_text verdict.Closed = codes "closed"
-verdict_text verdict.Withdrawn = codes "withdrawn"
-verdict_text verdict.ClientClosed = codes "refused 1 client-closed"
-verdict_text verdict.NoRobot = codes "refused 2 no-robot"
-verdict_text verdict.RobotShut = codes "refused 3 robot-shut"
-verdict_text verdict.NoCell = codes "refused 4 no-cell"
-verdict_text verdict.Blocked = codes "refused 5 blocked"
-verdict_text verdict.Unreachable = codes "refused 6 unreachable"
-verdict_text verdict.QueueFull = codes "refused 7 queue-full"
-verdict_text verdict.LifeSpent = codes "refused 8 life-spent"
-verdict_text verdict.NoErrand = codes "refused 9 no-errand"
-verdict_text verdict.TooLate = codes "refused 10 too-late"
+verdict_text v = answer_text (refusal_code v) v
 
 abbrev pub take_fault_text : TakeFault → List ℕ
 take_fault_text take_fault.MailboxFull = codes "1 mailbox-full"
@@ -62,7 +61,7 @@ notice_text (notice.Verdict seq order_no v) = decimal seq ++ codes " verdict " +
 notice_text (notice.Arrived seq number robot cell tick stamp) =
     decimal seq ++ codes " arrived " ++ decimal number ++ codes " robot " ++ decimal robot ++ codes " cell " ++ decimal cell ++ codes " tick " ++ decimal tick ++ codes " stamp " ++ decimal stamp
 
--- the cells of a placement, each behind a blank
+-- the cells of a placement, each after a blank
 abbrev pub place_text : List ℕ → List ℕ
 place_text cells = flat_map (λ cell. codes " " ++ decimal cell) cells
 
@@ -76,7 +75,7 @@ arrival_text to a = arrival_line a (slice_index to a.robot)
 abbrev pub farewell_text : ℕ → ℕ → List ℕ
 farewell_text robot stamp = codes "farewell robot " ++ decimal robot ++ codes " stamp " ++ decimal stamp ++ codes "\n"
 
--- the lines of a tick: where the robots stand behind it, who arrived and who took its leave
+-- the lines of a tick: where the robots stand after it, who arrived and who said farewell
 abbrev pub tick_text : {A : Type 0} → ℕ → Option (Entry A) → List ℕ
 tick_text tick (Some (entry.Tick to arrived farewells)) =
     codes "tick " ++ decimal tick ++ codes ":" ++ place_text to ++ codes "\n" ++ flat_map (arrival_text to) arrived ++ flat_map (λ bye. farewell_text bye.robot bye.stamp) farewells

@@ -12,5 +12,5 @@ mod ticks;
 pub use input::{InputFault, read_other, read_whole};
 pub use maps::map_report;
 pub use output::write_whole;
-pub use runs::report;
+pub use runs::{report, write_event};
 pub use said::{Complaint, Said, failure_line, faulty, line_of, map_complaint};

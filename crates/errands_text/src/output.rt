@@ -2,13 +2,13 @@
 
 ghost use Rattle.std.specs.Prelude.{◌≡◌, ◌≤◌, ◌<◌, ◌++◌, length, IsTrue};
 ghost use Rattle.std.specs.Io.KnownBytes.{Appends};
-ghost use Rattle.errands_text.specs.Transfer.{AppendsFront};
+ghost use Rattle.errands_text.specs.Transfer.{AppendsPrefix};
 
 use std::io::Write;
 
 /// Writes the text, and says whether all of it was taken.
 pub fn write_whole<W: Write>(writer: &mut W, text: &[u8]) -> bool
-    ensures front { AppendsFront (W.contents writer.old) (W.contents writer.new) text.now }
+    ensures prefix { AppendsPrefix (W.contents writer.old) (W.contents writer.new) text.now }
     ensures whole { IsTrue result → Appends (W.contents writer.old) (W.contents writer.new) text.now }
 {
     let mut written = 0;

@@ -159,7 +159,7 @@ fn write_step<A: Allocator + Copy>(
 }
 
 /// The lines of an event, by its reply and the entry that it made.
-fn write_event<A: Allocator + Copy>(
+pub fn write_event<A: Allocator + Copy>(
     out: &mut String<A>,
     event: Event,
     reply: Reply,
@@ -187,8 +187,8 @@ fn made_by(reply: Reply) -> usize
     }
 }
 
-/// The entries behind the one that an event made, if its reply tells of one.
-fn behind<A: Allocator + Copy>(entries: &[Entry<A>], reply: Reply) -> &[Entry<A>]
+/// The entries after the one that an event made, if its reply has one.
+fn entries_after<A: Allocator + Copy>(entries: &[Entry<A>], reply: Reply) -> &[Entry<A>]
     ensures { result.now ≡ drop (entries_made reply) entries.now }
 {
     let made = made_by(reply);
@@ -214,7 +214,7 @@ pub fn report<A: Allocator + Copy>(
         let event = events[place];
         let reply = replies[place];
         write_event(&mut text, event, reply, rest.first())?;
-        rest = behind(rest, reply);
+        rest = entries_after(rest, reply);
     }
     Ok(text)
 }

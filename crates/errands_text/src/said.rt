@@ -119,7 +119,7 @@ pub fn faulty(alloc: Global, complaint: Complaint) -> Result<Said, AllocError>
     })
 }
 
-/// The complaint of a map with this fault. Want of memory is none.
+/// The complaint of a map with this fault. Out of memory is none.
 pub fn map_complaint(fault: MapFault) -> Result<Complaint, AllocError>
     ensures named { IfOk result (λ c. IsMapNamed fault) }
     ensures value { IfOk result (λ c. c ≡ Complaint.Map fault) }

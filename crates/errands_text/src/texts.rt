@@ -18,22 +18,12 @@ impl fmt::Display for VerdictText {
     ghost output = { λ v. Some (verdict_text v.0) };
 
     fn fmt<W: fmt::Write>(&self, f: &mut fmt::Formatter<W>) -> fmt::Result {
-        let text = match self.0 {
-            Verdict::Accepted(number) => return write!(f, "accepted {number}"),
-            Verdict::Closed => "closed",
-            Verdict::Withdrawn => "withdrawn",
-            Verdict::ClientClosed => "refused 1 client-closed",
-            Verdict::NoRobot => "refused 2 no-robot",
-            Verdict::RobotShut => "refused 3 robot-shut",
-            Verdict::NoCell => "refused 4 no-cell",
-            Verdict::Blocked => "refused 5 blocked",
-            Verdict::Unreachable => "refused 6 unreachable",
-            Verdict::QueueFull => "refused 7 queue-full",
-            Verdict::LifeSpent => "refused 8 life-spent",
-            Verdict::NoErrand => "refused 9 no-errand",
-            Verdict::TooLate => "refused 10 too-late",
-        };
-        f.write_str(text)
+        let name = self.0.name();
+        match (self.0, self.0.code()) {
+            (_, Some(code)) => write!(f, "refused {code} {name}"),
+            (Verdict::Accepted(number), None) => write!(f, "accepted {number}"),
+            (_, None) => f.write_str(name),
+        }
     }
 }
 

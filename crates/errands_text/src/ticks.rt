@@ -9,7 +9,7 @@ use fleet_history::{Arrival, Bye, Entry};
 use std::alloc::{AllocError, Allocator};
 use std::fmt::Write;
 
-/// The cells of a placement, each behind a blank.
+/// The cells of a placement, each after a blank.
 fn write_place<A: Allocator + Copy>(out: &mut String<A>, cells: &[u32]) -> Result<(), AllocError>
     ensures { OnOk result (string_bytes out.new ≡ string_bytes out.old ++ place_text cells.now) }
 {

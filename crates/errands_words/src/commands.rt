@@ -149,7 +149,7 @@ fn with_subcommand<'a>(
 }
 
 /// The command `errands` with its subcommands.
-pub(crate) fn errands_command<'a>(alloc: Global) -> Result<Command<'a>, AllocError>
+fn errands_command<'a>(alloc: Global) -> Result<Command<'a>, AllocError>
     ensures { IfOk result (λ c. app_of c ≡ errands_app) }
 {
     let command = Command::new(alloc, "errands")
@@ -162,4 +162,18 @@ pub(crate) fn errands_command<'a>(alloc: Global) -> Result<Command<'a>, AllocErr
     let command = with_subcommand(command, run_command(alloc))?;
     let command = with_subcommand(command, judge_command(alloc))?;
     with_subcommand(command, serve_command(alloc))
+}
+
+/// The command, whose usage has this name whatever the program's file is called.
+fn called<'a>(command: Command<'a>, name: &str) -> Result<Command<'a>, AllocError>
+    ensures { IfOk result (λ c. app_of c ≡ app_of command.entry) }
+{
+    command.bin_name(name)
+}
+
+/// The command `errands` under its own name.
+pub(crate) fn named_command<'a>(alloc: Global) -> Result<Command<'a>, AllocError>
+    ensures { IfOk result (λ c. app_of c ≡ errands_app) }
+{
+    called(errands_command(alloc)?, "errands")
 }

@@ -8,7 +8,7 @@ ghost use Rattle.errands_words.specs.Command.{errands_app};
 ghost use Rattle.errands_words.specs.Asked.{asked, job_of, has_flag, is_serve, files_of, files_named};
 ghost use Rattle.errands_words.specs.declared.words.WordFault.TheVariants.{NoMemory};
 
-use crate::commands::errands_command;
+use crate::commands::named_command;
 use clap::error::ErrorKind;
 use clap::{ArgMatches, Error};
 use std::alloc::{AllocError, Global};
@@ -16,7 +16,7 @@ use std::alloc::{AllocError, Global};
 /// What the program is to do.
 #[derive(Debug, Drop)]
 pub enum Job {
-    /// To run the script behind a map, both from standard input.
+    /// To run the script after a map, both from standard input.
     Bundle,
     /// To say how large a map is, and whether it has a bridge.
     Map {
@@ -177,7 +177,7 @@ pub fn parse_words(alloc: Global, words: &[String]) -> Result<Job, WordFault>
     // Words that `clap` takes are refused where memory ran out alone.
     ensures refused { IfErr result (λ f. takes errands_app (map (λ w. string_bytes w) words.now) ≡ true → f ≡ NoMemory) }
 {
-    let command = errands_command(alloc)?;
+    let command = named_command(alloc)?;
     match command.try_get_matches_from(words) {
         Ok(matches) => Ok(job_from(alloc, &matches)?),
         Err(error) => Err(fault_from(alloc, &error)),

@@ -1,18 +1,25 @@
 //! `fleet`: for the people around a fleet of robots. `fleet view MAP TRACE..` prints a page that replays traces on a map, with `--svg` a
-//! moving picture, with `--tick N` a picture of what stands after N ticks. `fleet check MAP PLAN` judges a plan of any planner. What each word
-//! does is in `fleet_lib`.
+//! moving picture, with `--tick N` a picture of what stands after N ticks. `fleet check MAP PLAN` judges a plan of any planner. `fleet talk MAP`
+//! answers lines as they come. `fleet convert --to FORM MAP TRACE` prints a trace as a plan, and `fleet explain MAP [INPUT]` says what is wrong with
+//! files. What each word does is in `fleet_lib`.
 #![tactic(auto)]
 
 mod check;
+mod convert;
 mod ends;
+mod explain;
+mod talk;
 mod view;
 
 use check::run_check;
+use convert::run_convert;
+use explain::run_explain;
 use fleet_lib::{InputFault, Job, WordFault, fail, parse_words, write_whole};
 use std::alloc::{Alloc, Global};
 use std::env::{self, Env};
 use std::io::{self, ErrorKind, Write};
 use std::process::ExitCode;
+use talk::hold_talk;
 use view::run_view;
 
 /// The words that the program was given.
@@ -54,6 +61,9 @@ fn main(rt: HostRuntime) -> ExitCode {
     let status = match job_given(&rt, &mut error) {
         Ok(Job::View(view)) => run_view(&rt, &view, &mut output, &mut error),
         Ok(Job::Check(check)) => run_check(&rt, &check, &mut output, &mut error),
+        Ok(Job::Talk(talk)) => hold_talk(&rt, &talk, rt.stdin(), output, &mut error),
+        Ok(Job::Convert(convert)) => run_convert(&rt, &convert, &mut output, &mut error),
+        Ok(Job::Explain(explain)) => run_explain(&rt, &explain, &mut output, &mut error),
         Err(status) => status,
     };
     ExitCode::from(status)

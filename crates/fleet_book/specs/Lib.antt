@@ -1,3 +1,4 @@
 pub mod Limits
 pub mod Rule
 pub mod Counts
+pub mod Refusals

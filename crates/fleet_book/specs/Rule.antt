@@ -33,7 +33,7 @@ go_verdict s f =
     else answer.NoCell
     else answer.NoRobot
 
--- an errand that is waiting behind its robot's front may be withdrawn
+-- an errand that is waiting after its robot's front may be withdrawn
 abbrev pub place_verdict : Place → Verdict
 place_verdict Absent = answer.NoErrand
 place_verdict Front = answer.TooLate

@@ -249,7 +249,7 @@ impl<A: Allocator> Book<A> {
     }
 }
 
-/// So many copies of the item.
+/// This many copies of the item.
 fn filled<T: Copy, A: Allocator>(alloc: A, item: T, count: u32) -> Result<Vec<T, A>, AllocError>
     ensures { IfOk result (λ v. v.items ≡ replicate count item) }
 {

@@ -7,7 +7,7 @@ pub enum Place {
     Absent,
     /// It is its robot's front.
     Front,
-    /// It stands behind its robot's front.
+    /// It stands after its robot's front.
     Behind,
 }
 

@@ -3,7 +3,7 @@
 ghost use Rattle.std.specs.Prelude.{◌↔◌, IsTrue};
 ghost use Rattle.fleet_book.specs.Limits.{AreValid, IsBetween};
 
-/// What bounds a fleet, beside its map, its robots and its clients.
+/// What bounds a fleet, besides its map, its robots and its clients.
 #[derive(Clone, Copy, Debug, PartialEq, Eq)]
 pub struct Limits {
     /// Orders that a client's lane holds, 1 to 65,536.

@@ -21,9 +21,9 @@ use Rattle.fleet_history.proofs.After.{arrivals-after, withdrawn-after}
 use Rattle.fleet_history.proofs.Arrivals.{arrivals_by-fits, unfinished-after_tick, unfinished-after_shut, unfinished-after_take, kept-filtered}
 use Rattle.fleet_history.proofs.Legal.{accepted-robot}
 use Rattle.fleet_history.proofs.Numbers.{slice_get_front}
-use Rattle.fleet_waits.specs.Waiting.{IsAdvance, IsPause}
-use Rattle.fleet_waits.specs.Errands.{IsQueued, Follows, begins, ticked, paused}
-use Rattle.fleet_waits.proofs.Runs.{errands-arrive}
+use Rattle.fleet_bound.specs.Waiting.{IsAdvance, IsPause}
+use Rattle.fleet_bound.specs.Errands.{IsQueued, Follows, begins, ticked, paused}
+use Rattle.fleet_bound.proofs.WaitRuns.{errands-arrive}
 use Rattle.fleet_bound.specs.Reach.{reach}
 use Rattle.fleet_bound.specs.Arriving.{IsGone, ErrandsArrive, ArrivesInTurn}
 use Rattle.fleet_bound.proofs.Fronts.{wait-some}
@@ -32,7 +32,7 @@ use Rattle.fleet_bound.proofs.Ticks.{is_landing, lands, landed-none, landed-one,
 use Rattle.fleet_bound.proofs.Pauses.{take-pause, shut-pause}
 use Rattle.fleet_bound.proofs.Runs.{IsAdvancingEntry, Run, stands, went, run-robots, goes-run}
 
--- of a robot's errands up to this one so many are left
+-- of a robot's errands up to this one this many are left
 data IsLeft {A : Type 0} (h : History A) (r : ℕ) (x : Errand) (left : ℕ) : Type 0 where
   gone : IsGone h r x → left ≡ 0 → IsLeft h r x left
   queued : (k : ℕ) → slice_get (unfinished h r) k ≡ Some x → left ≡ k + 1 → IsLeft h r x left

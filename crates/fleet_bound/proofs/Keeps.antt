@@ -17,9 +17,9 @@ use Rattle.fleet_history.specs.Next.{next_opening}
 use Rattle.fleet_history.specs.Waits.{wait}
 use Rattle.fleet_history.proofs.Next.{next-robots, start-place}
 use Rattle.fleet_history.proofs.Withdrawals.{unfinished-start}
-use Rattle.fleet_plan.specs.Planned.{IsAdvancingTick}
-use Rattle.fleet_waits.specs.Waiting.{IsPause, IsBounded}
-use Rattle.fleet_waits.proofs.Bounds.{bounded-tick, bounded-pause, bounded-short, bounded-idle}
+use Rattle.fleet_planner.specs.Planned.{IsAdvancingTick}
+use Rattle.fleet_bound.specs.Waiting.{IsPause, IsBounded}
+use Rattle.fleet_bound.proofs.WaitBounds.{bounded-tick, bounded-pause, bounded-short, bounded-idle}
 use Rattle.fleet_bound.specs.Reach.{reach}
 use Rattle.fleet_bound.specs.Bound.{KeepsBound, WaitsAreBounded}
 use Rattle.fleet_bound.specs.Onward.{onward, GoesOn}

@@ -10,7 +10,7 @@ use Rattle.fleet_grid.specs.Distance.{distance}
 use Rattle.fleet_grid.specs.Counts.{floor_count}
 use Rattle.fleet_grid.proofs.Forms.{floor_inside}
 use Rattle.fleet_grid.proofs.Shortest.{is_distance}
-use Rattle.fleet_waits.proofs.Counts.{count_by-cons, count_by-mono, count_by-strict}
+use Rattle.fleet_bound.proofs.WaitCounts.{count_by-cons, count_by-mono, count_by-strict}
 use Rattle.fleet_bound.specs.Reach.{reach}
 use Rattle.fleet_bound.proofs.Reach.{walk_ends, reach-is, reach-positive}
 
@@ -64,7 +64,7 @@ floor_counted m = counted_at is_floor_letter (λ c. get_or m.letters c 0) m.lett
 more : (c : ℕ) (cs : List ℕ) → length (c ∷ cs) ≡ length cs + 1
 more c cs = grind arith
 
--- behind its first edge a shortest walk is a shortest one
+-- after its first edge a shortest walk is a shortest one
 tail_is : (Near : ℕ → ℕ → Type 0) (a b c : ℕ) (cs : List ℕ) → Near a c → Walks Near c cs b → IsDistance Near a b (length (c ∷ cs)) → IsDistance Near c b (length cs)
 tail_is Near a b c cs e w d = record {
   walk = (cs, w, refl);

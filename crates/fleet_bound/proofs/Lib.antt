@@ -1,3 +1,8 @@
+pub mod WaitCounts
+pub mod EldestWait
+pub mod WaitSteps
+pub mod WaitBounds
+pub mod WaitRuns
 pub mod Greatest
 pub mod Reach
 pub mod Levels

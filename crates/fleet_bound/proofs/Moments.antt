@@ -13,10 +13,10 @@ use Rattle.fleet_history.specs.Waits.{wait}
 use Rattle.fleet_history.proofs.Legal.{legal-placement, length-place}
 use Rattle.fleet_history.proofs.Reach.{front-reach}
 use Rattle.fleet_pibt.specs.Eldest.{IsEldest}
-use Rattle.fleet_plan.specs.Planned.{waits, goals, goal_of, cell_of}
-use Rattle.fleet_plan.proofs.Lists.{item_of, none_past}
-use Rattle.fleet_waits.specs.Waiting as waiting
-use Rattle.fleet_waits.specs.Waiting.{Moment, IsWithin, IsBounded}
+use Rattle.fleet_planner.specs.Planned.{waits, goals, goal_of, cell_of}
+use Rattle.fleet_planner.proofs.Lists.{item_of, none_past}
+use Rattle.fleet_bound.specs.Waiting as waiting
+use Rattle.fleet_bound.specs.Waiting.{Moment, IsWithin, IsBounded}
 use Rattle.fleet_bound.specs.Reach.{reach}
 use Rattle.fleet_bound.specs.Bound.{count_before, KeepsBound}
 use Rattle.fleet_bound.proofs.Reach.{reach-positive, reach-within}

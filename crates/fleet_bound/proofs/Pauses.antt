@@ -17,7 +17,7 @@ use Rattle.fleet_history.proofs.Arrivals.{unfinished-after_shut}
 use Rattle.fleet_history.proofs.Next.{start-place, start-front, start-wait}
 use Rattle.fleet_history.proofs.Places.{front-after_take}
 use Rattle.fleet_history.proofs.WaitLaws.{wait-after_take, wait-shut}
-use Rattle.fleet_waits.specs.Waiting.{IsPause}
+use Rattle.fleet_bound.specs.Waiting.{IsPause}
 use Rattle.fleet_bound.proofs.Fronts.{front-waits}
 use Rattle.fleet_bound.proofs.Moments.{away_from, moment}
 use Rattle.fleet_bound.proofs.Ticks.{anew-zero}

@@ -14,9 +14,9 @@ use Rattle.fleet_history.specs.History.{History, after, is_tick, robots, front, 
 use Rattle.fleet_history.specs.inside.Landing.{landed}
 use Rattle.fleet_history.specs.Legal.{IsLegal, Fits, IsTickAfter}
 use Rattle.fleet_history.proofs.Arrivals.{unfinished-after_tick, unfinished-after_shut}
-use Rattle.fleet_waits.specs.Waiting.{IsAdvance, IsPause}
-use Rattle.fleet_waits.specs.Errands.{IsQueued, Follows, begins, ticked, paused}
-use Rattle.fleet_waits.proofs.Runs.{fleet-idle}
+use Rattle.fleet_bound.specs.Waiting.{IsAdvance, IsPause}
+use Rattle.fleet_bound.specs.Errands.{IsQueued, Follows, begins, ticked, paused}
+use Rattle.fleet_bound.proofs.WaitRuns.{fleet-idle}
 use Rattle.fleet_bound.specs.Reach.{reach}
 use Rattle.fleet_bound.specs.Arriving.{IsIdleWithin}
 use Rattle.fleet_bound.specs.Onward.{onward, tick_count, is_take}
@@ -99,7 +99,7 @@ module _ {A : Type 0} (m : Floor) (from : History A) (r : ℕ) (known : r < robo
       subst (λ (n : ℕ). IsFollowed g n) (sym is) (subst (λ (k : History A). IsFollowed k (ticks + cond (is_tick e) 1 0)) (sym same)
       (followed-entry h ticks e (run-robots run) legal fits advancing none (run-followed run)))
 
--- after so many advancing ticks nobody has a front
+-- after this many advancing ticks nobody has a front
 pub fleet-idles : {A : Type 0} (m : Floor) (h : History A) → IsIdleWithin m h (idle_ticks (longest_after h) (robots h) (floor_count m))
 fleet-idles {A = A} m h r more known goes nothing enough =
     let run = goes-run m h (λ (e : Entry A). is_take e ≡ false) more goes nothing in

@@ -4,14 +4,14 @@ use Rattle.std.specs.Prelude.{All}
 use Rattle.std.proofs.lemmas.List.{append_assoc, append-nil}
 use Rattle.std.proofs.lemmas.List.Elements.{All-head, All-tail}
 use Rattle.fleet_grid.specs.Floor.{Floor}
-use Rattle.fleet_waits.proofs.Counts.{count_by-cons}
+use Rattle.fleet_bound.proofs.WaitCounts.{count_by-cons}
 use Rattle.fleet_history.specs.declared.history.Entry.{Entry}
 use Rattle.fleet_history.specs.declared.history.Entry.TheVariants.{Take, Tick, Shut}
 use Rattle.fleet_history.specs.History.{History, after, robots, is_tick}
 use Rattle.fleet_history.specs.Legal.{IsLegal, Fits}
 use Rattle.fleet_history.proofs.Legal.{fits-at}
 use Rattle.fleet_history.proofs.Places.{legal-before}
-use Rattle.fleet_plan.specs.Planned.{IsAdvancingTick}
+use Rattle.fleet_planner.specs.Planned.{IsAdvancingTick}
 use Rattle.fleet_bound.specs.Onward.{onward, GoesOn, tick_count}
 
 -- if the entry is a tick, it is advancing
@@ -20,7 +20,7 @@ IsAdvancingEntry m h (Take client order verdict) = h ≡ h
 IsAdvancingEntry m h (Tick to arrived farewells) = IsAdvancingTick m h to
 IsAdvancingEntry m h (Shut robot farewell) = h ≡ h
 
--- from a history there came this one, by entries that each have the property and with so many ticks
+-- from a history there came this one, by entries that each have the property and with this many ticks
 pub data Run {A : Type 0} (m : Floor) (P : Entry A → Type 0) (from : History A) : History A → ℕ → Type 0 where
   stands : Run m P from from 0
   went : {h : History A} {ticks : ℕ} (g : History A) (more : ℕ) (e : Entry A) → Run m P from h ticks → IsLegal m h → Fits m h e → IsAdvancingEntry m h e → P e →

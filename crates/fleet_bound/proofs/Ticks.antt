@@ -19,8 +19,8 @@ use Rattle.fleet_history.proofs.After.{place-after}
 use Rattle.fleet_history.proofs.Arrivals.{unfinished-after_tick}
 use Rattle.fleet_history.proofs.Legal.{length-place}
 use Rattle.fleet_history.proofs.WaitLaws.{wait-after_tick}
-use Rattle.fleet_plan.specs.Planned.{IsAdvancingTick}
-use Rattle.fleet_waits.specs.Waiting.{IsEldest, IsAdvance}
+use Rattle.fleet_planner.specs.Planned.{IsAdvancingTick}
+use Rattle.fleet_bound.specs.Waiting.{IsEldest, IsAdvance}
 use Rattle.fleet_bound.proofs.Fronts.{front-waits, front-idle}
 use Rattle.fleet_bound.proofs.Moments.{moment, eldest-of, goal-is, away-is, on_floor}
 
@@ -33,7 +33,7 @@ is_landing to r (Some f) = f.cell == slice_index to r
 abbrev pub lands : {A : Type 0} → History A → List ℕ → ℕ → Bool
 lands h to r = is_landing to r (front h r)
 
--- ---- the wait behind a tick
+-- ---- the wait after a tick
 
 ticked-idle : (to : List ℕ) (r : ℕ) (u : List Errand) (o : Option ℕ) → slice_get u 0 ≡ None → wait_ticked to r u o ≡ None
 ticked-idle to r [] o e = refl

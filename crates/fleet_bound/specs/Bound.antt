@@ -6,8 +6,8 @@ use Rattle.fleet_grid.specs.Walk.{IsDistance}
 use Rattle.fleet_history.specs.History.{History, robots, place}
 use Rattle.fleet_history.specs.Waits.{wait}
 use Rattle.fleet_pibt.specs.Eldest.{IsEldest}
-use Rattle.fleet_plan.specs.Planned.{waits, goals, goal_of}
-use Rattle.fleet_waits.specs.Waiting.{comes_before}
+use Rattle.fleet_planner.specs.Planned.{waits, goals, goal_of}
+use Rattle.fleet_bound.specs.Waiting.{comes_before}
 use Rattle.fleet_bound.specs.Reach.{reach}
 
 -- robots times reach

@@ -1,3 +1,5 @@
+pub mod Waiting
+pub mod Errands
 pub mod Reach
 pub mod Bound
 pub mod Onward

@@ -7,7 +7,7 @@ use Rattle.fleet_history.specs.declared.history.Entry.{Entry}
 use Rattle.fleet_history.specs.declared.history.Entry.TheVariants.{Take, Tick, Shut}
 use Rattle.fleet_history.specs.History.{History, with_entries, is_tick}
 use Rattle.fleet_history.specs.Legal.{IsLegal}
-use Rattle.fleet_plan.specs.Planned.{IsAdvancingTick}
+use Rattle.fleet_planner.specs.Planned.{IsAdvancingTick}
 
 -- the history with more entries
 abbrev pub onward : {A : Type 0} → History A → List (Entry A) → History A

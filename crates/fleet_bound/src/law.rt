@@ -15,7 +15,7 @@ ghost use Rattle.fleet_history.specs.Laws.{EachTick};
 ghost use Rattle.fleet_history.specs.Legal.{IsLegal, IsInOrder, Fits};
 ghost use Rattle.fleet_history.specs.Next.{next_opening};
 ghost use Rattle.fleet_history.specs.Waits.{wait};
-ghost use Rattle.fleet_plan.specs.Planned.{IsAdvancingTick};
+ghost use Rattle.fleet_planner.specs.Planned.{IsAdvancingTick};
 ghost use Rattle.fleet_bound.specs.Arriving.{ErrandsArrive, IsIdleWithin};
 ghost use Rattle.fleet_bound.specs.Bound.{KeepsBound, WaitsAreBounded};
 ghost use Rattle.fleet_bound.specs.Idle.{idle_ticks, longest_after};

@@ -4,5 +4,6 @@
 
 mod idle;
 pub mod law;
+pub mod waiting;
 
 pub use idle::{idle_within, longest_queue};

@@ -1,4 +1,4 @@
--- An edge beside a square of floor lies on a ring of four cells, and so is no bridge.
+-- An edge next to a square of floor lies on a ring of four cells, and so is no bridge.
 use Rattle.std.proofs.Common.{◌≡◌, ◌≢◌, ℕ, ◌+◌, ◌*◌, ◌/◌, ◌<◌, ◌≤◌, ◌⊎◌, inl, inr, List, length, Bool, true, false, ◌||◌, refl, sym, ap, subst, ◌∙◌, arith}
 use Rattle.std.specs.Prelude.{slice_index}
 use Rattle.std.proofs.lemmas.Nat.{mod_below, div_below, mul-le}
@@ -22,7 +22,7 @@ ring Near a b c d ac cd db ab ca cb da =
     (joined_on R c d b (joined_by R c d (record { near = cd; there = λ p q. ca p; back = λ p q. cb p }))
     (joined_by R d b (record { near = db; there = λ p q. da p; back = λ p q. ab (sym q) })))
 
--- the place of a cell has a row and a place more behind it
+-- the place of a cell has a row and a place more after it
 pub more_behind : (h w s c : ℕ) → 0 < w → w < s → c < h * w → place w s c + s + 1 < (h + 2) * s
 more_behind h w s c pos apart below =
     let row : c / w < h = div_below c w h pos below in

@@ -221,7 +221,7 @@ fn doubt_in<B: Allocator + Copy>(places: &Places<'_, B>, most: u32) -> Option<u3
     None
 }
 
-/// The first cell from which an edge leads that neither a square of floor nor a short walk shows to be no bridge. So many
+/// The first cell from which an edge leads that neither a square of floor nor a short walk shows to be no bridge. This many
 /// steps are looked at in all that this takes a time in proportion to the map, and no memory.
 pub(crate) fn first_doubt<B: Allocator + Copy>(grid: &Grid<B>) -> Option<u32>
     ensures { MatchOption result (IsBridgeless (IsNeighbour grid.now)) (HasNoneBelow grid.now) }

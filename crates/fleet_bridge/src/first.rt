@@ -214,7 +214,7 @@ fn first_by_tree<A: Allocator + Copy, B: Allocator + Copy>(
     first_by_sides(alloc, &sides)
 }
 
-/// The bridge of least lower cell, then least upper cell. Edges beside squares of floor, or on short rounds, are passed over;
+/// The bridge of least lower cell, then least upper cell. Edges next to squares of floor, or on short rounds, are passed over;
 /// a search tries the first of the others; only where that is no bridge either a tree is grown.
 #[tactic(auto, using(crate::proofs::Rounds::first_is))]
 pub fn first_bridge<A: Allocator + Copy, B: Allocator + Copy>(

@@ -18,7 +18,7 @@ pub(crate) struct Growth<A: Allocator + Copy = Global> {
 }
 
 impl<A: Allocator + Copy> Growth<A> {
-    /// Nothing placed, and lists for so many cells.
+    /// Nothing placed, and lists for this many cells.
     fn new(alloc: A, count: u32) -> Result<Growth<A>, AllocError> {
         let placed = vec![in alloc; false; count as usize]?;
         let up = own_numbers(alloc, count)?;
@@ -146,14 +146,14 @@ pub(crate) fn place_all<A: Allocator + Copy, B: Allocator + Copy>(
     Ok(growth)
 }
 
-/// For each cell its number, and the number behind those of its subtree.
+/// For each cell its number, and the number after those of its subtree.
 #[derive(Drop)]
 pub(crate) struct Numbers<A: Allocator + Copy = Global> {
     pub(crate) number: Vec<u32, A>,
     pub(crate) end: Vec<u32, A>,
 }
 
-/// Lets each subtree end behind its last child: children come behind their parents in the order, so this goes backward.
+/// Lets each subtree end after its last child: children come after their parents in the order, so this goes backward.
 fn widen_ends<A: Allocator + Copy>(growth: &Growth<A>, end: &mut Vec<u32, A>) {
     for cell in growth.order.iter().rev() {
         let parent = read(&growth.up, *cell);

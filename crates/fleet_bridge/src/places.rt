@@ -85,7 +85,7 @@ fn across<B: Allocator + Copy>(places: &Places<'_, B>, spot: Spot, dir: Dir) -> 
     }
 }
 
-/// The floor cell beside a floor cell in a direction.
+/// The floor cell next to a floor cell in a direction.
 #[inline(always)]
 pub(crate) fn spot_beside<B: Allocator + Copy>(
     places: &Places<'_, B>,
@@ -135,7 +135,7 @@ fn is_bare(from: bool, to: bool, one: bool, other: bool) -> bool
     (from & to) & !(one | other)
 }
 
-/// Whether an edge leads to the east of the place that has no square of floor beside it.
+/// Whether an edge leads to the east of the place that has no square of floor next to it.
 #[inline(always)]
 fn is_bare_east<B: Allocator + Copy>(places: &Places<'_, B>, at: usize) -> bool
     requires laid_out { IsLaidOut places.now.grid.now places.now.width places.now.stride places.now.list.now }
@@ -149,7 +149,7 @@ fn is_bare_east<B: Allocator + Copy>(places: &Places<'_, B>, at: usize) -> bool
     is_bare(is_floor(list, at), is_floor(list, at + 1), below, above)
 }
 
-/// Whether an edge leads to the south of the place that has no square of floor beside it.
+/// Whether an edge leads to the south of the place that has no square of floor next to it.
 #[inline(always)]
 fn is_bare_south<B: Allocator + Copy>(places: &Places<'_, B>, at: usize) -> bool
     requires laid_out { IsLaidOut places.now.grid.now places.now.width places.now.stride places.now.list.now }
@@ -163,7 +163,7 @@ fn is_bare_south<B: Allocator + Copy>(places: &Places<'_, B>, at: usize) -> bool
     is_bare(is_floor(list, at), is_floor(list, at + stride), right, left)
 }
 
-/// Whether an edge leads to the east or the south of the place that has no square of floor beside it.
+/// Whether an edge leads to the east or the south of the place that has no square of floor next to it.
 #[inline(always)]
 pub(crate) fn has_bare<B: Allocator + Copy>(places: &Places<'_, B>, at: usize) -> bool
     requires laid_out { IsLaidOut places.now.grid.now places.now.width places.now.stride places.now.list.now }

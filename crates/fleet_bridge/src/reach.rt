@@ -63,7 +63,7 @@ fn hand_up<A: Allocator + Copy>(
     }
 }
 
-/// Hands the furthest reach of each subtree up to the parent: children come behind their parents in the order, so this goes
+/// Hands the furthest reach of each subtree up to the parent: children come after their parents in the order, so this goes
 /// backward.
 fn hand_all_up<A: Allocator + Copy>(
     growth: &Growth<A>,

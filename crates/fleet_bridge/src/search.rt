@@ -94,7 +94,7 @@ fn visit_around<A: Allocator + Copy, B: Allocator + Copy>(
     visit_beside(grid, from, to, seen, queue, cell, Dir::West);
 }
 
-/// Marks the cells that a walk from `from` comes to without crossing the edge.
+/// Marks the cells that a walk from `from` reaches without crossing the edge.
 #[tactic(auto, using(crate::proofs::Fronts::queue_le, crate::proofs::Fronts::reach, crate::proofs::Fronts::done_more))]
 fn spread<A: Allocator + Copy, B: Allocator + Copy>(
     grid: &Grid<B>,
@@ -118,7 +118,7 @@ fn spread<A: Allocator + Copy, B: Allocator + Copy>(
     }
 }
 
-/// The cells that a walk from `from` comes to without crossing the edge.
+/// The cells that a walk from `from` reaches without crossing the edge.
 fn search<A: Allocator + Copy, B: Allocator + Copy>(
     alloc: A,
     grid: &Grid<B>,

@@ -121,7 +121,7 @@ impl<'a, A: Allocator + Copy, B: Allocator + Copy> Sides<'a, A, B> {
         self.grid
     }
 
-    /// The floor cell beside a cell in a direction; none where either of the two is not floor.
+    /// The floor cell next to a cell in a direction; none where either of the two is not floor.
     #[inline(always)]
     pub(crate) fn beside(&self, cell: u32, dir: Dir) -> Option<u32>
         ensures { MatchOption result ((b : ℕ) → IsNeighbourIn self.now dir cell b → ⊥) (λ b. IsNeighbourIn self.now dir cell b) }

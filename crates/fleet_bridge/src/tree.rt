@@ -16,7 +16,7 @@ use fleet_grid::Dir;
 use std::alloc::{AllocError, Allocator, Global};
 
 /// For each cell: its parent (itself, where it has none), the first cell of its part, its number in preorder, the number
-/// behind those of its subtree, and the cell of its subtree from which an edge off the tree reaches the least number.
+/// after those of its subtree, and the cell of its subtree from which an edge off the tree reaches the least number.
 #[derive(Drop)]
 pub(crate) struct Tree<A: Allocator + Copy = Global> {
     pub(crate) up: Vec<u32, A>,

@@ -43,7 +43,7 @@ module _ (to : List ℕ) (low high : ℕ) (step : low + 1 ≡ high) (inside : lo
     | inr ne ↦ subst (IsSeat to low c) (sym (there c (λ e. ne (sym e)))) (seat_there c (seat c) ne (s c))
   ]
 
-  -- nobody comes to the robot's cell behind it
+  -- nobody after it moves to the robot's cell
   pub shared_same : (o : Option (ℕ × ℕ)) → IsSeat to high (slice_index to low) None → IsShared to high o → IsShared to low o
   shared_same None alone s = λ i j from less inner e. elim (cases_eq i low) [
     | inl same ↦ alone j (omega (arith, same, less, step)) inner (sym e ∙ ap (slice_index to) same)
@@ -101,7 +101,7 @@ are_seats to seat s apart = record { apart = λ i j less inner e. apart i j (ome
     each : (r : ℕ) → r < length to → seat (slice_index to r) ≡ Some r
     each r less = is r (seat (slice_index to r)) less (s (slice_index to r))
 
--- the one robot that may exchange cells with another is the one that comes to its cell
+-- the one robot that may exchange cells with another is the one that moves to its cell
 module _ (from to : List ℕ) (seat : ℕ → Option ℕ) (s : AreSeats to seat) (i : ℕ) where
   pub partner : (j : ℕ) → j < length to → Exchange from to i j → seat (slice_index from i) ≡ Some j
   partner j inner e = subst (λ (c : ℕ). seat c ≡ Some j) e.1 (s.each j inner)

@@ -34,7 +34,7 @@ few_robots m place form p =
         eqb_true : (x y : ℕ) → eqb x y ≡ true → x ≡ y
         eqb_true x y e = search (rules, e)
 
--- a conflict-free step has no fault but want of memory
+-- a conflict-free step has no fault but out of memory
 pub no_fault : (m : Floor) (from to : List ℕ) (fault : StepFault) → IsConflictFree m from to → IsFirstFault m from to fault → fault ≡ NoMemory
 no_fault m from to Length s f = absurd (f s.same_length)
 no_fault m from to (OffFloor r) s f = absurd (f.1.holds (s.on_floor r f.1.inside))

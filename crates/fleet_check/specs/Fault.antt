@@ -17,13 +17,13 @@ ShareCell to i j = slice_index to i ≡ slice_index to j
 abbrev pub Exchange : List ℕ → List ℕ → ℕ → ℕ → Type 0
 Exchange from to i j = (slice_index to i ≡ slice_index from j) × (slice_index to j ≡ slice_index from i)
 
--- the least robot of which it holds, of so many
+-- the least robot of which it holds, of this many
 pub record IsFirst (Holds : ℕ → Type 0) (robots r : ℕ) : Type 0 where
   pub inside : r < robots
   pub holds : Holds r
   pub none_before : (k : ℕ) → k < r → Holds k → ⊥
 
--- the pair of which it holds with the least lower, then the least upper robot, of so many
+-- the pair of which it holds with the least lower, then the least upper robot, of this many
 pub record IsFirstPair (Holds : ℕ → ℕ → Type 0) (robots i j : ℕ) : Type 0 where
   pub order : i < j
   pub inside : j < robots

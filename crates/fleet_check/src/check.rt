@@ -69,7 +69,7 @@ fn first_not_adjacent<B: Allocator + Copy>(
     None
 }
 
-/// The robot that comes to each cell, where no two come to one; else the first two that do.
+/// The robot that moves to each cell, where no two move to one; else the first two that do.
 pub(crate) fn seats_of<A: Allocator + Copy>(
     alloc: A,
     to: &[u32],
@@ -95,7 +95,7 @@ pub(crate) fn seats_of<A: Allocator + Copy>(
     }
 }
 
-/// The robot that comes to the cell.
+/// The robot that moves to the cell.
 fn seat_at<A: Allocator + Copy>(seats: &BTreeMap<u32, u32, A>, cell: u32) -> Option<u32>
     ensures { result ≡ get nat_cmp seats.now cell }
 {

@@ -12,13 +12,13 @@ use Rattle.fleet_history.proofs.Withdrawals.{unfinished-start}
 use Rattle.fleet_bound.specs.Bound.{KeepsBound, WaitsAreBounded}
 use Rattle.fleet_bound.proofs.Keeps.{bound-empty, bound-legal, bound-short}
 use Rattle.fleet_state.specs.State.{State}
-use Rattle.fleet_core.specs.Aimed.{Planner}
+use Rattle.fleet_planner.specs.Aimed.{Planner}
 use Rattle.fleet_core.specs.Core.{opening_of}
 use Rattle.fleet_core.specs.Hooks.{HookLaws, AreOrderly}
 use Rattle.fleet_core.specs.Kept.{IsKept}
 use Rattle.fleet_core.specs.Mailboxes.{Mailboxes}
 use Rattle.fleet_core.specs.Opening.{CanOpen}
-use Rattle.fleet_core.proofs.Goaled.{each_advances}
+use Rattle.fleet_planner.proofs.GoalsKept.{each_advances}
 use Rattle.fleet_core.proofs.Opens.{legal-opened, unfinished-opened}
 
 -- at the opening nobody waits

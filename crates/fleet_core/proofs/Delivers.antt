@@ -15,7 +15,7 @@ use Rattle.fleet_core.specs.Mailboxes.{Mailboxes, box_at, with_notice, AreDelive
 abbrev pub nobody : Arrival
 nobody = record { robot = 0; client = 0; number = 0; stamp = 0 }
 
--- how many notices were made behind these arrivals
+-- how many notices were made after these arrivals
 abbrev pub told_more : ℕ → ℕ → List Arrival → ℕ
 told_more n c xs = n + count_by (λ a. a.client == c) xs
 
@@ -40,7 +40,7 @@ told_more_same n c xs j d l e = omega (arith, count_by_more_yes (λ (a : Arrival
 told_more_other : (n c : ℕ) (xs : List Arrival) (j : ℕ) (d : Arrival) → j < length xs → ((get_or xs j d).client ≡ c → ⊥) → told_more n c (take j xs) ≡ told_more n c (take (j + 1) xs)
 told_more_other n c xs j d l ne = omega (arith, count_by_more_no (λ (a : Arrival). a.client == c) xs j d l (ne_eqb (get_or xs j d).client c ne))
 
--- the numbers behind one more arrival
+-- the numbers after one more arrival
 pub numbers_more : (xs : List Arrival) (j n : ℕ) (d : Arrival) (numbers numbers₀ : List ℕ) → j < length xs → (get_or xs j d).client < length numbers →
     ((c : ℕ) → c < n → slice_index numbers c ≡ told_more (slice_index numbers₀ c) c (take j xs)) → (get_or xs j d).client < n →
     (c : ℕ) → c < n → slice_index (slice_set numbers (get_or xs j d).client (slice_index numbers (get_or xs j d).client + 1)) c ≡ told_more (slice_index numbers₀ c) c (take (j + 1) xs)

@@ -2,7 +2,7 @@
 use Rattle.std.proofs.Common.{◌≡◌, ◌∙◌, ℕ, ◌+◌, ◌^◌, ◌<◌, ◌≤◌, List, Option, map, length, ap, refl, arith}
 use Rattle.std.specs.Prelude.{slice_index, count_by, All, ◌==◌}
 use Rattle.fleet_grid.specs.Floor.{Floor}
-use Rattle.fleet_goals.specs.Aims.{goals_of}
+use Rattle.fleet_planner.specs.Aims.{goals_of}
 use Rattle.fleet_hooks.specs.declared.law.TieLaw.{TieLaw}
 use Rattle.fleet_book.specs.declared.limits.Limits.{Limits}
 use Rattle.fleet_book.specs.declared.notice.Notice.TheVariants as notice
@@ -16,19 +16,19 @@ use Rattle.fleet_history.specs.History.{History, after, robots, clients, clock, 
 use Rattle.fleet_history.specs.Legal.{Fits, IsTickAfter, due_of, due}
 use Rattle.fleet_history.specs.Verdicts.{IsVerdict}
 use Rattle.fleet_history.proofs.Ticks.{each_tick-shut, each_tick-take, each_tick-tick}
-use Rattle.fleet_plan.specs.Planned.{IsPlanned}
-use Rattle.fleet_plan.proofs.Goals.{planned-advances}
+use Rattle.fleet_planner.specs.Planned.{IsPlanned}
+use Rattle.fleet_planner.proofs.Goals.{planned-advances}
 use Rattle.fleet_state.specs.Follows.{MayFollow}
 use Rattle.fleet_state.specs.State.{State, IsStateOf}
 use Rattle.fleet_state.proofs.Parts.{cells-of, waits-of}
 use Rattle.fleet_core.specs.declared.faults.TickReport.{TickReport}
-use Rattle.fleet_core.specs.Aimed.{Planner, begun, begun_goals, goals_ticked}
+use Rattle.fleet_planner.specs.Aimed.{Planner, begun, begun_goals, goals_ticked}
 use Rattle.fleet_core.specs.Core.{World, Takes, Ticks, Shuts}
 use Rattle.fleet_core.specs.Kept.{IsKept}
 use Rattle.fleet_core.specs.Mailboxes.{Mailboxes, box_at, with_notice, AreDelivered}
 use Rattle.fleet_core.specs.Pending.{Pending}
 use Rattle.fleet_core.specs.inside.Ready.{IsStep, IsOnSame}
-use Rattle.fleet_core.proofs.Goaled.{aimed-shut, aimed-take, aimed-tick}
+use Rattle.fleet_planner.proofs.GoalsKept.{aimed-shut, aimed-take, aimed-tick}
 use Rattle.fleet_core.proofs.Kept.{noticed-of, noticed-small, room-kept, boxes-shut, boxes-take, boxes-tick, delivered-shut, taken-boxes, ticked-boxes, within-shut, within-take, within-tick}
 use Rattle.fleet_core.proofs.Ticked.{arrived-clients, arrived-few, arrived-owed, arrived-robots}
 

@@ -20,7 +20,7 @@ spare_law spare k = slice_index_or spare k None
 pub spare-is : {X : Type 0} (f : X → StampLaw) (xs : List (Option X)) (r : ℕ) (x : Option X) → r < length xs → x ≡ get_or xs r x → slice_index_or (map (λ o. option_map f o) xs) r None ≡ option_map f x
 spare-is f xs r x within is = get_or-map (λ o. option_map f o) xs r x None within ∙ ap (λ o. option_map f o) (sym is)
 
--- one more robot took its leave
+-- one more robot said farewell
 pub spent-before : (spare spare₀ : List (Option StampLaw)) (p : ℕ → Bool) (r : ℕ) → r < length spare → p r ≡ true →
     ((k : ℕ) → k < r → spare_law spare k ≡ cond (p k) None (spare_law spare₀ k)) →
     (k : ℕ) → k < r + 1 → spare_law (slice_set spare r None) k ≡ cond (p k) None (spare_law spare₀ k)

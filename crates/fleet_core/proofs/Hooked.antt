@@ -26,7 +26,7 @@ use Rattle.fleet_history.proofs.Places.{done-after_take}
 use Rattle.fleet_history.proofs.Legal.{accepted-rule}
 use Rattle.fleet_core.specs.Hooks.{law_at, AreArrivals, AreFarewells, IsLastStamp}
 use Rattle.fleet_core.specs.inside.Spent.{spent_if}
-use Rattle.fleet_core.proofs.Goaled.{none_left_nil}
+use Rattle.fleet_planner.proofs.GoalsKept.{none_left_nil}
 
 true_or_false : (b : Bool) → b ≡ true → b ≡ false → ⊥
 true_or_false b p q = cc

@@ -247,6 +247,9 @@ module _ {A : Type 0} {limits : Limits} {number : ℕ} {h : History A} (k : IsWi
       let n = legal-counts m h c legal l in
       omega (arith, n.not_early, n.fewer, taken-few h c, within-room c l)
 
+  pub taken-small : (c : ℕ) → c < clients h → taken_count h c ≤ 2 ^ 57
+  taken-small c l = omega (arith, taken-few h c, within-room c l)
+
   pub pending-small : (m : Floor) → IsLegal m h → {x : Mailboxes} → AreBoxes h x → (c : ℕ) → c < clients h → length (box_at x.boxes c).notices + owed h c ≤ 2 ^ 57
   pending-small m legal boxed c l = omega (arith, counts-small m legal c l, boxed.told c l)
 

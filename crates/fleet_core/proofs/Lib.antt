@@ -1,6 +1,4 @@
 pub mod Farewells
-pub mod Goaled
-pub mod Turning
 pub mod Delivers
 pub mod Stamped
 pub mod Kept
@@ -13,3 +11,5 @@ pub mod Alike
 pub mod Boxed
 pub mod Refused
 pub mod Apart
+pub mod Fronts
+pub mod OpeningRefusals

@@ -1,17 +1,20 @@
 -- Answers that may be refused.
 use Rattle.std.proofs.Common.{◌≡◌, ◌∙◌, ℕ, ◌<◌, ◌≤◌, List, ◌↔◌, IsTrue, Bool, true, false, ap, sym, subst, arith}
-use Rattle.std.specs.Prelude.{Result, Ok, Err, IfOk, OnOk, OnErr}
-use Rattle.fleet_goals.specs.Aims.{goals_of}
+use Rattle.std.specs.Prelude.{Result, Ok, Err, IfOk, OnOk}
+use Rattle.fleet_planner.specs.Aims.{goals_of}
 use Rattle.fleet_grid.specs.Floor.{Floor, IsNeighbour}
 use Rattle.fleet_grid.specs.Walk.{IsBridgeless}
+use Rattle.fleet_field.specs.Store.{Keeps}
 use Rattle.fleet_hooks.specs.declared.law.TieLaw.{TieLaw}
 use Rattle.fleet_book.specs.declared.limits.Limits.{Limits}
 use Rattle.fleet_history.specs.History.{History}
 use Rattle.fleet_state.specs.State.{State}
-use Rattle.fleet_core.specs.Aimed.{Planner}
+use Rattle.fleet_planner.specs.Aimed.{Planner}
 use Rattle.fleet_core.specs.Kept.{IsKept}
 use Rattle.fleet_core.specs.Mailboxes.{Mailboxes}
+use Rattle.fleet_planner.proofs.GoalsKept.{aimed-kept}
 use Rattle.fleet_core.specs.inside.Ready.{IsOnSame}
+pub use Rattle.fleet_planner.proofs.Refused.{all_err, on_ok_map, on_err_map}
 
 -- what holds of each answer of a call that is always refused
 pub none_ok : {X E : Type 0} (P : Type 0) (r : Result X E) → OnOk r ⊥ → OnOk r P
@@ -21,19 +24,6 @@ none_ok P (Err e) none = tt
 pub none_ok_at : {X E : Type 0} (P : X → Type 0) (r : Result X E) → OnOk r ⊥ → IfOk r P
 none_ok_at P (Ok x) none = absurd none
 none_ok_at P (Err e) none = tt
-
-pub all_err : {X E : Type 0} {P : Type 0} (r : Result X E) → P → OnErr r P
-all_err (Ok x) p = tt
-all_err (Err e) p = p
-
--- one follows from the other
-pub on_ok_map : {X E : Type 0} {P Q : Type 0} (r : Result X E) → (P → Q) → OnOk r P → OnOk r Q
-on_ok_map (Ok x) f p = f p
-on_ok_map (Err e) f p = tt
-
-pub on_err_map : {X E : Type 0} {P Q : Type 0} (r : Result X E) → (P → Q) → OnErr r P → OnErr r Q
-on_err_map (Ok x) f p = tt
-on_err_map (Err e) f p = f p
 
 -- a core whose planner was refused keeps what it kept
 pub kept-refused : {A : Type 0} {m : Floor} {limits : Limits} {ties : List TieLaw} {n : ℕ} {h : History A} {s : State A} {p : Planner} {x : Mailboxes} → IsKept m limits ties n h s p x →
@@ -63,3 +53,16 @@ not_same less same = omega (arith, less, same)
 
 pub not_true : {b : Bool} → b ≡ true → b ≡ false → ⊥
 not_true p q = cc
+
+-- what a core keeps, with other fields in its planner
+pub kept-fields : {A : Type 0} {m : Floor} {limits : Limits} {ties : List TieLaw} {n : ℕ} {h : History A} {s : State A} {p q : Planner} {x : Mailboxes} → IsKept m limits ties n h s p x →
+    q.aims ≡ p.aims → q.size ≡ p.size → q.bridgeless ≡ p.bridgeless → Keeps m q.kept → IsKept m limits ties n h s q x
+kept-fields k same size bridge kept = record {
+  is = k.is;
+  room = k.room;
+  within = k.within;
+  boxed = k.boxed;
+  aimed = aimed-kept k.is k.aimed same size bridge kept;
+  tied = k.tied;
+  bounded = k.bounded;
+}

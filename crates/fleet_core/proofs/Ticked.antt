@@ -112,7 +112,7 @@ module _ {A : Type 0} (m : Floor) (h : History A) (legal : IsLegal m h) (to : Li
           let shut : is_shut (after h e) r ≡ is_shut h r = shut-after h r e ∙ or-false (is_shut h r) in
           rw (left, shut) (done_drop (is_shut h r) (unfinished h r) (length (landed to r (front h r))) was)
 
-      -- the farewells that are left behind the tick
+      -- the farewells that are left after the tick
       pub farewells-tick : (spare' : List (Option StampLaw)) → spare' ≡ without_all (map (λ b. b.robot) byes) spare → length spare' ≡ length spare → AreFarewells (after h (entry.Tick to arrived others)) spare'
       farewells-tick spare' spent count =
           farewells-left h spare k (after h (entry.Tick to arrived others)) spare' refl (λ r. refl) count done-stays

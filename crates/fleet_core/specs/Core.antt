@@ -1,4 +1,4 @@
--- The core: what each event does to the history and to the lists of the clients.
+-- What a world holds, and what its calls do to it.
 use Rattle.std.specs.Prelude.{ℕ, ◌+◌, false, ◌≡◌, ◌<◌, ◌≤◌, List, [], ◌∷◌, ◌++◌, Option, None, drop, length, slice_index_or, slice_set, map, replicate, slice_index}
 use Rattle.std.specs.List.{range_with_len}
 use Rattle.fleet_grid.specs.Floor.{Floor, IsNeighbour}
@@ -19,7 +19,7 @@ use Rattle.fleet_history.specs.Verdicts.{IsVerdict}
 use Rattle.fleet_history.specs.Legal.{Fits}
 use Rattle.fleet_history.specs.Next.{next_opening}
 use Rattle.fleet_history.specs.Notices.{told}
-use Rattle.fleet_plan.specs.Planned.{IsPlanned, IsAdvancingTick}
+use Rattle.fleet_planner.specs.Planned.{IsPlanned, IsAdvancingTick}
 use Rattle.fleet_core.specs.declared.faults.TickReport.{TickReport}
 use Rattle.fleet_core.specs.Hooks.{HookLaws, law_at}
 use Rattle.fleet_core.specs.Pending.{Pending, no_pending}
@@ -68,7 +68,7 @@ without_first w c = record {
   mailboxes = slice_set w.mailboxes c (record { notices = drop 1 (pending w c).notices; limit = (pending w c).limit });
 }
 
--- the world whose mailbox of this client may hold so much more
+-- the world whose mailbox of this client may hold this much more
 abbrev pub widened : {A : Type 0} → World A → ℕ → ℕ → World A
 widened w c extra = record {
   floor = w.floor;

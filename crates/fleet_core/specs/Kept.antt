@@ -1,4 +1,4 @@
--- What a core keeps beside its history, and how it follows from the history.
+-- What a core keeps besides its history, and how it follows from the history.
 use Rattle.std.specs.Prelude.{ℕ, ◌+◌, ◌≡◌, ◌<◌, ◌≤◌, List, length}
 use Rattle.fleet_grid.specs.Floor.{Floor, IsNeighbour}
 use Rattle.fleet_grid.specs.Walk.{IsBridgeless}
@@ -9,10 +9,10 @@ use Rattle.fleet_history.specs.History.{History, start, clock, robots, clients, 
 use Rattle.fleet_history.specs.Laws.{EachTick}
 use Rattle.fleet_history.specs.Next.{IsWithinChapters}
 use Rattle.fleet_history.specs.Notices.{noticed_count}
-use Rattle.fleet_plan.specs.Planned.{IsPlanned}
+use Rattle.fleet_planner.specs.Planned.{IsPlanned}
 use Rattle.fleet_bound.specs.Bound.{KeepsBound}
 use Rattle.fleet_state.specs.State.{State, IsStateOf, by_client, HasFullRooms}
-use Rattle.fleet_core.specs.Aimed.{Planner, IsAimed}
+use Rattle.fleet_planner.specs.Aimed.{Planner, IsAimed}
 use Rattle.fleet_core.specs.Mailboxes.{Mailboxes, box_at}
 
 -- the mailboxes have room for what their clients are owed, hold no more notices than were made, and know their next notices' numbers

@@ -1,10 +1,11 @@
-pub use Rattle.fleet_plan.specs.Planned
+pub use Rattle.fleet_planner.specs.Planned
 pub use Rattle.fleet_pibt.specs.Eldest
 pub mod Hooks
 pub mod Pending
 pub mod Opening
+pub mod OpeningFaults
 pub mod Core
+pub mod Calls
 pub mod Mailboxes
-pub mod Aimed
 pub mod Kept
 pub mod inside

@@ -1,53 +1,19 @@
-//! Goals that are to come.
+//! Fields that are searched before anybody needs them.
 
-ghost use Rattle.std.specs.Prelude.{ℕ, ◌<◌, length, slice_index, IfSome, IfOk};
-ghost use Rattle.fleet_grid.specs.Floor.{IsFloor};
+ghost use Rattle.std.specs.Prelude.{◌≡◌, ◌≤◌};
 
-use fleet_grid::Grid;
-use fleet_queue::ErrandQueue;
+use crate::world::World;
 use std::alloc::{AllocError, Allocator};
+use std::thread::Threads;
 
-/// Whether the front errand of one of the queues has the cell, so that its robot aims at it.
-fn is_front<A: Allocator + Copy>(queues: &[ErrandQueue<A>], cell: u32) -> bool {
-    for queue in queues {
-        if let Some(front) = queue.front() {
-            if front.cell == cell {
-                return true;
-            }
-        }
+impl<A: Allocator + Copy + Send + Sync> World<A> {
+    /// Searches the fields of the robots' next errands side by side, where no robot aims at their cells yet, and keeps as
+    /// many as have place. They show in nothing but the time and the memory that a take or a tick needs.
+    pub fn search_ahead(&mut self, rt: &(impl Threads + Sync)) -> Result<(), AllocError>
+        // Of each call: only a call with a condition may lend closures to another crate.
+        requires { 0 ≤ self.old.core.number }
+        ensures { self.new.core ≡ self.old.core }
+    {
+        self.core.search_ahead(rt)
     }
-    false
-}
-
-/// The cell of the errand behind a queue's front, where no robot aims at it. It is floor as each errand's is, which is
-/// asked anew in place of a look into the history.
-fn goal_ahead<A: Allocator + Copy>(
-    grid: &Grid<A>,
-    queues: &[ErrandQueue<A>],
-    queue: &ErrandQueue<A>,
-) -> Option<u32>
-    ensures { IfSome result (λ cell. IsFloor grid.now cell) }
-{
-    let next = queue.get(1)?;
-    if !grid.is_floor(next.cell) || is_front(queues, next.cell) {
-        return None;
-    }
-    Some(next.cell)
-}
-
-/// The cells of the errands behind the queues' fronts at which no robot aims.
-pub(crate) fn goals_ahead<A: Allocator + Copy>(
-    alloc: A,
-    grid: &Grid<A>,
-    queues: &[ErrandQueue<A>],
-) -> Result<Vec<u32, A>, AllocError>
-    ensures { IfOk result (λ goals. (i : ℕ) → i < length goals.items → IsFloor grid.now (slice_index goals.items i)) }
-{
-    let mut goals = Vec::new(alloc);
-    for queue in queues {
-        if let Some(goal) = goal_ahead(grid, queues, queue) {
-            goals.push(goal)?;
-        }
-    }
-    Ok(goals)
 }

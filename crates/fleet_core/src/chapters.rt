@@ -7,7 +7,7 @@ ghost use Rattle.fleet_grid.specs.Walk.{IsBridgeless};
 ghost use Rattle.fleet_history.specs.History.{history_of};
 ghost use Rattle.fleet_history.specs.Laws.{EachTick};
 ghost use Rattle.fleet_history.specs.Legal.{IsLegal};
-ghost use Rattle.fleet_plan.specs.Planned.{IsPlanned, IsAdvancingTick};
+ghost use Rattle.fleet_planner.specs.Planned.{IsPlanned, IsAdvancingTick};
 ghost use Rattle.fleet_core.specs.Core.{next_world};
 ghost use Rattle.fleet_core.specs.Hooks.{AreArrivals, AreFarewells};
 

@@ -2,22 +2,22 @@
 
 ghost use Rattle.std.specs.Prelude.{◌≡◌, ◌≤◌, ◌<◌, ◌++◌, ◌∷◌, ◌↔◌, [], true, false, OnOk, OnErr, IfOk, map, vec_len, vec_capacity};
 ghost use Rattle.fleet_bound.specs.Arriving.{ArrivesInTurn};
-ghost use Rattle.fleet_goals.specs.Aims.{goals_of};
+ghost use Rattle.fleet_planner.specs.Aims.{goals_of};
 ghost use Rattle.fleet_history.specs.History.{clients, robots, clock, is_shut};
-ghost use Rattle.fleet_core.specs.Aimed.{MayBegin, begun, begun_goals};
+ghost use Rattle.fleet_planner.specs.Aimed.{MayBegin, begun, begun_goals};
 ghost use Rattle.fleet_core.specs.Hooks.{AreArrivals, AreFarewells, spare_laws};
 ghost use Rattle.fleet_core.specs.Core.{Takes, Ticks, Shuts, HasRoom, HasNoRoom, HasEntries, HasNoEntries};
 ghost use Rattle.fleet_core.specs.inside.Ready.{IsOnSame};
 
 use crate::faults::{ShutFault, TakeFault, TickFault, TickReport};
 use crate::kernel::Core;
-use crate::planner::Planner;
 use crate::stamps::last_word_if;
-use crate::step::{Step, ready};
+use crate::tick_draft::{TickDraft, ready};
 use fleet_book::{Order, Verdict};
 use fleet_grid::Grid;
 use fleet_history::{Entry, Row};
 use fleet_hooks::{ArrivalHook, Farewell, FarewellView, TieHook};
+use fleet_planner::Planner;
 use fleet_state::FleetState;
 use std::alloc::{Alloc, AllocError, Allocator};
 
@@ -167,7 +167,7 @@ fn make_begun<A: Allocator + Copy>(
 }
 
 /// The tick of a step.
-fn tick_entry<A: Allocator + Copy>(step: Step<A>) -> Entry<A>
+fn tick_entry<A: Allocator + Copy>(step: TickDraft<A>) -> Entry<A>
     ensures { result ≡ Entry.Tick step.to.items step.arrived.items step.leaving.items }
 {
     Entry::Tick {
@@ -177,7 +177,7 @@ fn tick_entry<A: Allocator + Copy>(step: Step<A>) -> Entry<A>
     }
 }
 
-/// Puts an item behind the others, where there is room.
+/// Puts an item after the others, where there is room.
 fn add<T: Drop, A: Allocator + Copy>(items: &mut Vec<T, A>, item: T)
     requires { vec_len items.old < vec_capacity items.old }
     ensures { items.new.items ≡ items.old.items ++ item ∷ [] }

@@ -3,48 +3,84 @@
 ghost use Rattle.std.specs.Prelude.{◌≡◌, ◌<◌, ◌^◌};
 
 use std::alloc::AllocError;
+use thiserror::Error;
+
+/// Why a world is not opened; the first that stands is answered.
+#[derive(Clone, Copy, Debug, PartialEq, Eq, Error)]
+pub enum OpenFault {
+    /// A limit or the number of clients is out of its range.
+    #[error("a limit or the number of clients is out of its range")]
+    Limits,
+    /// There are not 1 to 512 robots.
+    #[error("there are not 1 to 512 robots")]
+    NoRobots,
+    /// The robot, the least such, does not start on floor.
+    #[error("robot {0} does not start on floor")]
+    Start(u32),
+    /// The two robots, the least such pair, start on one cell.
+    #[error("robots {0} and {1} start on one cell")]
+    Shared(u32, u32),
+    /// A list of closures has not one for each robot.
+    #[error("a list of closures has not one for each robot")]
+    Hooks,
+    /// Memory was refused.
+    #[error("out of memory")]
+    NoMemory,
+}
 
 /// Why an order is not taken; the first that stands is answered.
-#[derive(Clone, Copy, Debug, PartialEq, Eq)]
+#[derive(Clone, Copy, Debug, PartialEq, Eq, Error)]
 pub enum TakeFault {
     /// The client's notices and unfinished errands leave no room for two more.
+    #[error("the mailbox has no room for two more notices")]
     MailboxFull,
     /// The chapter has all the entries that it may have.
+    #[error("the chapter is full")]
     ChapterFull,
     /// Memory was refused.
+    #[error("out of memory")]
     NoMemory,
 }
 
 /// Why no tick is made; the first that stands is answered.
-#[derive(Clone, Copy, Debug, PartialEq, Eq)]
+#[derive(Clone, Copy, Debug, PartialEq, Eq, Error)]
 pub enum TickFault {
     /// All the ticks were made that may be made.
+    #[error("all ticks were made")]
     ClockSpent,
     /// The chapter has all the entries that it may have.
+    #[error("the chapter is full")]
     ChapterFull,
     /// Memory was refused.
+    #[error("out of memory")]
     NoMemory,
 }
 
 /// Why a robot is not shut; the first that stands is answered.
-#[derive(Clone, Copy, Debug, PartialEq, Eq)]
+#[derive(Clone, Copy, Debug, PartialEq, Eq, Error)]
 pub enum ShutFault {
     /// There is no such robot.
+    #[error("there is no such robot")]
     NoRobot,
     /// It is shut already.
+    #[error("the robot is shut already")]
     Already,
     /// The chapter has all the entries that it may have.
+    #[error("the chapter is full")]
     ChapterFull,
     /// Memory was refused.
+    #[error("out of memory")]
     NoMemory,
 }
 
 /// Why no further chapter begins; the first that stands is answered.
-#[derive(Clone, Copy, Debug, PartialEq, Eq)]
+#[derive(Clone, Copy, Debug, PartialEq, Eq, Error)]
 pub enum ChapterFault {
     /// This is the last chapter that there may be.
+    #[error("this is the last chapter")]
     BookSpent,
     /// Memory was refused.
+    #[error("out of memory")]
     NoMemory,
 }
 
@@ -55,12 +91,12 @@ pub struct TickReport {
     pub tick: u64,
     /// How many robots arrived.
     pub arrived: u32,
-    /// How many robots took their leave.
+    /// How many robots said farewell.
     pub farewells: u32,
 }
 
 impl TickReport {
-    /// Of the tick that makes so many in all, with so many arrivals and farewells.
+    /// Of the tick that makes this many in all, with this many arrivals and farewells.
     pub(crate) fn of(tick: u64, arrived: usize, farewells: usize) -> TickReport
         requires arrived { arrived < 2 ^ 32 }
         requires farewells { farewells < 2 ^ 32 }
@@ -71,6 +107,17 @@ impl TickReport {
             arrived: arrived as u32,
             farewells: farewells as u32,
         }
+    }
+}
+
+impl From<AllocError> for OpenFault {
+    ghost use Rattle.std.specs.Prelude.{◌≡◌};
+    ghost use Rattle.fleet_core.specs.declared.faults.OpenFault.TheVariants.{NoMemory};
+
+    ghost from_gives = { λ _ e. e ≡ NoMemory };
+
+    fn from(_e: AllocError) -> OpenFault {
+        OpenFault::NoMemory
     }
 }
 

@@ -1,7 +1,7 @@
 //! What a core's clients are given, and how much they may have pending.
 
 ghost use Rattle.std.specs.Prelude.{◌≡◌, ◌+◌, ◌<◌, ◌≤◌, ◌^◌, OnOk, OnErr, length, slice_get};
-ghost use Rattle.fleet_history.specs.History.{clients, owed};
+ghost use Rattle.fleet_history.specs.History.{clients, owed, taken_count};
 ghost use Rattle.fleet_core.specs.Core.{pending, without_first, widened};
 
 use crate::kernel::Core;
@@ -16,7 +16,7 @@ impl<A: Allocator + Copy> Core<A> {
         self.mailboxes.first(client)
     }
 
-    /// Lets a client's mailbox hold so many more notices and unfinished errands, at most 2^60 in all.
+    /// Lets a client's mailbox hold this many more notices and unfinished errands, at most 2^60 in all.
     pub fn widen(&mut self, client: u32, extra: u64) -> Result<(), AllocError>
         requires client { client < clients self.old.history }
         requires small { (pending self.old client).limit + extra ≤ 2 ^ 60 }
@@ -40,6 +40,15 @@ impl<A: Allocator + Copy> Core<A> {
         ensures { result ≡ owed self.now.history client }
     {
         self.state.owed(client)
+    }
+
+    /// How many orders of the client were taken, in all chapters.
+    pub fn taken(&self, client: u32) -> u64
+        requires { client < clients self.now.history }
+        ensures taken { result ≡ taken_count self.now.history client }
+        ensures few { result ≤ 2 ^ 57 }
+    {
+        self.state.taken(client)
     }
 
     /// How many notices the client was not given yet.

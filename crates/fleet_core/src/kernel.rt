@@ -13,21 +13,20 @@ ghost use Rattle.fleet_history.specs.Legal.{IsLegal, is_done, is_none_left};
 ghost use Rattle.fleet_history.specs.Notices.{noticed_count};
 ghost use Rattle.fleet_history.specs.Waits.{wait};
 ghost use Rattle.fleet_pibt.specs.Eldest.{IsEldest};
-ghost use Rattle.fleet_plan.specs.Planned.{waits, IsPlanned, IsAdvancingTick};
-ghost use Rattle.fleet_core.specs.Aimed.{IsIdle};
+ghost use Rattle.fleet_planner.specs.Planned.{waits, IsPlanned, IsAdvancingTick};
+ghost use Rattle.fleet_planner.specs.Aimed.{IsIdle};
 ghost use Rattle.fleet_core.specs.Opening.{CanOpen};
 ghost use Rattle.fleet_core.specs.Core.{opened_world, pending, HasEntries, HasNoEntries};
 
 use crate::hook_laws::HookLaws;
 use crate::mailbox::Mailboxes;
 use crate::opening::beginning_at;
-use crate::planner::{Planner, is_nobody};
 use fleet_book::Limits;
 use fleet_bound::{idle_within, longest_queue};
 use fleet_grid::Grid;
 use fleet_history::Chapter;
 use fleet_hooks::TieLaw;
-use fleet_plan::eldest;
+use fleet_planner::{Planner, eldest, is_nobody};
 use fleet_state::FleetState;
 use std::alloc::{AllocError, Allocator, Global};
 use std::marker::Model;
@@ -169,7 +168,7 @@ impl<A: Allocator + Copy> Core<A> {
         self.planner.is_bridgeless()
     }
 
-    /// Keeps the fields of goals that no robot has any more, up to so many bytes; 256 MiB where nothing is said. What is
+    /// Keeps the fields of goals that no robot has any more, up to this many bytes; 256 MiB where nothing is said. What is
     /// kept shows in nothing but the time and the memory that a take or a tick needs.
     pub fn keep(&mut self, bytes: usize)
         ensures { self.new ≡ self.old }
@@ -246,8 +245,8 @@ impl<A: Allocator + Copy> Core<A> {
         self.chapter.entries.len() >= self.limits.chapter as usize
     }
 
-    /// The laws of the robots' tie closures.
-    pub(crate) fn tie_laws(&self) -> &[TieLaw]
+    /// The laws of the robots' tie closures, by robot.
+    pub fn tie_laws(&self) -> &[TieLaw]
         ensures { result.now ≡ self.now.ties }
     {
         self.ties.as_slice()

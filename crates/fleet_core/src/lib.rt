@@ -1,5 +1,5 @@
-//! The core of a world: its map, limits, history and mailboxes, and what each take, tick, shut and gift does to them. The
-//! robots' closures lie beside it.
+//! The world of a fleet, call by call: one history of takes, ticks and shuts, with the robots' closures (`World`). A `Core` is
+//! a world without its closures: map, limits, history and mailboxes.
 #![tactic(auto)]
 
 mod ahead;
@@ -11,12 +11,19 @@ mod hook_laws;
 mod kernel;
 mod mailbox;
 mod opening;
-mod planner;
-mod robots;
+mod robot_hooks;
 mod stamps;
-mod step;
+mod tick_draft;
+mod waits;
+mod world;
+mod world_opening;
 
-pub use crate::faults::{ChapterFault, ShutFault, TakeFault, TickFault, TickReport};
+pub use crate::faults::{ChapterFault, OpenFault, ShutFault, TakeFault, TickFault, TickReport};
 pub use crate::hook_laws::HookLaws;
 pub use crate::kernel::Core;
-pub use crate::robots::Robots;
+pub use crate::robot_hooks::RobotHooks;
+pub use crate::world::World;
+pub use fleet_book::{Limits, Notice, Order, Verdict};
+pub use fleet_history::{Arrival, Bye, Chapter, ClientState, Entry, Opening, RobotState, Row};
+pub use fleet_hooks::{Hooks, StampLaw};
+pub use fleet_queue::Errand;

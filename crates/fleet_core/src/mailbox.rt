@@ -27,7 +27,7 @@ impl<A: Allocator + Copy> Model for Mailbox<A> {
 }
 
 impl<A: Allocator + Copy> Mailbox<A> {
-    /// An empty mailbox with room for so many notices.
+    /// An empty mailbox with room for this many notices.
     pub(crate) fn new(alloc: A, limit: u32) -> Result<Self, AllocError>
         ensures { IfOk result (λ b. b ≡ record { notices = []; limit = limit }) }
     {
@@ -57,7 +57,7 @@ impl<A: Allocator + Copy> Mailbox<A> {
         self.notices.front().copied()
     }
 
-    /// Puts a notice behind the others, where there is room.
+    /// Puts a notice after the others, where there is room.
     pub(crate) fn push(&mut self, notice: Notice)
         requires { length self.old.notices < self.old.limit }
         ensures { self.new ≡ record self.old { notices = self.old.notices ++ notice ∷ [] } }
@@ -65,7 +65,7 @@ impl<A: Allocator + Copy> Mailbox<A> {
         let _ = self.notices.try_push_back(notice);
     }
 
-    /// Makes room for so many more notices.
+    /// Makes room for this many more notices.
     pub(crate) fn widen(&mut self, extra: u64) -> Result<(), AllocError>
         requires { self.old.limit + extra ≤ 2 ^ 60 }
         ensures ok { OnOk result (self.new ≡ record self.old { limit = self.old.limit + extra }) }
@@ -86,7 +86,7 @@ impl<A: Allocator + Copy> Mailbox<A> {
     }
 }
 
-/// So many mailboxes without notices, each with its room.
+/// This many mailboxes without notices, each with its room.
 fn empty_boxes<A: Allocator + Copy>(
     alloc: A,
     count: usize,
@@ -120,7 +120,7 @@ impl<A: Allocator + Copy> Model for Mailboxes<A> {
 }
 
 impl<A: Allocator + Copy> Mailboxes<A> {
-    /// So many mailboxes without notices, each with its room.
+    /// This many mailboxes without notices, each with its room.
     pub(crate) fn open(alloc: A, count: usize, limit: u32) -> Result<Self, AllocError>
         ensures { IfOk result (λ x. x
             ≡ record { boxes = replicate count record { notices = []; limit = limit }; noticed = replicate count 0 }) }
@@ -165,7 +165,7 @@ impl<A: Allocator + Copy> Mailboxes<A> {
         self.noticed[client as usize] + 1
     }
 
-    /// Puts the client's next notice behind the others.
+    /// Puts the client's next notice after the others.
     pub(crate) fn push(&mut self, client: u32, notice: Notice)
         requires known { client < length self.old.boxes }
         requires small { slice_index self.old.noticed client + 1 < 2 ^ 64 }
@@ -177,7 +177,7 @@ impl<A: Allocator + Copy> Mailboxes<A> {
         self.noticed[client as usize] += 1;
     }
 
-    /// Puts the verdict on the client's order of this number behind its other notices.
+    /// Puts the verdict on the client's order of this number after its other notices.
     pub(crate) fn push_verdict(&mut self, client: u32, order_no: u64, verdict: Verdict)
         requires known { client < length self.old.boxes }
         requires small { slice_index self.old.noticed client + 1 < 2 ^ 64 }
@@ -225,7 +225,7 @@ impl<A: Allocator + Copy> Mailboxes<A> {
         mailbox.pop()
     }
 
-    /// Makes room for so many more notices of the client.
+    /// Makes room for this many more notices of the client.
     pub(crate) fn widen(&mut self, client: u32, extra: u64) -> Result<(), AllocError>
         requires known { client < length self.old.boxes }
         requires small { (box_at self.old.boxes client).limit + extra ≤ 2 ^ 60 }

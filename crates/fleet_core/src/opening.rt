@@ -11,11 +11,11 @@ ghost use Rattle.fleet_core.specs.inside.Begun.{AreMeans, IsOpened, IsBeginning}
 
 use crate::hook_laws::HookLaws;
 use crate::mailbox::Mailboxes;
-use crate::planner::Planner;
 use fleet_book::Limits;
 use fleet_grid::Grid;
 use fleet_history::{ClientState, Opening, RobotState, Row};
 use fleet_hooks::StampLaw;
+use fleet_planner::Planner;
 use fleet_state::FleetState;
 use std::alloc::{AllocError, Allocator};
 use std::mem;
@@ -53,7 +53,7 @@ pub(crate) fn robots_at<A: Allocator + Copy>(
     Ok(robots)
 }
 
-/// So many clients that did nothing.
+/// This many clients that did nothing.
 pub(crate) fn nobodies<A: Allocator + Copy>(
     alloc: A,
     count: usize,
@@ -67,7 +67,7 @@ pub(crate) fn nobodies<A: Allocator + Copy>(
     Ok(clients)
 }
 
-/// The opening: the robots on their starts, and so many clients that did nothing.
+/// The opening: the robots on their starts, and this many clients that did nothing.
 fn opening_at<A: Allocator + Copy>(
     alloc: A,
     starts: &[u32],
@@ -107,7 +107,7 @@ fn opened<A: Allocator + Copy>(
     Ok((opening, state))
 }
 
-/// A planner of so many robots without goals, and so many empty mailboxes.
+/// A planner of this many robots without goals, and this many empty mailboxes.
 fn means<A: Allocator + Copy>(
     alloc: A,
     grid: &Grid<A>,
@@ -123,7 +123,7 @@ fn means<A: Allocator + Copy>(
     Ok((planner, mailboxes))
 }
 
-/// What a world begins with, beside its map, its limits and its closures' laws.
+/// What a world begins with, besides its map, its limits and its closures' laws.
 #[derive(Drop)]
 pub(crate) struct Beginning<A: Allocator + Copy> {
     pub(crate) opening: Opening<A>,

@@ -25,7 +25,7 @@ pub(crate) fn arrive<A: Allocator + Copy>(
     stamp_arrivals(arrived.as_mut_slice(), hooks, to, tick);
 }
 
-/// Calls the closures of the robots that take their leave in a tick that brought them to these cells, and writes their
+/// Calls the closures of the robots that say farewell in a tick that brought them to these cells, and writes their
 /// stamps. The calls spend them.
 pub(crate) fn take_leave<A: Allocator + Copy>(
     leaving: &mut Vec<Bye, A>,

@@ -78,7 +78,7 @@ first_front x xs = in_kept (take 1 (x ∷ xs)) x.goal (inl refl)
 pub within_longer : (xs : List Aim) (n m other : ℕ) → n ≤ m → HasKept (take n xs) other → HasKept (take m xs) other
 within_longer xs n m other le h = in_kept (take m xs) other (longer xs n m other le (kept_in (take n xs) other h))
 
--- where each stands at most one further behind, all are there
+-- where each stands at most one further back, all are there
 pub kept_through : (old new : List Aim) (other : ℕ) → ((n other : ℕ) → HasKept (take n old) other → HasKept (take (n + 1) new) other) → HasKept old other → HasKept new other
 kept_through old new other within h =
     let there = within (length old) other (in_kept (take (length old) old) other (whole_in old other (kept_in old other h))) in

@@ -52,7 +52,7 @@ back_back East = refl
 back_back South = refl
 back_back West = refl
 
--- back from the place beside
+-- back from the place next to
 pub there_and_back : (s v : ℕ) (dir : Dir) → 0 < s → s ≤ v → toward s (back dir) (toward s dir v) ≡ v
 there_and_back s v North pos low_enough = omega (arith, pos, low_enough)
 there_and_back s v East pos low_enough = omega (arith, pos, low_enough)

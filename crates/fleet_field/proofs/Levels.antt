@@ -16,7 +16,7 @@ use Rattle.fleet_field.proofs.Spread.{begins, ends, extends_on, kept}
 use Rattle.fleet_field.proofs.Looks.{left_on}
 use Rattle.fleet_field.proofs.Whole.{first_walls, first_start, first_search, first_count, only_goal, walls_on, only_on, start_on, finished}
 
--- what lies beside a place lies in one of the four directions
+-- what is next to a place lies in one of the four directions
 pub direction_of : (s a v : ℕ) → IsBeside s a v → (dir : Dir) × (v ≡ toward s dir a)
 direction_of s a v (inl (inl e)) = (North, omega (arith, e))
 direction_of s a v (inl (inr e)) = (East, e)

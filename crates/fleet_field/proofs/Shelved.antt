@@ -27,7 +27,7 @@ module _ {X : Type 0} where
   pub all_among : (P : X → Type 0) (old new : List X) → All (Contains old) new → All P old → All P new
   all_among P old new among all = All-weaker (Contains old) P (λ x there. All-contains P old x all there) new among
 
--- a field of the map is put beside those of the map
+-- a field of the map is put next to those of the map
 pub keeps_put : (m : Floor) (field : Aim) (old new : List Aim) → All (Contains (field ∷ old)) new → IsField m field.goal field → All (λ (f : Aim). IsField m f.goal f) old → All (λ (f : Aim). IsField m f.goal f) new
 keeps_put m field old new among right keeps =
     all_among (λ (f : Aim). IsField m f.goal f) (field ∷ old) new among (All-cons (λ (f : Aim). IsField m f.goal f) field old right keeps)

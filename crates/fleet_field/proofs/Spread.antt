@@ -141,7 +141,7 @@ front_inside stride level i old now dist next small s x below =
     let e : slice_index dist (get_or now i 0) ≡ level = kept old dist (level + 1) (get_or now i 0) x.keeps (λ w. omega (arith, here.1, w, small)) ∙ here.1 in
     x.search.walled (get_or now i 0) (omega (arith, here.0, x.keeps.len), λ w. omega (arith, e, w, small))
 
--- after the four visits each open place beside `u` is reached
+-- after the four visits each open place next to `u` is reached
 module _ (stride level u : ℕ) (d0 f0 d1 f1 d2 f2 d3 f3 d4 f4 : List ℕ) (small : level + 1 < 4294967294) (step : 0 < stride) (low : stride ≤ u) (high : u + stride < length d0)
     (l1 : length d1 ≡ length d0) (l2 : length d2 ≡ length d1) (l3 : length d3 ≡ length d2)
     (v1 : IsVisit d0 f0 (u - stride) (level + 1) d1 f1) (v2 : IsVisit d1 f1 (u + 1) (level + 1) d2 f2)

@@ -17,7 +17,7 @@ use Rattle.fleet_field.specs.Field.{IsField, aim_of}
 use Rattle.fleet_field.specs.Kept.{IsLaidOut, away_at, aways}
 use Rattle.fleet_field.proofs.Distance.{is_distance, is_apart}
 
--- cells lie beside each other exactly where their places do
+-- cells are next to each other exactly where their places do
 places_beside : (w s : ℕ) (dir : Dir) (a b : ℕ) → 0 < w → floor.IsBeside w dir a b → IsBeside s (place w s a) (place w s b)
 places_beside w s North a b pos e = inl (inl (south_on w s b a pos e))
 places_beside w s East a b pos e = inl (inr (east_on w s a b pos e.0 e.1))

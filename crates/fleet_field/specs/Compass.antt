@@ -16,7 +16,7 @@ abbrev pub go_on : Option ℕ → (ℕ → Option ℕ) → Option ℕ
 go_on (Some cell) f = f cell
 go_on None f = None
 
--- how many steps there are with those down to the goal, where so many are left to try
+-- how many steps there are with those down to the goal, where this many are left to try
 abbrev pub steps_down : ℕ → List ℕ → ℕ → ℕ → ℕ → ℕ → Option ℕ
 steps_down width ways goal zero taken cell = None
 steps_down width ways goal (suc left) taken cell =
@@ -26,7 +26,7 @@ steps_down width ways goal (suc left) taken cell =
 abbrev pub aways_down : ℕ → ℕ → ℕ → List ℕ → List (Option ℕ)
 aways_down height width goal ways = map (λ cell. steps_down width ways goal (height * width) 0 cell) (range_with_len 0 (height * width))
 
--- each cell's ways lead to the cells beside it that have less distance, and no other way is among them
+-- each cell's ways lead to the cells next to it that have less distance, and no other way is among them
 pub record IsRight (width : ℕ) (ways : List ℕ) (distance : ℕ → Option ℕ) : Type 0 where
   pub leads : (cell : ℕ) (dir : Dir) → IsWay (slice_index ways cell) dir → (next : ℕ) × IsBeside width dir cell next × IsLess (distance next) (distance cell)
   pub all : (cell : ℕ) (dir : Dir) (next : ℕ) → IsBeside width dir cell next → IsLess (distance next) (distance cell) → IsWay (slice_index ways cell) dir
@@ -44,7 +44,7 @@ pub record IsNear (dist : List ℕ) (from to : ℕ) : Type 0 where
   pub reached : slice_index dist from < 4294967294
   pub less : slice_index dist to < slice_index dist from
 
--- the ways of a place, by the distances of the four places beside it
+-- the ways of a place, by the distances of the four places next to it
 pub record AreWaysAt (dist : List ℕ) (stride at ways : ℕ) : Type 0 where
   pub north : IsWay ways North ↔ IsNear dist at (at - stride)
   pub east : IsWay ways East ↔ IsNear dist at (at + 1)

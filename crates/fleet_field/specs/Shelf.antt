@@ -13,7 +13,7 @@ pub record Shelf : Type 0 where
 abbrev pub cells_kept : List Aim → ℕ
 cells_kept kept = length (slice_index_or kept 0 (aim_of 0 [])).away
 
--- how many fields of so many cells have place in so many bytes, a byte a cell
+-- how many fields of this many cells have place in this many bytes, a byte a cell
 abbrev pub places : ℕ → ℕ → ℕ
 places bytes cells = bytes / max cells 1
 

@@ -18,7 +18,7 @@ Serves m store = (key : ℕ) (held : Held Aim) → shown store key ≡ Some held
 abbrev pub Keeps : Floor → Shelf → Type 0
 Keeps m shelf = All (λ field. IsField m field.goal field) shelf.kept
 
--- a goal can be held so many times more
+-- a goal can be held this many times more
 abbrev pub HasUsesLeft : List (Option (Held Aim)) → ℕ → ℕ → Type 0
 HasUsesLeft store aimed more = (key : ℕ) (held : Held Aim) → shown store key ≡ Some held → held.field.goal ≡ aimed → held.uses + more < 2 ^ 32
 

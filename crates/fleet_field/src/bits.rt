@@ -7,7 +7,7 @@ ghost use Rattle.fleet_field.specs.inside.Bytes.{low, high, AreFree, HaveNone, H
 
 use std::alloc::{AllocError, Allocator};
 
-/// Writes the ways of so many cells, from the cell `first` on, into the high halves of the bytes from `start` on.
+/// Writes the ways of this many cells, from the cell `first` on, into the high halves of the bytes from `start` on.
 fn lay_row(bytes: &mut [u8], ways: &[u8], start: usize, first: usize, width: usize)
     requires small { length ways.now < 1073741824 }
     requires inside { first + width ≤ length ways.now }
@@ -57,7 +57,7 @@ pub(crate) fn free_ways<A: Allocator + Copy>(
     Ok(bytes)
 }
 
-/// Writes the low halves of so many bytes from `start` on, from the entry `first` on.
+/// Writes the low halves of this many bytes from `start` on, from the entry `first` on.
 fn write_row(ways: &mut [u8], bytes: &[u8], start: usize, first: usize, width: usize)
     requires small { length bytes.now < 1073741824 }
     requires inside { start + width ≤ length bytes.now }

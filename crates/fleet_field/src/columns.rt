@@ -16,7 +16,7 @@ pub struct Columns {
 }
 
 impl Columns {
-    /// So many columns.
+    /// This many columns.
     pub(crate) fn new(width: u32) -> Columns
         requires wide { 0 < width }
         requires slim { width ≤ 1024 }

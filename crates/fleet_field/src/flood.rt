@@ -9,7 +9,7 @@ use fleet_grid::FAR;
 use std::alloc::{AllocError, Allocator};
 use std::mem;
 
-/// Marks a place that was not reached, and writes it at the end of the next front, which has so many places.
+/// Marks a place that was not reached, and writes it at the end of the next front, which has this many places.
 #[inline(always)]
 fn visit(dist: &mut [u32], next: &mut [u32], count: usize, cell: usize, level: u32) -> usize
     requires inside { cell < length dist.old }
@@ -28,7 +28,7 @@ fn visit(dist: &mut [u32], next: &mut [u32], count: usize, cell: usize, level: u
     count + 1
 }
 
-/// Visits the four places beside a place of the front.
+/// Visits the four places next to a place of the front.
 #[inline(always)]
 fn around(
     dist: &mut [u32],
@@ -58,7 +58,7 @@ fn around(
     visit(dist, next, south, cell - 1, after)
 }
 
-/// One level: from the places of `now` to those beside them that were not reached before, and how many these are.
+/// One level: from the places of `now` to those next to them that were not reached before, and how many these are.
 fn spread(dist: &mut [u32], now: &[u32], next: &mut [u32], stride: usize, level: u32) -> usize
     requires size { length dist.old < 1073741824 }
     requires small { level + 1 < 4294967294 }

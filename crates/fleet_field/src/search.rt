@@ -59,7 +59,7 @@ fn around(ways: &mut [u8], next: &mut [u32], count: usize, stride: usize, place:
     look(ways, next, south, further, 3, place - 1)
 }
 
-/// One level: from the places of `now` to those beside them that are one further, and how many these are.
+/// One level: from the places of `now` to those next to them that are one further, and how many these are.
 fn spread(ways: &mut [u8], now: &[u32], next: &mut [u32], stride: usize) -> usize
     requires size { length ways.old < 1073741824 }
     requires step { 0 < stride }

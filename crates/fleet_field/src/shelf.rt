@@ -34,7 +34,7 @@ impl<A: Allocator + Copy> Model for Shelf<A> {
     ghost view = { λ s. record { kept = s.kept.items; bytes = s.bytes } };
 }
 
-/// How many fields of so many cells have place in so many bytes: a field has a byte a cell.
+/// How many fields of this many cells have place in this many bytes: a field has a byte a cell.
 fn places(bytes: usize, cells: usize) -> usize
     ensures { result ≡ places bytes cells }
 {
@@ -42,7 +42,7 @@ fn places(bytes: usize, cells: usize) -> usize
 }
 
 impl<A: Allocator + Copy> Shelf<A> {
-    /// An empty shelf for so many bytes of fields. No memory is taken before a field comes.
+    /// An empty shelf for this many bytes of fields. No memory is taken before a field comes.
     pub fn new(alloc: A, bytes: usize) -> Shelf<A>
         ensures empty { result ≡ record { kept = []; bytes = bytes } }
         // Nothing is kept, so it is of each map.
@@ -54,7 +54,7 @@ impl<A: Allocator + Copy> Shelf<A> {
         }
     }
 
-    /// From now on so many bytes of fields are kept. What is over that goes at once, the longest unused first.
+    /// From now on this many bytes of fields are kept. What is over that goes at once, the longest unused first.
     pub fn keep(&mut self, bytes: usize)
         ensures { self.new ≡ record { kept = take (places bytes (cells_kept self.old.kept)) self.old.kept; bytes = bytes } }
     {
@@ -93,7 +93,7 @@ impl<A: Allocator + Copy> Shelf<A> {
         take_field(&mut self.kept, goal)
     }
 
-    /// Makes room for so many fields more, of so many cells each, as far as the bytes allow.
+    /// Makes room for this many fields more, of this many cells each, as far as the bytes allow.
     fn reserve(&mut self, cells: usize, more: usize) -> Result<(), AllocError>
         ensures { self.new ≡ self.old }
     {
@@ -116,8 +116,8 @@ impl<A: Allocator + Copy> Shelf<A> {
         Compass::from(*self.kept.allocator(), grid, goal)
     }
 
-    /// The field of a goal, a floor cell: the kept one, or a new one. So many fields are out then, and can come back. What
-    /// is kept goes before want of memory is answered.
+    /// The field of a goal, a floor cell: the kept one, or a new one. This many fields are out then, and can come back. What
+    /// is kept goes before out of memory is returned.
     pub(crate) fn field<B: Allocator + Copy>(
         &mut self,
         grid: &Grid<B>,
@@ -143,7 +143,7 @@ impl<A: Allocator + Copy> Shelf<A> {
     }
 }
 
-/// Of the first goals, so many, those that have a kept field, and those that have not, each of these once.
+/// Of the first `count` goals, those that have a kept field, and those that have not, each of these once.
 fn sorted<A: Allocator + Copy>(
     alloc: A,
     kept: &VecDeque<Compass<A>, A>,

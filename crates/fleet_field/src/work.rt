@@ -7,13 +7,13 @@ use rayon::prelude::*;
 use std::alloc::{AllocError, Allocator};
 use std::thread::Threads;
 
-/// From so many cells to search on, threads gain more than they cost.
+/// From this many cells to search on, threads gain more than they cost.
 const LARGE: u64 = 1_048_576;
 
-/// From so many goals on, threads search them whatever the map.
+/// From this many goals on, threads search them whatever the map.
 const MANY: usize = 2_048;
 
-/// Whether the searches of so many goals are worth several threads.
+/// Whether the searches of this many goals are worth several threads.
 fn is_large(cell_count: u32, goal_count: usize) -> bool {
     let searched = u64::from(cell_count).saturating_mul(goal_count as u64);
     goal_count >= MANY || goal_count >= 2 && searched >= LARGE
@@ -52,7 +52,7 @@ fn side_by_side<
         .collect::<Result<Vec<T, A>, AllocError>>(rt, alloc)?
 }
 
-/// What the work makes of each goal of a map of so many cells. Large work is done by several threads, and so is that for
+/// What the work makes of each goal of a map of this many cells. Large work is done by several threads, and so is that for
 /// many goals, whatever the map.
 pub(crate) fn of_each<
     A: Allocator + Copy + Send + Sync,

@@ -1,4 +1,4 @@
--- The columns of a cell and of the one behind it.
+-- The columns of a cell and of the one after it.
 use Rattle.std.proofs.Common.{◌≡◌, ℕ, zero, suc, ◌+◌, ◌*◌, ◌/◌, ◌%◌, ◌<◌, ◌≤◌, length, refl, sym, ap, ◌∙◌, arith}
 use Rattle.std.proofs.lemmas.Nat.{mod-mul-add, div-add-mod', mod_below}
 use Rattle.fleet_grid.specs.Floor.{Floor, HasForm, IsBeside}

@@ -20,7 +20,7 @@ beside_back width West a b p = p
 pub neighbour_back : (m : Floor) (a b : ℕ) → IsNeighbour m a b → IsNeighbour m b a
 neighbour_back m a b n = (opposite n.0, record { from = n.1.to; to = n.1.from; beside = beside_back m.width n.0 a b n.1.beside })
 
--- one cell at most lies beside another in a direction
+-- one cell at most is next to another in a direction
 pub beside_once : (width : ℕ) (dir : Dir) (a b c : ℕ) → IsBeside width dir a b → IsBeside width dir a c → b ≡ c
 beside_once width North a b c p q = omega (arith, p, q)
 beside_once width East a b c p q = omega (arith, p.0, q.0)

@@ -9,7 +9,7 @@ use Rattle.fleet_grid.specs.Padded.{IsPadded, place}
 use Rattle.fleet_grid.proofs.Places.{place_inside}
 use Rattle.fleet_grid.proofs.Forms.{floor_inside}
 
--- reading a list behind a write
+-- reading a list after a write
 pub read : (xs : List ℕ) (i x v : ℕ) → i < length xs → ((v ≡ i) × (slice_index (set xs i x) v ≡ x)) ⊎ ((v ≡ i → ⊥) × (slice_index (set xs i x) v ≡ slice_index xs v))
 read xs i x v inside = elim (cases_eq v i) [
   | inl e ↦ inl (e, ap (slice_index (set xs i x)) e ∙ get_or-set_same xs i x 0 inside)

@@ -65,7 +65,7 @@ passes_neighbour m a b e =
     side (inl n) = elim (next_is m.width a b n) [ inl row ↦ (East, row) | inr below ↦ (South, below) ]
     side (inr n) = elim (next_is m.width b a n) [ inl row ↦ (West, row) | inr above ↦ (North, above) ]
 
--- a walk of so many edges
+-- a walk of this many edges
 pub walk_passes : (m : Floor) (a b : ℕ) (cs : List ℕ) → Walks (IsNeighbour m) a cs b → is_walk_long m (length cs) a b ≡ true
 walk_passes m a b [] w = eq-eqb a b w
 walk_passes m a b (c ∷ cs) w =

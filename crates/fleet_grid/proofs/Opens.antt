@@ -8,14 +8,14 @@ use Rattle.fleet_grid.specs.Floor.{Floor, is_floor, IsFloor, IsBeside, IsNeighbo
 use Rattle.fleet_grid.specs.Ways.{IsWay, AreOpen}
 use Rattle.fleet_grid.proofs.Edges.{beside_once}
 
--- a floor cell beside: the way is open exactly where that cell is floor
+-- a floor cell next to: the way is open exactly where that cell is floor
 pub leads_on : (m : Floor) (cell other : ℕ) (dir : Dir) → IsFloor m cell → IsBeside m.width dir cell other → is_floor m other ≡ true ↔ ((w : ℕ) × IsNeighbourIn m dir cell w)
 leads_on m cell other dir floor beside = (
   λ on. (other, record { from = floor; to = on; beside = beside }),
   λ way. subst (IsFloor m) (sym (beside_once m.width dir cell other way.0 beside way.1.beside)) way.1.to,
 )
 
--- no cell beside: the way is shut
+-- no cell next to: the way is shut
 pub leads_nowhere : (m : Floor) (cell : ℕ) (dir : Dir) → ((b : ℕ) → IsBeside m.width dir cell b → ⊥) → false ≡ true ↔ ((w : ℕ) × IsNeighbourIn m dir cell w)
 leads_nowhere m cell dir none = (λ e. absurd (false≢true e), λ way. absurd (none way.0 way.1.beside))
 

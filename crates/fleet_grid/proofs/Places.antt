@@ -34,7 +34,7 @@ place_once w s a b pos apart e =
     let rows : a / w ≡ b / w = omega (arith, same.0) in
     parts w a ∙ (ap (λ (q : ℕ). q * w + a % w) rows ∙ (ap (λ (r : ℕ). b / w * w + r) same.1 ∙ sym (parts w b)))
 
--- a cell that is not the first of its row has its place behind the one before it
+-- a cell that is not the first of its row has its place after the one before it
 pub east_on : (w s a b : ℕ) → 0 < w → a + 1 ≡ b → b % w ≢ 0 → place w s b ≡ place w s a + 1
 east_on w s a b pos e inner =
     let x = mod_below b w pos in

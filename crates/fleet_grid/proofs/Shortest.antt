@@ -14,7 +14,7 @@ use Rattle.fleet_grid.proofs.Least.{none_or_some, least_below-none, least_below-
 long : (c : ℕ) (cs : List ℕ) → length (c ∷ cs) ≡ length cs + 1
 long c cs = grind arith
 
--- behind its first edge a shortest walk is a shortest one
+-- after its first edge a shortest walk is a shortest one
 tail_is : (Near : ℕ → ℕ → Type 0) (a b c : ℕ) (cs : List ℕ) → Near a c → Walks Near c cs b → IsDistance Near a b (length (c ∷ cs)) → IsDistance Near c b (length cs)
 tail_is Near a b c cs e w d = record {
   walk = (cs, w, refl);

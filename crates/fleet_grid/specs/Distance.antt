@@ -11,7 +11,7 @@ is_next width a b = ((a + 1 == b) && not (b % width == 0)) || (a + width == b)
 abbrev pub is_neighbour : Floor → ℕ → ℕ → Bool
 is_neighbour m a b = is_floor m a && is_floor m b && (is_next m.width a b || is_next m.width b a)
 
--- whether a walk of so many edges leads from a to b
+-- whether a walk of this many edges leads from a to b
 abbrev pub is_walk_long : Floor → ℕ → ℕ → ℕ → Bool
 is_walk_long m zero a b = a == b
 is_walk_long m (suc k) a b = list_any (λ c. is_neighbour m a c && is_walk_long m k c b) (range_with_len 0 (length m.letters))

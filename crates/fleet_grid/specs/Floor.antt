@@ -30,14 +30,14 @@ is_floor m cell = is_floor_letter (slice_index m.letters cell)
 abbrev pub IsFloor : Floor → ℕ → Type 0
 IsFloor m cell = IsTrue (is_floor m cell)
 
--- the cell `b` lies beside `a` in that direction, on a map of that width
+-- the cell `b` is next to `a` in that direction, on a map of that width
 abbrev pub IsBeside : ℕ → Dir → ℕ → ℕ → Type 0
 IsBeside width North a b = b + width ≡ a
 IsBeside width East a b = (a + 1 ≡ b) × (b % width ≢ 0)
 IsBeside width South a b = a + width ≡ b
 IsBeside width West a b = (b + 1 ≡ a) × (a % width ≢ 0)
 
--- two floor cells, the second beside the first in that direction
+-- two floor cells, the second next to the first in that direction
 pub record IsNeighbourIn (m : Floor) (dir : Dir) (a b : ℕ) : Type 0 where
   pub from : IsFloor m a
   pub to : IsFloor m b

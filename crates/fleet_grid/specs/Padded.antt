@@ -1,5 +1,5 @@
 -- The padded form of a map, over which a distance field is searched: a row of walls above and below, and columns of
--- walls behind each row. A floor cell's place holds 4294967295, each other place 4294967294.
+-- walls after each row. A floor cell's place holds 4294967295, each other place 4294967294.
 use Rattle.std.specs.Prelude.{◌≡◌, ◌≢◌, ℕ, ◌+◌, ◌*◌, ◌/◌, ◌%◌, ◌<◌, List, length, slice_index}
 use Rattle.fleet_grid.specs.Floor.{Floor, IsFloor}
 

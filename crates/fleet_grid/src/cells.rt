@@ -1,4 +1,4 @@
-//! A map's sides and letters: which cells are floor, and which of them lies beside which.
+//! A map's sides and letters: which cells are floor, and which of them is next to which.
 
 ghost use Rattle.std.specs.Prelude.{◌≡◌, ℕ, ◌*◌, ◌<◌, ◌≤◌, length, MatchOption};
 ghost use Rattle.fleet_grid.specs.Floor.{floor_of, is_floor, HasForm, IsFloor, IsBeside, IsNeighbourIn};
@@ -113,7 +113,7 @@ impl<A: Allocator + Copy> Cells<A> {
         }
     }
 
-    /// The floor cell beside a cell in a direction; none where either of the two is not floor.
+    /// The floor cell next to a cell in a direction; none where either of the two is not floor.
     pub(crate) fn neighbour(&self, cell: u32, dir: Dir) -> Option<u32>
         ensures { MatchOption result ((b : ℕ) → IsNeighbourIn self.now dir cell b → ⊥) (λ b. IsNeighbourIn self.now dir cell b) }
     {

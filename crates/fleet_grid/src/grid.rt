@@ -95,7 +95,7 @@ impl<A: Allocator + Copy> Grid<A> {
         self.cells.is_floor(cell)
     }
 
-    /// The floor cell beside a cell in a direction; none where either of the two is not floor.
+    /// The floor cell next to a cell in a direction; none where either of the two is not floor.
     pub fn neighbour(&self, cell: u32, dir: Dir) -> Option<u32>
         ensures { MatchOption result ((b : ℕ) → IsNeighbourIn self.now dir cell b → ⊥) (λ b. IsNeighbourIn self.now dir cell b) }
     {

@@ -10,6 +10,7 @@ mod law;
 mod letters;
 mod padded;
 mod parts;
+mod placement;
 mod ways;
 
 pub use dir::Dir;
@@ -19,4 +20,5 @@ pub use law::{
     neighbours_differ_by_one, walks_join_and_turn,
 };
 pub use padded::{FAR, WALL, place_of};
+pub use placement::is_placement;
 pub use ways::four_ways;

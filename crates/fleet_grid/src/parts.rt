@@ -12,7 +12,7 @@ use std::alloc::{AllocError, Allocator};
 /// The label of a cell that has none.
 const BARE: u32 = 4294967295;
 
-/// Labels the floor cell beside the one that the queue holds at `head`, unless it has its label, and puts it behind the queue.
+/// Labels the floor cell next to the one that the queue holds at `head`, unless it has its label, and puts it after the queue.
 fn visit<A: Allocator + Copy>(
     cells: &Cells<A>,
     labels: &mut [u32],
@@ -37,7 +37,7 @@ fn visit<A: Allocator + Copy>(
     Ok(())
 }
 
-/// Labels the floor cells beside the one that the queue holds at `head`.
+/// Labels the floor cells next to the one that the queue holds at `head`.
 fn around<A: Allocator + Copy>(
     cells: &Cells<A>,
     labels: &mut [u32],

@@ -21,7 +21,7 @@ pub fn four_ways(north: bool, east: bool, south: bool, west: bool) -> u8
     u8::from(north) + 2 * u8::from(east) + 4 * u8::from(south) + 8 * u8::from(west)
 }
 
-/// The cell behind a cell of that column in its row.
+/// The cell after a cell of that column in its row.
 #[tactic(auto, using(crate::proofs::Columns::east_there, crate::proofs::Columns::east_none))]
 fn east_of(width: u32, cell: u32, column: u32) -> Option<u32>
     requires wide { 0 < width }
@@ -44,7 +44,7 @@ fn west_of(width: u32, cell: u32, column: u32) -> Option<u32>
     if column > 0 { Some(cell - 1) } else { None }
 }
 
-/// Whether there is a cell beside a floor cell in a direction, and it is floor.
+/// Whether there is a cell next to a floor cell in a direction, and it is floor.
 #[tactic(auto, using(crate::proofs::Opens::leads_on, crate::proofs::Opens::leads_nowhere))]
 fn leads<A: Allocator + Copy>(cells: &Cells<A>, cell: u32, dir: Dir, beside: Option<u32>) -> bool
     requires floor { IsFloor cells.now cell }
@@ -76,7 +76,7 @@ fn open_ways<A: Allocator + Copy>(cells: &Cells<A>, cell: u32, column: u32) -> u
     )
 }
 
-/// The column of the cell behind a cell of that column.
+/// The column of the cell after a cell of that column.
 #[tactic(auto, using(crate::proofs::Columns::next_column, crate::proofs::Columns::last_column))]
 fn next_column(width: u32, cell: u32, column: u32) -> u32
     requires wide { 0 < width }

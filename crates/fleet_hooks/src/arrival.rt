@@ -8,7 +8,7 @@ use crate::views::ArrivalView;
 
 type Arrival = Box<dyn Fn(ArrivalView) -> u32 + Send>;
 
-/// A closure that gives each arrival of a robot its stamp, beside its law.
+/// A closure that gives each arrival of a robot its stamp, with its law.
 #[derive(Drop)]
 pub struct ArrivalHook {
     /// The bounds of the stamps.

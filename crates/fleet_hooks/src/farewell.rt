@@ -8,7 +8,7 @@ use crate::views::FarewellView;
 
 type Last = Box<dyn FnOnce(FarewellView) -> u32 + Send>;
 
-/// A closure that gives a robot's farewell its answer, beside its law. Its one call spends it.
+/// A closure that gives a robot's farewell its answer, with its law. Its one call spends it.
 #[derive(Drop)]
 pub struct Farewell {
     /// The bounds of the answer.

@@ -29,7 +29,7 @@ impl<A: Allocator + Copy> Hooks<A> {
         }
     }
 
-    /// Adds the closures of one more robot, each behind its list. Where memory is refused all lists are left as they were.
+    /// Adds the closures of one more robot, each after its list. Where memory is refused all lists are left as they were.
     pub fn push(
         &mut self,
         tie: TieHook,

@@ -1,4 +1,4 @@
-//! Closures that a fleet keeps, each beside the law within which its answers lie. Only `Hooks::push` takes memory, and no
+//! Closures that a fleet keeps, each with the law within which its answers lie. Only `Hooks::push` takes memory, and no
 //! function here makes a closure: that is for a program, or a test.
 #![tactic(auto)]
 

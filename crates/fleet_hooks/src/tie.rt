@@ -8,7 +8,7 @@ use crate::views::TieView;
 
 type Tie = Box<dyn Fn(TieView) -> u8 + Send>;
 
-/// A closure that ranks a floor neighbour of a robot's cell, beside its law. Of two neighbours that are equally near to
+/// A closure that ranks a floor neighbour of a robot's cell, with its law. Of two neighbours that are equally near to
 /// the robot's goal the robot tries the one of less rank first.
 #[derive(Drop)]
 pub struct TieHook {

@@ -1,3 +1,5 @@
+pub mod Convert
+pub mod Explain
 pub mod Said
 pub mod View
 pub mod Check

@@ -1,4 +1,4 @@
--- What the word `view` comes to.
+-- The result of the word `view`.
 use Rattle.std.specs.Prelude.{◌≡◌, ℕ, List, [], ◌++◌, Some, None, codes, decimal}
 use Rattle.errands_text.specs.declared.said.Complaint.TheVariants as complaint
 use Rattle.errands_text.specs.Complaint.{complaint_text}

@@ -28,7 +28,7 @@ impl fmt::Display for InvalidText {
 }
 
 /// What is said on the output, with a status.
-fn printed(alloc: Global, text: &str, status: u8) -> Result<Said, AllocError>
+pub(crate) fn printed(alloc: Global, text: &str, status: u8) -> Result<Said, AllocError>
     ensures { IfOk result (λ s. said_of s ≡ good text.now status) }
 {
     Ok(Said {

@@ -2,13 +2,27 @@
 #![tactic(auto)]
 
 mod check;
+mod closures;
+mod convert;
+mod explain;
 mod input;
 mod said;
+mod talk;
 mod view;
 
 pub use check::{MOST_PLAN_BYTES, answer_check};
+pub use convert::answer_convert;
+pub use errands_answer::trace_line;
 pub use errands_text::write_whole;
-pub use fleet_words::{Check, Job, Shown, View, WordFault, parse_words};
+pub use explain::{
+    MOST_SCRIPT_BYTES, answer_explain_map, answer_explain_script, answer_explain_trace,
+};
+pub use fleet_history::Chapter;
+pub use fleet_talk::{Ends, Settings, Shelf, ShelfFault};
+pub use fleet_words::{
+    Check, Convert, Explain, Form, Job, Shown, Talk, View, WordFault, parse_words,
+};
 pub use input::{InputFault, read_up_to};
 pub use said::{Said, fail, tell};
+pub use talk::{TalkTexts, run_talk};
 pub use view::{MOST_TRACE_BYTES, answer_view};

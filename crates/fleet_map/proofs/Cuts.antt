@@ -1,4 +1,4 @@
--- A text cut behind a line feed: its lines are those before the cut and those behind it.
+-- A text cut after a line feed: its lines are those before the cut and those after it.
 use Rattle.std.proofs.Common.{◌≡◌, ℕ, ◌+◌, ◌-◌, ◌<◌, inl, inr, List, [], ◌∷◌, ◌++◌, length, take, drop, map, Some, refl, sym, ap, ◌∙◌, arith, get_or}
 use Rattle.std.specs.List.{onto_first, slice_split, position}
 use Rattle.std.specs.Str.Lines.{strip_carriage_return}
@@ -49,14 +49,14 @@ lines_cut xs rest =
     ap lines_of (append_assoc xs (10 ∷ []) rest)
     ∙ (lines_at_cut xs rest ∙ ap (λ (ls : List (List ℕ)). ls ++ lines_of rest) (sym (lines_at_cut xs [] ∙ nil (map strip_carriage_return (slice_split is_line_feed xs)))))
 
--- the lines of a text are those before a line's end and those behind it
+-- the lines of a text are those before a line's end and those after it
 pub lines_behind : (text rest : List ℕ) (b : IsBehindLine text rest) → lines_of text ≡ lines_of b.before ++ lines_of rest
 lines_behind text rest b = ap lines_of b.cut ∙ elim b.ended [
   | inl none ↦ ap (λ (r : List ℕ). lines_of (b.before ++ r)) none ∙ (ap lines_of (nil_bytes b.before) ∙ (sym (nil (lines_of b.before)) ∙ ap (λ (r : List ℕ). lines_of b.before ++ lines_of r) (sym none)))
   | inr line ↦ ap (λ (p : List ℕ). lines_of (p ++ rest)) line.1 ∙ (lines_cut line.0 rest ∙ ap (λ (p : List ℕ). lines_of p ++ lines_of rest) (sym line.1))
 ]
 
--- behind a line of what is behind a line
+-- after a line of what is after a line
 pub behind_more : (text rest last : List ℕ) → IsBehindLine text rest → IsBehindLine rest last → IsBehindLine text last
 behind_more text rest last a b = record {
   before = a.before ++ b.before;
@@ -70,7 +70,7 @@ behind_more text rest last a b = record {
 pub behind_last : (text : List ℕ) → IsBehindLine text []
 behind_last text = record { before = text; cut = sym (nil_bytes text); ended = inl refl }
 
--- behind the first line feed
+-- after the first line feed
 pub behind_first : (text : List ℕ) (k : ℕ) → position is_line_feed text ≡ Some k → IsBehindLine text (take (length text - (k + 1)) (drop (k + 1) text))
 behind_first text k e =
     let p = position-Some is_line_feed text k 0 e in

@@ -23,7 +23,7 @@ gives_a_side line = gives_side (codes "height") line || gives_side (codes "width
 abbrev pub LacksOtherSide : List ℕ → List (List ℕ) → Type 0
 LacksOtherSide second lines = ((gives_side (codes "height") second ≡ true) × Lacks (gives_side (codes "width")) lines) ⊎ ((gives_side (codes "width") second ≡ true) × Lacks (gives_side (codes "height")) lines)
 
--- four lines in their form, and the lines behind them
+-- four lines in their form, and the lines after them
 pub record IsHead (lines : List (List ℕ)) (height width : ℕ) (behind : List (List ℕ)) : Type 0 where
   pub first : List ℕ
   pub second : List ℕ
@@ -34,7 +34,7 @@ pub record IsHead (lines : List (List ℕ)) (height width : ℕ) (behind : List 
   pub sides : AreSides height width second third
   pub named : is_map_line fourth ≡ true
 
--- a head whose sides are within their limits, and the rows that stand behind it
+-- a head whose sides are within their limits, and the rows that stand after it
 pub record AreRowsBefore (lines : List (List ℕ)) (height width : ℕ) (rows rest : List (List ℕ)) : Type 0 where
   pub head : IsHead lines height width (rows ++ rest)
   pub fit : (is_side height && is_side width) ≡ true

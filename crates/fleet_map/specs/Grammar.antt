@@ -47,7 +47,7 @@ only_if test fault = if test then Ok tt else Err fault
 
 -- ---- the lines of the head
 
--- a line, and those behind it
+-- a line, and those after it
 abbrev pub line_at : ℕ → List (List ℕ) → Result (List ℕ × List (List ℕ)) MapFault
 line_at number [] = Err (Header number)
 line_at number (line ∷ lines) = Ok (line, lines)
@@ -67,7 +67,7 @@ is_type_pair (Some p) = bytes_eq p.0 (codes "type") && not (list_any (λ b. b ==
 abbrev pub is_type_line : List ℕ → Bool
 is_type_line line = is_type_pair (key_and_word line)
 
--- the side that stands behind its name; each one over the limit is as good as the first
+-- the side that stands after its name; each one over the limit is as good as the first
 abbrev pub side_on : List ℕ → List ℕ → Option ℕ
 side_on name line = option_and_then (λ p. if bytes_eq p.0 name then option_map (λ n. min n 1025) (number_of p.1) else None) (key_and_word line)
 
@@ -94,7 +94,7 @@ sides_at lines = do
 abbrev pub is_side : ℕ → Bool
 is_side n = nat_le 1 n && nat_le n 1024
 
--- lines 1 to 4, and those behind them
+-- lines 1 to 4, and those after them
 unfoldable pub head_at : List (List ℕ) → Result (ℕ × ℕ × List (List ℕ)) MapFault
 head_at lines = do
   first ← line_at 1 lines
@@ -122,12 +122,12 @@ letters_in row cells (Some col) = Err (Cell row col)
 abbrev pub row_of : ℕ → ℕ → List ℕ → Result (List ℕ) MapFault
 row_of width row cells = if length cells == width then letters_in row cells (odd_cell cells) else Err (Row row)
 
--- the row that stands first, and the lines behind it
+-- the row that stands first, and the lines after it
 abbrev pub row_at : ℕ → ℕ → List (List ℕ) → Result (List ℕ × List (List ℕ)) MapFault
 row_at width row [] = Err (Row row)
 row_at width row (line ∷ lines) = row_of width row (trimmed line) >>= λ cells. Ok (cells, lines)
 
--- so many rows, numbered from the first on
+-- this many rows, numbered from the first on
 unfoldable pub rows_at : ℕ → ℕ → ℕ → List (List ℕ) → Result (List ℕ × List (List ℕ)) MapFault
 rows_at zero width row lines = Ok ([], lines)
 rows_at (suc count) width row lines = do

@@ -1,4 +1,4 @@
-//! The rows of a map, and the lines behind them.
+//! The rows of a map, and the lines after them.
 
 ghost use Rattle.std.specs.Prelude.{◌≡◌, ◌≤◌, ◌<◌, ◌+◌, ◌^◌, length, Ok, OnOk};
 ghost use Rattle.fleet_map.specs.Text.{lines_of};
@@ -45,7 +45,7 @@ fn read_row(width: u32, row: u32, text: &[u8]) -> Result<(&[u8], &[u8]), MapFaul
     }
 }
 
-/// The cells of so many rows, and the text behind them.
+/// The cells of this many rows, and the text after them.
 pub(crate) fn read_rows<A: Allocator + Copy>(
     alloc: A,
     height: u32,

@@ -5,7 +5,7 @@ use Rattle.fleet_grid.specs.Floor.{IsNeighbour}
 use Rattle.fleet_grid.specs.Walk.{IsBridgeless}
 use Rattle.fleet_history.specs.History.{history_of}
 use Rattle.fleet_history.specs.Laws.{EachTick}
-use Rattle.fleet_plan.specs.Planned.{IsPlanned, IsAdvancingTick}
+use Rattle.fleet_planner.specs.Planned.{IsPlanned, IsAdvancingTick}
 use Rattle.fleet_bound.specs.Bound.{WaitsAreBounded}
 use Rattle.fleet_history.specs.Legal.{IsLegal}
 use Rattle.fleet_history.specs.declared.history.Chapter.{Chapter}

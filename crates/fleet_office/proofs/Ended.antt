@@ -11,14 +11,14 @@ use Rattle.fleet_history.specs.Laws.{EachTick, orders}
 use Rattle.fleet_history.specs.Notices.{notices}
 use Rattle.fleet_history.specs.Rings.{KeepsRing}
 use Rattle.fleet_history.proofs.Rings.{ring-first}
-use Rattle.fleet_plan.specs.Planned.{IsPlanned, IsAdvancingTick}
+use Rattle.fleet_planner.specs.Planned.{IsPlanned, IsAdvancingTick}
 use Rattle.fleet_bound.specs.Bound.{WaitsAreBounded}
 use Rattle.fleet_core.specs.Core.{World, pending}
 use Rattle.fleet_lanes.specs.Names.{LaneName}
 use Rattle.fleet_lanes.specs.Ends.{EndView, ClientView}
 use Rattle.fleet_office.specs.Hall.{IsLawful}
 use Rattle.fleet_office.specs.Views.{AreOn, AreSettled, core, cores}
-use Rattle.fleet_office.specs.inside.Rests.{SameBut, RestsAre}
+use Rattle.fleet_office.specs.inside.Leftovers.{SameBut, LeftoversAre}
 use Rattle.fleet_office.specs.Concluded.{IsTold, AreTold}
 use Rattle.fleet_office.proofs.Places.{at_map, map_at, there_is}
 
@@ -40,7 +40,7 @@ module _ {A : Type 0} (w v : World A) (m : Floor) (h : History A) (floor : m ≡
 
 module _ {A : Type 0} (rings : List (LaneName A)) (w : World A) (ends : List (EndView A)) (t : ℕ) (law : IsLawful rings w ends t) where
   -- what each client was told, once its lane is empty
-  pub told-ended : (number : ℕ) (h : History A) (cs : List (ClientView A)) (rests : List (Vec Notice A)) → number ≡ w.number → h ≡ w.history → AreOn rings (cores cs) → AreSettled ends cs → RestsAre rests w cs → AreTold number h cs rests
+  pub told-ended : (number : ℕ) (h : History A) (cs : List (ClientView A)) (rests : List (Vec Notice A)) → number ≡ w.number → h ≡ w.history → AreOn rings (cores cs) → AreSettled ends cs → LeftoversAre rests w cs → AreTold number h cs rests
   told-ended number h cs rests same is on settled rest k x at =
       let c = x.number in
       let r = rest k x at in

@@ -13,7 +13,7 @@ pub mod Widening
 pub mod Meeting
 pub mod Emptied
 pub mod Settling
-pub mod Rested
+pub mod Uncollected
 pub mod ChapterSteps
 pub mod Guests
 pub mod Counted

@@ -7,7 +7,7 @@ use Rattle.fleet_core.specs.declared.faults.TakeFault.TheVariants.{MailboxFull, 
 pub not_refused : {X E P : Type 0} {x : X} {e : E} → ◌≡◌ {A = Result X E} (Ok x) (Err e) → P
 not_refused {X} {E} {P} {x} {e} same = absurd cc
 
--- want of memory is neither a full chapter nor a full mailbox
+-- out of memory is neither a full chapter nor a full mailbox
 pub not_full : {X P : Type 0} → ◌≡◌ {A = Result X TakeFault} (Err NoMemory) (Err ChapterFull) → P
 not_full {X} {P} same = absurd cc
 

@@ -29,7 +29,7 @@ pub some-fault : {W X E : Type 0} (L : W → Type 0) (P : W → E → Type 0) (w
 some-fault L P w (Ok x) l h = tt
 some-fault L P w (Err e) l h = (w, l, h)
 
--- and so of what a hall comes to
+-- and so of the result of a hall
 pub some-kind : {W X E : Type 0} (L : W → Type 0) (P : W → X → Type 0) (w : W) (r : Result X E) → L w → IfOk r (λ x. P w x) → IfOk r (λ x. (v : W) × L v × P v x)
 some-kind L P w (Ok x) l h = (w, l, h)
 some-kind L P w (Err e) l h = tt

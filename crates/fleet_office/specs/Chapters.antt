@@ -4,7 +4,7 @@ use Rattle.fleet_grid.specs.Floor.{IsNeighbour}
 use Rattle.fleet_grid.specs.Walk.{IsBridgeless}
 use Rattle.fleet_history.specs.History.{History}
 use Rattle.fleet_history.specs.Laws.{EachTick}
-use Rattle.fleet_plan.specs.Planned.{IsPlanned, IsAdvancingTick}
+use Rattle.fleet_planner.specs.Planned.{IsPlanned, IsAdvancingTick}
 use Rattle.fleet_bound.specs.Bound.{WaitsAreBounded}
 use Rattle.fleet_lanes.specs.Names.{LaneName}
 use Rattle.fleet_office.specs.Hall.{HallView, IsLawful}

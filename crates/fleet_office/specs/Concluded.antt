@@ -1,4 +1,4 @@
--- Why an office is not concluded, and what it comes to.
+-- Why an office is not concluded, and its result where it is.
 use Rattle.std.specs.Prelude.{ℕ, ◌+◌, ◌≡◌, ◌≢◌, ◌<◌, ◌⊎◌, List, ◌++◌, Some, length, slice_get, Vec}
 use Rattle.std.specs.List.{sum_by}
 use Rattle.fleet_book.specs.declared.notice.Notice.{Notice}
@@ -46,7 +46,7 @@ IsAway count cs ts ticks (Tickers m) = HasAll count cs × AreDistinct (cores cs)
 IsAway count cs ts ticks ChapterFull = ⊥
 IsAway count cs ts ticks NoMemory = ⊥
 
--- what was met where the lanes were emptied: an order that was left and no room for it in the chapter, or want of memory, for
+-- what was met where the lanes were emptied: an order that was left and no room for it in the chapter, or out of memory, for
 -- a take or when all lanes were empty
 abbrev pub IsMet : {A : Type 0} → ℕ → List (EndView A) → List (ClientCore A) → World A → World A → ConcludeFault → Type 0
 IsMet count ends cs w v (Missing c) = ⊥

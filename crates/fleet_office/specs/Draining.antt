@@ -8,7 +8,7 @@ use Rattle.fleet_core.specs.Core.{World, pending, Takes}
 use Rattle.fleet_lanes.specs.Ends.{EndView}
 use Rattle.fleet_office.specs.Views.{ClientCore}
 
--- n orders are left in the client's lane: it sent so many more than the hall took
+-- n orders are left in the client's lane: it sent n more than the hall took
 abbrev pub IsLeft : {A : Type 0} → List (EndView A) → ClientCore A → ℕ → Type 0
 IsLeft {A} ends x n = (e : EndView A) → slice_get ends x.number ≡ Some e → length e.taken + n ≡ length x.sent
 
@@ -20,7 +20,7 @@ AreLeft {A} ends cs c n = (k : ℕ) (x : ClientCore A) → slice_get cs k ≡ So
 abbrev pub used : {A : Type 0} → World A → ℕ → ℕ
 used w c = length (pending w c).notices + owed w.history c
 
--- the world whose mailbox of this client may hold so much
+-- the world whose mailbox of this client may hold this much
 abbrev pub with_limit : {A : Type 0} → World A → ℕ → ℕ → World A
 with_limit w c limit = record {
   floor = w.floor;

@@ -116,7 +116,7 @@ handed w c left = record {
   mailboxes = slice_set w.mailboxes c (record { notices = left; limit = (pending w c).limit });
 }
 
--- so many notices went from the client's mailbox to its outlet
+-- this many notices went from the client's mailbox to its outlet
 pub record Gives {A : Type 0} (w v : World A) (e d : EndView A) (c n : ℕ) : Type 0 where
   pub moved : List Notice
   pub count : n ≡ length moved
@@ -124,7 +124,7 @@ pub record Gives {A : Type 0} (w v : World A) (e d : EndView A) (c n : ℕ) : Ty
   pub world : v ≡ handed w c (pending v c).notices
   pub end : d ≡ record { lane = e.lane; taken = e.taken; given = e.given ++ moved; free = d.free; known = e.known }
 
--- so many notices were given to the client, until its mailbox was empty or its outlet knew no free slot
+-- this many notices were given to the client, until its mailbox was empty or its outlet knew no free slot
 pub record GivesOne {A : Type 0} (h : HallView A) (c n : ℕ) (g : HallView A) : Type 0 where
   pub before : EndView A
   pub after : EndView A
@@ -149,7 +149,7 @@ GivesAll h n g = GivesFrom (length h.ends) h n g
 
 -- ---- a turn
 
--- so many orders of the client were taken, one after another
+-- this many orders of the client were taken, one after another
 abbrev pub TakesMany : {A : Type 0} → ℕ → HallView A → ℕ → HallView A → Type 0
 TakesMany zero h c g = g ≡ h
 TakesMany {A} (suc n) h c g = (mid : HallView A) × (v : Verdict) × TakesMany n h c mid × TakesOrder mid c v g

@@ -1,5 +1,5 @@
 pub use Rattle.fleet_core.specs.Core
-pub use Rattle.fleet_calls.specs.Opening
+pub use Rattle.fleet_core.specs.OpeningFaults
 pub mod Views
 pub mod Hall
 pub mod Draining

@@ -26,7 +26,7 @@ pub record AreNew {A : Type 0} (c : ClientView A) (e : EndView A) (k : ℕ) (lim
   pub client : c ≡ record { number = k; lane = c.lane; orders = limits.orders; sent = []; collected = []; free = limits.lane; known = [] }
   pub hall : e ≡ record { lane = c.lane; taken = []; given = []; free = limits.outlet; known = [] }
 
--- each client is at its number, with its hall end beside it
+-- each client is at its number, with its hall end next to it
 pub record ArePairs {A : Type 0} (clients : List (ClientView A)) (ends : List (EndView A)) (limits : Limits) : Type 0 where
   pub count : length clients ≡ length ends
   pub each : (k : ℕ) (c : ClientView A) (e : EndView A) → slice_get clients k ≡ Some c → slice_get ends k ≡ Some e → AreNew c e k limits

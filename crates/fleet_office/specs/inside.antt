@@ -1,4 +1,4 @@
 -- What only proofs and private functions use.
 pub mod Causes
 pub mod Lanes
-pub mod Rests
+pub mod Leftovers

@@ -7,19 +7,19 @@ ghost use Rattle.fleet_grid.specs.Walk.{IsBridgeless};
 ghost use Rattle.fleet_history.specs.History.{history_of, clock};
 ghost use Rattle.fleet_history.specs.Legal.{IsLegal};
 ghost use Rattle.fleet_history.specs.Laws.{EachTick};
-ghost use Rattle.fleet_plan.specs.Planned.{IsPlanned, IsAdvancingTick};
+ghost use Rattle.fleet_planner.specs.Planned.{IsPlanned, IsAdvancingTick};
 ghost use Rattle.fleet_bound.specs.Bound.{WaitsAreBounded};
 ghost use Rattle.fleet_office.specs.Views.{AreOn, AreDistinct, AreSettled, cores};
 ghost use Rattle.fleet_office.specs.Draining.{DrainsFirst};
-ghost use Rattle.fleet_office.specs.inside.Rests.{AreRooms};
+ghost use Rattle.fleet_office.specs.inside.Leftovers.{AreRooms};
 ghost use Rattle.fleet_office.specs.Concluded.{AreHome, HasAll, IsAway, IsMet, AreTold, IsLast, IsUnconcluded};
 
 use crate::hall::{Hall, HallOf};
+use crate::hall_state::HallState;
 use crate::homing::{missing, twice};
+use crate::leftovers::fill;
 use crate::names::OfficeName;
 use crate::office::Office;
-use crate::rest::Rest;
-use crate::resting::fill;
 use crate::ticker::Ticker;
 use fleet_book::Notice;
 use fleet_core::TakeFault;
@@ -28,19 +28,25 @@ use fleet_history::Chapter;
 use fleet_lanes::Client;
 use std::alloc::{Allocator, Global};
 use std::sync::Mutex;
+use thiserror::Error;
 
 /// Why an office is not concluded; the first that stands is answered.
-#[derive(Clone, Copy, Debug, PartialEq, Eq)]
+#[derive(Clone, Copy, Debug, PartialEq, Eq, Error)]
 pub enum ConcludeFault {
     /// The client was not handed in.
+    #[error("client {0} was not handed in")]
     Missing(u32),
     /// The client was handed in twice.
+    #[error("client {0} was handed in twice")]
     Twice(u32),
     /// This many ticks were made by tickers that were not handed in.
+    #[error("{0} ticks were made by tickers that were not handed in")]
     Tickers(u64),
     /// The chapter has all the entries that it may have, and an order is left in a lane.
+    #[error("the chapter is full, and an order is left in a lane")]
     ChapterFull,
     /// Memory was refused.
+    #[error("out of memory")]
     NoMemory,
 }
 
@@ -54,7 +60,7 @@ pub struct Home<N: OfficeName<A>, A: Allocator + Copy = Global> {
     pub tickers: Vec<Ticker<N>, A>,
 }
 
-/// What an office comes to.
+/// The result of an office.
 #[derive(Drop)]
 pub struct Final<A: Allocator + Copy = Global> {
     pub grid: Grid<A>,
@@ -66,7 +72,7 @@ pub struct Final<A: Allocator + Copy = Global> {
     pub rest: Vec<Vec<Notice, A>, A>,
 }
 
-impl<N: OfficeName<A>, A: Allocator + Copy> Rest<N, A> {
+impl<N: OfficeName<A>, A: Allocator + Copy> HallState<N, A> {
     /// Whether all clients came home, and the tickers that made all ticks.
     fn see_home(
         &mut self,
@@ -93,7 +99,7 @@ impl<N: OfficeName<A>, A: Allocator + Copy> Rest<N, A> {
     }
 
     /// Takes every order that is left in the lanes, and makes room for what the clients had not collected.
-    fn come_to_rest(
+    fn wind_down(
         &mut self,
         alloc: A,
         clients: &mut [Client<A>],
@@ -137,7 +143,7 @@ impl<N: OfficeName<A>, A: Allocator + Copy> Rest<N, A> {
         ensures bounded { IsBridgeless (IsNeighbour result.0) → WaitsAreBounded result.0 (history_of result.1) }
         ensures told { AreTold result.1.number (history_of result.1) clients.items result.2.items }
     {
-        let Rest {
+        let HallState {
             mut core,
             ends: _,
             book: _,
@@ -160,34 +166,34 @@ impl<N: OfficeName<A>, A: Allocator + Copy> Hall<N, A> {
         tickers: Vec<Ticker<N>, A>,
     ) -> Result<Final<A>, (ConcludeFault, Home<N, A>)>
         requires on { AreOn N.rings (cores clients.items) }
-        ensures drains { IfOk result (λ f. IsLast (length N.rings) self.rest (cores clients.items) f.grid f.chapter.number (history_of f.chapter)) }
+        ensures drains { IfOk result (λ f. IsLast (length N.rings) self.state (cores clients.items) f.grid f.chapter.number (history_of f.chapter)) }
         ensures legal { IfOk result (λ f. IsLegal f.grid (history_of f.chapter)) }
-        ensures planned { IfOk result (λ f. EachTick (IsPlanned f.grid self.rest.world.ties) (history_of f.chapter)) }
+        ensures planned { IfOk result (λ f. EachTick (IsPlanned f.grid self.state.world.ties) (history_of f.chapter)) }
         ensures advancing { IfOk result (λ f. IsBridgeless (IsNeighbour f.grid) → EachTick (IsAdvancingTick f.grid) (history_of f.chapter)) }
         ensures bounded { IfOk result (λ f. IsBridgeless (IsNeighbour f.grid) → WaitsAreBounded f.grid (history_of f.chapter)) }
         ensures told { IfOk result (λ f. AreTold f.chapter.number (history_of f.chapter) clients.items f.rest.items) }
         ensures tick { IfOk result (λ f. (f.tick ≡ clock (history_of f.chapter)) × (f.tick ≡ sum_by (λ t. t.count) tickers.items)) }
         ensures all { OnOk result (HasAll (length N.rings) clients.items) }
-        ensures home { OnOk result (AreHome (length N.rings) clients.items tickers.items (clock self.rest.world.history)) }
-        ensures err { IfErr result (λ e. IsUnconcluded (length N.rings) self.rest clients.items tickers.items e.0) }
+        ensures home { OnOk result (AreHome (length N.rings) clients.items tickers.items (clock self.state.world.history)) }
+        ensures err { IfErr result (λ e. IsUnconcluded (length N.rings) self.state clients.items tickers.items e.0) }
         ensures back { IfErr result (λ e. (cores e.1.clients.items ≡ cores clients.items) × (e.1.tickers.items ≡ tickers.items)) }
         ensures on { IfErr result (λ e. AreOn N.rings (cores e.1.clients.items)) }
     {
         let mut hall = self;
         let mut clients = clients;
         let mut tickers = tickers;
-        hall.rest.recall_laws();
-        if let Err(fault) = hall.rest.see_home(clients.as_slice(), &mut tickers) {
+        hall.state.recall_laws();
+        if let Err(fault) = hall.state.see_home(clients.as_slice(), &mut tickers) {
             return Err((fault, come_home(hall, clients, tickers)));
         }
-        let rooms = match hall.rest.come_to_rest(alloc, clients.as_mut_slice()) {
+        let rooms = match hall.state.wind_down(alloc, clients.as_mut_slice()) {
             Ok(rooms) => rooms,
             Err(fault) => return Err((fault, come_home(hall, clients, tickers))),
         };
-        hall.rest.recall_laws();
-        let tick = hall.rest.clock();
-        let HallOf { rest, robots: _ } = hall;
-        let (grid, chapter, rest) = rest.finish(clients, rooms);
+        hall.state.recall_laws();
+        let tick = hall.state.clock();
+        let HallOf { state, robots: _ } = hall;
+        let (grid, chapter, rest) = state.finish(clients, rooms);
         Ok(Final {
             grid,
             chapter,

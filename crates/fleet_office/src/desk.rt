@@ -6,7 +6,7 @@ ghost use Rattle.fleet_core.specs.Opening.{AreInRange};
 ghost use Rattle.fleet_office.specs.Views.{ArePairs};
 
 use fleet_book::Limits;
-use fleet_calls::OpenFault;
+use fleet_core::OpenFault;
 use fleet_lanes::{Client, HallEnd, lane_pair};
 use std::alloc::{AllocError, Allocator, Global};
 use std::marker::Model;

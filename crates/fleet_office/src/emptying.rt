@@ -7,15 +7,15 @@ ghost use Rattle.fleet_office.specs.Views.{core, cores, AreOn, AreDistinct, AreS
 ghost use Rattle.fleet_office.specs.Draining.{used, IsLeft, AreLeft, Widens, TakesNext, DrainsFirst, StopsDraining};
 ghost use Rattle.fleet_office.specs.inside.Lanes.{DrainsLane};
 
+use crate::hall_state::HallState;
 use crate::homing::place_of;
 use crate::names::OfficeName;
-use crate::rest::Rest;
 use crate::taking::take_left_from;
 use fleet_core::TakeFault;
 use fleet_lanes::Client;
 use std::alloc::Allocator;
 
-impl<N: OfficeName<A>, A: Allocator + Copy> Rest<N, A> {
+impl<N: OfficeName<A>, A: Allocator + Copy> HallState<N, A> {
     /// Looks at the client's rings next to the hall's own ends. Returns how many orders are left in the lane.
     fn beside(&mut self, client: &mut Client<A>) -> usize
         requires { slice_get N.rings client.old.number ≡ Some client.old.lane }

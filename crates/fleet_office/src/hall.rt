@@ -3,19 +3,18 @@
 ghost use Rattle.std.specs.Prelude.{◌≡◌, ◌+◌, ◌<◌, ◌≤◌, ◌^◌, ◌↔◌, true, false, ℕ, length, Err, IfOk, IfErr, IfSome, OnOk, OnErr};
 ghost use Rattle.fleet_history.specs.History.{clock, robots, is_shut};
 ghost use Rattle.fleet_core.specs.Hooks.{laws_of};
-ghost use Rattle.fleet_calls.specs.Opening.{IsRefused, IsNamed as IsNamedFault};
+ghost use Rattle.fleet_core.specs.OpeningFaults.{IsRefused, IsNamed as IsNamedFault};
 ghost use Rattle.fleet_core.specs.Core.{Shuts, HasRoom, HasNoRoom, HasEntries, HasNoEntries, opened_world};
 ghost use Rattle.fleet_office.specs.Views.{IsNamed, AreOn, cores};
 ghost use Rattle.fleet_office.specs.Hall.{ShowsOrder, TakesOne, GivesAll, given_count, TicksOnce, Turns, StopsTurn, Looks};
 
 use crate::desk::Desk;
+use crate::hall_state::HallState;
 use crate::names::OfficeName;
 use crate::report::{TurnFault, TurnReport};
-use crate::rest::Rest;
 use crate::ticker::Ticker;
 use fleet_book::Verdict;
-use fleet_calls::{OpenFault, World};
-use fleet_core::{Robots, ShutFault, TakeFault, TickFault, TickReport};
+use fleet_core::{OpenFault, RobotHooks, ShutFault, TakeFault, TickFault, TickReport, World};
 use fleet_grid::Grid;
 use fleet_hooks::Hooks;
 use fleet_lanes::Client;
@@ -24,35 +23,35 @@ use std::alloc::{Alloc, Allocator, Global};
 /// The lock's value in two parts, so that each may be shown to cross threads by itself.
 #[derive(Drop)]
 pub struct HallOf<X, Y> {
-    pub rest: X,
+    pub state: X,
     pub(crate) robots: Y,
 }
 
 /// The lock's value: the world, the hall's ends of the rings and the book of the ticks, with the robots' closures.
-pub type Hall<N, A = Global> = HallOf<Rest<N, A>, Robots<A>>;
+pub type Hall<N, A = Global> = HallOf<HallState<N, A>, RobotHooks<A>>;
 
 impl<N: OfficeName<A>, A: Allocator + Copy> Hall<N, A> {
     /// Takes one order out of the client's lane into the world, and returns its verdict. `None` where none is found.
     ///
     /// Refused in this order: `MailboxFull`, `ChapterFull`, `NoMemory`. The order stays in the lane then.
     pub fn take_one(&mut self, client: u32) -> Result<Option<Verdict>, TakeFault>
-        requires { client < length self.old.rest.ends }
-        ensures ok { IfOk result (λ r. TakesOne self.old.rest client r self.new.rest) }
-        ensures mailbox_full { (result ≡ Err TakeFault.MailboxFull) ↔ (ShowsOrder self.new.rest client × HasNoRoom self.old.rest.world client) }
+        requires { client < length self.old.state.ends }
+        ensures ok { IfOk result (λ r. TakesOne self.old.state client r self.new.state) }
+        ensures mailbox_full { (result ≡ Err TakeFault.MailboxFull) ↔ (ShowsOrder self.new.state client × HasNoRoom self.old.state.world client) }
         ensures chapter_full { (result ≡ Err TakeFault.ChapterFull) ↔
-            (ShowsOrder self.new.rest client × HasRoom self.old.rest.world client × HasNoEntries self.old.rest.world) }
-        ensures err { OnErr result (Looks self.old.rest self.new.rest) }
+            (ShowsOrder self.new.state client × HasRoom self.old.state.world client × HasNoEntries self.old.state.world) }
+        ensures err { OnErr result (Looks self.old.state self.new.state) }
     {
-        self.rest.take_one(client)
+        self.state.take_one(client)
     }
 
     /// Gives each client's notices, client by client, until its mailbox is empty or its outlet full. Returns how many were given.
     pub fn give_all(&mut self) -> u64
-        requires { 0 ≤ self.old.rest.total }
-        ensures gives { GivesAll self.old.rest result self.new.rest }
-        ensures counted { given_count self.new.rest ≡ given_count self.old.rest + result }
+        requires { 0 ≤ self.old.state.total }
+        ensures gives { GivesAll self.old.state result self.new.state }
+        ensures counted { given_count self.new.state ≡ given_count self.old.state + result }
     {
-        self.rest.give_all()
+        self.state.give_all()
     }
 
     /// Shuts a robot. Returns the stamp of its farewell where that was made at once.
@@ -60,16 +59,16 @@ impl<N: OfficeName<A>, A: Allocator + Copy> Hall<N, A> {
     /// Refused in this order: `NoRobot`, `Already`, `ChapterFull`, `NoMemory`.
     pub fn shut(&mut self, robot: u32) -> Result<Option<u32>, ShutFault>
         requires { robot < 2 ^ 32 }
-        ensures ok { IfOk result (λ farewell. Shuts self.old.rest.world robot farewell self.new.rest.world
-            × (self.new.rest.ends ≡ self.old.rest.ends) × (self.new.rest.total ≡ self.old.rest.total)) }
-        ensures no_robot { (result ≡ Err ShutFault.NoRobot) ↔ (robots self.old.rest.world.history ≤ robot) }
-        ensures already { (result ≡ Err ShutFault.Already) ↔ ((robot < robots self.old.rest.world.history) × (is_shut self.old.rest.world.history robot ≡ true)) }
+        ensures ok { IfOk result (λ farewell. Shuts self.old.state.world robot farewell self.new.state.world
+            × (self.new.state.ends ≡ self.old.state.ends) × (self.new.state.total ≡ self.old.state.total)) }
+        ensures no_robot { (result ≡ Err ShutFault.NoRobot) ↔ (robots self.old.state.world.history ≤ robot) }
+        ensures already { (result ≡ Err ShutFault.Already) ↔ ((robot < robots self.old.state.world.history) × (is_shut self.old.state.world.history robot ≡ true)) }
         ensures chapter_full { (result ≡ Err ShutFault.ChapterFull) ↔
-            ((robot < robots self.old.rest.world.history) × (is_shut self.old.rest.world.history robot ≡ false) × HasNoEntries self.old.rest.world) }
-        ensures entries { OnOk result (HasEntries self.old.rest.world) }
-        ensures err { OnErr result (self.new.rest ≡ self.old.rest) }
+            ((robot < robots self.old.state.world.history) × (is_shut self.old.state.world.history robot ≡ false) × HasNoEntries self.old.state.world) }
+        ensures entries { OnOk result (HasEntries self.old.state.world) }
+        ensures err { OnErr result (self.new.state ≡ self.old.state) }
     {
-        self.rest.shut(&mut self.robots, robot)
+        self.state.shut(&mut self.robots, robot)
     }
 
     /// The hall over the desk's lanes, its clients, and a ticker that has all parts of the ledger.
@@ -83,7 +82,7 @@ impl<N: OfficeName<A>, A: Allocator + Copy> Hall<N, A> {
         requires named { IsNamed desk N.name N.parts N.rings }
         ensures refused { (fault : _) → IsNamedFault fault →
             ((result ≡ Err fault) ↔ IsRefused grid starts.items (length desk.clients) desk.limits (laws_of hooks) fault) }
-        ensures hall { IfOk result (λ r. r.0.rest.world ≡ opened_world grid starts.items (length desk.clients) desk.limits (laws_of hooks)) }
+        ensures hall { IfOk result (λ r. r.0.state.world ≡ opened_world grid starts.items (length desk.clients) desk.limits (laws_of hooks)) }
         ensures clients { IfOk result (λ r. (r.1.items ≡ desk.clients) × AreOn N.rings (cores r.1.items)) }
         ensures ticker { IfOk result (λ r. r.2 ≡ record { count = 0; parts = 65536 }) }
     {
@@ -102,8 +101,8 @@ impl<N: OfficeName<A>, A: Allocator + Copy> Hall<N, A> {
         // States that the opening is legal.
         let _ = core.chapter();
         let (book, share) = blank.open::<N>();
-        let rest = Rest::new(core, ends, book);
-        Ok((HallOf { rest, robots }, clients, Ticker::new(65536, share)))
+        let state = HallState::new(core, ends, book);
+        Ok((HallOf { state, robots }, clients, Ticker::new(65536, share)))
     }
 }
 
@@ -117,16 +116,16 @@ impl<N: OfficeName<A>, A: Allocator + Copy> Hall<N, A> {
         ticker: &mut Ticker<N>,
     ) -> Result<TickReport, TickFault>
         requires { 0 ≤ ticker.old.count }
-        ensures ok { IfOk result (λ r. TicksOnce self.old.rest r self.new.rest
+        ensures ok { IfOk result (λ r. TicksOnce self.old.state r self.new.state
             × (ticker.new ≡ record { count = ticker.old.count + 1; parts = ticker.old.parts }) × (ticker.new.count ≤ r.tick)) }
-        ensures clock_spent { (result ≡ Err TickFault.ClockSpent) ↔ (clock self.old.rest.world.history ≡ self.old.rest.world.limits.clock) }
+        ensures clock_spent { (result ≡ Err TickFault.ClockSpent) ↔ (clock self.old.state.world.history ≡ self.old.state.world.limits.clock) }
         ensures chapter_full { (result ≡ Err TickFault.ChapterFull) ↔
-            ((clock self.old.rest.world.history < self.old.rest.world.limits.clock) × HasNoEntries self.old.rest.world) }
-        ensures early { OnOk result (clock self.old.rest.world.history < self.old.rest.world.limits.clock) }
-        ensures entries { OnOk result (HasEntries self.old.rest.world) }
-        ensures err { OnErr result ((self.new.rest ≡ self.old.rest) × (ticker.new ≡ ticker.old)) }
+            ((clock self.old.state.world.history < self.old.state.world.limits.clock) × HasNoEntries self.old.state.world) }
+        ensures early { OnOk result (clock self.old.state.world.history < self.old.state.world.limits.clock) }
+        ensures entries { OnOk result (HasEntries self.old.state.world) }
+        ensures err { OnErr result ((self.new.state ≡ self.old.state) × (ticker.new ≡ ticker.old)) }
     {
-        self.rest.tick_with(rt, &mut self.robots, ticker)
+        self.state.tick_with(rt, &mut self.robots, ticker)
     }
 
     /// A turn: gives all notices, takes the orders, makes one tick, and gives all notices. `Office::turn` says when it is refused.
@@ -136,13 +135,13 @@ impl<N: OfficeName<A>, A: Allocator + Copy> Hall<N, A> {
         ticker: &mut Ticker<N>,
     ) -> Result<TurnReport, TurnFault>
         requires { 0 ≤ ticker.old.count }
-        ensures ok { IfOk result (λ r. Turns self.old.rest r self.new.rest) }
-        ensures given { IfOk result (λ r. given_count self.new.rest ≡ given_count self.old.rest + r.given) }
+        ensures ok { IfOk result (λ r. Turns self.old.state r self.new.state) }
+        ensures given { IfOk result (λ r. given_count self.new.state ≡ given_count self.old.state + r.given) }
         ensures ticker { IfOk result (λ r. (ticker.new ≡ record { count = ticker.old.count + 1; parts = ticker.old.parts })
             × IfSome r.tick (λ t. ticker.new.count ≤ t)) }
-        ensures err { IfErr result (λ e. StopsTurn self.old.rest e self.new.rest) }
+        ensures err { IfErr result (λ e. StopsTurn self.old.state e self.new.state) }
         ensures kept { OnErr result (ticker.new ≡ ticker.old) }
     {
-        self.rest.turn(rt, &mut self.robots, ticker)
+        self.state.turn(rt, &mut self.robots, ticker)
     }
 }

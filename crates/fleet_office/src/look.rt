@@ -7,13 +7,13 @@ ghost use Rattle.fleet_grid.specs.Counts.{floor_count};
 ghost use Rattle.fleet_grid.specs.Floor.{IsNeighbour};
 ghost use Rattle.fleet_grid.specs.Walk.{IsBridgeless};
 ghost use Rattle.fleet_history.specs.History.{clock, place, robots};
-ghost use Rattle.fleet_plan.specs.Planned.{waits};
+ghost use Rattle.fleet_planner.specs.Planned.{waits};
 ghost use Rattle.fleet_pibt.specs.Eldest.{IsEldest};
-ghost use Rattle.fleet_core.specs.Aimed.{IsIdle};
+ghost use Rattle.fleet_planner.specs.Aimed.{IsIdle};
 ghost use Rattle.fleet_office.specs.Shown.{Shows};
 
+use crate::hall_state::HallState;
 use crate::names::OfficeName;
-use crate::rest::Rest;
 use std::alloc::{AllocError, Allocator, Global};
 
 /// What a look at an office shows.
@@ -35,7 +35,7 @@ pub struct Look<A: Allocator + Copy = Global> {
     pub idle_within: Option<u64>,
 }
 
-impl<N: OfficeName<A>, A: Allocator + Copy> Rest<N, A> {
+impl<N: OfficeName<A>, A: Allocator + Copy> HallState<N, A> {
     /// What there is to see.
     pub fn look(&self, alloc: A) -> Result<Look<A>, AllocError>
         ensures tick { IfOk result (λ l. l.tick ≡ clock self.now.world.history) }

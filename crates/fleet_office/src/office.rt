@@ -7,11 +7,11 @@ ghost use Rattle.fleet_grid.specs.Walk.{IsBridgeless};
 ghost use Rattle.fleet_history.specs.History.{history_of, clock};
 ghost use Rattle.fleet_history.specs.Legal.{IsLegal};
 ghost use Rattle.fleet_history.specs.Laws.{EachTick};
-ghost use Rattle.fleet_plan.specs.Planned.{IsPlanned, IsAdvancingTick};
+ghost use Rattle.fleet_planner.specs.Planned.{IsPlanned, IsAdvancingTick};
 ghost use Rattle.fleet_bound.specs.Bound.{WaitsAreBounded};
 ghost use Rattle.fleet_hooks.specs.declared.law.TieLaw.{TieLaw};
 ghost use Rattle.fleet_core.specs.Hooks.{laws_of};
-ghost use Rattle.fleet_calls.specs.Opening.{IsRefused, IsNamed as IsNamedFault};
+ghost use Rattle.fleet_core.specs.OpeningFaults.{IsRefused, IsNamed as IsNamedFault};
 ghost use Rattle.fleet_office.specs.Views.{IsNamed, AreOn, cores};
 ghost use Rattle.fleet_office.specs.Hall.{HallView, IsLawful, Turns, StopsTurn};
 ghost use Rattle.fleet_office.specs.Chapters.{IsChapterOf};
@@ -23,13 +23,12 @@ ghost use Rattle.fleet_core.specs.Core.{World};
 use crate::conclude::{ConcludeFault, Final, Home};
 use crate::desk::Desk;
 use crate::hall::{Hall, HallOf};
+use crate::hall_state::HallState;
 use crate::look::Look;
 use crate::names::OfficeName;
 use crate::report::{TurnFault, TurnReport};
-use crate::rest::Rest;
 use crate::ticker::Ticker;
-use fleet_calls::OpenFault;
-use fleet_core::{ChapterFault, Robots, ShutFault};
+use fleet_core::{ChapterFault, OpenFault, RobotHooks, ShutFault};
 use fleet_grid::Grid;
 use fleet_history::Chapter;
 use fleet_hooks::Hooks;
@@ -44,7 +43,7 @@ pub struct OfficeOf<X, Y> {
 }
 
 /// The hall under its lock.
-pub type Office<N, A = Global> = OfficeOf<Rest<N, A>, Robots<A>>;
+pub type Office<N, A = Global> = OfficeOf<HallState<N, A>, RobotHooks<A>>;
 
 impl<N: OfficeName<A>, A: Allocator + Copy> Office<N, A> {
     /// Opens an office over the desk's lanes. Returns it with its clients by number, and with a ticker that has all 65,536 parts
@@ -112,7 +111,7 @@ impl<N: OfficeName<A>, A: Allocator + Copy> Office<N, A> {
     {
         let OfficeOf { hall } = self;
         let hall = hall.into_inner();
-        hall.rest.recall_laws();
+        hall.state.recall_laws();
         hall.conclude(alloc, clients, tickers)
     }
 
@@ -126,7 +125,7 @@ impl<N: OfficeName<A>, A: Allocator + Copy> Office<N, A> {
     {
         let mut held = self.hall.lock(rt);
         let hall = &mut *held;
-        hall.rest.recall_laws();
+        hall.state.recall_laws();
         hall.shut(robot)
     }
 
@@ -141,7 +140,7 @@ impl<N: OfficeName<A>, A: Allocator + Copy> Office<N, A> {
     {
         let mut held = self.hall.lock(rt);
         let hall = &mut *held;
-        hall.rest.recall_laws();
+        hall.state.recall_laws();
         hall.next_chapter()
     }
 
@@ -156,8 +155,8 @@ impl<N: OfficeName<A>, A: Allocator + Copy> Office<N, A> {
         ensures shown { IfOk result (λ look. (w : World A) × Shows w look) }
     {
         let hall = self.hall.lock(rt);
-        hall.rest.recall_laws();
-        hall.rest.look_from(rt.alloc(), ticker.ticks())
+        hall.state.recall_laws();
+        hall.state.look_from(rt.alloc(), ticker.ticks())
     }
 }
 
@@ -199,6 +198,6 @@ fn turn_held<N: OfficeName<A>, A: Allocator + Copy, R: Alloc<A = A>>(
     ensures turned { IfOk result (λ r. (h g : HallView A) × IsLawful N.rings h.world h.ends h.total × Turns h r g) }
     ensures stopped { IfErr result (λ e. (h g : HallView A) × IsLawful N.rings h.world h.ends h.total × StopsTurn h e g) }
 {
-    hall.rest.recall_laws();
+    hall.state.recall_laws();
     hall.turn(rt, ticker)
 }

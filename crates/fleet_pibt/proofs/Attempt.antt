@@ -1,4 +1,4 @@
--- One try of a robot at a cell: what the reservation, the plan behind it and the handing back leave.
+-- One try of a robot at a cell: what the reservation, the plan after it and the handing back leave.
 use Rattle.std.proofs.Common.{◌≡◌, ◌≢◌, ℕ, ◌<◌, Option, Some, None, List, length, slice_set, sym, subst, ◌∙◌, arith}
 use Rattle.std.proofs.Math.ListN.{length-set}
 use Rattle.fleet_pibt.specs.inside.Plan.{Edge, Written, Takes}

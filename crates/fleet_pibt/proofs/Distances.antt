@@ -72,7 +72,7 @@ less-is a b x y e f =
     let same : IsLess a b ≡ IsLess (Some x) (Some y) = ap (λ (o : Option ℕ). IsLess o b) e ∙ ap (λ (o : Option ℕ). IsLess (Some x) o) f in
     (λ c. subst (λ (T : Type 0). T) same c, λ c. subst (λ (T : Type 0). T) (sym same) c)
 
--- the cost of a cell is its distance to the aim, at a robot's own cell and beside it
+-- the cost of a cell is its distance to the aim, at a robot's own cell and next to it
 module _ (s : Setting) (scene : IsScene s) (waits : List (Option ℕ)) (are : AreGoals s.floor s.from waits s.goals s.distance) (r : ℕ) (l : r < robots s) where
   cost-some : (g c d : ℕ) → s.goals r ≡ Some g → s.distance r c ≡ Some d → cost s r c ≡ d
   cost-some g c d is e =

@@ -31,7 +31,7 @@ seen-more P xs k y before here r x l e = elim (cases_eq r k) [
   | inr ne ↦ before r x (omega arith) (sym (seen-set_other xs k r y ne) ∙ e)
 ]
 
--- the entries behind it stay
+-- the entries after it stay
 pub seen-rest : {X : Type 0} (P : ℕ → X → Type 0) (xs : List X) (k : ℕ) (y : X) → ((r : ℕ) (x : X) → k ≤ r → slice_get xs r ≡ Some x → P r x) →
     (r : ℕ) (x : X) → k + 1 ≤ r → slice_get (set xs k y) r ≡ Some x → P r x
 seen-rest P xs k y rest r x l e = rest r x (omega arith) (sym (seen-set_other xs k r y (λ (same : r ≡ k). omega arith)) ∙ e)

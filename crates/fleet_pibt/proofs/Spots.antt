@@ -1,4 +1,4 @@
--- The cells beside a floor cell.
+-- The cells next to a floor cell.
 use Rattle.std.proofs.Common.{◌≡◌, ℕ, ◌+◌, ◌-◌, ◌<◌, ◌≤◌, inl, inr, Option, List, length, slice_index, refl, sym, ◌∙◌, subst, arith}
 use Rattle.std.proofs.lemmas.Bool.{cases_eq}
 use Rattle.fleet_grid.specs.Floor.{Floor, IsFloor, IsNeighbourIn}

@@ -54,7 +54,7 @@ module _ (s : Setting) (scene : IsScene s) (waits : List (Option ℕ)) (are : Ar
     no_swapping_conflict = λ i j l m e f. absurd (omega (arith, tidy.swapless i j (cc (goes i (omega arith))) (cc (goes j m))));
   }
 
-  -- nearer by distance is nearer by cost, at a robot's own cell and beside it
+  -- nearer by distance is nearer by cost, at a robot's own cell and next to it
   cost-is : (r c : ℕ) → r < robots s → (c ≡ cell_of s r) ⊎ near s (cell_of s r) c → IsDistance (near s) c (aim s.from s.goals r) (cost s r c)
   cost-is r c l at = elim at [
     | inl e ↦ subst (λ (x : ℕ). IsDistance (near s) x (aim s.from s.goals r) (cost s r x)) (sym e) (cost-own s scene waits are r l)

@@ -1,4 +1,4 @@
--- The board behind the whole plan.
+-- The board after the whole plan.
 use Rattle.std.proofs.Common.{Bool, true, false, MatchBool, IsTrue, ◌≡◌, ◌≢◌, ℕ, ◌+◌, ◌<◌, inl, inr, Option, Some, None, List, length, slice_index, sym, subst, refl, ap, ◌∙◌, arith}
 use Rattle.std.proofs.lemmas.Bool.{cases_eq}
 use Rattle.fleet_pibt.specs.inside.Entry.{table, IsEmpty}

@@ -8,7 +8,7 @@ abbrev pub IsEmptyIn : List ℕ → ℕ → Type 0
 IsEmptyIn place cell = (r : ℕ) → r < length place → slice_index place r ≢ cell
 
 -- the robot moves nearer to its goal, or another one takes its old cell that is itself drawn: going back so from taker
--- to taker one comes to a robot that moves nearer
+-- to taker one reaches a robot that moves nearer
 pub data IsDrawn (m : Floor) (goals : ℕ → Option ℕ) (from to : List ℕ) : ℕ → Type 0 where
   nearer : (r : ℕ) → r < length from → IsNearer m (aim from goals r) (slice_index to r) (slice_index from r) →
       IsDrawn m goals from to r

@@ -6,4 +6,4 @@ pub mod Candidate
 pub mod Entry
 pub mod Seating
 pub mod Tables
-pub mod Turn
+pub mod Precedence

@@ -10,7 +10,7 @@ use crate::ways::is_way;
 use fleet_grid::{Dir, Grid};
 use std::alloc::Allocator;
 
-/// A robot's own cell, the cells beside it, and which of those are nearer to its goal. Where there is no floor the own cell
+/// A robot's own cell, the cells next to it, and which of those are nearer to its goal. Where there is no floor the own cell
 /// stands in.
 #[derive(Clone, Copy)]
 pub(crate) struct Around {
@@ -47,7 +47,7 @@ impl Around {
     }
 }
 
-/// The cell beside the floor cell `own` in a direction where that is an exit, and else `own`. No letter is read.
+/// The cell next to the floor cell `own` in a direction where that is an exit, and else `own`. No letter is read.
 #[tactic(auto, using(crate::proofs::Spots::spot_shut, crate::proofs::Spots::spot_north, crate::proofs::Spots::spot_east, crate::proofs::Spots::spot_south, crate::proofs::Spots::spot_west))]
 fn spot<A: Allocator + Copy>(grid: &Grid<A>, exits: u8, own: u32, dir: Dir) -> u32
     requires floor { IsFloor grid.now own }

@@ -15,7 +15,7 @@ pub(crate) struct Board<A: Allocator + Copy = Global> {
 }
 
 impl<A: Allocator + Copy> Board<A> {
-    /// A board for so many cells and robots, on which nobody stands and no robot has decided.
+    /// A board for this many cells and robots, on which nobody stands and no robot has decided.
     pub(crate) fn new(alloc: A, cells: u32, robots: u32) -> Result<Board<A>, AllocError>
         ensures target { IfOk result (λ b. (length b.target ≡ robots) × IsEmpty b.target) }
         ensures standing { IfOk result (λ b. (length b.seats.standing ≡ cells) × IsEmpty b.seats.standing) }

@@ -15,14 +15,14 @@ use fleet_grid::{Dir, Grid};
 use fleet_hooks::{TieHook, TieView};
 use std::alloc::Allocator;
 
-/// The cost of a neighbour, beside 1 for the own cell.
+/// The cost of a neighbour, compared with 1 for the own cell.
 fn cost_beside(is_nearer: bool) -> u8
     ensures { result ≡ cond is_nearer 0 2 }
 {
     if is_nearer { 0 } else { 2 }
 }
 
-/// The rank of a neighbour that the tie closure ranks so, beside 0 for the own cell.
+/// The rank of a neighbour that the tie closure ranks so, compared with 0 for the own cell.
 fn rank_beside(rank: u8) -> u16
     ensures { result ≡ rank + 1 }
 {

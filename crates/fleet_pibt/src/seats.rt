@@ -35,7 +35,7 @@ fn robot_in(entry: u16) -> Option<u32>
     }
 }
 
-/// A list of cells, most of which have nobody. Who stands on a cell lies beside who has reserved it, each in two bytes: a
+/// A list of cells, most of which have nobody. Who stands on a cell is next to who has reserved it, each in two bytes: a
 /// step asks for both, and fetches one line of memory for the two.
 #[derive(Drop)]
 pub(crate) struct Seats<A: Allocator + Copy = Global> {
@@ -52,7 +52,7 @@ impl<A: Allocator + Copy> Model for Seats<A> {
 }
 
 impl<A: Allocator + Copy> Seats<A> {
-    /// So many cells with nobody.
+    /// This many cells with nobody.
     pub(crate) fn new(alloc: A, len: u32) -> Result<Seats<A>, AllocError>
         ensures standing { IfOk result (λ s. (length s.standing ≡ len) × IsEmpty s.standing) }
         ensures holder { IfOk result (λ s. (length s.holder ≡ len) × IsEmpty s.holder) }

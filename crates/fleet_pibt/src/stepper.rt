@@ -60,7 +60,7 @@ impl<A: Allocator + Copy> Model for Stepper<A> {
 }
 
 impl<A: Allocator + Copy> Stepper<A> {
-    /// The tables for so many cells and robots.
+    /// The tables for this many cells and robots.
     pub fn new(alloc: A, cells: u32, robots: u32) -> Result<Stepper<A>, AllocError>
         ensures { IfOk result (λ stepper. stepper ≡ record { cells = cells; robots = robots }) }
     {

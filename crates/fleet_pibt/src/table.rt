@@ -25,7 +25,7 @@ impl<A: Allocator + Copy> Model for Table<A> {
 }
 
 impl<A: Allocator + Copy> Table<A> {
-    /// So many empty entries.
+    /// This many empty entries.
     pub(crate) fn new(alloc: A, len: u32) -> Result<Table<A>, AllocError>
         ensures { IfOk result (λ t. (length t ≡ len) × IsEmpty t) }
     {

@@ -14,7 +14,7 @@ use fleet_grid::Grid;
 use fleet_history::Row;
 use std::alloc::{AllocError, Allocator};
 
-/// What a valid plan comes to.
+/// The result of a valid plan.
 #[derive(Clone, Copy, Debug, PartialEq, Eq)]
 pub struct PlanReport {
     /// The number of steps.
@@ -40,7 +40,7 @@ fn goals_of<A: Allocator + Copy>(goals: &Option<Row<u32, A>>, last: &[u32]) -> O
     }
 }
 
-/// What a valid plan comes to.
+/// The result of a valid plan.
 fn report_of<A: Allocator + Copy, B: Allocator + Copy>(
     alloc: A,
     grid: &Grid<B>,

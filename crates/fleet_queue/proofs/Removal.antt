@@ -44,7 +44,7 @@ none_goes p (x ∷ xs) e =
     let fails = or_parts (p x) (list_any p xs) e in
     rw (fails.0) (ap (λ r. x ∷ r) (none_goes p xs fails.1))
 
--- none behind the front passes
+-- none after the front passes
 pub none_behind : (p : Errand → Bool) (es bs : List Errand) → bs ≡ drop 1 es → position p bs ≡ None
     → (list_any p (drop 1 es) ≡ false) × (without_behind_front p es ≡ es)
 none_behind p [] bs b none = (refl, refl)
@@ -55,7 +55,7 @@ none_behind p (e ∷ es) bs b none =
 take_all_but : (xs : List Errand) (y : Errand) (n : ℕ) → n ≡ length xs → take n (xs ++ y ∷ []) ≡ xs
 take_all_but xs y n e = grind (arith, common_steps)
 
--- one behind the front passes
+-- one after the front passes
 pub first_behind : (p : Errand → Bool) (es bs : List Errand) (k : ℕ) (d : Errand) → bs ≡ drop 1 es → position p bs ≡ Some k
     → (1 + k < length es) × (list_any p (drop 1 es) ≡ true) × ((y : Errand) → take (length es - 1) (remove es (1 + k) ++ y ∷ []) ≡ without_behind_front p es)
 first_behind p [] bs k d b found = absurd (omega (arith, position-Some p [] k d (rw b at found)))

@@ -99,7 +99,7 @@ impl<A: Allocator> ErrandQueue<A> {
             .any(|errand| is_of(client, number, errand))
     }
 
-    /// Removes the client's first errand of this number behind the front, and answers whether there was one.
+    /// Removes the client's first errand of this number after the front, and answers whether there was one.
     pub fn withdraw(&mut self, client: u32, number: u64) -> bool
         ensures found { result ≡ list_any (is_of client number) (drop 1 self.old.items) }
         ensures rest { self.new
@@ -114,7 +114,7 @@ impl<A: Allocator> ErrandQueue<A> {
     }
 }
 
-/// Moves the client's first errand of this number behind the front to the end, and answers whether there is one.
+/// Moves the client's first errand of this number after the front to the end, and answers whether there is one.
 fn move_to_end(errands: &mut [Errand], client: u32, number: u64) -> bool
     ensures found { result ≡ list_any (is_of client number) (drop 1 errands.old) }
     ensures moved { result ≡ true

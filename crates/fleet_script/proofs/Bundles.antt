@@ -17,7 +17,7 @@ lines_joined : (a b : List ℕ) → EndsLine a → lines_of (a ++ b) ≡ lines_o
 lines_joined a b (inl none) = rw none refl
 lines_joined a b (inr line) = rw line.1 (lines_cut line.0 b)
 
--- so many lines were read, none of which is `script`
+-- this many lines were read, none of which is `script`
 pub record IsRead (bytes rest : List ℕ) (number : ℕ) : Type 0 where
   pub before : List ℕ
   pub cut : bytes ≡ before ++ rest

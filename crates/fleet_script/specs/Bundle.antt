@@ -1,4 +1,4 @@
--- A bundle: a map up to the first line that is exactly `script`, and the script behind that line.
+-- A bundle: a map up to the first line that is exactly `script`, and the script after that line.
 use Rattle.std.specs.Prelude.{◌≡◌, ◌≢◌, ℕ, List, ◌∷◌, ◌++◌, All, codes}
 use Rattle.fleet_map.specs.Text.{lines_of}
 

@@ -1,4 +1,4 @@
--- A text that is a script, by its lines: a head, and the event lines behind it. And what is first at fault in another text.
+-- A text that is a script, by its lines: a head, and the event lines after it. And what is first at fault in another text.
 use Rattle.std.specs.Prelude.{◌≡◌, ℕ, ◌+◌, Bool, true, false, List, [], ◌∷◌, ◌++◌, length, take, map, replicate, Option, Some, None, is_some, unwrap_or, if◌then◌else◌, codes}
 use Rattle.std.specs.List.{AllByRecursion, IsDistinct, flat_map, list_any}
 use Rattle.std.specs.Option.{option_or}
@@ -46,7 +46,7 @@ abbrev pub IsHeadLine : Line → Type 0
 IsHeadLine [] = Unit {0}
 IsHeadLine (key ∷ words) = is_header key words ≡ true
 
--- a line behind the head
+-- a line after the head
 abbrev pub IsBodyLine : Line → Type 0
 IsBodyLine [] = Unit {0}
 IsBodyLine (key ∷ words) = is_some (events_of key words) ≡ true

@@ -3,3 +3,4 @@ pub mod Script
 pub mod Shown
 pub mod Grammar
 pub mod Bundle
+pub mod Event

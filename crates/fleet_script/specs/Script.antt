@@ -90,9 +90,13 @@ with_limit g Clock words = option_map (λ n. record g { clock = Some n }) (if_ne
 with_limit g Chapter words = option_map (λ n. record g { chapter = Some n }) (if_new g.chapter (one_in most32 words))
 with_limit g Chapters words = option_map (λ n. record g { chapters = Some n }) (if_new g.chapters (one_in most32 words))
 
--- 1 to 16 start cells
+-- 1 to `most` start cells
+abbrev pub starts_within : ℕ → List (List ℕ) → Option (List ℕ)
+starts_within most words = if nat_le 1 (length words) && nat_le (length words) most then numbers_in words else None
+
+-- 1 to 16 start cells, as a script has them
 abbrev pub starts_in : List (List ℕ) → Option (List ℕ)
-starts_in words = if nat_le 1 (length words) && nat_le (length words) 16 then numbers_in words else None
+starts_in words = starts_within 16 words
 
 -- which closures rank the cells: whether the southern ones
 abbrev pub ties_in : List (List ℕ) → Option Bool
@@ -120,13 +124,17 @@ abbrev pub with_limit_line : Draft → Option LimitName → List (List ℕ) → 
 with_limit_line d None words = None
 with_limit_line d (Some name) words = option_map (λ g. record d { limits = g }) (with_limit d.limits name words)
 
-abbrev pub with_header : Draft → List ℕ → List (List ℕ) → Option Draft
-with_header d key words =
-    if bytes_eq key (codes "robots") then option_map (λ cells. record d { starts = Some cells }) (if_new d.starts (starts_in words))
+-- the script with one more header line, where a fleet has so many robots at most
+abbrev pub with_header_within : ℕ → Draft → List ℕ → List (List ℕ) → Option Draft
+with_header_within most d key words =
+    if bytes_eq key (codes "robots") then option_map (λ cells. record d { starts = Some cells }) (if_new d.starts (starts_within most words))
     else if bytes_eq key (codes "clients") then option_map (λ n. record d { clients = Some n }) (if_new d.clients (one_in most32 words))
     else if bytes_eq key (codes "ties") then option_map (λ s. record d { south = Some s }) (if_new d.south (ties_in words))
     else if bytes_eq key (codes "turns") then option_map (λ n. record d { turns = Some n }) (if_new d.turns (turns_in words))
     else with_limit_line d (limit_named key) words
+
+abbrev pub with_header : Draft → List ℕ → List (List ℕ) → Option Draft
+with_header d key words = with_header_within 16 d key words
 
 abbrev pub no_events : List Event → Bool
 no_events [] = true
@@ -179,6 +187,20 @@ limits_of g = record {
   chapters = unwrap_or g.chapters 1000;
 }
 
+-- the limits that header lines give, and these for the others
+abbrev pub limits_over : Limits → GivenLimits → Limits
+limits_over others g = record {
+  lane = unwrap_or g.lane others.lane;
+  outlet = unwrap_or g.outlet others.outlet;
+  queue = unwrap_or g.queue others.queue;
+  mailbox = unwrap_or g.mailbox others.mailbox;
+  life = unwrap_or g.life others.life;
+  orders = unwrap_or g.orders others.orders;
+  clock = unwrap_or g.clock others.clock;
+  chapter = unwrap_or g.chapter others.chapter;
+  chapters = unwrap_or g.chapters others.chapters;
+}
+
 -- a script without where its lists lie in memory
 pub record Plan : Type 0 where
   pub starts : List ℕ
@@ -202,7 +224,7 @@ abbrev pub and_then : {A B : Type 0} → Result A ℕ → (A → Result B ℕ) �
 and_then (Ok x) f = f x
 and_then (Err line) f = Err line
 
--- all lines, numbered from this one on; without `robots` the line behind the last is at fault
+-- all lines, numbered from this one on; without `robots` the line after the last is at fault
 unfoldable pub draft_of : Draft → ℕ → List (List ℕ) → Result Plan ℕ
 draft_of d number [] = or_line number (option_map (plan_from d) d.starts)
 draft_of d number (line ∷ lines) = and_then (or_line number (with_line d number line)) (λ more. draft_of more (number + 1) lines)

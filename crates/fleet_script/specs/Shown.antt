@@ -1,18 +1,38 @@
 -- Values of the program without where they lie in memory.
-use Rattle.std.specs.Prelude.{◌≡◌, ℕ, Result, Ok, Err}
+use Rattle.std.specs.Prelude.{◌≡◌, ℕ, Bool, true, false, List, Option, Some, None, Result, Ok, Err}
 use Rattle.std.specs.Option.{option_map}
 use Rattle.fleet_script.specs.declared.lines.Repeat.{Repeat}
+use Rattle.fleet_book.specs.declared.event.Event.{Event}
+use Rattle.fleet_script.specs.declared.header.Head.{Head}
 use Rattle.fleet_script.specs.declared.script.Draft.{Draft}
 use Rattle.fleet_script.specs.declared.script.Script.{Script}
 use Rattle.fleet_script.specs.declared.script.ScriptFault.{ScriptFault}
 use Rattle.fleet_script.specs.declared.script.ScriptFault.TheVariants.{Line, NoMemory}
+use Rattle.fleet_script.specs.declared.lines.EventLine.{EventLine}
+use Rattle.fleet_script.specs.declared.lines.EventLine.TheVariants.{Nothing, Events, Other}
+use Rattle.fleet_script.specs.Event.{Said}
+use Rattle.fleet_script.specs.Event as said
 use Rattle.fleet_script.specs.Script as spec
 
 abbrev pub repeated : Repeat → spec.Repeated
 repeated r = record { event = r.event; times = r.times }
 
+abbrev pub said_on : EventLine → Said
+said_on Nothing = said.nothing
+said_on (Events more) = said.events (repeated more)
+said_on Other = said.other
+
+-- a head, with these events of these lines
+abbrev pub headed : {A : Type 0} → Head A → List Event → List ℕ → spec.Draft
+headed h events lines = record { starts = option_map (λ v. v.items) h.starts; clients = h.clients; south = h.south; turns = h.turns; limits = h.limits; events = events; lines = lines }
+
 abbrev pub shown : {A : Type 0} → Draft A → spec.Draft
-shown d = record { starts = option_map (λ v. v.items) d.starts; clients = d.clients; south = d.south; turns = d.turns; limits = d.limits; events = d.events.items; lines = d.lines.items }
+shown d = headed d.head d.events.items d.lines.items
+
+-- whether a line was taken, of which a head comes to be this one; where it was not, the head is as it was
+abbrev pub IsTaken : Bool → Option spec.Draft → spec.Draft → spec.Draft → Type 0
+IsTaken true more old new = more ≡ Some new
+IsTaken false more old new = (more ≡ None) × (new ≡ old)
 
 abbrev pub plan : {A : Type 0} → Script A → spec.Plan
 plan s = record { starts = s.starts.items; clients = s.clients; limits = s.limits; south = s.south; turns = s.turns; events = s.events.items; lines = s.lines.items }

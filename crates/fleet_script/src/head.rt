@@ -3,7 +3,7 @@
 ghost use Rattle.std.specs.Prelude.{◌≡◌, Some};
 ghost use Rattle.std.specs.Option.{option_map};
 ghost use Rattle.fleet_map.specs.Text.{words_of};
-ghost use Rattle.fleet_script.specs.Script.{limit_named, ties_in, turns_in, if_new, with_limit, limits_of, no_limits};
+ghost use Rattle.fleet_script.specs.Script.{limit_named, ties_in, turns_in, if_new, with_limit, limits_of, limits_over};
 
 use crate::numbers::{one_number, one_small_number};
 use fleet_book::Limits;
@@ -24,17 +24,17 @@ pub(crate) enum LimitName {
 }
 
 /// The limits that header lines gave so far.
-#[derive(Clone, Copy)]
-pub(crate) struct GivenLimits {
-    pub(crate) lane: Option<u32>,
-    pub(crate) outlet: Option<u32>,
-    pub(crate) queue: Option<u32>,
-    pub(crate) mailbox: Option<u32>,
-    pub(crate) life: Option<u64>,
-    pub(crate) orders: Option<u64>,
-    pub(crate) clock: Option<u64>,
-    pub(crate) chapter: Option<u32>,
-    pub(crate) chapters: Option<u32>,
+#[derive(Clone, Copy, Debug, PartialEq, Eq)]
+pub struct GivenLimits {
+    pub lane: Option<u32>,
+    pub outlet: Option<u32>,
+    pub queue: Option<u32>,
+    pub mailbox: Option<u32>,
+    pub life: Option<u64>,
+    pub orders: Option<u64>,
+    pub clock: Option<u64>,
+    pub chapter: Option<u32>,
+    pub chapters: Option<u32>,
 }
 
 /// The limit that a header line begins with.
@@ -93,7 +93,8 @@ pub(crate) fn turn_count(words: &[u8]) -> Option<u32>
 
 /// Takes what a header line says, where none said it before.
 pub(crate) fn set_once<T: Drop>(place: &mut Option<T>, said: Option<T>) -> Option<()>
-    ensures { option_map (λ done. place.new) result ≡ option_map Some (if_new place.old said) }
+    ensures set { option_map (λ done. place.new) result ≡ option_map Some (if_new place.old said) }
+    ensures kept { result ≡ None → place.new ≡ place.old }
 {
     let said = said?;
     match place {
@@ -107,7 +108,7 @@ pub(crate) fn set_once<T: Drop>(place: &mut Option<T>, said: Option<T>) -> Optio
 
 impl GivenLimits {
     /// No limit is given.
-    pub(crate) const NONE: GivenLimits = GivenLimits {
+    pub const NONE: GivenLimits = GivenLimits {
         lane: None,
         outlet: None,
         queue: None,
@@ -121,7 +122,8 @@ impl GivenLimits {
 
     /// Takes one more limit, which these words give.
     pub(crate) fn set(&mut self, name: LimitName, words: &[u8]) -> Option<()>
-        ensures { option_map (λ done. self.new) result ≡ with_limit self.old name (words_of words.now) }
+        ensures set { option_map (λ done. self.new) result ≡ with_limit self.old name (words_of words.now) }
+        ensures kept { result ≡ None → self.new ≡ self.old }
     {
         match name {
             LimitName::Lane => set_once(&mut self.lane, one_small_number(words)),
@@ -136,20 +138,27 @@ impl GivenLimits {
         }
     }
 
-    /// The given limits, and the program's own for the others.
+    /// The given limits, and these for the others.
+    pub fn limits_over(self, others: Limits) -> Limits
+        ensures { result ≡ limits_over others self }
+    {
+        Limits {
+            lane: self.lane.unwrap_or(others.lane),
+            outlet: self.outlet.unwrap_or(others.outlet),
+            queue: self.queue.unwrap_or(others.queue),
+            mailbox: self.mailbox.unwrap_or(others.mailbox),
+            life: self.life.unwrap_or(others.life),
+            orders: self.orders.unwrap_or(others.orders),
+            clock: self.clock.unwrap_or(others.clock),
+            chapter: self.chapter.unwrap_or(others.chapter),
+            chapters: self.chapters.unwrap_or(others.chapters),
+        }
+    }
+
+    /// The given limits, and a script's defaults for the others.
     pub(crate) fn limits(self) -> Limits
         ensures { result ≡ limits_of self }
     {
-        Limits {
-            lane: self.lane.unwrap_or(Limits::DEFAULT.lane),
-            outlet: self.outlet.unwrap_or(Limits::DEFAULT.outlet),
-            queue: self.queue.unwrap_or(Limits::DEFAULT.queue),
-            mailbox: self.mailbox.unwrap_or(Limits::DEFAULT.mailbox),
-            life: self.life.unwrap_or(Limits::DEFAULT.life),
-            orders: self.orders.unwrap_or(Limits::DEFAULT.orders),
-            clock: self.clock.unwrap_or(Limits::DEFAULT.clock),
-            chapter: self.chapter.unwrap_or(Limits::DEFAULT.chapter),
-            chapters: self.chapters.unwrap_or(Limits::DEFAULT.chapters),
-        }
+        self.limits_over(Limits::DEFAULT)
     }
 }

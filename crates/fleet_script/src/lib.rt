@@ -3,11 +3,15 @@
 
 mod bundle;
 mod head;
+mod header;
 mod law;
 mod lines;
 mod numbers;
 mod script;
 
 pub use bundle::split_bundle;
+pub use head::GivenLimits;
+pub use header::Head;
 pub use law::reading_is_by_grammar;
+pub use lines::{EventLine, Repeat, event_line};
 pub use script::{Script, ScriptFault, read_script};

@@ -4,17 +4,46 @@ ghost use Rattle.std.specs.Prelude.{◌≡◌, ◌≤◌, length, IfOk, IfSome, 
 ghost use Rattle.std.specs.Option.{option_map};
 ghost use Rattle.fleet_map.specs.Text.{words_of};
 ghost use Rattle.fleet_script.specs.Script.{order_in, withdrawal_in, post_in, ticks_in, events_of};
-ghost use Rattle.fleet_script.specs.Shown.{repeated};
+ghost use Rattle.fleet_script.specs.Shown.{repeated, said_on};
+ghost use Rattle.fleet_script.specs.Event.{event_line_in};
 
 use crate::numbers::{number_of_word, one_number, one_small_number, small_number};
 use fleet_book::{Event, Order};
 use fleet_map::text::first_word;
 
-/// The events of a line: one event, and how often.
-#[derive(Clone, Copy)]
-pub(crate) struct Repeat {
-    pub(crate) event: Event,
-    pub(crate) times: u32,
+/// An event, and how often it happens: 1 to 1,000,000 times for ticks, else once.
+#[derive(Clone, Copy, Debug, PartialEq, Eq)]
+pub struct Repeat {
+    pub event: Event,
+    pub times: u32,
+}
+
+/// What a line after a script's head says.
+#[derive(Clone, Copy, Debug, PartialEq, Eq)]
+pub enum EventLine {
+    /// The line is blank, or a comment.
+    Nothing,
+    /// The line names this event.
+    Events(Repeat),
+    /// The line is no event line.
+    Other,
+}
+
+/// Reads one line, without its line feed, as `read_script` reads the lines after the head: `Nothing` where it is blank or
+/// begins with `#`, its event and how often it happens where it is an event line, and `Other` where it is neither.
+pub fn event_line(line: &[u8]) -> EventLine
+    ensures { said_on result ≡ event_line_in line.now }
+{
+    if !line.is_empty() && line[0] == b'#' {
+        return EventLine::Nothing;
+    }
+    let Some((key, words)) = first_word(line) else {
+        return EventLine::Nothing;
+    };
+    match events_of_line(key, words) {
+        Some(more) => EventLine::Events(more),
+        None => EventLine::Other,
+    }
 }
 
 /// An order: `close`, `withdraw` with a number, or `go` with robot and cell.

@@ -3,19 +3,22 @@
 ghost use Rattle.std.specs.Prelude.{◌≡◌, ◌≤◌, ◌+◌, ◌<◌, ◌++◌, ◌^◌, length, replicate, map, IfOk, IfErr, OnOk, Some, Ok, Err, ℕ};
 ghost use Rattle.std.specs.Option.{option_map};
 ghost use Rattle.fleet_map.specs.Text.{words_of, lines_of};
-ghost use Rattle.fleet_script.specs.Script.{starts_in, with_header, with_events, with_words, with_line, draft_of, or_line, script_of, blank_draft, plan_from, Plan};
+ghost use Rattle.fleet_script.specs.Script.{with_header, with_events, with_words, with_line, draft_of, or_line, script_of, blank_draft, plan_from, Plan};
 ghost use Rattle.fleet_script.specs.Grammar.{IsScript, IsFirstFault, lines_in};
 ghost use Rattle.fleet_script.specs.Numbers.{numbers_in};
 ghost use Rattle.fleet_script.specs.Shown.{repeated, shown, plan, Gives};
 ghost use Rattle.fleet_script.specs.declared.lines.Repeat.{Repeat};
 ghost use Rattle.fleet_script.specs.declared.script.ScriptFault.{ScriptFault};
 
-use crate::head::{GivenLimits, is_south, limit_name, set_once, turn_count};
+use crate::header::Head;
 use crate::lines::{Repeat, events_of_line};
-use crate::numbers::{one_small_number, small_number};
 use fleet_book::{Event, Limits};
 use fleet_map::text::{first_line, first_word};
 use std::alloc::{AllocError, Allocator, Global};
+use thiserror::Error;
+
+/// How many robots a script's fleet has at most.
+const MOST_ROBOTS: usize = 16;
 
 /// What a script says.
 #[derive(Drop)]
@@ -37,11 +40,13 @@ pub struct Script<A: Allocator + Copy = Global> {
 }
 
 /// Why a text is no script.
-#[derive(Clone, Copy, Debug, PartialEq, Eq)]
+#[derive(Clone, Copy, Debug, PartialEq, Eq, Error)]
 pub enum ScriptFault {
-    /// The first line that may not stand where it does, from 1; the one behind the last where `robots` is missing.
+    /// The first line that may not stand where it does, from 1; the one after the last where `robots` is missing.
+    #[error("line {0} may not stand where it does")]
     Line(u32),
     /// Memory ran out, which says nothing of the text.
+    #[error("out of memory")]
     NoMemory,
 }
 
@@ -59,16 +64,12 @@ impl From<AllocError> for ScriptFault {
 /// A script as far as it is read.
 #[derive(Drop)]
 struct Draft<A: Allocator + Copy = Global> {
-    starts: Option<Vec<u32, A>>,
-    clients: Option<u32>,
-    south: Option<bool>,
-    turns: Option<u32>,
-    limits: GivenLimits,
+    head: Head<A>,
     events: Vec<Event, A>,
     lines: Vec<u32, A>,
 }
 
-/// Puts an item behind the others, so many times.
+/// Puts an item after the others, this many times.
 fn add_times<T: Copy + Drop, A: Allocator + Copy>(
     items: &mut Vec<T, A>,
     item: T,
@@ -80,40 +81,13 @@ fn add_times<T: Copy + Drop, A: Allocator + Copy>(
     items.resize(count, item)
 }
 
-/// The numbers that the words are, where they are 16 at most.
-fn cells<A: Allocator + Copy>(alloc: A, words: &[u8]) -> Result<Option<Vec<u32, A>>, AllocError>
-    ensures { IfOk result (λ cells. option_map (λ v. v.items) cells ≡ starts_in (words_of words.now)) }
-{
-    let mut cells = Vec::new(alloc);
-    let mut rest = words;
-    while let Some((word, after)) = first_word(rest) {
-        let Some(cell) = small_number(word) else {
-            return Ok(None);
-        };
-        if cells.len() == 16 {
-            return Ok(None);
-        }
-        cells.push(cell)?;
-        rest = after;
-    }
-    if cells.is_empty() {
-        Ok(None)
-    } else {
-        Ok(Some(cells))
-    }
-}
-
 impl<A: Allocator + Copy> Draft<A> {
     /// A script without lines.
     fn new(alloc: A) -> Draft<A>
         ensures { shown result ≡ blank_draft }
     {
         Draft {
-            starts: None,
-            clients: None,
-            south: None,
-            turns: None,
-            limits: GivenLimits::NONE,
+            head: Head::new(),
             events: Vec::new(alloc),
             lines: Vec::new(alloc),
         }
@@ -137,19 +111,10 @@ impl<A: Allocator + Copy> Draft<A> {
     ) -> Result<(), ScriptFault>
         ensures { Gives (λ done. shown self.new) result (or_line number (with_header (shown self.old) key.now (words_of words.now))) }
     {
-        let fault = ScriptFault::Line(number);
-        if key == b"robots".as_slice() {
-            let starts = cells(alloc, words)?;
-            set_once(&mut self.starts, starts).ok_or(fault)
-        } else if key == b"clients".as_slice() {
-            set_once(&mut self.clients, one_small_number(words)).ok_or(fault)
-        } else if key == b"ties".as_slice() {
-            set_once(&mut self.south, is_south(words)).ok_or(fault)
-        } else if key == b"turns".as_slice() {
-            set_once(&mut self.turns, turn_count(words)).ok_or(fault)
+        if self.head.add_header(alloc, MOST_ROBOTS, key, words)? {
+            Ok(())
         } else {
-            let name = limit_name(key).ok_or(fault)?;
-            self.limits.set(name, words).ok_or(fault)
+            Err(ScriptFault::Line(number))
         }
     }
 
@@ -185,14 +150,17 @@ fn finished<A: Allocator + Copy>(draft: Draft<A>, number: u32) -> Result<Script<
     ensures { Gives plan result (or_line number (option_map (plan_from (shown draft)) (shown draft).starts)) }
 {
     let Draft {
+        head,
+        events,
+        lines,
+    } = draft;
+    let Head {
         starts,
         clients,
         south,
         turns,
         limits,
-        events,
-        lines,
-    } = draft;
+    } = head;
     match starts {
         None => Err(ScriptFault::Line(number)),
         Some(starts) => Ok(Script {

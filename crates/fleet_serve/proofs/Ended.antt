@@ -11,7 +11,7 @@ use Rattle.fleet_history.specs.Legal.{IsLegal}
 use Rattle.fleet_history.specs.Laws.{orders, EachTick}
 use Rattle.fleet_history.specs.Notices.{notices}
 use Rattle.fleet_hooks.specs.declared.law.TieLaw.{TieLaw}
-use Rattle.fleet_plan.specs.Planned.{IsPlanned, IsAdvancingTick}
+use Rattle.fleet_planner.specs.Planned.{IsPlanned, IsAdvancingTick}
 use Rattle.fleet_bound.specs.Bound.{WaitsAreBounded}
 use Rattle.fleet_lanes.specs.Ends.{ClientView}
 use Rattle.fleet_office.specs.Concluded.{AreTold, HasAll}

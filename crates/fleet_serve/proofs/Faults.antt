@@ -5,9 +5,9 @@ use Rattle.fleet_grid.specs.Floor.{Floor}
 use Rattle.fleet_book.specs.declared.limits.Limits.{Limits}
 use Rattle.fleet_core.specs.Hooks.{HookLaws}
 use Rattle.fleet_core.specs.Opening.{AreInRange}
-use Rattle.fleet_calls.specs.declared.faults.OpenFault.{OpenFault}
-use Rattle.fleet_calls.specs.declared.faults.OpenFault.TheVariants as open_fault
-use Rattle.fleet_calls.specs.Opening.{IsRefused, IsNamed}
+use Rattle.fleet_core.specs.declared.faults.OpenFault.{OpenFault}
+use Rattle.fleet_core.specs.declared.faults.OpenFault.TheVariants as open_fault
+use Rattle.fleet_core.specs.OpeningFaults.{IsRefused, IsNamed}
 use Rattle.fleet_serve.specs.declared.served.ServeFault.{ServeFault}
 use Rattle.fleet_serve.specs.declared.served.ServeFault.TheVariants.{Opening, NoMemory}
 use Rattle.fleet_office.specs.declared.report.TurnCause.{TurnCause}
@@ -26,7 +26,7 @@ module _ (m : Floor) (starts : List ℕ) (clients : ℕ) (limits : Limits) (laws
   refused-named open_fault.Hooks why = tt
   refused-named open_fault.NoMemory why = why
 
-  -- any other reason than the limits stands behind them
+  -- any other reason than the limits stands after them
   pub out-of-range : (f : OpenFault) → (AreInRange clients limits → ⊥) → IsRefused m starts clients limits laws f → f ≡ open_fault.Limits
   out-of-range open_fault.Limits bad why = refl
   out-of-range open_fault.NoRobots bad why = absurd (bad why.0)

@@ -46,7 +46,7 @@ closed-step : (b : Bool) (p o : Order) (ps : List Order) → (b || has_close (if
 closed-step true p o ps e before = refl
 closed-step false p o ps e before = ap (λ zs. p ∷ zs) (before e)
 
--- behind a Close nothing counts
+-- after a Close nothing counts
 pub until-closed : (ps : List Order) (o : Order) → has_close (until_close ps) ≡ true → until_close (ps ++ o ∷ []) ≡ until_close ps
 until-closed [] o e = cc
 until-closed (p ∷ ps) o e = closed-step (is_close p) p o ps e (until-closed ps o)

@@ -13,7 +13,7 @@ use Rattle.fleet_lanes.specs.Ends.{ClientView, is_close}
 
 -- ---- what a script posts
 
--- a line that a client's thread can run: a post or a collect of one of so many clients
+-- a line that a client's thread can run: a post or a collect of one of this many clients
 abbrev pub IsLine : ℕ → Event → Type 0
 IsLine clients (Post client order) = client < clients
 IsLine clients (Collect client) = client < clients
@@ -75,11 +75,11 @@ AreLastNotices {A} h rests clients = (c : ℕ) → c < clients → (v : Vec Noti
 -- ---- the clients
 
 -- a client that runs its lines, and how many of its posts met a full lane
-pub record RanView (A : Type 0) : Type 0 where
+pub record ServedClientView (A : Type 0) : Type 0 where
   pub client : ClientView A
   pub lane_full : ℕ
 
--- the client has sent nothing, and may send so many orders
+-- the client has sent nothing, and may send this many orders
 pub record IsNew {A : Type 0} (client : ClientView A) (most : ℕ) : Type 0 where
   pub sent : client.sent ≡ []
   pub orders : client.orders ≡ most
@@ -87,7 +87,7 @@ pub record IsNew {A : Type 0} (client : ClientView A) (most : ℕ) : Type 0 wher
 abbrev pub AreNew : {A : Type 0} → ℕ → List (ClientView A) → Type 0
 AreNew {A} most cs = (k : ℕ) (x : ClientView A) → slice_get cs k ≡ Some x → IsNew x most
 
--- the client, which may send so many orders, has run its lines among these events: it sent posts of its lines, and where
+-- the client, which may send this many orders, has run its lines among these events: it sent posts of its lines, and where
 -- none met a full lane and it has numbers for all, all of them up to its first Close
 pub record HasRun {A : Type 0} (events : List Event) (most : ℕ) (client : ClientView A) (lane_full : ℕ) : Type 0 where
   pub part : IsSubsequence client.sent (posts client.number events)

@@ -5,8 +5,8 @@ ghost use Rattle.fleet_office.specs.declared.report.TurnCause.{TurnCause};
 ghost use Rattle.fleet_serve.specs.inside.Faults.{IsLater, fault_of};
 
 use crate::names::ScriptName;
-use crate::ran::Ran;
 use crate::served::ServeFault;
+use crate::served_client::ServedClient;
 use fleet_office::{Office, Ticker, TurnCause, TurnFault, TurnReport};
 use std::alloc::{Alloc, Global};
 use std::sync::Wait;
@@ -31,7 +31,7 @@ fn turn<N: ScriptName, R: Alloc<A = Global> + Wait>(
     rt: &R,
     office: &Office<N>,
     ticker: &mut Ticker<N>,
-    ran: &mut [Ran<N>],
+    ran: &mut [ServedClient<N>],
 ) -> Result<TurnReport, ServeFault>
     ensures { IfErr result (λ fault. IsLater fault) }
 {
@@ -50,7 +50,7 @@ fn drain<N: ScriptName, R: Alloc<A = Global> + Wait>(
     rt: &R,
     office: &Office<N>,
     ticker: &mut Ticker<N>,
-    ran: &mut [Ran<N>],
+    ran: &mut [ServedClient<N>],
 ) -> Result<(), ServeFault>
     ensures { IfErr result (λ fault. IsLater fault) }
 {
@@ -68,7 +68,7 @@ fn idle<N: ScriptName, R: Alloc<A = Global> + Wait>(
     rt: &R,
     office: &Office<N>,
     ticker: &mut Ticker<N>,
-    ran: &mut [Ran<N>],
+    ran: &mut [ServedClient<N>],
 ) -> Result<(), ServeFault>
     ensures { IfErr result (λ fault. IsLater fault) }
 {
@@ -90,7 +90,7 @@ pub(crate) fn make_last_turns<N: ScriptName, R: Alloc<A = Global> + Wait>(
     office: &Office<N>,
     stopped: Option<TurnCause>,
     ticker: &mut Ticker<N>,
-    ran: &mut [Ran<N>],
+    ran: &mut [ServedClient<N>],
 ) -> Result<(), ServeFault>
     ensures later { IfErr result (λ fault. IsLater fault) }
     ensures stopped { (cause : TurnCause) → stopped ≡ Some cause → result ≡ Err (fault_of cause) }

@@ -7,7 +7,7 @@ ghost use Rattle.fleet_serve.specs.Posted.{IsLine, IsFirstOther};
 use fleet_book::Event;
 use fleet_script::Script;
 
-/// Whether the event is a post or a collect of one of so many clients.
+/// Whether the event is a post or a collect of one of this many clients.
 fn is_line(event: Event, clients: u32) -> bool
     ensures { IsTrue result ↔ IsLine clients event }
 {

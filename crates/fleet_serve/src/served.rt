@@ -1,8 +1,9 @@
-//! What a serve comes to, and why it does not.
+//! The result of a serve, and why there is none.
 
-use fleet_calls::OpenFault;
+use fleet_core::OpenFault;
 use fleet_office::Final;
 use std::alloc::AllocError;
+use thiserror::Error;
 
 /// What a serve came to: how the office ended, and how many posts met a full lane.
 #[derive(Drop)]
@@ -16,19 +17,25 @@ pub struct Served {
 /// The opening comes first. When all threads have ended, `NoThread` comes before a ticker's fault, and the first ticker's
 /// before the second's; then a fault of a further turn, `Drain` among them, and at last one of the conclusion. `NoMemory`
 /// stands where it is met, at the opening too.
-#[derive(Clone, Copy, Debug, PartialEq, Eq)]
+#[derive(Clone, Copy, Debug, PartialEq, Eq, Error)]
 pub enum ServeFault {
-    /// The office was not opened, for a reason other than want of memory.
+    /// The office was not opened, for a reason other than out of memory.
+    #[error("the office was not opened: {0}")]
     Opening(OpenFault),
     /// A turn's tick was refused: all the ticks were made that may be made.
+    #[error("all ticks were made")]
     ClockSpent,
     /// A turn, or an order that was left at the end, was refused: the chapter has all the entries that it may have.
+    #[error("the chapter is full")]
     ChapterFull,
     /// The lanes were not emptied within 1,000,000 further turns.
+    #[error("the lanes were not emptied within 1,000,000 further turns")]
     Drain,
     /// Memory was refused.
+    #[error("out of memory")]
     NoMemory,
     /// A client's thread could not be started. The others have ended.
+    #[error("a client's thread could not be started")]
     NoThread,
 }
 

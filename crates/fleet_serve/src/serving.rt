@@ -8,10 +8,10 @@ ghost use Rattle.fleet_history.specs.History.{history_of, clock};
 ghost use Rattle.fleet_history.specs.Legal.{IsLegal};
 ghost use Rattle.fleet_history.specs.Laws.{EachTick};
 ghost use Rattle.fleet_hooks.specs.declared.law.TieLaw.{TieLaw};
-ghost use Rattle.fleet_plan.specs.Planned.{IsPlanned, IsAdvancingTick};
+ghost use Rattle.fleet_planner.specs.Planned.{IsPlanned, IsAdvancingTick};
 ghost use Rattle.fleet_bound.specs.Bound.{WaitsAreBounded};
 ghost use Rattle.fleet_core.specs.Hooks.{laws_of};
-ghost use Rattle.fleet_calls.specs.Opening.{IsNamed as IsNamedFault, IsRefused};
+ghost use Rattle.fleet_core.specs.OpeningFaults.{IsNamed as IsNamedFault, IsRefused};
 ghost use Rattle.fleet_office.specs.Views.{AreOn, IsNamed, cores};
 ghost use Rattle.fleet_office.specs.declared.report.TurnCause.{TurnCause};
 ghost use Rattle.fleet_serve.specs.inside.Faults.{IsLater, fault_of};
@@ -21,12 +21,12 @@ ghost use Rattle.fleet_serve.specs.Posted.{IsLine, AreNew, AllHaveRun, TakesPost
 use crate::draining::make_last_turns;
 use crate::gate::Gate;
 use crate::names::ScriptName;
-use crate::newcomer::newcomers_of;
-use crate::ran::{Ran, clients_of};
+use crate::new_client::new_clients_of;
 use crate::served::{ServeFault, Served};
+use crate::served_client::{ServedClient, clients_of};
 use crate::shift::Shift;
-use crate::threads::{Home, work_all};
-use fleet_calls::OpenFault;
+use crate::threads::{WorkEnd, work_all};
+use fleet_core::OpenFault;
 use fleet_grid::Grid;
 use fleet_hooks::Hooks;
 use fleet_lanes::Client;
@@ -55,7 +55,7 @@ fn conclusion_fault(fault: ConcludeFault) -> ServeFault
 {
     match fault {
         ConcludeFault::ChapterFull => ServeFault::ChapterFull,
-        // Nobody is away, so what is left is want of memory.
+        // Nobody is away, so what is left is out of memory.
         _ => ServeFault::NoMemory,
     }
 }
@@ -73,7 +73,7 @@ fn pair_of<N: ScriptName>(
 }
 
 /// The clients of a drained office, how many of their posts met a full lane, and both tickers.
-type Rested<N> = (Vec<Client>, u32, Vec<Ticker<N>>);
+type OfficeParts<N> = (Vec<Client>, u32, Vec<Ticker<N>>);
 
 /// Why the tickers stopped early, if one did: the first one's cause comes first.
 fn first_cause(first: Option<TurnCause>, second: Option<TurnCause>) -> Option<TurnCause>
@@ -87,12 +87,12 @@ fn first_cause(first: Option<TurnCause>, second: Option<TurnCause>) -> Option<Tu
 }
 
 /// What comes home after the last turn.
-fn rested<N: ScriptName>(
+fn parts_of<N: ScriptName>(
     alloc: Global,
-    ran: Vec<Ran<N>>,
+    ran: Vec<ServedClient<N>>,
     first: Ticker<N>,
     second: Ticker<N>,
-) -> Result<Rested<N>, ServeFault>
+) -> Result<OfficeParts<N>, ServeFault>
     ensures later { IfErr result (λ fault. IsLater fault) }
     ensures on { IfOk result (λ r. AreOn N.rings (cores r.0.items)) }
     ensures ran { IfOk result (λ r. AllHaveRun N.events N.orders r.0.items r.1) }
@@ -103,11 +103,11 @@ fn rested<N: ScriptName>(
 }
 
 /// Makes the turns that are left when all threads have ended, with the first ticker. None is made where a ticker stopped early.
-fn come_to_rest<N: ScriptName, R: Alloc<A = Global> + Wait>(
+fn wind_down<N: ScriptName, R: Alloc<A = Global> + Wait>(
     rt: &R,
     office: &Office<N>,
-    home: Home<N>,
-) -> Result<Rested<N>, ServeFault>
+    home: WorkEnd<N>,
+) -> Result<OfficeParts<N>, ServeFault>
     ensures later { IfErr result (λ fault. IsLater fault) }
     ensures first { (cause : TurnCause) → home.1.stopped ≡ Some cause → result ≡ Err (fault_of cause) }
     ensures second { (cause : TurnCause) → home.1.stopped ≡ None → home.2.stopped ≡ Some cause → result ≡ Err (fault_of cause) }
@@ -117,7 +117,7 @@ fn come_to_rest<N: ScriptName, R: Alloc<A = Global> + Wait>(
     let (mut ran, mut first, second) = home;
     let stopped = first_cause(first.stopped, second.stopped);
     match make_last_turns(rt, office, stopped, &mut first.ticker, ran.as_mut_slice()) {
-        Ok(()) => rested(rt.alloc(), ran, first.ticker, second.ticker),
+        Ok(()) => parts_of(rt.alloc(), ran, first.ticker, second.ticker),
         Err(fault) => Err(fault),
     }
 }
@@ -126,13 +126,13 @@ fn come_to_rest<N: ScriptName, R: Alloc<A = Global> + Wait>(
 fn conclude<N: ScriptName, R: Alloc<A = Global> + Wait>(
     rt: &R,
     office: Office<N>,
-    home: Home<N>,
+    home: WorkEnd<N>,
 ) -> Result<Served, ServeFault>
     ensures later { IfErr result (λ fault. IsLater fault) }
     ensures ended { IfOk result (λ s. IsEnd N.events N.orders (length N.rings) s.lane_full s.last.grid
         (history_of s.last.chapter) s.last.chapter.number s.last.tick s.last.rest.items) }
 {
-    let (clients, lane_full, tickers) = come_to_rest(rt, &office, home)?;
+    let (clients, lane_full, tickers) = wind_down(rt, &office, home)?;
     match office.conclude(rt.alloc(), clients, tickers) {
         // No serve begins another chapter, so no call ends here.
         Ok(last) if last.chapter.number != 0 => {
@@ -147,7 +147,7 @@ fn conclude<N: ScriptName, R: Alloc<A = Global> + Wait>(
     }
 }
 
-/// Lets the clients of an office that was just opened run their lines, beside two tickers.
+/// Lets the clients of an office that was just opened run their lines, with two tickers.
 fn work<N: ScriptName + Send + Sync, R: Alloc<A = Global> + Threads + Sync + Wait, G: Gate + Sync>(
     rt: &R,
     office: &Office<N>,
@@ -155,7 +155,7 @@ fn work<N: ScriptName + Send + Sync, R: Alloc<A = Global> + Threads + Sync + Wai
     ticker: Ticker<N>,
     script: &Script,
     gate: &G,
-) -> Result<Home<N>, ServeFault>
+) -> Result<WorkEnd<N>, ServeFault>
     requires on { AreOn N.rings (cores clients.items) }
     requires fresh { AreNew N.orders clients.items }
     requires events { script.now.events.items ≡ N.events }
@@ -166,9 +166,16 @@ fn work<N: ScriptName + Send + Sync, R: Alloc<A = Global> + Threads + Sync + Wai
     let Some(second) = first.split() else {
         return Err(ServeFault::NoMemory);
     };
-    let newcomers = newcomers_of::<N>(rt.alloc(), clients)?;
+    let new_clients = new_clients_of::<N>(rt.alloc(), clients)?;
     let shift = Shift::new(&script.events, gate);
-    work_all(rt, office, newcomers, (first, second), script.turns, &shift)
+    work_all(
+        rt,
+        office,
+        new_clients,
+        (first, second),
+        script.turns,
+        &shift,
+    )
 }
 
 /// Lets the clients and two tickers of an office that was just opened work side by side, and concludes it.
@@ -245,7 +252,7 @@ pub fn serve<R: Alloc<A = Global> + Threads + Sync + Wait, G: Gate + Sync>(
 ) -> Result<Served, ServeFault>
     requires few { length script.now.events.items < 2 ^ 32 }
     requires lines { All (IsLine script.now.clients) script.now.events.items }
-    // An opening is refused for the reason that stands first, or for want of memory.
+    // An opening is refused for the reason that stands first, or for lack of memory.
     ensures refused { (f : OpenFault) → result ≡ Err (ServeFault.Opening f) → IsRefused grid script.now.starts.items script.now.clients script.now.limits (laws_of hooks) f }
     ensures opens { (f : OpenFault) → IsRefused grid script.now.starts.items script.now.clients script.now.limits (laws_of hooks) f →
         (result ≡ Err (ServeFault.Opening f)) ⊎ (result ≡ Err ServeFault.NoMemory) }
@@ -263,7 +270,7 @@ pub fn serve<R: Alloc<A = Global> + Threads + Sync + Wait, G: Gate + Sync>(
     match Desk::new(rt.alloc(), script.clients, script.limits) {
         Ok(desk) => serve_at::<Brand, R, G>(rt, desk, grid, script, hooks, gate),
         Err(OpenFault::Limits) => Err(ServeFault::Opening(OpenFault::Limits)),
-        // Apart from its limits a desk is refused for want of memory alone.
+        // Apart from its limits a desk is refused for lack of memory alone.
         Err(_) => Err(ServeFault::NoMemory),
     }
 }

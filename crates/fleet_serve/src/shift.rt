@@ -6,8 +6,8 @@ ghost use Rattle.fleet_serve.specs.Posted.{HasRun};
 
 use crate::gate::Gate;
 use crate::names::ScriptName;
-use crate::newcomer::Newcomer;
-use crate::ran::Ran;
+use crate::new_client::NewClient;
+use crate::served_client::ServedClient;
 use fleet_book::Event;
 use fleet_lanes::PostFault;
 use fleet_office::Guest;
@@ -72,8 +72,8 @@ impl<'a, N: ScriptName, G: Gate> Shift<'a, N, G> {
     }
 
     /// Runs the client's lines in order.
-    pub fn run(&self, newcomer: Newcomer<N>) -> Ran<N> {
-        let mut guest = newcomer.into_guest();
+    pub fn run(&self, new_client: NewClient<N>) -> ServedClient<N> {
+        let mut guest = new_client.into_guest();
         let mut lane_full = 0;
         // The client's lines so far. The counter cannot overflow: a script has fewer than 2^32 lines.
         let mut line = 0u32;
@@ -84,6 +84,6 @@ impl<'a, N: ScriptName, G: Gate> Shift<'a, N, G> {
             }
             lane_full = run_line(&mut guest, event, line, self.gate, lane_full);
         }
-        Ran::new(guest, lane_full)
+        ServedClient::new(guest, lane_full)
     }
 }

@@ -5,9 +5,9 @@ ghost use Rattle.fleet_serve.specs.inside.Faults.{IsLater};
 
 use crate::gate::Gate;
 use crate::names::ScriptName;
-use crate::newcomer::Newcomer;
-use crate::ran::Ran;
+use crate::new_client::NewClient;
 use crate::served::ServeFault;
+use crate::served_client::ServedClient;
 use crate::shift::Shift;
 use fleet_office::{Office, Ticker, TurnCause, side_by_side};
 use std::alloc::{Alloc, AllocError, Global};
@@ -17,28 +17,28 @@ use std::thread::{Threads, join};
 
 /// A ticker, and why it stopped early.
 #[derive(Drop)]
-pub struct Shifted<N: ScriptName> {
+pub struct TickerEnd<N: ScriptName> {
     pub ticker: Ticker<N>,
     pub stopped: Option<TurnCause>,
 }
 
-/// So many turns of a ticker, or those before the first that is refused.
+/// This many turns of a ticker, or those before the first that is refused.
 fn tick<N: ScriptName, R: Alloc<A = Global> + Wait>(
     rt: &R,
     office: &Office<N>,
     ticker: Ticker<N>,
     turns: u32,
-) -> Shifted<N> {
+) -> TickerEnd<N> {
     let mut ticker = ticker;
     for _ in 0..turns {
         if let Err(fault) = office.turn(rt, &mut ticker) {
-            return Shifted {
+            return TickerEnd {
                 ticker,
                 stopped: Some(fault.cause),
             };
         }
     }
-    Shifted {
+    TickerEnd {
         ticker,
         stopped: None,
     }
@@ -51,7 +51,7 @@ fn tick_both<N: ScriptName + Send + Sync, R: Alloc<A = Global> + Threads + Sync 
     first: Ticker<N>,
     second: Ticker<N>,
     turns: u32,
-) -> (Shifted<N>, Shifted<N>) {
+) -> (TickerEnd<N>, TickerEnd<N>) {
     side_by_side(
         rt,
         office,
@@ -67,13 +67,17 @@ fn run_all<
     N: ScriptName + Send + Sync,
     R: Alloc<A = Global> + Threads + Sync + Wait,
     G: Gate + Sync,
->(rt: &R, newcomers: Vec<Newcomer<N>>, shift: &Shift<'_, N, G>) -> Result<Vec<Ran<N>>, ServeFault>
+>(
+    rt: &R,
+    new_clients: Vec<NewClient<N>>,
+    shift: &Shift<'_, N, G>,
+) -> Result<Vec<ServedClient<N>>, ServeFault>
     ensures { IfErr result (λ fault. IsLater fault) }
 {
     let mut threads = Vec::new(rt.alloc());
     let started = thread::scope(thread::scope_env(), rt, |scope| {
-        for newcomer in newcomers {
-            let Ok(thread) = scope.spawn(move || shift.run(newcomer)) else {
+        for new_client in new_clients {
+            let Ok(thread) = scope.spawn(move || shift.run(new_client)) else {
                 return Err(ServeFault::NoThread);
             };
             if let Err(refused) = threads.push(thread) {
@@ -95,9 +99,9 @@ fn run_all<
 }
 
 /// The clients that have run their lines.
-pub(crate) type Home<N> = (Vec<Ran<N>>, Shifted<N>, Shifted<N>);
+pub(crate) type WorkEnd<N> = (Vec<ServedClient<N>>, TickerEnd<N>, TickerEnd<N>);
 
-/// All clients side by side, beside both tickers.
+/// All clients in parallel, with both tickers.
 pub(crate) fn work_all<
     N: ScriptName + Send + Sync,
     R: Alloc<A = Global> + Threads + Sync + Wait,
@@ -105,17 +109,17 @@ pub(crate) fn work_all<
 >(
     rt: &R,
     office: &Office<N>,
-    newcomers: Vec<Newcomer<N>>,
+    new_clients: Vec<NewClient<N>>,
     tickers: (Ticker<N>, Ticker<N>),
     turns: u32,
     shift: &Shift<'_, N, G>,
-) -> Result<Home<N>, ServeFault>
+) -> Result<WorkEnd<N>, ServeFault>
     ensures { IfErr result (λ fault. IsLater fault) }
 {
     let (first, second) = tickers;
     let (ran, (first, second)) = join(
         rt,
-        || run_all(rt, newcomers, shift),
+        || run_all(rt, new_clients, shift),
         || tick_both(rt, office, first, second, turns),
     );
     Ok((ran?, first, second))

@@ -1,4 +1,4 @@
--- The state behind one more entry.
+-- The state after one more entry.
 use Rattle.std.proofs.Common.{◌≡◌, ℕ, ◌+◌, ◌<◌, List, length, map, Bool, true, false, Option, None, sym, refl, ap, ◌∙◌, subst, arith, inl, inr, get_or, add-zero}
 use Rattle.std.specs.Prelude.{slice_set, slice_index, slice_index_or, count_by, ◌==◌}
 use Rattle.std.specs.List.{range_with_len}

@@ -40,7 +40,7 @@ has-front queues r f e = elim (cases_lt r (length queues)) [
   | inr k ↦ (let q : None ≡ Some f = subst (λ (q : Queue). slice_get q.items 0 ≡ Some f) (get_or_past queues r no_queue k) e in cc)
 ]
 
--- what stood behind a front leaves it
+-- what stood after a front leaves it
 withdrawn-front : (p : Errand → Bool) (u : List Errand) (f : Errand) → slice_get (without_behind_front p u) 0 ≡ Some f → slice_get u 0 ≡ Some f
 withdrawn-front p [] f q = q
 withdrawn-front p (x ∷ u) f q = q

@@ -17,14 +17,14 @@ no_tally = record { taken = 0; noticed = 0 }
 abbrev pub tally_at : List Tally → ℕ → Tally
 tally_at tallies c = slice_index_or tallies c no_tally
 
--- an account behind so many arrivals, and a tally
+-- an account after this many arrivals, and a tally
 abbrev pub settled : Account → ℕ → Account
 settled a n = record a { owed = a.owed - n }
 
 abbrev pub told : Tally → ℕ → Tally
 told t n = record t { noticed = t.noticed + n }
 
--- a tally behind one more order and its verdict
+-- a tally after one more order and its verdict
 abbrev pub one_taken : Tally → Tally
 one_taken t = record { taken = t.taken + 1; noticed = t.noticed + 1 }
 

@@ -1,4 +1,4 @@
--- The state that a history comes to.
+-- The state after a history.
 use Rattle.std.specs.Prelude.{ℕ, ◌≡◌, ◌<◌, ◌≤◌, List, Option, map, length, slice_index}
 use Rattle.std.specs.List.{range_with_len}
 use Rattle.fleet_grid.specs.Floor.{Floor}

@@ -1,4 +1,4 @@
-//! The state behind one more entry.
+//! The state after one more entry.
 
 ghost use Rattle.std.specs.Prelude.{◌≡◌};
 ghost use Rattle.fleet_state.specs.Robots.{HasPlace};

@@ -1,4 +1,4 @@
-//! The state that a history comes to: where the robots stand, their errands and waits, and what is known of the clients.
+//! The state after a history: where the robots stand, their errands and waits, and what is known of the clients.
 #![tactic(auto)]
 
 mod clients;

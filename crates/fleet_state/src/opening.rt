@@ -19,7 +19,7 @@ use fleet_queue::{Errand, ErrandQueue};
 use std::alloc::{AllocError, Allocator};
 
 impl<A: Allocator + Copy> FleetState<A> {
-    /// The state at an opening that is in order, with memory for so many errands a queue.
+    /// The state at an opening that is in order, with memory for this many errands a queue.
     pub fn open(alloc: A, opening: &Opening<A>, room: u32) -> Result<Self, AllocError>
         requires order { (m : Floor) × IsInOrder m opening.now }
         requires room { All (λ x. length x.errands ≤ room) opening.now.robots }
@@ -30,7 +30,7 @@ impl<A: Allocator + Copy> FleetState<A> {
         FleetState::open_within(alloc, opening, rooms)
     }
 
-    /// The state at an opening that is in order, where each robot's queue has memory for so many errands.
+    /// The state at an opening that is in order, where each robot's queue has memory for this many errands.
     pub fn open_within(
         alloc: A,
         opening: &Opening<A>,
@@ -120,7 +120,7 @@ fn errands_of<A: Allocator + Copy>(
     Ok(errands)
 }
 
-/// The same room for so many robots.
+/// The same room for this many robots.
 fn same_rooms<A: Allocator + Copy>(
     alloc: A,
     robots: usize,

@@ -60,7 +60,7 @@ fn waits_of<A: Allocator + Copy>(
 }
 
 impl<A: Allocator + Copy> Robots<A> {
-    /// The robots of an opening, where each one's queue has memory for so many errands.
+    /// The robots of an opening, where each one's queue has memory for this many errands.
     pub(crate) fn open(
         alloc: A,
         states: &[RobotState<A>],
@@ -166,7 +166,7 @@ impl<A: Allocator + Copy> Robots<A> {
         }
     }
 
-    /// Whether the robot, shut or not, takes its leave where a step brings it to the cell.
+    /// Whether the robot, shut or not, says farewell where a step brings it to the cell.
     pub(crate) fn is_leaving(&self, shut: bool, robot: usize, cell: u32) -> bool
         requires { robot < length self.now.queues }
         ensures { result ≡ (shut && is_last cell (queue_at self.now.queues robot).items) }
@@ -236,7 +236,7 @@ impl<A: Allocator + Copy> Robots<A> {
         }
     }
 
-    /// Puts the errand behind the robot's others. Where there are none, the robot begins to wait.
+    /// Puts the errand after the robot's others. Where there are none, the robot begins to wait.
     fn join(&mut self, robot: usize, errand: Errand)
         requires { length (queue_at self.old.queues robot).items < (queue_at self.old.queues robot).capacity }
         ensures { self.new ≡ joined self.old robot errand }
@@ -247,7 +247,7 @@ impl<A: Allocator + Copy> Robots<A> {
         self.waits[robot] = Some(self.waits[robot].unwrap_or(0));
     }
 
-    /// Takes the client's errand of this number out, wherever it stands behind a front.
+    /// Takes the client's errand of this number out, wherever it stands after a front.
     fn withdraw(&mut self, client: u32, number: u64)
         ensures cells { self.new.cells ≡ self.old.cells }
         ensures count { length self.new.queues ≡ length self.old.queues }

@@ -1,4 +1,4 @@
-//! The state that a history comes to.
+//! The state after a history.
 
 ghost use Rattle.std.specs.Prelude.{◌≡◌, ◌<◌, ◌+◌, List, ℕ, map, length, slice_get};
 ghost use Rattle.std.specs.List.{range_with_len};
@@ -13,7 +13,7 @@ use fleet_queue::{Errand, ErrandQueue};
 use std::alloc::{Allocator, Global};
 use std::marker::Model;
 
-/// The state that a history comes to: cells, queues and waits of the robots, accounts and counts of the clients, the
+/// The state after a history: cells, queues and waits of the robots, accounts and counts of the clients, the
 /// robots that are shut, and the ticks made.
 #[derive(Drop)]
 pub struct FleetState<A: Allocator + Copy = Global> {
@@ -108,7 +108,7 @@ impl<A: Allocator + Copy> FleetState<A> {
         self.robots.queue(robot as usize).front()
     }
 
-    /// The robot's unfinished errand behind the front.
+    /// The robot's unfinished errand after the front.
     pub fn next(&self, robot: u32) -> Option<Errand>
         requires { robot < robot_count self.now }
         ensures second { result ≡ slice_get (queue_at self.now.queues robot).items 1 }

@@ -59,16 +59,7 @@ verdict_again : (v : Verdict) → verdict_in Second (verdict_data v) ≡ Some v
 verdict_again (verdict.Accepted number) = refl
 verdict_again verdict.Closed = refl
 verdict_again verdict.Withdrawn = refl
-verdict_again verdict.ClientClosed = refl
-verdict_again verdict.NoRobot = refl
-verdict_again verdict.RobotShut = refl
-verdict_again verdict.NoCell = refl
-verdict_again verdict.Blocked = refl
-verdict_again verdict.Unreachable = refl
-verdict_again verdict.QueueFull = refl
-verdict_again verdict.LifeSpent = refl
-verdict_again verdict.NoErrand = refl
-verdict_again verdict.TooLate = refl
+verdict_again _ = refl
 
 arrival_again : (a : Arrival) → ArrivalFits a → arrival_in (arrival_data a) ≡ Some a
 arrival_again a h = rw (number_again a.robot h.robot, number_again a.client h.client, number_again a.stamp h.stamp) refl

@@ -1,4 +1,4 @@
--- Openings that differ in the clock and the waits alone: the same entries are legal behind both.
+-- Openings that differ in the clock and the waits alone: the same entries are legal after both.
 use Rattle.std.proofs.Common.{◌≡◌, ℕ, ◌<◌, inl, inr, List, length, Option, Some, None, refl, sym, ap, subst, ◌∙◌}
 use Rattle.fleet_grid.specs.Floor.{Floor}
 use Rattle.fleet_grid.specs.Step.{IsConflictFree}
@@ -100,7 +100,7 @@ module _ {A : Type 0} (m : Floor) (o p : Opening A) (k : AreAlike o p) (es : Lis
     stamp = farewell robot stamp h.stamp;
   }
 
-  -- ---- what breaks a rule behind the one breaks it behind the other
+  -- ---- what breaks a rule after the one breaks it after the other
 
   stamps-alike : (arrived : List Arrival) (farewells : List Bye) → AreStamps (behind o es) arrived farewells → AreStamps (behind p es) arrived farewells
   stamps-alike arrived farewells h = (rw (k.arrival_laws) h.0, rw (k.farewell_laws) h.1)

@@ -18,7 +18,7 @@ module _ {X : Type 0} (P : X → Type 0) where
     | inr other ↦ before k d (omega (arith, less, other))
   ]
 
-  -- a test of one item, of which its default is known, beside what holds of those before it
+  -- a test of one item, of which its default is known, together with what holds of those before it
   module _ (xs : List X) (i : ℕ) (d : X) (b : Bool) (tests : (b ≡ true → P (get_or xs i d)) × (P (get_or xs i d) → b ≡ true)) where
     pub all_on : i < length xs → b ≡ true → ((k : ℕ) (e : X) → k < i → P (get_or xs k e)) → (k : ℕ) (e : X) → k < i + 1 → P (get_or xs k e)
     all_on within fine before = all_more xs i (get_or xs i d) within (get_or_default xs i (get_or xs i d) d within) (tests.0 fine) before

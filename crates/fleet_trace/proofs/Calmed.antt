@@ -84,7 +84,7 @@ calm-in_order m o h = record {
   };
 }
 
--- what is judged behind the calm opening is so behind the opening
+-- what is judged after the calm opening is so after the opening
 pub calm-fault : {A : Type 0} (m : Floor) (o : Opening A) (es : List (Entry A)) → IsInOrder m o → (fault : JudgeFault) → IsEntryFault m (with_entries (start (calm o)) es) fault → IsJudgeFault m (with_entries (start o) es) fault
 calm-fault m o es order (Illegal at rule) h = inr (illegal-alike m (calm o) o es at rule order (flip (calm-alike o)) h)
 calm-fault m o es order NoMemory h = tt
@@ -100,7 +100,7 @@ if_err : {X E : Type 0} (r : Result X E) (P Q : E → Type 0) → ((e : E) → P
 if_err (Ok x) P Q f h = h
 if_err (Err e) P Q f h = f e h
 
--- a legal history is refused for want of memory alone
+-- a legal history is refused for lack of memory alone
 pub legal-memory : {A X : Type 0} (m : Floor) (h : History A) → IsLegal m h → (r : Result X JudgeFault) → IfErr r (λ fault. IsJudgeFault m h fault) → IfErr r (λ fault. fault ≡ NoMemory)
 legal-memory m h legal r = if_err r _ _ (λ fault is. only_memory m h fault is legal)
 

@@ -133,7 +133,7 @@ module _ {A : Type 0} (m : Floor) (h : History A) where
   pub judged_all : (i : ℕ) (s : State A) → IsStateOf m (upto i) s → length h.entries ≤ i → IsLegal m h
   judged_all i s k le = subst (λ (es : List (Entry A)). IsLegal m (with_entries h es)) (take_whole h.entries i le) k.legal
 
--- a legal trace is refused for want of memory alone
+-- a legal trace is refused for lack of memory alone
 pub only_memory : {A : Type 0} (m : Floor) (h : History A) (fault : JudgeFault) → IsJudgeFault m h fault → IsLegal m h → fault ≡ NoMemory
 only_memory m h (Illegal at rule) is legal = absurd (illegal m h at rule is legal)
 only_memory m h NoMemory is legal = refl

@@ -146,7 +146,7 @@ module _ {A : Type 0} (robots : List (RobotState A)) (c r i : ℕ) (seen : ℕ �
       by j (inl less) h = absurd (omega (arith, less, fine.apart q r j i e.number h (here (errands_in robots r) c i e at own)))
       by j (inr before) h = absurd (omega (arith, fine.rising r j i e.number e.number before.1 (subst (λ (x : ℕ). IsNamed (errands_in robots x) c e.number j) before.0 h) (here (errands_in robots r) c i e at own)))
 
-  -- the robot's last errand is behind
+  -- the robot's last errand is after it
   pub entered_next : length (errands_in robots r) ≤ i → AreEntered robots c (r + 1) 0 seen
   entered_next le = record {
     each = by_place;

@@ -37,16 +37,7 @@ answer : (v : Verdict) → has_float (verdict_data v) ≡ false
 answer (verdict.Accepted number) = refl
 answer verdict.Closed = refl
 answer verdict.Withdrawn = refl
-answer verdict.ClientClosed = refl
-answer verdict.NoRobot = refl
-answer verdict.RobotShut = refl
-answer verdict.NoCell = refl
-answer verdict.Blocked = refl
-answer verdict.Unreachable = refl
-answer verdict.QueueFull = refl
-answer verdict.LifeSpent = refl
-answer verdict.NoErrand = refl
-answer verdict.TooLate = refl
+answer _ = refl
 
 entry : {A : Type 0} (e : Entry A) → has_float (entry_data e) ≡ false
 entry (Take client o v) = rw (order o, answer v) refl

@@ -65,7 +65,7 @@ pub same_test : {E P Q : Type 0} (r : Result Bool E) → (P → Q) → (Q → P)
 same_test (Ok b) f g tests = (λ yes. f (tests.0 yes), λ q. tests.1 (g q))
 same_test (Err e) f g tests = tests
 
--- ---- a client is tested beside what it is owed
+-- ---- a client is tested together with what it is owed
 
 module _ {A : Type 0} (o : Opening A) (robots : List (RobotState A)) (clients : List ClientState) (c owed : ℕ) (of_robots : robots ≡ o.robots) (of_clients : clients ≡ o.clients) (counted : owed ≡ owed_in robots c) where
   owed-here : owed ≡ owed_at o c

@@ -54,16 +54,7 @@ verdict_plain : (v : Verdict) → VerdictFits v → IsPlain (verdict_data v)
 verdict_plain (verdict.Accepted number) h = (tt, (h, tt))
 verdict_plain verdict.Closed h = (tt, tt)
 verdict_plain verdict.Withdrawn h = (tt, tt)
-verdict_plain verdict.ClientClosed h = (tt, (omega arith, tt))
-verdict_plain verdict.NoRobot h = (tt, (omega arith, tt))
-verdict_plain verdict.RobotShut h = (tt, (omega arith, tt))
-verdict_plain verdict.NoCell h = (tt, (omega arith, tt))
-verdict_plain verdict.Blocked h = (tt, (omega arith, tt))
-verdict_plain verdict.Unreachable h = (tt, (omega arith, tt))
-verdict_plain verdict.QueueFull h = (tt, (omega arith, tt))
-verdict_plain verdict.LifeSpent h = (tt, (omega arith, tt))
-verdict_plain verdict.NoErrand h = (tt, (omega arith, tt))
-verdict_plain verdict.TooLate h = (tt, (omega arith, tt))
+verdict_plain _ h = (tt, (omega arith, tt))
 
 arrival_plain : (a : Arrival) → ArrivalFits a → IsPlain (arrival_data a)
 arrival_plain a h = (wide a.robot h.robot, (wide a.client h.client, (h.number, (wide a.stamp h.stamp, tt))))
@@ -106,16 +97,7 @@ verdict_shallow : (v : Verdict) → depth (verdict_data v) ≤ 1
 verdict_shallow (verdict.Accepted number) = omega arith
 verdict_shallow verdict.Closed = omega arith
 verdict_shallow verdict.Withdrawn = omega arith
-verdict_shallow verdict.ClientClosed = omega arith
-verdict_shallow verdict.NoRobot = omega arith
-verdict_shallow verdict.RobotShut = omega arith
-verdict_shallow verdict.NoCell = omega arith
-verdict_shallow verdict.Blocked = omega arith
-verdict_shallow verdict.Unreachable = omega arith
-verdict_shallow verdict.QueueFull = omega arith
-verdict_shallow verdict.LifeSpent = omega arith
-verdict_shallow verdict.NoErrand = omega arith
-verdict_shallow verdict.TooLate = omega arith
+verdict_shallow _ = omega arith
 
 entry_shallow : {A : Type 0} (e : Entry A) → depth (entry_data e) ≤ 3
 entry_shallow (Take client o v) = omega (arith, order_shallow o, verdict_shallow v)

@@ -1,4 +1,4 @@
--- What a shut shows beside what is known of its robot.
+-- What a shut shows together with what is known of its robot.
 use Rattle.std.proofs.Common.{◌≡◌, ℕ, Bool, true, false, List, [], ◌∷◌, Option, Some, None, map, slice_index_or, refl, sym, ap, subst, ◌∙◌}
 use mathlib.Core.Bool.{not, beq}
 use Rattle.std.specs.Prelude.{is_some, slice_get}

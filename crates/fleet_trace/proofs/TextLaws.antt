@@ -15,7 +15,7 @@ use Rattle.serde_json.proofs.Numbers.{number_of-decimal}
 use Rattle.serde_json.proofs.Texts.{print-outline}
 use Rattle.fleet_trace.specs.inside.Plain.{IsPlain, ItemsArePlain, MembersArePlain, put_all}
 
--- the data of parsed text that has nothing behind it
+-- the data of parsed text that has nothing after it
 abbrev whole : Option (json.Json × List Token) → Option Data
 whole o = option_and_then of_json (option_and_then (λ p. json.if_last p.0 p.1) o)
 

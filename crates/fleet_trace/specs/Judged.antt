@@ -28,7 +28,7 @@ TakeBreaks m h client order v rule =
 abbrev pub ShowsDue : {A : Type 0} → History A → List ℕ → List Arrival → Type 0
 ShowsDue h to arrived = map due_of arrived ≡ due h to
 
--- the farewells that a tick shows are of those that take their leave
+-- the farewells that a tick shows are of those that say farewell
 abbrev pub ShowsLeaving : {A : Type 0} → History A → List ℕ → List Arrival → List Bye → Type 0
 ShowsLeaving h to arrived farewells = map (λ b. b.robot) farewells ≡ leaving h (after h (Tick to arrived farewells))
 
@@ -64,13 +64,13 @@ ShutBreaks h robot farewell rule =
     ⊎ ((rule ≡ 6) × MayShut h robot × (ShowsFarewell h robot farewell → ⊥))
     ⊎ ((rule ≡ 7) × MayShut h robot × ShowsFarewell h robot farewell × (IsFarewell h robot farewell → ⊥))
 
--- the first rule that an entry behind the history breaks
+-- the first rule that an entry after the history breaks
 abbrev pub Breaks : {A : Type 0} → Floor → History A → Entry A → ℕ → Type 0
 Breaks m h (Take client order v) rule = TakeBreaks m h client order v rule
 Breaks m h (Tick to arrived farewells) rule = TickBreaks m h to arrived farewells rule
 Breaks m h (Shut robot farewell) rule = ShutBreaks h robot farewell rule
 
--- behind a legal history the entry of this number, counted from 1, breaks the rule first
+-- after a legal history the entry of this number, counted from 1, breaks the rule first
 pub record IsIllegalAt {A : Type 0} (m : Floor) (h : History A) (at rule : ℕ) : Type 0 where
   pub before : List (Entry A)
   pub entry : Entry A

@@ -8,6 +8,7 @@ use Rattle.fleet_book.specs.declared.order.Order.{Order}
 use Rattle.fleet_book.specs.declared.order.Order.TheVariants.{Go, Close, Withdraw}
 use Rattle.fleet_book.specs.declared.verdict.Verdict.{Verdict}
 use Rattle.fleet_book.specs.declared.verdict.Verdict.TheVariants as verdict
+use Rattle.fleet_book.specs.Refusals.{refusal_code}
 use Rattle.fleet_hooks.specs.declared.law.StampLaw.{StampLaw}
 use Rattle.fleet_history.specs.declared.history.Arrival.{Arrival}
 use Rattle.fleet_history.specs.declared.history.Bye.{Bye}
@@ -65,20 +66,19 @@ order_data (Withdraw errand) = listed (word (codes "withdraw") ∷ counted erran
 abbrev pub refused : ℕ → Data
 refused code = listed (word (codes "refused") ∷ counted code ∷ [])
 
+-- a verdict that refuses nothing
+abbrev pub done_data : Verdict → Data
+done_data (verdict.Accepted errand) = listed (word (codes "accepted") ∷ counted errand ∷ [])
+done_data verdict.Withdrawn = listed (word (codes "withdrawn") ∷ [])
+done_data _ = listed (word (codes "closed") ∷ [])
+
+-- a verdict, by the number of the refusal if it is one
+abbrev pub answer_data : Option ℕ → Verdict → Data
+answer_data (Some code) v = refused code
+answer_data None v = done_data v
+
 abbrev pub verdict_data : Verdict → Data
-verdict_data (verdict.Accepted errand) = listed (word (codes "accepted") ∷ counted errand ∷ [])
-verdict_data verdict.Closed = listed (word (codes "closed") ∷ [])
-verdict_data verdict.Withdrawn = listed (word (codes "withdrawn") ∷ [])
-verdict_data verdict.ClientClosed = refused 1
-verdict_data verdict.NoRobot = refused 2
-verdict_data verdict.RobotShut = refused 3
-verdict_data verdict.NoCell = refused 4
-verdict_data verdict.Blocked = refused 5
-verdict_data verdict.Unreachable = refused 6
-verdict_data verdict.QueueFull = refused 7
-verdict_data verdict.LifeSpent = refused 8
-verdict_data verdict.NoErrand = refused 9
-verdict_data verdict.TooLate = refused 10
+verdict_data v = answer_data (refusal_code v) v
 
 abbrev pub arrival_data : Arrival → Data
 arrival_data a = listed (counted a.robot ∷ counted a.client ∷ counted a.number ∷ counted a.stamp ∷ [])

@@ -1,5 +1,5 @@
 -- What a JSON value tells, if it has the form of a trace.
-use Rattle.std.specs.Prelude.{ℕ, ◌+◌, ◌^◌, List, [], ◌∷◌, Bool, false, ◌==◌, ◌&&◌, nat_lt, codes, Option, Some, None, if◌then◌else◌, option_map, option_and_then, unwrap_or}
+use Rattle.std.specs.Prelude.{ℕ, ◌+◌, ◌^◌, List, [], ◌∷◌, Bool, false, ◌==◌, ◌&&◌, ◌||◌, nat_lt, codes, Option, Some, None, if◌then◌else◌, option_map, option_and_then, unwrap_or}
 use Rattle.std.specs.Str.{bytes_eq}
 use Rattle.serde_json.specs.Data.{Data, null, boolean, number, string, array, object, Items, no_items, item, Members, no_members, member}
 use Rattle.serde_json.specs.Find.{get, as_bool, as_u64, as_number, as_str, as_object}
@@ -8,6 +8,7 @@ use Rattle.fleet_book.specs.declared.order.Order.{Order}
 use Rattle.fleet_book.specs.declared.order.Order.TheVariants.{Go, Close, Withdraw}
 use Rattle.fleet_book.specs.declared.verdict.Verdict.{Verdict}
 use Rattle.fleet_book.specs.declared.verdict.Verdict.TheVariants as verdict
+use Rattle.fleet_book.specs.Refusals.{refusal_of}
 use Rattle.fleet_hooks.specs.declared.law.StampLaw.{StampLaw}
 use Rattle.fleet_history.specs.declared.history.Arrival.{Arrival}
 use Rattle.fleet_history.specs.declared.history.Bye.{Bye}
@@ -63,7 +64,7 @@ abbrev pub count_members : Members → ℕ
 count_members no_members = 0
 count_members (member k d ms) = count_members ms + 1
 
--- whether the value is an object of so many members
+-- whether the value is an object of this many members
 abbrev pub has_members : ℕ → Data → Bool
 has_members n d = unwrap_or (option_map (λ ms. count_members ms == n) (as_object d)) false
 
@@ -139,20 +140,9 @@ order_from v _ = None
 abbrev pub order_in : Version → Data → Option Order
 order_in v d = option_and_then (order_from v) (items_in d)
 
--- the refusal that has a code: 9 and 10 came with withdrawal
-abbrev pub refusal_of : Version → ℕ → Option Verdict
-refusal_of v code =
-    if code == 1 then Some verdict.ClientClosed
-    else if code == 2 then Some verdict.NoRobot
-    else if code == 3 then Some verdict.RobotShut
-    else if code == 4 then Some verdict.NoCell
-    else if code == 5 then Some verdict.Blocked
-    else if code == 6 then Some verdict.Unreachable
-    else if code == 7 then Some verdict.QueueFull
-    else if code == 8 then Some verdict.LifeSpent
-    else if has_withdrawal v && (code == 9) then Some verdict.NoErrand
-    else if has_withdrawal v && (code == 10) then Some verdict.TooLate
-    else None
+-- the refusal that has a code: those above 8 came with withdrawal
+abbrev pub refusal_in : Version → ℕ → Option Verdict
+refusal_in v code = if has_withdrawal v || nat_lt code 9 then refusal_of code else None
 
 abbrev pub verdict_from : Version → List Data → Option Verdict
 verdict_from v (name ∷ []) =
@@ -160,7 +150,7 @@ verdict_from v (name ∷ []) =
     else if has_withdrawal v && is_word (codes "withdrawn") name then Some verdict.Withdrawn else None
 verdict_from v (name ∷ a ∷ []) =
     if is_word (codes "accepted") name then option_map (λ n. verdict.Accepted n) (long_in a)
-    else if is_word (codes "refused") name then option_and_then (refusal_of v) (long_in a) else None
+    else if is_word (codes "refused") name then option_and_then (refusal_in v) (long_in a) else None
 verdict_from v _ = None
 
 abbrev pub verdict_in : Version → Data → Option Verdict

@@ -5,17 +5,22 @@ ghost use Rattle.fleet_trace.specs.declared.fault.TraceFault.TheVariants.{NoMemo
 ghost use Rattle.fleet_trace.specs.declared.fault.JudgeFault.TheVariants as judge;
 
 use std::alloc::{AllocError, AllocFailed};
+use thiserror::Error;
 
 /// Why bytes tell no trace.
-#[derive(Clone, Copy, Debug, PartialEq, Eq)]
+#[derive(Clone, Copy, Debug, PartialEq, Eq, Error)]
 pub enum TraceFault {
     /// They are not UTF-8, or not JSON, or nest deeper than 127.
+    #[error("not UTF-8, or not JSON, or nested deeper than 127")]
     NotJson,
     /// The number under `version` is that of no known version.
+    #[error("no known version")]
     Version,
     /// The value is no object with an integer under `version`, or has not the form of its version.
+    #[error("not in the form of its version")]
     Shape,
     /// There is no memory.
+    #[error("out of memory")]
     NoMemory,
 }
 
@@ -36,13 +41,15 @@ impl<T: Drop> From<AllocFailed<T>> for TraceFault {
 }
 
 /// Why a trace is not judged legal.
-#[derive(Clone, Copy, Debug, PartialEq, Eq)]
+#[derive(Clone, Copy, Debug, PartialEq, Eq, Error)]
 pub enum JudgeFault {
     /// The entry `at`, counted from 1, is the first that breaks a rule, and `rule` the first that it breaks: 2 the
     /// client, 3 the verdict, 4 the step, 5 the arrivals, 6 the farewells, 7 a stamp, 8 the robot of a shut, which is
     /// tried before 6 and 7. At 0 the opening breaks rule 1.
+    #[error("entry {at} breaks rule {rule}")]
     Illegal { at: u64, rule: u8 },
     /// There is no memory.
+    #[error("out of memory")]
     NoMemory,
 }
 

@@ -29,7 +29,7 @@ use std::alloc::{AllocError, Allocator};
 use takes::broken_take;
 use ticks::{broken_shown, is_step};
 
-/// The first rule that an entry behind the history of the state breaks.
+/// The first rule that an entry after the history of the state breaks.
 fn broken_rule<A: Allocator + Copy>(
     alloc: A,
     grid: &Grid<A>,
@@ -62,7 +62,7 @@ fn broken_rule<A: Allocator + Copy>(
     }
 }
 
-/// Judges entries behind an opening, of which the state is.
+/// Judges entries after an opening, of which the state is.
 fn judge_entries<A: Allocator + Copy>(
     alloc: A,
     grid: &Grid<A>,
@@ -92,7 +92,7 @@ fn judge_entries<A: Allocator + Copy>(
     Ok(())
 }
 
-/// Judges entries behind an opening that is in order.
+/// Judges entries after an opening that is in order.
 fn judge_behind<A: Allocator + Copy>(
     alloc: A,
     grid: &Grid<A>,
@@ -110,7 +110,7 @@ fn judge_behind<A: Allocator + Copy>(
     judge_entries(alloc, grid, opening, entries, &mut state)
 }
 
-/// Judges entries behind an opening that is in order, by way of its calm one.
+/// Judges entries after an opening that is in order, by way of its calm one.
 fn judge_calmly<A: Allocator + Copy>(
     alloc: A,
     grid: &Grid<A>,
@@ -126,7 +126,7 @@ fn judge_calmly<A: Allocator + Copy>(
     judge_behind(alloc, grid, &calm, entries)
 }
 
-/// Judges a trace: whether its opening is in order on the map and each entry is legal behind those before it.
+/// Judges a trace: whether its opening is in order on the map and each entry is legal after those before it.
 pub fn judge<A: Allocator + Copy>(
     alloc: A,
     grid: &Grid<A>,
@@ -140,7 +140,7 @@ pub fn judge<A: Allocator + Copy>(
     if !is_in_order(alloc, grid, &chapter.opening)? {
         return Err(JudgeFault::Illegal { at: 0, rule: 1 });
     }
-    // What a state counts is known to have room for fewer entries alone. No text of a trace that the program reads has so many.
+    // What a state counts is known to have room for fewer entries alone. No trace that the program reads has that many.
     if entries.len() >= 1 << 32 {
         return Err(JudgeFault::NoMemory);
     }

@@ -19,7 +19,7 @@ pub fn trace_reads_back()
     ensures { (t : Trace Global) → TraceFits t → option_and_then trace_in (read (trace_text t)) ≡ Some t }
 {}
 
-/// A chapter by way of its text: the same chapter again. The only error is want of memory.
+/// A chapter by way of its text: the same chapter again. The only error is out of memory.
 pub fn write_and_read(alloc: Global, chapter: &Chapter) -> Result<Chapter, TraceFault>
     ensures same { IfOk result (λ again. trace_of again ≡ trace_of chapter.now) }
     ensures fault { IfErr result (λ fault. fault ≡ TraceFault.NoMemory) }

@@ -13,7 +13,7 @@ use fleet_history::Chapter;
 use objects::trace_value;
 use std::alloc::{AllocError, Allocator, Global};
 
-/// The text of a chapter, in version 2 of the form of traces. The error is want of memory.
+/// The text of a chapter, in version 2 of the form of traces. The error is out of memory.
 pub fn write_trace<A: Allocator + Copy>(
     alloc: Global,
     chapter: &Chapter<A>,

@@ -139,16 +139,7 @@ unfolding escape_byte
 answer (verdict.Accepted n) = refl
 answer verdict.Closed = refl
 answer verdict.Withdrawn = refl
-answer verdict.ClientClosed = refl
-answer verdict.NoRobot = refl
-answer verdict.RobotShut = refl
-answer verdict.NoCell = refl
-answer verdict.Blocked = refl
-answer verdict.Unreachable = refl
-answer verdict.QueueFull = refl
-answer verdict.LifeSpent = refl
-answer verdict.NoErrand = refl
-answer verdict.TooLate = refl
+answer _ = refl
 
 entry : {A : Type 0} (e : Entry A) → is_plain (entry_data e) ≡ true
 unfolding escape_byte

@@ -1,4 +1,4 @@
--- What the text of a map and of traces on it comes to.
+-- The result of a map's text and of traces on it.
 use Rattle.std.specs.Prelude.{◌≡◌, ◌+◌, ℕ, List, Option, Some, None, Ok}
 use Rattle.std.specs.declared.alloc.Global.{Global}
 use Rattle.fleet_map.specs.Grammar.{Map, Fails, map_of}

@@ -731,7 +731,7 @@ class Curve {
   }
 }
 
-// ---- texts beside the map
+// ---- texts next to the map
 
 function textCell(row) {
   const cell = document.createElement('td');

@@ -1,6 +1,6 @@
 -- What the words ask for.
-use Rattle.std.specs.Prelude.{◌≡◌, ℕ, Bool, true, false, List, map, Option, Some, None, codes, string_bytes}
-use Rattle.std.specs.Option.{option_map_or}
+use Rattle.std.specs.Prelude.{◌≡◌, Bool, true, false, List, map, Option, Some, None, codes, string_bytes, if◌then◌else◌}
+use Rattle.std.specs.Option.{option_map, option_map_or, option_and_then}
 use Rattle.std.specs.Str.{bytes_eq}
 use Rattle.std.specs.Str.Parse.{digits_value, without_leading_plus}
 use Rattle.clap.specs.Words.{Text, Row, first_of, all_of}
@@ -8,6 +8,11 @@ use Rattle.fleet_words.specs.declared.view.Shown.{Shown}
 use Rattle.fleet_words.specs.declared.view.Shown.TheVariants.{Page, Moving, Still}
 use Rattle.fleet_words.specs.declared.view.View.{View as ViewJob}
 use Rattle.fleet_words.specs.declared.check.Check.{Check as CheckJob}
+use Rattle.fleet_words.specs.declared.talk.Talk.{Talk as TalkJob}
+use Rattle.fleet_words.specs.declared.convert.Form.{Form}
+use Rattle.fleet_words.specs.declared.convert.Form.TheVariants.{Pibt2, Moves, Lorr}
+use Rattle.fleet_words.specs.declared.convert.Convert.{Convert as ConvertJob}
+use Rattle.fleet_words.specs.declared.explain.Explain.{Explain as ExplainJob}
 use Rattle.fleet_words.specs.declared.words.Job.{Job}
 use Rattle.fleet_words.specs.declared.words.Job.TheVariants as job
 
@@ -32,7 +37,41 @@ pub record IsCheck (rows : List Row) (check : CheckJob) : Type 0 where
   pub floor : first_of (codes "MAP") rows ≡ Some (string_bytes check.map)
   pub plan : first_of (codes "PLAN") rows ≡ Some (string_bytes check.plan)
 
+-- what the words after `talk` ask for
+pub record IsTalk (rows : List Row) (talk : TalkJob) : Type 0 where
+  pub floor : first_of (codes "MAP") rows ≡ Some (string_bytes talk.map)
+  pub script : first_of (codes "SCRIPT") rows ≡ option_map (λ s. string_bytes s) talk.script
+  pub traces : first_of (codes "traces") rows ≡ option_map (λ s. string_bytes s) talk.traces
+  pub marks : talk.marks ≡ has_flag (codes "marks") rows
+  pub roll : talk.roll ≡ has_flag (codes "roll") rows
+
+-- the form of a name
+abbrev pub form_named : Text → Option Form
+form_named word =
+    if bytes_eq word (codes "pibt2") then Some Pibt2
+    else if bytes_eq word (codes "moves") then Some Moves
+    else if bytes_eq word (codes "lorr") then Some Lorr
+    else None
+
+-- the form that the words after `convert` name
+abbrev pub form_in : List Row → Option Form
+form_in rows = option_and_then form_named (first_of (codes "to") rows)
+
+-- what the words after `convert` ask for
+pub record IsConvert (rows : List Row) (convert : ConvertJob) : Type 0 where
+  pub form : convert.form ≡ form_in rows
+  pub floor : first_of (codes "MAP") rows ≡ Some (string_bytes convert.map)
+  pub trace : first_of (codes "TRACE") rows ≡ Some (string_bytes convert.trace)
+
+-- what the words after `explain` ask for
+pub record IsExplain (rows : List Row) (explain : ExplainJob) : Type 0 where
+  pub floor : first_of (codes "MAP") rows ≡ Some (string_bytes explain.map)
+  pub other : first_of (codes "INPUT") rows ≡ option_map (λ s. string_bytes s) explain.other
+
 -- the job of a subcommand and the words that stand for its arguments
 abbrev pub IsJobOf : Option (Text × List Row) → Job → Type 0
 IsJobOf found (job.View view) = (rows : List Row) × (found ≡ Some (codes "view", rows)) × IsView rows view
 IsJobOf found (job.Check check) = (rows : List Row) × (found ≡ Some (codes "check", rows)) × IsCheck rows check
+IsJobOf found (job.Talk talk) = (rows : List Row) × (found ≡ Some (codes "talk", rows)) × IsTalk rows talk
+IsJobOf found (job.Convert convert) = (rows : List Row) × (found ≡ Some (codes "convert", rows)) × IsConvert rows convert
+IsJobOf found (job.Explain explain) = (rows : List Row) × (found ≡ Some (codes "explain", rows)) × IsExplain rows explain

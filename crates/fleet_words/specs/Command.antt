@@ -28,9 +28,29 @@ view_app = with_rule (with_rule (with_rule (with_rule (new_app (codes "view")) (
 abbrev pub check_app : App
 check_app = with_rule (with_rule (new_app (codes "check")) (file_rule (codes "MAP"))) (file_rule (codes "PLAN"))
 
+-- --traces DIR
+abbrev pub traces_rule : Rule
+traces_rule = record (new_rule (codes "traces")) { long = Some (codes "traces"); value_names = 1 }
+
+-- talk [--marks] [--roll] [--traces DIR] MAP [SCRIPT]
+abbrev pub talk_app : App
+talk_app = with_rule (with_rule (with_rule (with_rule (with_rule (new_app (codes "talk")) (flag_rule (codes "marks"))) (flag_rule (codes "roll"))) traces_rule) (file_rule (codes "MAP"))) (new_rule (codes "SCRIPT"))
+
+-- --to FORM, which has to be there
+abbrev pub to_rule : Rule
+to_rule = record (new_rule (codes "to")) { long = Some (codes "to"); value_names = 1; required = true }
+
+-- convert --to FORM MAP TRACE
+abbrev pub convert_app : App
+convert_app = with_rule (with_rule (with_rule (new_app (codes "convert")) to_rule) (file_rule (codes "MAP"))) (file_rule (codes "TRACE"))
+
+-- explain MAP [INPUT]
+abbrev pub explain_app : App
+explain_app = with_rule (with_rule (new_app (codes "explain")) (file_rule (codes "MAP"))) (new_rule (codes "INPUT"))
+
 -- fleet, which tells its version and wants a word
 abbrev pub fleet_top : App
 fleet_top = let app = new_app (codes "fleet") in record app { top = record app.top { has_version = true; subcommand_required = true } }
 
 abbrev pub fleet_app : App
-fleet_app = with_subcommand (with_subcommand fleet_top view_app.top) check_app.top
+fleet_app = with_subcommand (with_subcommand (with_subcommand (with_subcommand (with_subcommand fleet_top view_app.top) check_app.top) talk_app.top) convert_app.top) explain_app.top

@@ -1,6 +1,7 @@
 //! Arguments and subcommands of `clap`, and what stands for them.
 
 ghost use Rattle.std.specs.Prelude.{◌≡◌, IfOk, Some, map, false, string_bytes};
+ghost use Rattle.std.specs.Option.{option_map};
 ghost use Rattle.clap.specs.declared.builder.command.Command.TheViews.{out-Command as fields_of};
 ghost use Rattle.clap.specs.Words.{app_of, new_app, rule_of, with_rule, first_of, all_of, found_of, rows_of};
 ghost use Rattle.fleet_words.specs.Command.{file_rule, files_rule, flag_rule};
@@ -89,6 +90,20 @@ pub(crate) fn word_for(
         Some(word) => String::from_str(alloc, word),
         // `clap` has a word for each required argument, so this never runs
         None => Err(AllocError),
+    }
+}
+
+/// The word that stands for an argument that may be left out.
+pub(crate) fn some_word_for(
+    alloc: Global,
+    matches: &ArgMatches<'_>,
+    name: &str,
+) -> Result<Option<String>, AllocError>
+    ensures { IfOk result (λ found. first_of name.now (rows_of (found_of matches.now)) ≡ option_map (λ s. string_bytes s) found) }
+{
+    match matches.get_str(name) {
+        Some(word) => Ok(Some(String::from_str(alloc, word)?)),
+        None => Ok(None),
     }
 }
 

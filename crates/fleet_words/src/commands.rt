@@ -6,6 +6,9 @@ ghost use Rattle.clap.specs.Words.{app_of, with_subcommand as with_sub};
 ghost use Rattle.fleet_words.specs.Command.{fleet_app, fleet_top};
 
 use crate::check::check_command;
+use crate::convert::convert_command;
+use crate::explain::explain_command;
+use crate::talk::talk_command;
 use crate::view::view_command;
 use clap::Command;
 use std::alloc::{AllocError, Global};
@@ -29,15 +32,34 @@ fn top_command<'a>(alloc: Global) -> Command<'a>
     ensures { app_of result ≡ fleet_top }
 {
     Command::new(alloc, "fleet")
-        .about("Looks at fleets of robots: shows traces of what they did, and judges plans")
+        .about(
+            "Looks at fleets of robots: shows traces of what they did, judges plans and writes them, and answers lines as they come",
+        )
         .version("0.1.0")
         .subcommand_required(true)
 }
 
 /// The command `fleet` with its subcommands.
-pub(crate) fn fleet_command<'a>(alloc: Global) -> Result<Command<'a>, AllocError>
+fn fleet_command<'a>(alloc: Global) -> Result<Command<'a>, AllocError>
     ensures { IfOk result (λ c. app_of c ≡ fleet_app) }
 {
     let command = with_subcommand(top_command(alloc), view_command(alloc))?;
-    with_subcommand(command, check_command(alloc))
+    let command = with_subcommand(command, check_command(alloc))?;
+    let command = with_subcommand(command, talk_command(alloc))?;
+    let command = with_subcommand(command, convert_command(alloc))?;
+    with_subcommand(command, explain_command(alloc))
+}
+
+/// The command, whose usage has this name whatever the program's file is called.
+fn called<'a>(command: Command<'a>, name: &str) -> Result<Command<'a>, AllocError>
+    ensures { IfOk result (λ c. app_of c ≡ app_of command.entry) }
+{
+    command.bin_name(name)
+}
+
+/// The command `fleet` under its own name.
+pub(crate) fn named_command<'a>(alloc: Global) -> Result<Command<'a>, AllocError>
+    ensures { IfOk result (λ c. app_of c ≡ fleet_app) }
+{
+    called(fleet_command(alloc)?, "fleet")
 }

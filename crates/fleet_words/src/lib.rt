@@ -5,9 +5,15 @@
 mod arguments;
 mod check;
 mod commands;
+mod convert;
+mod explain;
+mod talk;
 mod view;
 mod words;
 
 pub use check::Check;
+pub use convert::{Convert, Form};
+pub use explain::Explain;
+pub use talk::Talk;
 pub use view::{Shown, View};
 pub use words::{Job, WordFault, parse_words};

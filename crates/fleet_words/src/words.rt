@@ -9,7 +9,10 @@ ghost use Rattle.fleet_words.specs.Asked.{IsJobOf};
 ghost use Rattle.fleet_words.specs.declared.words.WordFault.TheVariants.{NoMemory};
 
 use crate::check::{Check, check_in};
-use crate::commands::fleet_command;
+use crate::commands::named_command;
+use crate::convert::{Convert, convert_in};
+use crate::explain::{Explain, explain_in};
+use crate::talk::{Talk, talk_in};
 use crate::view::{View, view_in};
 use clap::error::ErrorKind;
 use clap::{ArgMatches, Error};
@@ -20,6 +23,9 @@ use std::alloc::{AllocError, Global};
 pub enum Job {
     View(View),
     Check(Check),
+    Talk(Talk),
+    Convert(Convert),
+    Explain(Explain),
 }
 
 /// Why the words name no job.
@@ -51,6 +57,12 @@ fn job_from(alloc: Global, matches: &ArgMatches<'_>) -> Result<Job, AllocError>
                 Ok(Job::View(view_in(alloc, inner)?))
             } else if name == "check" {
                 Ok(Job::Check(check_in(alloc, inner)?))
+            } else if name == "talk" {
+                Ok(Job::Talk(talk_in(alloc, inner)?))
+            } else if name == "convert" {
+                Ok(Job::Convert(convert_in(alloc, inner)?))
+            } else if name == "explain" {
+                Ok(Job::Explain(explain_in(alloc, inner)?))
             } else {
                 // `clap` takes no other word, so this never runs
                 Err(AllocError)
@@ -82,7 +94,7 @@ pub fn parse_words(alloc: Global, words: &[String]) -> Result<Job, WordFault>
     // words that `clap` takes are refused only where memory runs out
     ensures refused { IfErr result (λ f. takes fleet_app (map (λ w. string_bytes w) words.now) ≡ true → f ≡ NoMemory) }
 {
-    let command = fleet_command(alloc)?;
+    let command = named_command(alloc)?;
     match command.try_get_matches_from(words) {
         Ok(matches) => Ok(job_from(alloc, &matches)?),
         Err(error) => Err(fault_from(alloc, &error)),

@@ -11,7 +11,7 @@ use Rattle.fleet_history.specs.History.{clients}
 use Rattle.fleet_history.specs.Legal.{IsLegal, grown}
 use Rattle.fleet_history.specs.Laws.{EachTick}
 use Rattle.fleet_history.proofs.Ticks.{each_tick-tick, each_tick-take, each_tick-shut}
-use Rattle.fleet_plan.specs.Planned.{IsPlanned, IsAdvancingTick}
+use Rattle.fleet_planner.specs.Planned.{IsPlanned, IsAdvancingTick}
 use Rattle.fleet_core.specs.declared.faults.TakeFault.TheVariants as take_fault
 use Rattle.fleet_core.specs.declared.faults.TickFault.TheVariants as tick_fault
 use Rattle.fleet_core.specs.declared.faults.ShutFault.TheVariants as shut_fault

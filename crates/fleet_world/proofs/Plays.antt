@@ -14,7 +14,7 @@ use Rattle.fleet_history.specs.Laws.{orders}
 use Rattle.fleet_history.specs.Rings.{KeepsRing}
 use Rattle.fleet_history.proofs.Rings.{ring-legal}
 use Rattle.fleet_history.proofs.Ticks.{each_tick-start}
-use Rattle.fleet_plan.specs.Planned.{IsPlanned, IsAdvancingTick}
+use Rattle.fleet_planner.specs.Planned.{IsPlanned, IsAdvancingTick}
 use Rattle.fleet_world.specs.declared.reply.Reply.{Reply}
 use Rattle.fleet_core.specs.Core.{World, opening_of, opened_world}
 use Rattle.fleet_core.specs.Hooks.{HookLaws, AreOrderly}

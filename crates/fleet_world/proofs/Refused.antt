@@ -1,7 +1,7 @@
 -- What a run that was refused answers: a lemma apart from all that is known where it is asked.
 use Rattle.std.proofs.Common.{◌≡◌, ℕ, ◌<◌, ◌↔◌, subst}
 use Rattle.std.specs.Prelude.{Result, Ok, Err}
-use Rattle.fleet_calls.specs.declared.faults.OpenFault.{OpenFault}
+use Rattle.fleet_core.specs.declared.faults.OpenFault.{OpenFault}
 use Rattle.fleet_world.specs.declared.faults.RunFault.{RunFault}
 use Rattle.fleet_world.specs.declared.faults.RunFault.TheVariants.{Opening, NoMemory}
 use Rattle.fleet_world.specs.Run.{IsAtEvent}
@@ -18,7 +18,7 @@ fault-at k = (λ s. k.0 cc, λ p. let same = k.1 p in cc)
 pub opening-at : {X Y P : Type 0} {e f : OpenFault} → (◌≡◌ {A = Result X OpenFault} (Err e) (Err f)) ↔ P → (◌≡◌ {A = Result Y RunFault} (Err (Opening e)) (Err (Opening f))) ↔ P
 opening-at k = (λ s. k.0 cc, λ p. let same = k.1 p in cc)
 
--- which is no want of memory at an event
+-- which is not out of memory at an event
 pub opening-no_memory : {X P : Type 0} {e : OpenFault} {i : ℕ} → ◌≡◌ {A = Result X RunFault} (Err (Opening e)) (Err (NoMemory i)) → P
 opening-no_memory s = cc
 

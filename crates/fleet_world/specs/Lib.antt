@@ -1,4 +1,4 @@
-pub use Rattle.fleet_plan.specs.Planned
+pub use Rattle.fleet_planner.specs.Planned
 pub use Rattle.fleet_core.specs.Core
 pub use Rattle.fleet_core.specs.Hooks
 pub mod Run

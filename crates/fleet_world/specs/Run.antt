@@ -130,7 +130,7 @@ Run {A} s (event ∷ events) (reply ∷ replies) t = (mid : State A) × Step s e
 Run s [] (reply ∷ replies) t = ⊥
 Run s (event ∷ events) [] t = ⊥
 
--- memory was refused at one of so many events, counted from 0
+-- memory was refused at one of n events, counted from 0
 abbrev pub IsAtEvent : ℕ → RunFault → Type 0
 IsAtEvent n (run_fault.NoMemory i) = i < n
 IsAtEvent n (run_fault.Opening fault) = ⊥

@@ -1,3 +1,3 @@
 -- What only proofs and private functions use.
-pub mod Leavings
+pub mod Leftovers
 pub mod Session

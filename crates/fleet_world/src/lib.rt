@@ -2,7 +2,7 @@
 #![tactic(auto)]
 
 mod faults;
-mod leavings;
+mod leftovers;
 mod lists;
 mod play;
 mod reply;
@@ -13,8 +13,9 @@ pub use crate::faults::RunFault;
 pub use crate::play::{Played, run};
 pub use crate::reply::Reply;
 pub use fleet_book::{Event, Limits, Notice, Order, Verdict};
-pub use fleet_calls::{OpenFault, World};
-pub use fleet_core::{ChapterFault, Core, Robots, ShutFault, TakeFault, TickFault, TickReport};
+pub use fleet_core::{
+    ChapterFault, Core, OpenFault, RobotHooks, ShutFault, TakeFault, TickFault, TickReport, World,
+};
 pub use fleet_history::{Arrival, Bye, Chapter, ClientState, Entry, Opening, RobotState, Row};
 pub use fleet_hooks::{Hooks, StampLaw};
 pub use fleet_queue::Errand;

@@ -144,7 +144,7 @@ impl<A: Allocator + Copy> ClientLists<A> {
     }
 }
 
-/// The items behind the first ones.
+/// The items after the first ones.
 fn without_front<T: Drop, A: Allocator + Copy>(items: Vec<T, A>, count: usize) -> Vec<T, A>
     requires { count ≤ vec_len items }
     ensures { result.items ≡ drop count items.items }

@@ -7,9 +7,9 @@ ghost use Rattle.fleet_grid.specs.Walk.{IsBridgeless};
 ghost use Rattle.fleet_history.specs.Legal.{IsLegal};
 ghost use Rattle.fleet_history.specs.Numbering.{AreNumbered};
 ghost use Rattle.fleet_history.specs.Laws.{ArrivesInOrder, ArrivalsRise, HasNoConflict, AcceptsNoneClosed, EachTick};
-ghost use Rattle.fleet_plan.specs.Planned.{IsPlanned, IsAdvancingTick};
+ghost use Rattle.fleet_planner.specs.Planned.{IsPlanned, IsAdvancingTick};
 ghost use Rattle.fleet_core.specs.Hooks.{laws_of};
-ghost use Rattle.fleet_calls.specs.Opening.{IsRefused, IsNamed};
+ghost use Rattle.fleet_core.specs.OpeningFaults.{IsRefused, IsNamed};
 ghost use Rattle.fleet_core.specs.Core.{opened_world};
 ghost use Rattle.fleet_world.specs.Run.{Run, opened_state};
 ghost use Rattle.fleet_world.specs.Laws.{KeepsRings, KeepsEachRing, CollectsInOrder, IsSameGround};
@@ -19,7 +19,7 @@ use crate::faults::RunFault;
 use crate::reply::Reply;
 use crate::session::Session;
 use fleet_book::{Event, Limits, Notice, Order};
-use fleet_calls::World;
+use fleet_core::World;
 use fleet_grid::Grid;
 use fleet_hooks::Hooks;
 use std::alloc::{Alloc, Allocator, Global};
@@ -39,7 +39,7 @@ pub struct Played<A: Allocator + Copy = Global> {
 }
 
 /// The pure core over any list of events, from the opening of a world; lanes and outlets are lists, bounded by `lane` and
-/// `outlet`. A refused event changes nothing and is answered in the replies; only want of memory ends the run, at the index
+/// `outlet`. A refused event changes nothing and is answered in the replies; only out of memory ends the run, at the index
 /// of its event. What was sent, taken, given and collected is told by this chapter alone (`rings`), and as in any (`each_ring`).
 /// `end_of` reckons what was sent and taken from the history: the clause `run` ties these to the events. Each call meets the
 /// condition, without which no call may hand closures out to another crate.

@@ -21,7 +21,7 @@ pub enum Reply {
     OutletFull,
     Collected(Notice),
     NothingThere,
-    /// The stamp of the farewell, if the robot took its leave.
+    /// The stamp of the farewell, if the robot said farewell.
     ShutDone(Option<u32>),
     ShutRefused(ShutFault),
     /// There is no such client.

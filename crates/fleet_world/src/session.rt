@@ -4,29 +4,29 @@ ghost use Rattle.std.specs.Prelude.{◌≡◌, ◌<◌, ◌^◌, ◌↔◌, IfOk
 ghost use Rattle.fleet_history.specs.History.{clients as client_count};
 ghost use Rattle.fleet_core.specs.Hooks.{laws_of, AreOrderly};
 ghost use Rattle.fleet_core.specs.Opening.{CanOpen};
-ghost use Rattle.fleet_calls.specs.Opening.{IsRefused, IsNamed};
-ghost use Rattle.fleet_world.specs.inside.Leavings.{HasRoomFor};
+ghost use Rattle.fleet_core.specs.OpeningFaults.{IsRefused, IsNamed};
+ghost use Rattle.fleet_world.specs.inside.Leftovers.{HasRoomFor};
 ghost use Rattle.fleet_world.specs.Run.{lane, outlet, no_lists, state_of, opened_state};
 
-use crate::leavings::Leavings;
+use crate::leftovers::Leftovers;
 use crate::lists::ClientLists;
 use crate::play::Played;
 use crate::reply::Reply;
 use fleet_book::Limits;
-use fleet_calls::{OpenFault, World};
+use fleet_core::{OpenFault, World};
 use fleet_grid::Grid;
 use fleet_hooks::Hooks;
 use std::alloc::{AllocError, Allocator};
 
 /// A world, and by client what it sent, what was taken of that, what it was given and what it collected. Each event is
-/// answered; want of memory leaves everything as it was.
+/// answered; out of memory leaves everything as it was.
 pub(crate) struct Session<A: Allocator + Copy> {
     pub(crate) world: World<A>,
     pub(crate) lists: Vec<ClientLists<A>, A>,
     /// Room for what the clients leave, so that the end of a run takes no memory.
-    leavings: Leavings<A>,
+    leftovers: Leftovers<A>,
     ghost count: { vec_len lists ≡ client_count world.core.history },
-    ghost room: { HasRoomFor leavings (vec_len lists) },
+    ghost room: { HasRoomFor leftovers (vec_len lists) },
 }
 
 impl<A: Allocator + Copy> Session<A> {
@@ -51,10 +51,10 @@ impl<A: Allocator + Copy> Session<A> {
             Err(fault) => return Err(fault),
         };
         match rooms(alloc, clients as usize) {
-            Ok((lists, leavings)) => Ok(Session {
+            Ok((lists, leftovers)) => Ok(Session {
                 world,
                 lists,
-                leavings,
+                leftovers,
             }),
             Err(AllocError) => {
                 let_go(world);
@@ -68,7 +68,7 @@ impl<A: Allocator + Copy> Session<A> {
         let Session {
             world,
             lists: _,
-            leavings: _,
+            leftovers: _,
         } = self;
         let_go(world);
     }
@@ -84,9 +84,9 @@ impl<A: Allocator + Copy> Session<A> {
         let Session {
             world,
             lists,
-            leavings,
+            leftovers,
         } = self;
-        let left = leavings.filled(lists);
+        let left = leftovers.filled(lists);
         Played {
             world,
             lanes: left.lanes,
@@ -106,14 +106,14 @@ fn let_go<A: Allocator + Copy>(world: World<A>) {
 fn rooms<A: Allocator + Copy>(
     alloc: A,
     count: usize,
-) -> Result<(Vec<ClientLists<A>, A>, Leavings<A>), AllocError>
+) -> Result<(Vec<ClientLists<A>, A>, Leftovers<A>), AllocError>
     ensures lists { IfOk result (λ r. r.0.items ≡ replicate count no_lists) }
     ensures len { IfOk result (λ r. vec_len r.0 ≡ count) }
     ensures room { IfOk result (λ r. HasRoomFor r.1 count) }
 {
     let lists = empty_lists(alloc, count)?;
-    let leavings = Leavings::with_room(alloc, count)?;
-    Ok((lists, leavings))
+    let leftovers = Leftovers::with_room(alloc, count)?;
+    Ok((lists, leftovers))
 }
 
 /// Lists of clients that did nothing.

@@ -31,7 +31,7 @@ impl<A: Allocator + Copy> Session<A> {
     }
 
     /// A take: the lane's first order goes into the world.
-    #[tactic(auto, using(fleet_calls::proofs::Fronts::nil_from_none))]
+    #[tactic(auto, using(fleet_core::proofs::Fronts::nil_from_none))]
     pub(crate) fn take(&mut self, client: u32) -> Result<Reply, AllocError>
         ensures step { IfOk result (λ reply. Step (state self.old) (Event.Take client) reply (state self.new)) }
         ensures err { OnErr result (state self.new ≡ state self.old) }
@@ -53,7 +53,7 @@ impl<A: Allocator + Copy> Session<A> {
     }
 
     /// A give: the mailbox's first notice goes to the outlet, unless that is full.
-    #[tactic(auto, using(fleet_calls::proofs::Fronts::nil_from_none))]
+    #[tactic(auto, using(fleet_core::proofs::Fronts::nil_from_none))]
     pub(crate) fn give(&mut self, client: u32) -> Result<Reply, AllocError>
         ensures step { IfOk result (λ reply. Step (state self.old) (Event.Give client) reply (state self.new)) }
         ensures err { OnErr result (state self.new ≡ state self.old) }
@@ -129,7 +129,7 @@ impl<A: Allocator + Copy> Session<A> {
         }
     }
 
-    /// Applies a list of events, one after another. Want of memory ends it at the index of its event.
+    /// Applies a list of events, one after another. Out of memory ends it at the index of its event.
     pub(crate) fn play<R: Alloc<A = A>>(
         &mut self,
         rt: &R,

@@ -1,5 +1,5 @@
-//! What the programs of stored rows find: whether two outcomes are alike, whether cells are a placement, how a wait lies beside
-//! its bound. The programs are large and these are small, so each of them is tried by its edits here.
+//! What the golden programs compare: whether two outcomes are alike, and how a wait compares with its bound. The programs
+//! are large and these are small, so each of them is tried by its edits here.
 #![tactic(auto)]
 
 mod answer;
@@ -7,7 +7,6 @@ mod ending;
 mod finding;
 mod noted;
 mod outcome;
-mod placement;
 mod showing;
 mod wait;
 
@@ -16,6 +15,5 @@ pub use ending::Ending;
 pub use finding::Finding;
 pub use noted::Noted;
 pub use outcome::Outcome;
-pub use placement::is_placement;
 pub use showing::Showing;
 pub use wait::beside_bound;

@@ -3,14 +3,14 @@
 use fleet_map::text::first_line;
 use std::alloc::{AllocError, Global};
 
-/// What a line that begins with a mark says behind it, and the text up to the next such line.
+/// What a line that begins with a mark says after it, and the text up to the next such line.
 #[derive(Clone, Copy)]
 pub(crate) struct Block<'a> {
     pub(crate) name: &'a str,
     pub(crate) text: &'a [u8],
 }
 
-/// The text before the first line that begins so, that line behind its beginning, and the text behind the line.
+/// The text before the first line that begins so, that line after its beginning, and the text after the line.
 pub(crate) fn split_at<'a>(text: &'a [u8], start: &[u8]) -> Option<(&'a [u8], &'a [u8], &'a [u8])> {
     let mut rest = text;
     for _line in 0..text.len() {
@@ -24,7 +24,7 @@ pub(crate) fn split_at<'a>(text: &'a [u8], start: &[u8]) -> Option<(&'a [u8], &'
     None
 }
 
-/// The first block, and the text behind it.
+/// The first block, and the text after it.
 fn next_block<'a>(text: &'a [u8], mark: &[u8]) -> Option<(Block<'a>, &'a [u8])> {
     let (_, name, behind) = split_at(text, mark)?;
     let block = match split_at(behind, mark) {

@@ -1,6 +1,6 @@
 //! What the program answers to many cases.
 //!
-//! Behind a case's name `$ WORD ..` has the program's words and `< NAME` begins a file that they name. The other lines are the
+//! After a case's name `$ WORD ..` has the program's words and `< NAME` begins a file that they name. The other lines are the
 //! file's, or standard input's where no file has begun: `|TEXT` is a line, `:TEXT` one without its line end. What came out is
 //! written alike, with `!` before a line for the error writer, and last `? STATUS`.
 
@@ -14,7 +14,7 @@ use std::alloc::{Alloc, AllocError, Global};
 use std::sync::Wait;
 use std::thread::Threads;
 
-/// Tells what came out of the case that a block tells.
+/// Prints what came out of the case that a block tells.
 fn tell_case<R: Alloc<A = Global> + Threads + Sync + Wait>(
     rt: &R,
     block: Block<'_>,
@@ -24,7 +24,7 @@ fn tell_case<R: Alloc<A = Global> + Threads + Sync + Wait>(
     tell_outcome(rt, &case, told)
 }
 
-/// Tells what came out of each case.
+/// Prints what came out of each case.
 pub(crate) fn tell<R: Alloc<A = Global> + Threads + Sync + Wait>(
     rt: &R,
     text: &[u8],

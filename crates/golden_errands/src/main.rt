@@ -1,5 +1,5 @@
 //! `golden_errands` tells what the program `errands` makes of stored rows, which it reads from standard input. A line `== NAME` begins
-//! a section there, and what is told of the section stands behind the same line:
+//! a section there, and what is told of the section stands after the same line:
 //!
 //! - `== cases`: what the program answers to words, input and files.
 //! - `== steps`: whether `check_step` finds each tick of a row's trace conflict-free.
@@ -27,7 +27,7 @@ use std::process::ExitCode;
 use std::sync::Wait;
 use std::thread::Threads;
 
-/// Tells of a section, by its name.
+/// Prints a section, by its name.
 fn tell<R: Alloc<A = Global> + Threads + Sync + Wait>(
     rt: &R,
     section: Block<'_>,
@@ -44,7 +44,7 @@ fn tell<R: Alloc<A = Global> + Threads + Sync + Wait>(
     }
 }
 
-/// Tells of a section, behind the line that begins it.
+/// Prints a section, after the line that begins it.
 fn tell_section<R: Alloc<A = Global> + Threads + Sync + Wait>(
     rt: &R,
     section: Block<'_>,
@@ -57,7 +57,7 @@ fn tell_section<R: Alloc<A = Global> + Threads + Sync + Wait>(
     tell(rt, section, told, notes)
 }
 
-/// Tells of each section of the text.
+/// Prints each section of the text.
 fn tell_all<R: Alloc<A = Global> + Threads + Sync + Wait>(
     rt: &R,
     text: &[u8],

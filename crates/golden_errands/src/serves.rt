@@ -50,7 +50,7 @@ impl<'a> Inputs for ServeFiles<'a> {
     }
 }
 
-/// What the program comes to by these words and files.
+/// The program's result for these words and files.
 fn outcome_of<R: Alloc<A = Global> + Threads + Sync + Wait>(
     rt: &R,
     words: &str,

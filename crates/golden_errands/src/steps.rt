@@ -29,7 +29,7 @@ fn line_of(alloc: Global, name: &str, found: Option<Finding>) -> Result<String, 
     }
 }
 
-/// Tells of the steps of a row.
+/// Prints the steps of a row.
 fn tell_row<R: Alloc<A = Global> + Threads + Sync + Wait>(
     rt: &R,
     block: Block<'_>,
@@ -40,7 +40,7 @@ fn tell_row<R: Alloc<A = Global> + Threads + Sync + Wait>(
     told.extend_from_slice(line.as_bytes())
 }
 
-/// Tells of the steps of each row.
+/// Prints the steps of each row.
 pub(crate) fn tell<R: Alloc<A = Global> + Threads + Sync + Wait>(
     rt: &R,
     text: &[u8],

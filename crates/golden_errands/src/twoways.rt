@@ -21,7 +21,7 @@ use trial::try_seed;
 /// How many worlds there are.
 const WORLDS: u64 = 300;
 
-/// Tells whether both ways come to one answer on each seed, and notes how often to which.
+/// Whether both ways give one answer on each seed, and notes how often to which.
 pub(crate) fn tell<R: Alloc<A = Global> + Threads + Sync + Wait>(
     rt: &R,
     told: &mut Vec<u8>,

@@ -44,7 +44,7 @@ fn enter_all(fleet: &mut Fleet, entries: &[Entry]) -> Result<(), AllocError> {
     Ok(())
 }
 
-/// The opening behind these entries of a legal chapter.
+/// The opening after these entries of a legal chapter.
 fn opening_behind(
     alloc: Global,
     opening: &Opening,
@@ -55,7 +55,7 @@ fn opening_behind(
     opening_of(alloc, &fleet)
 }
 
-/// The chapter that begins behind so many entries of a legal one.
+/// The chapter that begins after this many entries of a legal one.
 pub fn later_chapter(
     alloc: Global,
     mut chapter: Chapter,

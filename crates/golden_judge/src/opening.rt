@@ -23,7 +23,7 @@ fn is_errand(site: &Site, opening: &Opening, robot: &RobotState, errand: &Errand
         && site.is_joined(robot.cell, errand.cell)
 }
 
-/// Whether each errand has another name than those behind it, and a lower number where the client is the same.
+/// Whether each errand has another name than those after it, and a lower number where the client is the same.
 fn is_rising(errands: &[Errand]) -> bool {
     errands.iter().enumerate().all(|(at, lower)| {
         errands.iter().skip(at.saturating_add(1)).all(|upper| upper.client != lower.client

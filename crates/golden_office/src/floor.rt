@@ -1,11 +1,11 @@
 //! Floors that are drawn by letters.
 
-use fleet_calls::OpenFault;
+use fleet_core::OpenFault;
 use fleet_grid::Grid;
 use fleet_map::MapText;
 use std::alloc::Allocator;
 
-/// The grid of so many rows and columns. Where the letters do not fill it no robot has a place.
+/// The grid of this many rows and columns. Where the letters do not fill it no robot has a place.
 pub(crate) fn grid_of<A: Allocator + Copy>(
     alloc: A,
     sides: (u32, u32),

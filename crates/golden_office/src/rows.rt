@@ -1,5 +1,5 @@
 //! What an office answers to the worked rows, a line for each call: the call, what it answered, and where it may change an
-//! office what there is to see then. Behind them rows in which each growth of a call is refused in turn and the call made
+//! office what there is to see then. After them rows in which each allocation of a call is refused in turn and the call made
 //! again: whether all went on as the row.
 
 mod calls;
@@ -35,7 +35,7 @@ fn tell_row<R: Alloc<A = Global> + Wait>(
     perform(rt, case, Plan::none(meter), told)
 }
 
-/// Tells of all rows.
+/// Prints all rows.
 fn tell_rows<R: Alloc<A = Global> + Wait>(
     rt: &R,
     meter: &Meter<Global>,
@@ -47,7 +47,7 @@ fn tell_rows<R: Alloc<A = Global> + Wait>(
     Ok(())
 }
 
-/// Tells of the rows in which growths are refused.
+/// Prints the rows in which allocations are refused.
 fn tell_refused_rows<R: Alloc<A = Global> + Wait>(
     rt: &R,
     meter: &Meter<Global>,
@@ -59,7 +59,7 @@ fn tell_refused_rows<R: Alloc<A = Global> + Wait>(
     Ok(())
 }
 
-/// What is told of the rows over this heap.
+/// What is printed of the rows over this heap.
 fn tell_over<R: Alloc<A = Global> + Wait>(
     rt: &R,
     meter: &Meter<Global>,
@@ -71,7 +71,7 @@ fn tell_over<R: Alloc<A = Global> + Wait>(
     writeln!(told, "= refused lane_pair\n{finding:?}")
 }
 
-/// What is told of the rows.
+/// What is printed of the rows.
 pub(crate) fn tell<R: Alloc<A = Global> + Wait>(
     rt: &R,
     told: &mut String,

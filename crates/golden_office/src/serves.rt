@@ -1,4 +1,4 @@
-//! Scripts that are served, and what came of them: rows whose gate holds clients' threads where it matters, rows of bounded
+//! Scripts that are served, and their results: rows whose gate holds clients' threads where it matters, rows of bounded
 //! waits, and a thousand scripts from seeds. A line for each row and one for the thousand, the same ones in each run.
 
 mod came;
@@ -15,7 +15,7 @@ use std::alloc::{Alloc, AllocError, Global};
 use std::sync::Wait;
 use std::thread::Threads;
 
-/// What is told of the serves.
+/// What is printed of the serves.
 pub(crate) fn tell<R: Alloc<A = Global> + Threads + Sync + Wait>(
     rt: &R,
     told: &mut String,

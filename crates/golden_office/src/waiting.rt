@@ -6,7 +6,7 @@ use std::thread;
 /// How often a thread looks for a flag at most.
 const MOST_TRIES: u64 = 200_000_000;
 
-/// Waits until the flag is at least so much. Says whether it is.
+/// Waits until the flag is at least that much. Says whether it is.
 pub(crate) fn wait_for(flag: &AtomicU64, least: u64) -> bool {
     for _ in 0..MOST_TRIES {
         if flag.load(Ordering::SeqCst) >= least {

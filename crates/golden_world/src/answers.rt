@@ -1,4 +1,4 @@
-//! Worked rows through the calls of `World`, one by one: what each call answers, and what the world shows behind it.
+//! Worked rows through the calls of `World`, one by one: what each call answers, and what the world shows after it.
 
 mod busy;
 mod play;

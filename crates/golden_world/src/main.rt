@@ -1,5 +1,5 @@
-//! `golden_world` plays rows through worlds and writes down what comes of it, in three parts: what each call of `World` answers
-//! and what the world shows behind it, what a run shows its closures, and what each call answers where memory is refused.
+//! `golden_world` plays rows through worlds and prints the results, in three parts: what each call of `World` answers
+//! and what the world shows after it, what a run shows its closures, and what each call answers where memory is refused.
 #![tactic(auto)]
 
 mod answers;

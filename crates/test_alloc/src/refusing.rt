@@ -3,14 +3,14 @@
 use std::alloc::{AllocError, Allocator};
 use std::sync::atomic::{AtomicU64, Ordering};
 
-/// Passes each call on to `inner`, but for the one allocation that comes after so many others.
+/// Passes each call on to `inner`, but for the one allocation that comes after this many others.
 pub struct Refusing<B: Allocator> {
     inner: B,
     left: AtomicU64,
 }
 
 impl<B: Allocator> Refusing<B> {
-    /// Refuses the allocation that comes after `before` others, and none behind it.
+    /// Refuses the allocation that comes after `before` others, and none after it.
     pub fn after(inner: B, before: u64) -> Refusing<B> {
         Refusing {
             inner,

@@ -1,4 +1,4 @@
-//! The worked maps, small maps beside a plain search, large maps, and each growth refused in turn.
+//! The worked maps, small maps compared with a plain search, large maps, and each allocation refused in turn.
 
 use crate::floor::grid_of;
 use crate::squares::{Shape, letters};
@@ -128,7 +128,7 @@ fn large_maps(rt: HostRuntime) {
     }
 }
 
-/// A ring of 76 cells, and beside cell 200 the cell 201, to which no other way leads.
+/// A ring of 76 cells, and next to cell 200 the cell 201, to which no other way leads.
 fn ring_with_tail(rt: &impl Abort, alloc: Global) -> Grid {
     let mut cells = letters(alloc, 20, Shape::Border).expect(rt, "memory for a map");
     assert!(rt; cells.len() > 201);
@@ -142,7 +142,7 @@ fn bridge_behind_a_long_ring(rt: HostRuntime) {
     assert!(rt; first_in(&rt, rt.alloc(), &grid) == Some((200, 201)));
 }
 
-/// Whether a growth is refused. The next call over the same memory finds the first bridge then.
+/// Whether an allocation is refused. The next call over the same memory finds the first bridge then.
 fn is_refused(
     rt: &impl Abort,
     heap: impl Allocator + Copy,
@@ -154,7 +154,7 @@ fn is_refused(
     met
 }
 
-/// Refuses each growth in turn, until none is refused.
+/// Refuses each allocation in turn, until none is refused.
 fn refuse_growths(rt: &impl Abort, alloc: Global, grid: &Grid, first: (u32, u32)) {
     let mut refused = 0;
     for before in 0..64 {

@@ -1,12 +1,11 @@
-//! The worked steps, a whole fleet, and each growth refused in turn.
+//! The worked steps, a whole fleet, and each allocation refused in turn.
 
 ghost use Rattle.fleet_grid.specs.Step.{IsPlacement};
 
 use crate::floor::grid_of;
 use crate::squares::{Shape, letters};
 use fleet_check::{StepFault, check_step};
-use fleet_grid::Grid;
-use golden_compare::is_placement;
+use fleet_grid::{Grid, is_placement};
 use std::alloc::{Allocator, Global};
 use std::process::Abort;
 use test_alloc::Refusing;
@@ -103,7 +102,7 @@ fn whole_fleet(rt: HostRuntime) {
     move_fleet(&rt, rt.alloc(), &grid, &from);
 }
 
-/// Whether a growth is refused while a step is checked. A second check of it meets no refusal then.
+/// Whether an allocation is refused while a step is checked. A second check of it meets no refusal then.
 fn is_refused(rt: &impl Abort, heap: impl Allocator + Copy, grid: &Grid, from: &[u32]) -> bool
     requires { IsPlacement grid.now from.now }
 {
@@ -135,7 +134,7 @@ fn refused_growths(rt: HostRuntime) {
     name_without_memory(&rt, &Refusing::after(rt.alloc(), 0), &grid, &from);
 }
 
-/// Whether a growth is refused while the step is checked. It is conflict-free.
+/// Whether an allocation is refused while the step is checked. It is conflict-free.
 fn is_want_of_memory(
     rt: &impl Abort,
     heap: impl Allocator + Copy,
@@ -154,7 +153,7 @@ fn is_want_of_memory(
     }
 }
 
-/// How many growths are refused in turn before one check of the step meets no refusal; 16 at most.
+/// How many allocations are refused in turn before one check of the step meets no refusal; 16 at most.
 fn count_refused(rt: &impl Abort, alloc: Global, grid: &Grid, from: &[u32], to: &[u32]) -> u64
     requires { IsPlacement grid.now from.now }
 {
@@ -167,7 +166,7 @@ fn count_refused(rt: &impl Abort, alloc: Global, grid: &Grid, from: &[u32], to: 
     refused
 }
 
-/// How many growths are refused in turn while the first 24 robots move a row to the south.
+/// How many allocations are refused in turn while the first 24 robots move a row to the south.
 fn count_refused_south(rt: &impl Abort, alloc: Global, grid: &Grid) -> u64 {
     let from = cells_between(rt, alloc, 0, 24);
     let south = cells_between(rt, alloc, 32, 56);
@@ -175,7 +174,7 @@ fn count_refused_south(rt: &impl Abort, alloc: Global, grid: &Grid) -> u64 {
     count_refused(rt, alloc, grid, &from, &south)
 }
 
-/// A step of 24 robots: the table of seats grows more than once, and each growth is refused in turn.
+/// A step of 24 robots: the table of seats grows more than once, and each allocation is refused in turn.
 #[test]
 fn refused_growths_of_a_fleet(rt: HostRuntime) {
     let grid = hall(&rt, rt.alloc());

@@ -1,4 +1,4 @@
-//! The worked map, shared fields, many goals, a large map, and each growth refused in turn.
+//! The worked map, shared fields, many goals, a large map, and each allocation refused in turn.
 
 mod kept;
 mod large;
@@ -266,7 +266,7 @@ fn search_together(rt: &(impl Abort + Threads + Sync), alloc: Global, grid: &Gri
     check_singles(rt, alloc, grid, goals, &several);
 }
 
-/// Each field beside the one that a single call makes.
+/// Each field compared with the one that a single call makes.
 #[test]
 fn many_goals(rt: HostRuntime) {
     let grid = ring(&rt, rt.alloc());

@@ -1,17 +1,17 @@
-//! Goals given and turned, robots that share a goal, and each growth refused in turn.
+//! Goals given and turned, robots that share a goal, and each allocation refused in turn.
 
 mod allowed;
 
 ghost use Rattle.std.specs.Prelude.{◌≡◌, ◌<◌, length};
 ghost use Rattle.fleet_field.specs.Store.{Keeps};
-ghost use Rattle.fleet_goals.specs.Aims.{AreOn};
+ghost use Rattle.fleet_planner.specs.Aims.{AreOn};
 
 use crate::floor::grid_of;
 use allowed::are_allowed;
 use fleet_field::Shelf;
-use fleet_goals::{Aims, Turn};
 use fleet_grid::Grid;
 use fleet_pibt::Goals;
+use fleet_planner::{Aims, GoalChange};
 use std::alloc::{AllocError, Allocator, Global};
 use std::process::Abort;
 use test_alloc::Refusing;
@@ -22,13 +22,13 @@ fn ring(rt: &impl Abort, alloc: Global) -> Grid {
 }
 
 /// A turn of each of two robots.
-fn both(first: Option<u32>, second: Option<u32>) -> [Turn; 2] {
+fn both(first: Option<u32>, second: Option<u32>) -> [GoalChange; 2] {
     [
-        Turn {
+        GoalChange {
             robot: 0,
             goal: first,
         },
-        Turn {
+        GoalChange {
             robot: 1,
             goal: second,
         },
@@ -61,7 +61,7 @@ fn turn_both<A: Allocator + Copy>(
     aims: &mut Aims<A>,
     shelf: &mut Shelf<A>,
     grid: &Grid,
-    turns: &[Turn; 2],
+    turns: &[GoalChange; 2],
 ) -> Result<(), AllocError>
     requires robots { length aims.old ≡ 2 }
     requires on { AreOn grid.now aims.old }
@@ -134,12 +134,12 @@ fn aimed_and_turned(rt: HostRuntime) {
     aim_and_turn_over(&rt, rt.alloc(), &grid);
 }
 
-/// What robot 0 aims at behind a turn to cell 1, which may be refused.
+/// What robot 0 aims at after a turn to cell 1, which may be refused.
 fn goal_after(refused: bool) -> u32 {
     if refused { 8 } else { 1 }
 }
 
-/// Whether a growth is refused while robots are given goals and turned to others. What is refused changes nothing.
+/// Whether an allocation is refused while robots are given goals and turned to others. What is refused changes nothing.
 fn is_turn_refused<A: Allocator + Copy>(
     rt: &impl Abort,
     aims: &mut Aims<A>,
@@ -181,7 +181,7 @@ fn refused_growths(rt: HostRuntime) {
     assert!(rt; 0 < refused && refused < 32);
 }
 
-/// Turns a robot to the goal that it has, and to none. Where no growth was left behind the goal's own, one here would be
+/// Turns a robot to the goal that it has, and to none. Where no allocation was left after the goal's own, one here would be
 /// refused. Whether the goal was found.
 fn turn_without_memory<A: Allocator + Copy>(
     rt: &impl Abort,
@@ -219,6 +219,6 @@ fn turned_without_memory(rt: HostRuntime) {
             turned = before;
         }
     }
-    // Of the last one no growth of the first goal was refused.
+    // Of the last one no allocation of the first goal was refused.
     assert!(rt; turned == 31);
 }

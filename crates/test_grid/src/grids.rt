@@ -1,4 +1,4 @@
-//! Maps of known counts and parts, and a refused growth.
+//! Maps of known counts and parts, and a refused allocation.
 
 use crate::floor::{grid_of, grid_of_text};
 use crate::squares::{Shape, letters};
@@ -22,7 +22,7 @@ fn are_joined(grid: &Grid, a: u32, b: u32) -> Option<bool> {
     }
 }
 
-/// The height, the width and the counts of a map that is read; none where it is no map, or a growth is refused.
+/// The height, the width and the counts of a map that is read; none where it is no map, or an allocation is refused.
 fn sides_and_counts<A: Allocator + Copy>(heap: A, text: &[u8]) -> Option<(u32, u32, [u32; 3])> {
     // The first allocation is the map's own.
     let map = read_map(heap, text).ok()?;
@@ -120,7 +120,7 @@ fn padded_form(rt: HostRuntime) {
 
 #[test]
 fn ways_from_each_cell(rt: HostRuntime) {
-    // North is 1, east 2, south 4 and west 8. The wall is beside the first cell, and the last row is open.
+    // North is 1, east 2, south 4 and west 8. The wall is next to the first cell, and the last row is open.
     let grid = grid_of(&rt, rt.alloc(), 2, 3, b".@....");
     assert!(rt; grid.ways() == [4, 0, 4, 3, 10, 9].as_slice());
 }
@@ -188,7 +188,7 @@ fn large_maps(rt: HostRuntime) {
     }
 }
 
-/// Whether a growth is refused. A map of a row of three cells is counted else.
+/// Whether an allocation is refused. A map of a row of three cells is counted else.
 fn is_refused(rt: &impl Abort, heap: impl Allocator + Copy) -> bool {
     match sides_and_counts(heap, b"type octile\nheight 1\nwidth 3\nmap\n...\n") {
         Some(told) => {

@@ -1,6 +1,6 @@
 //! Happy paths. The step of a tick is run by the world's tests.
 
-use fleet_plan::eldest;
+use fleet_planner::eldest;
 
 #[test]
 fn longest_wait_is_eldest(rt: HostRuntime) {

@@ -29,7 +29,7 @@ fn is_floor(shape: Shape, last: u32, row: u32, col: u32) -> bool {
     }
 }
 
-/// The letters of a map with so many cells a side.
+/// The letters of a map with this many cells a side.
 pub(crate) fn letters(alloc: Global, side: u32, shape: Shape) -> Result<Vec<u8>, AllocError> {
     let last = side.saturating_sub(1);
     let mut cells = Vec::new(alloc);

@@ -1,4 +1,4 @@
-//! Worked orders, the smallest steps, how often a tie closure is asked, and each growth refused in turn. Whole runs are
+//! Worked orders, the smallest steps, how often a tie closure is asked, and each allocation refused in turn. Whole runs are
 //! tested above, over proved distances.
 
 ghost use Rattle.std.specs.Prelude.{◌≡◌, ℕ, Option, Some, None, cond, ◌==◌, ◌<◌, [], ◌∷◌, length};
@@ -134,14 +134,14 @@ fn are_made(heap: impl Allocator + Copy) -> bool {
     Stepper::new(heap, 9, 2).is_ok()
 }
 
-/// Whether a growth is refused while the tables are made. They are made again then.
+/// Whether an allocation is refused while the tables are made. They are made again then.
 fn is_refused(rt: &impl Abort, heap: impl Allocator + Copy) -> bool {
     let met = !are_made(heap);
     assert!(rt; !met || are_made(heap));
     met
 }
 
-/// Each growth is refused in turn, until the tables are made without a refusal.
+/// Each allocation is refused in turn, until the tables are made without a refusal.
 #[test]
 fn refused_growths(rt: HostRuntime) {
     let mut refused = 0;

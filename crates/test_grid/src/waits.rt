@@ -5,7 +5,7 @@ use fleet_queue::{Errand, ErrandQueue};
 use std::alloc::Global;
 use std::process::Abort;
 
-/// A queue of so many errands.
+/// A queue of this many errands.
 fn queue_of(rt: &impl Abort, alloc: Global, count: u64) -> ErrandQueue {
     let mut queue = ErrandQueue::new(alloc, 4).expect(rt, "memory for a queue");
     for number in 0..count {

@@ -73,7 +73,7 @@ fn make_calls(rt: &impl Abort, client: &mut Client, hall: &mut HallEnd, calls: &
     }
 }
 
-/// The calls on the ends of two rings with so many slots.
+/// The calls on the ends of two rings with this many slots.
 fn check_lane(rt: &impl Abort, alloc: Global, limits: Limits, calls: &[Call])
     requires { AreValid limits }
 {
@@ -98,7 +98,7 @@ const TWO_ORDERS: [Call; 3] = [
     Call::Close(Ok(2)),
 ];
 
-/// Nothing goes behind a close. A full lane leaves the client open.
+/// Nothing goes after a close. A full lane leaves the client open.
 const CLOSED: [Call; 11] = [
     Call::Post(GO, Ok(1)),
     Call::Close(Err(PostFault::LaneFull(Order::Close))),
@@ -206,7 +206,7 @@ fn a_thousand_rounds(rt: HostRuntime) {
     }
 }
 
-/// What the ends know of each other, once they were beside each other, is taken and collected.
+/// What the ends know of each other, once they were next to each other, is taken and collected.
 fn take_what_is_known(rt: &impl Abort, client: &mut Client, hall: &mut HallEnd) {
     assert!(rt; hall.known() == 2 && client.known() == 1);
     assert!(rt; hall.peek_known() == GO && hall.take_known() == GO);
@@ -231,7 +231,7 @@ const ROUNDS: u64 = 2_000;
 
 const TRIES: u32 = 200_000_000;
 
-/// Sends so many orders and collects as many notices, and answers whether the notices came in their order.
+/// Sends this many orders and collects as many notices, and answers whether the notices came in their order.
 fn send_all(client: &mut Client) -> bool {
     let mut seen = 0;
     for _ in 0..TRIES {
@@ -250,7 +250,7 @@ fn send_all(client: &mut Client) -> bool {
     seen >= ROUNDS
 }
 
-/// Takes so many orders and gives a notice for each.
+/// Takes this many orders and gives a notice for each.
 fn serve_all(hall: &mut HallEnd) -> bool {
     let (mut given, mut taken) = (0, 0);
     for _ in 0..TRIES {

@@ -1,4 +1,4 @@
-//! The worked maps, the corners of the grammar, and each growth refused in turn.
+//! The worked maps, the corners of the grammar, and each allocation refused in turn.
 
 use fleet_map::text::{first_line, first_word, is_blank_byte, number_up_to, trimmed_line};
 use fleet_map::{MOST_SIDE, MapFault, read_map};
@@ -15,7 +15,7 @@ const MAPS: [(&[u8], u32, u32, &[u8]); 3] = [
         2,
         b".G",
     ),
-    // Behind the rows a single carriage return is one blank line.
+    // After the rows a single carriage return is one blank line.
     (b"type octile\nheight 1\nwidth 1\nmap\n.\r\n\r", 1, 1, b"."),
     // Tabs and leading zeros.
     (
@@ -95,7 +95,7 @@ const FAULTS: [(&[u8], MapFault); 18] = [
         b"type octile\nheight 2\nwidth 2\nmap\n..\n...\n",
         MapFault::Row(1),
     ),
-    // bad_cell_and_trailing: a letter that is none of the seven, and a line behind the rows.
+    // bad_cell_and_trailing: a letter that is none of the seven, and a line after the rows.
     (
         b"type octile\nheight 1\nwidth 2\nmap\n.x\n",
         MapFault::Cell(0, 1),
@@ -145,7 +145,7 @@ fn fault_of_front(kept: usize) -> Option<MapFault> {
     }
 }
 
-/// Whether a front of the whole map has its fault, or is a map.
+/// Whether a prefix of the whole map has its fault, or is a map.
 fn is_read_as_front(alloc: Global, front: &[u8]) -> bool {
     match fault_of_front(front.len()) {
         Some(fault) => is_faulty(alloc, front, fault),
@@ -161,7 +161,7 @@ fn truncated_map(rt: HostRuntime) {
     }
 }
 
-/// Writes a map of so many rows of so many cells.
+/// Writes a map of this many rows of this many cells.
 fn write_floor(text: &mut String, height: u64, width: u64) -> Result<(), AllocError> {
     write!(text, "type octile\nheight {height}\nwidth {width}\nmap\n")?;
     for _ in 0..height {
@@ -222,14 +222,14 @@ fn numbers_and_blanks(rt: HostRuntime) {
     assert!(rt; is_blank_byte(b'\t') && !is_blank_byte(b'\r'));
 }
 
-/// Whether a read meets a refused growth. The next read over the same memory gives the map then.
+/// Whether a read meets a refused allocation. The next read over the same memory gives the map then.
 fn is_refused(rt: &impl Abort, heap: impl Allocator + Copy) -> bool {
     let met = is_faulty(heap, WHOLE, MapFault::NoMemory);
     assert!(rt; !met || is_read_as(heap, WHOLE, 1, 3, b"..."));
     met
 }
 
-/// Each of the first growths is refused in turn.
+/// Each of the first allocations is refused in turn.
 #[test]
 fn refused_growths(rt: HostRuntime) {
     let mut refused = 0;

@@ -1,7 +1,7 @@
 //! Scripts, bundles and their faults.
 
 use fleet_book::{Event, Order};
-use fleet_script::{Script, ScriptFault, read_script, split_bundle};
+use fleet_script::{EventLine, Repeat, Script, ScriptFault, event_line, read_script, split_bundle};
 use std::alloc::Global;
 use std::process::Abort;
 
@@ -29,6 +29,32 @@ fn script_of_closing_lines(rt: HostRuntime) {
     assert!(rt; script.events.len() == 2);
     assert!(rt; script.events[0] == Event::Post(1, Order::Close));
     assert!(rt; script.events[1] == Event::Shut(3));
+}
+
+/// Lines as a conversation reads them, one by one: what may follow a head, and what may not.
+#[test]
+fn lines_one_by_one(rt: HostRuntime) {
+    let ticks = Repeat {
+        event: Event::Tick,
+        times: 3,
+    };
+    let post = Repeat {
+        event: Event::Post(1, Order::Go { robot: 0, cell: 7 }),
+        times: 1,
+    };
+    assert!(rt; event_line(b"tick 3") == EventLine::Events(ticks));
+    assert!(rt; event_line(b"post 1 go 0 7") == EventLine::Events(post));
+    assert!(rt; event_line(b" \t") == EventLine::Nothing);
+    assert!(rt; event_line(b"# tick") == EventLine::Nothing);
+    assert!(rt; event_line(b"tick 0") == EventLine::Other);
+    assert!(rt; event_line(b"robots 0") == EventLine::Other);
+}
+
+/// The faults of scripts and lanes as a program prints them.
+#[test]
+fn faults_in_words(rt: HostRuntime) {
+    let fault = format!(in rt.alloc(); "{}", ScriptFault::Line(3)).expect(&rt, "memory");
+    assert!(rt; fault.as_str() == "line 3 may not stand where it does");
 }
 
 /// The line at which a script is refused.

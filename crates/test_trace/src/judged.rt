@@ -25,7 +25,7 @@ const SECOND_CHAPTER: &str =
 const WITHDRAWALS: &str =
     "{\"chapter\":0,\"entries\":[[\"take\",0,[\"go\",0,1],[\"accepted\",1]],[\"take\",0,[\"go\",0,2],[\"accepted\",2]],[\"take\",0,[\"withdraw\",2],[\"withdrawn\"]],[\"take\",0,[\"withdraw\",1],[\"refused\",10]],[\"take\",0,[\"withdraw\",3],[\"refused\",9]],[\"tick\",[1],[[0,0,1,0]],[]],[\"tick\",[1],[],[]],[\"take\",0,[\"withdraw\",2],[\"refused\",9]],[\"take\",0,[\"close\"],[\"closed\"]],[\"take\",0,[\"withdraw\",1],[\"refused\",1]]],\"opening\":{\"clients\":[[0,0,0,false]],\"life\":1000000,\"queue\":16,\"robots\":[[0,false,null,[],[0,0],[0,0]]],\"tick\":0},\"version\":2}";
 
-/// A shut robot takes its leave with its last arrival.
+/// A shut robot says farewell with its last arrival.
 const SHUT: &str =
     "{\"chapter\":0,\"entries\":[[\"take\",0,[\"go\",0,1],[\"accepted\",1]],[\"shut\",0],[\"take\",0,[\"go\",0,0],[\"refused\",3]],[\"tick\",[1],[[0,0,1,7]],[[0,4294967295]]]],\"opening\":{\"clients\":[[0,0,0,false]],\"life\":1000000,\"queue\":16,\"robots\":[[0,false,null,[],[0,999],[0,4294967295]]],\"tick\":0},\"version\":2}";
 

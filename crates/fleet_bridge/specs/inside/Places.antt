@@ -1,4 +1,4 @@
--- A map's padded form beside its cells: what lies at a place, and which edges squares of floor clear.
+-- A map's padded form and its cells: what lies at a place, and which edges squares of floor clear.
 use Rattle.std.specs.Prelude.{◌≡◌, ℕ, ◌+◌, ◌-◌, ◌<◌, ◌≤◌, List, length}
 use Rattle.fleet_grid.specs.Floor.{Floor, HasForm, IsFloor, IsNeighbourIn}
 use Rattle.fleet_grid.specs.declared.dir.Dir.{Dir}
@@ -46,7 +46,7 @@ pub record IsSquare (list : List ℕ) (stride v : ℕ) : Type 0 where
   pub south : IsOpen list (v + stride)
   pub last : IsOpen list (v + stride + 1)
 
--- the places around it, and a row and one more behind it, are in the list
+-- the places around it, and a row and one more after it, are in the list
 pub record IsInside (list : List ℕ) (stride v : ℕ) : Type 0 where
   pub row : stride ≤ v
   pub before : 1 ≤ v

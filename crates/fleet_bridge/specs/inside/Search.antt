@@ -24,7 +24,7 @@ pub record IsLater (seen : List Bool) (queue : List ℕ) (seen' : List Bool) (qu
   pub grows : length queue ≤ length queue'
   pub same : (i : ℕ) → i < length queue → slice_index queue' i ≡ slice_index queue i
 
--- the marked cells are those that a walk from `a` comes to
+-- the marked cells are those that a walk from `a` reaches
 pub record IsReach (R : ℕ → ℕ → Type 0) (a : ℕ) (seen : List Bool) : Type 0 where
   pub start : IsMarked seen a
   pub closed : (c d : ℕ) → R c d → IsMarked seen c → IsMarked seen d

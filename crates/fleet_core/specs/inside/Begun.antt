@@ -1,29 +1,18 @@
 -- What a world begins with, part by part.
-use Rattle.std.specs.Prelude.{ℕ, ◌≡◌, ◌≤◌, ◌↔◌, IsTrue, [], List, None, length, replicate}
-use Rattle.fleet_grid.specs.Floor.{Floor, IsNeighbour}
-use Rattle.fleet_grid.specs.Walk.{IsBridgeless}
-use Rattle.fleet_field.specs.Store.{Keeps}
-use Rattle.fleet_goals.specs.Aims.{AreOn}
+use Rattle.std.specs.Prelude.{ℕ, ◌≡◌, ◌≤◌, [], List, replicate}
+use Rattle.fleet_grid.specs.Floor.{Floor}
 use Rattle.fleet_book.specs.declared.limits.Limits.{Limits}
 use Rattle.fleet_history.specs.declared.history.Opening.{Opening}
 use Rattle.fleet_history.specs.History.{start}
 use Rattle.fleet_history.specs.Legal.{IsInOrder}
 use Rattle.fleet_state.specs.State.{State, IsStateOf, HasFullRooms}
-use Rattle.fleet_core.specs.Aimed.{Planner}
+use Rattle.fleet_planner.specs.Aimed.{Planner, IsNewPlanner}
 use Rattle.fleet_core.specs.Core.{opening_of}
 use Rattle.fleet_core.specs.Hooks.{HookLaws, AreOrderly}
 use Rattle.fleet_core.specs.Kept.{IsKept}
 use Rattle.fleet_core.specs.Mailboxes.{Mailboxes}
 
--- a planner of so many robots that have no goals
-pub record IsNewPlanner (m : Floor) (robots : ℕ) (p : Planner) : Type 0 where
-  pub none : p.aims ≡ replicate robots None
-  pub on : AreOn m p.aims
-  pub size : p.size ≡ record { cells = length m.letters; robots = robots }
-  pub bridge : IsTrue p.bridgeless ↔ IsBridgeless (IsNeighbour m)
-  pub keeps : Keeps m p.kept
-
--- beside so many empty mailboxes, each with this room
+-- with this many empty mailboxes, each with this room
 pub record AreMeans (m : Floor) (robots clients room : ℕ) (p : Planner) (x : Mailboxes) : Type 0 where
   pub planner : IsNewPlanner m robots p
   pub mailboxes : x ≡ record { boxes = replicate clients (record { notices = []; limit = room }); noticed = replicate clients 0 }

@@ -3,16 +3,16 @@ use Rattle.std.specs.Prelude.{ℕ, ◌≡◌, ◌<◌, List, Option, map, vec_le
 use Rattle.fleet_grid.specs.Floor.{Floor}
 use Rattle.fleet_grid.specs.Step.{IsConflictFree}
 use Rattle.fleet_field.specs.Store.{Keeps}
-use Rattle.fleet_goals.specs.Aims.{goals_of, AreOn}
+use Rattle.fleet_planner.specs.Aims.{goals_of, AreOn}
 use Rattle.fleet_hooks.specs.declared.law.TieLaw.{TieLaw}
 use Rattle.fleet_history.specs.declared.history.Arrival.{Arrival}
 use Rattle.fleet_history.specs.declared.history.Bye.{Bye}
 use Rattle.fleet_history.specs.declared.history.Entry.TheVariants as entry
 use Rattle.fleet_history.specs.History.{after}
 use Rattle.fleet_history.specs.Legal.{due_of, due, leaving}
-use Rattle.fleet_plan.specs.Planned.{IsPlannedBy}
+use Rattle.fleet_planner.specs.Planned.{IsPlannedBy}
 use Rattle.fleet_state.specs.State.{State, Of}
-use Rattle.fleet_core.specs.Aimed.{Planner, goals_ticked}
+use Rattle.fleet_planner.specs.Aimed.{Planner, goals_ticked}
 
 -- where the robots go by these laws and goals, whom that lets arrive, and who leaves with whatever stamps
 pub record IsStep {A : Type 0} (m : Floor) (laws : List TieLaw) (s : State A) (goals : List (Option ℕ)) (to : List ℕ) (come : List Arrival) (gone : List Bye) : Type 0 where
@@ -28,7 +28,7 @@ pub record IsOnSame (m : Floor) (p q : Planner) : Type 0 where
   pub bridge : q.bridgeless ≡ p.bridgeless
   pub keeps : Keeps m q.kept
 
--- the robots aim at the goals that they have behind a tick to these cells, and one entry more has room
+-- the robots aim at the goals that they have after a tick to these cells, and one entry more has room
 pub record IsReady {A X B : Type 0} (s : State A) (to : List ℕ) (q : Planner) (entries : Vec X B) : Type 0 where
   pub goals : goals_of q.aims ≡ goals_ticked s.queues to
   pub room : vec_len entries < vec_capacity entries

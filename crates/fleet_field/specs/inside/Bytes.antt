@@ -1,5 +1,5 @@
 -- The search over bytes: the high half of a place's byte has the ways to open places, the low half those that lead nearer to the goal.
--- It is told beside the search over distances, which no program holds.
+-- It stands next to the search over distances, which no program holds.
 use Rattle.std.specs.Prelude.{◌≡◌, ◌≢◌, ℕ, ◌+◌, ◌-◌, ◌*◌, ◌/◌, ◌%◌, ◌<◌, ◌≤◌, ◌⊎◌, ◌↔◌, List, [], ◌∷◌, ◌++◌, length, slice_index, slice_set}
 use Rattle.std.specs.Int.{bit_at}
 use Rattle.std.specs.Int.Bits.{bit_and, bit_or}
@@ -18,7 +18,7 @@ low byte = bit_and byte 15
 abbrev pub high : ℕ → ℕ
 high ways = ways * 16 % 256
 
--- the place beside another
+-- the place next to another
 abbrev pub toward : ℕ → Dir → ℕ → ℕ
 toward stride North v = v - stride
 toward stride East v = v + 1
@@ -112,7 +112,7 @@ abbrev pub IsAround : List ℕ → List ℕ → ℕ → ℕ → List ℕ → Lis
 IsAround ways front stride at news next = (shade : ℕ → ℕ) (level : ℕ) (dist : List ℕ) → level + 1 < 4294967294 → slice_index dist at ≡ level → Search dist stride level (level + 1) front → Marks shade stride level dist ways
     → (new : List ℕ) × Goes shade stride level dist front ways new next news × ((dir : Dir) → IsLeft stride level at new news dir)
 
--- so many places of the front were left
+-- this many places of the front were left
 pub record Leaves (shade : ℕ → ℕ) (stride level : ℕ) (dist now : List ℕ) (count : ℕ) (new next news : List ℕ) : Type 0 where
   pub extends : Extends stride level dist [] new next
   pub marks : Marks shade stride level new news
@@ -147,7 +147,7 @@ pub record IsSearched (blank : List ℕ) (stride goal : ℕ) (ways : List ℕ) :
   pub len : length ways ≡ length blank
   pub each : (v : ℕ) → v < length dist → AreWaysAt dist stride v (low (slice_index ways v))
 
--- what becomes of so many bytes from one on stands in the list from an entry on, and what stood before it is left
+-- what becomes of this many bytes from one on stands in the list from an entry on, and what stood before it is left
 pub record HasRow (half : ℕ → ℕ) (bytes : List ℕ) (start first count : ℕ) (before after : List ℕ) : Type 0 where
   pub len : length after ≡ length before
   pub kept : (cell : ℕ) → cell < first → slice_index after cell ≡ slice_index before cell

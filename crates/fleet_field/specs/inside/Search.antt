@@ -4,11 +4,11 @@ use Rattle.std.specs.Prelude.{◌≡◌, ◌≢◌, ℕ, ◌+◌, ◌<◌, ◌�
 use Rattle.std.specs.List.{sum_by, Contains}
 use Rattle.fleet_grid.specs.Padded.{IsOpen}
 
--- b lies beside a: above it, behind it, below it or before it
+-- b is next to a: above it, to its right, below it or to its left
 abbrev pub IsBeside : ℕ → ℕ → ℕ → Type 0
 IsBeside stride a b = ((a ≡ b + stride) ⊎ (b ≡ a + 1)) ⊎ ((b ≡ a + stride) ⊎ (a ≡ b + 1))
 
--- two open places, one beside the other
+-- two open places, one next to the other
 pub record IsLink (dist : List ℕ) (stride a b : ℕ) : Type 0 where
   pub from : IsOpen dist a
   pub to : IsOpen dist b
@@ -35,10 +35,10 @@ IsVisit old front cell level new next =
 -- in all directions.
 pub record Search (dist : List ℕ) (stride closed level : ℕ) (front : List ℕ) : Type 0 where
   pub walled : IsWalled dist stride
-  -- a place of a level above 0 is beside one of the level below
+  -- a place of a level above 0 is next to one of the level below
   pub back : (v d : ℕ) → IsOpen dist v → slice_index dist v ≢ 4294967295 → slice_index dist v ≡ d + 1 → (u : ℕ) × IsLink dist stride v u × (slice_index dist u ≡ d)
   pub low : (v : ℕ) → IsOpen dist v → slice_index dist v ≢ 4294967295 → slice_index dist v ≤ level
-  -- what lies beside a place that was left is at most one level above it
+  -- what is next to a place that was left is at most one level above it
   pub onward : (u v : ℕ) → IsLink dist stride u v → slice_index dist u < closed → slice_index dist v ≤ slice_index dist u + 1
   pub queued : (v : ℕ) → v < length dist → slice_index dist v ≡ level → Contains front v
   pub is_level : (v : ℕ) → Contains front v → (v < length dist) × (slice_index dist v ≡ level)

@@ -1,4 +1,4 @@
--- What a grid keeps beside its map.
+-- What a grid keeps besides its map.
 use Rattle.std.specs.Prelude.{◌≡◌, ℕ, List}
 use Rattle.fleet_grid.specs.Floor.{Floor, HasForm}
 use Rattle.fleet_grid.specs.Padded.{IsPadded}

@@ -1,4 +1,4 @@
--- What a robot sees from its cell: the cells beside it, and which of them are nearer to its goal.
+-- What a robot sees from its cell: the cells next to it, and which of them are nearer to its goal.
 use Rattle.std.specs.Prelude.{◌≡◌, ◌≢◌, ℕ, ◌+◌, List, length, slice_get, slice_index, Option, Some, None, IsSome}
 use Rattle.fleet_grid.specs.Floor.{Floor, IsNeighbourIn}
 use Rattle.fleet_grid.specs.Ways.{IsWay, AreNearer}
@@ -37,7 +37,7 @@ pub record AreArounds (m : Floor) (goals : ℕ → Option ℕ) (distance : ℕ �
   pub each : (r : ℕ) (around : Around) → slice_get arounds r ≡ Some around → IsAround m (slice_index from r) around
   pub asked : AreAsked m goals distance from arounds
 
--- what a neighbour in that direction costs, beside the own cell
+-- what a neighbour in that direction costs, compared with the own cell
 pub record IsRated (nearer : ℕ) (dir : Dir) (cost own : ℕ) : Type 0 where
   pub near : IsWay nearer dir → cost + 1 ≡ own
   pub far : (IsWay nearer dir → ⊥) → cost ≡ own + 1

@@ -106,7 +106,7 @@ pub record IsChoices (s : Setting) (robot : ℕ) (cells : List ℕ) : Type 0 whe
   pub all : (w : ℕ) → near s (cell_of s robot) w → (k : ℕ) × (k < length cells) × (slice_index cells k ≡ w)
   pub sorted : (j k : ℕ) → j < k → k < length cells → cost s robot (slice_index cells j) ≤ cost s robot (slice_index cells k)
   pub own_first : (k : ℕ) → k < length cells → slice_index cells k ≢ cell_of s robot → cost s robot (cell_of s robot) ≤ cost s robot (slice_index cells k) → (j : ℕ) × (j < k) × (slice_index cells j ≡ cell_of s robot)
-  -- the first is not one that the law of ties puts behind another as near
+  -- the first is not one that the law of ties puts after another as near
   pub tied : (law : TieLaw) → slice_get s.laws robot ≡ Some law → (d e : Dir) (b : ℕ) → IsNeighbourIn s.floor d (cell_of s robot) (slice_index cells 0) → IsNeighbourIn s.floor e (cell_of s robot) b →
       cost s robot b ≤ cost s robot (slice_index cells 0) → Undercuts law e d → ⊥
 

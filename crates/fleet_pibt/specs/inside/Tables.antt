@@ -26,7 +26,7 @@ pub record IsMatched (target holder : List (Option ℕ)) : Type 0 where
   pub held : (r c : ℕ) → table target r ≡ Some c → table holder c ≡ Some r
   pub kept : (c r : ℕ) → table holder c ≡ Some r → table target r ≡ Some c
 
--- nobody stands on a board for so many cells and robots, has decided or has reserved a cell
+-- nobody stands on a board for this many cells and robots, has decided or has reserved a cell
 pub record IsClear (cells robots : ℕ) (target : List (Option ℕ)) (seats : Seating) : Type 0 where
   pub targets : length target ≡ robots
   pub standings : length seats.standing ≡ cells

@@ -9,11 +9,11 @@ use Rattle.fleet_history.specs.History.{History, clock}
 use Rattle.fleet_history.specs.Legal.{IsLegal}
 use Rattle.fleet_history.specs.Laws.{EachTick}
 use Rattle.fleet_hooks.specs.declared.law.TieLaw.{TieLaw}
-use Rattle.fleet_plan.specs.Planned.{IsPlanned, IsAdvancingTick}
+use Rattle.fleet_planner.specs.Planned.{IsPlanned, IsAdvancingTick}
 use Rattle.fleet_bound.specs.Bound.{WaitsAreBounded}
 use Rattle.fleet_serve.specs.Posted.{TakesPosted, TakesAll, AreLastNotices}
 
--- the end of a serve of these events by so many clients, each of which may send so many orders: the map, the history and the
+-- the end of a serve of these events by this many clients, each of which may send this many orders: the map, the history and the
 -- number of its chapter, its ticks, and what is left of each client's notices
 pub record IsEnd (events : List Event) (most clients lane_full : ℕ) (m : Floor) (h : History Global) (number ticks : ℕ) (rests : List (Vec Notice Global)) : Type 0 where
   pub first : number ≡ 0

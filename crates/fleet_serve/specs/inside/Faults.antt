@@ -1,10 +1,10 @@
--- Why a serve comes to no end.
+-- Why a serve does not end well.
 use Rattle.fleet_serve.specs.declared.served.ServeFault.{ServeFault}
 use Rattle.fleet_serve.specs.declared.served.ServeFault.TheVariants.{Opening, ClockSpent, ChapterFull, Drain, NoMemory, NoThread}
 use Rattle.fleet_office.specs.declared.report.TurnCause.{TurnCause}
 use Rattle.fleet_office.specs.declared.report.TurnCause.TheVariants as cause
 
--- a fault that comes after the opening, or want of memory
+-- a fault that comes after the opening, or out of memory
 abbrev pub IsLater : ServeFault → Type 0
 IsLater (Opening fault) = ⊥
 IsLater ClockSpent = Unit {0}

@@ -38,7 +38,7 @@ fn owed_of<A: Allocator + Copy>(robots: &[RobotState<A>], client: u32) -> u64
 /// The greatest count that a client may have: sums of two such counts fit their type.
 const MOST: u64 = 1 << 57;
 
-/// Whether what is known of a client with so many unfinished errands is in order.
+/// Whether what is known of a client with this many unfinished errands is in order.
 fn is_client_in_order(life: u64, owed: u64, client: &ClientState) -> bool
     requires { owed ≤ 2 ^ 41 }
     ensures { IsTrue result ↔ IsClientInOrder life owed client.now }

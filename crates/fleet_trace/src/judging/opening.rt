@@ -26,7 +26,7 @@ fn are_sizes_in_order<A: Allocator + Copy>(opening: &Opening<A>) -> bool
         && is_between(opening.life, 1, 1 << 40)
 }
 
-/// Whether the opening is in order on the map. The error is want of memory.
+/// Whether the opening is in order on the map. The error is out of memory.
 pub(crate) fn is_in_order<A: Allocator + Copy, B: Allocator + Copy>(
     alloc: A,
     grid: &Grid<B>,

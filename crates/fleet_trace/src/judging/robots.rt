@@ -1,13 +1,13 @@
 //! Whether the robots of an opening are in order.
 
-ghost use Rattle.std.specs.Prelude.{◌≡◌, ◌≢◌, ◌↔◌, ◌<◌, ◌≤◌, ℕ, All, IsTrue, IfOk, length, map, not, is_some, slice_index};
+ghost use Rattle.std.specs.Prelude.{◌≡◌, ◌↔◌, ◌<◌, ◌≤◌, ℕ, All, IsTrue, IfOk, length, map, not, is_some, slice_index};
 ghost use Rattle.fleet_grid.specs.Floor.{IsFloor};
 ghost use Rattle.fleet_grid.specs.Step.{IsPlacement};
 ghost use Rattle.fleet_hooks.specs.Law.{IsStampLaw};
 ghost use Rattle.fleet_history.specs.Legal.{IsRobotInOrder, is_none_left};
 ghost use Rattle.fleet_trace.specs.Opened.{IsErrandInOrder, IsWaitInOrder};
 
-use fleet_grid::Grid;
+use fleet_grid::{Grid, is_placement};
 use fleet_history::{ClientState, Opening, RobotState};
 use fleet_hooks::StampLaw;
 use fleet_queue::Errand;
@@ -25,47 +25,6 @@ fn cells_of<A: Allocator + Copy>(
         cells.push(robot.cell)?;
     }
     Ok(cells)
-}
-
-fn are_on_floor<B: Allocator + Copy>(grid: &Grid<B>, cells: &[u32]) -> bool
-    ensures { IsTrue result ↔ ((r : ℕ) → r < length cells.now → IsFloor grid.now (slice_index cells.now r)) }
-{
-    for robot in 0..cells.len() {
-        if !grid.is_floor(cells[robot]) {
-            return false;
-        }
-    }
-    true
-}
-
-fn is_alone(cells: &[u32], upper: usize) -> bool
-    requires { upper < length cells.now }
-    ensures { IsTrue result ↔ ((i : ℕ) → i < upper → slice_index cells.now i ≢ slice_index cells.now upper) }
-{
-    for lower in 0..upper {
-        if cells[lower] == cells[upper] {
-            return false;
-        }
-    }
-    true
-}
-
-fn are_distinct(cells: &[u32]) -> bool
-    ensures { IsTrue result ↔ ((i j : ℕ) → i < j → j < length cells.now → slice_index cells.now i ≢ slice_index cells.now j) }
-{
-    for upper in 0..cells.len() {
-        if !is_alone(cells, upper) {
-            return false;
-        }
-    }
-    true
-}
-
-/// Whether robots may stand on these cells.
-fn is_placement<B: Allocator + Copy>(grid: &Grid<B>, cells: &[u32]) -> bool
-    ensures { IsTrue result ↔ IsPlacement grid.now cells.now }
-{
-    are_on_floor(grid, cells) && are_distinct(cells)
 }
 
 /// Whether the robots stand on a placement.

@@ -81,7 +81,7 @@ fn shows_due<A: Allocator + Copy>(
     Ok(are_same_dues(arrived, &dues))
 }
 
-/// Whether a tick whose arrivals are due shows the farewells of those that take their leave.
+/// Whether a tick whose arrivals are due shows the farewells of those that say farewell.
 fn shows_leaving<A: Allocator + Copy>(
     alloc: A,
     state: &FleetState<A>,

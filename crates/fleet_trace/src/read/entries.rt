@@ -4,7 +4,7 @@ ghost use Rattle.std.specs.Prelude.{◌≡◌, [], ◌∷◌, map, option_and_th
 ghost use Rattle.serde_json.specs.View.{view};
 ghost use Rattle.fleet_trace.specs.Reads.{Gives};
 ghost use Rattle.fleet_trace.specs.Version.{has_withdrawal};
-ghost use Rattle.fleet_trace.specs.Told.{count_in, close_in, withdraw_in, go_in, order_in, refusal_of, verdict_from, verdict_in, shut_in, take_in, tick_in, entry_from, entry_in};
+ghost use Rattle.fleet_trace.specs.Told.{count_in, close_in, withdraw_in, go_in, order_in, refusal_in, verdict_from, verdict_in, shut_in, take_in, tick_in, entry_from, entry_in};
 
 use super::parts::{ReadValue, count_of, found, read_row, says, values_of};
 use crate::fault::TraceFault;
@@ -68,22 +68,14 @@ fn go_of(word: &Value, robot: &Value, cell: &Value) -> Option<Order>
     }
 }
 
-/// The refusal that has a code.
-fn refusal_of(version: Version, code: u64) -> Option<Verdict>
-    ensures { result ≡ refusal_of version code }
+/// The refusal that has a code. Those above 8 came with withdrawal.
+fn refusal_in(version: Version, code: u64) -> Option<Verdict>
+    ensures { result ≡ refusal_in version code }
 {
-    match code {
-        1 => Some(Verdict::ClientClosed),
-        2 => Some(Verdict::NoRobot),
-        3 => Some(Verdict::RobotShut),
-        4 => Some(Verdict::NoCell),
-        5 => Some(Verdict::Blocked),
-        6 => Some(Verdict::Unreachable),
-        7 => Some(Verdict::QueueFull),
-        8 => Some(Verdict::LifeSpent),
-        9 if has_withdrawal(version) => Some(Verdict::NoErrand),
-        10 if has_withdrawal(version) => Some(Verdict::TooLate),
-        _ => None,
+    if has_withdrawal(version) || code < 9 {
+        Verdict::of_code(code)
+    } else {
+        None
     }
 }
 
@@ -117,7 +109,7 @@ fn numbered_verdict(version: Version, word: &Value, number: &Value) -> Option<Ve
     if says(word, "accepted") {
         Some(Verdict::Accepted(number.as_u64()?))
     } else if says(word, "refused") {
-        refusal_of(version, number.as_u64()?)
+        refusal_in(version, number.as_u64()?)
     } else {
         None
     }
@@ -173,7 +165,7 @@ fn farewell_of(word: &Value, robot: &Value, stamp: &Value) -> Option<Entry>
     shut_of(word, robot, Some(stamp))
 }
 
-/// A take or a tick, by its word and the three values behind it.
+/// A take or a tick, by its word and the three values after it.
 fn event_of(
     alloc: Global,
     version: Version,

@@ -55,7 +55,7 @@ pub(crate) fn says(value: &Value, word: &str) -> bool
     }
 }
 
-/// Whether the value is an object of so many members.
+/// Whether the value is an object of this many members.
 pub(crate) fn has_members(value: &Value, count: usize) -> bool
     ensures { result ≡ has_members count (view value.now) }
 {

@@ -56,20 +56,13 @@ impl WriteValue for Verdict {
     ghost fits = { VerdictFits };
 
     fn write_value(&self, alloc: Global) -> Result<Value, AllocError> {
-        match *self {
-            Verdict::Accepted(number) => numbered(alloc, "accepted", number),
-            Verdict::Closed => plain(alloc, "closed"),
-            Verdict::Withdrawn => plain(alloc, "withdrawn"),
-            Verdict::ClientClosed => numbered(alloc, "refused", 1),
-            Verdict::NoRobot => numbered(alloc, "refused", 2),
-            Verdict::RobotShut => numbered(alloc, "refused", 3),
-            Verdict::NoCell => numbered(alloc, "refused", 4),
-            Verdict::Blocked => numbered(alloc, "refused", 5),
-            Verdict::Unreachable => numbered(alloc, "refused", 6),
-            Verdict::QueueFull => numbered(alloc, "refused", 7),
-            Verdict::LifeSpent => numbered(alloc, "refused", 8),
-            Verdict::NoErrand => numbered(alloc, "refused", 9),
-            Verdict::TooLate => numbered(alloc, "refused", 10),
+        match self.code() {
+            Some(code) => numbered(alloc, "refused", u64::from(code)),
+            None => match *self {
+                Verdict::Accepted(number) => numbered(alloc, "accepted", number),
+                Verdict::Withdrawn => plain(alloc, "withdrawn"),
+                _ => plain(alloc, "closed"),
+            },
         }
     }
 }

@@ -92,7 +92,7 @@ fn write_outcome(
     told.extend_from_slice(status.as_bytes())
 }
 
-/// Tells what came out of a case.
+/// Prints what came out of a case.
 pub(crate) fn tell_outcome<R: Alloc<A = Global> + Threads + Sync + Wait>(
     rt: &R,
     case: &Case<'_>,

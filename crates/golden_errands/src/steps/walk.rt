@@ -1,15 +1,14 @@
 //! The steps of a chapter, one after another.
 
 use fleet_check::{StepFault, check_step};
-use fleet_grid::Grid;
+use fleet_grid::{Grid, is_placement};
 use fleet_history::{Chapter, Entry};
-use golden_compare::is_placement;
 use std::alloc::{AllocError, Global};
 
 /// What is found of a chapter's steps.
 #[derive(Clone, Copy)]
 pub(crate) enum Finding {
-    /// Each of so many is conflict-free, and they bring so many arrivals.
+    /// Each of this many is conflict-free, and they bring this many arrivals.
     ConflictFree { steps: u32, arrivals: u64 },
     /// The step of this number, from 1, is not.
     Refused { step: u32, fault: StepFault },

@@ -131,7 +131,7 @@ impl<'a> Inputs for Streams<'a> {
     }
 }
 
-/// What a job comes to by these streams.
+/// The result of a job over these streams.
 pub(crate) fn outcome_of<R: Alloc<A = Global> + Threads + Sync + Wait>(
     rt: &R,
     task: Task,

@@ -2,7 +2,7 @@
 
 use std::io::{self, ErrorKind, Read};
 
-/// Reads a text and then so many line feeds, so many bytes at each read. It fails when so many reads were made.
+/// Reads a text and then this many line feeds, this many bytes at each read. It fails when this many reads were made.
 #[derive(Clone, Copy)]
 pub(crate) struct Source<'a> {
     pub(crate) bytes: &'a [u8],

@@ -122,7 +122,7 @@ fn each_read<R: Alloc<A = Global> + Threads + Sync + Wait>(
     Ok(named)
 }
 
-/// Whether that came of a job of whose output this many bytes were written.
+/// Whether that is the result of a job of whose output this many bytes were written.
 fn is_prefix(met: &Outcome, wanted: &Outcome, writes: u64) -> bool {
     met.status == 3
         && met.complaint.as_slice() == Outcome::FILE_COMPLAINT
@@ -145,7 +145,7 @@ fn each_write<R: Alloc<A = Global> + Threads + Sync + Wait>(
     Ok(named)
 }
 
-/// Whether that came of a job that wrote nothing but this many bytes of the complaint.
+/// Whether that is the result of a job that wrote nothing but this many bytes of the complaint.
 fn is_prefix_of_complaint(met: &Outcome, writes: u64) -> bool {
     met.status == 3
         && met.output.is_empty()

@@ -77,7 +77,7 @@ impl Count {
         self.broken.iter().skip(1).all(|broken| *broken > 0)
     }
 
-    /// What is told of it, where so many worlds were tried.
+    /// What is told of it, where this many worlds were tried.
     pub(crate) fn text(&self, worlds: u64) -> &'static str {
         if self.unlike > 0 || self.not_json > 0 {
             return "the two ways differ\n";

@@ -21,7 +21,7 @@ impl Dice {
         self.random.below((bound as usize).max(1)) as u64
     }
 
-    /// The next number from a least one on, one of so many.
+    /// The next number from a least one on, one of this many.
     pub(crate) fn between(&mut self, least: u64, count: u64) -> u64 {
         least.saturating_add(self.below(count))
     }

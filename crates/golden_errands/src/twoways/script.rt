@@ -22,7 +22,7 @@ impl Texts {
     }
 }
 
-/// The rows of a map of so many rows and columns. The floor's cells are listed.
+/// The rows of a map of this many rows and columns. The floor's cells are listed.
 fn write_rows(
     text: &mut String,
     floor: &mut Vec<u64>,
@@ -45,7 +45,7 @@ fn write_rows(
     Ok(())
 }
 
-/// A seeded map of so many rows and columns, three quarters of it floor.
+/// A seeded map of this many rows and columns, three quarters of it floor.
 fn map_of(
     alloc: Global,
     dice: &mut Dice,
@@ -106,7 +106,7 @@ fn write_event(
     }
 }
 
-/// A script on a map with these floor cells, of so many cells.
+/// A script on a map with these floor cells, of this many cells.
 fn write_script(
     text: &mut String,
     dice: &mut Dice,

@@ -190,7 +190,7 @@ fn tell_split<N: OfficeName<A>, A: Allocator + Copy>(
     }
 }
 
-/// Makes a call that is no end, and tells what it answered.
+/// Makes a call that is no end, and prints what it answered.
 pub(crate) fn tell_answer<N: OfficeName<A>, A: Allocator + Copy, R: Alloc<A = A> + Wait>(
     rt: &R,
     office: &Office<N, A>,

@@ -20,7 +20,7 @@ pub(crate) enum Step {
     /// A robot takes no further errands.
     Shut(u32),
     NextChapter,
-    /// The end, with the first so many clients and tickers handed in.
+    /// The end, with the first n clients and tickers handed in.
     Conclude(usize, usize),
 }
 

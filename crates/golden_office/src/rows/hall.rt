@@ -6,13 +6,13 @@ ghost use Rattle.fleet_office.specs.Views.{IsNamed};
 use crate::rows::calls::tell_client;
 use crate::rows::case::{HallStep, Step};
 use crate::rows::stage::Fleet;
-use fleet_calls::OpenFault;
+use fleet_core::OpenFault;
 use fleet_office::{Desk, Guest, Hall, OfficeName, Ticker, guests_of};
 use std::alloc::{Alloc, AllocError, Allocator};
 use std::fmt::Write;
 use std::mem;
 
-/// Makes a call on a hall, or on its first client, and tells what it answered.
+/// Makes a call on a hall, or on its first client, and prints what it answered.
 fn play_step<N: OfficeName<A>, A: Allocator + Copy, R: Alloc<A = A>>(
     rt: &R,
     hall: &mut Hall<N, A>,
@@ -24,7 +24,7 @@ fn play_step<N: OfficeName<A>, A: Allocator + Copy, R: Alloc<A = A>>(
     match *step {
         HallStep::Post(order) => tell_client(guests, &Step::Post(0, order), 0, told),
         HallStep::Collect => tell_client(guests, &Step::Collect(0), 0, told),
-        HallStep::Take if hall.rest.clients() > 0 => {
+        HallStep::Take if hall.state.clients() > 0 => {
             let taken = hall.take_one(0);
             write!(told, "{taken:?}")
         }

@@ -1,12 +1,12 @@
-//! An allocator that refuses one growth, and can be told which.
+//! An allocator that refuses one allocation, and can be told which.
 
 use std::alloc::{AllocError, Allocator};
 use std::sync::atomic::{AtomicU64, Ordering};
 
-/// So many growths come before the next refused one that no row meets it.
+/// This many allocations come before the next refused one that no row meets it.
 const FAR: u64 = 1 << 62;
 
-/// Passes each call on to `inner`, but for the one allocation that comes after so many others.
+/// Passes each call on to `inner`, but for the one allocation that comes after this many others.
 pub(crate) struct Meter<B: Allocator> {
     inner: B,
     left: AtomicU64,
@@ -21,7 +21,7 @@ impl<B: Allocator> Meter<B> {
         }
     }
 
-    /// Refuses the growth that comes after so many others from now on, where none was refused yet.
+    /// Refuses the allocation that comes after this many others from now on, where none was refused yet.
     pub(crate) fn refuse(&self, before: u64) {
         if !self.has_refused() {
             self.left.store(before, Ordering::SeqCst);
@@ -40,7 +40,7 @@ impl<B: Allocator> Meter<B> {
         self.left.store(FAR, Ordering::SeqCst);
     }
 
-    /// Whether a growth was refused.
+    /// Whether an allocation was refused.
     pub(crate) fn has_refused(&self) -> bool {
         self.left.load(Ordering::SeqCst) > FAR
     }

@@ -8,7 +8,7 @@ use crate::rows::meter::Meter;
 use crate::rows::plan::{Call, Plan};
 use crate::rows::play::play;
 use crate::rows::stage::Fleet;
-use fleet_calls::OpenFault;
+use fleet_core::OpenFault;
 use fleet_grid::Grid;
 use fleet_hooks::{
     ArrivalHook, ArrivalView, Farewell, FarewellView, Hooks, StampLaw, TieHook, TieLaw, TieView,

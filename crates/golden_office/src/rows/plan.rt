@@ -1,4 +1,4 @@
-//! Which growth is refused.
+//! Which allocation is refused.
 
 use crate::rows::meter::Meter;
 use std::alloc::Global;
@@ -14,7 +14,7 @@ pub(crate) enum Call {
     Step(usize),
 }
 
-/// The call that meets a refused growth, and how many growths come before that one in it.
+/// The call that meets a refused allocation, and how many allocations come before that one in it.
 #[derive(Clone, Copy)]
 pub(crate) struct Plan<'a> {
     pub(crate) meter: &'a Meter<Global>,
@@ -23,7 +23,7 @@ pub(crate) struct Plan<'a> {
 }
 
 impl<'a> Plan<'a> {
-    /// No growth is refused.
+    /// No allocation is refused.
     pub(crate) fn none(meter: &'a Meter<Global>) -> Plan<'a> {
         Plan {
             meter,
@@ -32,7 +32,7 @@ impl<'a> Plan<'a> {
         }
     }
 
-    /// Before a call: refuses its growth where it is the one.
+    /// Before a call: refuses its allocation where it is the one.
     pub(crate) fn begin(&self, call: Call) {
         if self.call == call {
             self.meter.refuse(self.before);

@@ -8,14 +8,14 @@ use crate::rows::case::{Case, Step};
 use crate::rows::hall::play_hall;
 use crate::rows::plan::{Call, Plan};
 use crate::rows::stage::{Fleet, Stage, concluded, opened};
-use fleet_calls::OpenFault;
+use fleet_core::OpenFault;
 use fleet_office::{ConcludeFault, Desk, Final, OfficeName};
 use std::alloc::{Alloc, AllocError, Allocator};
 use std::fmt::Write;
 use std::mem;
 use std::sync::Wait;
 
-/// Tells how an office ended: its ticks, its floor cells and its chapter, and by client what it had not collected.
+/// Prints how an office ended: its ticks, its floor cells and its chapter, and by client what it had not collected.
 fn tell_end<A: Allocator + Copy>(end: &Final<A>, told: &mut String) -> Result<(), AllocError> {
     write!(told, "tick {} floor {} ", end.tick, end.grid.floor_count())?;
     tell_chapter(&end.chapter, told)?;
@@ -26,7 +26,7 @@ fn tell_end<A: Allocator + Copy>(end: &Final<A>, told: &mut String) -> Result<()
     Ok(())
 }
 
-/// Tells what came of an end.
+/// Prints the result of an end.
 fn tell_ended<A: Allocator + Copy>(
     ended: Result<Final<A>, ConcludeFault>,
     told: &mut String,
@@ -41,7 +41,7 @@ fn tell_ended<A: Allocator + Copy>(
     }
 }
 
-/// Makes a call, and tells what it answered, and where it may change an office what there is to see then.
+/// Makes a call, and prints what it answered, and where it may change an office what there is to see then.
 fn play_step<N: OfficeName<A>, A: Allocator + Copy, R: Alloc<A = A> + Wait>(
     rt: &R,
     stage: &mut Stage<N, A>,

@@ -1,4 +1,4 @@
-//! Rows in which growths are refused.
+//! Rows in which allocations are refused.
 
 ghost use Rattle.std.specs.Prelude.{◌≡◌};
 
@@ -12,10 +12,10 @@ use std::alloc::{Alloc, AllocError, Global};
 use std::fmt::Write;
 use std::sync::Wait;
 
-/// No call of a row has more growths.
+/// No call of a row has more allocations.
 const MOST: u64 = 1_000;
 
-/// What became of a call whose growths were refused, each in a play of its own.
+/// What became of a call whose allocations were refused, each in a play of its own.
 #[derive(Clone, Copy, Debug)]
 pub(crate) enum Finding {
     /// The call takes no memory there.
@@ -26,7 +26,7 @@ pub(crate) enum Finding {
     Otherwise,
 }
 
-/// The finding after so many refused growths, with which all was as the row.
+/// The finding after this many refused allocations, with which all was as the row.
 fn found(before: u64) -> Finding {
     if before == 0 {
         Finding::NoGrowth
@@ -47,7 +47,7 @@ fn is_as<R: Alloc<A = Global> + Wait>(
     Ok(told.as_str() == row)
 }
 
-/// Plays a row with each growth of a call refused in turn, and made again.
+/// Plays a row with each allocation of a call refused in turn, and made again.
 fn find<R: Alloc<A = Global> + Wait>(
     rt: &R,
     meter: &Meter<Global>,
@@ -72,7 +72,7 @@ fn find<R: Alloc<A = Global> + Wait>(
     Ok(Finding::Otherwise)
 }
 
-/// Tells of each call of a row that took memory, and was refused it.
+/// Prints each call of a row that took memory, and was refused it.
 fn tell_findings<R: Alloc<A = Global> + Wait>(
     rt: &R,
     meter: &Meter<Global>,
@@ -94,7 +94,7 @@ fn tell_findings<R: Alloc<A = Global> + Wait>(
     Ok(())
 }
 
-/// Plays a row, and tells of its calls whose growths are refused, behind its name.
+/// Plays a row, and prints its calls whose allocations are refused, after its name.
 pub(crate) fn tell_refused<R: Alloc<A = Global> + Wait>(
     rt: &R,
     meter: &Meter<Global>,
@@ -119,7 +119,7 @@ fn is_laned(meter: &Meter<Global>, limits: Limits) -> bool {
     }
 }
 
-/// Makes a lane with each growth refused in turn, and made again.
+/// Makes a lane with each allocation refused in turn, and made again.
 pub(crate) fn find_lanes(meter: &Meter<Global>) -> Finding {
     for before in 0..MOST {
         meter.forget();

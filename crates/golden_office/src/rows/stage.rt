@@ -4,7 +4,7 @@ ghost use Rattle.std.specs.Prelude.{◌≡◌, IfErr, IfOk};
 ghost use Rattle.fleet_office.specs.Views.{IsNamed, AreOn, cores};
 
 use crate::rows::plan::{Call, Plan};
-use fleet_calls::OpenFault;
+use fleet_core::OpenFault;
 use fleet_grid::Grid;
 use fleet_hooks::Hooks;
 use fleet_lanes::Client;
@@ -79,7 +79,7 @@ pub(crate) fn opened<N: OfficeName<A>, A: Allocator + Copy>(
     }
 }
 
-/// Moves the first ones out of a list, so many or all.
+/// Moves the first ones out of a list, some or all.
 fn taken_from<T: Drop, A: Allocator + Copy>(
     list: &mut Vec<T, A>,
     count: usize,
@@ -148,7 +148,7 @@ fn come_back<N: OfficeName<A>, A: Allocator + Copy>(
     }
 }
 
-/// The first so many guests as clients, and the first so many tickers.
+/// The first n guests as clients, and the first n tickers.
 fn handed_in<N: OfficeName<A>, A: Allocator + Copy>(
     alloc: A,
     stage: &mut Stage<N, A>,
@@ -164,7 +164,7 @@ fn handed_in<N: OfficeName<A>, A: Allocator + Copy>(
     }
 }
 
-/// Concludes with the first so many clients and tickers. After a fault all is on the stage again.
+/// Concludes with the first n clients and tickers. After a fault all is on the stage again.
 pub(crate) fn concluded<N: OfficeName<A>, A: Allocator + Copy>(
     alloc: A,
     stage: &mut Stage<N, A>,

@@ -120,7 +120,7 @@ const THOUSAND_ROUNDS: Case<'static> = Case {
     ..TWO_CELLS
 };
 
-/// Nothing is sent behind Close.
+/// Nothing is sent after Close.
 const CLOSED_CLIENT: Case<'static> = Case {
     name: "close_and_shut_client",
     steps: &[
@@ -218,7 +218,7 @@ const ROWS: [Case<'static>; 21] = [
     THOUSAND_ROUNDS,
 ];
 
-/// The rows whose growths are refused.
+/// The rows whose allocations are refused.
 const REFUSED: [Case<'static>; 5] = [
     BACK_PRESSURE,
     SHUT_ROBOT,
@@ -232,7 +232,7 @@ pub(crate) fn rows() -> &'static [Case<'static>] {
     &ROWS
 }
 
-/// The rows whose growths are refused.
+/// The rows whose allocations are refused.
 pub(crate) fn refused_rows() -> &'static [Case<'static>] {
     &REFUSED
 }

@@ -86,7 +86,7 @@ fn number_of(notice: Notice) -> u64 {
     }
 }
 
-/// Whether these are the last of so many notices, each once and in order.
+/// Whether these are the last of this many notices, each once and in order.
 fn are_last(rest: &[Notice], count: u64) -> bool {
     let mut last = count;
     for notice in rest.iter().rev() {

@@ -41,7 +41,7 @@ impl Flags {
         }
     }
 
-    /// Waits until the flag is at least so much.
+    /// Waits until the flag is at least that much.
     fn wait_for(&self, flag: &AtomicU64, least: u64) {
         if !wait_for(flag, least) {
             self.missed.fetch_add(1, Ordering::SeqCst);

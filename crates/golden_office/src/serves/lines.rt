@@ -1,4 +1,4 @@
-//! What is told of the rows and of the thousand serves.
+//! What is printed of the rows and of the thousand serves.
 
 use crate::numbers::tell_numbers;
 use crate::serves::came::Came;
@@ -14,7 +14,7 @@ use std::thread::Threads;
 /// How many scripts come from seeds.
 const SERVES: u32 = 1_000;
 
-/// A fact in words, behind the line.
+/// A fact in words, after the line.
 fn tell_fact(fact: Fact, came: &Came, met: bool, told: &mut String) -> Result<(), AllocError> {
     let (words, number) = match fact {
         Fact::LaneFull => (" lane_full ", Some(came.lane_full)),
@@ -38,7 +38,7 @@ fn tell_fact(fact: Fact, came: &Came, met: bool, told: &mut String) -> Result<()
     }
 }
 
-/// What came of a row, behind its name.
+/// The result of a row, after its name.
 fn tell_came(
     row: &Row,
     came: Result<Came, PlayFault>,
@@ -82,7 +82,7 @@ struct Sum {
 }
 
 impl Sum {
-    /// Adds what became of a script, on a map without a bridge or not.
+    /// Adds the fate of a script, on a map without a bridge or not.
     fn add(&mut self, came: &Came, is_bridgeless: bool) {
         let is_legal = came.legal && came.same_map;
         let is_idle = !is_bridgeless || came.unfinished() == 0;
@@ -107,7 +107,7 @@ impl Sum {
     }
 }
 
-/// Serves the script of a seed, and adds what became of it. A serve that has a fault adds nothing.
+/// Serves the script of a seed, and adds the fate of it. A serve that has a fault adds nothing.
 fn add_serve<R: Alloc<A = Global> + Threads + Sync + Wait>(
     rt: &R,
     seed: u32,

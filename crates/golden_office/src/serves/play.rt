@@ -25,7 +25,7 @@ const RANKS: TieLaw = TieLaw {
 
 const STAMPS: StampLaw = StampLaw { low: 0, high: 0 };
 
-/// Why nothing came of a script.
+/// Why a script has no result.
 #[derive(Clone, Copy)]
 pub(crate) enum PlayFault {
     /// The text is no script whose events are posts and collects of its clients.

@@ -80,7 +80,7 @@ fn write_closes(text: &mut String, random: &mut Random, clients: usize) -> Resul
     Ok(())
 }
 
-/// A script of so many clients on a yard.
+/// A script of this many clients on a yard.
 fn write_script(
     text: &mut String,
     random: &mut Random,

@@ -6,7 +6,7 @@ use crate::floor::grid_of;
 use crate::waits::play::{Outcome, PlayFault, play};
 use crate::waits::shared::Shared;
 use fleet_book::Limits;
-use fleet_calls::OpenFault;
+use fleet_core::OpenFault;
 use fleet_grid::Grid;
 use fleet_hooks::{
     ArrivalHook, ArrivalView, Farewell, FarewellView, Hooks, StampLaw, TieHook, TieLaw, TieView,
@@ -27,7 +27,7 @@ pub(crate) struct Case {
     pub(crate) turns: u64,
 }
 
-/// The desk of so many clients, two cells side by side, and the robot on the first.
+/// The desk of this many clients, two cells side by side, and the robot on the first.
 fn site_of(alloc: Global, clients: u32) -> Result<(Desk, Grid, Vec<u32>), OpenFault> {
     let grid = grid_of(alloc, (1, 2), b"..")?;
     let starts = Vec::from_slice(alloc, &[0u32])?;

@@ -5,7 +5,7 @@ ghost use Rattle.fleet_office.specs.Views.{IsNamed, AreOn, cores};
 
 use crate::waits::shared::Shared;
 use crate::waits::staff::work_all;
-use fleet_calls::OpenFault;
+use fleet_core::OpenFault;
 use fleet_grid::Grid;
 use fleet_hooks::Hooks;
 use fleet_lanes::Client;
@@ -49,7 +49,7 @@ impl From<AllocError> for PlayFault {
     }
 }
 
-/// The outcome after so many ticks, where no turn was refused.
+/// The outcome after this many ticks, where no turn was refused.
 fn outcome_of(shared: &Shared, tick: u64) -> Result<Outcome, PlayFault> {
     if shared.refused.load(Ordering::SeqCst) > 0 {
         return Err(PlayFault::Turn);
@@ -129,7 +129,7 @@ fn play_in<N: OfficeName<Global> + Send + Sync, R: Alloc<A = Global> + Threads +
     }
 }
 
-/// Opens an office over the desk, lets one ticker make one turn and another its turns, beside the clients, and concludes.
+/// Opens an office over the desk, lets one ticker make one turn and another its turns, with the clients, and concludes.
 pub(crate) fn play<
     N: OfficeName<Global> + Send + Sync,
     R: Alloc<A = Global> + Threads + Sync + Wait,

@@ -72,7 +72,7 @@ fn turn_both<N: OfficeName<Global> + Send + Sync, R: Alloc<A = Global> + Threads
     )
 }
 
-/// All clients side by side, beside the tickers.
+/// All clients in parallel, with the tickers.
 pub(crate) fn work_all<
     N: OfficeName<Global> + Send + Sync,
     R: Alloc<A = Global> + Threads + Sync + Wait,

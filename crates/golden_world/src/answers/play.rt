@@ -12,7 +12,7 @@ use std::alloc::{Alloc, AllocError, Allocator, Global};
 use std::fmt::Write;
 use std::mem;
 
-/// The lines of so many ticks.
+/// The lines of this many ticks.
 fn tell_ticks<A: Allocator + Copy, R: Alloc<A = A>>(
     rt: &R,
     world: &mut World<A>,
@@ -102,7 +102,7 @@ fn play_hooked<A: Allocator + Copy, R: Alloc<A = A>>(
     }
 }
 
-/// Plays a row over the runtime's heap, and tells its name and the lines of its calls.
+/// Plays a row over the runtime's heap, and prints its name and the lines of its calls.
 pub(crate) fn play<A: Allocator + Copy, R: Alloc<A = A>>(
     alloc: Global,
     rt: &R,

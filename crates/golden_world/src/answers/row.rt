@@ -7,14 +7,14 @@ use fleet_world::{Limits, Order};
 pub(crate) enum Call {
     /// Takes an order of the only client to send the robot to the cell.
     Go(u32, u32),
-    /// So many ticks.
+    /// This many ticks.
     Tick(u32),
     /// Hands out the client's next notice.
     Give,
     Shut(u32),
     /// Shows where the robots stand, what they wait for, and how soon the fleet is idle.
     Show,
-    /// So many ticks of robots that get a further errand whenever they have none, and their greatest wait beside a bound.
+    /// This many ticks of robots that get a further errand whenever they have none, and their greatest wait next to a bound.
     Busy(u32, u64),
 }
 

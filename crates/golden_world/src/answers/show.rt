@@ -5,7 +5,7 @@ use golden_compare::beside_bound;
 use std::alloc::{AllocError, Allocator};
 use std::fmt::Write;
 
-/// The number behind its name.
+/// The number after its name.
 fn tell_number(told: &mut String, name: &str, number: Option<u64>) -> Result<(), AllocError> {
     match number {
         Some(number) => write!(told, " {name} {number}"),
@@ -48,7 +48,7 @@ pub(crate) fn tell_shut(
     }
 }
 
-/// These numbers, each behind its name, to the end of the line.
+/// These numbers, each after its name, to the end of the line.
 fn tell_parts(told: &mut String, parts: &[(&str, u64)]) -> Result<(), AllocError> {
     for (name, number) in parts {
         write!(told, " {name} {number}")?;
@@ -90,7 +90,7 @@ pub(crate) fn tell_give(told: &mut String, answer: Option<Notice>) -> Result<(),
     }
 }
 
-/// The line of a greatest wait beside a bound, with the arrivals.
+/// The line of a greatest wait next to a bound, with the arrivals.
 pub(crate) fn tell_busy(
     told: &mut String,
     greatest: u64,

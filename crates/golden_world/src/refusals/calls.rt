@@ -5,7 +5,7 @@ use fleet_script::Script;
 use fleet_world::Event;
 use std::alloc::{AllocError, Global};
 
-/// A call of a world, or what a client does beside it.
+/// A call of a world, or what a client does besides.
 #[derive(Clone, Copy)]
 pub(crate) enum Call {
     Event(Event),

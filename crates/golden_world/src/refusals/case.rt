@@ -26,7 +26,7 @@ pub(crate) struct Row<'a, C> {
     pub(crate) calls: &'a [C],
 }
 
-/// The text before the first line that begins so, that line behind its beginning, and the text behind the line.
+/// The text before the first line that begins so, that line after its beginning, and the text after the line.
 fn split_at<'a>(text: &'a [u8], start: &[u8]) -> Option<(&'a [u8], &'a [u8], &'a [u8])> {
     let mut rest = text;
     for _line in 0..text.len() {
@@ -40,7 +40,7 @@ fn split_at<'a>(text: &'a [u8], start: &[u8]) -> Option<(&'a [u8], &'a [u8], &'a
     None
 }
 
-/// The first row of the text, and the text behind it.
+/// The first row of the text, and the text after it.
 pub(crate) fn next_case(text: &[u8]) -> Option<(Case<'_>, &[u8])> {
     let (_, name, behind) = split_at(text, b"= ")?;
     let (map, _, rest) = split_at(behind, b"script")?;

@@ -3,7 +3,7 @@
 use fleet_world::{Notice, Order};
 use std::alloc::{AllocError, Global};
 
-/// Orders that were posted and not taken, and notices that were given and not collected, each behind its client.
+/// Orders that were posted and not taken, and notices that were given and not collected, each after its client.
 #[derive(Drop)]
 pub(crate) struct Clients {
     posted: Vec<(u32, Order)>,

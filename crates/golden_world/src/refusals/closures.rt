@@ -24,7 +24,7 @@ const ALIKE: TieLaw = TieLaw {
 
 const NOUGHT: StampLaw = StampLaw { low: 0, high: 0 };
 
-/// Plays the first `last` calls of a row, of which the growth behind `before` others is refused.
+/// Plays the first `last` calls of a row, of which the allocation after `before` others is refused.
 pub(crate) fn play<R: Alloc<A = Global> + Threads + Sync>(
     rt: &R,
     row: Row<'_, Call>,
@@ -124,7 +124,7 @@ fn count(stamped: &AtomicU64) -> u32
     0
 }
 
-/// Runs the events of a row's script, of which the growth behind `before` others is refused.
+/// Runs the events of a row's script, of which the allocation after `before` others is refused.
 pub(crate) fn run_row<R: Alloc<A = Global>>(
     rt: &R,
     row: Row<'_, Event>,

@@ -103,7 +103,7 @@ fn widen<A: Allocator + Copy>(
     Ok(true)
 }
 
-/// Tells of the chapter that ended.
+/// Prints the chapter that ended.
 fn tell_chapter<A: Allocator + Copy>(
     alloc: Global,
     chapter: &Chapter<A>,
@@ -155,7 +155,7 @@ fn search_ahead<A: Allocator + Copy + Send + Sync, R: Threads + Sync>(
     Ok(true)
 }
 
-/// Makes a call, and tells what it answered.
+/// Makes a call, and prints what it answered.
 pub(crate) fn make<A: Allocator + Copy + Send + Sync, R: Alloc<A = A> + Threads + Sync>(
     alloc: Global,
     rt: &R,

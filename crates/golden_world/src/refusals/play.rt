@@ -20,7 +20,7 @@ pub(crate) struct Played {
     pub(crate) refused: Option<usize>,
     /// Whether that call left all that is shown as it was, and called no closure that makes a stamp.
     pub(crate) same: bool,
-    /// Whether a growth behind the last call is refused.
+    /// Whether an allocation after the last call is refused.
     pub(crate) spent: bool,
     /// The trace of the chapter at the end.
     pub(crate) chapter: String,
@@ -35,7 +35,7 @@ pub(crate) struct Setting<'a, R> {
     pub(crate) stamped: &'a AtomicU64,
 }
 
-/// Makes a call, and tells what it answered. None where it was not refused memory; else whether it left all that is shown as it
+/// Makes a call, and prints what it answered. None where it was not refused memory; else whether it left all that is shown as it
 /// was, and called no closure that makes a stamp.
 fn make_watched<A: Allocator + Copy + Send + Sync, R: Alloc<A = A> + Threads + Sync>(
     setting: &Setting<'_, R>,
@@ -54,7 +54,7 @@ fn make_watched<A: Allocator + Copy + Send + Sync, R: Alloc<A = A> + Threads + S
 }
 
 /// Makes the first `last` calls, and tells what each answered in the end. A call that is refused memory is made again, unless it
-/// is the last. The result is that call, and whether nothing came of it.
+/// is the last. The result is that call, and whether it had no effect.
 fn make_calls<A: Allocator + Copy + Send + Sync, R: Alloc<A = A> + Threads + Sync>(
     setting: &Setting<'_, R>,
     world: &mut World<A>,

@@ -1,4 +1,4 @@
-//! A row by a run, again and again, until no growth is refused.
+//! A row by a run, again and again, until no allocation is refused.
 
 use crate::refusals::case::{Case, Row};
 use crate::refusals::closures::run_row;
@@ -11,7 +11,7 @@ use golden_compare::Ending;
 use std::alloc::{Alloc, AllocError, Global};
 use std::fmt::Write;
 
-/// Whether a run over the first events, with the same growth refused, ends without being refused memory at one of them.
+/// Whether a run over the first events, with the same allocation refused, ends without being refused memory at one of them.
 fn passes<R: Alloc<A = Global>>(
     rt: &R,
     row: Row<'_, Event>,
@@ -23,7 +23,7 @@ fn passes<R: Alloc<A = Global>>(
     }
 }
 
-/// Whether the growth is the event's own: a run over the events before it passes, and one over these and the event names it.
+/// Whether the allocation is the event's own: a run over the events before it passes, and one over these and the event names it.
 fn is_named<R: Alloc<A = Global>>(
     rt: &R,
     row: Row<'_, Event>,
@@ -50,8 +50,8 @@ fn is_named<R: Alloc<A = Global>>(
     }
 }
 
-/// Refuses each growth in turn. The result is whether it ended behind the last growth, always with the same replies and
-/// trace, also where fields that were kept made up for a growth.
+/// Refuses each allocation in turn. The result is whether it ended after the last allocation, always with the same replies and
+/// trace, also where fields that were kept made up for an allocation.
 fn refuse_each<R: Alloc<A = Global>>(
     rt: &R,
     row: Row<'_, Event>,
@@ -78,7 +78,7 @@ fn refuse_each<R: Alloc<A = Global>>(
     Ok(false)
 }
 
-/// Tells what a run replied and its trace, with these tallies.
+/// Prints what a run replied and its trace, with these tallies.
 fn tell_ending(
     told: &mut String,
     base: &Ending,
@@ -91,7 +91,7 @@ fn tell_ending(
     writeln!(told, "{}", base.trace)
 }
 
-/// Tells of a run that ended so, and how often it was refused memory.
+/// Prints a run that ended so, and how often it was refused memory.
 fn tell_reruns<R: Alloc<A = Global>>(
     rt: &R,
     row: Row<'_, Event>,
@@ -105,7 +105,7 @@ fn tell_reruns<R: Alloc<A = Global>>(
     tell_end(told, ended)
 }
 
-/// Runs the events of a row with no growth refused, and tells of that run.
+/// Runs the events of a row with no allocation refused, and prints that run.
 fn tell_run<R: Alloc<A = Global>>(
     rt: &R,
     row: Row<'_, Event>,
@@ -117,7 +117,7 @@ fn tell_run<R: Alloc<A = Global>>(
     }
 }
 
-/// Tells what a run of a row replied to each event, its trace, and how often each was refused memory.
+/// Prints what a run of a row replied to each event, its trace, and how often each was refused memory.
 pub(crate) fn tell_runs<R: Alloc<A = Global>>(
     rt: &R,
     case: Case<'_>,

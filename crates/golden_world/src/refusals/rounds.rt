@@ -1,4 +1,4 @@
-//! A row by its world's calls, again and again, until no growth is refused.
+//! A row by its world's calls, again and again, until no allocation is refused.
 
 ghost use Rattle.std.specs.Prelude.{◌≡◌, IsTrue, string_bytes};
 
@@ -12,7 +12,7 @@ use std::alloc::{Alloc, AllocError, Global};
 use std::fmt::Write;
 use std::thread::Threads;
 
-/// More growths than any row has.
+/// More allocations than any row has.
 pub(crate) const MANY: u64 = 1 << 40;
 
 /// Whether two plays of a row came to the same.
@@ -53,7 +53,7 @@ fn holds_the_same<R: Alloc<A = Global> + Threads + Sync>(
     }
 }
 
-/// Refuses each growth in turn. The result is whether it ended behind the last growth, with none lost on the way: a growth
+/// Refuses each allocation in turn. The result is whether it ended after the last allocation, with none lost on the way: an allocation
 /// that no call answers for was made up for, by fields that were kept or a list that asked for less, and all came to the
 /// same.
 fn refuse_each<R: Alloc<A = Global> + Threads + Sync>(
@@ -96,7 +96,7 @@ fn tell_rounds<R: Alloc<A = Global> + Threads + Sync>(
     tell_end(told, ended)
 }
 
-/// Plays a row with no growth refused, and tells of it.
+/// Plays a row with no allocation refused, and prints it.
 fn tell_row<R: Alloc<A = Global> + Threads + Sync>(
     rt: &R,
     row: Row<'_, Call>,
@@ -122,7 +122,7 @@ fn robots_and_calls(
     }
 }
 
-/// Tells what each call of a row answered, and how often it was refused memory.
+/// Prints what each call of a row answered, and how often it was refused memory.
 pub(crate) fn tell_calls<R: Alloc<A = Global> + Threads + Sync>(
     rt: &R,
     case: Case<'_>,

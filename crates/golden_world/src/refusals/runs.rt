@@ -18,7 +18,7 @@ pub(crate) enum Run {
     Judge { again: bool },
     /// The run did not end as a row does.
     Faulty,
-    /// Nothing was refused; whether a growth behind the end is.
+    /// Nothing was refused; whether an allocation after the end is.
     Ended { ending: Ending, spent: bool },
 }
 

@@ -4,7 +4,7 @@ use crate::refusals::stage::Stage;
 use std::alloc::{AllocError, Global};
 use std::fmt::Write;
 
-/// How often something was refused memory, and whether nothing came of it.
+/// How often something was refused memory, and whether it had no effect.
 #[derive(Clone, Copy)]
 pub(crate) struct Tally {
     refused: u32,
@@ -44,7 +44,7 @@ pub(crate) struct Sheet {
 }
 
 impl Sheet {
-    /// A sheet of so many calls.
+    /// A sheet of this many calls.
     pub(crate) fn new(alloc: Global, calls: usize) -> Result<Sheet, AllocError> {
         Ok(Sheet {
             stages: [0; 5],
@@ -80,7 +80,7 @@ impl Sheet {
     }
 }
 
-/// The last line of a row: whether it ended behind the last growth.
+/// The last line of a row: whether it ended after the last allocation.
 pub(crate) fn tell_end(told: &mut String, ended: bool) -> Result<(), AllocError> {
     let end = if ended {
         "no more growths"

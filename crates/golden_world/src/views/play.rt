@@ -102,7 +102,7 @@ fn compare_world<A: Allocator + Copy>(
     )
 }
 
-/// Compares what came of a run of a row, and what its closures noted, with the row.
+/// Compares the result of a run of a row, and what its closures noted, with the row.
 fn compare_run<A: Allocator + Copy>(
     alloc: Global,
     row: &Row,
@@ -186,7 +186,7 @@ pub(crate) fn play<A: Allocator + Copy, R: Alloc<A = A>>(
     find_noted(alloc, rt, row, &note)
 }
 
-/// Notes a view behind those before it. The result is its stamp.
+/// Notes a view after those before it. The result is its stamp.
 fn keep(note: &AtomicU64, shown: Shown) -> u32 {
     note.store(shown.noted(note.load(Ordering::SeqCst)), Ordering::SeqCst);
     shown.stamp()

@@ -131,7 +131,7 @@ const TWO_CORNERS: Row = Row {
     end: &[6, 0],
 };
 
-/// Robot 1 of client 1 arrives and is shut, then robot 0 takes its leave at a shut.
+/// Robot 1 of client 1 arrives and is shut, then robot 0 says farewell at a shut.
 const TWO_FAREWELLS: Row = Row {
     name: "two_farewells",
     sides: (1, 4),
@@ -156,7 +156,7 @@ const TWO_FAREWELLS: Row = Row {
     end: &[0, 3],
 };
 
-/// Both robots arrive in one tick and take their leave in it. Robot 1 has the lesser client, was sent first and shut first.
+/// Both robots arrive in one tick and say farewell in it. Robot 1 has the lesser client, was sent first and shut first.
 const TWO_IN_ONE_TICK: Row = Row {
     name: "two_in_one_tick",
     sides: (1, 4),
@@ -183,7 +183,7 @@ const TWO_IN_ONE_TICK: Row = Row {
     end: &[0, 3],
 };
 
-/// A robot with an errand left is shut, and takes its leave where it arrives.
+/// A robot with an errand left is shut, and says farewell where it arrives.
 const SHUT_ROBOT: Row = Row {
     name: "shut_robot",
     sides: (1, 2),
@@ -210,7 +210,7 @@ const SHUT_ROBOT: Row = Row {
     end: &[1],
 };
 
-/// An idle robot takes its leave where it is shut.
+/// An idle robot says farewell where it is shut.
 const IDLE_ROBOT_SHUT: Row = Row {
     name: "idle_robot_shut",
     sides: (1, 2),

@@ -80,7 +80,7 @@ fn visit_both_over<A: Allocator + Copy>(
     visit_both(rt, &mut store, &mut shelf, grid, other)
 }
 
-/// Where no growth was left behind the first visit, one in a second visit of the same cell would be refused.
+/// Where no allocation was left after the first visit, one in a second visit of the same cell would be refused.
 #[test]
 fn held_again_without_memory(rt: HostRuntime) {
     let grid = ring(&rt, rt.alloc());
@@ -92,11 +92,11 @@ fn held_again_without_memory(rt: HostRuntime) {
             held = before;
         }
     }
-    // Of the last one no growth of the first visit was refused.
+    // Of the last one no allocation of the first visit was refused.
     assert!(rt; held == 15);
 }
 
-/// Whatever growth of a search is refused, the search is made where a field was kept, which goes.
+/// Whatever allocation of a search is refused, the search is made where a field was kept, which goes.
 #[test]
 fn kept_goes_before_want_of_memory(rt: HostRuntime) {
     let grid = ring(&rt, rt.alloc());

@@ -1,13 +1,13 @@
 //! Whether turns may be made, for tests that make several.
 
 ghost use Rattle.std.specs.Bool.{OnTrue};
-ghost use Rattle.fleet_goals.specs.Turned.{AreFloorTurns, AreKnownTurns};
+ghost use Rattle.fleet_planner.specs.Turned.{AreFloorTurns, AreKnownTurns};
 
-use fleet_goals::Turn;
 use fleet_grid::Grid;
+use fleet_planner::GoalChange;
 
 /// Whether each turn is one of these robots, to a floor cell or to nothing.
-pub fn are_allowed(grid: &Grid, robots: usize, turns: &[Turn]) -> bool
+pub fn are_allowed(grid: &Grid, robots: usize, turns: &[GoalChange]) -> bool
     ensures known { OnTrue result (AreKnownTurns robots turns.now) }
     ensures floor { OnTrue result (AreFloorTurns grid.now turns.now) }
 {

@@ -1,4 +1,4 @@
--- The lines of a tick to these cells, one behind the other.
+-- The lines of a tick to these cells, one after the other.
 use Rattle.std.proofs.Common.{◌∙◌, ◌++◌, ap, sym, codes, decimal, flat_map, string_bytes}
 use Rattle.std.proofs.lemmas.List.{append_assoc}
 use Rattle.std.proofs.lemmas.Result.{on_ok_weaker}

@@ -1,4 +1,4 @@
--- The spot beside another.
+-- The spot next to another.
 use Rattle.std.proofs.Common.{◌≢◌, ℕ, subst, arith}
 use Rattle.std.specs.Prelude.{slice_index}
 use Rattle.fleet_bridge.specs.inside.Places.{place_across}

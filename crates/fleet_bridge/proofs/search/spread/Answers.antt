@@ -1,4 +1,4 @@
--- All that a walk comes to, cell by cell.
+-- All that a walk reaches, cell by cell.
 use Rattle.std.proofs.Common.{◌≡◌, ◌<◌, length, arith, subst, sym, ℕ, get_or, refl, ◌∙◌}
 use Rattle.std.proofs.lemmas.List.{get_or_read_under}
 use Rattle.fleet_bridge.specs.inside.Search.{NearWithout, IsMarked}

@@ -1,7 +1,7 @@
-use Rattle.std.proofs.Common.{◌≡◌, ◌+◌, ◌%◌, ◌<◌, ℕ, length, refl, sym, subst, ◌∙◌, arith}
+use Rattle.std.proofs.Common.{◌≡◌, ◌%◌, ◌<◌, ℕ, length, refl, sym, subst, ◌∙◌, arith}
 use native.Mathlib.Nat.{zero-mod}
 use Rattle.fleet_grid.proofs.Forms.{some_column}
-use Rattle.fleet_grid.proofs.Opens.{AreWaysTo, ways_more}
+use Rattle.fleet_grid.proofs.Opens.{ways_more}
 use Rattle.fleet_grid.proofs.ways.ways_of.Goals as goal
 
 pub loop-cell-init : goal.loop-cell-init

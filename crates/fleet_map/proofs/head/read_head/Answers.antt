@@ -1,4 +1,4 @@
--- The sides of a whole head, and the text behind it.
+-- The sides of a whole head, and the text after it.
 use Rattle.std.proofs.Common.{◌≡◌, leb, true, refl, sym, arith, le-leb}
 use Rattle.fleet_map.specs.Grammar.{is_type_line, is_map_line, head_at}
 use Rattle.fleet_map.proofs.head.read_head.Goals as goal

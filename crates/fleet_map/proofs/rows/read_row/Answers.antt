@@ -1,4 +1,4 @@
--- The row that stands first, without the blanks behind it.
+-- The row that stands first, without the blanks after it.
 use Rattle.std.proofs.Common.{refl}
 use Rattle.std.proofs.lemmas.Result.{err_from_is_err_and}
 use Rattle.fleet_map.proofs.rows.read_row.Goals as goal

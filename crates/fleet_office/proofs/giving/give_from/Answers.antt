@@ -2,7 +2,7 @@ use Rattle.std.proofs.Common.{◌≡◌, refl, ap, sym, ◌∙◌, subst, length
 use Rattle.std.proofs.Math.ListN.{length-set}
 use Rattle.fleet_history.specs.History.{clients}
 use Rattle.fleet_core.specs.Core.{pending, without_first}
-use Rattle.fleet_calls.proofs.Fronts.{nil_from_none}
+use Rattle.fleet_core.proofs.Fronts.{nil_from_none}
 use Rattle.fleet_office.specs.Hall.{Gives}
 use Rattle.fleet_office.proofs.GiveSteps.{gives_none, gives_more, popped}
 use Rattle.fleet_office.proofs.giving.give_from.Goals as goal

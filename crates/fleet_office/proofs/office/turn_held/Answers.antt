@@ -7,11 +7,11 @@ turn-requires g c = c.requires
 
 pub returns : goal.returns
 returns g c =
-    let h = c.args.hall.now.rest in
+    let h = c.args.hall.now.state in
     let t = c.turn in
     record {
       ticker = t.ensures.ticker;
       kept = t.ensures.kept;
-      turned = some-step (λ v. IsLawful g.N.OfficeName.rings v.world v.ends v.total) (λ v r u. Turns v r u) h t.new.self.rest t.result c.recall_laws.ensures.lawful t.ensures.ok;
-      stopped = some-stop (λ v. IsLawful g.N.OfficeName.rings v.world v.ends v.total) (λ v e u. StopsTurn v e u) h t.new.self.rest t.result c.recall_laws.ensures.lawful t.ensures.err;
+      turned = some-step (λ v. IsLawful g.N.OfficeName.rings v.world v.ends v.total) (λ v r u. Turns v r u) h t.new.self.state t.result c.recall_laws.ensures.lawful t.ensures.ok;
+      stopped = some-stop (λ v. IsLawful g.N.OfficeName.rings v.world v.ends v.total) (λ v e u. StopsTurn v e u) h t.new.self.state t.result c.recall_laws.ensures.lawful t.ensures.err;
     }

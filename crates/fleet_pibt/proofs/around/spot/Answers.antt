@@ -1,4 +1,4 @@
--- The cell beside, and the own cell where the way is shut.
+-- The cell next to, and the own cell where the way is shut.
 use Rattle.std.proofs.Common.{ℕ, ◌+◌, ◌-◌, ap, refl, arith}
 use Rattle.fleet_pibt.proofs.Spots.{spot_shut, spot_north, spot_east, spot_south, spot_west, north_room, west_room}
 use Rattle.fleet_grid.proofs.Forms.{floor_inside, few_cells}

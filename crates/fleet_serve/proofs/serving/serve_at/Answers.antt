@@ -1,4 +1,4 @@
--- What an office that is opened for a script comes to.
+-- The result of an office that is opened for a script.
 use Rattle.std.proofs.Common.{◌≡◌, length, sym, subst, IfOk, rules}
 use Rattle.std.proofs.lemmas.Result.{IfOk-from_err}
 use Rattle.fleet_core.specs.Hooks.{laws_of}

@@ -1,4 +1,4 @@
--- A line that is a post of the client's, by what came of it.
+-- A line that is a post of the client's, by its result.
 use Rattle.std.proofs.Common.{rules, ◌≡◌, ◌∙◌, ap}
 use Rattle.std.specs.Prelude.{Err}
 use Rattle.fleet_serve.proofs.Runs.{post-of, run-ok, run-full, run-closed, run-spent, some_full}

@@ -1,4 +1,4 @@
--- The wait behind an arrival, by the errands that the queue still has.
+-- The wait after an arrival, by the errands that the queue still has.
 use Rattle.std.proofs.Common.{◌≡◌, ℕ, ◌<◌, ◌≤◌, List, [], ◌∷◌, length, cond, eqb, Bool, true, false, Option, Some, None, refl, arith}
 use Rattle.fleet_queue.specs.declared.errand.Errand.{Errand}
 use Rattle.fleet_state.specs.Landed.{landing, wait_on}

@@ -1,4 +1,4 @@
--- The verdict behind the calm opening is the opening's own.
+-- The verdict after the calm opening is the opening's own.
 use Rattle.std.proofs.Common.{◌^◌, ◌<◌, sym, subst, arith}
 use Rattle.fleet_history.specs.declared.history.Opening.{Opening}
 use Rattle.fleet_trace.proofs.Calmed.{calm-order, calm-ok, calm-err}

@@ -1,5 +1,5 @@
 -- The job of the word that was met.
-use Rattle.std.proofs.Common.{◌≡◌, ◌∙◌, ap, sym, refl, List, ℕ, Option, Some, None, codes, option_map}
+use Rattle.std.proofs.Common.{◌≡◌, ◌∙◌, ap, sym, refl, List, Option, Some, None, codes, option_map}
 use Rattle.std.proofs.lemmas.Slice.Eq.{bytes_eq-Decides}
 use Rattle.clap.specs.Words.{Row, Text, found_of, rows_of}
 use Rattle.fleet_words.proofs.words.job_from.Goals as goal
@@ -24,3 +24,21 @@ returns-in_ok-check_in-in-Some c =
     let rows = rows_of (found_of c.in-Some.inner.now) in
     let name_is : c.in-Some.name.now ≡ codes "check" = (bytes_eq-Decides c.in-Some.name.now (codes "check")).0 (sym c.eq-else-eq.ensures ∙ c.if-eq-2.true) in
     (rows, named _ _ _ c.in-Some.name.now rows c.in-Some.ensures.name c.in-Some.ensures.rows ∙ ap (λ (n : Text). Some (n, rows)) name_is, c.in_ok-check_in-in-Some.ensures)
+
+pub returns-in_ok-talk_in-in-Some : goal.returns-in_ok-talk_in-in-Some
+returns-in_ok-talk_in-in-Some c =
+    let rows = rows_of (found_of c.in-Some.inner.now) in
+    let name_is : c.in-Some.name.now ≡ codes "talk" = (bytes_eq-Decides c.in-Some.name.now (codes "talk")).0 (sym c.eq-else-eq-2.ensures ∙ c.if-eq-3.true) in
+    (rows, named _ _ _ c.in-Some.name.now rows c.in-Some.ensures.name c.in-Some.ensures.rows ∙ ap (λ (n : Text). Some (n, rows)) name_is, c.in_ok-talk_in-in-Some.ensures)
+
+pub returns-in_ok-convert_in-in-Some : goal.returns-in_ok-convert_in-in-Some
+returns-in_ok-convert_in-in-Some c =
+    let rows = rows_of (found_of c.in-Some.inner.now) in
+    let name_is : c.in-Some.name.now ≡ codes "convert" = (bytes_eq-Decides c.in-Some.name.now (codes "convert")).0 (sym c.eq-else-eq-3.ensures ∙ c.if-eq-4.true) in
+    (rows, named _ _ _ c.in-Some.name.now rows c.in-Some.ensures.name c.in-Some.ensures.rows ∙ ap (λ (n : Text). Some (n, rows)) name_is, c.in_ok-convert_in-in-Some.ensures)
+
+pub returns-in_ok-explain_in-in-Some : goal.returns-in_ok-explain_in-in-Some
+returns-in_ok-explain_in-in-Some c =
+    let rows = rows_of (found_of c.in-Some.inner.now) in
+    let name_is : c.in-Some.name.now ≡ codes "explain" = (bytes_eq-Decides c.in-Some.name.now (codes "explain")).0 (sym c.eq-else-eq-4.ensures ∙ c.if-eq-5.true) in
+    (rows, named _ _ _ c.in-Some.name.now rows c.in-Some.ensures.name c.in-Some.ensures.rows ∙ ap (λ (n : Text). Some (n, rows)) name_is, c.in_ok-explain_in-in-Some.ensures)

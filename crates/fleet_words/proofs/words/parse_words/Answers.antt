@@ -1,7 +1,8 @@
 -- Words that `clap` takes name a job, and only these.
-use Rattle.std.proofs.Common.{◌≡◌, [], true, ap, map, subst, sym, string_bytes}
-use Rattle.clap.specs.Words.{App, fault_of, takes}
+use Rattle.std.proofs.Common.{◌≡◌, ◌∙◌, [], List, Option, true, ap, map, subst, sym, string_bytes}
+use Rattle.clap.specs.Words.{App, Row, Text, fault_of, is_simple, subcommand_of, takes}
 use Rattle.clap.specs.Faults.{is_simple_and_free}
+use Rattle.fleet_words.specs.Asked.{IsJobOf}
 use Rattle.fleet_words.proofs.words.parse_words.Goals as goal
 
 pub returns-in_ok-job_from-in-Ok-clause-taken : goal.returns-in_ok-job_from-in-Ok-clause-taken
@@ -18,3 +19,9 @@ returns-in-Err-clause-job c = tt
 pub returns-in-Err-clause-refused : goal.returns-in-Err-clause-refused
 returns-in-Err-clause-refused c = λ e.
     c.fault_from.ensures (c.in-Err.ensures.passes (subst (λ (a : App). takes a (map (λ w. string_bytes w) c.args.words.now) ≡ true) (sym c.in_ok-command.ensures) e))
+
+pub returns-in_ok-job_from-in-Ok-clause-job : goal.returns-in_ok-job_from-in-Ok-clause-job
+returns-in_ok-job_from-in-Ok-clause-job c =
+    let words = map (λ w. string_bytes w) c.args.words.now in
+    let met = (c.in-Ok.ensures.matches (ap is_simple c.in_ok-command.ensures)).1 ∙ ap (λ (a : App). subcommand_of a words) c.in_ok-command.ensures in
+    subst (λ (found : Option (Text × List Row)). IsJobOf found c.in_ok-job_from-in-Ok.field-0) met c.in_ok-job_from-in-Ok.ensures

@@ -6,7 +6,7 @@ use Rattle.fleet_history.specs.Legal.{IsLegal}
 use Rattle.fleet_history.proofs.Arrivals.{arrives-legal, arrivals_rise-legal}
 use Rattle.fleet_history.proofs.Legal.{no_conflict-legal, none_closed-legal}
 use Rattle.fleet_history.proofs.Once.{numbered-legal}
-use Rattle.fleet_plan.specs.Planned.{IsPlanned, IsAdvancingTick}
+use Rattle.fleet_planner.specs.Planned.{IsPlanned, IsAdvancingTick}
 use Rattle.fleet_bound.specs.Bound.{WaitsAreBounded}
 use Rattle.fleet_world.specs.declared.reply.Reply.{Reply}
 use Rattle.fleet_core.specs.Core.{World, opened_world}
@@ -14,7 +14,7 @@ use Rattle.fleet_core.specs.Hooks.{laws_of}
 use Rattle.fleet_world.specs.Laws.{KeepsRings, KeepsEachRing, CollectsInOrder, IsSameGround}
 use Rattle.fleet_world.specs.Played.{collected_of, end_of}
 use Rattle.fleet_world.specs.Run.{State, Run, state_of, opened_state}
-use Rattle.fleet_calls.proofs.Refusals.{not_refused}
+use Rattle.fleet_core.proofs.OpeningRefusals.{not_refused}
 use Rattle.fleet_world.proofs.Refused.{done, opening-at, opening-no_memory, at_event-memory, at_event-no_opening}
 use Rattle.fleet_world.proofs.Plays.{IsEnd, ends, same_length, end-left, end-clients, end-each, end-once}
 use Rattle.fleet_world.proofs.play.run.Goals as goal

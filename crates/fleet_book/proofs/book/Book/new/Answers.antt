@@ -1,7 +1,7 @@
 -- The book at the opening, in which nobody is owed anything.
-use Rattle.std.proofs.Common.{Bool, List, All, ap₂, subst, sym, false, replicate, arith}
+use Rattle.std.proofs.Common.{Bool, List, All, ap₂, subst, sym, replicate, arith}
 use Rattle.std.proofs.lemmas.List.Elements.{All-replicate}
-use Rattle.fleet_book.specs.Counts.{Counts, IsWithin, blank}
+use Rattle.fleet_book.specs.Counts.{IsWithin, blank}
 use Rattle.fleet_book.specs.declared.account.Account.{Account}
 use Rattle.fleet_book.proofs.book.Book.new.Goals as goal
 

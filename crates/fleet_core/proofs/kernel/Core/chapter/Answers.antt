@@ -1,5 +1,5 @@
 use Rattle.fleet_history.specs.History.{history_of}
-use Rattle.fleet_core.proofs.Goaled.{each_advances}
+use Rattle.fleet_planner.proofs.GoalsKept.{each_advances}
 use Rattle.fleet_core.proofs.Bounded.{bound-kept, waits-kept}
 use Rattle.fleet_core.proofs.Kept.{counts-small, pending-small}
 use Rattle.fleet_core.proofs.kernel.Core.chapter.Goals as goal

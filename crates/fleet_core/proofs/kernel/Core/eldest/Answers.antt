@@ -2,9 +2,9 @@ use Rattle.std.proofs.Common.{arith, ◌≡◌, ℕ, Option, Some, None, length,
 use Rattle.std.specs.Prelude.{MatchOption}
 use Rattle.fleet_history.specs.History.{history_of}
 use Rattle.fleet_history.proofs.Legal.{legal-opening}
-use Rattle.fleet_plan.specs.Planned.{waits}
+use Rattle.fleet_planner.specs.Planned.{waits}
 use Rattle.fleet_state.proofs.Parts.{wait-count}
-use Rattle.fleet_core.proofs.Goaled.{idle-is}
+use Rattle.fleet_planner.proofs.GoalsKept.{idle-is}
 use Rattle.fleet_core.proofs.kernel.Core.eldest.Goals as goal
 
 match_none : (o : Option ℕ) (P Q : Type 0) (R : ℕ → Type 0) → (P → Q) → MatchOption o P R → MatchOption o Q R

@@ -1,6 +1,6 @@
 use Rattle.fleet_history.specs.History.{history_of}
 use Rattle.fleet_core.proofs.Bounded.{waits-kept}
-use Rattle.fleet_core.proofs.Goaled.{each_advances}
+use Rattle.fleet_planner.proofs.GoalsKept.{each_advances}
 use Rattle.fleet_core.proofs.kernel.Core.finish.Goals as goal
 
 pub returns-clause-legal : goal.returns-clause-legal

@@ -1,7 +1,7 @@
 use Rattle.std.proofs.Common.{◌≡◌}
 use Rattle.fleet_history.specs.History.{history_of}
-use Rattle.fleet_plan.specs.Planned.{waits}
-use Rattle.fleet_core.proofs.Goaled.{idle-is}
+use Rattle.fleet_planner.specs.Planned.{waits}
+use Rattle.fleet_planner.proofs.GoalsKept.{idle-is}
 use Rattle.fleet_core.proofs.kernel.Core.is_idle.Goals as goal
 
 pub returns : goal.returns

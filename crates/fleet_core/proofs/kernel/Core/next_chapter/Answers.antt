@@ -4,14 +4,14 @@ use Rattle.fleet_history.specs.History.{History, history_of, start}
 use Rattle.fleet_history.specs.Next.{next_opening}
 use Rattle.fleet_history.proofs.Next.{next-robots}
 use Rattle.fleet_history.proofs.Ticks.{each_tick-start}
-use Rattle.fleet_plan.specs.Planned.{IsPlanned}
+use Rattle.fleet_planner.specs.Planned.{IsPlanned}
 use Rattle.fleet_state.proofs.NextOpening.{goes-on}
 use Rattle.fleet_state.proofs.Parts.{queue-count}
 use Rattle.fleet_core.specs.Hooks.{AreArrivals, AreFarewells}
 use Rattle.fleet_core.specs.Kept.{IsKept}
 use Rattle.fleet_bound.proofs.Keeps.{bound-next}
 use Rattle.fleet_core.proofs.Bounded.{bound-kept, waits-kept}
-use Rattle.fleet_core.proofs.Goaled.{each_advances, aimed-next}
+use Rattle.fleet_planner.proofs.GoalsKept.{each_advances, aimed-next}
 use Rattle.fleet_core.proofs.Hooked.{arrivals-next, farewells-next}
 use Rattle.fleet_core.proofs.Kept.{boxes-next, within-next, within-room}
 use Rattle.fleet_core.proofs.Apart.{chapter-no_memory-book_spent, done}

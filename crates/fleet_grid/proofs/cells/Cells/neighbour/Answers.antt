@@ -1,4 +1,4 @@
--- The floor cell beside another.
+-- The floor cell next to another.
 use Rattle.std.proofs.Common.{sym}
 use Rattle.fleet_grid.proofs.cells.Cells.neighbour.Goals as goal
 

@@ -1,4 +1,4 @@
--- The law that is kept beside its closure.
+-- The law that is kept with its closure.
 use Rattle.std.proofs.Common.{refl}
 use Rattle.fleet_hooks.proofs.tie.TieHook.new.Goals as goal
 

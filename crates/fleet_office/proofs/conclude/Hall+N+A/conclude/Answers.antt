@@ -1,12 +1,12 @@
 use Rattle.std.proofs.Common.{ℕ, List, ◌≡◌, length, sym, ap, ◌∙◌, subst, arith, inl, inr}
 use Rattle.fleet_history.specs.History.{history_of, clock}
 use Rattle.fleet_history.specs.Laws.{EachTick}
-use Rattle.fleet_plan.specs.Planned.{IsPlanned}
+use Rattle.fleet_planner.specs.Planned.{IsPlanned}
 use Rattle.fleet_core.specs.Core.{World}
 use Rattle.fleet_office.specs.Hall.{HallView}
 use Rattle.fleet_office.specs.Views.{ClientCore, AreOn, AreDistinct, AreSettled, cores}
 use Rattle.fleet_office.specs.Draining.{DrainsFirst}
-use Rattle.fleet_office.specs.inside.Rests.{AreRooms}
+use Rattle.fleet_office.specs.inside.Leftovers.{AreRooms}
 use Rattle.fleet_office.specs.Concluded.{AreHome, IsAway, IsMet, AreTold}
 use Rattle.fleet_office.proofs.Settling.{first_frame, lent_back}
 use Rattle.fleet_office.proofs.Ended.{told-same}
@@ -18,46 +18,46 @@ begun_with : {A : Type 0} (count : ℕ) (seen hall : HallView A) (cs items : Lis
 begun_with count seen hall cs items last same clients drains =
     subst (λ xs. DrainsFirst count hall.ends xs hall.world last) clients (subst (λ v. DrainsFirst count v.ends cs v.world last) same drains)
 
-pub come_to_rest-requires-clause-on : goal.come_to_rest-requires-clause-on
-come_to_rest-requires-clause-on g c =
+pub wind_down-requires-clause-on : goal.wind_down-requires-clause-on
+wind_down-requires-clause-on g c =
     let e = c.as_mut_slice.ensures.value in
     subst (λ xs. AreOn g.N.OfficeName.rings (cores xs)) (sym e) c.requires.on
 
-pub come_to_rest-requires-clause-distinct : goal.come_to_rest-requires-clause-distinct
-come_to_rest-requires-clause-distinct g c =
+pub wind_down-requires-clause-distinct : goal.wind_down-requires-clause-distinct
+wind_down-requires-clause-distinct g c =
     let e = c.as_mut_slice.ensures.value in
     let a = c.as_slice.ensures.value in
     subst (λ xs. AreDistinct (cores xs)) (a ∙ sym e) c.in_default.ensures.ok.distinct
 
-pub returns-in-Err-come_to_rest-clause-err : goal.returns-in-Err-come_to_rest-clause-err
-returns-in-Err-come_to_rest-clause-err g c =
+pub returns-in-Err-wind_down-clause-err : goal.returns-in-Err-wind_down-clause-err
+returns-in-Err-wind_down-clause-err g c =
     let count = length g.N.OfficeName.rings in
     let a = c.as_slice.ensures.value in
-    let home : AreHome count c.args.clients.items c.args.tickers.items (clock c.args.self.rest.world.history) =
-    subst (λ xs. AreHome count xs c.args.tickers.items (clock c.args.self.rest.world.history)) a c.in_default.ensures.ok in
-    let last = c.come_to_rest.new.self.world in
+    let home : AreHome count c.args.clients.items c.args.tickers.items (clock c.args.self.state.world.history) =
+    subst (λ xs. AreHome count xs c.args.tickers.items (clock c.args.self.state.world.history)) a c.in_default.ensures.ok in
+    let last = c.wind_down.new.self.world in
     let clients = ap cores c.as_mut_slice.ensures.value in
     let same = c.see_home.ensures.same in
-    let met : IsMet count c.args.self.rest.ends (cores c.args.clients.items) c.args.self.rest.world last c.in-Err-come_to_rest.fault =
-    subst (λ xs. IsMet count c.args.self.rest.ends xs c.args.self.rest.world last c.in-Err-come_to_rest.fault) clients
-    (subst (λ v. IsMet count v.ends (cores c.as_mut_slice.result.now) v.world last c.in-Err-come_to_rest.fault) same c.in-Err-come_to_rest.ensures.err) in
+    let met : IsMet count c.args.self.state.ends (cores c.args.clients.items) c.args.self.state.world last c.in-Err-wind_down.fault =
+    subst (λ xs. IsMet count c.args.self.state.ends xs c.args.self.state.world last c.in-Err-wind_down.fault) clients
+    (subst (λ v. IsMet count v.ends (cores c.as_mut_slice.result.now) v.world last c.in-Err-wind_down.fault) same c.in-Err-wind_down.ensures.err) in
     inr (home, (last, met))
 
-pub returns-in-Err-come_to_rest-clause-back : goal.returns-in-Err-come_to_rest-clause-back
-returns-in-Err-come_to_rest-clause-back g c =
+pub returns-in-Err-wind_down-clause-back : goal.returns-in-Err-wind_down-clause-back
+returns-in-Err-wind_down-clause-back g c =
     let items = c.args.clients.items in
     let e = c.as_mut_slice.ensures.value in
-    let same : cores c.come_to_rest.new.clients ≡ cores items = c.come_to_rest.ensures.clients ∙ ap cores e in
-    let now = lent_back c.come_to_rest.new.clients items c.args.clients.len (omega (arith, c.args.clients.ok.0)) same in
-    let h = c.come_home-in-Err-come_to_rest.ensures in
+    let same : cores c.wind_down.new.clients ≡ cores items = c.wind_down.ensures.clients ∙ ap cores e in
+    let now = lent_back c.wind_down.new.clients items c.args.clients.len (omega (arith, c.args.clients.ok.0)) same in
+    let h = c.come_home-in-Err-wind_down.ensures in
     (ap cores (h.0 ∙ now) ∙ same, h.1 ∙ c.see_home.ensures.tickers)
 
 pub finish-grid-requires-clause-on : goal.finish-grid-requires-clause-on
 finish-grid-requires-clause-on g c =
     let items = c.args.clients.items in
     let e = c.as_mut_slice.ensures.value in
-    let same : cores c.come_to_rest.new.clients ≡ cores items = c.come_to_rest.ensures.clients ∙ ap cores e in
-    let now = lent_back c.come_to_rest.new.clients items c.args.clients.len (omega (arith, c.args.clients.ok.0)) same in
+    let same : cores c.wind_down.new.clients ≡ cores items = c.wind_down.ensures.clients ∙ ap cores e in
+    let now = lent_back c.wind_down.new.clients items c.args.clients.len (omega (arith, c.args.clients.ok.0)) same in
     subst (AreOn g.N.OfficeName.rings) (sym (ap cores now ∙ same)) c.requires.on
 
 pub finish-grid-requires-clause-distinct : goal.finish-grid-requires-clause-distinct
@@ -65,32 +65,32 @@ finish-grid-requires-clause-distinct g c =
     let items = c.args.clients.items in
     let e = c.as_mut_slice.ensures.value in
     let a = c.as_slice.ensures.value in
-    let same : cores c.come_to_rest.new.clients ≡ cores items = c.come_to_rest.ensures.clients ∙ ap cores e in
-    let now = lent_back c.come_to_rest.new.clients items c.args.clients.len (omega (arith, c.args.clients.ok.0)) same in
+    let same : cores c.wind_down.new.clients ≡ cores items = c.wind_down.ensures.clients ∙ ap cores e in
+    let now = lent_back c.wind_down.new.clients items c.args.clients.len (omega (arith, c.args.clients.ok.0)) same in
     subst AreDistinct (ap cores a ∙ sym (ap cores now ∙ same)) c.in_default.ensures.ok.distinct
 
 pub finish-grid-requires-clause-settled : goal.finish-grid-requires-clause-settled
 finish-grid-requires-clause-settled g c =
     let items = c.args.clients.items in
     let e = c.as_mut_slice.ensures.value in
-    let same : cores c.come_to_rest.new.clients ≡ cores items = c.come_to_rest.ensures.clients ∙ ap cores e in
-    let now = lent_back c.come_to_rest.new.clients items c.args.clients.len (omega (arith, c.args.clients.ok.0)) same in
-    subst (AreSettled c.come_to_rest.new.self.ends) (sym now) c.in-Ok.ensures.settled
+    let same : cores c.wind_down.new.clients ≡ cores items = c.wind_down.ensures.clients ∙ ap cores e in
+    let now = lent_back c.wind_down.new.clients items c.args.clients.len (omega (arith, c.args.clients.ok.0)) same in
+    subst (AreSettled c.wind_down.new.self.ends) (sym now) c.in-Ok.ensures.settled
 
 pub finish-grid-requires-clause-rooms : goal.finish-grid-requires-clause-rooms
 finish-grid-requires-clause-rooms g c =
     let items = c.args.clients.items in
     let e = c.as_mut_slice.ensures.value in
-    let same : cores c.come_to_rest.new.clients ≡ cores items = c.come_to_rest.ensures.clients ∙ ap cores e in
-    let now = lent_back c.come_to_rest.new.clients items c.args.clients.len (omega (arith, c.args.clients.ok.0)) same in
-    subst (AreRooms c.in-Ok.rooms.items c.come_to_rest.new.self.world) (sym now) c.in-Ok.ensures.rooms
+    let same : cores c.wind_down.new.clients ≡ cores items = c.wind_down.ensures.clients ∙ ap cores e in
+    let now = lent_back c.wind_down.new.clients items c.args.clients.len (omega (arith, c.args.clients.ok.0)) same in
+    subst (AreRooms c.in-Ok.rooms.items c.wind_down.new.self.world) (sym now) c.in-Ok.ensures.rooms
 
 pub returns-clause-drains : goal.returns-clause-drains
 returns-clause-drains g c =
     let count = length g.N.OfficeName.rings in
-    let last = c.come_to_rest.new.self.world in
+    let last = c.wind_down.new.self.world in
     let f = c.finish-grid.ensures in
-    let hall = c.args.self.rest in
+    let hall = c.args.self.state in
     let items = c.args.clients.items in
     let drains = begun_with count c.see_home.new.self hall (cores c.as_mut_slice.result.now) (cores items) last c.see_home.ensures.same (ap cores c.as_mut_slice.ensures.value) c.in-Ok.ensures.drains in
     let frame = first_frame count hall.ends (cores items) hall.world last drains in
@@ -99,9 +99,9 @@ returns-clause-drains g c =
 pub returns-clause-planned : goal.returns-clause-planned
 returns-clause-planned g c =
     let count = length g.N.OfficeName.rings in
-    let last = c.come_to_rest.new.self.world in
+    let last = c.wind_down.new.self.world in
     let f = c.finish-grid in
-    let hall = c.args.self.rest in
+    let hall = c.args.self.state in
     let items = c.args.clients.items in
     let drains = begun_with count c.see_home.new.self hall (cores c.as_mut_slice.result.now) (cores items) last c.see_home.ensures.same (ap cores c.as_mut_slice.ensures.value) c.in-Ok.ensures.drains in
     subst (λ t. EachTick (IsPlanned f.result.0 t) (history_of f.result.1)) (first_frame count hall.ends (cores items) hall.world last drains).1 f.ensures.planned
@@ -111,17 +111,17 @@ returns-clause-told g c =
     let items = c.args.clients.items in
     let f = c.finish-grid in
     let e = c.as_mut_slice.ensures.value in
-    let same : cores c.come_to_rest.new.clients ≡ cores items = c.come_to_rest.ensures.clients ∙ ap cores e in
-    let now = lent_back c.come_to_rest.new.clients items c.args.clients.len (omega (arith, c.args.clients.ok.0)) same in
-    told-same f.result.1.number (history_of f.result.1) items c.come_to_rest.new.clients f.result.2.items same
+    let same : cores c.wind_down.new.clients ≡ cores items = c.wind_down.ensures.clients ∙ ap cores e in
+    let now = lent_back c.wind_down.new.clients items c.args.clients.len (omega (arith, c.args.clients.ok.0)) same in
+    told-same f.result.1.number (history_of f.result.1) items c.wind_down.new.clients f.result.2.items same
     (subst (λ xs. AreTold f.result.1.number (history_of f.result.1) xs f.result.2.items) now f.ensures.told)
 
 pub returns-clause-all : goal.returns-clause-all
 returns-clause-all g c =
     let count = length g.N.OfficeName.rings in
     let a = c.as_slice.ensures.value in
-    let home : AreHome count c.args.clients.items c.args.tickers.items (clock c.args.self.rest.world.history) =
-    subst (λ xs. AreHome count xs c.args.tickers.items (clock c.args.self.rest.world.history)) a c.in_default.ensures.ok in
+    let home : AreHome count c.args.clients.items c.args.tickers.items (clock c.args.self.state.world.history) =
+    subst (λ xs. AreHome count xs c.args.tickers.items (clock c.args.self.state.world.history)) a c.in_default.ensures.ok in
     home.all
 
 pub returns-in-Err : goal.returns-in-Err
@@ -138,7 +138,7 @@ returns-in-Err g c =
       tick = tt;
       all = tt;
       home = tt;
-      err = inl (subst (λ xs. IsAway count xs c.args.tickers.items (clock c.args.self.rest.world.history) c.in-Err.fault) c.as_slice.ensures.value c.in-Err.ensures.err);
+      err = inl (subst (λ xs. IsAway count xs c.args.tickers.items (clock c.args.self.state.world.history) c.in-Err.fault) c.as_slice.ensures.value c.in-Err.ensures.err);
       back = (ap cores h.0, h.1 ∙ c.see_home.ensures.tickers);
       on = subst (AreOn g.N.OfficeName.rings) (ap cores (sym h.0)) c.requires.on;
     }
@@ -152,13 +152,13 @@ returns-clause-advancing g c = c.finish-grid.ensures.advancing
 pub returns-clause-tick : goal.returns-clause-tick
 returns-clause-tick g c =
     let was = c.in_default.ensures.ok.counted in
-    let total = c.come_to_rest.ensures.total ∙ ap (λ v. v.total) c.see_home.ensures.same in
+    let total = c.wind_down.ensures.total ∙ ap (λ v. v.total) c.see_home.ensures.same in
     let made = c.clock-tick.ensures in
     (made ∙ ap clock (sym c.finish-grid.ensures.history), made ∙ sym c.recall_laws-2.ensures.lawful.clock ∙ total ∙ c.recall_laws.ensures.lawful.clock ∙ sym was)
 
 pub returns-clause-home : goal.returns-clause-home
 returns-clause-home g c =
-    subst (λ xs. AreHome (length g.N.OfficeName.rings) xs c.args.tickers.items (clock c.args.self.rest.world.history)) c.as_slice.ensures.value c.in_default.ensures.ok
+    subst (λ xs. AreHome (length g.N.OfficeName.rings) xs c.args.tickers.items (clock c.args.self.state.world.history)) c.as_slice.ensures.value c.in_default.ensures.ok
 
 pub returns-clause-err : goal.returns-clause-err
 returns-clause-err g c = tt
@@ -172,38 +172,38 @@ returns-clause-on g c = tt
 pub returns-clause-bounded : goal.returns-clause-bounded
 returns-clause-bounded g c = c.finish-grid.ensures.bounded
 
-pub returns-in-Err-come_to_rest-clause-bounded : goal.returns-in-Err-come_to_rest-clause-bounded
-returns-in-Err-come_to_rest-clause-bounded g c = tt
+pub returns-in-Err-wind_down-clause-bounded : goal.returns-in-Err-wind_down-clause-bounded
+returns-in-Err-wind_down-clause-bounded g c = tt
 
-pub returns-in-Err-come_to_rest-clause-on : goal.returns-in-Err-come_to_rest-clause-on
-returns-in-Err-come_to_rest-clause-on g c =
+pub returns-in-Err-wind_down-clause-on : goal.returns-in-Err-wind_down-clause-on
+returns-in-Err-wind_down-clause-on g c =
     let items = c.args.clients.items in
     let e = c.as_mut_slice.ensures.value in
-    let same : cores c.come_to_rest.new.clients ≡ cores items = c.come_to_rest.ensures.clients ∙ ap cores e in
-    let now = lent_back c.come_to_rest.new.clients items c.args.clients.len (omega (arith, c.args.clients.ok.0)) same in
-    let h = c.come_home-in-Err-come_to_rest.ensures in
+    let same : cores c.wind_down.new.clients ≡ cores items = c.wind_down.ensures.clients ∙ ap cores e in
+    let now = lent_back c.wind_down.new.clients items c.args.clients.len (omega (arith, c.args.clients.ok.0)) same in
+    let h = c.come_home-in-Err-wind_down.ensures in
     subst (AreOn g.N.OfficeName.rings) (sym (ap cores (h.0 ∙ now) ∙ same)) c.requires.on
 
-pub returns-in-Err-come_to_rest-clause-drains : goal.returns-in-Err-come_to_rest-clause-drains
-returns-in-Err-come_to_rest-clause-drains g c = tt
+pub returns-in-Err-wind_down-clause-drains : goal.returns-in-Err-wind_down-clause-drains
+returns-in-Err-wind_down-clause-drains g c = tt
 
-pub returns-in-Err-come_to_rest-clause-legal : goal.returns-in-Err-come_to_rest-clause-legal
-returns-in-Err-come_to_rest-clause-legal g c = tt
+pub returns-in-Err-wind_down-clause-legal : goal.returns-in-Err-wind_down-clause-legal
+returns-in-Err-wind_down-clause-legal g c = tt
 
-pub returns-in-Err-come_to_rest-clause-planned : goal.returns-in-Err-come_to_rest-clause-planned
-returns-in-Err-come_to_rest-clause-planned g c = tt
+pub returns-in-Err-wind_down-clause-planned : goal.returns-in-Err-wind_down-clause-planned
+returns-in-Err-wind_down-clause-planned g c = tt
 
-pub returns-in-Err-come_to_rest-clause-advancing : goal.returns-in-Err-come_to_rest-clause-advancing
-returns-in-Err-come_to_rest-clause-advancing g c = tt
+pub returns-in-Err-wind_down-clause-advancing : goal.returns-in-Err-wind_down-clause-advancing
+returns-in-Err-wind_down-clause-advancing g c = tt
 
-pub returns-in-Err-come_to_rest-clause-told : goal.returns-in-Err-come_to_rest-clause-told
-returns-in-Err-come_to_rest-clause-told g c = tt
+pub returns-in-Err-wind_down-clause-told : goal.returns-in-Err-wind_down-clause-told
+returns-in-Err-wind_down-clause-told g c = tt
 
-pub returns-in-Err-come_to_rest-clause-tick : goal.returns-in-Err-come_to_rest-clause-tick
-returns-in-Err-come_to_rest-clause-tick g c = tt
+pub returns-in-Err-wind_down-clause-tick : goal.returns-in-Err-wind_down-clause-tick
+returns-in-Err-wind_down-clause-tick g c = tt
 
-pub returns-in-Err-come_to_rest-clause-all : goal.returns-in-Err-come_to_rest-clause-all
-returns-in-Err-come_to_rest-clause-all g c = tt
+pub returns-in-Err-wind_down-clause-all : goal.returns-in-Err-wind_down-clause-all
+returns-in-Err-wind_down-clause-all g c = tt
 
-pub returns-in-Err-come_to_rest-clause-home : goal.returns-in-Err-come_to_rest-clause-home
-returns-in-Err-come_to_rest-clause-home g c = tt
+pub returns-in-Err-wind_down-clause-home : goal.returns-in-Err-wind_down-clause-home
+returns-in-Err-wind_down-clause-home g c = tt

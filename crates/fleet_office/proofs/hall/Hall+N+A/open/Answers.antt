@@ -1,14 +1,14 @@
 use Rattle.std.proofs.Common.{◌≡◌, length, ap, ◌∙◌}
 use Rattle.fleet_core.specs.Hooks.{laws_of}
 use Rattle.fleet_history.specs.Legal.{IsLegal}
-use Rattle.fleet_calls.specs.Opening.{IsRefused}
+use Rattle.fleet_core.specs.OpeningFaults.{IsRefused}
 use Rattle.fleet_office.specs.Views.{rings_of}
 use Rattle.fleet_office.proofs.Opening.{opened, all_on}
 use Rattle.fleet_office.proofs.Over.{refused-err, refused-ok}
 use Rattle.fleet_office.proofs.hall.Hall+N+A.open.Goals as goal
 
-pub new-rest-requires : goal.new-rest-requires
-new-rest-requires g c =
+pub new-state-requires : goal.new-state-requires
+new-state-requires g c =
     let s = c.desk.inside in
     let named : rings_of s.ends.items ≡ g.N.OfficeName.rings = ap (λ d. rings_of d.ends) c.desk.view_is ∙ c.requires.named.rings in
     let count : c.len-count.result ≡ length s.clients.items = c.len-count.ensures ∙ s.clients.ok.0 in

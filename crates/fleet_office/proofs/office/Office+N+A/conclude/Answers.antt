@@ -1,7 +1,7 @@
 use Rattle.std.proofs.Common.{length}
 use Rattle.fleet_history.specs.History.{history_of}
 use Rattle.fleet_history.specs.Laws.{EachTick}
-use Rattle.fleet_plan.specs.Planned.{IsPlanned}
+use Rattle.fleet_planner.specs.Planned.{IsPlanned}
 use Rattle.fleet_office.specs.Hall.{IsLawful}
 use Rattle.fleet_office.specs.Views.{cores}
 use Rattle.fleet_office.specs.Concluded.{IsLast, IsUnconcluded}
@@ -11,7 +11,7 @@ use Rattle.fleet_office.proofs.office.Office+N+A.conclude.Goals as goal
 pub returns : goal.returns
 returns g c =
     let rings = g.N.OfficeName.rings in
-    let hall = c.into_inner-hall.result.rest in
+    let hall = c.into_inner-hall.result.state in
     let lawful = c.recall_laws.ensures.lawful in
     let r = c.conclude.result in
     let e = c.conclude.ensures in

@@ -1,6 +1,6 @@
 use Rattle.std.proofs.Common.{length}
 use Rattle.fleet_core.specs.Hooks.{laws_of}
-use Rattle.fleet_calls.specs.Opening.{IsRefused}
+use Rattle.fleet_core.specs.OpeningFaults.{IsRefused}
 use Rattle.fleet_office.proofs.Over.{refused-err, refused-ok}
 use Rattle.fleet_office.proofs.office.Office+N+A.open.Goals as goal
 

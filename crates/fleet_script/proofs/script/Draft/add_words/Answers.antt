@@ -1,5 +1,5 @@
--- A header line behind an event, and one before all events.
-use Rattle.std.proofs.Common.{◌≡◌, ℕ, Bool, true, false, cond, List, [], ◌∷◌, length, Option, None, Result, Err, refl, subst, sym, ◌∙◌, true-eqb, false-eqb, arith}
+-- A header line after an event, and one before all events.
+use Rattle.std.proofs.Common.{◌≡◌, ℕ, Bool, true, false, cond, List, [], ◌∷◌, length, Option, None, Err, refl, subst, sym, ◌∙◌, true-eqb, false-eqb, arith}
 use Rattle.fleet_map.specs.Text.{words_of}
 use Rattle.fleet_book.specs.declared.event.Event.{Event}
 use Rattle.fleet_script.specs.Script.{Draft, Repeated, or_line, events_of, no_events, with_header, with_line_of, with_words}

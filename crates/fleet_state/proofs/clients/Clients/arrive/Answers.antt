@@ -1,4 +1,4 @@
--- The book and the tally of the client behind one more arrival.
+-- The book and the tally of the client after one more arrival.
 use Rattle.std.proofs.Common.{◌≡◌, ◌∙◌, ℕ, ◌+◌, ◌<◌, ap, sym, subst, length, arith}
 use Rattle.std.specs.Prelude.{slice_set}
 use Rattle.std.proofs.lemmas.List.{get_or_read}

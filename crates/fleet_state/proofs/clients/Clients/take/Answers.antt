@@ -1,4 +1,4 @@
--- The book and the tally of the client behind one more verdict.
+-- The book and the tally of the client after one more verdict.
 use Rattle.std.proofs.Common.{◌≡◌, ◌∙◌, ℕ, ◌+◌, ◌<◌, ap, length, arith}
 use Rattle.std.specs.Prelude.{slice_set}
 use Rattle.std.proofs.lemmas.List.{get_or_read}

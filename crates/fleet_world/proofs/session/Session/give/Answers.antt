@@ -1,7 +1,7 @@
 -- A give to a client that there is not, of no notice, to an outlet that is full, and one that is done.
 use Rattle.std.proofs.Common.{◌∙◌, ◌<◌, ◌≤◌, length, subst, sym, refl, ap}
 use Rattle.std.specs.Prelude.{slice_index_or, slice_set}
-use Rattle.fleet_calls.proofs.Fronts.{nil_from_none}
+use Rattle.fleet_core.proofs.Fronts.{nil_from_none}
 use Rattle.fleet_core.specs.Core.{World, pending, without_first}
 use Rattle.std.proofs.lemmas.Result.{IfOk-from_err}
 use Rattle.fleet_core.proofs.Stamped.{set-back}

@@ -1,7 +1,7 @@
 use Rattle.std.proofs.Common.{◌≡◌, ◌∙◌, sym, refl, ap}
 use Rattle.std.proofs.lemmas.List.{length-replicate}
 use Rattle.fleet_history.specs.History.{clients, unknown_client}
-use Rattle.fleet_calls.proofs.Refusals.{refused-memory, refused-ok}
+use Rattle.fleet_core.proofs.OpeningRefusals.{refused-memory, refused-ok}
 use Rattle.fleet_core.specs.Core.{World}
 use Rattle.fleet_core.specs.Hooks.{laws_of}
 use Rattle.fleet_world.proofs.Refused.{fault-at}

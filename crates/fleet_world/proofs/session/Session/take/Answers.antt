@@ -1,7 +1,7 @@
 -- A take of a client that there is not, of one with no order, and one that is done.
 use Rattle.std.proofs.Common.{◌≡◌, ◌∙◌, ◌+◌, ◌<◌, ◌≤◌, [], length, Some, subst, sym, refl, ap}
 use Rattle.std.specs.Prelude.{slice_get, slice_set}
-use Rattle.fleet_calls.proofs.Fronts.{nil_from_none}
+use Rattle.fleet_core.proofs.Fronts.{nil_from_none}
 use Rattle.fleet_world.specs.Run.{Lists, lane, with_taken}
 use Rattle.fleet_world.proofs.Fronts.{lists_there}
 use Rattle.fleet_world.proofs.session.Session.take.Goals as goal

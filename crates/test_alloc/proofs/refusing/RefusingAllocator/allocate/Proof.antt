@@ -47,7 +47,7 @@ use Rattle.test_alloc.proofs.refusing.RefusingAllocator.allocate.Statement as st
 use Rattle.test_alloc.proofs.refusing.RefusingAllocator.allocate.Code as code
 
 -- ---- `is_refused` at a call: what it is handed, and what a caller has of it
--- what runs behind the first statement of a body, and behind the first n
+-- what runs after the first statement of a body, and after the first n
 abbrev behind : Body → Body
 behind (seq x₀ x₁) = x₁
 behind skip = skip

@@ -1,0 +1,623 @@
+"""Nashirudder in this process, by ctypes over the shared library that tools/build_c makes. Python 3.9 or later, no other package.
+
+    from nashirudder_c import Fleet
+
+    with Fleet("site.map", robots=[0, 4, 24]) as fleet:
+        errand = fleet.go(robot=1, cell=12)
+        errand.accepted()                 # its number, or Refused
+        while not errand.arrived():
+            fleet.tick()
+        print(fleet.look().cells)
+
+`Fleet` has the names of nashirudder.py, which speaks with the program `fleet talk` over pipes, so a script runs with either. `Handle` has
+the calls of nashirudder.h, one by one.
+
+The library is looked for at the path in NASHIRUDDER_LIBRARY, else as libnashirudder.so next to this file, else where the system looks.
+nashirudder.h says what each call does. A call that is refused raises Refused, whose `name` and `code` say why, or MemoryError; the
+fleet is then as it was. One call at a time on a fleet: ctypes lets go of the interpreter's lock, so two threads need a lock of their own.
+"""
+from __future__ import annotations
+
+import ctypes
+import os
+import pathlib
+from collections import deque
+from dataclasses import dataclass
+from typing import Deque, Dict, List, Optional, Sequence, Set, Tuple, Union
+
+__all__ = ["Arrival", "Chapter", "Errand", "Farewell", "Fleet", "FleetError", "Handle", "Judgement", "Look", "Notice", "Refused", "Report",
+           "Waiting", "check_step", "first_bridge", "distances", "CODES", "VERDICTS"]
+
+CODES = {
+    0: "done", 1: "no-memory", 2: "not-open", 3: "already-open", 4: "no-client", 5: "no-robot", 6: "mailbox-full", 7: "chapter-full",
+    8: "clock-spent", 9: "already-shut", 10: "book-spent", 11: "no-notice", 12: "too-wide", 13: "idle", 14: "has-bridge", 15: "wrong-length",
+    20: "map-header", 21: "map-size", 22: "map-row", 23: "map-cell", 24: "map-trailing",
+    30: "bad-setup", 31: "robot-count", 32: "start-blocked", 33: "start-shared",
+    40: "too-many", 41: "from-blocked", 42: "from-shared", 43: "to-length", 44: "off-floor", 45: "not-adjacent", 46: "vertex-conflict",
+    47: "swapping-conflict", 48: "no-bridge", 49: "goal-blocked",
+}
+DONE, NO_MEMORY, NO_NOTICE, IDLE, HAS_BRIDGE, WRONG_LENGTH, NO_BRIDGE = 0, 1, 11, 13, 14, 15, 48
+FAR = 4294967295
+
+VERDICTS = {
+    1: "accepted", 2: "closed", 3: "withdrawn", 4: "client-closed", 5: "no-robot", 6: "robot-shut", 7: "no-cell", 8: "blocked",
+    9: "unreachable", 10: "queue-full", 11: "life-spent", 12: "no-errand", 13: "too-late",
+}
+
+
+class _Fleet(ctypes.Structure):
+    _fields_ = [("at", ctypes.c_void_p), ("is_open", ctypes.c_bool)]
+
+
+class _Setup(ctypes.Structure):
+    _fields_ = [("life", ctypes.c_uint64), ("orders", ctypes.c_uint64), ("clock", ctypes.c_uint64), ("clients", ctypes.c_uint32),
+                ("lane", ctypes.c_uint32), ("outlet", ctypes.c_uint32), ("queue", ctypes.c_uint32), ("mailbox", ctypes.c_uint32),
+                ("chapter", ctypes.c_uint32), ("chapters", ctypes.c_uint32)]
+
+
+class _Robot(ctypes.Structure):
+    _fields_ = [("cell", ctypes.c_uint32), ("ranks", ctypes.c_uint8 * 4)]
+
+
+class _Fault(ctypes.Structure):
+    _fields_ = [("first", ctypes.c_uint64), ("second", ctypes.c_uint64), ("code", ctypes.c_uint32)]
+
+
+class _Judgement(ctypes.Structure):
+    _fields_ = [("number", ctypes.c_uint64), ("verdict", ctypes.c_uint32)]
+
+
+class _Report(ctypes.Structure):
+    _fields_ = [("tick", ctypes.c_uint64), ("arrived", ctypes.c_uint32), ("farewells", ctypes.c_uint32)]
+
+
+class _Note(ctypes.Structure):
+    _fields_ = [("seq", ctypes.c_uint64), ("order", ctypes.c_uint64), ("number", ctypes.c_uint64), ("tick", ctypes.c_uint64),
+                ("verdict", ctypes.c_uint32), ("robot", ctypes.c_uint32), ("cell", ctypes.c_uint32), ("stamp", ctypes.c_uint32)]
+
+
+class _Edge(ctypes.Structure):
+    _fields_ = [("lower", ctypes.c_uint32), ("upper", ctypes.c_uint32)]
+
+
+class FleetError(Exception):
+    """What every exception of this module is, but MemoryError."""
+
+
+class Refused(FleetError):
+    """The library refused a call: `name` is the word for the reason, `code` its number, `numbers` what it names (a line, robots)."""
+
+    def __init__(self, code: int, numbers: Tuple[int, int] = (0, 0), name: Optional[str] = None):
+        self.code = code
+        self.name = name or CODES.get(code, "unknown")
+        self.numbers = numbers
+        super().__init__(self.name)
+
+
+class Waiting(FleetError):
+    """The order was not judged yet: its client's mailbox has no room until errands are done."""
+
+
+@dataclass(frozen=True)
+class Judgement:
+    """The verdict of an order, and the number of the errand where it was accepted."""
+
+    verdict: str
+    number: Optional[int]
+
+
+@dataclass(frozen=True)
+class Report:
+    """The ticks made so far, and how many robots arrived and took their leave in this one."""
+
+    tick: int
+    arrived: int
+    farewells: int
+
+
+@dataclass(frozen=True)
+class Notice:
+    """What a client is told: the verdict of its order, or an arrival, whose `verdict` is None."""
+
+    seq: int
+    order: Optional[int]
+    verdict: Optional[str]
+    number: Optional[int]
+    robot: Optional[int] = None
+    cell: Optional[int] = None
+    tick: Optional[int] = None
+    stamp: Optional[int] = None
+
+
+def _load() -> ctypes.CDLL:
+    here = os.path.join(os.path.dirname(os.path.abspath(__file__)), "libnashirudder.so")
+    path = os.environ.get("NASHIRUDDER_LIBRARY") or (here if os.path.exists(here) else "libnashirudder.so")
+    library = ctypes.CDLL(path)
+    fleet, u32, u64, size = ctypes.POINTER(_Fleet), ctypes.c_uint32, ctypes.c_uint64, ctypes.c_size_t
+    text, to = (ctypes.c_char_p, size), ctypes.POINTER
+    takes = {
+        "setup_default": (u32, to(_Setup)),
+        "open": (*text, to(_Robot), size, to(_Setup), fleet, to(_Fault)),
+        "close": (fleet,),
+        "go": (fleet, u32, u32, u32, to(_Judgement)),
+        "close_client": (fleet, u32, to(_Judgement)),
+        "withdraw": (fleet, u32, u64, to(_Judgement)),
+        "tick": (fleet, to(_Report)),
+        "shut": (fleet, u32, to(ctypes.c_bool)),
+        "give": (fleet, u32, to(_Note)),
+        "pending_count": (fleet, u32, to(u64)),
+        "widen": (fleet, u32, u64),
+        "placement": (fleet, to(u32), size),
+        "clock": (fleet, to(u64)),
+        "wait_of": (fleet, u32, to(u64)),
+        "eldest": (fleet, to(u32)),
+        "is_idle": (fleet, to(ctypes.c_bool)),
+        "idle_within": (fleet, to(u64)),
+        "is_bridgeless": (fleet, to(ctypes.c_bool)),
+        "trace": (fleet, to(ctypes.c_uint8), size, to(size)),
+        "next_chapter": (fleet,),
+        "keep": (fleet, size),
+        "check_step": (*text, to(u32), size, to(u32), size, to(_Fault)),
+        "first_bridge": (*text, to(_Edge), to(_Fault)),
+        "distances": (*text, u32, to(u32), size, to(_Fault)),
+    }
+    for name, types in takes.items():
+        call = getattr(library, "nashirudder_" + name)
+        call.argtypes = types
+        call.restype = None if name in ("setup_default", "close") else u32
+    return library
+
+
+_library = _load()
+
+
+def _check(code: int, fault: Optional[_Fault] = None) -> None:
+    if code == NO_MEMORY:
+        raise MemoryError("nashirudder: memory was refused")
+    if code != DONE:
+        raise Refused(code, (fault.first, fault.second) if fault is not None and fault.code == code else (0, 0))
+
+
+def _bytes(map: Union[str, bytes]) -> bytes:
+    return map.encode() if isinstance(map, str) else bytes(map)
+
+
+def _numbers(items: Sequence[int]) -> ctypes.Array:
+    # A list is never null, even an empty one.
+    return (ctypes.c_uint32 * max(1, len(items)))(*items)
+
+
+class Handle:
+    """Robots on a map, and clients that send them to cells: the calls of nashirudder.h.
+
+    `map` is the text of a .map file. `robots` has each robot's start cell, or a pair of it and four ranks of the ways north, east,
+    south and west. The further words are limits, as in nashirudder_setup: life, orders, clock, lane, outlet, queue, mailbox, chapter,
+    chapters.
+    """
+
+    def __init__(self, map: Union[str, bytes], robots: Sequence[Union[int, Tuple[int, Sequence[int]]]], clients: int = 1, **limits: int):
+        self._handle = _Fleet()
+        self._count = len(robots)
+        setup = _Setup()
+        _library.nashirudder_setup_default(clients, ctypes.byref(setup))
+        for name, value in limits.items():
+            if name not in dict(_Setup._fields_):
+                raise TypeError(f"no limit is named {name}")
+            setattr(setup, name, value)
+        starts = (_Robot * max(1, len(robots)))()
+        for at, robot in enumerate(robots):
+            cell, ranks = (robot, (0, 0, 0, 0)) if isinstance(robot, int) else robot
+            starts[at] = _Robot(cell, (ctypes.c_uint8 * 4)(*ranks))
+        text, fault = _bytes(map), _Fault()
+        code = _library.nashirudder_open(text, len(text), starts, len(robots), ctypes.byref(setup), ctypes.byref(self._handle), ctypes.byref(fault))
+        _check(code, fault)
+
+    def close(self) -> None:
+        """Frees what the fleet owns. Every later call is refused."""
+        _library.nashirudder_close(ctypes.byref(self._handle))
+
+    def __enter__(self) -> "Handle":
+        return self
+
+    def __exit__(self, *_what) -> None:
+        self.close()
+
+    def __del__(self) -> None:
+        if getattr(self, "_handle", None) is not None:
+            self.close()
+
+    def __copy__(self):
+        raise TypeError("a fleet is not copied")
+
+    def __deepcopy__(self, _memo):
+        raise TypeError("a fleet is not copied")
+
+    def __reduce__(self):
+        raise TypeError("a fleet is not copied")
+
+    def _judged(self, call, *arguments: int) -> Judgement:
+        told = _Judgement()
+        _check(call(ctypes.byref(self._handle), *arguments, ctypes.byref(told)))
+        return Judgement(VERDICTS[told.verdict], told.number or None)
+
+    def go(self, robot: int, cell: int, client: int = 0) -> Judgement:
+        """The client orders the robot to the cell."""
+        return self._judged(_library.nashirudder_go, client, robot, cell)
+
+    def close_client(self, client: int = 0) -> Judgement:
+        """The client's last order."""
+        return self._judged(_library.nashirudder_close_client, client)
+
+    def withdraw(self, number: int, client: int = 0) -> Judgement:
+        """The client gives up its accepted errand of that number."""
+        return self._judged(_library.nashirudder_withdraw, client, number)
+
+    def tick(self, count: int = 1) -> Report:
+        """All robots make one step, as many times; the report is the last one's, with all arrivals and farewells."""
+        if count < 1:
+            raise ValueError("a tick is made at least once")
+        did, arrived, farewells = _Report(), 0, 0
+        for _ in range(count):
+            _check(_library.nashirudder_tick(ctypes.byref(self._handle), ctypes.byref(did)))
+            arrived += did.arrived
+            farewells += did.farewells
+        return Report(did.tick, arrived, farewells)
+
+    def shut(self, robot: int) -> bool:
+        """The robot gets no more errands. True where it has none, and so took its leave at once."""
+        left = ctypes.c_bool()
+        _check(_library.nashirudder_shut(ctypes.byref(self._handle), robot, ctypes.byref(left)))
+        return left.value
+
+    def give(self, client: int = 0) -> Optional[Notice]:
+        """The client's next notice, or None."""
+        note = _Note()
+        code = _library.nashirudder_give(ctypes.byref(self._handle), client, ctypes.byref(note))
+        if code == NO_NOTICE:
+            return None
+        _check(code)
+        if note.verdict:
+            return Notice(note.seq, note.order, VERDICTS[note.verdict], note.number or None)
+        return Notice(note.seq, None, None, note.number, note.robot, note.cell, note.tick, note.stamp)
+
+    def _number(self, call, kind, *arguments: int, nothing: Optional[int] = None):
+        told = kind()
+        code = call(ctypes.byref(self._handle), *arguments, ctypes.byref(told))
+        if nothing is not None and code == nothing:
+            return None
+        _check(code)
+        return told.value
+
+    def pending_count(self, client: int = 0) -> int:
+        """How many notices the client was not given yet."""
+        return self._number(_library.nashirudder_pending_count, ctypes.c_uint64, client)
+
+    def widen(self, extra: int, client: int = 0) -> None:
+        """Lets the client's mailbox hold this many more notices and unfinished errands."""
+        _check(_library.nashirudder_widen(ctypes.byref(self._handle), client, extra))
+
+    def placement(self) -> List[int]:
+        """Where the robots stand, by number."""
+        cells = (ctypes.c_uint32 * self._count)()
+        _check(_library.nashirudder_placement(ctypes.byref(self._handle), cells, self._count))
+        return list(cells)
+
+    def clock(self) -> int:
+        """The ticks made so far."""
+        return self._number(_library.nashirudder_clock, ctypes.c_uint64)
+
+    def wait_of(self, robot: int) -> Optional[int]:
+        """How many ticks the robot has waited, or None where it has no errand."""
+        return self._number(_library.nashirudder_wait_of, ctypes.c_uint64, robot, nothing=IDLE)
+
+    def eldest(self) -> Optional[int]:
+        """The robot that has waited longest, or None where nobody has an errand."""
+        return self._number(_library.nashirudder_eldest, ctypes.c_uint32, nothing=IDLE)
+
+    def is_idle(self) -> bool:
+        """Whether nobody has an errand."""
+        return self._number(_library.nashirudder_is_idle, ctypes.c_bool)
+
+    def idle_within(self) -> Optional[int]:
+        """Within how many ticks nobody has an errand any more, or None on a map with a bridge."""
+        return self._number(_library.nashirudder_idle_within, ctypes.c_uint64, nothing=HAS_BRIDGE)
+
+    def is_bridgeless(self) -> bool:
+        """Whether the map has no bridge."""
+        return self._number(_library.nashirudder_is_bridgeless, ctypes.c_bool)
+
+    def trace(self) -> str:
+        """The trace of the present chapter."""
+        length = ctypes.c_size_t(1024)
+        while True:
+            text = (ctypes.c_uint8 * length.value)()
+            code = _library.nashirudder_trace(ctypes.byref(self._handle), text, len(text), ctypes.byref(length))
+            if code != WRONG_LENGTH:
+                _check(code)
+                return bytes(text[:length.value]).decode()
+
+    def next_chapter(self) -> None:
+        """Begins the next chapter; the entries of the present one are let go."""
+        _check(_library.nashirudder_next_chapter(ctypes.byref(self._handle)))
+
+    def keep(self, size: int) -> None:
+        """Keeps distances to goals that no robot has any more, up to this many bytes."""
+        _check(_library.nashirudder_keep(ctypes.byref(self._handle), size))
+
+
+def check_step(map: Union[str, bytes], before: Sequence[int], after: Sequence[int]) -> None:
+    """Returns where the step is free of conflicts, and else raises Refused with the first fault."""
+    text, fault = _bytes(map), _Fault()
+    code = _library.nashirudder_check_step(text, len(text), _numbers(before), len(before), _numbers(after), len(after), ctypes.byref(fault))
+    _check(code, fault)
+
+
+def first_bridge(map: Union[str, bytes]) -> Optional[Tuple[int, int]]:
+    """The two cells of the map's first bridge, or None where it has none."""
+    text, edge, fault = _bytes(map), _Edge(), _Fault()
+    code = _library.nashirudder_first_bridge(text, len(text), ctypes.byref(edge), ctypes.byref(fault))
+    if code == NO_BRIDGE:
+        return None
+    _check(code, fault)
+    return edge.lower, edge.upper
+
+
+def distances(map: Union[str, bytes], goal: int, cells: int) -> List[Optional[int]]:
+    """For each of the map's cells, of which there are `cells`, the length of a shortest walk to the goal, None where there is none."""
+    text, told, fault = _bytes(map), (ctypes.c_uint32 * max(1, cells))(), _Fault()
+    code = _library.nashirudder_distances(text, len(text), goal, told, cells, ctypes.byref(fault))
+    _check(code, fault)
+    return [None if away == FAR else away for away in told[:cells]]
+
+
+# ---- the names of nashirudder.py
+
+
+@dataclass(frozen=True)
+class Arrival:
+    """A robot arrived at the cell of an errand, in this tick."""
+
+    robot: int
+    client: int
+    number: int
+    cell: int
+    tick: int
+    stamp: int
+
+
+@dataclass(frozen=True)
+class Farewell:
+    """A robot that is shut has no errand left."""
+
+    robot: int
+    stamp: int
+
+
+@dataclass(frozen=True)
+class Look:
+    """How the fleet stands. `eldest` is the robot that has waited longest, None where no robot has an errand. `within` is the number of
+    ticks within which all errands are done if none is added, None on a map with a bridge."""
+
+    tick: int
+    chapter: int
+    entries: int
+    eldest: Optional[int]
+    within: Optional[int]
+    cells: List[int]
+
+    @property
+    def idle(self) -> bool:
+        """Whether no robot has an errand."""
+        return self.eldest is None
+
+
+@dataclass(frozen=True)
+class Chapter:
+    """A chapter that was handed out: its number from 0, and how many entries it has."""
+
+    number: int
+    entries: int
+
+
+class Errand:
+    """A robot is to come to a cell, as a client asked."""
+
+    def __init__(self, fleet: "Fleet", client: int, robot: int, cell: int) -> None:
+        self._fleet = fleet
+        self._judged: Optional[Judgement] = None
+        self._arrival: Optional[Arrival] = None
+        self.client = client
+        self.robot = robot
+        self.cell = cell
+
+    def accepted(self) -> int:
+        """The errand's number among its client's accepted ones, from 1.
+
+        Raises Refused with the verdict's name where it was refused, and Waiting where it was not judged yet.
+        """
+        if self._judged is None:
+            self._fleet._take(self.client)
+        if self._judged is None:
+            raise Waiting("the mailbox has no room yet")
+        if self._judged.number is None:
+            raise _refusal(self._judged)
+        return self._judged.number
+
+    def arrived(self) -> Optional[Arrival]:
+        """The arrival, or None where the robot is still on its way. Raises as `accepted` does."""
+        self.accepted()
+        return self._arrival
+
+
+def _refusal(judged: Judgement) -> Refused:
+    return Refused(list(VERDICTS.values()).index(judged.verdict) + 1, name=judged.verdict)
+
+
+class Fleet:
+    """A fleet on a map, with the names of nashirudder.py.
+
+    `map` is the path of a .map file. `robots` are the start cells, 1 to 512, each also as a pair of it and four ranks. The further words
+    are limits; `lane` is how many orders of a client may wait here. With `traces` each chapter is written into that folder as
+    chapter-N.json; with `roll`, which is the default, a full chapter is followed by the next.
+    """
+
+    def __init__(self, map: Union[str, "os.PathLike[str]"], robots: Sequence[Union[int, Tuple[int, Sequence[int]]]], clients: int = 1, *,
+                 traces: Union[str, "os.PathLike[str]", None] = None, roll: bool = True, **limits: int) -> None:
+        self._handle = Handle(pathlib.Path(map).read_bytes(), robots, clients, **limits)
+        self._clients = clients
+        self._lane = limits.get("lane", 64)
+        self._roll = roll
+        self._traces = None if traces is None else pathlib.Path(traces)
+        self._robots = len(robots)
+        self._number = self._entries = 0
+        self._lanes: Dict[int, Deque[Tuple[str, int, int, Optional[Errand]]]] = {client: deque() for client in range(clients)}
+        self._errands: Dict[Tuple[int, int], Errand] = {}
+        self._leaving: Set[int] = set()
+        self._arrivals: List[Arrival] = []
+        self._farewells: List[Farewell] = []
+
+    def _entered(self, call):
+        """Makes a call that is an entry of the history; where the chapter is full and chapters roll, in the next one."""
+        try:
+            result = call()
+        except Refused as refused:
+            if refused.name != "chapter-full" or not self._roll:
+                raise
+            self.chapter()
+            result = call()
+        self._entries += 1
+        return result
+
+    def _collect(self, client: int) -> bool:
+        """Takes in the client's notices; whether there were some."""
+        some = False
+        while True:
+            notice = self._handle.give(client)
+            if notice is None:
+                return some
+            some = True
+            if notice.verdict is None:
+                arrival = Arrival(notice.robot, client, notice.number, notice.cell, notice.tick, notice.stamp)
+                self._arrivals.append(arrival)
+                errand = self._errands.pop((client, notice.number), None)
+                if errand is not None:
+                    errand._arrival = arrival
+
+    def _take(self, client: int) -> Optional[Judgement]:
+        """Takes a client's orders as long as there is room, and returns the last verdict."""
+        judged = None
+        lane = self._lanes[client]
+        while lane:
+            kind, first, second, errand = lane[0]
+            order = {"go": lambda: self._handle.go(first, second, client), "withdraw": lambda: self._handle.withdraw(first, client),
+                     "close": lambda: self._handle.close_client(client)}[kind]
+            try:
+                judged = self._entered(order)
+            except Refused as refused:
+                if refused.name == "mailbox-full" and self._collect(client):
+                    continue
+                if refused.name == "mailbox-full":
+                    return None
+                raise
+            lane.popleft()
+            self._collect(client)
+            if errand is not None:
+                errand._judged = judged
+                if judged.number is not None:
+                    self._errands[client, judged.number] = errand
+        return judged
+
+    def _post(self, client: int, kind: str, first: int = 0, second: int = 0, errand: Optional[Errand] = None) -> Optional[Judgement]:
+        if client not in self._lanes:
+            raise Refused(4)
+        if len(self._lanes[client]) >= self._lane:
+            raise Refused(0, name="lane-full")
+        self._lanes[client].append((kind, first, second, errand))
+        return self._take(client)
+
+    def go(self, robot: int, cell: int, client: int = 0) -> Errand:
+        """Asks a robot to come to a cell, after the errands that it has. The verdict is the errand's `accepted`."""
+        errand = Errand(self, client, robot, cell)
+        self._post(client, "go", robot, cell, errand)
+        return errand
+
+    def withdraw(self, errand: Errand) -> None:
+        """Takes back an errand that its robot is not heading for yet. Raises Refused with "too-late" or "no-errand"."""
+        judged = self._post(errand.client, "withdraw", errand.accepted())
+        if judged is not None and judged.verdict != "withdrawn":
+            raise _refusal(judged)
+
+    def close_client(self, client: int = 0) -> None:
+        """No order of this client is accepted any more."""
+        judged = self._post(client, "close")
+        if judged is not None and judged.verdict != "closed":
+            raise _refusal(judged)
+
+    def shut(self, robot: int) -> Optional[Farewell]:
+        """A robot finishes its errands and gets no more. Returns its farewell if it has none."""
+        self._farewells = []
+        if self._entered(lambda: self._handle.shut(robot)):
+            self._farewells = [Farewell(robot, 0)]
+            return self._farewells[0]
+        self._leaving.add(robot)
+        return None
+
+    def tick(self, count: int = 1) -> List[int]:
+        """Moves every robot by `count` steps, and returns the robots' cells. Orders that wait are taken before.
+
+        `arrivals` and `farewells` then have what happened.
+        """
+        for client, lane in self._lanes.items():
+            if lane:
+                self._take(client)
+        self._arrivals, self._farewells = [], []
+        for _ in range(count):
+            self._entered(self._handle.tick)
+            for client in range(self._clients):
+                self._collect(client)
+            gone = sorted(robot for robot in self._leaving if self._handle.wait_of(robot) is None)
+            self._farewells += [Farewell(robot, 0) for robot in gone]
+            self._leaving.difference_update(gone)
+        self._arrivals.sort(key=lambda arrival: (arrival.tick, arrival.robot))
+        return self.cells
+
+    @property
+    def arrivals(self) -> List[Arrival]:
+        """The arrivals of the last call of `tick`."""
+        return list(self._arrivals)
+
+    @property
+    def farewells(self) -> List[Farewell]:
+        """The farewells of the last call of `tick`."""
+        return list(self._farewells)
+
+    @property
+    def cells(self) -> List[int]:
+        """Where the robots stand, by number."""
+        return self._handle.placement()
+
+    def look(self) -> Look:
+        """How the fleet stands. It changes nothing."""
+        return Look(self._handle.clock(), self._number, self._entries, self._handle.eldest(), self._handle.idle_within(), self.cells)
+
+    def chapter(self) -> Chapter:
+        """Hands out the present chapter and begins the next. Raises Refused with "book-spent" where it is the last."""
+        text = None if self._traces is None else self._handle.trace()
+        self._handle.next_chapter()
+        if text is not None:
+            (self._traces / f"chapter-{self._number}.json").write_text(text + "\n")
+        handed = Chapter(self._number, self._entries)
+        self._number, self._entries = self._number + 1, 0
+        return handed
+
+    def close(self) -> None:
+        """Frees what the fleet owns, and keeps the last chapter if `traces` was given. Every later call is refused."""
+        if self._traces is not None and self._handle._handle.is_open:
+            (self._traces / f"chapter-{self._number}.json").write_text(self._handle.trace() + "\n")
+        self._handle.close()
+
+    def __enter__(self) -> "Fleet":
+        return self
+
+    def __exit__(self, *_what) -> None:
+        self.close()

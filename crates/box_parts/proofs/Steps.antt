@@ -1,0 +1,41 @@
+-- What walks over a box's parts cite.
+pub use mathlib.Core.Path.{◌≡◌, refl, sym, subst, ap, ◌∙◌}
+pub use mathlib.Core.List.{List, [], ◌∷◌, ◌++◌}
+pub use lib.Dec.{T}
+pub use seplogic.Ra.Ura.{Ura}
+pub use mir.Syntax.{Fn, Args, Dict, Body, a_type, dcons, dnil, place, copy, assign, rv_opd, seq, return}
+pub use mir.MapTy.{inst_fn}
+pub use mir.Raw.{raw as bare}
+pub use mir.Val.{Val, vptr, vstruct, of_list, has_ty, WT}
+pub use base.Logic.{SProp, ent, emp, id⊢, never, fst∗}
+pub use base.Fml.{ftrue, fsep, flft}
+pub use contract.BorrowLft.{◌⊑◌}
+pub use contract.Monad.{Fun, fact}
+pub use contract.Running.{tables}
+unfoldable pub use contract.Running.{tables_of}
+pub use prog.Memory.{Memory}
+pub use prog.Routine.{Routine}
+pub use prog.Wp.{WpFn, Tables}
+pub use types.Logic.{Logic, sem}
+pub use types.Kit.{Item, at_ret, ‵, raw, ◌⊛◌, some, later, ◌$◌, ◌∵◌, !, qed, by, move, drop, use1, join, split, split3, pick, rewrite, fsplit, fjoin, fpick, feq_i, feq_l, suffices, await, done}
+pub use types.Part.{whole, sub, agg}
+pub use types.Run.{stop, fld, no_more, and_then, of_opd, returns, enter, first, blocks, exec}
+pub use types.ByLocal.{alloc_all, pass_all, free_all, look_at, get, get_in, sets, lands_as, lands_last, env}
+pub use denote.Exit.{yes, no}
+pub use denote.Param.{bounded}
+pub use denote.RattleType.{RattleType}
+pub use denote.RawPtr.{Ptr, RawPtr, block_ptr, null_ptr, ptr_val, in_a_block}
+pub use denote.Signature.{plain}
+pub use denote.Steps.{heard, nothing, only}
+pub use denote.Struct.Tuple.{Tuple}
+pub use denote.Triple.Call.{calls_at, calls_at_last}
+pub use denote.Triple.Clauses.{Ended, Clauses}
+pub use denote.Triple.Spec.{triple_of}
+pub use denote.Triple.Statement.{Triple, Contract}
+pub use denote.Triple.Walked.{says, Stays, stay_dropped, walk_of, ends_at, Goes-dropped}
+pub use sound.WpLaws.{fm_of}
+pub use Rattle.std.proofs.alloc.Calls.{token, handle_tells, Goes-blank}
+pub use Rattle.std.proofs.raw_atomic.Walks.{proved_at}
+pub use Rattle.std.specs.Box.Ownership.{box_owns}
+pub use Rattle.std.proofs.BoxSteps.Form.{Bx, D, τ, R, P, B, word, box_typed, box_ty}
+pub use Rattle.std.proofs.BoxSteps.Steps.{box_out, box_in}

@@ -1,0 +1,19 @@
+//! A caller of `fleet_field`.
+
+ghost use Rattle.std.specs.Prelude.{IfOk, IfSome};
+ghost use Rattle.fleet_field.specs.Field.{IsField};
+
+use fleet_field::Field;
+use fleet_grid::Grid;
+use std::alloc::{AllocError, Global};
+
+/// The distances of all cells to where the robot is to go; `None` where that is not floor.
+pub fn field_to(alloc: Global, grid: &Grid, goal: u32) -> Result<Option<Field>, AllocError>
+    ensures { IfOk result (λ found. IfSome found (λ field. IsField grid.now goal field)) }
+{
+    if !grid.is_floor(goal) {
+        return Ok(None);
+    }
+    let field = Field::from(alloc, grid, goal)?;
+    Ok(Some(field))
+}

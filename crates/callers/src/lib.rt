@@ -1,0 +1,32 @@
+//! Callers of the libraries, one each, as their `CALLING.md` pages quote them: short functions that a program could have.
+#![tactic(auto)]
+
+mod bridges;
+mod checks;
+mod distances;
+mod errands;
+mod floors;
+mod lanes;
+mod limits;
+mod maps;
+mod pages;
+mod plans;
+mod runs;
+mod scripts;
+mod traces;
+mod worlds;
+
+pub use bridges::has_no_bridge;
+pub use checks::is_safe;
+pub use distances::field_to;
+pub use errands::add_errand;
+pub use floors::can_walk;
+pub use lanes::send;
+pub use limits::with_queue;
+pub use maps::sides_of;
+pub use pages::page_of;
+pub use plans::is_valid;
+pub use runs::history_after;
+pub use scripts::robots_in;
+pub use traces::is_legal;
+pub use worlds::order;

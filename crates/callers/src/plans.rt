@@ -1,0 +1,20 @@
+//! A caller of `fleet_plans`.
+
+ghost use Rattle.std.specs.Prelude.{◌≡◌, ◌≤◌, ℕ, List, Ok, IfOk, IsTrue, length};
+ghost use Rattle.fleet_map.specs.Grammar.{Map, map_of};
+ghost use Rattle.fleet_grid.specs.Floor.{floor_of};
+ghost use Rattle.fleet_plans.specs.Valid.{IsValidPlan};
+
+use fleet_plans::{PlanAnswer, check_texts};
+use std::alloc::{AllocError, Global};
+
+/// Whether the text of another planner's plan is free of conflicts on a map.
+pub fn is_valid(alloc: Global, map: &[u8], plan: &[u8]) -> Result<bool, AllocError>
+    requires { length plan.now ≤ 16777216 }
+    ensures { IfOk result (λ valid. IsTrue valid → (m : Map) × (places : List (List ℕ)) × (map_of map.now ≡ Ok m) × IsValidPlan (floor_of m.height m.width m.cells) places) }
+{
+    match check_texts(alloc, map, plan)? {
+        PlanAnswer::Valid(_report) => Ok(true),
+        PlanAnswer::Map(_) | PlanAnswer::Text(_) | PlanAnswer::Invalid(_) => Ok(false),
+    }
+}

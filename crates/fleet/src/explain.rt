@@ -1,0 +1,53 @@
+//! The word `explain`.
+
+use crate::ends::{MOST_MAP_BYTES, file_bytes};
+use fleet_lib::{
+    Explain, InputFault, MOST_SCRIPT_BYTES, MOST_TRACE_BYTES, Said, answer_explain_map,
+    answer_explain_script, answer_explain_trace, fail, tell,
+};
+use std::alloc::{Alloc, Global};
+use std::fs::Files;
+use std::io::Write;
+
+/// Whether the text is to be a trace: it begins with `{`, after white space.
+fn is_trace(text: &[u8]) -> bool {
+    for byte in text {
+        if !matches!(*byte, b' ' | b'\t' | b'\n' | b'\r') {
+            return *byte == b'{';
+        }
+    }
+    false
+}
+
+/// What there is to say to the files, which are opened and read in their order.
+fn answer_files<R: Files + Alloc<A = Global>>(
+    rt: &R,
+    explain: &Explain,
+) -> Result<Said, InputFault> {
+    let map = file_bytes(rt, explain.map.as_str(), MOST_MAP_BYTES)?;
+    let Some(name) = &explain.other else {
+        return Ok(answer_explain_map(rt.alloc(), &map)?);
+    };
+    let other = file_bytes(rt, name.as_str(), MOST_TRACE_BYTES)?;
+    if is_trace(&other) {
+        return Ok(answer_explain_trace(rt.alloc(), &map, &other)?);
+    }
+    if other.len() > MOST_SCRIPT_BYTES {
+        return Err(InputFault::File);
+    }
+    Ok(answer_explain_script(rt.alloc(), &map, &other)?)
+}
+
+/// Says what is wrong with the files. The result is the status: 0 nothing, 3 a file failed, 4 the map, 5 the script or 6 the trace
+/// is refused, 7 memory ran out.
+pub(crate) fn run_explain<R: Files + Alloc<A = Global>, W: Write, E: Write>(
+    rt: &R,
+    explain: &Explain,
+    output: &mut W,
+    error: &mut E,
+) -> u8 {
+    match answer_files(rt, explain) {
+        Ok(said) => tell(&said, output, error),
+        Err(fault) => fail(fault, error),
+    }
+}

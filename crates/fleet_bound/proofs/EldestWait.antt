@@ -1,0 +1,88 @@
+-- Who is the eldest, and who comes before whom.
+use Rattle.std.proofs.Common.{◌≡◌, ◌≢◌, ℕ, zero, suc, ◌<◌, ◌⊎◌, inl, inr, true, false, Option, Some, None, sym, refl, ap, ◌∙◌, arith}
+use Rattle.std.specs.Prelude.{nat_lt, ◌==◌, ◌&&◌}
+use Rattle.std.proofs.lemmas.Bool.{cases_lt, cases_order, or_cases, and_parts, ltb-true, eqb-true, lt-ltb, eq-eqb, or_left, or_right, and_from, cases_Bool}
+use Rattle.fleet_bound.specs.Waiting.{Moment, comes_before, IsEldest}
+
+pub none_or_some : (o : Option ℕ) → (o ≡ None) ⊎ ((x : ℕ) × (o ≡ Some x))
+none_or_some None = inl refl
+none_or_some (Some x) = inr (x, refl)
+
+-- who comes before r waits, longer than r or as long with a lesser number
+pub comes_before-true : (o : Option ℕ) (q w r : ℕ) → comes_before o q w r ≡ true → (v : ℕ) × (o ≡ Some v) × ((w < v) ⊎ ((v ≡ w) × (q < r)))
+comes_before-true None q w r e = cc
+comes_before-true (Some v) q w r e = (
+  v,
+  refl,
+  elim (or_cases (nat_lt w v) ((v == w) && nat_lt q r) e) [
+    | inl a ↦ inl (ltb-true w v a)
+    | inr b ↦ (let both = and_parts (v == w) (nat_lt q r) b in inr (eqb-true v w both.0, ltb-true q r both.1))
+  ],
+)
+
+pub comes_before-from : (o : Option ℕ) (v q w r : ℕ) → o ≡ Some v → (w < v) ⊎ ((v ≡ w) × (q < r)) → comes_before o q w r ≡ true
+comes_before-from o v q w r e (inl a) = rw e (or_left (nat_lt w v) ((v == w) && nat_lt q r) (lt-ltb w v a))
+comes_before-from o v q w r e (inr b) = rw e (or_right (nat_lt w v) ((v == w) && nat_lt q r) (and_from (v == w) (nat_lt q r) (eq-eqb v w b.0) (lt-ltb q r b.1)))
+
+pub comes_before-not : (o : Option ℕ) (q w r : ℕ) → ((v : ℕ) → o ≡ Some v → (w < v) ⊎ ((v ≡ w) × (q < r)) → ⊥) → comes_before o q w r ≡ false
+comes_before-not o q w r never = elim (cases_Bool (comes_before o q w r)) [
+  | inl yes_older ↦ (let s = comes_before-true o q w r yes_older in absurd (never s.0 s.1 s.2))
+  | inr f ↦ f
+]
+
+-- ---- the eldest
+
+-- of the first k robots: nobody waits, or one is the eldest
+module _ (m : Moment) where
+  NobodyWaits : ℕ → Type 0
+  NobodyWaits k = (q v : ℕ) → q < k → m.wait q ≡ Some v → ⊥
+
+  next : (k : ℕ) → NobodyWaits k ⊎ ((e : ℕ) × IsEldest k m e) → (m.wait k ≡ None) ⊎ ((x : ℕ) × (m.wait k ≡ Some x)) → NobodyWaits (suc k) ⊎ ((e : ℕ) × IsEldest (suc k) m e)
+  unfolding NobodyWaits
+  next k (inl nobody) (inl none) = inl (λ q v l s. elim (cases_lt q k) [ inl b ↦ nobody q v b s | inr b ↦ (let same : q ≡ k = omega arith in cc (ap m.wait same)) ])
+  next k (inl nobody) (inr some) = inr (k, record { known = omega arith; age = some.0; waits = some.1; greatest = λ q v l s. elim (cases_lt q k) [ inl b ↦ absurd (nobody q v b s) | inr b ↦ (let same : q ≡ k = omega arith in let it : Some v ≡ Some some.0 = sym s ∙ ap m.wait same ∙ some.1 in inr (cc, omega arith)) ] })
+  next k (inr found) (inl none) = inr (found.0, record { known = omega (arith, found.1.known); age = found.1.age; waits = found.1.waits; greatest = λ q v l s. elim (cases_lt q k) [ inl b ↦ found.1.greatest q v b s | inr b ↦ (let same : q ≡ k = omega arith in absurd (cc (ap m.wait same))) ] })
+  next k (inr found) (inr some) = elim (cases_lt found.1.age some.0) [
+    | inl more ↦ inr (
+      k,
+      record {
+        known = omega arith;
+        age = some.0;
+        waits = some.1;
+        greatest = λ q v l s. elim (cases_lt q k) [
+          | inl b ↦ inl (elim (found.1.greatest q v b s) [ inl c ↦ omega arith | inr c ↦ omega (arith, c.0) ])
+          | inr b ↦ (let same : q ≡ k = omega arith in let it : Some v ≡ Some some.0 = sym s ∙ ap m.wait same ∙ some.1 in inr (cc, omega arith))
+        ];
+      },
+    )
+    | inr less ↦ inr (
+      found.0,
+      record {
+        known = omega (arith, found.1.known);
+        age = found.1.age;
+        waits = found.1.waits;
+        greatest = λ q v l s. elim (cases_lt q k) [
+          | inl b ↦ found.1.greatest q v b s
+          | inr b ↦ (let same : q ≡ k = omega arith in let it : Some v ≡ Some some.0 = sym s ∙ ap m.wait same ∙ some.1 in let value : v ≡ some.0 = cc in
+              elim (cases_order some.0 found.1.age) [ inl eq ↦ inr (value ∙ eq, omega (arith, found.1.known)) | inr ne ↦ inl (elim ne [ inl c ↦ omega arith | inr c ↦ absurd (omega arith) ]) ])
+        ];
+      },
+    )
+  ]
+
+  search_eldest : (k : ℕ) → NobodyWaits k ⊎ ((e : ℕ) × IsEldest k m e)
+  unfolding NobodyWaits
+  search_eldest zero = inl (λ q v l s. omega arith)
+  search_eldest (suc k) = next k (search_eldest k) (none_or_some (m.wait k))
+
+  -- if somebody waits there is an eldest
+  pub eldest-exists : (n r w : ℕ) → r < n → m.wait r ≡ Some w → (e : ℕ) × IsEldest n m e
+  unfolding NobodyWaits
+  eldest-exists n r w l s = elim (search_eldest n) [ inl nobody ↦ absurd (nobody r w l s) | inr found ↦ found ]
+
+-- the eldest comes before each other robot that waits
+pub eldest-before : (n : ℕ) (m : Moment) (e r w : ℕ) → IsEldest n m e → r < n → m.wait r ≡ Some w → e ≢ r → comes_before (m.wait e) e w r ≡ true
+eldest-before n m e r w eldest l s ne = comes_before-from (m.wait e) eldest.age e w r eldest.waits (elim (eldest.greatest r w l s) [
+  | inl a ↦ inl a
+  | inr b ↦ inr (sym b.0, omega (arith, b.1, ne))
+])

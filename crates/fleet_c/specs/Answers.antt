@@ -1,0 +1,150 @@
+-- What each call answers C, for the world before and after it.
+use Rattle.std.specs.Prelude.{ℕ, ◌+◌, ◌^◌, ◌≡◌, ◌≢◌, ◌<◌, ◌≤◌, ◌↔◌, ◌++◌, Bool, true, List, drop, length, Option, is_some, Result, Err, IfOk, OnErr, MatchOption, slice_get}
+use Rattle.fleet_book.specs.declared.order.Order.{Order}
+use Rattle.fleet_book.specs.declared.verdict.Verdict.{Verdict}
+use Rattle.fleet_bound.specs.Arriving.{ArrivesInTurn, IsIdleWithin}
+use Rattle.fleet_bound.specs.Bound.{wait_bound}
+use Rattle.fleet_bound.specs.Idle.{idle_ticks, longest_after}
+use Rattle.fleet_grid.specs.Counts.{floor_count}
+use Rattle.fleet_grid.specs.Floor.{IsNeighbour}
+use Rattle.fleet_grid.specs.Walk.{IsBridgeless}
+use Rattle.fleet_history.specs.History.{clients, robots, clock, place, is_shut}
+use Rattle.fleet_history.specs.Waits.{wait}
+use Rattle.fleet_pibt.specs.Eldest.{IsEldest}
+use Rattle.fleet_planner.specs.Planned.{waits}
+use Rattle.fleet_trace.specs.Trace.{Trace}
+use Rattle.fleet_trace.specs.Text.{trace_text}
+use Rattle.fleet_core.specs.declared.faults.TickReport.{TickReport}
+use Rattle.fleet_core.specs.declared.faults.TakeFault.{TakeFault}
+use Rattle.fleet_core.specs.declared.faults.TakeFault.TheVariants as take
+use Rattle.fleet_core.specs.declared.faults.TickFault.{TickFault}
+use Rattle.fleet_core.specs.declared.faults.TickFault.TheVariants as tick
+use Rattle.fleet_core.specs.declared.faults.ShutFault.{ShutFault}
+use Rattle.fleet_core.specs.declared.faults.ShutFault.TheVariants as shut
+use Rattle.fleet_planner.specs.Aimed.{IsIdle}
+use Rattle.fleet_core.specs.Core.{World, Takes, Ticks, Shuts, pending, without_first, widened, next_world, HasRoom, HasNoRoom, HasNoEntries}
+use Rattle.fleet_c.specs.Forms.{report_of, judgement_of, note_of}
+use Rattle.fleet_c.specs.Codes.{take_code, tick_code, shut_code}
+use Rattle.fleet_c.specs.declared.codes.TheConstants.{DONE, NO_MEMORY, NO_CLIENT, NO_ROBOT, BOOK_SPENT, NO_NOTICE, TOO_WIDE, IDLE, HAS_BRIDGE, WRONG_LENGTH}
+use Rattle.fleet_c.specs.declared.judgement.Judgement.{Judgement}
+use Rattle.fleet_c.specs.declared.note.Note.{Note}
+use Rattle.fleet_c.specs.declared.report.Report.{Report}
+
+-- a client or robot of a number that is not below the count is refused with this code, and nothing changes
+abbrev pub OfKnown : {A : Type 0} → ℕ → ℕ → ℕ → World A → ℕ → World A → Type 0 → Type 0
+OfKnown count number refusal w code n Says = (count ≤ number → (code ≡ refusal) × (n ≡ w)) × (number < count → Says)
+
+-- ---- orders
+
+-- an order was judged, or is refused, as by the world
+pub record IsTaken {A : Type 0} (w : World A) (client : ℕ) (order : Order) (code : ℕ) (told : Judgement) (n : World A) : Type 0 where
+  pub answer : Result Verdict TakeFault
+  pub code_is : code ≡ take_code answer
+  pub mailbox_full : (answer ≡ Err take.MailboxFull) ↔ HasNoRoom w client
+  pub chapter_full : (answer ≡ Err take.ChapterFull) ↔ (HasRoom w client × HasNoEntries w)
+  pub takes : IfOk answer (λ v. Takes w client order v n × (told ≡ judgement_of v))
+  pub arrives : IfOk answer (λ v. ArrivesInTurn w.floor w.history client order v)
+  pub same : OnErr answer (n ≡ w)
+
+-- the client's order, where there is such a client
+abbrev pub Orders : {A : Type 0} → World A → ℕ → Order → ℕ → Judgement → World A → Type 0
+Orders w client order code told n = OfKnown (clients w.history) client NO_CLIENT w code n (IsTaken w client order code told n)
+
+-- ---- ticks and shuts
+
+-- all robots made a step, or it is refused, as by the world
+pub record IsTicked {A : Type 0} (w : World A) (code : ℕ) (report : Report) (n : World A) : Type 0 where
+  pub answer : Result TickReport TickFault
+  pub code_is : code ≡ tick_code answer
+  pub clock_spent : (answer ≡ Err tick.ClockSpent) ↔ (clock w.history ≡ w.limits.clock)
+  pub chapter_full : (answer ≡ Err tick.ChapterFull) ↔ ((clock w.history < w.limits.clock) × HasNoEntries w)
+  pub ticks : IfOk answer (λ did. Ticks w did n × (report ≡ report_of did))
+  pub same : OnErr answer (n ≡ w)
+
+-- the robot was shut, or it is refused, as by the world
+pub record IsShut {A : Type 0} (w : World A) (robot code : ℕ) (left : Bool) (n : World A) : Type 0 where
+  pub answer : Result (Option ℕ) ShutFault
+  pub code_is : code ≡ shut_code answer
+  pub no_robot : (answer ≡ Err shut.NoRobot) ↔ (robots w.history ≤ robot)
+  pub already : (answer ≡ Err shut.Already) ↔ ((robot < robots w.history) × (is_shut w.history robot ≡ true))
+  pub shuts : IfOk answer (λ farewell. Shuts w robot farewell n × (left ≡ is_some farewell))
+  pub same : OnErr answer (n ≡ w)
+
+-- ---- mailboxes
+
+-- the client's first notice is given and leaves its mailbox
+abbrev pub IsGiven : {A : Type 0} → World A → ℕ → ℕ → Note → World A → Type 0
+IsGiven w client code note n = MatchOption (slice_get (pending w client).notices 0)
+    ((code ≡ NO_NOTICE) × (n ≡ w))
+    (λ notice. (code ≡ DONE) × (note ≡ note_of notice) × (n ≡ without_first w client))
+
+abbrev pub Gives : {A : Type 0} → World A → ℕ → ℕ → Note → World A → Type 0
+Gives w client code note n = OfKnown (clients w.history) client NO_CLIENT w code n (IsGiven w client code note n)
+
+-- how many notices the client was not given yet
+abbrev pub Counts : {A : Type 0} → World A → ℕ → ℕ → ℕ → World A → Type 0
+Counts w client code count n = OfKnown (clients w.history) client NO_CLIENT w code n
+    ((code ≡ DONE) × (count ≡ length (pending w client).notices) × (n ≡ w))
+
+-- the mailbox may hold this much more, at most 2^60 in all
+pub record IsWidened {A : Type 0} (w : World A) (client extra code : ℕ) (n : World A) : Type 0 where
+  pub too_wide : (code ≡ TOO_WIDE) ↔ (2 ^ 60 < (pending w client).limit + extra)
+  pub widens : code ≡ DONE → n ≡ widened w client extra
+  pub same : code ≢ DONE → n ≡ w
+  pub refused : code ≢ DONE → code ≢ TOO_WIDE → code ≡ NO_MEMORY
+
+abbrev pub Widens : {A : Type 0} → World A → ℕ → ℕ → ℕ → World A → Type 0
+Widens w client extra code n = OfKnown (clients w.history) client NO_CLIENT w code n (IsWidened w client extra code n)
+
+-- ---- views
+
+-- the cells, where the list has a place for each robot
+abbrev pub Places : {A : Type 0} → World A → ℕ → List ℕ → List ℕ → World A → Type 0
+Places w code before after n = (length before ≡ length (place w.history) → (code ≡ DONE) × (after ≡ place w.history))
+    × (length before ≢ length (place w.history) → (code ≡ WRONG_LENGTH) × (after ≡ before)) × (n ≡ w)
+
+-- how many ticks the robot has waited; below the bound on a map without bridges
+abbrev pub IsWaiting : {A : Type 0} → World A → ℕ → ℕ → ℕ → World A → Type 0
+IsWaiting w robot code ticks n = MatchOption (wait w.history robot)
+    ((code ≡ IDLE) × (n ≡ w))
+    (λ t. (code ≡ DONE) × (ticks ≡ t) × (IsBridgeless (IsNeighbour w.floor) → t < wait_bound w.floor w.history) × (n ≡ w))
+
+abbrev pub Waits : {A : Type 0} → World A → ℕ → ℕ → ℕ → World A → Type 0
+Waits w robot code ticks n = OfKnown (robots w.history) robot NO_ROBOT w code n (IsWaiting w robot code ticks n)
+
+-- the robot of greatest wait, the least number on a tie
+pub record HasEldest {A : Type 0} (w : World A) (code robot : ℕ) (n : World A) : Type 0 where
+  pub answer : Option ℕ
+  pub is : MatchOption answer (IsIdle w.history) (λ e. IsEldest (waits w.history) e)
+  pub told : MatchOption answer (code ≡ IDLE) (λ e. (code ≡ DONE) × (robot ≡ e))
+  pub same : n ≡ w
+
+-- within this many ticks nobody has an errand any more, where no order is taken meanwhile
+pub record HasIdle {A : Type 0} (w : World A) (code ticks : ℕ) (n : World A) : Type 0 where
+  pub bridged : (code ≡ HAS_BRIDGE) ↔ (IsBridgeless (IsNeighbour w.floor) → ⊥)
+  pub exact : code ≡ DONE → ticks ≡ idle_ticks (longest_after w.history) (robots w.history) (floor_count w.floor)
+  pub idle : code ≡ DONE → IsIdleWithin w.floor w.history ticks
+  pub refused : code ≢ DONE → code ≡ HAS_BRIDGE
+  pub same : n ≡ w
+
+-- ---- chapters
+
+-- the next chapter has begun
+pub record IsTurned {A : Type 0} (w : World A) (code : ℕ) (n : World A) : Type 0 where
+  pub book_spent : (code ≡ BOOK_SPENT) ↔ (w.number + 1 ≡ w.limits.chapters)
+  pub turns : code ≡ DONE → n ≡ next_world w
+  pub same : code ≢ DONE → n ≡ w
+  pub refused : code ≢ DONE → code ≢ BOOK_SPENT → code ≡ NO_MEMORY
+
+-- the present chapter's trace
+abbrev pub present : {A : Type 0} → World A → Trace A
+present w = record { number = w.number; history = w.history }
+
+-- the text of the present chapter's trace, where the list has room for it, and its length
+pub record IsTold {A : Type 0} (w : World A) (code : ℕ) (before after : List ℕ) (length' : ℕ) (n : World A) : Type 0 where
+  pub length_is : code ≢ NO_MEMORY → length' ≡ length (trace_text (present w))
+  pub short : (code ≡ WRONG_LENGTH) → length before < length (trace_text (present w))
+  pub text : code ≡ DONE → after ≡ trace_text (present w) ++ drop (length (trace_text (present w))) before
+  pub untouched : code ≢ DONE → after ≡ before
+  pub refused : code ≢ DONE → code ≢ WRONG_LENGTH → code ≡ NO_MEMORY
+  pub same : n ≡ w

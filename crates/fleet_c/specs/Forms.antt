@@ -1,0 +1,93 @@
+-- What C's structs say in the product's words.
+use Rattle.std.specs.Prelude.{ℕ, List, map}
+use Rattle.fleet_book.specs.declared.limits.Limits.{Limits}
+use Rattle.fleet_book.specs.declared.verdict.Verdict.{Verdict}
+use Rattle.fleet_book.specs.declared.verdict.Verdict.TheVariants as verdict
+use Rattle.fleet_book.specs.declared.notice.Notice.{Notice}
+use Rattle.fleet_book.specs.declared.notice.Notice.TheVariants as notice
+use Rattle.fleet_hooks.specs.declared.law.StampLaw.{StampLaw}
+use Rattle.fleet_hooks.specs.declared.law.TieLaw.{TieLaw}
+use Rattle.fleet_core.specs.Hooks.{HookLaws}
+use Rattle.fleet_core.specs.declared.faults.TickReport.{TickReport}
+use Rattle.fleet_c.specs.declared.codes.TheConstants.{ACCEPTED, CLOSING, WITHDRAWN, CLIENT_CLOSED, UNKNOWN_ROBOT, ROBOT_SHUT, NO_CELL, BLOCKED, UNREACHABLE, QUEUE_FULL, LIFE_SPENT, NO_ERRAND, TOO_LATE}
+use Rattle.fleet_c.specs.declared.setup.Setup.{Setup}
+use Rattle.fleet_c.specs.declared.robot.Robot.{Robot}
+use Rattle.fleet_c.specs.declared.report.Report.{Report}
+use Rattle.fleet_c.specs.declared.judgement.Judgement.{Judgement}
+use Rattle.fleet_c.specs.declared.note.Note.{Note}
+
+abbrev pub limits_of : Setup → Limits
+limits_of s = record {
+  lane = s.lane;
+  outlet = s.outlet;
+  queue = s.queue;
+  mailbox = s.mailbox;
+  life = s.life;
+  orders = s.orders;
+  clock = s.clock;
+  chapter = s.chapter;
+  chapters = s.chapters;
+}
+
+abbrev pub starts_of : List Robot → List ℕ
+starts_of robots = map (λ r. r.cell) robots
+
+-- in each direction this rank alone
+abbrev pub exact_law : List ℕ → TieLaw
+exact_law ranks = record { low = ranks; high = ranks }
+
+-- each stamp is 0
+abbrev pub nought : StampLaw
+nought = record { low = 0; high = 0 }
+
+-- each robot ranks as it says, and each stamp is 0
+abbrev pub laws_of_robots : List Robot → HookLaws
+laws_of_robots robots = record {
+  ties = map (λ r. exact_law r.ranks) robots;
+  arrivals = map (λ (_ : Robot). nought) robots;
+  farewells = map (λ (_ : Robot). nought) robots;
+}
+
+abbrev pub report_of : TickReport → Report
+report_of did = record { tick = did.tick; arrived = did.arrived; farewells = did.farewells }
+
+-- a verdict without a number
+abbrev pub plain : ℕ → Judgement
+plain code = record { number = 0; verdict = code }
+
+abbrev pub judgement_of : Verdict → Judgement
+judgement_of (verdict.Accepted n) = record { number = n; verdict = ACCEPTED }
+judgement_of verdict.Closed = plain CLOSING
+judgement_of verdict.Withdrawn = plain WITHDRAWN
+judgement_of verdict.ClientClosed = plain CLIENT_CLOSED
+judgement_of verdict.NoRobot = plain UNKNOWN_ROBOT
+judgement_of verdict.RobotShut = plain ROBOT_SHUT
+judgement_of verdict.NoCell = plain NO_CELL
+judgement_of verdict.Blocked = plain BLOCKED
+judgement_of verdict.Unreachable = plain UNREACHABLE
+judgement_of verdict.QueueFull = plain QUEUE_FULL
+judgement_of verdict.LifeSpent = plain LIFE_SPENT
+judgement_of verdict.NoErrand = plain NO_ERRAND
+judgement_of verdict.TooLate = plain TOO_LATE
+
+abbrev pub note_of : Notice → Note
+note_of (notice.Verdict seq order v) = record {
+  seq = seq;
+  order = order;
+  number = (judgement_of v).number;
+  tick = 0;
+  verdict = (judgement_of v).verdict;
+  robot = 0;
+  cell = 0;
+  stamp = 0;
+}
+note_of (notice.Arrived seq number robot cell tick stamp) = record {
+  seq = seq;
+  order = 0;
+  number = number;
+  tick = tick;
+  verdict = 0;
+  robot = robot;
+  cell = cell;
+  stamp = stamp;
+}

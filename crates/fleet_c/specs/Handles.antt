@@ -1,0 +1,9 @@
+-- What a call does to a handle.
+use Rattle.std.specs.Prelude.{ℕ, ◌≡◌, Option, None, Some, IsSomeAnd}
+use Rattle.fleet_c.specs.Owns.{HeldValue}
+use Rattle.fleet_c.specs.declared.codes.TheConstants.{NOT_OPEN}
+
+-- a closed handle is refused and stays closed; the world of an open one goes from the one to the other
+abbrev pub OnFleet : Option HeldValue → Option HeldValue → ℕ → (HeldValue → HeldValue → Type 0) → Type 0
+OnFleet None new code Goes = (code ≡ NOT_OPEN) × (new ≡ None)
+OnFleet (Some w) new code Goes = IsSomeAnd new (λ n. Goes w n)

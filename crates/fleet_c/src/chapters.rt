@@ -1,0 +1,87 @@
+//! Chapters of a fleet's history, and their text.
+
+ghost use Rattle.std.specs.Prelude.{◌≡◌, ◌≢◌};
+ghost use Rattle.fleet_c.specs.Answers.{IsTold, IsTurned};
+ghost use Rattle.fleet_c.specs.Handles.{OnFleet};
+
+use crate::codes::{BOOK_SPENT, DONE, NO_MEMORY, NOT_OPEN, WRONG_LENGTH};
+use crate::handle::Handle;
+use fleet_core::{ChapterFault, Core};
+use fleet_trace::write_trace;
+use std::alloc::Global;
+
+/// Begins the next chapter, and lets the present one go.
+fn turn(core: &mut Core) -> u32
+    ensures { IsTurned core.old result core.new }
+{
+    match core.next_chapter() {
+        Ok(_chapter) => DONE,
+        Err(ChapterFault::BookSpent) => BOOK_SPENT,
+        Err(ChapterFault::NoMemory) => NO_MEMORY,
+    }
+}
+
+/// Writes the trace of the present chapter.
+fn trace(alloc: Global, core: &mut Core, text: &mut [u8], length: &mut usize) -> u32
+    ensures { IsTold core.old result text.old text.new length.new core.new }
+{
+    let Ok(told) = write_trace(alloc, core.chapter()) else {
+        return NO_MEMORY;
+    };
+    let bytes = told.as_str().as_bytes();
+    *length = bytes.len();
+    if text.len() < bytes.len() {
+        return WRONG_LENGTH;
+    }
+    text[..bytes.len()].copy_from_slice(bytes);
+    DONE
+}
+
+/// The text of the present chapter's trace, and its length. Where the list has no room for it only the length is told.
+///
+/// Refused in this order: the handle is closed, out of memory, the list is shorter than the text.
+#[unsafe(no_mangle)]
+pub extern "C" fn nashirudder_trace(
+    alloc: Global,
+    fleet: &mut Handle,
+    text: &mut [u8],
+    length: &mut usize,
+) -> u32
+    ensures says { OnFleet fleet.old.owned.held fleet.new.owned.held result (λ w n. IsTold w result text.old text.new length.new n) }
+    ensures untouched { (result ≢ DONE) → text.new ≡ text.old }
+{
+    let Some(mut core) = fleet.take(alloc) else {
+        return NOT_OPEN;
+    };
+    let code = trace(alloc, &mut core, text, length);
+    fleet.put(core);
+    code
+}
+
+/// Begins the next chapter, whose opening is the state now. The present one is let go: take its trace before.
+///
+/// Refused in this order: the handle is closed, this is the last of the chapters, out of memory.
+#[unsafe(no_mangle)]
+pub extern "C" fn nashirudder_next_chapter(alloc: Global, fleet: &mut Handle) -> u32
+    ensures { OnFleet fleet.old.owned.held fleet.new.owned.held result (λ w n. IsTurned w result n) }
+{
+    let Some(mut core) = fleet.take(alloc) else {
+        return NOT_OPEN;
+    };
+    let code = turn(&mut core);
+    fleet.put(core);
+    code
+}
+
+/// Keeps the fields of goals that no robot has any more, up to this many bytes. Refused where the handle is closed.
+#[unsafe(no_mangle)]
+pub extern "C" fn nashirudder_keep(alloc: Global, fleet: &mut Handle, bytes: usize) -> u32
+    ensures { OnFleet fleet.old.owned.held fleet.new.owned.held result (λ w n. (result ≡ DONE) × (n ≡ w)) }
+{
+    let Some(mut core) = fleet.take(alloc) else {
+        return NOT_OPEN;
+    };
+    core.keep(bytes);
+    fleet.put(core);
+    DONE
+}

@@ -1,0 +1,67 @@
+//! What C holds.
+
+ghost use Rattle.std.specs.Prelude.{◌≡◌, Option, None, Some, is_some, MatchOption, true, false};
+
+use crate::owned::Owned;
+use fleet_core::Core;
+use std::alloc::Global;
+
+/// What C holds: all zero, or what one of the exports left there.
+#[repr(C)]
+#[derive(Drop)]
+pub struct Handle {
+    pub owned: Owned,
+    is_open: bool,
+    ghost agrees: { is_open ≡ is_some owned.held },
+}
+
+impl Handle {
+    /// A closed one.
+    fn closed(alloc: Global) -> Handle
+        ensures { result.owned.held ≡ None }
+    {
+        Handle {
+            owned: Owned::nothing(alloc),
+            is_open: false,
+        }
+    }
+
+    /// Whether it owns a value.
+    pub fn is_open(&self) -> bool
+        ensures { result ≡ is_some self.now.owned.held }
+    {
+        self.is_open
+    }
+
+    /// Takes the value out, and leaves the handle closed.
+    pub fn take(&mut self, alloc: Global) -> Option<Box<Core>>
+        ensures closed { self.new.owned.held ≡ None }
+        ensures taken { MatchOption result (self.old.owned.held ≡ None) (λ b. self.old.owned.held ≡ Some b.value) }
+    {
+        let Handle { owned, is_open } = std::mem::replace(self, Handle::closed(alloc));
+        if is_open {
+            Some(owned.into_box())
+        } else {
+            None
+        }
+    }
+
+    /// Puts a value into a closed handle, which is then open.
+    pub fn put(&mut self, held: Box<Core>)
+        requires { is_some self.old.owned.held ≡ false }
+        ensures { self.new.owned.held ≡ Some held.value }
+    {
+        *self = Handle {
+            owned: Owned::of(held),
+            is_open: true,
+        };
+    }
+}
+
+/// Takes what may move between threads.
+fn crosses<T: Send>(_item: &T) {}
+
+/// A handle may: this is proved only where it is so.
+fn handle_crosses(fleet: &Handle) {
+    crosses(fleet);
+}

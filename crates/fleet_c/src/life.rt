@@ -1,0 +1,76 @@
+//! Fleets are opened and closed.
+
+ghost use Rattle.std.specs.Prelude.{◌≡◌, ◌≢◌, ◌↔◌, None, is_some, true, IsSomeAnd};
+ghost use Rattle.fleet_c.specs.Forms.{limits_of};
+ghost use Rattle.fleet_c.specs.Opening.{IsOpened, IsWhy};
+
+use crate::codes::{ALREADY_OPEN, DONE};
+use crate::fault::Fault;
+use crate::handle::Handle;
+use crate::opening::open_on;
+use crate::robot::Robot;
+use crate::setup::Setup;
+use fleet_book::Limits;
+use std::alloc::Global;
+
+/// Sets the limits that the program `errands` takes where a script says nothing, and the number of clients.
+#[unsafe(no_mangle)]
+pub extern "C" fn nashirudder_setup_default(clients: u32, setup: &mut Setup)
+    ensures clients { setup.new.clients ≡ clients }
+    ensures limits { limits_of setup.new ≡ Limits.DEFAULT }
+{
+    *setup = Setup {
+        life: Limits::DEFAULT.life,
+        orders: Limits::DEFAULT.orders,
+        clock: Limits::DEFAULT.clock,
+        clients,
+        lane: Limits::DEFAULT.lane,
+        outlet: Limits::DEFAULT.outlet,
+        queue: Limits::DEFAULT.queue,
+        mailbox: Limits::DEFAULT.mailbox,
+        chapter: Limits::DEFAULT.chapter,
+        chapters: Limits::DEFAULT.chapters,
+    };
+}
+
+/// Opens a closed handle: a fleet on the map, each robot on its start.
+///
+/// Refused in this order: the handle is open, the map's first fault, a limit or the number of clients out of its range, not
+/// 1 to 512 robots, a robot that does not start on floor, two robots that start on one cell; and out of memory at any
+/// time. The fault says why, but for an open handle, at which it stays as it was.
+#[unsafe(no_mangle)]
+pub extern "C" fn nashirudder_open(
+    alloc: Global,
+    map: &[u8],
+    robots: &[Robot],
+    setup: &Setup,
+    fleet: &mut Handle,
+    fault: &mut Fault,
+) -> u32
+    ensures open { (result ≡ ALREADY_OPEN) ↔ (is_some fleet.old.owned.held ≡ true) }
+    ensures opened { (result ≡ DONE) → IsSomeAnd fleet.new.owned.held (λ w. IsOpened map.now robots.now setup.now w) }
+    ensures refused { (result ≢ DONE) → (result ≢ ALREADY_OPEN) → IsWhy map.now robots.now setup.now result fault.new }
+    ensures same { (result ≢ DONE) → fleet.new.owned.held ≡ fleet.old.owned.held }
+{
+    if fleet.is_open() {
+        return ALREADY_OPEN;
+    }
+    match open_on(alloc, map, robots, setup) {
+        Ok(core) => {
+            fleet.put(core);
+            DONE
+        }
+        Err(why) => {
+            *fault = why.fault();
+            fault.code
+        }
+    }
+}
+
+/// Closes a handle: frees what an open one owns. A closed one stays closed.
+#[unsafe(no_mangle)]
+pub extern "C" fn nashirudder_close(alloc: Global, fleet: &mut Handle)
+    ensures { fleet.new.owned.held ≡ None }
+{
+    fleet.take(alloc);
+}

@@ -1,0 +1,77 @@
+//! What a client is told.
+
+ghost use Rattle.std.specs.Prelude.{◌≡◌};
+ghost use Rattle.fleet_c.specs.Forms.{note_of};
+
+use crate::judgement::Judgement;
+use fleet_book::Notice;
+
+/// A notice: the verdict of an order, or an arrival, where `verdict` is 0.
+#[repr(C)]
+#[derive(Clone, Copy)]
+pub struct Note {
+    /// Counts the client's notices, from 1.
+    pub seq: u64,
+    /// Of a verdict: the client's order, counted from 1. Of an arrival: 0.
+    pub order: u64,
+    /// The errand's number: of an arrival, and of an order that was accepted. Else 0.
+    pub number: u64,
+    /// Of an arrival: the tick, counted from 1. Else 0.
+    pub tick: u64,
+    /// Of a verdict: which. Of an arrival: 0.
+    pub verdict: u32,
+    /// Of an arrival. Else 0.
+    pub robot: u32,
+    /// Of an arrival. Else 0.
+    pub cell: u32,
+    /// Of an arrival. Else 0.
+    pub stamp: u32,
+}
+
+impl Note {
+    /// For C.
+    pub(crate) fn of(notice: Notice) -> Note
+        ensures { result ≡ note_of notice }
+    {
+        match notice {
+            Notice::Verdict {
+                seq,
+                order_no,
+                verdict,
+            } => {
+                let Judgement {
+                    number,
+                    verdict,
+                    ..
+                } = Judgement::of(verdict);
+                Note {
+                    seq,
+                    order: order_no,
+                    number,
+                    tick: 0,
+                    verdict,
+                    robot: 0,
+                    cell: 0,
+                    stamp: 0,
+                }
+            }
+            Notice::Arrived {
+                seq,
+                number,
+                robot,
+                cell,
+                tick,
+                stamp,
+            } => Note {
+                seq,
+                order: 0,
+                number,
+                tick,
+                verdict: 0,
+                robot,
+                cell,
+                stamp,
+            },
+        }
+    }
+}

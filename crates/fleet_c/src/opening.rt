@@ -1,0 +1,128 @@
+//! A fleet at its opening.
+
+ghost use Rattle.std.specs.Prelude.{◌≡◌, IfOk, IfErr, map};
+ghost use Rattle.std.specs.Box.{box_value};
+ghost use Rattle.fleet_hooks.specs.Law.{IsRank};
+ghost use Rattle.fleet_map.specs.Text.{lines_of};
+ghost use Rattle.fleet_map.specs.FirstFault.{IsFirstFault};
+ghost use Rattle.fleet_c.specs.Forms.{starts_of, exact_law};
+ghost use Rattle.fleet_c.specs.Opening.{Reads, IsAtOpening, IsOpened, IsRefusal, IsRefusedOn};
+
+use crate::laws::{NOUGHT, are_of, exact, rank_in};
+use crate::refusal::Refusal;
+use crate::robot::Robot;
+use crate::setup::Setup;
+use fleet_core::{Core, OpenFault, World};
+use fleet_grid::Grid;
+use fleet_hooks::{ArrivalHook, ArrivalView, Farewell, FarewellView, Hooks, TieHook, TieView};
+use fleet_map::{MapFault, read_map};
+use std::alloc::{AllocError, Global};
+
+/// The floor of a map's text.
+pub(crate) fn grid_of(alloc: Global, map: &[u8]) -> Result<Grid, MapFault>
+    ensures read { IfOk result (λ grid. Reads map.now grid) }
+    ensures first { IfErr result (λ fault. IsFirstFault (lines_of map.now) fault) }
+{
+    let text = read_map(alloc, map)?;
+    match Grid::new(text) {
+        Ok(grid) => Ok(grid),
+        Err(_) => Err(MapFault::NoMemory),
+    }
+}
+
+/// The robots' starts.
+fn starts(alloc: Global, robots: &[Robot]) -> Result<Vec<u32>, AllocError>
+    ensures { IfOk result (λ starts. starts.items ≡ starts_of robots.now) }
+{
+    robots.iter().map(|robot| robot.cell).collect(alloc)
+}
+
+/// A box for each of these.
+fn boxes_of<T: Drop, S: Drop, F: Drop>(
+    alloc: Global,
+    tie: T,
+    arrival: S,
+    farewell: F,
+) -> Result<(Box<T>, Box<S>, Box<F>), AllocError>
+    ensures { IfOk result (λ r. (box_value r.0 ≡ tie) × (box_value r.1 ≡ arrival) × (box_value r.2 ≡ farewell)) }
+{
+    let tie = Box::new(alloc, tie)?;
+    let arrival = Box::new(alloc, arrival)?;
+    let farewell = Box::new(alloc, farewell)?;
+    Ok((tie, arrival, farewell))
+}
+
+/// The core of a world at its opening, whose closures are let go.
+fn opened(
+    alloc: Global,
+    grid: Grid,
+    starts: Vec<u32>,
+    robots: &[Robot],
+    setup: &Setup,
+) -> Result<Core, Refusal>
+    requires { starts.items ≡ starts_of robots.now }
+    ensures ok { IfOk result (λ w. IsAtOpening grid robots.now setup.now w) }
+    ensures err { IfErr result (λ why. IsRefusedOn grid robots.now setup.now why) }
+{
+    let mut hooks = Hooks::new(alloc);
+    for robot in robots {
+        let ranks = robot.ranks;
+        let tie = move |view: TieView| -> u8
+            ensures { IsRank (exact_law ranks) view.dir result }
+        { rank_in(ranks, view.dir) };
+        let arrival = |_view: ArrivalView| -> u32
+            ensures { result ≡ 0 }
+        { 0 };
+        let farewell = |_view: FarewellView| -> u32
+            ensures { result ≡ 0 }
+        { 0 };
+        if let Ok((tie, arrival, farewell)) = boxes_of(alloc, tie, arrival, farewell) {
+            let tie = TieHook::new(exact(ranks), tie);
+            let arrival = ArrivalHook::new(NOUGHT, arrival);
+            let farewell = Farewell::new(NOUGHT, farewell);
+            // Where memory is refused a closure is missing, which shows below.
+            let _ = hooks.push(tie, arrival, farewell);
+        }
+    }
+    if !are_of(&hooks, robots) {
+        drop(hooks);
+        drop(grid);
+        return Err(Refusal::NoMemory);
+    }
+    match World::open(alloc, grid, starts, setup.clients, setup.limits(), hooks) {
+        Ok(world) => {
+            let (core, robots) = world.apart();
+            drop(robots);
+            Ok(core)
+        }
+        Err(OpenFault::Limits) => Err(Refusal::Setup),
+        Err(OpenFault::NoRobots) => Err(Refusal::RobotCount),
+        Err(OpenFault::Start(robot)) => Err(Refusal::Start(robot)),
+        Err(OpenFault::Shared(first, second)) => Err(Refusal::Shared(first, second)),
+        // There is one closure of each kind a robot.
+        Err(OpenFault::Hooks) => unreachable!(),
+        Err(OpenFault::NoMemory) => Err(Refusal::NoMemory),
+    }
+}
+
+/// The core of a fleet that is opened on a map, in a box.
+pub(crate) fn open_on(
+    alloc: Global,
+    map: &[u8],
+    robots: &[Robot],
+    setup: &Setup,
+) -> Result<Box<Core>, Refusal>
+    ensures ok { IfOk result (λ core. IsOpened map.now robots.now setup.now (box_value core)) }
+    ensures err { IfErr result (λ why. IsRefusal map.now robots.now setup.now why) }
+{
+    let starts = starts(alloc, robots)?;
+    let grid = match grid_of(alloc, map) {
+        Ok(grid) => grid,
+        Err(fault) => return Err(Refusal::Map(fault)),
+    };
+    let core = opened(alloc, grid, starts, robots, setup)?;
+    match Box::new(alloc, core) {
+        Ok(boxed) => Ok(boxed),
+        Err(_) => Err(Refusal::NoMemory),
+    }
+}

@@ -1,5 +1,0 @@
--- The ticks made so far, as the core says.
-use Rattle.fleet_calls.proofs.world.World.clock.Goals as goal
-
-pub returns : goal.returns
-returns g c = c.clock.ensures

@@ -1,6 +1,0 @@
--- The world without the notice that it gave.
-use Rattle.std.proofs.Common.{rules}
-use Rattle.fleet_calls.proofs.world.World.give.Goals as goal
-
-pub returns-clause-rest : goal.returns-clause-rest
-returns-clause-rest g c = search rules

@@ -1,5 +1,0 @@
--- Whether nobody has an errand, as the core says.
-use Rattle.fleet_calls.proofs.world.World.is_idle.Goals as goal
-
-pub returns : goal.returns
-returns g c = c.is_idle.ensures

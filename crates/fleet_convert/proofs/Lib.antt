@@ -1,0 +1,10 @@
+mod Bytes
+mod CellTexts
+mod Heads
+mod Placed
+mod CellsBack
+mod Steps
+mod MovesBack
+mod Legal
+mod Pieces
+mod Converted

@@ -1,0 +1,5 @@
+pub mod History
+pub mod Cells
+pub mod Moves
+pub mod Runners
+pub mod Converted

@@ -1,0 +1,27 @@
+//! What holds of plans that are written.
+
+ghost use Rattle.std.specs.Prelude.{◌≡◌, ◌≤◌, ℕ, List, length, Some, None};
+ghost use Rattle.std.specs.declared.alloc.Global.{Global};
+ghost use Rattle.fleet_grid.specs.Floor.{Floor, HasForm};
+ghost use Rattle.fleet_history.specs.History.{History};
+ghost use Rattle.fleet_history.specs.Legal.{IsLegal};
+ghost use Rattle.fleet_plans.specs.Valid.{place_at, HasSize, IsValidPlan};
+ghost use Rattle.fleet_plans.specs.Text.{source_of, IsReadAs};
+ghost use Rattle.fleet_convert.specs.History.{places_in};
+ghost use Rattle.fleet_convert.specs.Cells.{cells_plan, last_place};
+ghost use Rattle.fleet_convert.specs.Moves.{moves_plan};
+
+/// The placements of a legal history are a valid plan.
+pub fn legal_places_are_a_plan()
+    ensures { (m : Floor) (h : History Global) → IsLegal m h → IsValidPlan m (places_in h) }
+{}
+
+/// The text of a valid plan as lines of cells reads as a plan with these placements, and with the cells at its end as goals.
+pub fn cells_read_back()
+    ensures { (m : Floor) (places : List (List ℕ)) → HasForm m → HasSize places → IsValidPlan m places → IsReadAs m.width m.height (source_of m.width m.height (cells_plan m.width places)) (Some (last_place places)) places }
+{}
+
+/// The text of a valid plan of one robot or more as lines of moves reads as a plan with these placements.
+pub fn moves_read_back()
+    ensures { (m : Floor) (places : List (List ℕ)) → HasForm m → HasSize places → 1 ≤ length (place_at places 0) → IsValidPlan m places → IsReadAs m.width m.height (source_of m.width m.height (moves_plan m.width places)) None places }
+{}

@@ -1,6 +1,0 @@
-use Rattle.std.proofs.Common.{refl}
-use Rattle.fleet_core.proofs.Alike.{word_there}
-use Rattle.fleet_core.proofs.robots.arrival_law_at.Goals as goal
-
-pub returns : goal.returns
-returns g c = word_there (λ x. x.arrival_law) c.args.robots.now c.args.r c.index-robots-r.result _ c.requires refl

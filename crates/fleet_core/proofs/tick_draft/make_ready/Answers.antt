@@ -1,0 +1,23 @@
+use Rattle.std.proofs.Common.{refl, arith}
+use Rattle.std.proofs.lemmas.Result.{IfOk-from_err}
+use Rattle.fleet_core.proofs.Refused.{all_err, on_ok_map}
+use Rattle.fleet_core.proofs.tick_draft.make_ready.Goals as goal
+
+pub turn-requires : goal.turn-requires
+turn-requires g c = c.requires
+
+pub returns-in_err-reserve : goal.returns-in_err-reserve
+returns-in_err-reserve g c = record {
+  items = c.reserve.ensures.items;
+  ready = IfOk-from_err c.from_residual.result _ c.from_residual.ensures.0;
+  same = record { on = c.requires.may.aimed.on; size = refl; bridge = refl; keeps = c.requires.may.aimed.kept };
+  refused = all_err c.from_residual.result refl;
+}
+
+pub returns : goal.returns
+returns g c = record {
+  items = c.reserve.ensures.items;
+  ready = on_ok_map c.turn.result (λ goals. record { goals = goals; room = omega (arith, c.in_ok-reserve.ensures.ok) }) c.turn.ensures.goals;
+  same = record { on = c.turn.ensures.on; size = c.turn.ensures.size; bridge = c.turn.ensures.bridge; keeps = c.turn.ensures.keeps };
+  refused = c.turn.ensures.refused;
+}

@@ -1,0 +1,41 @@
+-- Why an opening is refused where its limits are in range, and that it is not.
+use Rattle.std.proofs.Common.{rules}
+use Rattle.std.proofs.lemmas.Bool.{both_ways}
+use Rattle.fleet_core.proofs.world_opening.opening_fault.Goals as goal
+
+pub returns-then-not-are_enough : goal.returns-then-not-are_enough
+returns-then-not-are_enough g c = (
+  (c.is_valid.ensures.0 c.if-not-is_valid.false, (c.if-clients-lt1.false, c.if-clients-gt64.false)),
+  (search rules, c.if-starts-gt512.false),
+  record {
+    on_floor = c.in_default.ensures;
+    distinct = λ i j b k s. c.in_default-first_shared.ensures i j (record { before = b; known = k; same = s });
+  },
+  λ e. both_ways c.are_enough.result c.if-not-are_enough.true (c.are_enough.ensures.1 e),
+)
+
+pub returns-in-Some : goal.returns-in-Some
+returns-in-Some g c = (
+  (c.is_valid.ensures.0 c.if-not-is_valid.false, (c.if-clients-lt1.false, c.if-clients-gt64.false)),
+  (search rules, c.if-starts-gt512.false),
+  c.in-Some.ensures,
+)
+
+pub returns-in-Some-first_shared : goal.returns-in-Some-first_shared
+returns-in-Some-first_shared g c = (
+  (c.is_valid.ensures.0 c.if-not-is_valid.false, (c.if-clients-lt1.false, c.if-clients-gt64.false)),
+  (search rules, c.if-starts-gt512.false),
+  c.in_default.ensures,
+  c.in-Some-first_shared.ensures,
+)
+
+pub returns : goal.returns
+returns g c = record {
+  range = (c.is_valid.ensures.0 c.if-not-is_valid.false, (c.if-clients-lt1.false, c.if-clients-gt64.false));
+  robots = (search rules, c.if-starts-gt512.false);
+  placed = record {
+    on_floor = c.in_default.ensures;
+    distinct = λ i j b k s. c.in_default-first_shared.ensures i j (record { before = b; known = k; same = s });
+  };
+  hooks = c.are_enough.ensures.0 c.if-not-are_enough.false;
+}

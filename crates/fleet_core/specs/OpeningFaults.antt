@@ -1,0 +1,42 @@
+-- Why worlds are not opened.
+use Rattle.std.specs.Prelude.{ℕ, ◌≡◌, ◌<◌, ◌≤◌, ◌⊎◌, List, length, slice_index}
+use Rattle.fleet_grid.specs.Floor.{Floor, IsFloor}
+use Rattle.fleet_grid.specs.Step.{IsPlacement}
+use Rattle.fleet_book.specs.declared.limits.Limits.{Limits}
+use Rattle.fleet_core.specs.Hooks.{HookLaws, HaveCount}
+use Rattle.fleet_core.specs.Opening.{AreInRange, AreRobots, AreOnFloor}
+use Rattle.fleet_core.specs.declared.faults.OpenFault.{OpenFault}
+use Rattle.fleet_core.specs.declared.faults.OpenFault.TheVariants as fault
+
+-- the robot is the first that does not start on floor
+pub record IsFirstOffFloor (m : Floor) (starts : List ℕ) (r : ℕ) : Type 0 where
+  pub known : r < length starts
+  pub off : IsFloor m (slice_index starts r) → ⊥
+  pub before : (q : ℕ) → q < r → IsFloor m (slice_index starts q)
+
+-- two robots start on one cell
+pub record AreShared (starts : List ℕ) (i j : ℕ) : Type 0 where
+  pub before : i < j
+  pub known : j < length starts
+  pub same : slice_index starts i ≡ slice_index starts j
+
+-- they are the least pair of such
+pub record IsFirstShared (starts : List ℕ) (i j : ℕ) : Type 0 where
+  pub shared : AreShared starts i j
+  pub least : (k l : ℕ) → AreShared starts k l → (i < k) ⊎ ((i ≡ k) × (j ≤ l))
+
+-- when an opening is refused for this reason, out of memory apart
+abbrev pub IsRefused : Floor → List ℕ → ℕ → Limits → HookLaws → OpenFault → Type 0
+IsRefused m starts clients limits laws fault.Limits = AreInRange clients limits → ⊥
+IsRefused m starts clients limits laws fault.NoRobots = AreInRange clients limits × (AreRobots starts → ⊥)
+IsRefused m starts clients limits laws (fault.Start r) = AreInRange clients limits × AreRobots starts × IsFirstOffFloor m starts r
+IsRefused m starts clients limits laws (fault.Shared i j) =
+    AreInRange clients limits × AreRobots starts × AreOnFloor m starts × IsFirstShared starts i j
+IsRefused m starts clients limits laws fault.Hooks =
+    AreInRange clients limits × AreRobots starts × IsPlacement m starts × (HaveCount (length starts) laws → ⊥)
+IsRefused m starts clients limits laws fault.NoMemory = ⊥
+
+-- a reason other than out of memory
+abbrev pub IsNamed : OpenFault → Type 0
+IsNamed fault.NoMemory = ⊥
+IsNamed _ = Unit {0}

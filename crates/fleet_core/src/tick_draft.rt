@@ -1,0 +1,114 @@
+//! The step of a tick: all of it that takes memory, before anything is entered.
+
+ghost use Rattle.std.specs.Prelude.{◌≡◌, ◌<◌, ◌^◌, length, map, vec_len, IfOk, OnOk, OnErr};
+ghost use Rattle.fleet_planner.specs.Aims.{goals_of};
+ghost use Rattle.fleet_state.specs.State.{robot_count};
+ghost use Rattle.fleet_planner.specs.Aimed.{MayPlan};
+ghost use Rattle.fleet_core.specs.Hooks.{spare_laws, without_all};
+ghost use Rattle.fleet_core.specs.inside.Ready.{IsStep, IsReady, IsOnSame};
+ghost use Rattle.fleet_core.specs.inside.Stamped.{MayStamp, AreStamped};
+
+use crate::faults::TickReport;
+use crate::stamps::{arrive, take_leave};
+use fleet_grid::Grid;
+use fleet_history::{Arrival, Bye, Entry};
+use fleet_hooks::{ArrivalHook, Farewell, TieHook};
+use fleet_planner::Planner;
+use fleet_state::FleetState;
+use std::alloc::{AllocError, Allocator};
+
+/// Where the robots go, who arrives there and who says farewell. The stamps are given when nothing can fail any more.
+#[derive(Drop)]
+pub(crate) struct TickDraft<A: Allocator + Copy> {
+    pub(crate) to: Vec<u32, A>,
+    pub(crate) arrived: Vec<Arrival, A>,
+    pub(crate) leaving: Vec<Bye, A>,
+}
+
+impl<A: Allocator + Copy> TickDraft<A> {
+    /// Calls the robots' closures in this tick, at the arrivals and where robots say farewell, and writes their stamps.
+    /// The farewells that are called are spent.
+    pub(crate) fn stamp(
+        &mut self,
+        arrivals: &[ArrivalHook],
+        farewells: &mut Vec<Option<Farewell>, A>,
+        tick: u64,
+    ) -> TickReport
+        requires { MayStamp (length arrivals.now) (vec_len farewells.old) (spare_laws farewells.old.items) self.old.to.items self.old.arrived.items self.old.leaving.items }
+        ensures to { self.new.to.items ≡ self.old.to.items }
+        ensures stamped { AreStamped (map (λ h. h.law) arrivals.now) (spare_laws farewells.old.items) self.old.arrived.items self.new.arrived.items self.old.leaving.items self.new.leaving.items }
+        ensures spent { spare_laws farewells.new.items ≡ without_all (map (λ b. b.robot) self.old.leaving.items) (spare_laws farewells.old.items) }
+        ensures report { result ≡ record { tick = tick; arrived = length self.new.arrived.items; farewells = length self.new.leaving.items } }
+    {
+        arrive(&mut self.arrived, arrivals, &self.to, tick);
+        take_leave(&mut self.leaving, farewells, &self.to, tick);
+        TickReport::of(tick, self.arrived.len(), self.leaving.len())
+    }
+}
+
+/// The planned step of the next tick, with stamps of 0.
+fn step_of<A: Allocator + Copy>(
+    alloc: A,
+    grid: &Grid<A>,
+    state: &FleetState<A>,
+    planner: &mut Planner<A>,
+    ties: &[TieHook],
+) -> Result<TickDraft<A>, AllocError>
+    requires may { MayPlan grid.now state.now planner.old }
+    requires tied { length ties.now ≡ robot_count state.now }
+    requires early { state.now.tick < 2 ^ 63 }
+    ensures same { planner.new ≡ planner.old }
+    ensures step { IfOk result (λ step. IsStep grid.now (map (λ h. h.law) ties.now) state.now (goals_of planner.old.aims) step.to.items step.arrived.items step.leaving.items) }
+{
+    let to = planner.plan(alloc, grid, state, ties)?;
+    let arrived = state.dues(alloc, to.as_slice())?;
+    let leaving = state.leaving(alloc, to.as_slice())?;
+    Ok(TickDraft {
+        to,
+        arrived,
+        leaving,
+    })
+}
+
+/// Makes room for one entry more, and aims the robots at the goals that they have after a tick to these cells.
+fn make_ready<A: Allocator + Copy>(
+    entries: &mut Vec<Entry<A>, A>,
+    planner: &mut Planner<A>,
+    grid: &Grid<A>,
+    state: &FleetState<A>,
+    to: &[u32],
+) -> Result<(), AllocError>
+    requires may { MayPlan grid.now state.now planner.old }
+    requires same { length to.now ≡ robot_count state.now }
+    ensures items { entries.new.items ≡ entries.old.items }
+    ensures ready { OnOk result (IsReady state.now to.now planner.new entries.new) }
+    ensures same { IsOnSame grid.now planner.old planner.new }
+    ensures refused { OnErr result (planner.new.aims ≡ planner.old.aims) }
+{
+    entries.reserve(1)?;
+    planner.turn(grid, state, to)
+}
+
+/// The planned step of the next tick, for which all is ready: there is room for its entry, and the robots aim at the goals
+/// that they have after it.
+pub(crate) fn ready<A: Allocator + Copy>(
+    alloc: A,
+    grid: &Grid<A>,
+    state: &FleetState<A>,
+    planner: &mut Planner<A>,
+    ties: &[TieHook],
+    entries: &mut Vec<Entry<A>, A>,
+) -> Result<TickDraft<A>, AllocError>
+    requires may { MayPlan grid.now state.now planner.old }
+    requires tied { length ties.now ≡ robot_count state.now }
+    requires early { state.now.tick < 2 ^ 63 }
+    ensures items { entries.new.items ≡ entries.old.items }
+    ensures step { IfOk result (λ step. IsStep grid.now (map (λ h. h.law) ties.now) state.now (goals_of planner.old.aims) step.to.items step.arrived.items step.leaving.items) }
+    ensures ready { IfOk result (λ step. IsReady state.now step.to.items planner.new entries.new) }
+    ensures same { IsOnSame grid.now planner.old planner.new }
+    ensures refused { OnErr result (planner.new.aims ≡ planner.old.aims) }
+{
+    let step = step_of(alloc, grid, state, planner, ties)?;
+    make_ready(entries, planner, grid, state, &step.to)?;
+    Ok(step)
+}

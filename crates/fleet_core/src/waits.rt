@@ -1,0 +1,53 @@
+//! How long a world's robots wait.
+
+ghost use Rattle.std.specs.Prelude.{◌≡◌, ◌<◌, ◌↔◌, IsTrue, IsSome, IfSome, MatchOption};
+ghost use Rattle.fleet_bound.specs.Arriving.{IsIdleWithin};
+ghost use Rattle.fleet_bound.specs.Bound.{wait_bound};
+ghost use Rattle.fleet_bound.specs.Idle.{idle_ticks, longest_after};
+ghost use Rattle.fleet_grid.specs.Counts.{floor_count};
+ghost use Rattle.fleet_grid.specs.Floor.{IsNeighbour};
+ghost use Rattle.fleet_grid.specs.Walk.{IsBridgeless};
+ghost use Rattle.fleet_history.specs.History.{robots};
+ghost use Rattle.fleet_history.specs.Waits.{wait};
+ghost use Rattle.fleet_pibt.specs.Eldest.{IsEldest};
+ghost use Rattle.fleet_planner.specs.Planned.{waits};
+ghost use Rattle.fleet_planner.specs.Aimed.{IsIdle};
+
+use crate::world::World;
+use std::alloc::Allocator;
+
+impl<A: Allocator + Copy> World<A> {
+    /// How many ticks the robot has waited for the arrival at its front errand's cell; none where it has no errand. On a
+    /// bridgeless map it is below the bound, whatever was posted meanwhile.
+    pub fn wait_of(&self, robot: u32) -> Option<u64>
+        requires { robot < robots self.now.core.history }
+        ensures wait { result ≡ wait self.now.core.history robot }
+        ensures bounded { IsBridgeless (IsNeighbour self.now.core.floor) → IfSome result (λ w. w < wait_bound self.now.core.floor self.now.core.history) }
+    {
+        self.core.wait_of(robot)
+    }
+
+    /// The robot of greatest wait, the least number on a tie; none where nobody has an errand.
+    pub fn eldest(&self) -> Option<u32>
+        ensures { MatchOption result (IsIdle self.now.core.history) (λ e. IsEldest (waits self.now.core.history) e) }
+    {
+        self.core.eldest()
+    }
+
+    /// Whether nobody has an errand.
+    pub fn is_idle(&self) -> bool
+        ensures { IsTrue result ↔ IsIdle self.now.core.history }
+    {
+        self.core.is_idle()
+    }
+
+    /// Within how many ticks nobody has an errand any more, where no order is taken meanwhile: ticks for each errand of the
+    /// longest queue and each robot, as many as a walk can have edges. `None` on a map with a bridge.
+    pub fn idle_within(&self) -> Option<u64>
+        ensures told { IsSome result ↔ IsBridgeless (IsNeighbour self.now.core.floor) }
+        ensures exact { IfSome result (λ ticks. ticks ≡ idle_ticks (longest_after self.now.core.history) (robots self.now.core.history) (floor_count self.now.core.floor)) }
+        ensures idle { IfSome result (λ ticks. IsIdleWithin self.now.core.floor self.now.core.history ticks) }
+    {
+        self.core.idle_within()
+    }
+}

@@ -1,0 +1,41 @@
+-- Sentences whose parts are written one after the other.
+use Rattle.std.proofs.Common.{◌≡◌, ℕ, List, ◌++◌, codes, decimal, encode_utf8, sym, subst}
+use Rattle.std.proofs.lemmas.List.{append_assoc}
+use Rattle.fleet_explain.specs.declared.limits.LimitFault.{LimitFault}
+use Rattle.fleet_explain.specs.declared.opening.StartFault.{StartFault}
+use Rattle.fleet_explain.specs.declared.opening.StartFault.TheVariants as start
+use Rattle.fleet_explain.specs.declared.explanation.Explanation.{Explanation}
+use Rattle.fleet_explain.specs.declared.explanation.Explanation.TheVariants as explanation
+use Rattle.fleet_explain.specs.Limits.{least_of, most_of, name_of}
+use Rattle.fleet_explain.specs.Sentences.{cell_text, limit_text, start_text, sentence}
+
+five : (a b c d e : List ℕ) → a ++ (b ++ (c ++ (d ++ e))) ≡ a ++ b ++ c ++ d ++ e
+five a b c d e = simp append_assoc
+
+six : (a b c d e f : List ℕ) → a ++ (b ++ (c ++ (d ++ (e ++ f)))) ≡ a ++ b ++ c ++ d ++ e ++ f
+six a b c d e f = simp append_assoc
+
+seven : (a b c d e f g : List ℕ) → a ++ (b ++ (c ++ (d ++ (e ++ (f ++ g))))) ≡ a ++ b ++ c ++ d ++ e ++ f ++ g
+seven a b c d e f g = simp append_assoc
+
+pub limit_written : (f : LimitFault) (name : List ℕ) (least most : ℕ) → name ≡ name_of f.kind → least ≡ least_of f.kind → most ≡ most_of f.kind
+    → name ++ (codes " is " ++ (decimal f.value ++ (codes ", which is not from " ++ (decimal least ++ (codes " to " ++ decimal most))))) ≡ limit_text f
+limit_written f name least most a b d = rw (a, b, d) (seven (name_of f.kind) (codes " is ") (decimal f.value) (codes ", which is not from ") (decimal (least_of f.kind)) (codes " to ") (decimal (most_of f.kind)))
+
+pub off_floor_written : (width : ℕ) (f : StartFault) (robot cell : ℕ) → f ≡ start.OffFloor robot cell
+    → codes "robot " ++ (decimal robot ++ (codes " starts on " ++ (cell_text width cell ++ codes ", which is no floor"))) ≡ start_text width f
+off_floor_written width f robot cell is =
+    subst (λ (x : StartFault). codes "robot " ++ (decimal robot ++ (codes " starts on " ++ (cell_text width cell ++ codes ", which is no floor"))) ≡ start_text width x) (sym is)
+    (five (codes "robot ") (decimal robot) (codes " starts on ") (cell_text width cell) (codes ", which is no floor"))
+
+pub shared_written : (width : ℕ) (f : StartFault) (first second cell : ℕ) → f ≡ start.Shared first second cell
+    → codes "robots " ++ (decimal first ++ (codes " and " ++ (decimal second ++ (codes " both start on " ++ cell_text width cell)))) ≡ start_text width f
+shared_written width f first second cell is =
+    subst (λ (x : StartFault). codes "robots " ++ (decimal first ++ (codes " and " ++ (decimal second ++ (codes " both start on " ++ cell_text width cell)))) ≡ start_text width x) (sym is)
+    (six (codes "robots ") (decimal first) (codes " and ") (decimal second) (codes " both start on ") (cell_text width cell))
+
+pub letter_written : (e : Explanation) (row column letter c : ℕ) → e ≡ explanation.Letter row column letter → c ≡ letter
+    → codes "the map: row " ++ (decimal row ++ (codes ", column " ++ (decimal column ++ (codes " has `" ++ (encode_utf8 c ++ codes "`, which is no letter of a map"))))) ≡ sentence e
+letter_written e row column letter c is same =
+    subst (λ (x : Explanation). codes "the map: row " ++ (decimal row ++ (codes ", column " ++ (decimal column ++ (codes " has `" ++ (encode_utf8 c ++ codes "`, which is no letter of a map"))))) ≡ sentence x) (sym is)
+    (rw same (seven (codes "the map: row ") (decimal row) (codes ", column ") (decimal column) (codes " has `") (encode_utf8 letter) (codes "`, which is no letter of a map")))

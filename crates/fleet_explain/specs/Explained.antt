@@ -1,0 +1,62 @@
+-- What is wrong with a map, a script or a trace.
+use Rattle.std.specs.Prelude.{◌≡◌, ℕ, List, Ok, Err}
+use Rattle.std.specs.declared.alloc.Global.{Global}
+use Rattle.fleet_map.specs.Text.{lines_of}
+use Rattle.fleet_map.specs.Grammar.{Map, map_of}
+use Rattle.fleet_map.specs.declared.fault.MapFault.TheVariants.{Cell}
+use Rattle.fleet_grid.specs.Floor.{Floor, floor_of}
+use Rattle.fleet_book.specs.declared.limits.Limits.{Limits}
+use Rattle.fleet_history.specs.History.{History}
+use Rattle.fleet_history.specs.Legal.{IsLegal}
+use Rattle.fleet_script.specs.Script.{Plan, script_of}
+use Rattle.fleet_trace.specs.declared.fault.TraceFault.{TraceFault}
+use Rattle.fleet_trace.specs.Trace.{Trace}
+use Rattle.fleet_trace.specs.Reads.{Tells, IsTraceFault}
+use Rattle.fleet_trace.specs.Judged.{IsFirstIllegal}
+use Rattle.fleet_explain.specs.declared.explanation.Explanation.{Explanation}
+use Rattle.fleet_explain.specs.declared.explanation.Explanation.TheVariants as explanation
+use Rattle.fleet_explain.specs.Lines.{fault_at, letter_in}
+use Rattle.fleet_explain.specs.Starts.{AlwaysOpens, IsStartFault}
+use Rattle.fleet_explain.specs.Entries.{kind_at}
+
+-- the map of a text, as a floor
+abbrev pub floor_of_map : Map → Floor
+floor_of_map m = floor_of m.height m.width m.cells
+
+-- ---- a map
+
+-- the text is no map, for this reason
+abbrev pub IsNoMap : List ℕ → Explanation → Type 0
+IsNoMap map (explanation.Map f) = map_of map ≡ Err f
+IsNoMap map (explanation.Letter row column letter) = (map_of map ≡ Err (Cell row column)) × (letter ≡ letter_in (lines_of map) row column)
+IsNoMap map _ = ⊥
+
+pub data IsMapExplained (map : List ℕ) (e : Explanation) : Type 0 where
+  no_map : IsNoMap map e → IsMapExplained map e
+  fine : (m : Map) → map_of map ≡ Ok m → e ≡ explanation.Fine → IsMapExplained map e
+
+-- ---- a script on a map
+
+-- on the map, a fleet with these starts, clients and limits
+abbrev pub IsScriptOn : Map → List ℕ → ℕ → Limits → Explanation → Type 0
+IsScriptOn m starts clients limits (explanation.Start fault width) = IsStartFault (floor_of_map m) starts clients limits fault × (width ≡ m.width)
+IsScriptOn m starts clients limits explanation.Fine = AlwaysOpens (floor_of_map m) starts clients limits
+IsScriptOn m starts clients limits _ = ⊥
+
+pub data IsScriptExplained (map script : List ℕ) (e : Explanation) : Type 0 where
+  no_floor : IsNoMap map e → IsScriptExplained map script e
+  no_script : (m : Map) (line : ℕ) → map_of map ≡ Ok m → script_of script ≡ Err line → e ≡ explanation.Script line (fault_at (lines_of script) line) → IsScriptExplained map script e
+  on_floor : (m : Map) (plan : Plan) → map_of map ≡ Ok m → script_of script ≡ Ok plan → IsScriptOn m plan.starts plan.clients plan.limits e → IsScriptExplained map script e
+
+-- ---- a trace on a map
+
+-- the history is legal on the map, or this is the first entry that breaks a rule
+abbrev pub IsJudgedAs : Map → History Global → Explanation → Type 0
+IsJudgedAs m h explanation.Fine = IsLegal (floor_of_map m) h
+IsJudgedAs m h (explanation.Illegal at rule kind) = IsFirstIllegal (floor_of_map m) h at rule × (kind ≡ kind_at h.entries at)
+IsJudgedAs m h _ = ⊥
+
+pub data IsTraceExplained (map trace : List ℕ) (e : Explanation) : Type 0 where
+  without_map : IsNoMap map e → IsTraceExplained map trace e
+  no_trace : (m : Map) (f : TraceFault) → map_of map ≡ Ok m → IsTraceFault trace f → e ≡ explanation.Trace f → IsTraceExplained map trace e
+  on_map : (m : Map) (t : Trace Global) → map_of map ≡ Ok m → Tells trace t → IsJudgedAs m t.history e → IsTraceExplained map trace e

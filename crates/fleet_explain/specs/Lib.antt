@@ -1,0 +1,7 @@
+pub mod Keywords
+pub mod Lines
+pub mod Limits
+pub mod Starts
+pub mod Entries
+pub mod Explained
+pub mod Sentences

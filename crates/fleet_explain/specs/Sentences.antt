@@ -1,0 +1,77 @@
+-- Explanations as sentences.
+use Rattle.std.specs.Prelude.{ℕ, ◌/◌, ◌%◌, List, ◌++◌, max, codes, decimal, encode_utf8, ◌==◌, if◌then◌else◌}
+use Rattle.fleet_map.specs.declared.fault.MapFault.{MapFault}
+use Rattle.fleet_map.specs.declared.fault.MapFault.TheVariants as map
+use Rattle.fleet_trace.specs.declared.fault.TraceFault.{TraceFault}
+use Rattle.fleet_trace.specs.declared.fault.TraceFault.TheVariants as trace
+use Rattle.fleet_explain.specs.declared.entry.EntryKind.{EntryKind}
+use Rattle.fleet_explain.specs.declared.entry.EntryKind.TheVariants as kind
+use Rattle.fleet_explain.specs.declared.explanation.Explanation.{Explanation}
+use Rattle.fleet_explain.specs.declared.explanation.Explanation.TheVariants as explanation
+use Rattle.fleet_explain.specs.declared.limits.LimitFault.{LimitFault}
+use Rattle.fleet_explain.specs.declared.line.LineFault.{LineFault}
+use Rattle.fleet_explain.specs.declared.line.LineFault.TheVariants as line
+use Rattle.fleet_explain.specs.declared.opening.StartFault.{StartFault}
+use Rattle.fleet_explain.specs.declared.opening.StartFault.TheVariants as start
+use Rattle.fleet_explain.specs.Keywords.{wants}
+use Rattle.fleet_explain.specs.Limits.{least_of, most_of, name_of}
+
+abbrev pub line_text : LineFault → List ℕ
+line_text line.NoRobots = codes "the script ends without a line `robots CELL ..`"
+line_text line.Unknown = codes "no line of a script begins with its first word"
+line_text line.Late = codes "a header line stands after an event line"
+line_text line.Twice = codes "a line with the same first word stands above it"
+line_text (line.Form keyword) = codes "after its first word comes " ++ wants keyword
+
+abbrev pub map_text : MapFault → List ℕ
+map_text (map.Header n) = codes "line " ++ decimal n ++ codes " is missing or not in its form: the head is `type WORD`, `height N` and `width N`, and `map`"
+map_text map.Size = codes "the height or the width is not from 1 to 1,024"
+map_text (map.Row row) = codes "row " ++ decimal row ++ codes " is missing or not as long as the width"
+map_text (map.Cell row column) = codes "row " ++ decimal row ++ codes " has a byte that is no letter of a map"
+map_text (map.Trailing n) = codes "line " ++ decimal n ++ codes " comes after the last row and is not blank"
+map_text map.NoMemory = codes "out of memory"
+
+-- a cell, with its row and column on a map of this width
+abbrev pub cell_text : ℕ → ℕ → List ℕ
+cell_text width cell = codes "cell " ++ decimal cell ++ codes " (row " ++ decimal (cell / max width 1) ++ codes ", column " ++ decimal (cell % max width 1) ++ codes ")"
+
+abbrev pub limit_text : LimitFault → List ℕ
+limit_text f = name_of f.kind ++ codes " is " ++ decimal f.value ++ codes ", which is not from " ++ decimal (least_of f.kind) ++ codes " to " ++ decimal (most_of f.kind)
+
+abbrev pub start_text : ℕ → StartFault → List ℕ
+start_text width (start.Limit f) = limit_text f
+start_text width start.Robots = codes "there are not 1 to 512 robots"
+start_text width (start.OffFloor robot cell) = codes "robot " ++ decimal robot ++ codes " starts on " ++ cell_text width cell ++ codes ", which is no floor"
+start_text width (start.Shared first second cell) = codes "robots " ++ decimal first ++ codes " and " ++ decimal second ++ codes " both start on " ++ cell_text width cell
+
+abbrev pub trace_text : TraceFault → List ℕ
+trace_text trace.NotJson = codes "it is not UTF-8, or not JSON, or nested deeper than 127"
+trace_text trace.Version = codes "the number under `version` is that of no known version"
+trace_text trace.Shape = codes "it has not the form of a trace"
+trace_text trace.NoMemory = codes "out of memory"
+
+abbrev pub kind_text : EntryKind → List ℕ
+kind_text kind.Opening = codes "the opening"
+kind_text (kind.Take client) = codes "a take of client " ++ decimal client
+kind_text kind.Tick = codes "a tick"
+kind_text (kind.Shut robot) = codes "a shut of robot " ++ decimal robot
+
+abbrev pub rule_text : ℕ → List ℕ
+rule_text rule =
+    if rule == 1 then codes "it is not in order"
+    else if rule == 2 then codes "there is no such client"
+    else if rule == 3 then codes "the verdict is not the one that the order gets"
+    else if rule == 4 then codes "the step has a conflict, or leaves the floor"
+    else if rule == 5 then codes "the arrivals are not those that are due"
+    else if rule == 6 then codes "the farewells are not those that are due"
+    else if rule == 7 then codes "a stamp is outside of its robot's law"
+    else codes "the robot is shut already, or there is no such robot"
+
+abbrev pub sentence : Explanation → List ℕ
+sentence explanation.Fine = codes "all in order"
+sentence (explanation.Map f) = codes "the map: " ++ map_text f
+sentence (explanation.Letter row column letter) = codes "the map: row " ++ decimal row ++ codes ", column " ++ decimal column ++ codes " has `" ++ encode_utf8 letter ++ codes "`, which is no letter of a map"
+sentence (explanation.Script n f) = codes "the script: line " ++ decimal n ++ codes ": " ++ line_text f
+sentence (explanation.Start f width) = codes "the script: " ++ start_text width f
+sentence (explanation.Trace f) = codes "the trace: " ++ trace_text f
+sentence (explanation.Illegal at rule kind) = codes "the trace: entry " ++ decimal at ++ codes ", " ++ kind_text kind ++ codes ": " ++ rule_text rule

@@ -1,0 +1,142 @@
+//! What is wrong with a map, a script or a trace.
+
+ghost use Rattle.std.specs.Prelude.{◌≤◌, IfOk, length};
+ghost use Rattle.fleet_map.specs.Form.{HasSides};
+ghost use Rattle.fleet_map.specs.Grammar.{view, map_of, Fails};
+ghost use Rattle.fleet_history.specs.History.{history_of};
+ghost use Rattle.fleet_explain.specs.Explained.{IsNoMap, IsMapExplained, IsScriptExplained, IsScriptOn, IsTraceExplained, IsJudgedAs};
+
+use crate::entry::{EntryKind, kind_at};
+use crate::line::{LineFault, fault_at, letter_at};
+use crate::opening::{StartFault, start_fault};
+use fleet_grid::Grid;
+use fleet_history::Chapter;
+use fleet_map::{MapFault, MapText, read_map};
+use fleet_script::{Script, ScriptFault, read_script};
+use fleet_trace::{JudgeFault, TraceFault, judge, read_trace};
+use std::alloc::{AllocError, Global};
+
+/// What is wrong with a map, and with a script or a trace on it.
+#[derive(Clone, Copy, Debug, PartialEq, Eq)]
+pub enum Explanation {
+    /// Nothing.
+    Fine,
+    /// The bytes are no map, for another reason than a letter.
+    Map(MapFault),
+    /// The byte in this row and column of the map is no letter of a map. Both count from 0.
+    Letter { row: u32, column: u32, letter: u8 },
+    /// The line of the script, from 1, may not stand where it does.
+    Script { line: u32, fault: LineFault },
+    /// The script's fleet cannot begin on the map, which has this width.
+    Start { fault: StartFault, width: u32 },
+    /// The bytes tell no trace.
+    Trace(TraceFault),
+    /// The entry `at`, from 1, is the first that breaks a rule, and `rule` the first that it breaks; at 0 the opening.
+    Illegal { at: u64, rule: u8, kind: EntryKind },
+}
+
+/// What is wrong with a map that has this fault. The only error is out of memory.
+fn map_explanation(alloc: Global, map: &[u8], fault: MapFault) -> Result<Explanation, AllocError>
+    requires { Fails fault (map_of map.now) }
+    ensures { IfOk result (λ e. IsNoMap map.now e) }
+{
+    match fault {
+        MapFault::NoMemory => Err(AllocError),
+        MapFault::Cell(row, column) => {
+            let letter = letter_at(alloc, map, row, column)?;
+            Ok(Explanation::Letter {
+                row,
+                column,
+                letter,
+            })
+        }
+        MapFault::Header(line) => Ok(Explanation::Map(MapFault::Header(line))),
+        MapFault::Size => Ok(Explanation::Map(MapFault::Size)),
+        MapFault::Row(row) => Ok(Explanation::Map(MapFault::Row(row))),
+        MapFault::Trailing(line) => Ok(Explanation::Map(MapFault::Trailing(line))),
+    }
+}
+
+/// What is wrong with a map. The only error is out of memory.
+pub fn explain_map(alloc: Global, map: &[u8]) -> Result<Explanation, AllocError>
+    ensures { IfOk result (λ e. IsMapExplained map.now e) }
+{
+    let _floor = match read_map(alloc, map) {
+        Ok(floor) => floor,
+        Err(fault) => return map_explanation(alloc, map, fault),
+    };
+    Ok(Explanation::Fine)
+}
+
+/// Whether a script's fleet can begin on a map.
+fn start_explanation(
+    alloc: Global,
+    map: MapText,
+    script: &Script,
+) -> Result<Explanation, AllocError>
+    requires { HasSides (view map) }
+    ensures { IfOk result (λ e. IsScriptOn (view map) script.now.starts.items script.now.clients script.now.limits e) }
+{
+    let width = map.width;
+    let grid = Grid::new(map)?;
+    match start_fault(&grid, &script.starts, script.clients, script.limits) {
+        Some(fault) => Ok(Explanation::Start { fault, width }),
+        None => Ok(Explanation::Fine),
+    }
+}
+
+/// What is wrong with a map, else with a script on it: whether it can be read, and whether its fleet can begin on the map. The events
+/// are not made. The only error is out of memory.
+pub fn explain_script(alloc: Global, map: &[u8], script: &[u8]) -> Result<Explanation, AllocError>
+    requires { length script.now ≤ 16777216 }
+    ensures { IfOk result (λ e. IsScriptExplained map.now script.now e) }
+{
+    let floor = match read_map(alloc, map) {
+        Ok(floor) => floor,
+        Err(fault) => return map_explanation(alloc, map, fault),
+    };
+    match read_script(alloc, script) {
+        Ok(script) => start_explanation(alloc, floor, &script),
+        Err(ScriptFault::NoMemory) => Err(AllocError),
+        Err(ScriptFault::Line(line)) => {
+            let fault = fault_at(alloc, script, line)?;
+            Ok(Explanation::Script { line, fault })
+        }
+    }
+}
+
+/// What is wrong with a chapter on a map that was read.
+fn chapter_explanation(
+    alloc: Global,
+    map: MapText,
+    chapter: &Chapter,
+) -> Result<Explanation, AllocError>
+    requires { HasSides (view map) }
+    ensures { IfOk result (λ e. IsJudgedAs (view map) (history_of chapter.now) e) }
+{
+    let grid = Grid::new(map)?;
+    match judge(alloc, &grid, chapter) {
+        Ok(()) => Ok(Explanation::Fine),
+        Err(JudgeFault::Illegal { at, rule }) => {
+            let kind = kind_at(&chapter.entries, at);
+            Ok(Explanation::Illegal { at, rule, kind })
+        }
+        Err(JudgeFault::NoMemory) => Err(AllocError),
+    }
+}
+
+/// What is wrong with a map, else with a trace on it: whether it can be read, and whether it is legal on the map. The only error is
+/// out of memory.
+pub fn explain_trace(alloc: Global, map: &[u8], trace: &[u8]) -> Result<Explanation, AllocError>
+    ensures { IfOk result (λ e. IsTraceExplained map.now trace.now e) }
+{
+    let floor = match read_map(alloc, map) {
+        Ok(floor) => floor,
+        Err(fault) => return map_explanation(alloc, map, fault),
+    };
+    match read_trace(alloc, trace) {
+        Ok(chapter) => chapter_explanation(alloc, floor, &chapter),
+        Err(TraceFault::NoMemory) => Err(AllocError),
+        Err(fault) => Ok(Explanation::Trace(fault)),
+    }
+}

@@ -1,0 +1,17 @@
+//! What is wrong with a map, a script or a trace, in sentences.
+#![tactic(auto)]
+
+mod entry;
+mod explanation;
+mod keyword;
+mod limits;
+mod line;
+mod opening;
+mod text;
+
+pub use entry::EntryKind;
+pub use explanation::{Explanation, explain_map, explain_script, explain_trace};
+pub use keyword::Keyword;
+pub use limits::{LimitFault, LimitKind};
+pub use line::LineFault;
+pub use opening::StartFault;

@@ -1,5 +1,0 @@
-use Rattle.fleet_goals.proofs.Turned.{AreDealing}
-use Rattle.fleet_goals.proofs.turns.deal.Given as goal
-
-abbrev pub invariant-loop-at : goal.invariant-loop-at
-invariant-loop-at l = AreDealing l.turns l.fn.fresh l.fn.keys l.at l.fresh l.keys

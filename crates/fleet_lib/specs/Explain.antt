@@ -1,0 +1,31 @@
+-- What the word `explain` prints.
+use Rattle.std.specs.Prelude.{◌≡◌, ℕ, List, ◌++◌, codes}
+use Rattle.fleet_explain.specs.declared.explanation.Explanation.{Explanation}
+use Rattle.fleet_explain.specs.declared.explanation.Explanation.TheVariants as explanation
+use Rattle.fleet_explain.specs.Explained.{IsMapExplained, IsScriptExplained, IsTraceExplained}
+use Rattle.fleet_explain.specs.Sentences.{sentence}
+use Rattle.fleet_lib.specs.Said.{Outcome}
+use Rattle.fleet_lib.specs.Check.{good}
+
+-- the status of `errands`
+abbrev pub status_of : Explanation → ℕ
+status_of explanation.Fine = 0
+status_of (explanation.Map f) = 4
+status_of (explanation.Letter row column letter) = 4
+status_of (explanation.Script n f) = 5
+status_of (explanation.Start f width) = 5
+status_of (explanation.Trace f) = 6
+status_of (explanation.Illegal at rule kind) = 6
+
+-- the sentence, and a line feed
+abbrev pub outcome_of : Explanation → Outcome
+outcome_of e = good (sentence e ++ codes "\n") (status_of e)
+
+abbrev pub IsMapSaid : List ℕ → Outcome → Type 0
+IsMapSaid map o = (e : Explanation) × IsMapExplained map e × (o ≡ outcome_of e)
+
+abbrev pub IsScriptSaid : List ℕ → List ℕ → Outcome → Type 0
+IsScriptSaid map script o = (e : Explanation) × IsScriptExplained map script e × (o ≡ outcome_of e)
+
+abbrev pub IsTraceSaid : List ℕ → List ℕ → Outcome → Type 0
+IsTraceSaid map trace o = (e : Explanation) × IsTraceExplained map trace e × (o ≡ outcome_of e)

@@ -1,0 +1,58 @@
+//! The word `explain`.
+
+ghost use Rattle.std.specs.Prelude.{◌≡◌, ◌≤◌, length, IfOk};
+ghost use Rattle.fleet_lib.specs.Said.{said_of};
+ghost use Rattle.fleet_lib.specs.Explain.{status_of, outcome_of, IsMapSaid, IsScriptSaid, IsTraceSaid};
+
+use crate::check::printed;
+use crate::said::Said;
+use fleet_explain::{Explanation, explain_map, explain_script, explain_trace};
+use std::alloc::{AllocError, Global};
+
+/// The greatest length of a script, in bytes.
+pub const MOST_SCRIPT_BYTES: usize = 16_777_216;
+
+/// The status of an explanation: that of `errands`.
+fn status_of(explanation: Explanation) -> u8
+    ensures { result ≡ status_of explanation }
+{
+    match explanation {
+        Explanation::Fine => 0,
+        Explanation::Map(_) | Explanation::Letter { .. } => 4,
+        Explanation::Script { .. } | Explanation::Start { .. } => 5,
+        Explanation::Trace(_) | Explanation::Illegal { .. } => 6,
+    }
+}
+
+/// What is said of an explanation: its sentence.
+fn said_of_explanation(alloc: Global, explanation: Explanation) -> Result<Said, AllocError>
+    ensures { IfOk result (λ s. said_of s ≡ outcome_of explanation) }
+{
+    let text = format!(in alloc; "{explanation}\n")?;
+    printed(alloc, &text, status_of(explanation))
+}
+
+/// What the program has to say of a map: the sentence of `explain_map`.
+pub fn answer_explain_map(alloc: Global, map: &[u8]) -> Result<Said, AllocError>
+    ensures { IfOk result (λ s. IsMapSaid map.now (said_of s)) }
+{
+    let explanation = explain_map(alloc, map)?;
+    said_of_explanation(alloc, explanation)
+}
+
+/// What the program has to say of a map and a script: the sentence of `explain_script`.
+pub fn answer_explain_script(alloc: Global, map: &[u8], script: &[u8]) -> Result<Said, AllocError>
+    requires { length script.now ≤ 16777216 }
+    ensures { IfOk result (λ s. IsScriptSaid map.now script.now (said_of s)) }
+{
+    let explanation = explain_script(alloc, map, script)?;
+    said_of_explanation(alloc, explanation)
+}
+
+/// What the program has to say of a map and a trace: the sentence of `explain_trace`.
+pub fn answer_explain_trace(alloc: Global, map: &[u8], trace: &[u8]) -> Result<Said, AllocError>
+    ensures { IfOk result (λ s. IsTraceSaid map.now trace.now (said_of s)) }
+{
+    let explanation = explain_trace(alloc, map, trace)?;
+    said_of_explanation(alloc, explanation)
+}

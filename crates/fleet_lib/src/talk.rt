@@ -1,0 +1,84 @@
+//! The word `talk`.
+
+ghost use Rattle.std.specs.Prelude.{◌≤◌, length};
+
+use crate::closures::converse_with_closures;
+use crate::input::InputFault;
+use crate::said::fail;
+use errands_text::{Complaint, write_whole};
+use fleet_grid::Grid;
+use fleet_map::{MapFault, read_map};
+use fleet_script::{Head, ScriptFault};
+use fleet_talk::{Ends, Settings, Shelf, TalkFault, read_head};
+use std::alloc::{Alloc, AllocError, Global};
+use std::io::{Read, Write};
+
+/// The map and the header lines that a conversation begins with.
+#[derive(Clone, Copy, Debug)]
+pub struct TalkTexts<'a> {
+    pub map: &'a [u8],
+    pub script: &'a [u8],
+}
+
+/// Says on the error writer what is wrong. The result is the status.
+fn complain<E: Write>(alloc: Global, complaint: Complaint, error: &mut E) -> u8 {
+    match format!(in alloc; "fleet: {complaint}\n") {
+        Ok(line) => {
+            write_whole(error, line.as_bytes());
+            complaint.status()
+        }
+        Err(AllocError) => fail(InputFault::NoMemory, error),
+    }
+}
+
+/// What is wrong where a conversation broke off.
+fn complaint_of(fault: TalkFault) -> Complaint {
+    match fault {
+        TalkFault::Input | TalkFault::Output | TalkFault::Shelf => Complaint::File,
+        TalkFault::Opening(fault) => Complaint::Opening(fault),
+        TalkFault::NoMemory => Complaint::Memory,
+    }
+}
+
+/// The map and the head of the texts.
+fn grounds(alloc: Global, texts: TalkTexts<'_>) -> Result<(Grid, Head), Complaint>
+    requires { length texts.script.now ≤ 16777216 }
+{
+    let map = match read_map(alloc, texts.map) {
+        Ok(map) => map,
+        Err(MapFault::NoMemory) => return Err(Complaint::Memory),
+        Err(fault) => return Err(Complaint::Map(fault)),
+    };
+    let head = match read_head(alloc, texts.script) {
+        Ok(head) => head,
+        Err(ScriptFault::NoMemory) => return Err(Complaint::Memory),
+        Err(ScriptFault::Line(line)) => return Err(Complaint::Script(line)),
+    };
+    match Grid::new(map) {
+        Ok(grid) => Ok((grid, head)),
+        Err(AllocError) => Err(Complaint::Memory),
+    }
+}
+
+/// Holds a conversation on the map. The result is the status: 0 good, 3 a line could not be read, or an answer or a chapter not
+/// written, 4 the map, 5 the script or the opening is refused, 7 out of memory, 8 a limit was met.
+pub fn run_talk<R: Alloc<A = Global>, I: Read, W: Write, S: Shelf, E: Write>(
+    rt: &R,
+    texts: TalkTexts<'_>,
+    settings: Settings,
+    ends: &mut Ends<I, W, S>,
+    error: &mut E,
+) -> u8
+    requires { length texts.script.now ≤ 16777216 }
+{
+    let alloc = rt.alloc();
+    let (grid, head) = match grounds(alloc, texts) {
+        Ok(grounds) => grounds,
+        Err(complaint) => return complain(alloc, complaint, error),
+    };
+    match converse_with_closures(rt, grid, head, settings, ends) {
+        Ok(false) => 0,
+        Ok(true) => complain(alloc, Complaint::Limit, error),
+        Err(fault) => complain(alloc, complaint_of(fault), error),
+    }
+}

@@ -1,7 +1,0 @@
-use Rattle.fleet_office.proofs.Counted.{countable}
-use Rattle.fleet_office.proofs.rest.Rest.is_countable.Goals as goal
-
-pub returns : goal.returns
-returns g c =
-    let s = c.self.inside in
-    rw (← c.self.view_is) (countable g.N.OfficeName.rings s.core s.ends.items s.book.total c.self.invariant c.chapter.ensures.counts)

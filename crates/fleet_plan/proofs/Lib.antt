@@ -1,4 +1,0 @@
-pub mod Goals
-pub mod Lists
-pub mod Longest
-pub mod Ticked

@@ -1,0 +1,13 @@
+pub mod Counts
+pub mod Fields
+pub mod Holding
+pub mod Turned
+pub mod Outcome
+pub mod Measured
+pub mod Goals
+pub mod Lists
+pub mod Longest
+pub mod Ticked
+pub mod Refused
+pub mod GoalsKept
+pub mod GoalChanges

@@ -1,0 +1,14 @@
+pub use Rattle.fleet_grid.specs.Floor
+pub use Rattle.fleet_field.specs.Field
+pub use Rattle.fleet_pibt.specs.Order
+pub use Rattle.fleet_pibt.specs.Eldest
+pub use Rattle.fleet_pibt.specs.Purposeful
+pub use Rattle.fleet_pibt.specs.Advancing
+pub use Rattle.fleet_pibt.specs.Ties
+pub mod Aims
+pub mod Keys
+pub mod Turned
+pub mod Planned
+pub mod Counted
+pub mod Aimed
+pub mod inside

@@ -1,0 +1,53 @@
+//! Goals that are to come.
+
+ghost use Rattle.std.specs.Prelude.{ℕ, ◌<◌, length, slice_index, IfSome, IfOk};
+ghost use Rattle.fleet_grid.specs.Floor.{IsFloor};
+
+use fleet_grid::Grid;
+use fleet_queue::ErrandQueue;
+use std::alloc::{AllocError, Allocator};
+
+/// Whether the front errand of one of the queues has the cell, so that its robot aims at it.
+fn is_front<A: Allocator + Copy>(queues: &[ErrandQueue<A>], cell: u32) -> bool {
+    for queue in queues {
+        if let Some(front) = queue.front() {
+            if front.cell == cell {
+                return true;
+            }
+        }
+    }
+    false
+}
+
+/// The cell of the errand after a queue's front, where no robot aims at it. It is floor as each errand's is, which is
+/// asked anew in place of a look into the history.
+fn goal_ahead<A: Allocator + Copy>(
+    grid: &Grid<A>,
+    queues: &[ErrandQueue<A>],
+    queue: &ErrandQueue<A>,
+) -> Option<u32>
+    ensures { IfSome result (λ cell. IsFloor grid.now cell) }
+{
+    let next = queue.get(1)?;
+    if !grid.is_floor(next.cell) || is_front(queues, next.cell) {
+        return None;
+    }
+    Some(next.cell)
+}
+
+/// The cells of the errands after the queues' fronts at which no robot aims.
+pub(crate) fn goals_ahead<A: Allocator + Copy>(
+    alloc: A,
+    grid: &Grid<A>,
+    queues: &[ErrandQueue<A>],
+) -> Result<Vec<u32, A>, AllocError>
+    ensures { IfOk result (λ goals. (i : ℕ) → i < length goals.items → IsFloor grid.now (slice_index goals.items i)) }
+{
+    let mut goals = Vec::new(alloc);
+    for queue in queues {
+        if let Some(goal) = goal_ahead(grid, queues, queue) {
+            goals.push(goal)?;
+        }
+    }
+    Ok(goals)
+}

@@ -1,0 +1,140 @@
+//! What the robots aim at.
+
+ghost use Rattle.std.specs.Prelude.{◌≡◌, ℕ, ◌<◌, ◌≤◌, Some, None, length, replicate, slice_set, IfOk, OnOk, OnErr};
+ghost use Rattle.fleet_field.specs.Store.{Keeps};
+ghost use Rattle.fleet_grid.specs.Floor.{Floor, IsFloor};
+ghost use Rattle.fleet_planner.specs.Aims.{goals_of, goal, distance, AreOn};
+ghost use Rattle.fleet_planner.specs.Turned.{turned, AreFloorTurns, AreKnownTurns};
+
+use crate::keys::{distance_of, goal_of, ways_of};
+use crate::turns::{GoalChange, turn_to};
+use fleet_field::{FieldStore, Shelf};
+use fleet_grid::Grid;
+use fleet_pibt::Goals;
+use std::alloc::{AllocError, Allocator, Global};
+use std::marker::Model;
+
+/// What each robot of a fleet aims at: its goal with the distances to it, or nothing. Contracts see the list of these, one
+/// for each robot. Robots with one goal share its distances.
+#[derive(Drop)]
+pub struct Aims<A: Allocator + Copy = Global> {
+    store: FieldStore<A>,
+    keys: Vec<Option<usize>, A>,
+    // What a turn holds before it deals it, or what it gives back. Between calls it is empty, with room for all robots.
+    fresh: Vec<Option<usize>, A>,
+}
+
+impl<A: Allocator + Copy> Model for Aims<A> {
+    ghost use Rattle.std.specs.Prelude.{◌≡◌, ◌≤◌, [], List, Option, length, vec_capacity};
+    ghost use Rattle.fleet_field.specs.Field.{Aim};
+    ghost use Rattle.fleet_planner.specs.Keys.{fields_of, AreOwn};
+
+    ghost Value = { List (Option Aim) };
+
+    ghost view = { λ a. fields_of a.store a.keys.items };
+
+    ghost invariant = { λ a. AreOwn a.store a.keys.items × (a.fresh.items ≡ []) × (length a.keys.items ≤ vec_capacity a.fresh) };
+}
+
+/// This many robots without a key.
+fn no_keys<A: Allocator + Copy>(
+    alloc: A,
+    robots: usize,
+) -> Result<Vec<Option<usize>, A>, AllocError>
+    ensures { IfOk result (λ keys. keys.items ≡ replicate robots None) }
+{
+    let mut keys = Vec::with_capacity(alloc, robots)?;
+    for _robot in 0..robots {
+        keys.push_reserved(None);
+    }
+    Ok(keys)
+}
+
+impl<A: Allocator + Copy> Aims<A> {
+    /// This many robots, 512 at most, without a goal.
+    pub fn new(alloc: A, robots: usize) -> Result<Aims<A>, AllocError>
+        requires { robots ≤ 512 }
+        ensures none { IfOk result (λ aims. aims ≡ replicate robots None) }
+        // Nothing is aimed at, so it is on each map.
+        ensures on { IfOk result (λ aims. (m : Floor) → AreOn m aims) }
+    {
+        let store = FieldStore::new(alloc)?;
+        let keys = no_keys(alloc, robots)?;
+        let fresh = Vec::with_capacity(alloc, robots)?;
+        Ok(Aims { store, keys, fresh })
+    }
+
+    /// From now on the robot aims at the goal, a floor cell, in place of what it aimed at. All aims are on one map, and
+    /// what nobody aims at any more goes to what is kept of it.
+    pub fn aim<B: Allocator + Copy>(
+        &mut self,
+        shelf: &mut Shelf<A>,
+        grid: &Grid<B>,
+        robot: u32,
+        goal: u32,
+    ) -> Result<(), AllocError>
+        requires known { robot < length self.old }
+        requires floor { IsFloor grid.now goal }
+        requires on { AreOn grid.now self.old }
+        requires keeps { Keeps grid.now shelf.old }
+        ensures count { length self.new ≡ length self.old }
+        ensures on { AreOn grid.now self.new }
+        ensures keeps { Keeps grid.now shelf.new }
+        ensures goals { OnOk result (goals_of self.new ≡ slice_set (goals_of self.old) robot (Some goal)) }
+        ensures refused { OnErr result (self.new ≡ self.old) }
+    {
+        let turn = GoalChange {
+            robot,
+            goal: Some(goal),
+        };
+        self.turn(shelf, grid, &[turn])
+    }
+
+    /// From now on the robots of these turns aim at their goals, floor cells, or at nothing; of two turns of one robot the
+    /// later one holds. There are at most as many turns as robots. Distances to new goals are searched one after another,
+    /// where they are not kept. No list is allocated.
+    pub fn turn<B: Allocator + Copy>(
+        &mut self,
+        shelf: &mut Shelf<A>,
+        grid: &Grid<B>,
+        turns: &[GoalChange],
+    ) -> Result<(), AllocError>
+        requires few { length turns.now ≤ length self.old }
+        requires known { AreKnownTurns (length self.old) turns.now }
+        requires floor { AreFloorTurns grid.now turns.now }
+        requires on { AreOn grid.now self.old }
+        requires keeps { Keeps grid.now shelf.old }
+        ensures count { length self.new ≡ length self.old }
+        ensures on { AreOn grid.now self.new }
+        ensures keeps { Keeps grid.now shelf.new }
+        ensures goals { OnOk result (goals_of self.new ≡ turned turns.now (goals_of self.old)) }
+        ensures refused { OnErr result (self.new ≡ self.old) }
+    {
+        turn_to(
+            shelf,
+            grid,
+            &mut self.store,
+            &mut self.keys,
+            &mut self.fresh,
+            turns,
+        )
+    }
+}
+
+impl<A: Allocator + Copy> Goals for Aims<A> {
+    ghost goal_of = { λ s r. goal s r };
+
+    ghost distance = { λ s r c. distance s r c };
+
+    fn goal(&self, robot: u32) -> Option<u32> {
+        goal_of(&self.store, &self.keys, robot)
+    }
+
+    fn at(&self, robot: u32, cell: u32) -> Option<u32> {
+        distance_of(&self.store, &self.keys, robot, cell)
+    }
+
+    fn ways<B: Allocator + Copy>(&self, grid: &Grid<B>, robot: u32, cell: u32) -> u8 {
+        ways_of(&self.store, &self.keys, grid, robot, cell)
+    }
+}

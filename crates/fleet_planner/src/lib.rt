@@ -1,0 +1,17 @@
+//! What a fleet goes by between two entries of its history: what each robot aims at, with the distances, the eldest robot, and
+//! the step of the next tick. Robots with one goal share its distances.
+#![tactic(auto)]
+
+mod ahead;
+mod aims;
+mod keys;
+mod mover;
+mod planner;
+mod turns;
+mod waits;
+
+pub use aims::Aims;
+pub use mover::{TickInput, plan};
+pub use planner::{Planner, is_nobody};
+pub use turns::GoalChange;
+pub use waits::eldest;

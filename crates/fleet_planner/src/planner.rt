@@ -1,0 +1,270 @@
+//! What the robots go by from tick to tick: their goals, and the step by priority inheritance with backtracking.
+
+ghost use Rattle.std.specs.Prelude.{◌≡◌, ◌<◌, ◌≤◌, ◌^◌, ◌↔◌, ℕ, IsTrue, None, slice_get, length, map, vec_capacity, IfOk, OnOk, OnErr};
+ghost use Rattle.fleet_field.specs.Store.{Keeps};
+ghost use Rattle.fleet_grid.specs.Floor.{Floor, IsNeighbour};
+ghost use Rattle.fleet_grid.specs.Step.{IsConflictFree};
+ghost use Rattle.fleet_grid.specs.Walk.{IsBridgeless};
+ghost use Rattle.fleet_planner.specs.Aims.{goals_of, AreOn};
+ghost use Rattle.fleet_pibt.specs.Order.{wait_of};
+ghost use Rattle.fleet_planner.specs.Planned.{IsPlannedBy, cell_of};
+ghost use Rattle.fleet_state.specs.Robots.{queue_at};
+ghost use Rattle.fleet_state.specs.State.{robot_count};
+ghost use Rattle.fleet_planner.specs.Aimed.{MayPlan, MayBegin, begun, begun_goals, goals_ticked, turns_ticked};
+ghost use Rattle.fleet_planner.specs.Aimed.{IsNewPlanner};
+
+use crate::ahead::goals_ahead;
+use crate::aims::Aims;
+use crate::mover::{TickInput, plan};
+use crate::turns::GoalChange;
+use fleet_book::{Order, Verdict};
+use fleet_bridge::first_bridge;
+use fleet_field::Shelf;
+use fleet_grid::Grid;
+use fleet_hooks::TieHook;
+use fleet_pibt::Stepper;
+use fleet_state::FleetState;
+use std::alloc::{AllocError, Allocator, Global};
+use std::marker::Model;
+use std::thread::Threads;
+
+/// The bytes of fields that are kept where nothing else is said: 256 MiB.
+const KEPT_BYTES: usize = 268435456;
+
+/// What each robot aims at, the means to plan a step, and the fields of goals that no robot has any more.
+#[derive(Drop)]
+pub struct Planner<A: Allocator + Copy = Global> {
+    aims: Aims<A>,
+    stepper: Stepper<A>,
+    bridgeless: bool,
+    shelf: Shelf<A>,
+    /// The turns of the last tick, with room for all robots.
+    turns: Vec<GoalChange, A>,
+}
+
+impl<A: Allocator + Copy> Model for Planner<A> {
+    ghost use Rattle.std.specs.Prelude.{◌≤◌, length, vec_capacity};
+    ghost use Rattle.fleet_planner.specs.Aimed.{Planner};
+
+    ghost Value = { Planner };
+
+    ghost view = { λ p. record { aims = p.aims; size = p.stepper; bridgeless = p.bridgeless; kept = p.shelf } };
+
+    ghost invariant = { λ p. length p.aims ≤ vec_capacity p.turns };
+}
+
+impl<A: Allocator + Copy> Planner<A> {
+    /// A planner of this many robots, 512 at most, that have no goals.
+    pub fn open(alloc: A, grid: &Grid<A>, robots: usize) -> Result<Self, AllocError>
+        requires { robots ≤ 512 }
+        ensures { IfOk result (λ p. IsNewPlanner grid.now robots p) }
+    {
+        let bridgeless = has_no_bridge(alloc, grid)?;
+        let turns = Vec::with_capacity(alloc, robots)?;
+        let aims = Aims::new(alloc, robots)?;
+        let stepper = Stepper::new(alloc, grid.cell_count(), robots as u32)?;
+        Ok(Planner {
+            aims,
+            stepper,
+            bridgeless,
+            shelf: Shelf::new(alloc, KEPT_BYTES),
+            turns,
+        })
+    }
+
+    /// Keeps the fields of goals that no robot has any more, up to this many bytes.
+    pub fn keep(&mut self, bytes: usize)
+        ensures aims { self.new.aims ≡ self.old.aims }
+        ensures size { self.new.size ≡ self.old.size }
+        ensures bridge { self.new.bridgeless ≡ self.old.bridgeless }
+        ensures keeps { (m : Floor) → Keeps m self.old.kept → Keeps m self.new.kept }
+    {
+        self.shelf.keep(bytes);
+    }
+
+    /// Whether the map has no bridge.
+    pub fn is_bridgeless(&self) -> bool
+        ensures { result ≡ self.now.bridgeless }
+    {
+        self.bridgeless
+    }
+
+    /// Where the robots go in the next tick.
+    pub fn plan(
+        &mut self,
+        alloc: A,
+        grid: &Grid<A>,
+        state: &FleetState<A>,
+        ties: &[TieHook],
+    ) -> Result<Vec<u32, A>, AllocError>
+        requires may { MayPlan grid.now state.now self.old }
+        requires tied { length ties.now ≡ robot_count state.now }
+        requires early { state.now.tick < 2 ^ 63 }
+        ensures same { self.new ≡ self.old }
+        ensures conflict_free { IfOk result (λ to. IsConflictFree grid.now state.now.cells to.items) }
+        ensures planned { IfOk result (λ to. IsPlannedBy grid.now (map (λ h. h.law) ties.now) state.now.waits (goals_of self.old.aims) state.now.cells to.items) }
+    {
+        let input = TickInput {
+            cells: state.place(),
+            waits: state.waits(),
+            tick: state.clock() + 1,
+        };
+        plan(alloc, grid, input, &self.aims, &mut self.stepper, ties)
+    }
+
+    /// Aims the robot of an accepted order at its cell, if the errand is the robot's first. The state is that before the
+    /// order is entered.
+    pub fn begin(
+        &mut self,
+        grid: &Grid<A>,
+        state: &FleetState<A>,
+        order: Order,
+        verdict: Verdict,
+    ) -> Result<(), AllocError>
+        requires { MayBegin grid.now state.now self.old order verdict }
+        ensures goals { OnOk result (goals_of self.new.aims ≡ begun_goals (begun state.now.queues order verdict) (goals_of self.old.aims)) }
+        ensures on { AreOn grid.now self.new.aims }
+        ensures size { self.new.size ≡ self.old.size }
+        ensures bridge { self.new.bridgeless ≡ self.old.bridgeless }
+        ensures keeps { Keeps grid.now self.new.kept }
+        ensures refused { OnErr result (self.new.aims ≡ self.old.aims) }
+    {
+        match first_goal(state, order, verdict) {
+            Some((robot, cell)) => self.aims.aim(&mut self.shelf, grid, robot, cell),
+            None => Ok(()),
+        }
+    }
+
+    /// Aims the robots at the goals that they have after a tick to these cells: those that land turn, the others keep
+    /// theirs. The state is that before the tick is entered. No list is allocated.
+    pub fn turn(
+        &mut self,
+        grid: &Grid<A>,
+        state: &FleetState<A>,
+        to: &[u32],
+    ) -> Result<(), AllocError>
+        requires may { MayPlan grid.now state.now self.old }
+        requires same { length to.now ≡ robot_count state.now }
+        ensures goals { OnOk result (goals_of self.new.aims ≡ goals_ticked state.now.queues to.now) }
+        ensures on { AreOn grid.now self.new.aims }
+        ensures size { self.new.size ≡ self.old.size }
+        ensures bridge { self.new.bridgeless ≡ self.old.bridgeless }
+        ensures keeps { Keeps grid.now self.new.kept }
+        ensures refused { OnErr result (self.new.aims ≡ self.old.aims) }
+    {
+        put_turns(state, to, &mut self.turns);
+        self.aims.turn(&mut self.shelf, grid, self.turns.as_slice())
+    }
+}
+
+impl<A: Allocator + Copy + Send + Sync> Planner<A> {
+    /// Searches the fields of the robots' next goals side by side, as many as have place among those that are kept.
+    pub fn search_ahead(
+        &mut self,
+        rt: &(impl Threads + Sync),
+        alloc: A,
+        grid: &Grid<A>,
+        state: &FleetState<A>,
+    ) -> Result<(), AllocError>
+        requires { Keeps grid.now self.old.kept }
+        ensures aims { self.new.aims ≡ self.old.aims }
+        ensures size { self.new.size ≡ self.old.size }
+        ensures bridge { self.new.bridgeless ≡ self.old.bridgeless }
+        ensures keeps { Keeps grid.now self.new.kept }
+        ensures refused { OnErr result (self.new ≡ self.old) }
+    {
+        let _have_all_place = search_goals(rt, alloc, grid, state, &mut self.shelf)?;
+        Ok(())
+    }
+}
+
+/// Searches the fields of the robots' next goals side by side, and answers whether all have place on the shelf.
+fn search_goals<A: Allocator + Copy + Send + Sync>(
+    rt: &(impl Threads + Sync),
+    alloc: A,
+    grid: &Grid<A>,
+    state: &FleetState<A>,
+    shelf: &mut Shelf<A>,
+) -> Result<bool, AllocError>
+    requires { Keeps grid.now shelf.old }
+    ensures keeps { Keeps grid.now shelf.new }
+    ensures refused { OnErr result (shelf.new ≡ shelf.old) }
+{
+    let goals = goals_ahead(alloc, grid, state.queues())?;
+    shelf.search_ahead(rt, grid, &goals)
+}
+
+/// The turns that a tick to these cells brings, by rising robot, in place of what the list held.
+fn put_turns<A: Allocator + Copy>(state: &FleetState<A>, to: &[u32], turns: &mut Vec<GoalChange, A>)
+    requires same { length to.now ≡ robot_count state.now }
+    requires few { length to.now ≤ 512 }
+    requires room { length to.now ≤ vec_capacity turns.old }
+    ensures turns { turns.new.items ≡ turns_ticked state.now.queues to.now }
+    ensures room { vec_capacity turns.new ≡ vec_capacity turns.old }
+{
+    turns.clear();
+    for r in 0..to.len() {
+        let robot = r as u32;
+        if let Some(_errand) = state.landing(robot, to[r]) {
+            turns.push_reserved(GoalChange {
+                robot,
+                goal: goal_after(state, robot),
+            });
+        }
+    }
+}
+
+/// The robot of an accepted order and the cell, if the errand is the robot's first. The state is that before the order is
+/// entered.
+fn first_goal<A: Allocator + Copy>(
+    state: &FleetState<A>,
+    order: Order,
+    verdict: Verdict,
+) -> Option<(u32, u32)>
+    requires { (robot cell n : ℕ) → order ≡ Order.Go robot cell → verdict ≡ Verdict.Accepted n → robot < robot_count state.now }
+    ensures { result ≡ begun state.now.queues order verdict }
+{
+    let Order::Go { robot, cell } = order else {
+        return None;
+    };
+    let Verdict::Accepted(_) = verdict else {
+        return None;
+    };
+    match state.front(robot) {
+        Some(_front) => None,
+        None => Some((robot, cell)),
+    }
+}
+
+/// The robot's goal once it has finished its front errand.
+fn goal_after<A: Allocator + Copy>(state: &FleetState<A>, robot: u32) -> Option<u32>
+    requires { robot < robot_count state.now }
+    ensures { result ≡ cell_of (slice_get (queue_at state.now.queues robot).items 1) }
+{
+    match state.next(robot) {
+        Some(next) => Some(next.cell),
+        None => None,
+    }
+}
+
+/// Whether the map has no bridge.
+fn has_no_bridge<A: Allocator + Copy>(alloc: A, grid: &Grid<A>) -> Result<bool, AllocError>
+    ensures { IfOk result (λ none. IsTrue none ↔ IsBridgeless (IsNeighbour grid.now)) }
+{
+    match first_bridge(alloc, grid)? {
+        Some(_bridge) => Ok(false),
+        None => Ok(true),
+    }
+}
+
+/// Whether nobody waits.
+pub fn is_nobody(waits: &[Option<u64>]) -> bool
+    ensures { IsTrue result ↔ ((r : ℕ) → wait_of waits.now r ≡ None) }
+{
+    for r in 0..waits.len() {
+        if let Some(_wait) = waits[r] {
+            return false;
+        }
+    }
+    true
+}

@@ -1,0 +1,36 @@
+//! Which robot has waited longest.
+
+ghost use Rattle.std.specs.Prelude.{◌≡◌, ℕ, ◌+◌, ◌<◌, ◌≤◌, None, length, MatchOption};
+ghost use Rattle.fleet_pibt.specs.Order.{wait_of};
+ghost use Rattle.fleet_pibt.specs.Eldest.{IsEldest};
+ghost use Rattle.fleet_planner.specs.inside.Longest.{IsLongest};
+
+/// The robot that has waited longer, of one found so far and a further one of greater number.
+fn longer(waits: &[Option<u64>], found: Option<u32>, robot: u32) -> Option<u32>
+    requires known { robot < length waits.now }
+    requires found { MatchOption found ((r : ℕ) → r < robot → wait_of waits.now r ≡ None) (λ e. IsLongest waits.now robot e) }
+    ensures { MatchOption result ((r : ℕ) → r < robot + 1 → wait_of waits.now r ≡ None) (λ e. IsLongest waits.now (robot + 1) e) }
+{
+    let Some(wait) = waits[robot as usize] else {
+        return found;
+    };
+    match found {
+        Some(eldest) => match waits[eldest as usize] {
+            Some(longest) => if wait > longest { Some(robot) } else { found },
+            None => Some(robot),
+        },
+        None => Some(robot),
+    }
+}
+
+/// The robot that has waited longest, and of several that have the one of least number; none where no robot waits.
+pub fn eldest(waits: &[Option<u64>]) -> Option<u32>
+    requires { length waits.now ≤ 512 }
+    ensures { MatchOption result ((r : ℕ) → wait_of waits.now r ≡ None) (λ e. IsEldest waits.now e) }
+{
+    let mut found = None;
+    for robot in 0..waits.len() {
+        found = longer(waits, found, robot as u32);
+    }
+    found
+}

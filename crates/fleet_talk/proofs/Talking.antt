@@ -1,0 +1,112 @@
+-- Acts one after another, and what is said of them.
+use Rattle.std.proofs.Common.{◌≡◌, ◌∙◌, ℕ, ◌+◌, Bool, true, false, cond, List, [], ◌∷◌, ◌++◌, Option, Result, refl, sym, ap, subst}
+use Rattle.std.specs.Prelude.{replicate, OnOk}
+use Rattle.std.proofs.KnownBytes.{Appends-nil, Appends-trans}
+use Rattle.std.proofs.lemmas.List.{append-nil, append_assoc, replicate_more}
+use Rattle.std.proofs.lemmas.Result.{on_ok_weaker}
+use Rattle.fleet_book.specs.declared.event.Event.{Event}
+use Rattle.fleet_history.specs.declared.history.Entry.{Entry}
+use Rattle.fleet_world.specs.declared.reply.Reply.{Reply}
+use Rattle.errands_text.specs.Output.{event_text}
+use Rattle.fleet_session.specs.Talk.{Talk, TalkStep}
+use Rattle.fleet_talk.specs.declared.ends.Settings.{Settings}
+use Rattle.fleet_talk.specs.declared.pen.Pen.{Pen}
+use Rattle.fleet_talk.specs.declared.ask.Line.{Line}
+use Rattle.fleet_talk.specs.declared.ask.Asked.{Asked}
+use Rattle.fleet_talk.specs.Ask as spec
+use Rattle.fleet_talk.specs.Acts.{Act, Does, Plays, Talks, acts_asked, acts_end, acts_on, last_entry, say}
+use Rattle.fleet_talk.specs.Lines.{line_shown}
+use Rattle.fleet_talk.specs.Look.{IsLook}
+use Rattle.fleet_talk.specs.Said.{IsAdded, under, end_said}
+use Rattle.fleet_talk.specs.Says.{Says, marked, end_line}
+
+-- ---- acts
+
+module _ {A : Type 0} (roll : Bool) where
+  pub talks-one : (s t : Talk A) (act : Act) (text : List ℕ) → Does roll s act text t → Talks roll s (act ∷ []) text t
+  talks-one s t act text does = (t, text, [], does, (refl, refl), sym (append-nil text))
+
+  pub talks-append : (s m t : Talk A) (xs ys : List Act) (first rest : List ℕ) → Talks roll s xs first m → Talks roll m ys rest t → Talks roll s (xs ++ ys) (first ++ rest) t
+  talks-append s m t [] ys first rest (none, same) more =
+      subst (λ (x : List ℕ). Talks roll s ys (x ++ rest) t) (sym none) (subst (λ (x : Talk A). Talks roll x ys rest t) same more)
+  talks-append s m t (act ∷ xs) ys first rest (mid, one, others, does, talks, is) more =
+      (mid, one, others ++ rest, does, talks-append mid m t xs ys others rest talks more, ap (λ l. l ++ rest) is ∙ append_assoc one others rest)
+
+  -- the same act once more
+  pub talks-more : (s m t : Talk A) (act : Act) (n : ℕ) (first rest : List ℕ) → Talks roll s (replicate n act) first m → Does roll m act rest t → Talks roll s (replicate (n + 1) act) (first ++ rest) t
+  talks-more s m t act n first rest talks does =
+      subst (λ (acts : List Act). Talks roll s acts (first ++ rest) t) (replicate_more n act)
+      (talks-append s m t (replicate n act) (act ∷ []) first rest talks (talks-one m t act rest does))
+
+  -- the end of a line's answer
+  pub talks-end : (settings : Settings) (line : Line) (s : Talk A) → Talks roll s (acts_end settings (line_shown line)) (end_said settings line) s
+  talks-end settings line s = by settings.marks
+    where
+      by : (b : Bool) → Talks {A = A} roll s (cond b (say (under line.mark) (end_line line.number) ∷ []) []) (cond b (marked (under line.mark) (end_line line.number)) []) s
+      by true = talks-one s s (say (under line.mark) (end_line line.number)) _ (refl, refl)
+      by false = (refl, refl)
+
+-- ---- what is said
+
+pub says-none : (known : Option (List ℕ)) (waits : List ℕ) → Says known known waits waits []
+says-none known waits = record { written = []; taken = Appends-nil known; same = sym (append-nil waits) }
+
+-- a text that waits
+pub says-added : (known : Option (List ℕ)) (waited waits text : List ℕ) → waits ≡ waited ++ text → Says known known waited waits text
+says-added known waited waits text is = record { written = []; taken = Appends-nil known; same = is }
+
+pub says-then : (a b c : Option (List ℕ)) (o p q first rest : List ℕ) → Says a b o p first → Says b c p q rest → Says a c o q (first ++ rest)
+says-then a b c o p q first rest x y = record {
+  written = x.written ++ y.written;
+  taken = Appends-trans a b c x.written y.written x.taken y.taken;
+  same = append_assoc x.written y.written q ∙ (ap (λ l. x.written ++ l) y.same ∙ (sym (append_assoc x.written p rest) ∙ (ap (λ l. l ++ rest) x.same ∙ append_assoc o first rest)));
+}
+
+-- a text that was added, and then written if much waits
+pub says-written : (a b : Option (List ℕ)) (o p q text : List ℕ) → p ≡ o ++ text → Says a b p q [] → Says a b o q text
+says-written a b o p q text is w = record { written = w.written; taken = w.taken; same = w.same ∙ (append-nil p ∙ is) }
+
+-- one text after another that waits
+pub added-then : (a b d : Pen) (first rest : List ℕ) → IsAdded a b first → IsAdded b d rest → IsAdded a d (first ++ rest)
+added-then a b d first rest x y = record {
+  out = y.out ∙ (ap (λ l. l ++ rest) x.out ∙ append_assoc a.out.items first rest);
+  settings = y.settings ∙ x.settings;
+}
+
+-- ---- single acts
+
+-- one act at a line
+pub asked_one : {A : Type 0} (roll : Bool) (s t : Talk A) (line : spec.Line) (asked is : Asked) (act : Act) (text : List ℕ) (known : Option (List ℕ)) (waited waits : List ℕ) →
+    asked ≡ is → acts_asked line is ≡ act ∷ [] → Does roll s act text t → waits ≡ waited ++ text
+    → (x : List ℕ) × Talks roll s (acts_asked line asked) x t × Says known known waited waits x
+asked_one roll s t line asked is act text known waited waits same one does added = (
+  text,
+  subst (λ (acts : List Act). Talks roll s acts text t) (sym (ap (acts_asked line) same ∙ one)) (talks-one roll s t act text does),
+  says-added known waited waits text added,
+)
+
+-- what is done at a line, and the end of its answer
+pub answered : {A : Type 0} (settings : Settings) (s t : Talk A) (line : Line) (a b : Option (List ℕ)) (o p q text : List ℕ) →
+    Talks settings.roll s (acts_asked (line_shown line) line.asked) text t → Says a b o p text → q ≡ p ++ end_said settings line
+    → (x : List ℕ) × Talks settings.roll s (acts_on settings (line_shown line)) x t × Says a b o q x
+answered settings s t line a b o p q text talks says added = (
+  text ++ end_said settings line,
+  talks-append settings.roll s t t (acts_asked (line_shown line) line.asked) (acts_end settings (line_shown line)) text (end_said settings line) talks (talks-end settings.roll settings line t),
+  says-then a b b o p q text (end_said settings line) says (says-added b p q (end_said settings line) added),
+)
+
+pub shown : {A E : Type 0} (r : Result (Unit {0}) E) (s : Talk A) (mark : Option (List ℕ)) (line said : List ℕ) (old new : Pen) → said ≡ line → IsLook s.world line
+    → OnOk r (IsAdded old new (marked mark said))
+    → OnOk r ((text : List ℕ) × ((l : List ℕ) × IsLook s.world l × (text ≡ marked mark l) × (s ≡ s)) × IsAdded old new text)
+shown r s mark line said old new e look = on_ok_weaker r (λ h. (marked mark said, (line, look, ap (marked mark) e, refl), h))
+
+pub played : {A E : Type 0} (r : Result (Unit {0}) E) (s t : Talk A) (mark : Option (List ℕ)) (e : Event) (reply : Reply) (text before said : List ℕ) (entry : Option (Entry A)) (old mid new : Pen) →
+    TalkStep s e reply t → before ≡ [] → text ≡ before ++ event_text e reply entry → entry ≡ last_entry t → said ≡ text →
+    mid.out ≡ old.out → mid.settings ≡ old.settings → OnOk r (IsAdded mid new (marked mark said))
+    → OnOk r ((x : List ℕ) × Plays s mark e x t × IsAdded old new x)
+played r s t mark e reply text before said entry old mid new step none is last same out settings =
+    on_ok_weaker r (λ h. (
+      marked mark said,
+      record { reply = reply; step = step; said = ap (marked mark) (same ∙ (is ∙ (ap (λ l. l ++ event_text e reply entry) none ∙ ap (event_text e reply) last))) },
+      record { out = h.out ∙ ap (λ v. v.items ++ marked mark said) out; settings = h.settings ∙ settings },
+    ))

@@ -1,0 +1,16 @@
+-- So many of the events were done.
+use Rattle.std.proofs.Common.{◌≡◌, ℕ, List}
+use Rattle.std.specs.Prelude.{replicate}
+use Rattle.fleet_session.specs.Keeps.{talk}
+use Rattle.fleet_talk.specs.Acts.{Talks, play}
+use Rattle.fleet_talk.specs.Said.{under}
+use Rattle.fleet_talk.specs.Says.{Says}
+use Rattle.fleet_talk.proofs.plays.play_all.Given as goal
+
+abbrev pub invariant-loop : goal.invariant-loop
+invariant-loop g l = record {
+  talks : (text : List ℕ) × Talks l.fn.pen.settings.roll (talk l.fn.session) (replicate l.counter (play (under l.mark) l.more.event)) text (talk l.session)
+      × Says (g.W.Write.contents l.fn.ends.output) (g.W.Write.contents l.ends.output) l.fn.pen.out.items l.pen.out.items text;
+  settings : l.pen.settings ≡ l.fn.pen.settings;
+  input : l.ends.input ≡ l.fn.ends.input;
+}

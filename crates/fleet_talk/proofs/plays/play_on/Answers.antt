@@ -1,0 +1,11 @@
+-- A chapter that was handed out, if one was, and the event.
+use Rattle.std.proofs.Common.{◌++◌, refl}
+use Rattle.fleet_session.specs.Keeps.{talk}
+use Rattle.fleet_talk.proofs.Talking.{added-then}
+use Rattle.fleet_talk.proofs.plays.play_on.Goals as goal
+
+pub returns : goal.returns
+returns g c =
+    let (before, rolled, first) = c.in_ok-roll.ensures in
+    let (after, plays, rest) = c.in_ok-play.ensures in
+    (before ++ after, (talk c.roll.new.session, before, after, rolled, plays, refl), added-then c.args.pen.now c.roll.new.pen c.play.new.pen before after first rest)

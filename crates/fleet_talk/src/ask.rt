@@ -1,0 +1,137 @@
+//! What a line asks.
+
+ghost use Rattle.std.specs.Prelude.{◌≡◌};
+ghost use Rattle.std.specs.List.{position};
+ghost use Rattle.std.specs.Option.{option_map};
+ghost use Rattle.std.specs.Str.Lines.{strip_carriage_return};
+ghost use Rattle.fleet_map.specs.Text.{is_blank, words_of};
+ghost use Rattle.fleet_talk.specs.Ask.{word_asked, asked_in, asked_within, mark_in, told_in, line_in};
+ghost use Rattle.fleet_talk.specs.Lines.{line_shown};
+
+use crate::ground::MOST_LINE;
+use fleet_map::text::{first_word, is_blank_byte};
+use fleet_script::{EventLine, Repeat, event_line};
+
+/// What a line asks, its mark apart.
+#[derive(Clone, Copy)]
+pub(crate) enum Asked {
+    /// It is blank, or a comment.
+    Nothing,
+    Events(Repeat),
+    Chapter,
+    Look,
+    Quit,
+    /// A header line, or none.
+    Other,
+    /// It is longer than a line may be.
+    Long,
+}
+
+/// A line: its number from 1, its mark, what follows that, and what this asks.
+#[derive(Clone, Copy)]
+pub(crate) struct Line<'a> {
+    pub(crate) number: u64,
+    pub(crate) mark: Option<&'a [u8]>,
+    pub(crate) told: &'a [u8],
+    pub(crate) asked: Asked,
+}
+
+/// The line without the carriage return at its end.
+fn without_return(line: &[u8]) -> &[u8]
+    ensures { result.now ≡ strip_carriage_return line.now }
+{
+    if !line.is_empty() && line[line.len() - 1] == b'\r' {
+        return &line[..line.len() - 1];
+    }
+    line
+}
+
+/// The place of the first blank.
+fn first_blank(line: &[u8]) -> Option<usize>
+    ensures { result ≡ position is_blank line.now }
+{
+    line.iter().position(|byte| is_blank_byte(*byte))
+}
+
+/// The mark of a line, if it has one.
+fn mark_of(line: &[u8]) -> Option<&[u8]>
+    ensures { option_map (λ m. m.now) result ≡ mark_in line.now }
+{
+    if line.is_empty() || line[0] != b'@' {
+        return None;
+    }
+    match first_blank(line) {
+        Some(end) => Some(&line[..end]),
+        None => Some(line),
+    }
+}
+
+/// A line without its mark.
+fn told_of(line: &[u8]) -> &[u8]
+    ensures { result.now ≡ told_in line.now }
+{
+    if line.is_empty() || line[0] != b'@' {
+        return line;
+    }
+    match first_blank(line) {
+        Some(end) => &line[end + 1..],
+        None => &[],
+    }
+}
+
+/// What a line asks that is no event line.
+fn word_asked(line: &[u8]) -> Asked
+    ensures { result ≡ word_asked (words_of line.now) }
+{
+    let Some((word, rest)) = first_word(line) else {
+        return Asked::Other;
+    };
+    if first_word(rest).is_some() {
+        return Asked::Other;
+    }
+    if word == b"chapter".as_slice() {
+        Asked::Chapter
+    } else if word == b"look".as_slice() {
+        Asked::Look
+    } else if word == b"quit".as_slice() {
+        Asked::Quit
+    } else {
+        Asked::Other
+    }
+}
+
+/// What a line asks that has no mark.
+fn asked_in(line: &[u8]) -> Asked
+    ensures { result ≡ asked_in line.now }
+{
+    match event_line(line) {
+        EventLine::Nothing => Asked::Nothing,
+        EventLine::Events(more) => Asked::Events(more),
+        EventLine::Other => word_asked(line),
+    }
+}
+
+/// What a line asks, by its first bytes and what follows its mark.
+fn asked_of(bytes: &[u8], told: &[u8]) -> Asked
+    ensures { result ≡ asked_within bytes.now told.now }
+{
+    if bytes.len() > MOST_LINE {
+        Asked::Long
+    } else {
+        asked_in(told)
+    }
+}
+
+/// The line of this number, by its first bytes: one more than a line may have, where it is longer.
+pub(crate) fn line_of(number: u64, bytes: &[u8]) -> Line<'_>
+    ensures { line_shown result ≡ line_in number bytes.now }
+{
+    let bare = without_return(bytes);
+    let told = told_of(bare);
+    Line {
+        number,
+        mark: mark_of(bare),
+        told,
+        asked: asked_of(bytes, told),
+    }
+}

@@ -1,0 +1,20 @@
+//! A conversation with a fleet: header lines first, then each line is answered as soon as it is read.
+#![tactic(auto)]
+
+mod ask;
+mod conversation;
+mod ends;
+mod going;
+mod ground;
+mod heading;
+mod law;
+mod look;
+mod marks;
+mod pen;
+mod plays;
+
+pub use conversation::{TalkFault, converse};
+pub use ends::{Ends, Settings, Shelf, ShelfFault};
+pub use ground::{Ground, MOST_LINE, MOST_ROBOTS, TALK_LIMITS};
+pub use heading::read_head;
+pub use law::a_conversation_is_a_run;

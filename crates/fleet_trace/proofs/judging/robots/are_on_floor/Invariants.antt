@@ -1,6 +1,0 @@
-use Rattle.std.proofs.Common.{ℕ, ◌<◌, slice_index}
-use Rattle.fleet_grid.specs.Floor.{IsFloor}
-use Rattle.fleet_trace.proofs.judging.robots.are_on_floor.Given as goal
-
-abbrev pub invariant-loop-robot : goal.invariant-loop-robot
-invariant-loop-robot g l = (r : ℕ) → r < l.robot → IsFloor l.grid (slice_index l.cells r)
