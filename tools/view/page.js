@@ -726,7 +726,7 @@ class Curve {
   }
 }
 
-// ---- texts beside the map
+// ---- texts next to the map
 
 function textCell(row) {
   const cell = document.createElement('td');
