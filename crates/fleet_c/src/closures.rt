@@ -23,6 +23,20 @@ impl Alloc for Heap {
     }
 }
 
+/// No closures, with room for those of this many robots where there is memory.
+fn no_closures(alloc: Global, robots: usize) -> RobotHooks {
+    let mut none = RobotHooks {
+        ties: Vec::new(alloc),
+        arrivals: Vec::new(alloc),
+        farewells: Vec::new(alloc),
+    };
+    // Where memory is refused here a push asks for it again.
+    let _ = none.ties.reserve(robots);
+    let _ = none.arrivals.reserve(robots);
+    let _ = none.farewells.reserve(robots);
+    none
+}
+
 /// A tick, by the ranks that are the laws of the core's ties.
 pub(crate) fn ticked(alloc: Global, core: &mut Core) -> Result<TickReport, TickFault>
     ensures clock_spent { (result ≡ Err TickFault.ClockSpent) ↔ (clock core.old.history ≡ core.old.limits.clock) }
@@ -30,15 +44,8 @@ pub(crate) fn ticked(alloc: Global, core: &mut Core) -> Result<TickReport, TickF
     ensures ok { IfOk result (λ report. Ticks core.old report core.new) }
     ensures err { OnErr result (core.new ≡ core.old) }
 {
-    let mut robots = RobotHooks {
-        ties: Vec::new(alloc),
-        arrivals: Vec::new(alloc),
-        farewells: Vec::new(alloc),
-    };
     // Where memory is refused a closure is missing, and the core refuses the tick.
-    let _ = robots.ties.reserve(core.robots());
-    let _ = robots.arrivals.reserve(core.robots());
-    let _ = robots.farewells.reserve(core.robots());
+    let mut robots = no_closures(alloc, core.robots());
     for law in core.tie_laws() {
         let ranks = law.low;
         if *law == ALIKE {

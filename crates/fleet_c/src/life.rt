@@ -51,6 +51,7 @@ pub extern "C" fn nashirudder_open(
     ensures opened { (result ≡ DONE) → IsSomeAnd fleet.new.owned.held (λ w. IsOpened map.now robots.now setup.now w) }
     ensures refused { (result ≢ DONE) → (result ≢ ALREADY_OPEN) → IsWhy map.now robots.now setup.now result fault.new }
     ensures same { (result ≢ DONE) → fleet.new.owned.held ≡ fleet.old.owned.held }
+    ensures untouched { (result ≡ ALREADY_OPEN) → fault.new ≡ fault.old }
 {
     if fleet.is_open() {
         return ALREADY_OPEN;

@@ -29,6 +29,18 @@ pub struct Note {
 }
 
 impl Note {
+    /// Says nothing.
+    const BLANK: Note = Note {
+        seq: 0,
+        order: 0,
+        number: 0,
+        tick: 0,
+        verdict: 0,
+        robot: 0,
+        cell: 0,
+        stamp: 0,
+    };
+
     /// For C.
     pub(crate) fn of(notice: Notice) -> Note
         ensures { result ≡ note_of notice }
@@ -39,20 +51,13 @@ impl Note {
                 order_no,
                 verdict,
             } => {
-                let Judgement {
-                    number,
-                    verdict,
-                    ..
-                } = Judgement::of(verdict);
+                let Judgement { number, verdict } = Judgement::of(verdict);
                 Note {
                     seq,
                     order: order_no,
                     number,
-                    tick: 0,
                     verdict,
-                    robot: 0,
-                    cell: 0,
-                    stamp: 0,
+                    ..Note::BLANK
                 }
             }
             Notice::Arrived {
@@ -64,13 +69,12 @@ impl Note {
                 stamp,
             } => Note {
                 seq,
-                order: 0,
                 number,
                 tick,
-                verdict: 0,
                 robot,
                 cell,
                 stamp,
+                ..Note::BLANK
             },
         }
     }

@@ -2,10 +2,11 @@
 
 ghost use Rattle.std.specs.Prelude.{◌≡◌, IfOk, IfErr, map};
 ghost use Rattle.std.specs.Box.{box_value};
+ghost use Rattle.fleet_core.specs.Hooks.{laws_of};
 ghost use Rattle.fleet_hooks.specs.Law.{IsRank};
 ghost use Rattle.fleet_map.specs.Text.{lines_of};
 ghost use Rattle.fleet_map.specs.FirstFault.{IsFirstFault};
-ghost use Rattle.fleet_c.specs.Forms.{starts_of, exact_law};
+ghost use Rattle.fleet_c.specs.Forms.{starts_of, exact_law, laws_of_robots};
 ghost use Rattle.fleet_c.specs.Opening.{Reads, IsAtOpening, IsOpened, IsRefusal, IsRefusedOn};
 
 use crate::laws::{NOUGHT, are_of, exact, rank_in};
@@ -52,7 +53,37 @@ fn boxes_of<T: Drop, S: Drop, F: Drop>(
     Ok((tie, arrival, farewell))
 }
 
-/// The core of a world at its opening, whose closures are let go.
+/// The core of a world that is opened with the robots' closures, which are let go.
+fn core_of(
+    alloc: Global,
+    grid: Grid,
+    starts: Vec<u32>,
+    robots: &[Robot],
+    setup: &Setup,
+    hooks: Hooks,
+) -> Result<Core, Refusal>
+    requires starts { starts.items ≡ starts_of robots.now }
+    requires laws { laws_of hooks ≡ laws_of_robots robots.now }
+    ensures ok { IfOk result (λ w. IsAtOpening grid robots.now setup.now w) }
+    ensures err { IfErr result (λ why. IsRefusedOn grid robots.now setup.now why) }
+{
+    match World::open(alloc, grid, starts, setup.clients, setup.limits(), hooks) {
+        Ok(world) => {
+            let (core, robots) = world.apart();
+            drop(robots);
+            Ok(core)
+        }
+        Err(OpenFault::Limits) => Err(Refusal::Setup),
+        Err(OpenFault::NoRobots) => Err(Refusal::RobotCount),
+        Err(OpenFault::Start(robot)) => Err(Refusal::Start(robot)),
+        Err(OpenFault::Shared(first, second)) => Err(Refusal::Shared(first, second)),
+        // There is one closure of each kind a robot.
+        Err(OpenFault::Hooks) => unreachable!(),
+        Err(OpenFault::NoMemory) => Err(Refusal::NoMemory),
+    }
+}
+
+/// The core of a world at its opening, whose closures are made for it.
 fn opened(
     alloc: Global,
     grid: Grid,
@@ -89,20 +120,7 @@ fn opened(
         drop(grid);
         return Err(Refusal::NoMemory);
     }
-    match World::open(alloc, grid, starts, setup.clients, setup.limits(), hooks) {
-        Ok(world) => {
-            let (core, robots) = world.apart();
-            drop(robots);
-            Ok(core)
-        }
-        Err(OpenFault::Limits) => Err(Refusal::Setup),
-        Err(OpenFault::NoRobots) => Err(Refusal::RobotCount),
-        Err(OpenFault::Start(robot)) => Err(Refusal::Start(robot)),
-        Err(OpenFault::Shared(first, second)) => Err(Refusal::Shared(first, second)),
-        // There is one closure of each kind a robot.
-        Err(OpenFault::Hooks) => unreachable!(),
-        Err(OpenFault::NoMemory) => Err(Refusal::NoMemory),
-    }
+    core_of(alloc, grid, starts, robots, setup, hooks)
 }
 
 /// The core of a fleet that is opened on a map, in a box.
