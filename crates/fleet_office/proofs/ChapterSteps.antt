@@ -73,12 +73,16 @@ handed rings v (Err e) lawful is number planned advancing bounded = tt
 pub page-enough : {A E : Type 0} (h g : HallView A) (least : ℕ) (r : Result (Option (Chapter A)) E) → ((r ≡ Ok None) ↔ (length h.world.history.entries < least)) →
     IfOk r (λ page. TurnsPage h page g) → IfOk r (λ page. IfSome page (λ c. least ≤ length (history_of c).entries))
 page-enough h g least (Ok None) few turned = tt
-page-enough h g least (Ok (Some c)) few turned =
+page-enough {A = A} h g least (Ok (Some c)) few turned =
     ⊎_elim
     (λ (more : least ≤ length h.world.history.entries). subst (λ n. least ≤ n) (sym (ap (λ (x : History A). length x.entries) turned.0)) more)
     (λ (less : length h.world.history.entries < least). absurd (some_is_none (few.1 less)))
     (at_least least (length h.world.history.entries))
 page-enough h g least (Err e) few turned = tt
+
+-- what holds where a call is refused holds with a fact more
+pub with-fact : {X P Q : Type 0} → Q → (X ↔ P) → (X ↔ (Q × P))
+with-fact q h = ((λ x. (q, h.0 x)), (λ p. h.1 p.1))
 
 -- and is the chapter of a lawful hall
 pub page-handed : {A E : Type 0} (rings : List (LaneName A)) (h g : HallView A) (r : Result (Option (Chapter A)) E) → IsLawful rings h.world h.ends h.total →

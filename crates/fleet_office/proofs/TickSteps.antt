@@ -1,6 +1,5 @@
 -- A turn's tick is the last entry of the history that it leaves.
 use Rattle.std.proofs.Common.{◌≡◌, ℕ, zero, suc, ◌≤◌, List, [], ◌∷◌, ◌++◌, length, refl, ap, sym, ◌∙◌, arith}
-use Rattle.std.specs.Prelude.{Result, Ok, Err, IsOk, is_ok, if◌then◌else◌}
 use Rattle.fleet_grid.specs.Floor.{Floor}
 use Rattle.fleet_history.specs.declared.history.Arrival.{Arrival}
 use Rattle.fleet_history.specs.declared.history.Bye.{Bye}
@@ -18,11 +17,6 @@ use Rattle.fleet_office.specs.Hall.{HallView, GivesFrom, Turns}
 use Rattle.fleet_office.specs.Shown.{IsLastTick}
 use Rattle.fleet_office.specs.Views.{TickView}
 use Rattle.fleet_office.specs.inside.LastTicks.{EndsInTick, IsEndOf}
-
--- a call that had room did what it does
-pub did : {X E T : Type 0} (r : Result T E) (x y z : X) → IsOk r → x ≡ (if is_ok r then y else z) → x ≡ y
-did (Ok t) x y z ok is = is
-did (Err e) x y z ok is = absurd ok
 
 module _ {A : Type 0} where
   -- a give changes no history
