@@ -5,7 +5,7 @@ use fleet_book::Verdict;
 use fleet_history::{Arrival, Chapter, Entry};
 use std::alloc::{AllocError, Global};
 
-/// What the clients sent and were told, and what the history says of it.
+/// What the clients sent and collected, and what the history says of it.
 #[derive(Clone, Copy)]
 pub(crate) struct Account {
     pub(crate) told: Tally,
@@ -24,7 +24,7 @@ impl Account {
         arrived: 0,
     };
 
-    /// Adds what a client sent and was told.
+    /// Adds what a client sent and collected.
     pub(crate) fn add(&mut self, tally: &Tally) {
         let told = &mut self.told;
         told.orders = told.orders.saturating_add(tally.orders);

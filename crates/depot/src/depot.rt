@@ -50,7 +50,7 @@ impl From<AllocError> for DepotFault {
     }
 }
 
-/// The clients and the tickers that come home from their work, and what each client was told.
+/// The clients and the tickers that come home from their work, and what each client collected.
 type WorkEnd<N> = (Vec<Client>, Vec<Ticker<N>>, Vec<Tally>);
 
 /// The clients at their work, each with a seed of its own.
@@ -76,7 +76,7 @@ fn workers_of<N: OfficeName<Global>>(
     Ok(workers)
 }
 
-/// The clients that come home from their work, and what each was told.
+/// The clients that come home from their work, and what each collected.
 fn home_of<N: OfficeName<Global>>(
     alloc: Global,
     workers: Vec<Worker<N>>,

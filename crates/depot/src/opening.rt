@@ -85,7 +85,7 @@ fn day_with<R: Alloc<A = Global> + Threads + Sync + Wait>(
     }
 }
 
-/// A day at the depot of these settings, or no memory for its closures. They answer 0.
+/// A day at the depot of these settings, or out of memory for its closures. They return 0.
 fn hooked_day<R: Alloc<A = Global> + Threads + Sync + Wait>(
     rt: &R,
     settings: &Settings,

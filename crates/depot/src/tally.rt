@@ -1,8 +1,8 @@
-//! What a client was told.
+//! What a client collected.
 
 use fleet_book::{Notice, Verdict};
 
-/// What a client sent and was told so far.
+/// What a client sent and collected so far.
 #[derive(Clone, Copy)]
 pub(crate) struct Tally {
     /// Orders sent.

@@ -22,7 +22,7 @@ const MOST_CLIENTS: usize = 64;
 /// How many notices a client collects at once at most.
 const HANDFUL: u32 = 64;
 
-/// A client with what it sends and what it was told.
+/// A client with what it sends and what it collected.
 #[derive(Drop)]
 pub(crate) struct Worker<N: OfficeName<Global>> {
     pub(crate) guest: Guest<N>,

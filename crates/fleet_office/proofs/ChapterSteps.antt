@@ -1,9 +1,9 @@
 -- The next chapter keeps the law of the lock.
-use Rattle.std.proofs.Common.{◌≡◌, ℕ, List, sym, ap, subst, arith, ◌∙◌}
-use Rattle.std.specs.Prelude.{Ok, Err, Result, OnErr, OnOk, IfOk}
+use Rattle.std.proofs.Common.{◌≡◌, ◌↔◌, ◌<◌, ◌≤◌, ◌⊎◌, ⊎_elim, ℕ, List, length, sym, ap, subst, arith, ◌∙◌}
+use Rattle.std.specs.Prelude.{Ok, Err, Result, Option, Some, None, OnErr, OnOk, IfOk, IfSome}
 use Rattle.fleet_grid.specs.Floor.{IsNeighbour}
 use Rattle.fleet_grid.specs.Walk.{IsBridgeless}
-use Rattle.fleet_history.specs.History.{history_of}
+use Rattle.fleet_history.specs.History.{History, history_of}
 use Rattle.fleet_history.specs.Laws.{EachTick}
 use Rattle.fleet_planner.specs.Planned.{IsPlanned, IsAdvancingTick}
 use Rattle.fleet_bound.specs.Bound.{WaitsAreBounded}
@@ -16,7 +16,7 @@ use Rattle.fleet_core.specs.declared.faults.ChapterFault.{ChapterFault}
 use Rattle.fleet_lanes.specs.Names.{LaneName}
 use Rattle.fleet_lanes.specs.Ends.{EndView}
 use Rattle.fleet_office.specs.Hall.{HallView, IsLawful, next_hall}
-use Rattle.fleet_office.specs.Chapters.{IsChapterOf}
+use Rattle.fleet_office.specs.Chapters.{IsChapterOf, TurnsPage}
 use Rattle.fleet_office.proofs.Places.{within}
 
 module _ {A : Type 0} (rings : List (LaneName A)) where
@@ -41,6 +41,15 @@ module _ {A : Type 0} (rings : List (LaneName A)) where
   kept-next w v ends t (Ok x) ok err legal h = subst (λ x. IsLawful rings x ends t) (sym ok) (lawful_next w ends t (subst (λ (x : World A). IsLegal x.floor x.history) ok legal) h)
   kept-next w v ends t (Err e) ok err legal h = subst (λ x. IsLawful rings x ends t) (sym err) h
 
+abbrev ok_in : {X : Type 0} (E : Type 0) → Option X → Result (Option X) E
+ok_in E x = Ok x
+
+at_least : (a b : ℕ) → (a ≤ b) ⊎ (b < a)
+at_least a b = grind arith
+
+some_is_none : {X E : Type 0} {x : X} → ok_in E (Some x) ≡ ok_in E None → ⊥
+some_is_none s = cc
+
 -- what is handed out is the chapter of a lawful hall
 pub handed : {A : Type 0} (rings : List (LaneName A)) (v : HallView A) (r : Result (Chapter A) ChapterFault) → IsLawful rings v.world v.ends v.total →
     IfOk r (λ c. history_of c ≡ v.world.history) → IfOk r (λ c. c.number ≡ v.world.number) → OnOk r (EachTick (IsPlanned v.world.floor v.world.ties) v.world.history) →
@@ -59,6 +68,41 @@ handed rings v (Ok c) lawful is number planned advancing bounded = (
   },
 )
 handed rings v (Err e) lawful is number planned advancing bounded = tt
+
+-- a page that was turned has at least as many entries as were asked for
+pub page-enough : {A E : Type 0} (h g : HallView A) (least : ℕ) (r : Result (Option (Chapter A)) E) → ((r ≡ Ok None) ↔ (length h.world.history.entries < least)) →
+    IfOk r (λ page. TurnsPage h page g) → IfOk r (λ page. IfSome page (λ c. least ≤ length (history_of c).entries))
+page-enough h g least (Ok None) few turned = tt
+page-enough {A = A} h g least (Ok (Some c)) few turned =
+    ⊎_elim
+    (λ (more : least ≤ length h.world.history.entries). subst (λ n. least ≤ n) (sym (ap (λ (x : History A). length x.entries) turned.0)) more)
+    (λ (less : length h.world.history.entries < least). absurd (some_is_none (few.1 less)))
+    (at_least least (length h.world.history.entries))
+page-enough h g least (Err e) few turned = tt
+
+-- what holds where a call is refused holds with a fact more
+pub with-fact : {X P Q : Type 0} → Q → (X ↔ P) → (X ↔ (Q × P))
+with-fact q h = ((λ x. (q, h.0 x)), (λ p. h.1 p.1))
+
+-- and is the chapter of a lawful hall
+pub page-handed : {A E : Type 0} (rings : List (LaneName A)) (h g : HallView A) (r : Result (Option (Chapter A)) E) → IsLawful rings h.world h.ends h.total →
+    EachTick (IsPlanned h.world.floor h.world.ties) h.world.history →
+    (IsBridgeless (IsNeighbour h.world.floor) → EachTick (IsAdvancingTick h.world.floor) h.world.history) →
+    (IsBridgeless (IsNeighbour h.world.floor) → WaitsAreBounded h.world.floor h.world.history) →
+    IfOk r (λ page. TurnsPage h page g) → IfOk r (λ page. IfSome page (λ c. (v : HallView A) × IsChapterOf rings v c.number (history_of c)))
+page-handed rings h g (Ok None) lawful planned advancing bounded turned = tt
+page-handed rings h g (Ok (Some c)) lawful planned advancing bounded turned = (
+  h,
+  record {
+    lawful = lawful;
+    history = turned.0;
+    number = turned.1;
+    planned = subst (EachTick (IsPlanned h.world.floor h.world.ties)) (sym turned.0) planned;
+    advancing = λ b. subst (EachTick (IsAdvancingTick h.world.floor)) (sym turned.0) (advancing b);
+    bounded = λ b. subst (WaitsAreBounded h.world.floor) (sym turned.0) (bounded b);
+  },
+)
+page-handed rings h g (Err e) lawful planned advancing bounded turned = tt
 
 abbrev hall_of : {A : Type 0} → World A → List (EndView A) → ℕ → HallView A
 hall_of w ends t = record { world = w; ends = ends; total = t }

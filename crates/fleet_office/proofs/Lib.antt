@@ -18,4 +18,5 @@ pub mod ChapterSteps
 pub mod Guests
 pub mod Counted
 pub mod TurnSteps
+pub mod TickSteps
 pub mod Never

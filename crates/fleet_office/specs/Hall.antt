@@ -245,6 +245,27 @@ pub record StopsTurn {A : Type 0} (h : HallView A) (fault : TurnFault) (g : Hall
   pub none_arrived : fault.report.arrived ≡ 0
   pub no_tick : fault.report.tick ≡ None
 
+-- a turn without its tick: gives, takes client by client, gives
+pub record Settles {A : Type 0} (h : HallView A) (report : TurnReport) (g : HallView A) : Type 0 where
+  pub given : HallView A
+  pub first : ℕ
+  pub gives : GivesAll h first given
+  pub taken : HallView A
+  pub takes : TakesFirst (length h.ends) given report.taken report.held taken
+  pub last : ℕ
+  pub gives_again : GivesAll taken last g
+  pub count : report.given ≡ first + last
+  pub none_arrived : report.arrived ≡ 0
+  pub no_tick : report.tick ≡ None
+
+-- the same that ended in its takes, and what it did before
+pub record StopsSettling {A : Type 0} (h : HallView A) (fault : TurnFault) (g : HallView A) : Type 0 where
+  pub given : HallView A
+  pub gives : GivesAll h fault.report.given given
+  pub stops : StopsTaking given fault.report.taken fault.report.held fault.cause g
+  pub none_arrived : fault.report.arrived ≡ 0
+  pub no_tick : fault.report.tick ≡ None
+
 -- ---- chapters
 
 -- the hall in its next chapter

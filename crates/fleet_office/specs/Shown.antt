@@ -1,10 +1,12 @@
--- What a look shows of an office.
-use Rattle.std.specs.Prelude.{◌≡◌, ◌↔◌, length, IfSome, IsSome, IsTrue, MatchOption}
+-- What a look and a turn show of an office.
+use Rattle.std.specs.Prelude.{◌≡◌, ◌↔◌, List, [], ◌∷◌, ◌++◌, length, IfSome, IsSome, IsTrue, MatchOption}
 use Rattle.fleet_bound.specs.Arriving.{IsIdleWithin}
 use Rattle.fleet_bound.specs.Idle.{idle_ticks, longest_after}
 use Rattle.fleet_grid.specs.Counts.{floor_count}
 use Rattle.fleet_grid.specs.Floor.{IsNeighbour}
 use Rattle.fleet_grid.specs.Walk.{IsBridgeless}
+use Rattle.fleet_history.specs.declared.history.Entry.{Entry}
+use Rattle.fleet_history.specs.declared.history.Entry.TheVariants as entry
 use Rattle.fleet_history.specs.History.{clock, place, robots}
 use Rattle.fleet_history.specs.Legal.{IsLegal}
 use Rattle.fleet_pibt.specs.Eldest.{IsEldest}
@@ -12,6 +14,7 @@ use Rattle.fleet_planner.specs.Planned.{waits}
 use Rattle.fleet_planner.specs.Aimed.{IsIdle}
 use Rattle.fleet_core.specs.Core.{World}
 use Rattle.fleet_office.specs.declared.look.Look.{Look}
+use Rattle.fleet_office.specs.Views.{TickView}
 
 -- the look shows this world
 pub record Shows {A : Type 0} (w : World A) (look : Look A) : Type 0 where
@@ -26,3 +29,10 @@ pub record Shows {A : Type 0} (w : World A) (look : Look A) : Type 0 where
   pub told : IsSome look.idle_within ↔ IsBridgeless (IsNeighbour w.floor)
   pub exact : IfSome look.idle_within (λ ticks. ticks ≡ idle_ticks (longest_after w.history) (robots w.history) (floor_count w.floor))
   pub within : IfSome look.idle_within (λ ticks. IsIdleWithin w.floor w.history ticks)
+
+-- this is the last entry of the world's history, a tick, with its number and where the robots stand
+pub record IsLastTick {A : Type 0} (w : World A) (t : TickView) : Type 0 where
+  pub before : List (Entry A)
+  pub last : w.history.entries ≡ before ++ entry.Tick t.placement t.arrived t.farewells ∷ []
+  pub tick : t.tick ≡ clock w.history
+  pub placement : t.placement ≡ place w.history

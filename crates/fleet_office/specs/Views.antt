@@ -3,8 +3,17 @@ use Rattle.std.specs.Prelude.{ℕ, ◌≡◌, ◌≢◌, ◌+◌, ◌++◌, List
 use Rattle.fleet_book.specs.declared.order.Order.{Order}
 use Rattle.fleet_book.specs.declared.notice.Notice.{Notice}
 use Rattle.fleet_book.specs.declared.limits.Limits.{Limits}
+use Rattle.fleet_history.specs.declared.history.Arrival.{Arrival}
+use Rattle.fleet_history.specs.declared.history.Bye.{Bye}
 use Rattle.fleet_lanes.specs.Names.{LaneName}
 use Rattle.fleet_lanes.specs.Ends.{EndView, ClientView}
+
+-- a tick: the ticks made with it, the robots' cells after it, and by rising robot who arrived and who said farewell
+pub record TickView : Type 0 where
+  pub tick : ℕ
+  pub placement : List ℕ
+  pub arrived : List Arrival
+  pub farewells : List Bye
 
 -- how many ticks a ticker made, and how many parts of the ledger it has
 pub record TickerView : Type 0 where

@@ -2,3 +2,4 @@
 pub mod Causes
 pub mod Lanes
 pub mod Leftovers
+pub mod LastTicks

@@ -1,6 +1,6 @@
 //! How an office goes from one chapter of its history to the next.
 
-ghost use Rattle.std.specs.Prelude.{◌≡◌, ◌+◌, ◌≤◌, ◌↔◌, OnOk, OnErr, IfOk};
+ghost use Rattle.std.specs.Prelude.{◌≡◌, ◌+◌, ◌<◌, ◌≤◌, ◌^◌, ◌↔◌, length, None, Ok, Err, OnOk, OnErr, IfOk, IfSome};
 ghost use Rattle.fleet_grid.specs.Floor.{Floor, IsNeighbour};
 ghost use Rattle.fleet_grid.specs.Walk.{IsBridgeless};
 ghost use Rattle.fleet_history.specs.History.{history_of};
@@ -8,14 +8,17 @@ ghost use Rattle.fleet_history.specs.Laws.{EachTick};
 ghost use Rattle.fleet_history.specs.Legal.{IsLegal};
 ghost use Rattle.fleet_planner.specs.Planned.{IsPlanned, IsAdvancingTick};
 ghost use Rattle.fleet_bound.specs.Bound.{WaitsAreBounded};
-ghost use Rattle.fleet_office.specs.Hall.{next_hall};
+ghost use Rattle.fleet_office.specs.Chapters.{IsChapterOf, TurnsPage};
+ghost use Rattle.fleet_office.specs.Hall.{HallView, IsLawful, next_hall};
 
 use crate::hall::Hall;
 use crate::hall_state::HallState;
 use crate::names::OfficeName;
+use crate::office::Office;
 use fleet_core::ChapterFault;
 use fleet_history::Chapter;
 use std::alloc::Allocator;
+use std::sync::Wait;
 
 impl<N: OfficeName<A>, A: Allocator + Copy> HallState<N, A> {
     /// Hands the chapter out and begins the next, whose opening is the state now. Rings and mailboxes stay.
@@ -34,6 +37,23 @@ impl<N: OfficeName<A>, A: Allocator + Copy> HallState<N, A> {
         // States that the next chapter is legal.
         let _ = self.core.chapter();
         handed
+    }
+
+    /// Hands the chapter out and begins the next where it has at least this many entries. `None` where it has fewer: it stays.
+    pub fn turn_page(&mut self, least: u32) -> Result<Option<Chapter<A>>, ChapterFault>
+        ensures few { (result ≡ Ok None) ↔ (length self.old.world.history.entries < least) }
+        ensures book_spent { (result ≡ Err ChapterFault.BookSpent) ↔
+            ((least ≤ length self.old.world.history.entries) × (self.old.world.number + 1 ≡ self.old.world.limits.chapters)) }
+        ensures ok { IfOk result (λ page. TurnsPage self.old page self.new) }
+        ensures err { OnErr result (self.new ≡ self.old) }
+    {
+        if self.core.chapter().entries.len() < least as usize {
+            return Ok(None);
+        }
+        match self.next_chapter() {
+            Ok(chapter) => Ok(Some(chapter)),
+            Err(fault) => Err(fault),
+        }
     }
 }
 
@@ -54,5 +74,40 @@ impl<N: OfficeName<A>, A: Allocator + Copy> Hall<N, A> {
         ensures err { OnErr result (self.new.state ≡ self.old.state) }
     {
         self.state.next_chapter()
+    }
+
+    /// Hands the chapter out and begins the next where it has at least this many entries. `None` where it has fewer: it stays.
+    ///
+    /// Refused, where it has as many, as `next_chapter` is.
+    pub fn turn_page(&mut self, least: u32) -> Result<Option<Chapter<A>>, ChapterFault>
+        requires { 0 ≤ self.old.state.total }
+        ensures few { (result ≡ Ok None) ↔ (length self.old.state.world.history.entries < least) }
+        ensures book_spent { (result ≡ Err ChapterFault.BookSpent) ↔
+            ((least ≤ length self.old.state.world.history.entries) × (self.old.state.world.number + 1 ≡ self.old.state.world.limits.chapters)) }
+        ensures ok { IfOk result (λ page. TurnsPage self.old.state page self.new.state) }
+        ensures err { OnErr result (self.new.state ≡ self.old.state) }
+    {
+        self.state.turn_page(least)
+    }
+}
+
+impl<N: OfficeName<A>, A: Allocator + Copy> Office<N, A> {
+    /// Hands the chapter out and begins the next, as `next_chapter` does, where it has at least this many entries. `None` where it
+    /// has fewer: it stays. Of several tickers that find a chapter full, so one alone turns the page.
+    ///
+    /// Refused, where it has as many, as `next_chapter` is. Nothing has changed then.
+    pub fn turn_page<R: Wait>(&self, rt: &R, least: u32) -> Result<Option<Chapter<A>>, ChapterFault>
+        requires { least < 2 ^ 32 }
+        ensures few { (result ≡ Ok None) → (h : HallView A) × IsLawful N.rings h.world h.ends h.total × (length h.world.history.entries < least) }
+        ensures enough { IfOk result (λ page. IfSome page (λ chapter. least ≤ length (history_of chapter).entries)) }
+        ensures handed { IfOk result (λ page. IfSome page (λ chapter.
+            (h : HallView A) × IsChapterOf N.rings h chapter.number (history_of chapter))) }
+        ensures spent { (result ≡ Err ChapterFault.BookSpent) → (h : HallView A) × IsLawful N.rings h.world h.ends h.total
+            × (least ≤ length h.world.history.entries) × (h.world.number + 1 ≡ h.world.limits.chapters) }
+    {
+        let mut held = self.hall.lock(rt);
+        let hall = &mut *held;
+        hall.state.recall_laws();
+        hall.turn_page(least)
     }
 }

@@ -155,7 +155,7 @@ impl<N: OfficeName<A>, A: Allocator + Copy> HallState<N, A> {
     }
 
     /// Takes each client's orders, client by client.
-    fn take_all(&mut self) -> Result<(u32, u32), (TurnCause, u32, u32)>
+    pub(crate) fn take_all(&mut self) -> Result<(u32, u32), (TurnCause, u32, u32)>
         ensures ok { IfOk result (λ r. TakesFirst (length self.old.ends) self.old r.0 r.1 self.new) }
         ensures err { IfErr result (λ e. StopsTaking self.old e.1 e.2 e.0 self.new) }
         ensures as_many { length self.new.ends ≡ length self.old.ends }

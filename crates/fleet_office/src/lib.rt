@@ -1,6 +1,7 @@
 //! The office: a world, the hall's ends of its clients' rings and the ledger of its ticks, under one lock.
 #![tactic(auto)]
 
+mod ahead;
 mod beside;
 mod chapters;
 mod conclude;
@@ -16,7 +17,9 @@ mod look;
 mod names;
 mod office;
 mod report;
+mod settle;
 mod taking;
+mod tick_record;
 mod ticker;
 
 pub use crate::beside::side_by_side;
@@ -29,4 +32,5 @@ pub use crate::look::Look;
 pub use crate::names::OfficeName;
 pub use crate::office::{Office, OfficeOf};
 pub use crate::report::{TurnCause, TurnFault, TurnReport};
+pub use crate::tick_record::TickRecord;
 pub use crate::ticker::Ticker;

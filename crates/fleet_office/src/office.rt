@@ -39,7 +39,7 @@ use std::sync::{Mutex, Wait};
 /// A hall's parts under their lock.
 #[derive(Drop)]
 pub struct OfficeOf<X, Y> {
-    hall: Mutex<HallOf<X, Y>>,
+    pub(crate) hall: Mutex<HallOf<X, Y>>,
 }
 
 /// The hall under its lock.

@@ -252,7 +252,7 @@ pub fn serve<R: Alloc<A = Global> + Threads + Sync + Wait, G: Gate + Sync>(
 ) -> Result<Served, ServeFault>
     requires few { length script.now.events.items < 2 ^ 32 }
     requires lines { All (IsLine script.now.clients) script.now.events.items }
-    // An opening is refused for the reason that stands first, or for lack of memory.
+    // An opening is refused for the reason that stands first, or because memory ran out.
     ensures refused { (f : OpenFault) → result ≡ Err (ServeFault.Opening f) → IsRefused grid script.now.starts.items script.now.clients script.now.limits (laws_of hooks) f }
     ensures opens { (f : OpenFault) → IsRefused grid script.now.starts.items script.now.clients script.now.limits (laws_of hooks) f →
         (result ≡ Err (ServeFault.Opening f)) ⊎ (result ≡ Err ServeFault.NoMemory) }
@@ -270,7 +270,7 @@ pub fn serve<R: Alloc<A = Global> + Threads + Sync + Wait, G: Gate + Sync>(
     match Desk::new(rt.alloc(), script.clients, script.limits) {
         Ok(desk) => serve_at::<Brand, R, G>(rt, desk, grid, script, hooks, gate),
         Err(OpenFault::Limits) => Err(ServeFault::Opening(OpenFault::Limits)),
-        // Apart from its limits a desk is refused for lack of memory alone.
+        // Apart from its limits a desk is refused for memory alone.
         Err(_) => Err(ServeFault::NoMemory),
     }
 }

@@ -1,12 +1,14 @@
-//! What an office answers to the worked rows, a line for each call: the call, what it answered, and where it may change an
-//! office what there is to see then. After them rows in which each allocation of a call is refused in turn and the call made
-//! again: whether all went on as the row.
+//! The results of an office's calls in the worked cases, a line for each call: the call, its result, and where it may change an
+//! office what a look shows then. After them cases in which each allocation of a call is refused in turn and the call made
+//! again: whether all went on as without it.
 
 mod calls;
 mod case;
 mod faults;
 mod hall;
+mod live;
 mod meter;
+mod onward;
 mod opening;
 mod plan;
 mod play;
@@ -18,14 +20,15 @@ use case::Case;
 use meter::Meter;
 use opening::perform;
 use plan::Plan;
-use refused::{find_lanes, tell_refused};
+use refused::{find_lanes, tell_refused, tell_spared};
 use std::alloc::{Alloc, AllocError, Global};
 use std::fmt::Write;
 use std::sync::Wait;
+use std::thread::Threads;
 use table::{refused_rows, rows};
 
 /// Prints a test case, after its name.
-fn tell_row<R: Alloc<A = Global> + Wait>(
+fn tell_row<R: Alloc<A = Global> + Threads + Sync + Wait>(
     rt: &R,
     meter: &Meter<Global>,
     case: &Case<'_>,
@@ -35,8 +38,8 @@ fn tell_row<R: Alloc<A = Global> + Wait>(
     perform(rt, case, Plan::none(meter), told)
 }
 
-/// Prints all rows.
-fn tell_rows<R: Alloc<A = Global> + Wait>(
+/// Prints all cases.
+fn tell_rows<R: Alloc<A = Global> + Threads + Sync + Wait>(
     rt: &R,
     meter: &Meter<Global>,
     told: &mut String,
@@ -47,8 +50,8 @@ fn tell_rows<R: Alloc<A = Global> + Wait>(
     Ok(())
 }
 
-/// Prints the rows in which allocations are refused.
-fn tell_refused_rows<R: Alloc<A = Global> + Wait>(
+/// Prints the cases in which allocations are refused.
+fn tell_refused_rows<R: Alloc<A = Global> + Threads + Sync + Wait>(
     rt: &R,
     meter: &Meter<Global>,
     told: &mut String,
@@ -59,8 +62,8 @@ fn tell_refused_rows<R: Alloc<A = Global> + Wait>(
     Ok(())
 }
 
-/// What is printed of the rows over this heap.
-fn tell_over<R: Alloc<A = Global> + Wait>(
+/// What is printed of the cases over this heap.
+fn tell_over<R: Alloc<A = Global> + Threads + Sync + Wait>(
     rt: &R,
     meter: &Meter<Global>,
     told: &mut String,
@@ -68,11 +71,12 @@ fn tell_over<R: Alloc<A = Global> + Wait>(
     tell_rows(rt, meter, told)?;
     tell_refused_rows(rt, meter, told)?;
     let finding = find_lanes(meter);
-    writeln!(told, "= refused lane_pair\n{finding:?}")
+    writeln!(told, "= refused lane_pair\n{finding:?}")?;
+    tell_spared(rt, meter, told)
 }
 
-/// What is printed of the rows.
-pub(crate) fn tell<R: Alloc<A = Global> + Wait>(
+/// What is printed of the cases.
+pub(crate) fn tell<R: Alloc<A = Global> + Threads + Sync + Wait>(
     rt: &R,
     told: &mut String,
 ) -> Result<(), AllocError> {

@@ -1,5 +1,5 @@
 //! Clients that work without the office's lock: while a turn stands in a robot's closure, clients post and collect, and another
-//! ticker's turn waits. The closure goes on when they are done. A line a case tells what came out.
+//! ticker's turn waits. The closure goes on when they are done. It prints a line a case.
 
 mod opening;
 mod play;
@@ -51,7 +51,7 @@ fn tell_case<R: Alloc<A = Global> + Threads + Sync + Wait>(
     }
 }
 
-/// What is told of both cases.
+/// Prints both cases.
 pub(crate) fn tell<R: Alloc<A = Global> + Threads + Sync + Wait>(
     rt: &R,
     told: &mut String,

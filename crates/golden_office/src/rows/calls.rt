@@ -1,15 +1,31 @@
 //! Calls on an office, each made again where memory was refused.
 
 use crate::rows::case::Step;
+use crate::rows::live::{tell_ahead, tell_page, tell_settle, tell_turn_into};
 use fleet_core::{ChapterFault, ShutFault};
 use fleet_history::{Chapter, Entry};
 use fleet_office::{Guest, Look, Office, OfficeName, Ticker, TurnCause, TurnFault, TurnReport};
 use std::alloc::{Alloc, AllocError, Allocator};
 use std::fmt::Write;
 use std::sync::Wait;
+use std::thread::Threads;
+
+/// What two turns did, the first of which ended early: as one.
+pub(crate) fn both(
+    first: TurnReport,
+    second: Result<TurnReport, TurnFault>,
+) -> Result<TurnReport, TurnFault> {
+    match second {
+        Ok(report) => Ok(sum(first, report)),
+        Err(fault) => Err(TurnFault {
+            cause: fault.cause,
+            report: sum(first, fault.report),
+        }),
+    }
+}
 
 /// Two reports as one.
-fn both(first: TurnReport, second: TurnReport) -> TurnReport {
+fn sum(first: TurnReport, second: TurnReport) -> TurnReport {
     TurnReport {
         taken: first.taken.saturating_add(second.taken),
         held: first.held.saturating_add(second.held),
@@ -19,31 +35,24 @@ fn both(first: TurnReport, second: TurnReport) -> TurnReport {
     }
 }
 
-/// A turn, and where memory was refused another, with what both did.
+/// A turn, and where memory was refused of two as one.
 fn turned<N: OfficeName<A>, A: Allocator + Copy, R: Alloc<A = A> + Wait>(
     rt: &R,
     office: &Office<N, A>,
     ticker: &mut Ticker<N>,
 ) -> Result<TurnReport, TurnFault> {
-    let before = match office.turn(rt, ticker) {
+    match office.turn(rt, ticker) {
         Err(
             TurnFault {
                 cause: TurnCause::NoMemory,
                 report,
             },
-        ) => report,
-        turned => return turned,
-    };
-    match office.turn(rt, ticker) {
-        Ok(report) => Ok(both(before, report)),
-        Err(fault) => Err(TurnFault {
-            cause: fault.cause,
-            report: both(before, fault.report),
-        }),
+        ) => both(report, office.turn(rt, ticker)),
+        turned => turned,
     }
 }
 
-/// What a turn of this ticker answers.
+/// Prints the result of a turn of this ticker.
 fn tell_turn<N: OfficeName<A>, A: Allocator + Copy, R: Alloc<A = A> + Wait>(
     rt: &R,
     office: &Office<N, A>,
@@ -60,7 +69,7 @@ fn tell_turn<N: OfficeName<A>, A: Allocator + Copy, R: Alloc<A = A> + Wait>(
     }
 }
 
-/// What a look saw.
+/// Prints what a look showed.
 fn tell_seen<A: Allocator + Copy>(look: &Look<A>, told: &mut String) -> Result<(), AllocError> {
     write!(
         told,
@@ -75,7 +84,7 @@ fn tell_seen<A: Allocator + Copy>(look: &Look<A>, told: &mut String) -> Result<(
     )
 }
 
-/// What there is to see with this ticker.
+/// Prints what a look with this ticker shows.
 pub(crate) fn tell_look<N: OfficeName<A>, A: Allocator + Copy, R: Alloc<A = A> + Wait>(
     rt: &R,
     office: &Office<N, A>,
@@ -93,7 +102,7 @@ pub(crate) fn tell_look<N: OfficeName<A>, A: Allocator + Copy, R: Alloc<A = A> +
     tell_seen(&look, told)
 }
 
-/// What a shut of this robot answers.
+/// Prints the result of a shut of this robot.
 fn tell_shut<N: OfficeName<A>, A: Allocator + Copy, R: Wait>(
     rt: &R,
     office: &Office<N, A>,
@@ -107,7 +116,7 @@ fn tell_shut<N: OfficeName<A>, A: Allocator + Copy, R: Wait>(
     write!(told, "{shut:?}")
 }
 
-/// How many entries of each kind a chapter has.
+/// Prints how many entries of each kind a chapter has.
 pub(crate) fn tell_chapter<A: Allocator + Copy>(
     chapter: &Chapter<A>,
     told: &mut String,
@@ -129,7 +138,7 @@ pub(crate) fn tell_chapter<A: Allocator + Copy>(
     )
 }
 
-/// What the next chapter's beginning answers.
+/// Prints the result of the next chapter's beginning.
 fn tell_next<N: OfficeName<A>, A: Allocator + Copy, R: Wait>(
     rt: &R,
     office: &Office<N, A>,
@@ -145,7 +154,7 @@ fn tell_next<N: OfficeName<A>, A: Allocator + Copy, R: Wait>(
     }
 }
 
-/// What a post, a close or a collect of this client answers.
+/// Prints the result of a post, a close or a collect of this client.
 pub(crate) fn tell_client<N: OfficeName<A>, A: Allocator + Copy>(
     guests: &mut Vec<Guest<N, A>, A>,
     step: &Step,
@@ -171,7 +180,7 @@ pub(crate) fn tell_client<N: OfficeName<A>, A: Allocator + Copy>(
     }
 }
 
-/// The number of the ticker that this one gives a part to.
+/// Prints the number of the ticker that this one gives a part to.
 fn tell_split<N: OfficeName<A>, A: Allocator + Copy>(
     tickers: &mut Vec<Ticker<N>, A>,
     ticker: usize,
@@ -190,8 +199,12 @@ fn tell_split<N: OfficeName<A>, A: Allocator + Copy>(
     }
 }
 
-/// Makes a call that is no end, and prints what it answered.
-pub(crate) fn tell_answer<N: OfficeName<A>, A: Allocator + Copy, R: Alloc<A = A> + Wait>(
+/// Makes a call that is no end, and prints its result.
+pub(crate) fn tell_answer<
+    N: OfficeName<A>,
+    A: Allocator + Copy + Send + Sync,
+    R: Alloc<A = A> + Threads + Sync + Wait,
+>(
     rt: &R,
     office: &Office<N, A>,
     guests: &mut Vec<Guest<N, A>, A>,
@@ -204,10 +217,18 @@ pub(crate) fn tell_answer<N: OfficeName<A>, A: Allocator + Copy, R: Alloc<A = A>
             tell_client(guests, step, client, told)
         }
         Step::Turn(ticker) => tell_turn(rt, office, tickers, ticker, told),
+        Step::TurnInto(ticker) => tell_turn_into(rt, office, tickers, ticker, told),
+        Step::Settle => tell_settle(rt, office, told),
         Step::Look(ticker) => tell_look(rt, office, tickers, ticker, told),
         Step::Split(ticker) => tell_split(tickers, ticker, told),
         Step::Shut(robot) => tell_shut(rt, office, robot, told),
         Step::NextChapter => tell_next(rt, office, told),
+        Step::TurnPage(least) => tell_page(rt, office, least, told),
+        Step::Keep(bytes) => {
+            office.keep(rt, bytes);
+            told.push_str("kept")
+        }
+        Step::SearchAhead => tell_ahead(rt, office, told),
         Step::Conclude(_, _) => told.push_str("an end"),
     }
 }

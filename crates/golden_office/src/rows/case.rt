@@ -1,4 +1,4 @@
-//! A row: an office, and what is done with it, call by call.
+//! A case: an office, and what is done with it, call by call.
 
 use fleet_book::{Limits, Order};
 
@@ -13,6 +13,10 @@ pub(crate) enum Step {
     Collect(usize),
     /// A turn with this ticker.
     Turn(usize),
+    /// A turn with this ticker, whose tick is shown.
+    TurnInto(usize),
+    /// A turn without its tick.
+    Settle,
     /// A look with this ticker.
     Look(usize),
     /// A ticker gives one part to a new one.
@@ -20,6 +24,12 @@ pub(crate) enum Step {
     /// A robot takes no further errands.
     Shut(u32),
     NextChapter,
+    /// The next chapter where this one has at least this many entries.
+    TurnPage(u32),
+    /// Fields without a robot are kept up to this many bytes.
+    Keep(usize),
+    /// The fields of the next errands are searched.
+    SearchAhead,
     /// The end, with the first n clients and tickers handed in.
     Conclude(usize, usize),
 }
@@ -39,7 +49,7 @@ pub(crate) enum HallStep {
     Collect,
 }
 
-/// A row: a floor whose letters fill it, where its robots start, how many clients there are, and what is done: some calls over
+/// A case: a floor whose letters fill it, where its robots start, how many clients there are, and what is done: some calls over
 /// and over, then others once.
 #[derive(Clone, Copy)]
 pub(crate) struct Case<'a> {
@@ -60,11 +70,23 @@ pub(crate) struct Case<'a> {
 impl Step {
     /// Whether the call may change what an office shows.
     pub(crate) fn is_seen(&self) -> bool {
-        matches!(self, Step::Turn(_) | Step::Shut(_) | Step::NextChapter)
+        matches!(
+            self,
+            Step::Turn(_)
+                | Step::TurnInto(_)
+                | Step::Settle
+                | Step::Shut(_)
+                | Step::NextChapter
+                | Step::TurnPage(_)
+        )
     }
 
     /// Whether the call may want memory.
     pub(crate) fn grows(&self) -> bool {
-        self.is_seen() || matches!(self, Step::Look(_) | Step::Conclude(_, _))
+        self.is_seen()
+            || matches!(
+                self,
+                Step::Look(_) | Step::SearchAhead | Step::Conclude(_, _)
+            )
     }
 }

@@ -1,4 +1,4 @@
-//! The worked rows of an office's end and of its faults.
+//! The worked cases of an office's end and of its faults.
 
 use crate::rows::case::{Case, Step};
 use crate::rows::table::{TO_0, TO_1, TWO_CELLS};

@@ -1,4 +1,4 @@
-//! A row in a hall, without its lock: event by event.
+//! A case in a hall, without its lock: event by event.
 
 ghost use Rattle.std.specs.Prelude.{◌≡◌};
 ghost use Rattle.fleet_office.specs.Views.{IsNamed};
@@ -12,7 +12,7 @@ use std::alloc::{Alloc, AllocError, Allocator};
 use std::fmt::Write;
 use std::mem;
 
-/// Makes a call on a hall, or on its first client, and prints what it answered.
+/// Makes a call on a hall, or on its first client, and prints its result.
 fn play_step<N: OfficeName<A>, A: Allocator + Copy, R: Alloc<A = A>>(
     rt: &R,
     hall: &mut Hall<N, A>,

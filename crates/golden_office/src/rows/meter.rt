@@ -3,7 +3,7 @@
 use std::alloc::{AllocError, Allocator};
 use std::sync::atomic::{AtomicU64, Ordering};
 
-/// This many allocations come before the next refused one that no row meets it.
+/// With this many allocations before the next refused one no case meets it.
 const FAR: u64 = 1 << 62;
 
 /// Passes each call on to `inner`, but for the one allocation that comes after this many others.

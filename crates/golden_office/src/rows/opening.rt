@@ -1,4 +1,4 @@
-//! A row's opening: its floor, its robots with their closures, and the names of its office.
+//! A case's opening: its floor, its robots with their closures, and the names of its office.
 
 ghost use Rattle.std.specs.Prelude.{◌≡◌};
 
@@ -19,6 +19,7 @@ use std::fmt::Write;
 use std::marker::Brand;
 use std::mem;
 use std::sync::Wait;
+use std::thread::Threads;
 
 /// What all of an office lies on.
 type Heap<'a> = &'a Meter<Global>;
@@ -29,7 +30,7 @@ impl<'a> OfficeName<Heap<'a>> for Brand {
     ghost rings = { [] };
 }
 
-/// A row's desk.
+/// A case's desk.
 fn desk_of<A: Allocator + Copy>(
     heap: A,
     case: &Case<'_>,
@@ -41,7 +42,7 @@ fn desk_of<A: Allocator + Copy>(
     desk
 }
 
-/// A row's desk, its grid, and where its robots start.
+/// A case's desk, its grid, and where its robots start.
 fn site_of<A: Allocator + Copy>(
     heap: A,
     case: &Case<'_>,
@@ -52,8 +53,8 @@ fn site_of<A: Allocator + Copy>(
     Ok((desk_of(heap, case, plan)?, grid, starts))
 }
 
-/// Plays a row with these closures, or says why its office was not opened.
-fn play_with<'a, R: Wait>(
+/// Plays a case with these closures, or says why its office was not opened.
+fn play_with<'a, R: Threads + Sync + Wait>(
     rt: &'a R,
     hooks: Hooks<Heap<'a>>,
     case: &Case<'_>,
@@ -77,8 +78,8 @@ fn play_with<'a, R: Wait>(
     }
 }
 
-/// Plays a row with closures that answer 0, or says why it was not opened.
-fn opened_play<'a, R: Alloc<A = Global> + Wait>(
+/// Plays a case with closures that return 0, or says why it was not opened.
+fn opened_play<'a, R: Alloc<A = Global> + Threads + Sync + Wait>(
     rt: &'a R,
     case: &Case<'_>,
     plan: Plan<'a>,
@@ -95,8 +96,8 @@ fn opened_play<'a, R: Alloc<A = Global> + Wait>(
     play_with(rt, hooks, case, plan, told)
 }
 
-/// Plays a row, and where memory was refused to its opening, once more.
-pub(crate) fn perform<R: Alloc<A = Global> + Wait>(
+/// Plays a case, and where memory was refused to its opening, once more.
+pub(crate) fn perform<R: Alloc<A = Global> + Threads + Sync + Wait>(
     rt: &R,
     case: &Case<'_>,
     plan: Plan<'_>,

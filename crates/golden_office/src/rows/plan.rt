@@ -3,7 +3,7 @@
 use crate::rows::meter::Meter;
 use std::alloc::Global;
 
-/// A call of a row.
+/// A call of a case.
 #[derive(Clone, Copy, PartialEq, Eq)]
 pub(crate) enum Call {
     /// None.

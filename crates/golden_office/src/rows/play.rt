@@ -1,4 +1,4 @@
-//! A row, call by call.
+//! A case, call by call.
 
 ghost use Rattle.std.specs.Prelude.{◌≡◌};
 ghost use Rattle.fleet_office.specs.Views.{IsNamed};
@@ -14,6 +14,7 @@ use std::alloc::{Alloc, AllocError, Allocator};
 use std::fmt::Write;
 use std::mem;
 use std::sync::Wait;
+use std::thread::Threads;
 
 /// Prints how an office ended: its ticks, its floor cells and its chapter, and by client what it had not collected.
 fn tell_end<A: Allocator + Copy>(end: &Final<A>, told: &mut String) -> Result<(), AllocError> {
@@ -41,8 +42,12 @@ fn tell_ended<A: Allocator + Copy>(
     }
 }
 
-/// Makes a call, and prints what it answered, and where it may change an office what there is to see then.
-fn play_step<N: OfficeName<A>, A: Allocator + Copy, R: Alloc<A = A> + Wait>(
+/// Makes a call, and prints its result, and where it may change an office what a look shows then.
+fn play_step<
+    N: OfficeName<A>,
+    A: Allocator + Copy + Send + Sync,
+    R: Alloc<A = A> + Threads + Sync + Wait,
+>(
     rt: &R,
     stage: &mut Stage<N, A>,
     step: &Step,
@@ -76,7 +81,11 @@ fn play_step<N: OfficeName<A>, A: Allocator + Copy, R: Alloc<A = A> + Wait>(
 }
 
 /// Makes these calls, to the end of them or of the office.
-fn play_steps<N: OfficeName<A>, A: Allocator + Copy, R: Alloc<A = A> + Wait>(
+fn play_steps<
+    N: OfficeName<A>,
+    A: Allocator + Copy + Send + Sync,
+    R: Alloc<A = A> + Threads + Sync + Wait,
+>(
     rt: &R,
     stage: &mut Stage<N, A>,
     steps: &[Step],
@@ -94,8 +103,12 @@ fn play_steps<N: OfficeName<A>, A: Allocator + Copy, R: Alloc<A = A> + Wait>(
     Ok(())
 }
 
-/// Makes the calls of a row.
-fn play_case<N: OfficeName<A>, A: Allocator + Copy, R: Alloc<A = A> + Wait>(
+/// Makes the calls of a case.
+fn play_case<
+    N: OfficeName<A>,
+    A: Allocator + Copy + Send + Sync,
+    R: Alloc<A = A> + Threads + Sync + Wait,
+>(
     rt: &R,
     stage: &mut Stage<N, A>,
     case: &Case<'_>,
@@ -108,8 +121,12 @@ fn play_case<N: OfficeName<A>, A: Allocator + Copy, R: Alloc<A = A> + Wait>(
     play_steps(rt, stage, case.steps, plan, told)
 }
 
-/// Opens an office over the desk, and makes the calls of a row.
-fn play_office<N: OfficeName<A>, A: Allocator + Copy, R: Alloc<A = A> + Wait>(
+/// Opens an office over the desk, and makes the calls of a case.
+fn play_office<
+    N: OfficeName<A>,
+    A: Allocator + Copy + Send + Sync,
+    R: Alloc<A = A> + Threads + Sync + Wait,
+>(
     rt: &R,
     desk: Desk<A>,
     fleet: Fleet<A>,
@@ -129,8 +146,12 @@ fn play_office<N: OfficeName<A>, A: Allocator + Copy, R: Alloc<A = A> + Wait>(
     }
 }
 
-/// Opens an office over the desk, or a hall, and makes the calls of a row.
-pub(crate) fn play<N: OfficeName<A>, A: Allocator + Copy, R: Alloc<A = A> + Wait>(
+/// Opens an office over the desk, or a hall, and makes the calls of a case.
+pub(crate) fn play<
+    N: OfficeName<A>,
+    A: Allocator + Copy + Send + Sync,
+    R: Alloc<A = A> + Threads + Sync + Wait,
+>(
     rt: &R,
     desk: Desk<A>,
     fleet: Fleet<A>,

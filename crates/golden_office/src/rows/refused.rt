@@ -2,8 +2,9 @@
 
 ghost use Rattle.std.specs.Prelude.{◌≡◌};
 
-use crate::rows::case::Case;
+use crate::rows::case::{Case, Step};
 use crate::rows::meter::Meter;
+use crate::rows::onward::{SEARCHED_AHEAD, SEARCHED_LATE};
 use crate::rows::opening::perform;
 use crate::rows::plan::{Call, Plan};
 use fleet_book::{Limits, Order};
@@ -11,8 +12,9 @@ use fleet_lanes::lane_pair;
 use std::alloc::{Alloc, AllocError, Global};
 use std::fmt::Write;
 use std::sync::Wait;
+use std::thread::Threads;
 
-/// No call of a row has more allocations.
+/// No call of a case has more allocations.
 const MOST: u64 = 1_000;
 
 /// What became of a call whose allocations were refused, each in a play of its own.
@@ -20,13 +22,13 @@ const MOST: u64 = 1_000;
 pub(crate) enum Finding {
     /// The call takes no memory there.
     NoGrowth,
-    /// Each play ended as the row.
+    /// Each play ended as the case.
     AsTheRow,
     /// A play ended otherwise.
     Otherwise,
 }
 
-/// The finding after this many refused allocations, with which all was as the row.
+/// The finding after this many refused allocations, with which all was as the case.
 fn found(before: u64) -> Finding {
     if before == 0 {
         Finding::NoGrowth
@@ -35,8 +37,8 @@ fn found(before: u64) -> Finding {
     }
 }
 
-/// Whether a play of the case tells what the row does.
-fn is_as<R: Alloc<A = Global> + Wait>(
+/// Whether a play with this refusal prints what the case prints without one.
+fn is_as<R: Alloc<A = Global> + Threads + Sync + Wait>(
     rt: &R,
     case: &Case<'_>,
     plan: Plan<'_>,
@@ -47,14 +49,15 @@ fn is_as<R: Alloc<A = Global> + Wait>(
     Ok(told.as_str() == row)
 }
 
-/// Plays a row with each allocation of a call refused in turn, and made again.
-fn find<R: Alloc<A = Global> + Wait>(
+/// Plays a case with each allocation of a call refused in turn, and made again. The result is how many these are, where each
+/// play ended as the case.
+fn growths<R: Alloc<A = Global> + Threads + Sync + Wait>(
     rt: &R,
     meter: &Meter<Global>,
     case: &Case<'_>,
     call: Call,
     row: &str,
-) -> Result<Finding, AllocError> {
+) -> Result<Option<u64>, AllocError> {
     for before in 0..MOST {
         meter.forget();
         let plan = Plan {
@@ -63,17 +66,31 @@ fn find<R: Alloc<A = Global> + Wait>(
             before,
         };
         if !is_as(rt, case, plan, row)? {
-            return Ok(Finding::Otherwise);
+            return Ok(None);
         }
         if !meter.has_refused() {
-            return Ok(found(before));
+            return Ok(Some(before));
         }
     }
-    Ok(Finding::Otherwise)
+    Ok(None)
 }
 
-/// Prints each call of a row that took memory, and was refused it.
-fn tell_findings<R: Alloc<A = Global> + Wait>(
+/// What becomes of a case with each allocation of a call refused in turn.
+fn find<R: Alloc<A = Global> + Threads + Sync + Wait>(
+    rt: &R,
+    meter: &Meter<Global>,
+    case: &Case<'_>,
+    call: Call,
+    row: &str,
+) -> Result<Finding, AllocError> {
+    match growths(rt, meter, case, call, row)? {
+        Some(before) => Ok(found(before)),
+        None => Ok(Finding::Otherwise),
+    }
+}
+
+/// Prints each call of a case that took memory, and was refused it.
+fn tell_findings<R: Alloc<A = Global> + Threads + Sync + Wait>(
     rt: &R,
     meter: &Meter<Global>,
     case: &Case<'_>,
@@ -94,18 +111,59 @@ fn tell_findings<R: Alloc<A = Global> + Wait>(
     Ok(())
 }
 
-/// Plays a row, and prints its calls whose allocations are refused, after its name.
-pub(crate) fn tell_refused<R: Alloc<A = Global> + Wait>(
+/// What a case prints without a refusal.
+fn text_of<R: Alloc<A = Global> + Threads + Sync + Wait>(
+    rt: &R,
+    meter: &Meter<Global>,
+    case: &Case<'_>,
+) -> Result<String, AllocError> {
+    let mut row = String::new(rt.alloc());
+    meter.forget();
+    perform(rt, case, Plan::none(meter), &mut row)?;
+    Ok(row)
+}
+
+/// Plays a case, and prints its calls whose allocations are refused, after its name.
+pub(crate) fn tell_refused<R: Alloc<A = Global> + Threads + Sync + Wait>(
     rt: &R,
     meter: &Meter<Global>,
     case: &Case<'_>,
     told: &mut String,
 ) -> Result<(), AllocError> {
     writeln!(told, "= refused {}", case.name)?;
-    let mut row = String::new(rt.alloc());
-    meter.forget();
-    perform(rt, case, Plan::none(meter), &mut row)?;
+    let row = text_of(rt, meter, case)?;
     tell_findings(rt, meter, case, &row, told)
+}
+
+/// The allocations of the case's first turn.
+fn growths_of_turn<R: Alloc<A = Global> + Threads + Sync + Wait>(
+    rt: &R,
+    meter: &Meter<Global>,
+    case: &Case<'_>,
+) -> Result<Option<u64>, AllocError> {
+    let row = text_of(rt, meter, case)?;
+    for (number, step) in case.steps.iter().enumerate() {
+        if matches!(step, Step::Turn(_)) {
+            return growths(rt, meter, case, Call::Step(number), &row);
+        }
+    }
+    Ok(None)
+}
+
+/// Prints whether a turn allocates less where the field that it needs was searched before.
+pub(crate) fn tell_spared<R: Alloc<A = Global> + Threads + Sync + Wait>(
+    rt: &R,
+    meter: &Meter<Global>,
+    told: &mut String,
+) -> Result<(), AllocError> {
+    let late = growths_of_turn(rt, meter, &SEARCHED_LATE)?;
+    let ahead = growths_of_turn(rt, meter, &SEARCHED_AHEAD)?;
+    let finding = match (late, ahead) {
+        (Some(late), Some(ahead)) if ahead < late => "fewer",
+        (Some(_), Some(_)) => "no fewer",
+        _ => "unknown",
+    };
+    writeln!(told, "= a turn after a search ahead\n{finding} growths")
 }
 
 /// Whether a lane is made, and takes its first order.

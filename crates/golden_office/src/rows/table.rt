@@ -1,10 +1,11 @@
-//! The worked rows that name an office.
+//! The worked cases that name an office.
 
 use crate::rows::case::{Case, HallStep, Step};
 use crate::rows::faults::{
     CLOCK_FIRST, FULL_CHAPTER, FULL_TURN, IDLE_TICKER, MISSING_CLIENT, NEXT_CHAPTER, SECOND_CLIENT,
     SMALL_MAILBOX, SMALL_OUTLET, SPENT_CLOCK, TWO_TICKERS, WIDER_MAILBOX,
 };
+use crate::rows::onward::{SEARCHED_AHEAD, SETTLE, SETTLE_FULL_CHAPTER, SETTLE_HELD, TURN_INTO};
 use fleet_book::{Limits, Order};
 
 /// Robot 0 to cell 0.
@@ -14,7 +15,7 @@ pub(crate) const TO_0: Order = Order::Go { robot: 0, cell: 0 };
 pub(crate) const TO_1: Order = Order::Go { robot: 0, cell: 1 };
 
 /// Robot 0 to cell 2.
-const TO_2: Order = Order::Go { robot: 0, cell: 2 };
+pub(crate) const TO_2: Order = Order::Go { robot: 0, cell: 2 };
 
 /// Robot 1 to cell 0.
 const OTHER_TO_0: Order = Order::Go { robot: 1, cell: 0 };
@@ -193,8 +194,8 @@ const RING_OF_EIGHT: Case<'static> = Case {
     ..TWO_CELLS
 };
 
-/// The rows, in their order.
-const ROWS: [Case<'static>; 21] = [
+/// The cases, in their order.
+const ROWS: [Case<'static>; 26] = [
     BACK_PRESSURE,
     BACK_PRESSURE_IN_HALL,
     LANE_OF_TWO,
@@ -215,24 +216,32 @@ const ROWS: [Case<'static>; 21] = [
     WIDER_MAILBOX,
     TWO_CHAPTERS,
     RING_OF_EIGHT,
+    SETTLE,
+    SETTLE_FULL_CHAPTER,
+    SETTLE_HELD,
+    TURN_INTO,
+    SEARCHED_AHEAD,
     THOUSAND_ROUNDS,
 ];
 
-/// The rows whose allocations are refused.
-const REFUSED: [Case<'static>; 5] = [
+/// The cases whose allocations are refused.
+const REFUSED: [Case<'static>; 8] = [
     BACK_PRESSURE,
     SHUT_ROBOT,
     MISSING_CLIENT,
     TWO_TICKERS,
     NEXT_CHAPTER,
+    SETTLE_FULL_CHAPTER,
+    TURN_INTO,
+    SEARCHED_AHEAD,
 ];
 
-/// The rows, in their order.
+/// The cases, in their order.
 pub(crate) fn rows() -> &'static [Case<'static>] {
     &ROWS
 }
 
-/// The rows whose allocations are refused.
+/// The cases whose allocations are refused.
 pub(crate) fn refused_rows() -> &'static [Case<'static>] {
     &REFUSED
 }

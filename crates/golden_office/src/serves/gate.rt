@@ -1,4 +1,4 @@
-//! What holds the clients' threads of a row, and the closure that holds a tick.
+//! What holds the clients' threads of a case, and the closure that holds a tick.
 
 ghost use Rattle.std.specs.Prelude.{◌<◌};
 

@@ -1,4 +1,4 @@
-//! What is printed of the rows and of the thousand serves.
+//! What is printed of the cases and of the thousand serves.
 
 use crate::numbers::tell_numbers;
 use crate::serves::came::Came;
@@ -38,7 +38,7 @@ fn tell_fact(fact: Fact, came: &Came, met: bool, told: &mut String) -> Result<()
     }
 }
 
-/// The result of a row, after its name.
+/// The result of a case, after its name.
 fn tell_came(
     row: &Row,
     came: Result<Came, PlayFault>,
@@ -58,7 +58,7 @@ fn tell_came(
     }
 }
 
-/// The line of a row.
+/// The line of a case.
 pub(crate) fn tell_row<R: Alloc<A = Global> + Threads + Sync + Wait>(
     rt: &R,
     row: &Row,

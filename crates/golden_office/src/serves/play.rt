@@ -1,4 +1,4 @@
-//! A script served on a yard, with closures that answer 0.
+//! A script served on a yard, with closures that return 0.
 
 ghost use Rattle.std.specs.Prelude.{◌≡◌, ◌<◌, ◌^◌, length};
 ghost use Rattle.std.specs.List.{All};

@@ -1,9 +1,9 @@
-//! The rows: a script on a yard, who is held, and what is told of it.
+//! The cases: a script on a yard, who is held, and what is told of it.
 
 use crate::serves::gate::Hold;
 use crate::serves::yard::{CORRIDOR, RING, TWO_CELLS, Yard};
 
-/// A fact that a row tells.
+/// A fact that a case prints.
 #[derive(Clone, Copy)]
 pub(crate) enum Fact {
     /// Whether those who were held were let go by a flag, none by the number of tries.
@@ -150,7 +150,7 @@ const CLOCK_SPENT_LATE: Row = Row {
     ..STANDOFF
 };
 
-/// All rows.
+/// All cases.
 pub(crate) const ROWS: [Row; 13] = [
     SIDE_BY_SIDE,
     LANE_OF_ONE,

@@ -27,7 +27,7 @@ pub(crate) struct Case {
     pub(crate) turns: u64,
 }
 
-/// The desk of this many clients, two cells side by side, and the robot on the first.
+/// The desk of this many clients, two cells next to each other, and the robot on the first.
 fn site_of(alloc: Global, clients: u32) -> Result<(Desk, Grid, Vec<u32>), OpenFault> {
     let grid = grid_of(alloc, (1, 2), b"..")?;
     let starts = Vec::from_slice(alloc, &[0u32])?;
@@ -51,7 +51,7 @@ fn play_with<R: Alloc<A = Global> + Threads + Sync + Wait>(
 }
 
 /// What came out of a case, or no memory to open it. The robot's closure waits for the clients at its first call, and the
-/// closures answer 0.
+/// closures return 0.
 fn play_hooked<R: Alloc<A = Global> + Threads + Sync + Wait>(
     rt: &R,
     case: &Case,
