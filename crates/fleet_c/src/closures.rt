@@ -49,7 +49,7 @@ pub(crate) fn ticked(alloc: Global, core: &mut Core) -> Result<TickReport, TickF
     for law in core.tie_laws() {
         let ranks = law.low;
         if *law == ALIKE {
-            // A closure that captures nothing takes no memory.
+            // A closure that captures nothing: its block has one byte.
             let alike = |_view: TieView| -> u8
                 ensures { result ≡ 0 }
             { 0 };
