@@ -15,6 +15,7 @@ pub fn is_valid(alloc: Global, map: &[u8], plan: &[u8]) -> Result<bool, AllocErr
 {
     match check_texts(alloc, map, plan)? {
         PlanAnswer::Valid(_report) => Ok(true),
-        PlanAnswer::Map(_) | PlanAnswer::Text(_) | PlanAnswer::Invalid(_) => Ok(false),
+        PlanAnswer::Map(_) | PlanAnswer::Text(_) => Ok(false),
+        PlanAnswer::Json(_) | PlanAnswer::Invalid(_) => Ok(false),
     }
 }

@@ -1,3 +1,4 @@
 mod Written
 mod Among
 mod Answered
+mod Stepped

@@ -1,13 +1,15 @@
 -- Sentences whose parts are written one after the other.
 use Rattle.std.proofs.Common.{◌≡◌, ℕ, List, ◌++◌, codes, decimal, encode_utf8, sym, subst}
 use Rattle.std.proofs.lemmas.List.{append_assoc}
+use Rattle.fleet_check.specs.declared.fault.StepFault.{StepFault}
+use Rattle.fleet_check.specs.declared.fault.StepFault.TheVariants as step
 use Rattle.fleet_explain.specs.declared.limits.LimitFault.{LimitFault}
 use Rattle.fleet_explain.specs.declared.opening.StartFault.{StartFault}
 use Rattle.fleet_explain.specs.declared.opening.StartFault.TheVariants as start
 use Rattle.fleet_explain.specs.declared.explanation.Explanation.{Explanation}
 use Rattle.fleet_explain.specs.declared.explanation.Explanation.TheVariants as explanation
 use Rattle.fleet_explain.specs.Limits.{least_of, most_of, name_of}
-use Rattle.fleet_explain.specs.Sentences.{cell_text, limit_text, start_text, sentence}
+use Rattle.fleet_explain.specs.Sentences.{cell_text, limit_text, start_text, step_text, sentence}
 
 five : (a b c d e : List ℕ) → a ++ (b ++ (c ++ (d ++ e))) ≡ a ++ b ++ c ++ d ++ e
 five a b c d e = simp append_assoc
@@ -39,3 +41,13 @@ pub letter_written : (e : Explanation) (row column letter c : ℕ) → e ≡ exp
 letter_written e row column letter c is same =
     subst (λ (x : Explanation). codes "the map: row " ++ (decimal row ++ (codes ", column " ++ (decimal column ++ (codes " has `" ++ (encode_utf8 c ++ codes "`, which is no letter of a map"))))) ≡ sentence x) (sym is)
     (rw same (seven (codes "the map: row ") (decimal row) (codes ", column ") (decimal column) (codes " has `") (encode_utf8 letter) (codes "`, which is no letter of a map")))
+
+pub vertex_written : (f : StepFault) (i j : ℕ) → f ≡ step.Vertex i j → codes "robots " ++ (decimal i ++ (codes " and " ++ (decimal j ++ codes " come to one cell"))) ≡ step_text f
+vertex_written f i j is =
+    subst (λ (x : StepFault). codes "robots " ++ (decimal i ++ (codes " and " ++ (decimal j ++ codes " come to one cell"))) ≡ step_text x) (sym is)
+    (five (codes "robots ") (decimal i) (codes " and ") (decimal j) (codes " come to one cell"))
+
+pub swap_written : (f : StepFault) (i j : ℕ) → f ≡ step.Swap i j → codes "robots " ++ (decimal i ++ (codes " and " ++ (decimal j ++ codes " exchange their cells"))) ≡ step_text f
+swap_written f i j is =
+    subst (λ (x : StepFault). codes "robots " ++ (decimal i ++ (codes " and " ++ (decimal j ++ codes " exchange their cells"))) ≡ step_text x) (sym is)
+    (five (codes "robots ") (decimal i) (codes " and ") (decimal j) (codes " exchange their cells"))

@@ -18,6 +18,7 @@ use Rattle.fleet_explain.specs.declared.explanation.Explanation.TheVariants as e
 use Rattle.fleet_explain.specs.Lines.{fault_at, letter_in}
 use Rattle.fleet_explain.specs.Starts.{AlwaysOpens, IsStartFault}
 use Rattle.fleet_explain.specs.Entries.{kind_at}
+use Rattle.fleet_explain.specs.Details.{IsDetail}
 
 -- the map of a text, as a floor
 abbrev pub floor_of_map : Map → Floor
@@ -53,7 +54,7 @@ pub data IsScriptExplained (map script : List ℕ) (e : Explanation) : Type 0 wh
 -- the history is legal on the map, or this is the first entry that breaks a rule
 abbrev pub IsJudgedAs : Map → History Global → Explanation → Type 0
 IsJudgedAs m h explanation.Fine = IsLegal (floor_of_map m) h
-IsJudgedAs m h (explanation.Illegal at rule kind) = IsFirstIllegal (floor_of_map m) h at rule × (kind ≡ kind_at h.entries at)
+IsJudgedAs m h (explanation.Illegal at rule kind detail) = IsFirstIllegal (floor_of_map m) h at rule × (kind ≡ kind_at h.entries at) × IsDetail (floor_of_map m) h at rule detail
 IsJudgedAs m h _ = ⊥
 
 pub data IsTraceExplained (map trace : List ℕ) (e : Explanation) : Type 0 where

@@ -3,5 +3,6 @@ pub mod Lines
 pub mod Limits
 pub mod Starts
 pub mod Entries
+pub mod Details
 pub mod Explained
 pub mod Sentences

@@ -1,9 +1,13 @@
 -- Explanations as sentences.
-use Rattle.std.specs.Prelude.{ℕ, ◌/◌, ◌%◌, List, ◌++◌, max, codes, decimal, encode_utf8, ◌==◌, if◌then◌else◌}
+use Rattle.std.specs.Prelude.{ℕ, ◌/◌, ◌%◌, List, [], ◌++◌, max, codes, decimal, encode_utf8, ◌==◌, if◌then◌else◌}
 use Rattle.fleet_map.specs.declared.fault.MapFault.{MapFault}
 use Rattle.fleet_map.specs.declared.fault.MapFault.TheVariants as map
 use Rattle.fleet_trace.specs.declared.fault.TraceFault.{TraceFault}
 use Rattle.fleet_trace.specs.declared.fault.TraceFault.TheVariants as trace
+use Rattle.fleet_check.specs.declared.fault.StepFault.{StepFault}
+use Rattle.fleet_check.specs.declared.fault.StepFault.TheVariants as step
+use Rattle.fleet_explain.specs.declared.detail.Detail.{Detail}
+use Rattle.fleet_explain.specs.declared.detail.Detail.TheVariants as detail
 use Rattle.fleet_explain.specs.declared.entry.EntryKind.{EntryKind}
 use Rattle.fleet_explain.specs.declared.entry.EntryKind.TheVariants as kind
 use Rattle.fleet_explain.specs.declared.explanation.Explanation.{Explanation}
@@ -67,6 +71,19 @@ rule_text rule =
     else if rule == 7 then codes "a stamp is outside of its robot's law"
     else codes "the robot is shut already, or there is no such robot"
 
+-- the first fault of a step
+abbrev pub step_text : StepFault → List ℕ
+step_text step.Length = codes "it has not a cell for each robot"
+step_text (step.OffFloor r) = codes "robot " ++ decimal r ++ codes " comes to no floor"
+step_text (step.NotAdjacent r) = codes "robot " ++ decimal r ++ codes " comes to a cell that is not next to its own"
+step_text step.NoMemory = codes "out of memory"
+step_text (step.Vertex i j) = codes "robots " ++ decimal i ++ codes " and " ++ decimal j ++ codes " come to one cell"
+step_text (step.Swap i j) = codes "robots " ++ decimal i ++ codes " and " ++ decimal j ++ codes " exchange their cells"
+
+abbrev pub detail_text : Detail → List ℕ
+detail_text detail.Nothing = []
+detail_text (detail.Step fault) = codes ": " ++ step_text fault
+
 abbrev pub sentence : Explanation → List ℕ
 sentence explanation.Fine = codes "all in order"
 sentence (explanation.Map f) = codes "the map: " ++ map_text f
@@ -74,4 +91,4 @@ sentence (explanation.Letter row column letter) = codes "the map: row " ++ decim
 sentence (explanation.Script n f) = codes "the script: line " ++ decimal n ++ codes ": " ++ line_text f
 sentence (explanation.Start f width) = codes "the script: " ++ start_text width f
 sentence (explanation.Trace f) = codes "the trace: " ++ trace_text f
-sentence (explanation.Illegal at rule kind) = codes "the trace: entry " ++ decimal at ++ codes ", " ++ kind_text kind ++ codes ": " ++ rule_text rule
+sentence (explanation.Illegal at rule kind detail) = codes "the trace: entry " ++ decimal at ++ codes ", " ++ kind_text kind ++ codes ": " ++ rule_text rule ++ detail_text detail

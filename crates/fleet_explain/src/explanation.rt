@@ -6,6 +6,7 @@ ghost use Rattle.fleet_map.specs.Grammar.{view, map_of, Fails};
 ghost use Rattle.fleet_history.specs.History.{history_of};
 ghost use Rattle.fleet_explain.specs.Explained.{IsNoMap, IsMapExplained, IsScriptExplained, IsScriptOn, IsTraceExplained, IsJudgedAs};
 
+use crate::detail::{Detail, detail_of};
 use crate::entry::{EntryKind, kind_at};
 use crate::line::{LineFault, fault_at, letter_at};
 use crate::opening::{StartFault, start_fault};
@@ -24,15 +25,30 @@ pub enum Explanation {
     /// The bytes are no map, for another reason than a letter.
     Map(MapFault),
     /// The byte in this row and column of the map is no letter of a map. Both count from 0.
-    Letter { row: u32, column: u32, letter: u8 },
+    Letter {
+        row: u32,
+        column: u32,
+        letter: u8,
+    },
     /// The line of the script, from 1, may not stand where it does.
-    Script { line: u32, fault: LineFault },
+    Script {
+        line: u32,
+        fault: LineFault,
+    },
     /// The script's fleet cannot begin on the map, which has this width.
-    Start { fault: StartFault, width: u32 },
+    Start {
+        fault: StartFault,
+        width: u32,
+    },
     /// The bytes tell no trace.
     Trace(TraceFault),
     /// The entry `at`, from 1, is the first that breaks a rule, and `rule` the first that it breaks; at 0 the opening.
-    Illegal { at: u64, rule: u8, kind: EntryKind },
+    Illegal {
+        at: u64,
+        rule: u8,
+        kind: EntryKind,
+        detail: Detail,
+    },
 }
 
 /// What is wrong with a map that has this fault. The only error is out of memory.
@@ -119,7 +135,13 @@ fn chapter_explanation(
         Ok(()) => Ok(Explanation::Fine),
         Err(JudgeFault::Illegal { at, rule }) => {
             let kind = kind_at(&chapter.entries, at);
-            Ok(Explanation::Illegal { at, rule, kind })
+            let detail = detail_of(alloc, &grid, chapter, at, rule)?;
+            Ok(Explanation::Illegal {
+                at,
+                rule,
+                kind,
+                detail,
+            })
         }
         Err(JudgeFault::NoMemory) => Err(AllocError),
     }

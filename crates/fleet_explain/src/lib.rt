@@ -1,6 +1,7 @@
 //! What is wrong with a map, a script or a trace, in sentences.
 #![tactic(auto)]
 
+mod detail;
 mod entry;
 mod explanation;
 mod keyword;
@@ -9,6 +10,7 @@ mod line;
 mod opening;
 mod text;
 
+pub use detail::Detail;
 pub use entry::EntryKind;
 pub use explanation::{Explanation, explain_map, explain_script, explain_trace};
 pub use keyword::Keyword;

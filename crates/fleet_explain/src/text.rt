@@ -1,13 +1,15 @@
 //! Explanations as sentences.
 
 ghost use Rattle.std.specs.Prelude.{◌≡◌, Some};
-ghost use Rattle.fleet_explain.specs.Sentences.{line_text, map_text, cell_text, limit_text, start_text, trace_text, kind_text, rule_text, sentence};
+ghost use Rattle.fleet_explain.specs.Sentences.{line_text, map_text, cell_text, limit_text, start_text, trace_text, kind_text, rule_text, step_text, detail_text, sentence};
 
+use crate::detail::Detail;
 use crate::entry::EntryKind;
 use crate::explanation::Explanation;
 use crate::limits::LimitFault;
 use crate::line::LineFault;
 use crate::opening::StartFault;
+use fleet_check::StepFault;
 use fleet_map::MapFault;
 use fleet_trace::TraceFault;
 use std::fmt;
@@ -161,6 +163,48 @@ fn rule_text(rule: u8) -> &'static str
     }
 }
 
+/// The first fault of a step.
+#[derive(Clone, Copy)]
+struct StepText(StepFault);
+
+impl fmt::Display for StepText {
+    ghost output = { λ t. Some (step_text t.0) };
+
+    fn fmt<W: fmt::Write>(&self, f: &mut fmt::Formatter<W>) -> fmt::Result {
+        match self.0 {
+            StepFault::Length => f.write_str("it has not a cell for each robot"),
+            StepFault::OffFloor(robot) => write!(f, "robot {robot} comes to no floor"),
+            StepFault::NotAdjacent(robot) => {
+                write!(
+                    f,
+                    "robot {robot} comes to a cell that is not next to its own"
+                )
+            }
+            StepFault::NoMemory => f.write_str("out of memory"),
+            StepFault::Vertex(first, second) => {
+                write!(f, "robots {first} and {second} come to one cell")
+            }
+            StepFault::Swap(first, second) => {
+                write!(f, "robots {first} and {second} exchange their cells")
+            }
+        }
+    }
+}
+
+impl fmt::Display for Detail {
+    ghost output = { λ d. Some (detail_text d) };
+
+    fn fmt<W: fmt::Write>(&self, f: &mut fmt::Formatter<W>) -> fmt::Result {
+        match *self {
+            Detail::Nothing => Ok(()),
+            Detail::Step(fault) => {
+                let step = StepText(fault);
+                write!(f, ": {step}")
+            }
+        }
+    }
+}
+
 impl fmt::Display for Explanation {
     ghost output = { λ e. Some (sentence e) };
 
@@ -191,9 +235,14 @@ impl fmt::Display for Explanation {
                 let trace = TraceText(fault);
                 write!(f, "the trace: {trace}")
             }
-            Explanation::Illegal { at, rule, kind } => {
+            Explanation::Illegal {
+                at,
+                rule,
+                kind,
+                detail,
+            } => {
                 let breaks = rule_text(rule);
-                write!(f, "the trace: entry {at}, {kind}: {breaks}")
+                write!(f, "the trace: entry {at}, {kind}: {breaks}{detail}")
             }
         }
     }

@@ -15,7 +15,7 @@ status_of (explanation.Letter row column letter) = 4
 status_of (explanation.Script n f) = 5
 status_of (explanation.Start f width) = 5
 status_of (explanation.Trace f) = 6
-status_of (explanation.Illegal at rule kind) = 6
+status_of (explanation.Illegal at rule kind detail) = 6
 
 -- the sentence, and a line feed
 abbrev pub outcome_of : Explanation → Outcome

@@ -56,6 +56,11 @@ fn said_of_answer(alloc: Global, answer: PlanAnswer) -> Result<Said, AllocError>
             status: 6,
             complaint: format!(in alloc; "fleet: plan {line}\n")?,
         }),
+        PlanAnswer::Json(fault) => Ok(Said {
+            output: Vec::new(alloc),
+            status: 6,
+            complaint: format!(in alloc; "fleet: plan {fault}\n")?,
+        }),
         PlanAnswer::Valid(report) => {
             let text = format!(in alloc; "{report}")?;
             printed(alloc, &text, 0)

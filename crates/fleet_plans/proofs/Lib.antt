@@ -5,3 +5,4 @@ mod Cuts
 mod Walks
 mod Solutions
 mod Answered
+mod Tellings

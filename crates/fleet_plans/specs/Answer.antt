@@ -1,5 +1,5 @@
 -- What there is to say of a map and a plan's text, and what it prints as.
-use Rattle.std.specs.Prelude.{◌≡◌, ◌≢◌, ℕ, List, [], ◌++◌, Option, Some, None, Ok, Err, codes, decimal}
+use Rattle.std.specs.Prelude.{◌≡◌, ◌≢◌, ℕ, List, [], ◌++◌, Option, Some, None, Ok, Err, codes, decimal, Bool, true, false}
 use Rattle.fleet_map.specs.declared.fault.MapFault.{MapFault}
 use Rattle.fleet_map.specs.Grammar.{Map, map_of}
 use Rattle.fleet_grid.specs.Floor.{Floor, floor_of}
@@ -11,6 +11,9 @@ use Rattle.fleet_plans.specs.declared.report.PlanReport.{PlanReport}
 use Rattle.fleet_plans.specs.Text.{source_of, IsReadAs}
 use Rattle.fleet_plans.specs.Valid.{IsValidPlan, IsPlanFault}
 use Rattle.fleet_plans.specs.Report.{IsReportOf}
+use Rattle.fleet_plans.specs.declared.runners.fault.RunnersFault.{RunnersFault}
+use Rattle.fleet_plans.specs.declared.runners.fault.RunnersFault.TheVariants as told
+use Rattle.fleet_plans.specs.Runners.{is_json, IsRunnersPlan, IsRunnersFault}
 
 -- a plan on a map is valid, with this report, or this is its first fault
 abbrev pub IsJudged : Floor → Option (List ℕ) → List (List ℕ) → PlanAnswer → Type 0
@@ -18,12 +21,27 @@ IsJudged m goals places (answer.Valid report) = IsValidPlan m places × IsReport
 IsJudged m goals places (answer.Invalid fault) = IsPlanFault m places fault.time fault.fault × (fault.fault ≢ NoMemory)
 IsJudged m goals places (answer.Map fault) = ⊥
 IsJudged m goals places (answer.Text line) = ⊥
+IsJudged m goals places (answer.Json fault) = ⊥
 
--- the text first, then the plan
-pub data IsTextAnswer (m : Map) (text : List ℕ) (a : PlanAnswer) : Type 0 where
-  no_plan : (line : ℕ) → source_of m.width m.height text ≡ Err line → a ≡ answer.Text line → IsTextAnswer m text a
+-- the lines first, then the plan
+pub data IsLinesAnswer (m : Map) (text : List ℕ) (a : PlanAnswer) : Type 0 where
+  no_plan : (line : ℕ) → source_of m.width m.height text ≡ Err line → a ≡ answer.Text line → IsLinesAnswer m text a
   judged : (goals : Option (List ℕ)) (places : List (List ℕ)) → IsReadAs m.width m.height (source_of m.width m.height text) goals places
-      → IsJudged (floor_of m.height m.width m.cells) goals places a → IsTextAnswer m text a
+      → IsJudged (floor_of m.height m.width m.cells) goals places a → IsLinesAnswer m text a
+
+-- the value first, then the plan
+pub data IsJsonAnswer (m : Map) (text : List ℕ) (a : PlanAnswer) : Type 0 where
+  no_plan_told : (fault : RunnersFault) → IsRunnersFault m.width m.height text fault → fault ≢ told.NoMemory → a ≡ answer.Json fault → IsJsonAnswer m text a
+  told_judged : (goals : Option (List ℕ)) (places : List (List ℕ)) → IsRunnersPlan m.width m.height text goals places
+      → IsJudged (floor_of m.height m.width m.cells) goals places a → IsJsonAnswer m text a
+
+-- by whether the text is one of JSON
+abbrev pub IsAnswerBy : Bool → Map → List ℕ → PlanAnswer → Type 0
+IsAnswerBy true m text a = IsJsonAnswer m text a
+IsAnswerBy false m text a = IsLinesAnswer m text a
+
+abbrev pub IsTextAnswer : Map → List ℕ → PlanAnswer → Type 0
+IsTextAnswer m text a = IsAnswerBy (is_json text) m text a
 
 -- the map before both
 pub data IsPlanAnswer (map text : List ℕ) (a : PlanAnswer) : Type 0 where

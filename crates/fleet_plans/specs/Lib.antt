@@ -6,6 +6,8 @@ pub mod Places
 pub mod Tracks
 pub mod Shown
 pub mod Text
+pub mod Told
+pub mod Runners
 pub mod Report
 pub mod Answer
 pub mod Cut

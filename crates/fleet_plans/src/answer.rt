@@ -4,17 +4,18 @@ ghost use Rattle.std.specs.Prelude.{◌≡◌, ◌≢◌, ◌≤◌, ◌++◌, S
 ghost use Rattle.fleet_map.specs.Form.{HasSides};
 ghost use Rattle.fleet_map.specs.Grammar.{view};
 ghost use Rattle.fleet_plans.specs.Valid.{HasSize};
-ghost use Rattle.fleet_plans.specs.Answer.{IsJudged, IsTextAnswer, IsPlanAnswer, fault_text, goals_text, report_text};
+ghost use Rattle.fleet_plans.specs.Answer.{IsJudged, IsLinesAnswer, IsJsonAnswer, IsTextAnswer, IsPlanAnswer, fault_text, goals_text, report_text};
 
 use crate::fault::PlanTextFault;
 use crate::judging::PlanFault;
 use crate::plan::{Plan, read_plan};
 use crate::report::{PlanReport, check_plan};
+use crate::runners::{RunnersFault, is_json, read_runners};
 use crate::sides::Sides;
 use fleet_check::StepFault;
 use fleet_grid::Grid;
 use fleet_map::{MapFault, MapText, read_map};
-use std::alloc::{AllocError, Allocator};
+use std::alloc::{AllocError, Allocator, Global};
 use std::fmt;
 
 /// What there is to say of a map and a plan's text.
@@ -24,6 +25,8 @@ pub enum PlanAnswer {
     Map(MapFault),
     /// The text is no plan: the first line that may not stand where it does, from 1.
     Text(u32),
+    /// The text begins as JSON and is no plan.
+    Json(RunnersFault),
     /// The plan is valid.
     Valid(PlanReport),
     /// The plan is not valid.
@@ -73,15 +76,22 @@ fn line_of(fault: PlanTextFault) -> Result<u32, AllocError>
     }
 }
 
-/// What there is to say of a plan's text on a map.
-fn answer_text<A: Allocator + Copy>(
-    alloc: A,
-    map: MapText<A>,
-    text: &[u8],
-) -> Result<PlanAnswer, AllocError>
+/// The fault of a text in JSON. Out of memory is none.
+fn json_fault(fault: RunnersFault) -> Result<RunnersFault, AllocError>
+    ensures same { IfOk result (λ named. named ≡ fault) }
+    ensures named { IfOk result (λ named. named ≢ RunnersFault.NoMemory) }
+{
+    match fault {
+        RunnersFault::NoMemory => Err(AllocError),
+        named => Ok(named),
+    }
+}
+
+/// What there is to say of a plan's lines on a map.
+fn answer_lines(alloc: Global, map: MapText, text: &[u8]) -> Result<PlanAnswer, AllocError>
     requires sides { HasSides (view map) }
     requires short { length text.now ≤ 16777216 }
-    ensures { IfOk result (λ answer. IsTextAnswer (view map) text.now answer) }
+    ensures { IfOk result (λ answer. IsLinesAnswer (view map) text.now answer) }
 {
     match read_plan(alloc, sides_of(&map), text) {
         Ok(plan) => {
@@ -89,6 +99,33 @@ fn answer_text<A: Allocator + Copy>(
             judge_on(alloc, &grid, &plan)
         }
         Err(fault) => Ok(PlanAnswer::Text(line_of(fault)?)),
+    }
+}
+
+/// What there is to say of a plan in JSON on a map.
+fn answer_json(alloc: Global, map: MapText, text: &[u8]) -> Result<PlanAnswer, AllocError>
+    requires { HasSides (view map) }
+    ensures { IfOk result (λ answer. IsJsonAnswer (view map) text.now answer) }
+{
+    match read_runners(alloc, sides_of(&map), text) {
+        Ok(plan) => {
+            let grid = Grid::new(map)?;
+            judge_on(alloc, &grid, &plan)
+        }
+        Err(fault) => Ok(PlanAnswer::Json(json_fault(fault)?)),
+    }
+}
+
+/// What there is to say of a plan's text on a map.
+fn answer_text(alloc: Global, map: MapText, text: &[u8]) -> Result<PlanAnswer, AllocError>
+    requires sides { HasSides (view map) }
+    requires short { length text.now ≤ 16777216 }
+    ensures { IfOk result (λ answer. IsTextAnswer (view map) text.now answer) }
+{
+    if is_json(text) {
+        answer_json(alloc, map, text)
+    } else {
+        answer_lines(alloc, map, text)
     }
 }
 
@@ -105,11 +142,7 @@ fn map_fault(fault: MapFault) -> Result<MapFault, AllocError>
 
 /// What there is to say of a map and a plan's text: the first of a fault of the map, a fault of the text, and the
 /// verdict on the plan.
-pub fn check_texts<A: Allocator + Copy>(
-    alloc: A,
-    map: &[u8],
-    text: &[u8],
-) -> Result<PlanAnswer, AllocError>
+pub fn check_texts(alloc: Global, map: &[u8], text: &[u8]) -> Result<PlanAnswer, AllocError>
     requires { length text.now ≤ 16777216 }
     ensures { IfOk result (λ answer. IsPlanAnswer map.now text.now answer) }
 {

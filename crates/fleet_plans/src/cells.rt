@@ -18,7 +18,7 @@ fn comma(text: &[u8]) -> Option<usize>
 
 /// The first part of a list and what follows its comma, or `None` where nothing is left.
 #[tactic(auto, using(crate::proofs::Parts::parts_first, crate::proofs::Parts::parts_last))]
-fn first_part(text: &[u8]) -> Option<(&[u8], &[u8])>
+pub(crate) fn first_part(text: &[u8]) -> Option<(&[u8], &[u8])>
     ensures cut { MatchOption result (parts_of text.now ≡ []) (λ x. parts_of text.now ≡ x.0.now ∷ parts_of x.1.now) }
     ensures shorter { IfSome result (λ x. length x.1.now < length text.now) }
 {

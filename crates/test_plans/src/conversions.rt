@@ -38,7 +38,7 @@ fn plans_in_each_form(rt: HostRuntime) {
 #[test]
 fn converted_plans_are_valid(rt: HostRuntime) {
     let alloc = rt.alloc();
-    for form in [PlanForm::Pibt2, PlanForm::Moves] {
+    for form in [PlanForm::Pibt2, PlanForm::Moves, PlanForm::Runners] {
         let text = plan(alloc, form);
         if text.len() > 4096 {
             continue;

@@ -1,4 +1,4 @@
-//! Plans in both forms, valid and with each kind of fault. The expected values were worked out by hand.
+//! Plans in each form, valid and with each kind of fault. The expected values were worked out by hand.
 
 use fleet_plans::{FaultText, PlanAnswer, check_texts};
 use std::alloc::{AllocError, Global};
@@ -32,6 +32,18 @@ const NO_TIME_ONE: &str = "solution=\n0:(0,0)\n2:(1,0)\n";
 
 const TWO_STARTS: &str = "starts=(0,0)\nstarts=(0,0)\nsolution=\n0:(0,0)\n";
 
+/// The same plan in JSON, with orientations.
+const RUNNERS: &str =
+    r#"{"actionModel":"MAPF","teamSize":2,"start":[[0,0,"E"],[1,0,"E"]],"actualPaths":["R,R,D","U,W,R"],"errors":[]}"#;
+
+/// Robot 0 comes to the wall's east, robot 1 to where it was, and then robot 0 comes back.
+const RUNNERS_VERTEX: &str =
+    r#" {"start":[[0,1],[0,0]],"actualPaths":["R,L","R"]}"#;
+
+const MISSING_PATH: &str = r#"{"start":[[0,1],[0,0]],"actualPaths":["R,L"]}"#;
+
+const TURNING: &str = r#"{"actionModel":"MAPF_T","start":[[0,1]],"actualPaths":["F"]}"#;
+
 /// What is said of a plan on the map, as it prints; `plan N` of a text that is none.
 fn answer(alloc: Global, plan: &str) -> Result<String, AllocError> {
     if plan.len() > 4096 {
@@ -40,6 +52,7 @@ fn answer(alloc: Global, plan: &str) -> Result<String, AllocError> {
     match check_texts(alloc, MAP.as_bytes(), plan.as_bytes())? {
         PlanAnswer::Map(_) => String::from_str(alloc, "map"),
         PlanAnswer::Text(line) => format!(in alloc; "plan {line}"),
+        PlanAnswer::Json(fault) => format!(in alloc; "plan {fault}"),
         PlanAnswer::Valid(report) => format!(in alloc; "{report}"),
         PlanAnswer::Invalid(found) => {
             let (time, fault) = (found.time, FaultText(found.fault));
@@ -63,6 +76,12 @@ fn plans_are_judged(rt: HostRuntime) {
         (TWO_STARTS, "plan 2"),
         ("solution=\n", "plan 2"),
         ("no key\n", "plan 1"),
+        (RUNNERS, "valid 3 2\nsum-of-costs 6\nmakespan 3\n"),
+        (RUNNERS_VERTEX, "2 vertex 0 1"),
+        (MISSING_PATH, "plan actualPaths"),
+        (TURNING, "plan actionModel"),
+        ("{\"start\":[[0,1],[0]]}", "plan start 1"),
+        ("{\"start\":[]", "plan json"),
     ];
     for (plan, expected) in &cases {
         let said = answer(rt.alloc(), plan).expect(&rt, "memory for an answer");

@@ -6,12 +6,12 @@ use Rattle.fleet_plans.proofs.Answered.{map_fails, if_ok_then}
 use Rattle.fleet_plans.proofs.answer.check_texts.Goals as goal
 
 pub returns-in-Ok : goal.returns-in-Ok
-returns-in-Ok g c =
+returns-in-Ok c =
     let m = view c.in-Ok.map in
     if_ok_then c.answer_text.result (IsTextAnswer m c.args.text.now) (IsPlanAnswer c.args.map.now c.args.text.now) (λ a is. on_map m c.in-Ok.ensures.exact is) c.answer_text.ensures
 
 pub returns-in_ok-map_fault-in-Err : goal.returns-in_ok-map_fault-in-Err
-returns-in_ok-map_fault-in-Err g c =
+returns-in_ok-map_fault-in-Err c =
     let named = c.in_ok-map_fault-in-Err.field-0 in
     let e = c.in_ok-map_fault-in-Err.ensures in
     no_map named (map_fails c.in-Err.fault named (map_of c.args.map.now) c.in-Err.ensures.exact e.same e.named) refl

@@ -1,0 +1,83 @@
+//! What more there is to say of an entry that breaks a rule.
+
+ghost use Rattle.std.specs.Prelude.{◌≡◌, ◌≤◌, length, map, take, IfOk};
+ghost use Rattle.fleet_grid.specs.Step.{IsPlacement};
+ghost use Rattle.fleet_history.specs.History.{history_of, place, place_after};
+ghost use Rattle.fleet_trace.specs.Judged.{IsFirstIllegal};
+ghost use Rattle.fleet_explain.specs.Details.{before, IsStepDetail, IsDetail};
+
+use fleet_check::{StepFault, check_step};
+use fleet_grid::Grid;
+use fleet_history::{Chapter, Entry, RobotState};
+use std::alloc::{AllocError, Global};
+
+/// What more there is to say of an entry that breaks a rule.
+#[derive(Clone, Copy, Debug, PartialEq, Eq)]
+pub enum Detail {
+    /// Nothing.
+    Nothing,
+    /// The first fault of its step.
+    Step(StepFault),
+}
+
+/// Where the robots stand at the opening.
+fn opened_cells(alloc: Global, robots: &[RobotState]) -> Result<Vec<u32>, AllocError>
+    ensures { IfOk result (λ cells. cells.items ≡ map (λ x. x.cell) robots.now) }
+{
+    robots.iter().map(|robot| robot.cell).collect(alloc)
+}
+
+/// Where robots that stand on these cells stand after the entries.
+fn place_after<'a>(cells: &'a [u32], entries: &'a [Entry]) -> &'a [u32]
+    ensures { result.now ≡ place_after cells.now entries.now }
+{
+    let mut place = cells;
+    for entry in entries {
+        if let Entry::Tick { to, .. } = entry {
+            place = to.as_slice();
+        }
+    }
+    place
+}
+
+/// The first fault of a step to these cells, after so many entries of the chapter.
+fn step_detail(
+    alloc: Global,
+    grid: &Grid,
+    chapter: &Chapter,
+    entries: usize,
+    to: &[u32],
+) -> Result<Detail, AllocError>
+    requires inside { entries ≤ length chapter.now.entries.items }
+    requires placed { IsPlacement grid.now (place (before (history_of chapter.now) entries)) }
+    ensures { IfOk result (λ detail. IsStepDetail grid.now (place (before (history_of chapter.now) entries)) to.now detail) }
+{
+    let cells = opened_cells(alloc, chapter.opening.robots.as_slice())?;
+    let place = place_after(&cells, &chapter.entries[..entries]);
+    match check_step(alloc, grid, place, to) {
+        Ok(()) => Ok(Detail::Nothing),
+        Err(StepFault::NoMemory) => Err(AllocError),
+        Err(fault) => Ok(Detail::Step(fault)),
+    }
+}
+
+/// What more there is to say of the first entry that breaks a rule.
+pub(crate) fn detail_of(
+    alloc: Global,
+    grid: &Grid,
+    chapter: &Chapter,
+    at: u64,
+    rule: u8,
+) -> Result<Detail, AllocError>
+    requires { IsFirstIllegal grid.now (history_of chapter.now) at rule }
+    ensures { IfOk result (λ detail. IsDetail grid.now (history_of chapter.now) at rule detail) }
+{
+    if rule != 4 {
+        return Ok(Detail::Nothing);
+    }
+    let entries = at as usize - 1;
+    match &chapter.entries[entries] {
+        Entry::Tick { to, .. } => step_detail(alloc, grid, chapter, entries, to.as_slice()),
+        _ => Ok(Detail::Nothing),
+    }
+}

@@ -1,0 +1,142 @@
+-- The plan that a JSON value is, as the League of Robot Runners has plans, of the action model MAPF, in which robots do not
+-- turn: `start` has each robot's row and column, `actualPaths` the letters of its steps, separated by commas.
+use Rattle.std.specs.Prelude.{◌≡◌, ℕ, Bool, true, false, List, [], ◌∷◌, ◌++◌, length, slice_index, Option, Some, None, Result, Ok, Err, min, nat_lt, nat_le, not, ◌==◌, ◌&&◌, if◌then◌else◌, codes}
+use Rattle.std.specs.List.{position}
+use Rattle.std.specs.Option.{option_map, option_and_then}
+use Rattle.std.specs.Str.{bytes_eq}
+use Rattle.serde_json.specs.Data.{Data, Items, no_items, item}
+use Rattle.serde_json.specs.Find.{get, at, as_str, as_array, as_number, as_u64}
+use Rattle.fleet_plans.specs.declared.runners.fault.RunnersKey.TheVariants.{ActionModel, Start, TeamSize, ActualPaths}
+use Rattle.fleet_plans.specs.declared.runners.fault.RunnersFault.{RunnersFault}
+use Rattle.fleet_plans.specs.declared.runners.fault.RunnersFault.TheVariants.{NotJson, Key, Item, NoMemory}
+use Rattle.fleet_plans.specs.Cells.{parts_of, cell_at}
+use Rattle.fleet_plans.specs.Text.{Source, Walked, IsPlanOf}
+use Rattle.fleet_plans.specs.Told.{or_fault, if_told, IsJson}
+
+-- ---- the form of a text
+
+-- no white space of JSON
+abbrev pub is_mark : ℕ → Bool
+is_mark b = not (b == 32) && not (b == 9) && not (b == 10) && not (b == 13)
+
+abbrev pub is_brace_at : List ℕ → Option ℕ → Bool
+is_brace_at text None = false
+is_brace_at text (Some k) = slice_index text k == 123
+
+-- whether a text is one of JSON: after white space it begins with a brace
+abbrev pub is_json : List ℕ → Bool
+is_json text = is_brace_at text (position is_mark text)
+
+-- ---- starts
+
+abbrev pub long_in : Data → Option ℕ
+long_in d = option_and_then as_u64 (as_number d)
+
+-- a coordinate; those from 1,024 on are alike, since no map has as many rows or columns
+abbrev pub coordinate_at : ℕ → Data → Option ℕ
+coordinate_at place d = option_map (λ n. min n 1024) (option_and_then long_in (at place d))
+
+-- the cell of a list that begins with a row and a column; what follows, as an orientation, says nothing
+abbrev pub start_in : ℕ → ℕ → Data → Option ℕ
+start_in w h d = option_and_then (λ row. option_map (λ column. cell_at w h column row) (coordinate_at 1 d)) (coordinate_at 0 d)
+
+-- no text that is read has more robots
+abbrev pub with_start : ℕ → ℕ → List ℕ → Data → Option (List ℕ)
+with_start w h cells d = if nat_lt (length cells) 16777216 then option_map (λ c. cells ++ c ∷ []) (start_in w h d) else None
+
+-- the robots' cells, after these
+unfoldable pub starts_of : ℕ → ℕ → List ℕ → Items → Result (List ℕ) RunnersFault
+starts_of w h cells no_items = Ok cells
+starts_of w h cells (item d ds) = if_told (or_fault (Item Start (length cells)) (with_start w h cells d)) (λ more. starts_of w h more ds)
+
+abbrev pub starts_in : ℕ → ℕ → Data → Result (List ℕ) RunnersFault
+starts_in w h d = if_told (or_fault (Key Start) (option_and_then as_array (get (codes "start") d))) (starts_of w h [])
+
+-- ---- paths
+
+-- the letter of a step, as plans of moves have it
+abbrev pub letter_in : ℕ → Option ℕ
+letter_in b =
+    if b == 85 then Some 117
+    else if b == 68 then Some 100
+    else if b == 76 then Some 108
+    else if b == 82 then Some 114
+    else if b == 87 then Some 119
+    else None
+
+abbrev pub step_in : List ℕ → Option ℕ
+step_in part = if length part == 1 then letter_in (slice_index part 0) else None
+
+-- the letters of a path, after these
+unfoldable pub track_of : List ℕ → List (List ℕ) → Option (List ℕ)
+track_of letters [] = Some letters
+track_of letters (part ∷ parts) = option_and_then (λ letter. track_of (letters ++ letter ∷ []) parts) (step_in part)
+
+-- no text that is read has a longer path
+abbrev pub path_from : List ℕ → Option (List ℕ)
+path_from text = if nat_le (length text) 16777216 then track_of [] (parts_of text) else None
+
+abbrev pub path_in : Data → Option (List ℕ)
+path_in d = option_and_then path_from (as_str d)
+
+-- the paths of n robots, after these
+unfoldable pub paths_of : ℕ → List (List ℕ) → Items → Result (List (List ℕ)) RunnersFault
+paths_of robots tracks no_items = if length tracks == robots then Ok tracks else Err (Key ActualPaths)
+paths_of robots tracks (item d ds) =
+    if nat_lt (length tracks) robots
+    then if_told (or_fault (Item ActualPaths (length tracks)) (path_in d)) (λ track. paths_of robots (tracks ++ track ∷ []) ds)
+    else Err (Key ActualPaths)
+
+abbrev pub paths_in : ℕ → Data → Result (List (List ℕ)) RunnersFault
+paths_in robots d = if_told (or_fault (Key ActualPaths) (option_and_then as_array (get (codes "actualPaths") d))) (paths_of robots [])
+
+-- ---- the plan
+
+abbrev pub says_mapf : Option (List ℕ) → Bool
+says_mapf None = false
+says_mapf (Some text) = bytes_eq text (codes "MAPF")
+
+-- the action model, where one is named
+abbrev pub is_mapf : Option Data → Bool
+is_mapf None = true
+is_mapf (Some d) = says_mapf (as_str d)
+
+abbrev pub says_count : ℕ → Option ℕ → Bool
+says_count robots None = false
+says_count robots (Some n) = n == robots
+
+-- the number of robots, where one is named
+abbrev pub has_size : ℕ → Option Data → Bool
+has_size robots None = true
+has_size robots (Some d) = says_count robots (long_in d)
+
+abbrev pub walked_from : List ℕ → List (List ℕ) → Source
+walked_from starts tracks = record { goals = None; solution = Walked starts tracks }
+
+abbrev pub with_paths : List ℕ → Data → Result Source RunnersFault
+with_paths starts d =
+    if has_size (length starts) (get (codes "teamSize") d)
+    then if_told (paths_in (length starts) d) (λ tracks. Ok (walked_from starts tracks))
+    else Err (Key TeamSize)
+
+-- what a value is, or the first fault; it names no goals
+abbrev pub runners_of : ℕ → ℕ → Data → Result Source RunnersFault
+runners_of w h d =
+    if is_mapf (get (codes "actionModel") d)
+    then if_told (starts_in w h d) (λ starts. with_paths starts d)
+    else Err (Key ActionModel)
+
+-- what was told is such a plan
+abbrev pub IsToldAs : ℕ → ℕ → Result Source RunnersFault → Option (List ℕ) → List (List ℕ) → Type 0
+IsToldAs w h told goals places = (source : Source) × (told ≡ Ok source) × IsPlanOf w h source goals places
+
+-- the text is that of such a plan
+abbrev pub IsRunnersPlan : ℕ → ℕ → List ℕ → Option (List ℕ) → List (List ℕ) → Type 0
+IsRunnersPlan w h text goals places = (d : Data) × IsJson text d × IsToldAs w h (runners_of w h d) goals places
+
+-- why the text is no such plan, unless memory ran out
+abbrev pub IsRunnersFault : ℕ → ℕ → List ℕ → RunnersFault → Type 0
+IsRunnersFault w h text NotJson = (d : Data) → IsJson text d → ⊥
+IsRunnersFault w h text (Key key) = (d : Data) × IsJson text d × (runners_of w h d ≡ Err (Key key))
+IsRunnersFault w h text (Item key robot) = (d : Data) × IsJson text d × (runners_of w h d ≡ Err (Item key robot))
+IsRunnersFault w h text NoMemory = Unit {0}

@@ -1,0 +1,128 @@
+//! Plans in JSON, as the League of Robot Runners has them.
+
+mod fault;
+mod paths;
+mod starts;
+
+ghost use Rattle.std.specs.Prelude.{◌≡◌, ◌≤◌, ◌<◌, ◌==◌, ◌||◌, ℕ, map, not, length, codes, IfOk, IfErr};
+ghost use Rattle.std.specs.List.{position};
+ghost use Rattle.serde_json.specs.Find.{get};
+ghost use Rattle.serde_json.specs.View.{view};
+ghost use Rattle.fleet_plans.specs.Runners.{is_mark, is_json, is_mapf, has_size, runners_of, IsToldAs, IsRunnersPlan, IsRunnersFault};
+ghost use Rattle.fleet_plans.specs.Shown.{texts};
+ghost use Rattle.fleet_plans.specs.Told.{IsToldFault};
+ghost use Rattle.fleet_plans.specs.Valid.{HasSize};
+
+use crate::plan::Plan;
+use crate::sides::Sides;
+use crate::walk::walk;
+pub use fault::{RunnersFault, RunnersKey};
+use fleet_history::Row;
+use paths::read_paths;
+use serde_json::Value;
+use starts::read_starts;
+use std::alloc::{AllocError, Global};
+
+/// Whether the byte is no white space of JSON.
+fn is_mark(byte: u8) -> bool
+    ensures { result ≡ is_mark byte }
+{
+    byte != b' ' && byte != b'\t' && byte != b'\n' && byte != b'\r'
+}
+
+/// The place of the first byte that is no white space.
+fn first_mark(text: &[u8]) -> Option<usize>
+    ensures { result ≡ position is_mark text.now }
+{
+    text.iter().position(|byte| is_mark(*byte))
+}
+
+/// Whether a text is one of JSON: after white space it begins with a brace.
+pub(crate) fn is_json(text: &[u8]) -> bool
+    ensures { result ≡ is_json text.now }
+{
+    match first_mark(text) {
+        Some(at) => text[at] == b'{',
+        None => false,
+    }
+}
+
+/// Whether the plan names no action model other than MAPF.
+fn is_mapf(plan: &Value) -> bool
+    ensures { result ≡ is_mapf (get (codes "actionModel") (view plan.now)) }
+{
+    let Some(model) = plan.get("actionModel") else {
+        return true;
+    };
+    match model.as_str() {
+        Some(name) => name == "MAPF",
+        None => false,
+    }
+}
+
+/// Whether the plan names no other number of robots.
+fn has_size(plan: &Value, robots: usize) -> bool
+    ensures { result ≡ has_size robots (get (codes "teamSize") (view plan.now)) }
+{
+    let Some(size) = plan.get("teamSize") else {
+        return true;
+    };
+    match size.as_u64() {
+        Some(number) => number == robots as u64,
+        None => false,
+    }
+}
+
+/// The tracks, lent.
+fn lent(alloc: Global, tracks: &[Row<u8>]) -> Result<Vec<&[u8]>, AllocError>
+    ensures { IfOk result (λ lent. texts lent.items ≡ tracks.now) }
+{
+    let mut lent = Vec::new(alloc);
+    for track in tracks {
+        lent.push(track.as_slice())?;
+    }
+    Ok(lent)
+}
+
+/// The plan that a value is.
+fn plan_of(alloc: Global, sides: Sides, value: &Value) -> Result<Plan, RunnersFault>
+    ensures found { IfOk result (λ plan. IsToldAs sides.width sides.height (runners_of sides.width sides.height (view value.now)) plan.goals plan.places) }
+    ensures fault { IfErr result (λ fault. IsToldFault fault (runners_of sides.width sides.height (view value.now))) }
+    ensures size { IfOk result (λ plan. HasSize plan.places) }
+{
+    if !is_mapf(value) {
+        return Err(RunnersFault::Key(RunnersKey::ActionModel));
+    }
+    let starts = read_starts(alloc, sides, value)?;
+    if !has_size(value, starts.len()) {
+        return Err(RunnersFault::Key(RunnersKey::TeamSize));
+    }
+    let tracks = read_paths(alloc, starts.len(), value)?;
+    let lent = lent(alloc, &tracks)?;
+    let places = walk(alloc, sides, starts.as_slice(), &lent)?;
+    Ok(Plan {
+        goals: None,
+        places,
+    })
+}
+
+/// The plan that a text in JSON is, as the League of Robot Runners has plans of robots that do not turn: `start` has each robot's
+/// row and column, `actualPaths` its steps, letters of U, D, L, R, W separated by commas.
+///
+/// The fault is the first, by the keys in the order of `RunnersKey`.
+pub fn read_runners(alloc: Global, sides: Sides, text: &[u8]) -> Result<Plan, RunnersFault>
+    ensures found { IfOk result (λ plan. IsRunnersPlan sides.width sides.height text.now plan.goals plan.places) }
+    ensures fault { IfErr result (λ fault. IsRunnersFault sides.width sides.height text.now fault) }
+    ensures size { IfOk result (λ plan. HasSize plan.places) }
+{
+    match Value::from_slice(alloc, text) {
+        Ok(value) => plan_of(alloc, sides, &value),
+        Err(error) => {
+            if error.is_memory() {
+                Err(RunnersFault::NoMemory)
+            } else {
+                Err(RunnersFault::NotJson)
+            }
+        }
+    }
+}
