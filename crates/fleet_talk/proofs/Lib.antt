@@ -1,2 +1,10 @@
+pub mod Lines
+pub mod Scripts
+pub mod Saying
+pub mod Hearing
 pub mod Talking
+pub mod Breaking
+pub mod Onward
+pub mod Finishing
+pub mod Starting
 pub mod Runs

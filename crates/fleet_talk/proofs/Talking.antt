@@ -1,7 +1,6 @@
 -- Acts one after another, and what is said of them.
 use Rattle.std.proofs.Common.{◌≡◌, ◌∙◌, ℕ, ◌+◌, Bool, true, false, cond, List, [], ◌∷◌, ◌++◌, Option, Result, refl, sym, ap, subst}
 use Rattle.std.specs.Prelude.{replicate, OnOk}
-use Rattle.std.proofs.KnownBytes.{Appends-nil, Appends-trans}
 use Rattle.std.proofs.lemmas.List.{append-nil, append_assoc, replicate_more}
 use Rattle.std.proofs.lemmas.Result.{on_ok_weaker}
 use Rattle.fleet_book.specs.declared.event.Event.{Event}
@@ -14,11 +13,13 @@ use Rattle.fleet_talk.specs.declared.pen.Pen.{Pen}
 use Rattle.fleet_talk.specs.declared.ask.Line.{Line}
 use Rattle.fleet_talk.specs.declared.ask.Asked.{Asked}
 use Rattle.fleet_talk.specs.Ask as spec
-use Rattle.fleet_talk.specs.Acts.{Act, Does, Plays, Talks, acts_asked, acts_end, acts_on, last_entry, say}
+use Rattle.fleet_talk.specs.Act.{Act, acts_asked, acts_end, acts_on, say}
+use Rattle.fleet_talk.specs.Acts.{Does, Plays, Talks, last_entry}
 use Rattle.fleet_talk.specs.Lines.{line_shown}
 use Rattle.fleet_talk.specs.Look.{IsLook}
 use Rattle.fleet_talk.specs.Said.{IsAdded, under, end_said}
 use Rattle.fleet_talk.specs.Says.{Says, marked, end_line}
+use Rattle.fleet_talk.proofs.Saying.{says-then, says-added}
 
 -- ---- acts
 
@@ -47,24 +48,6 @@ module _ {A : Type 0} (roll : Bool) where
       by false = (refl, refl)
 
 -- ---- what is said
-
-pub says-none : (known : Option (List ℕ)) (waits : List ℕ) → Says known known waits waits []
-says-none known waits = record { written = []; taken = Appends-nil known; same = sym (append-nil waits) }
-
--- a text that waits
-pub says-added : (known : Option (List ℕ)) (waited waits text : List ℕ) → waits ≡ waited ++ text → Says known known waited waits text
-says-added known waited waits text is = record { written = []; taken = Appends-nil known; same = is }
-
-pub says-then : (a b c : Option (List ℕ)) (o p q first rest : List ℕ) → Says a b o p first → Says b c p q rest → Says a c o q (first ++ rest)
-says-then a b c o p q first rest x y = record {
-  written = x.written ++ y.written;
-  taken = Appends-trans a b c x.written y.written x.taken y.taken;
-  same = append_assoc x.written y.written q ∙ (ap (λ l. x.written ++ l) y.same ∙ (sym (append_assoc x.written p rest) ∙ (ap (λ l. l ++ rest) x.same ∙ append_assoc o first rest)));
-}
-
--- a text that was added, and then written if much waits
-pub says-written : (a b : Option (List ℕ)) (o p q text : List ℕ) → p ≡ o ++ text → Says a b p q [] → Says a b o q text
-says-written a b o p q text is w = record { written = w.written; taken = w.taken; same = w.same ∙ (append-nil p ∙ is) }
 
 -- one text after another that waits
 pub added-then : (a b d : Pen) (first rest : List ℕ) → IsAdded a b first → IsAdded b d rest → IsAdded a d (first ++ rest)

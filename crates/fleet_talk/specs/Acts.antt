@@ -1,5 +1,5 @@
--- What a conversation does, line by line, and what is said of it.
-use Rattle.std.specs.Prelude.{◌≡◌, ℕ, ◌+◌, Bool, true, false, List, [], ◌∷◌, ◌++◌, length, replicate, Option, if◌then◌else◌, slice_get, ◌-◌}
+-- What is done act by act, and what is said of it.
+use Rattle.std.specs.Prelude.{◌≡◌, ℕ, ◌+◌, Bool, true, false, List, [], ◌∷◌, ◌++◌, length, Option, slice_get, ◌-◌}
 use Rattle.fleet_book.specs.declared.event.Event.{Event}
 use Rattle.fleet_book.specs.declared.event.Event.TheVariants as event
 use Rattle.fleet_history.specs.declared.history.Entry.{Entry}
@@ -7,44 +7,9 @@ use Rattle.fleet_core.specs.Core.{HasNoEntries}
 use Rattle.fleet_world.specs.declared.reply.Reply.{Reply}
 use Rattle.errands_text.specs.Output.{event_text}
 use Rattle.fleet_session.specs.Talk.{Talk, TalkStep, next_talk}
-use Rattle.fleet_talk.specs.declared.ask.Asked.{Asked}
-use Rattle.fleet_talk.specs.declared.ask.Asked.TheVariants.{Nothing, Events, Chapter, Look, Quit, Other, Long}
-use Rattle.fleet_talk.specs.declared.ends.Settings.{Settings}
-use Rattle.fleet_talk.specs.Ask.{Line}
-use Rattle.fleet_talk.specs.Says.{marked, bad_line, end_line, chapter_text, refused_text}
+use Rattle.fleet_talk.specs.Act.{Act, say, play, turn, show}
+use Rattle.fleet_talk.specs.Says.{marked, chapter_text, refused_text}
 use Rattle.fleet_talk.specs.Look.{IsLook}
-
--- ---- acts
-
--- what is done at a line, under the line's mark
-pub data Act : Type 0 where
-  -- a text is said
-  say : Option (List ℕ) → List ℕ → Act
-  -- an event is done
-  play : Option (List ℕ) → Event → Act
-  -- the chapter is handed out
-  turn : Option (List ℕ) → Act
-  -- the fleet is looked at
-  show : Option (List ℕ) → Act
-
-abbrev pub acts_asked : Line → Asked → List Act
-acts_asked line Nothing = []
-acts_asked line (Events more) = replicate more.times (play line.mark more.event)
-acts_asked line Chapter = turn line.mark ∷ []
-acts_asked line Look = show line.mark ∷ []
-acts_asked line Quit = []
-acts_asked line Other = say line.mark (bad_line line.number) ∷ []
-acts_asked line Long = say line.mark (bad_line line.number) ∷ []
-
--- the end of a line's answer, where that is to be said
-abbrev pub acts_end : Settings → Line → List Act
-acts_end settings line = if settings.marks then say line.mark (end_line line.number) ∷ [] else []
-
--- what is done at a line once the fleet is open
-abbrev pub acts_on : Settings → Line → List Act
-acts_on settings line = acts_asked line line.asked ++ acts_end settings line
-
--- ---- what is said
 
 -- whether an event may make an entry
 abbrev pub makes_entry : Event → Bool

@@ -1,6 +1,14 @@
 pub mod Ask
 pub mod Lines
 pub mod Says
+pub mod Act
+pub mod Heard
+pub mod Broken
+pub mod Heading
 pub mod Look
 pub mod Acts
+pub mod Talked
 pub mod Said
+pub mod Conversation
+pub mod Ending
+pub mod Refusals

@@ -16,6 +16,11 @@ pub record IsAdded (old new : Pen) (text : List ℕ) : Type 0 where
   pub out : new.out.items ≡ old.out.items ++ text
   pub settings : new.settings ≡ old.settings
 
+-- nothing was said, and nothing else changed but whether a limit was met
+pub record IsKept (old new : Pen) : Type 0 where
+  pub out : new.out.items ≡ old.out.items
+  pub settings : new.settings ≡ old.settings
+
 abbrev pub bad_said : Line → List ℕ
 bad_said line = marked (under line.mark) (bad_line line.number)
 

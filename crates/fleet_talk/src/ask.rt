@@ -5,6 +5,7 @@ ghost use Rattle.std.specs.List.{position};
 ghost use Rattle.std.specs.Option.{option_map};
 ghost use Rattle.std.specs.Str.Lines.{strip_carriage_return};
 ghost use Rattle.fleet_map.specs.Text.{is_blank, words_of};
+ghost use Rattle.fleet_talk.specs.Act.{is_quit};
 ghost use Rattle.fleet_talk.specs.Ask.{word_asked, asked_in, asked_within, mark_in, told_in, line_in};
 ghost use Rattle.fleet_talk.specs.Lines.{line_shown};
 
@@ -101,7 +102,7 @@ fn word_asked(line: &[u8]) -> Asked
 }
 
 /// What a line asks that has no mark.
-fn asked_in(line: &[u8]) -> Asked
+pub(crate) fn asked_in(line: &[u8]) -> Asked
     ensures { result ≡ asked_in line.now }
 {
     match event_line(line) {
@@ -134,4 +135,11 @@ pub(crate) fn line_of(number: u64, bytes: &[u8]) -> Line<'_>
         told,
         asked: asked_of(bytes, told),
     }
+}
+
+/// Whether a line ends the conversation.
+pub(crate) fn is_quit(asked: Asked) -> bool
+    ensures { result ≡ is_quit asked }
+{
+    matches!(asked, Asked::Quit)
 }

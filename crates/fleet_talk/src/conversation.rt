@@ -1,97 +1,47 @@
 //! A conversation as a whole.
 
-ghost use Rattle.std.specs.Prelude.{◌≤◌, vec_len};
+ghost use Rattle.std.specs.Prelude.{◌≡◌, ◌≤◌, ◌↔◌, ℕ, List, [], Ok, Err, Some, OnOk, IfOk, IfErr, IfSome, vec_len};
+ghost use Rattle.std.specs.Io.Buffered.{reader_remaining};
+ghost use Rattle.std.specs.Io.KnownBytes.{Appends};
+ghost use Rattle.errands_answer.specs.Kit.{kit_laws};
+ghost use Rattle.errands_text.specs.Transfer.{AppendsPrefix};
+ghost use Rattle.fleet_core.specs.Hooks.{AreOrderly};
+ghost use Rattle.fleet_core.specs.Opening.{CanOpen};
+ghost use Rattle.fleet_core.specs.OpeningFaults.{IsNamed, IsRefused};
+ghost use Rattle.fleet_session.specs.Keeps.{talk};
+ghost use Rattle.fleet_session.specs.Talk.{opened_talk};
+ghost use Rattle.fleet_talk.specs.Broken.{IsMidway};
+ghost use Rattle.fleet_talk.specs.Conversation.{ComesTo, IsBegun, IsConversation, IsRefusedHead, Terms, clients_in, laws_in, limits_in};
+ghost use Rattle.fleet_talk.specs.Ending.{Finishes, Keeps};
+ghost use Rattle.fleet_talk.specs.Heading.{drafted};
+ghost use Rattle.fleet_talk.specs.Refusals.{talk_fault};
 
-use crate::ends::{Ends, Settings, Shelf, ShelfFault};
+use crate::ends::{Ends, Settings, Shelf};
+use crate::fault::TalkFault;
 use crate::going::go_on;
-use crate::ground::{Ground, MOST_LINE, TALK_LIMITS};
+use crate::ground::{Ground, TALK_LIMITS};
 use crate::heading::hear_head;
 use crate::pen::Pen;
 use errands_answer::HookKit;
 use fleet_core::OpenFault;
 use fleet_grid::Grid;
 use fleet_history::Chapter;
-use fleet_lines::{LineFault, read_line};
 use fleet_script::Head;
 use fleet_session::Session;
-use std::alloc::{Alloc, AllocError, Global};
-use std::io::{BufReader, Read, Write};
-
-/// Why a conversation broke off.
-#[derive(Clone, Copy, Debug, PartialEq, Eq)]
-pub enum TalkFault {
-    /// A line could not be read.
-    Input,
-    /// An answer could not be written.
-    Output,
-    /// A chapter could not be kept.
-    Shelf,
-    /// The fleet was not opened.
-    Opening(OpenFault),
-    NoMemory,
-}
-
-impl From<AllocError> for TalkFault {
-    fn from(_error: AllocError) -> TalkFault {
-        TalkFault::NoMemory
-    }
-}
-
-impl From<LineFault> for TalkFault {
-    fn from(fault: LineFault) -> TalkFault {
-        match fault {
-            LineFault::Read => TalkFault::Input,
-            LineFault::NoMemory => TalkFault::NoMemory,
-        }
-    }
-}
-
-impl From<ShelfFault> for TalkFault {
-    fn from(fault: ShelfFault) -> TalkFault {
-        match fault {
-            ShelfFault::File => TalkFault::Shelf,
-            ShelfFault::NoMemory => TalkFault::NoMemory,
-        }
-    }
-}
-
-impl From<OpenFault> for TalkFault {
-    fn from(fault: OpenFault) -> TalkFault {
-        match fault {
-            OpenFault::NoMemory => TalkFault::NoMemory,
-            fault => TalkFault::Opening(fault),
-        }
-    }
-}
-
-/// Reads the next line, and returns whether there was one.
-pub(crate) fn next_line<I: Read>(
-    input: &mut BufReader<I>,
-    bytes: &mut Vec<u8>,
-) -> Result<bool, TalkFault> {
-    Ok(read_line(input, MOST_LINE + 1, bytes)?)
-}
-
-/// Writes what was said where no whole line is at hand, or much waits.
-pub(crate) fn write_if_due<I: Read, W: Write, S>(
-    ends: &mut Ends<I, W, S>,
-    pen: &mut Pen,
-) -> Result<(), TalkFault> {
-    let has_line = ends.input.buffer().iter().any(|byte| *byte == b'\n');
-    if has_line && !pen.is_full() {
-        return Ok(());
-    }
-    if pen.write_out(&mut ends.output) {
-        Ok(())
-    } else {
-        Err(TalkFault::Output)
-    }
-}
+use std::alloc::{Alloc, Global};
+use std::io::{Read, Write};
 
 /// Opens the fleet that the head names.
 fn open(alloc: Global, grid: Grid, kit: HookKit, head: Head) -> Result<Session, OpenFault>
     // Of each call: only a call with a condition may hand on closures that another crate hands out.
     requires { 0 ≤ vec_len kit.plain.ties }
+    ensures refused { (starts : List ℕ) → (drafted head).starts ≡ Some starts → (fault : OpenFault) → IsNamed fault → ((result ≡ Err fault) ↔
+        IsRefused grid starts (clients_in (drafted head)) (limits_in (drafted head)) (laws_in (kit_laws kit) (drafted head) starts) fault) }
+    ensures can { (starts : List ℕ) → (drafted head).starts ≡ Some starts → OnOk result (
+        CanOpen grid starts (clients_in (drafted head)) (limits_in (drafted head)) (laws_in (kit_laws kit) (drafted head) starts)) }
+    ensures orderly { (starts : List ℕ) → (drafted head).starts ≡ Some starts → OnOk result (AreOrderly (laws_in (kit_laws kit) (drafted head) starts)) }
+    ensures ok { (starts : List ℕ) → (drafted head).starts ≡ Some starts → IfOk result (λ s.
+        talk s ≡ opened_talk grid starts (clients_in (drafted head)) (limits_in (drafted head)) (laws_in (kit_laws kit) (drafted head) starts)) }
 {
     let Head {
         starts,
@@ -100,10 +50,7 @@ fn open(alloc: Global, grid: Grid, kit: HookKit, head: Head) -> Result<Session, 
         turns: _,
         limits,
     } = head;
-    let starts = match starts {
-        Some(starts) => starts,
-        None => Vec::new(alloc),
-    };
+    let starts = starts.unwrap_or(Vec::new(alloc));
     let hooks = kit.choose(south.unwrap_or(false)).cut(starts.len());
     let clients = clients.unwrap_or(1);
     Session::open(
@@ -116,12 +63,24 @@ fn open(alloc: Global, grid: Grid, kit: HookKit, head: Head) -> Result<Session, 
     )
 }
 
+/// Why a conversation breaks off whose fleet is not opened.
+fn opening_fault(fault: OpenFault) -> TalkFault
+    ensures { result ≡ talk_fault fault }
+{
+    match fault {
+        OpenFault::NoMemory => TalkFault::NoMemory,
+        fault => TalkFault::Opening(fault),
+    }
+}
+
 /// Keeps the last chapter, however the conversation ended.
 fn keep_last<S: Shelf>(
     shelf: &mut S,
     chapter: &Chapter,
     ended: Result<(), TalkFault>,
-) -> Result<(), TalkFault> {
+) -> Result<(), TalkFault>
+    ensures { Keeps ended result }
+{
     let kept = shelf.keep(chapter);
     ended?;
     Ok(kept?)
@@ -132,13 +91,51 @@ fn end<W: Write>(
     pen: &mut Pen,
     output: &mut W,
     ended: Result<(), TalkFault>,
-) -> Result<bool, TalkFault> {
-    let written = pen.write_out(output);
+) -> Result<bool, TalkFault>
+    ensures { Finishes ended (W.contents output.old) (W.contents output.new) pen.old.out.items result }
+{
+    if !pen.write_out(output) {
+        return Err(TalkFault::Output);
+    }
     ended?;
-    if written {
-        Ok(pen.limited)
-    } else {
-        Err(TalkFault::Output)
+    Ok(pen.limited)
+}
+
+/// Holds a conversation, and leaves what was said last to be written.
+fn hold<R: Alloc<A = Global>, I: Read, W: Write, S: Shelf>(
+    rt: &R,
+    ground: Ground,
+    ends: &mut Ends<I, W, S>,
+    pen: &mut Pen,
+) -> Result<(), TalkFault>
+    // Of each call: only a call with a condition may hand on closures.
+    requires { 0 ≤ vec_len ground.kit.plain.ties }
+    ensures { IfSome (reader_remaining I.remaining ends.old.input) (λ bytes.
+        ComesTo (record { kit = kit_laws ground.kit; floor = ground.grid; settings = pen.old.settings; head = drafted ground.head }) bytes
+        (W.contents ends.old.output) (W.contents ends.new.output) pen.old.out.items pen.new.out.items result) }
+{
+    let alloc = rt.alloc();
+    let Ground { grid, kit, head } = ground;
+    let mut head = head;
+    let mut bytes = Vec::new(alloc);
+    match hear_head(alloc, ends, &mut head, &mut bytes, pen) {
+        Ok(Some(first)) => match open(alloc, grid, kit, head) {
+            Ok(session) => {
+                let mut session = session;
+                let ended = go_on(rt, &mut session, ends, &mut bytes, pen, first);
+                let (_grid, chapter) = session.finish();
+                keep_last(&mut ends.shelf, &chapter, ended)
+            }
+            Err(fault) => Err(opening_fault(fault)),
+        },
+        Ok(None) => {
+            drop(kit);
+            Ok(())
+        }
+        Err(fault) => {
+            drop(kit);
+            Err(fault)
+        }
     }
 }
 
@@ -153,31 +150,24 @@ pub fn converse<R: Alloc<A = Global>, I: Read, W: Write, S: Shelf>(
 ) -> Result<bool, TalkFault>
     // Of each call: only a call with a condition may hand on closures.
     requires { 0 ≤ vec_len ground.kit.plain.ties }
+    // A whole conversation over the lines of the input was written.
+    ensures ended { OnOk result (IfSome (reader_remaining I.remaining ends.old.input) (λ bytes. (text : List ℕ)
+        × IsConversation (record { kit = kit_laws ground.kit; floor = ground.grid; settings = settings; head = drafted ground.head }) bytes text
+        × Appends (W.contents ends.old.output) (W.contents ends.new.output) text)) }
+    // The answers to the head's lines were written, and the fleet is refused for this reason.
+    ensures refused { (why : OpenFault) → result ≡ Err (TalkFault.Opening why) → IfSome (reader_remaining I.remaining ends.old.input) (λ bytes. (text : List ℕ)
+        × IsRefusedHead (record { kit = kit_laws ground.kit; floor = ground.grid; settings = settings; head = drafted ground.head }) bytes text why
+        × Appends (W.contents ends.old.output) (W.contents ends.new.output) text) }
+    // A line could not be read, a chapter not kept, or memory ran out: all that was said until then was written.
+    ensures broken { IfErr result (λ fault. IsMidway fault → IfSome (reader_remaining I.remaining ends.old.input) (λ bytes. (text : List ℕ)
+        × IsBegun (record { kit = kit_laws ground.kit; floor = ground.grid; settings = settings; head = drafted ground.head }) bytes text
+        × Appends (W.contents ends.old.output) (W.contents ends.new.output) text)) }
+    // A write failed: a prefix of what was said until then was written.
+    ensures unwritten { result ≡ Err TalkFault.Output → IfSome (reader_remaining I.remaining ends.old.input) (λ bytes. (text : List ℕ)
+        × IsBegun (record { kit = kit_laws ground.kit; floor = ground.grid; settings = settings; head = drafted ground.head }) bytes text
+        × AppendsPrefix (W.contents ends.old.output) (W.contents ends.new.output) text) }
 {
-    let alloc = rt.alloc();
-    let Ground { grid, kit, head } = ground;
-    let mut head = head;
-    let mut bytes = Vec::new(alloc);
-    let mut pen = Pen::new(alloc, settings);
-    let heard = hear_head(alloc, ends, &mut head, &mut bytes, &mut pen);
-    let ended = match heard {
-        Ok(Some(first)) => match open(alloc, grid, kit, head) {
-            Ok(session) => {
-                let mut session = session;
-                let ended = go_on(rt, &mut session, ends, &mut bytes, &mut pen, first);
-                let (_grid, chapter) = session.finish();
-                keep_last(&mut ends.shelf, &chapter, ended)
-            }
-            Err(fault) => Err(TalkFault::from(fault)),
-        },
-        Ok(None) => {
-            drop(kit);
-            Ok(())
-        }
-        Err(fault) => {
-            drop(kit);
-            Err(fault)
-        }
-    };
+    let mut pen = Pen::new(rt.alloc(), settings);
+    let ended = hold(rt, ground, ends, &mut pen);
     end(&mut pen, &mut ends.output, ended)
 }

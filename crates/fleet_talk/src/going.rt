@@ -1,18 +1,26 @@
 //! The lines of a conversation after its head.
 
-ghost use Rattle.std.specs.Prelude.{◌≡◌, ◌≤◌, ℕ, List, OnOk};
+ghost use Rattle.std.specs.Prelude.{◌≡◌, ◌≤◌, ◌∷◌, ℕ, List, OnOk, OnErr, IfErr, IfSome};
+ghost use Rattle.std.specs.Io.Buffered.{reader_remaining};
+ghost use Rattle.std.specs.declared.alloc.Global.{Global};
 ghost use Rattle.fleet_session.specs.Keeps.{talk};
-ghost use Rattle.fleet_talk.specs.Acts.{Does, Talks, acts_asked, acts_on, show};
+ghost use Rattle.fleet_session.specs.Talk.{Talk};
+ghost use Rattle.fleet_talk.specs.Act.{acts_asked, acts_from, acts_on, show};
+ghost use Rattle.fleet_talk.specs.Acts.{Does, Talks};
+ghost use Rattle.fleet_talk.specs.Heard.{heard_lines};
 ghost use Rattle.fleet_talk.specs.Lines.{line_shown};
-ghost use Rattle.fleet_talk.specs.Said.{IsAdded, under};
+ghost use Rattle.fleet_talk.specs.Said.{IsAdded, IsKept, under};
 ghost use Rattle.fleet_talk.specs.Says.{Says};
+ghost use Rattle.fleet_talk.specs.Talked.{TalksUntil};
 
-use crate::ask::{Asked, Line, line_of};
-use crate::conversation::{TalkFault, next_line, write_if_due};
+use crate::ask::{Asked, Line, is_quit, line_of};
 use crate::ends::{Ends, Shelf};
+use crate::fault::TalkFault;
 use crate::look::look_line;
 use crate::pen::Pen;
 use crate::plays::{next_chapter, play_all};
+use crate::reading::next_line;
+use crate::writing::write_if_due;
 use fleet_session::Session;
 use std::alloc::{Alloc, AllocError, Global};
 use std::io::{Read, Write};
@@ -25,10 +33,11 @@ fn show(
     mark: Option<&[u8]>,
 ) -> Result<(), AllocError>
     requires { 0 ≤ session.now.world.core.number }
-    ensures { OnOk result ((text : List ℕ) × Does pen.old.settings.roll (talk session.now) (show (under mark.entry)) text (talk session.now) × IsAdded pen.old pen.new text) }
+    ensures ok { OnOk result ((text : List ℕ) × Does pen.old.settings.roll (talk session.now) (show (under mark.entry)) text (talk session.now) × IsAdded pen.old pen.new text) }
+    ensures err { OnErr result (IsKept pen.old pen.new) }
 {
     let line = look_line(alloc, &session.world)?;
-    pen.say(mark, line.as_str())
+    pen.say(alloc, mark, line.as_str())
 }
 
 /// Does what a line asks.
@@ -42,7 +51,9 @@ fn do_asked<R: Alloc<A = Global>, I, W: Write, S: Shelf>(
     requires { 0 ≤ session.old.world.core.number }
     ensures talks { OnOk result ((text : List ℕ) × Talks pen.old.settings.roll (talk session.old) (acts_asked (line_shown line.entry) line.entry.asked) text (talk session.new)
         × Says (W.contents ends.old.output) (W.contents ends.new.output) pen.old.out.items pen.new.out.items text) }
-    ensures settings { OnOk result (pen.new.settings ≡ pen.old.settings) }
+    ensures broken { IfErr result (λ fault. TalksUntil fault pen.old.settings.roll (talk session.old) (acts_asked (line_shown line.entry) line.entry.asked)
+        (W.contents ends.old.output) (W.contents ends.new.output) pen.old.out.items pen.new.out.items) }
+    ensures settings { pen.new.settings ≡ pen.old.settings }
     ensures input { ends.new.input ≡ ends.old.input }
 {
     match line.asked {
@@ -65,7 +76,9 @@ fn answer<R: Alloc<A = Global>, I, W: Write, S: Shelf>(
     requires { 0 ≤ session.old.world.core.number }
     ensures talks { OnOk result ((text : List ℕ) × Talks pen.old.settings.roll (talk session.old) (acts_on pen.old.settings (line_shown line.entry)) text (talk session.new)
         × Says (W.contents ends.old.output) (W.contents ends.new.output) pen.old.out.items pen.new.out.items text) }
-    ensures settings { OnOk result (pen.new.settings ≡ pen.old.settings) }
+    ensures broken { IfErr result (λ fault. TalksUntil fault pen.old.settings.roll (talk session.old) (acts_on pen.old.settings (line_shown line.entry))
+        (W.contents ends.old.output) (W.contents ends.new.output) pen.old.out.items pen.new.out.items) }
+    ensures settings { pen.new.settings ≡ pen.old.settings }
     ensures input { ends.new.input ≡ ends.old.input }
 {
     do_asked(rt, session, ends, pen, line)?;
@@ -82,10 +95,16 @@ pub(crate) fn go_on<R: Alloc<A = Global>, I: Read, W: Write, S: Shelf>(
     first: u64,
 ) -> Result<(), TalkFault>
     requires { 0 ≤ session.old.world.core.number }
+    ensures talks { OnOk result (IfSome (reader_remaining I.remaining ends.old.input) (λ xs. (text : List ℕ) × (last : Talk Global)
+        × Talks pen.old.settings.roll (talk session.old) (acts_from pen.old.settings first (bytes.old.items ∷ heard_lines xs)) text last
+        × Says (W.contents ends.old.output) (W.contents ends.new.output) pen.old.out.items pen.new.out.items text)) }
+    ensures broken { IfErr result (λ fault. IfSome (reader_remaining I.remaining ends.old.input) (λ xs.
+        TalksUntil fault pen.old.settings.roll (talk session.old) (acts_from pen.old.settings first (bytes.old.items ∷ heard_lines xs))
+        (W.contents ends.old.output) (W.contents ends.new.output) pen.old.out.items pen.new.out.items)) }
 {
     for number in first..u64::MAX {
         let line = line_of(number, bytes);
-        if let Asked::Quit = line.asked {
+        if is_quit(line.asked) {
             return Ok(());
         }
         answer(rt, session, ends, pen, line)?;

@@ -1,12 +1,21 @@
 //! The header lines of a conversation.
 
-ghost use Rattle.std.specs.Prelude.{◌≤◌, length};
+ghost use Rattle.std.specs.Prelude.{◌≡◌, ◌≤◌, ◌^◌, ◌<◌, true, false, List, [], length, None, OnOk, OnErr, IfOk, IfErr, IfSome, is_some};
+ghost use Rattle.std.specs.Io.Buffered.{reader_remaining};
+ghost use Rattle.fleet_map.specs.Text.{words_of};
+ghost use Rattle.fleet_script.specs.Shown.{IsTaken};
+ghost use Rattle.fleet_talk.specs.Heard.{all_of, header_texts, opens, with_head_line, with_words};
+ghost use Rattle.fleet_talk.specs.Heading.{Follows, HearsAll, HearsUntil, IsOfHead, IsPartly, drafted, is_good, texts_at};
+ghost use Rattle.fleet_talk.specs.Lines.{line_shown};
+ghost use Rattle.fleet_talk.specs.Said.{IsAdded, IsKept};
 
-use crate::ask::{Asked, Line, line_of};
-use crate::conversation::{TalkFault, next_line, write_if_due};
+use crate::ask::{Asked, Line, asked_in, is_quit, line_of};
 use crate::ends::Ends;
+use crate::fault::TalkFault;
 use crate::ground::{MOST_LINE, MOST_ROBOTS};
 use crate::pen::Pen;
+use crate::reading::next_line;
+use crate::writing::write_if_due;
 use fleet_map::text::{first_line, first_word};
 use fleet_script::{Head, ScriptFault};
 use std::alloc::{AllocError, Global};
@@ -14,7 +23,7 @@ use std::io::{Read, Write};
 
 /// What comes after a line of the head.
 #[derive(Clone, Copy, PartialEq, Eq)]
-enum After {
+pub(crate) enum After {
     /// Another line.
     More,
     /// The fleet, of which this line asks something.
@@ -24,10 +33,44 @@ enum After {
 }
 
 /// Adds a header line, and returns whether it is one.
-fn add_line(alloc: Global, head: &mut Head, line: &[u8]) -> Result<bool, AllocError> {
+fn add_line(alloc: Global, head: &mut Head, line: &[u8]) -> Result<bool, AllocError>
+    ensures { IfOk result (λ taken. IsTaken taken (with_words (drafted head.old) (words_of line.now)) (drafted head.old) (drafted head.new)) }
+{
     match first_word(line) {
         Some((key, words)) => head.add_header(alloc, MOST_ROBOTS, key, words),
         None => Ok(true),
+    }
+}
+
+/// Adds a line of the head, and returns whether it may stand there.
+fn hear_line(alloc: Global, head: &mut Head, line: Line<'_>) -> Result<bool, AllocError>
+    ensures { IfOk result (λ taken. IsTaken taken (with_head_line (drafted head.old) (line_shown line.entry) line.entry.asked) (drafted head.old) (drafted head.new)) }
+{
+    match line.asked {
+        Asked::Nothing => Ok(true),
+        Asked::Other => add_line(alloc, head, line.told),
+        Asked::Events(_) | Asked::Chapter | Asked::Look | Asked::Quit | Asked::Long => Ok(false),
+    }
+}
+
+/// Says whether a line may stand in the head, and that it was answered.
+fn say_header(alloc: Global, line: Line<'_>, is_good: bool, pen: &mut Pen) -> Result<(), AllocError>
+    ensures ok { OnOk result (IsAdded pen.old pen.new (all_of (header_texts pen.old.settings (line_shown line.entry) is_good))) }
+    ensures err { OnErr result (IsPartly pen.old pen.new (header_texts pen.old.settings (line_shown line.entry) is_good)) }
+{
+    if !is_good {
+        pen.say_bad(alloc, line)?;
+    }
+    pen.say_end(alloc, line)
+}
+
+/// Whether a line asks something of the fleet, and the head said where its robots start.
+fn opens_fleet(head: &Head, asked: Asked) -> bool
+    ensures { result ≡ is_some (opens (drafted head.now) asked) }
+{
+    match asked {
+        Asked::Events(_) | Asked::Chapter | Asked::Look => head.starts.is_some(),
+        Asked::Nothing | Asked::Quit | Asked::Other | Asked::Long => false,
     }
 }
 
@@ -37,23 +80,19 @@ fn answer_header(
     head: &mut Head,
     line: Line<'_>,
     pen: &mut Pen,
-) -> Result<After, AllocError> {
-    let is_good = match line.asked {
-        Asked::Quit => return Ok(After::Over),
-        Asked::Nothing => true,
-        Asked::Events(_) | Asked::Chapter | Asked::Look => {
-            if head.starts.is_some() {
-                return Ok(After::Opens);
-            }
-            false
-        }
-        Asked::Other => add_line(alloc, head, line.told)?,
-        Asked::Long => false,
-    };
-    if !is_good {
-        pen.say_bad(alloc, line)?;
+) -> Result<After, AllocError>
+    ensures ok { IfOk result (λ after. Follows (drafted head.old) (line_shown line.entry) after (drafted head.new) pen.old pen.new) }
+    ensures head { OnErr result (IsOfHead (drafted head.old) (line_shown line.entry)) }
+    ensures part { OnErr result (IsPartly pen.old pen.new (texts_at pen.old.settings (drafted head.old) (line_shown line.entry))) }
+{
+    if is_quit(line.asked) {
+        return Ok(After::Over);
     }
-    pen.say_end(alloc, line)?;
+    if opens_fleet(head, line.asked) {
+        return Ok(After::Opens);
+    }
+    let is_good = hear_line(alloc, head, line)?;
+    say_header(alloc, line, is_good, pen)?;
     Ok(After::More)
 }
 
@@ -65,7 +104,14 @@ pub(crate) fn hear_head<I: Read, W: Write, S>(
     head: &mut Head,
     bytes: &mut Vec<u8>,
     pen: &mut Pen,
-) -> Result<Option<u64>, TalkFault> {
+) -> Result<Option<u64>, TalkFault>
+    ensures all { IfOk result (λ at. IfSome (reader_remaining I.remaining ends.old.input) (λ xs.
+        HearsAll pen.old.settings (drafted head.old) xs (reader_remaining I.remaining ends.new.input) (drafted head.new) bytes.new.items at
+        (W.contents ends.old.output) (W.contents ends.new.output) pen.old.out.items pen.new.out.items)) }
+    ensures broken { IfErr result (λ fault. IfSome (reader_remaining I.remaining ends.old.input) (λ xs.
+        HearsUntil fault pen.old.settings (drafted head.old) xs (W.contents ends.old.output) (W.contents ends.new.output) pen.old.out.items pen.new.out.items)) }
+    ensures settings { pen.new.settings ≡ pen.old.settings }
+{
     for number in 1..u64::MAX {
         if !next_line(&mut ends.input, bytes)? {
             return Ok(None);
@@ -89,7 +135,7 @@ pub fn read_head(alloc: Global, bytes: &[u8]) -> Result<Head, ScriptFault>
     let mut rest = bytes;
     while let Some((line, after)) = first_line(rest) {
         let is_good = line.len() <= MOST_LINE
-            && match line_of(0, line).asked {
+            && match asked_in(line) {
                 Asked::Nothing => true,
                 Asked::Other => add_line(alloc, &mut head, line)?,
                 _ => false,

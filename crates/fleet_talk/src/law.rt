@@ -10,7 +10,8 @@ ghost use Rattle.fleet_world.specs.declared.reply.Reply.{Reply};
 ghost use Rattle.fleet_world.specs.Run.{State, Run, opened_state};
 ghost use Rattle.errands_text.specs.Output.{run_text};
 ghost use Rattle.fleet_session.specs.Talk.{Talk, forget, opened_talk};
-ghost use Rattle.fleet_talk.specs.Acts.{Talks, play};
+ghost use Rattle.fleet_talk.specs.Act.{play};
+ghost use Rattle.fleet_talk.specs.Acts.{Talks};
 
 /// A conversation in which no chapter is handed out is a run: what is said of events, from the opening on, is what `errands run`
 /// prints of a run of the same events from the same opening, which ends in the same world.

@@ -4,6 +4,7 @@
 mod ask;
 mod conversation;
 mod ends;
+mod fault;
 mod going;
 mod ground;
 mod heading;
@@ -12,9 +13,12 @@ mod look;
 mod marks;
 mod pen;
 mod plays;
+mod reading;
+mod writing;
 
-pub use conversation::{TalkFault, converse};
+pub use conversation::converse;
 pub use ends::{Ends, Settings, Shelf, ShelfFault};
+pub use fault::TalkFault;
 pub use ground::{Ground, MOST_LINE, MOST_ROBOTS, TALK_LIMITS};
 pub use heading::read_head;
 pub use law::a_conversation_is_a_run;

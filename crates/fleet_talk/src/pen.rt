@@ -1,13 +1,13 @@
 //! What is said and not written yet.
 
-ghost use Rattle.std.specs.Prelude.{◌≡◌, ◌++◌, [], ◌∷◌, IsTrue, OnOk, string_bytes};
+ghost use Rattle.std.specs.Prelude.{◌≡◌, ◌++◌, [], ◌∷◌, IsTrue, OnOk, OnErr, string_bytes, take};
 ghost use Rattle.errands_text.specs.Transfer.{AppendsPrefix};
 ghost use Rattle.fleet_talk.specs.Says.{marked, Says};
-ghost use Rattle.fleet_talk.specs.Said.{IsAdded, under, bad_said, end_said};
+ghost use Rattle.fleet_talk.specs.Said.{IsAdded, IsKept, under, bad_said, end_said};
 
 use crate::ask::Line;
 use crate::ends::Settings;
-use crate::marks::add_marked;
+use crate::marks::add_lines;
 use errands_text::write_whole;
 use std::alloc::{AllocError, Global};
 use std::io::Write;
@@ -36,32 +36,55 @@ impl Pen {
         }
     }
 
-    /// Says a text, under this mark.
-    pub(crate) fn say(&mut self, mark: Option<&[u8]>, text: &str) -> Result<(), AllocError>
-        ensures { OnOk result (IsAdded self.old self.new (marked (under mark.entry) text.now)) }
+    /// Says a text, under this mark: all of it, or nothing.
+    pub(crate) fn say(
+        &mut self,
+        alloc: Global,
+        mark: Option<&[u8]>,
+        text: &str,
+    ) -> Result<(), AllocError>
+        ensures ok { OnOk result (IsAdded self.old self.new (marked (under mark.entry) text.now)) }
+        ensures err { OnErr result (IsKept self.old self.new) }
     {
-        add_marked(&mut self.out, mark, text.as_bytes())
+        match mark {
+            Some(mark) => {
+                let mut lines = Vec::new(alloc);
+                add_lines(&mut lines, mark, text.as_bytes())?;
+                self.out.extend_from_slice(&lines)
+            }
+            None => self.out.extend_from_slice(text.as_bytes()),
+        }
     }
 
     /// Says that the line is none.
     pub(crate) fn say_bad(&mut self, alloc: Global, line: Line<'_>) -> Result<(), AllocError>
-        ensures { OnOk result (IsAdded self.old self.new (bad_said line.entry)) }
+        ensures ok { OnOk result (IsAdded self.old self.new (bad_said line.entry)) }
+        ensures err { OnErr result (IsKept self.old self.new) }
     {
         let number = line.number;
         let text = format!(in alloc; "bad-line {number}\n")?;
-        self.say(line.mark, text.as_str())
+        self.say(alloc, line.mark, text.as_str())
     }
 
     /// Says that the line was answered, if that is to be said.
     pub(crate) fn say_end(&mut self, alloc: Global, line: Line<'_>) -> Result<(), AllocError>
-        ensures { OnOk result (IsAdded self.old self.new (end_said self.old.settings line.entry)) }
+        ensures ok { OnOk result (IsAdded self.old self.new (end_said self.old.settings line.entry)) }
+        ensures err { OnErr result (IsKept self.old self.new) }
     {
         if !self.settings.marks {
             return Ok(());
         }
         let number = line.number;
         let text = format!(in alloc; ". {number}\n")?;
-        self.say(line.mark, text.as_str())
+        self.say(alloc, line.mark, text.as_str())
+    }
+
+    /// Takes back what was said after so many bytes.
+    pub(crate) fn take_back(&mut self, said: usize)
+        ensures out { self.new.out.items ≡ take said self.old.out.items }
+        ensures settings { self.new.settings ≡ self.old.settings }
+    {
+        self.out.truncate(said);
     }
 
     /// Whether so much waits that it is to be written.
@@ -69,16 +92,16 @@ impl Pen {
         self.out.len() >= MOST_TEXT
     }
 
-    /// Writes all that was said, and returns whether it was taken.
+    /// Writes all that was said, and returns whether it was taken. Nothing waits then: what a writer took in part is not said
+    /// again.
     pub(crate) fn write_out<W: Write>(&mut self, output: &mut W) -> bool
         ensures prefix { AppendsPrefix (W.contents output.old) (W.contents output.new) self.old.out.items }
         ensures whole { IsTrue result → Says (W.contents output.old) (W.contents output.new) self.old.out.items self.new.out.items [] }
+        ensures waits { self.new.out.items ≡ [] }
         ensures settings { self.new.settings ≡ self.old.settings }
     {
-        if !write_whole(output, &self.out) {
-            return false;
-        }
+        let written = write_whole(output, &self.out);
         self.out.clear();
-        true
+        written
     }
 }

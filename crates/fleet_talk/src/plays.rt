@@ -1,15 +1,19 @@
 //! Events and chapters of a conversation.
 
-ghost use Rattle.std.specs.Prelude.{◌≡◌, ◌≤◌, [], ℕ, List, length, replicate, OnOk};
+ghost use Rattle.std.specs.Prelude.{◌≡◌, ◌≤◌, ℕ, List, length, replicate, OnOk, OnErr, IfErr};
 ghost use Rattle.errands_text.specs.Output.{is_limit_met};
 ghost use Rattle.fleet_session.specs.Keeps.{talk};
-ghost use Rattle.fleet_talk.specs.Acts.{Does, HandsOut, Plays, Rolls, Talks, makes_entry, play};
-ghost use Rattle.fleet_talk.specs.Said.{IsAdded, under};
+ghost use Rattle.fleet_talk.specs.Act.{play};
+ghost use Rattle.fleet_talk.specs.Acts.{Does, HandsOut, Plays, Rolls, Talks, makes_entry};
+ghost use Rattle.fleet_talk.specs.Broken.{IsMidway};
+ghost use Rattle.fleet_talk.specs.Said.{IsAdded, IsKept, under};
 ghost use Rattle.fleet_talk.specs.Says.{Says, chapter_text, marked};
+ghost use Rattle.fleet_talk.specs.Talked.{TalksUntil};
 
-use crate::conversation::TalkFault;
 use crate::ends::{Ends, Shelf};
+use crate::fault::TalkFault;
 use crate::pen::Pen;
+use crate::writing::write_if_full;
 use errands_text::write_event;
 use fleet_book::Event;
 use fleet_core::{ChapterFault, ShutFault, TakeFault, TickFault};
@@ -48,13 +52,15 @@ fn keep<S: Shelf>(
     pen: &mut Pen,
     mark: Option<&[u8]>,
 ) -> Result<(), TalkFault>
-    ensures { OnOk result (IsAdded pen.old pen.new (marked (under mark.entry) (chapter_text chapter.now.number (length chapter.now.entries.items)))) }
+    ensures ok { OnOk result (IsAdded pen.old pen.new (marked (under mark.entry) (chapter_text chapter.now.number (length chapter.now.entries.items)))) }
+    ensures err { OnErr result (IsKept pen.old pen.new) }
+    ensures midway { IfErr result (λ fault. IsMidway fault) }
 {
     shelf.keep(chapter)?;
     let number = chapter.number;
     let entries = chapter.entries.len();
     let text = format!(in alloc; "chapter {number} entries {entries}\n")?;
-    Ok(pen.say(mark, text.as_str())?)
+    Ok(pen.say(alloc, mark, text.as_str())?)
 }
 
 /// Hands out the present chapter and begins the next, or says that it is the last.
@@ -66,11 +72,13 @@ pub(crate) fn next_chapter<S: Shelf>(
     mark: Option<&[u8]>,
 ) -> Result<(), TalkFault>
     requires { 0 ≤ session.old.world.core.number }
-    ensures { OnOk result ((text : List ℕ) × HandsOut (talk session.old) (under mark.entry) text (talk session.new) × IsAdded pen.old pen.new text) }
+    ensures ok { OnOk result ((text : List ℕ) × HandsOut (talk session.old) (under mark.entry) text (talk session.new) × IsAdded pen.old pen.new text) }
+    ensures err { OnErr result (IsKept pen.old pen.new) }
+    ensures midway { IfErr result (λ fault. IsMidway fault) }
 {
     match session.next_chapter() {
         Ok(chapter) => keep(alloc, &chapter, shelf, pen, mark),
-        Err(ChapterFault::BookSpent) => Ok(pen.say(mark, "chapter-refused 1 book-spent\n")?),
+        Err(ChapterFault::BookSpent) => Ok(pen.say(alloc, mark, "chapter-refused 1 book-spent\n")?),
         Err(ChapterFault::NoMemory) => Err(TalkFault::NoMemory),
     }
 }
@@ -85,7 +93,9 @@ fn roll<S: Shelf>(
     event: Event,
 ) -> Result<(), TalkFault>
     requires { 0 ≤ session.old.world.core.number }
-    ensures { OnOk result ((text : List ℕ) × Rolls pen.old.settings.roll (talk session.old) (under mark.entry) event text (talk session.new) × IsAdded pen.old pen.new text) }
+    ensures ok { OnOk result ((text : List ℕ) × Rolls pen.old.settings.roll (talk session.old) (under mark.entry) event text (talk session.new) × IsAdded pen.old pen.new text) }
+    ensures err { OnErr result (IsKept pen.old pen.new) }
+    ensures midway { IfErr result (λ fault. IsMidway fault) }
 {
     if !pen.settings.roll {
         return Ok(());
@@ -112,17 +122,36 @@ fn play<R: Alloc<A = Global>>(
     event: Event,
 ) -> Result<(), AllocError>
     requires { 0 ≤ session.old.world.core.number }
-    ensures { OnOk result ((text : List ℕ) × Plays (talk session.old) (under mark.entry) event text (talk session.new) × IsAdded pen.old pen.new text) }
+    ensures ok { OnOk result ((text : List ℕ) × Plays (talk session.old) (under mark.entry) event text (talk session.new) × IsAdded pen.old pen.new text) }
+    ensures err { OnErr result (IsKept pen.old pen.new) }
 {
     let reply = session.step(rt, event)?;
     pen.limited |= is_limit(reply);
     let mut text = String::new(rt.alloc());
     let entry = session.world.chapter().entries.last();
     write_event(&mut text, event, reply, entry)?;
-    pen.say(mark, text.as_str())
+    pen.say(rt.alloc(), mark, text.as_str())
 }
 
-/// Does one event, in the next chapter if the present one is full and may be handed out unasked.
+/// `play_on`, which may have said that a chapter was handed out where the event itself fails.
+fn play_in_room<R: Alloc<A = Global>, S: Shelf>(
+    rt: &R,
+    session: &mut Session,
+    shelf: &mut S,
+    pen: &mut Pen,
+    mark: Option<&[u8]>,
+    event: Event,
+) -> Result<(), TalkFault>
+    requires { 0 ≤ session.old.world.core.number }
+    ensures ok { OnOk result ((text : List ℕ) × Does pen.old.settings.roll (talk session.old) (play (under mark.entry) event) text (talk session.new) × IsAdded pen.old pen.new text) }
+    ensures err { OnErr result ((text : List ℕ) × IsAdded pen.old pen.new text) }
+    ensures midway { IfErr result (λ fault. IsMidway fault) }
+{
+    roll(rt.alloc(), session, shelf, pen, mark, event)?;
+    Ok(play(rt, session, pen, mark, event)?)
+}
+
+/// Does one event, in the next chapter if the present one is full and may be handed out unasked. Where it fails nothing is said.
 fn play_on<R: Alloc<A = Global>, S: Shelf>(
     rt: &R,
     session: &mut Session,
@@ -132,24 +161,17 @@ fn play_on<R: Alloc<A = Global>, S: Shelf>(
     event: Event,
 ) -> Result<(), TalkFault>
     requires { 0 ≤ session.old.world.core.number }
-    ensures { OnOk result ((text : List ℕ) × Does pen.old.settings.roll (talk session.old) (play (under mark.entry) event) text (talk session.new) × IsAdded pen.old pen.new text) }
+    ensures ok { OnOk result ((text : List ℕ) × Does pen.old.settings.roll (talk session.old) (play (under mark.entry) event) text (talk session.new) × IsAdded pen.old pen.new text) }
+    ensures err { OnErr result (IsKept pen.old pen.new) }
+    ensures midway { IfErr result (λ fault. IsMidway fault) }
 {
-    roll(rt.alloc(), session, shelf, pen, mark, event)?;
-    Ok(play(rt, session, pen, mark, event)?)
-}
-
-/// Writes what was said if much waits.
-fn write_if_full<W: Write>(pen: &mut Pen, output: &mut W) -> Result<(), TalkFault>
-    ensures says { OnOk result (Says (W.contents output.old) (W.contents output.new) pen.old.out.items pen.new.out.items []) }
-    ensures settings { pen.new.settings ≡ pen.old.settings }
-{
-    if !pen.is_full() {
-        return Ok(());
-    }
-    if pen.write_out(output) {
-        Ok(())
-    } else {
-        Err(TalkFault::Output)
+    let said = pen.out.len();
+    match play_in_room(rt, session, shelf, pen, mark, event) {
+        Ok(()) => Ok(()),
+        Err(fault) => {
+            pen.take_back(said);
+            Err(fault)
+        }
     }
 }
 
@@ -165,7 +187,9 @@ pub(crate) fn play_all<R: Alloc<A = Global>, I, W: Write, S: Shelf>(
     requires { 0 ≤ session.old.world.core.number }
     ensures talks { OnOk result ((text : List ℕ) × Talks pen.old.settings.roll (talk session.old) (replicate more.times (play (under mark.entry) more.event)) text (talk session.new)
         × Says (W.contents ends.old.output) (W.contents ends.new.output) pen.old.out.items pen.new.out.items text) }
-    ensures settings { OnOk result (pen.new.settings ≡ pen.old.settings) }
+    ensures broken { IfErr result (λ fault. TalksUntil fault pen.old.settings.roll (talk session.old) (replicate more.times (play (under mark.entry) more.event))
+        (W.contents ends.old.output) (W.contents ends.new.output) pen.old.out.items pen.new.out.items) }
+    ensures settings { pen.new.settings ≡ pen.old.settings }
     ensures input { ends.new.input ≡ ends.old.input }
 {
     for _ in 0..more.times {

@@ -1,17 +1,22 @@
 -- What each kind of line asks.
-use Rattle.std.proofs.Common.{List, refl, sym, ap, subst}
+use Rattle.std.proofs.Common.{List, IfErr, refl, sym, ap, subst}
 use Rattle.std.proofs.lemmas.Result.{on_ok_weaker}
 use Rattle.fleet_session.specs.Keeps.{talk}
 use Rattle.fleet_talk.specs.declared.ask.Asked.TheVariants.{Chapter, Look}
-use Rattle.fleet_talk.specs.Acts.{Act, Talks, acts_asked, show, turn}
+use Rattle.fleet_talk.specs.Act.{Act, acts_asked, show, turn}
+use Rattle.fleet_talk.specs.Acts.{Talks}
 use Rattle.fleet_talk.specs.Lines.{line_shown}
+use Rattle.fleet_talk.specs.declared.fault.TalkFault.TheVariants.{NoMemory}
 use Rattle.fleet_talk.specs.Said.{under}
+use Rattle.fleet_talk.specs.Talked.{TalksUntil}
+use Rattle.fleet_talk.proofs.Breaking.{until-kept, until-none}
+use Rattle.fleet_talk.proofs.Saying.{at-fault}
 use Rattle.fleet_talk.proofs.Talking.{asked_one}
 use Rattle.fleet_talk.proofs.going.do_asked.Goals as goal
 
 pub returns-in_ok-show-in-Look-clause-talks : goal.returns-in_ok-show-in-Look-clause-talks
 returns-in_ok-show-in-Look-clause-talks g c =
-    let (text, does, added) = c.in_ok-show-in-Look.ensures in
+    let (text, does, added) = c.in_ok-show-in-Look.ensures.ok in
     asked_one c.args.pen.now.settings.roll (talk c.args.session.now) (talk c.args.session.now) (line_shown c.args.line) c.args.line.asked Look (show (under c.args.line.mark)) text _ _ _ c.in-Look.is refl does added.out
 
 pub returns-in-Chapter-clause-talks : goal.returns-in-Chapter-clause-talks
@@ -19,7 +24,7 @@ returns-in-Chapter-clause-talks g c =
     on_ok_weaker c.next_chapter.result (λ h.
     let (text, hands, added) = h in
     asked_one c.args.pen.now.settings.roll (talk c.args.session.now) (talk c.next_chapter.new.session) (line_shown c.args.line) c.args.line.asked Chapter (turn (under c.args.line.mark)) text (g.W.Write.contents c.args.ends.now.output) _ _ c.in-Chapter.is refl hands added.out)
-    c.next_chapter.ensures
+    c.next_chapter.ensures.ok
 
 pub returns-in-Events-clause-talks : goal.returns-in-Events-clause-talks
 returns-in-Events-clause-talks g c =
@@ -30,3 +35,20 @@ returns-in-Events-clause-talks g c =
       says,
     ))
     c.play_all.ensures.talks
+
+pub returns-in-Events-clause-broken : goal.returns-in-Events-clause-broken
+returns-in-Events-clause-broken g c =
+    subst (λ (acts : List Act). IfErr c.play_all.result (λ fault. TalksUntil fault c.args.pen.now.settings.roll (talk c.args.session.now) acts (g.W.Write.contents c.args.ends.now.output) (g.W.Write.contents c.play_all.new.ends.output) c.args.pen.now.out.items c.play_all.new.pen.out.items))
+    (sym (ap (acts_asked (line_shown c.args.line)) c.in-Events.is)) c.play_all.ensures.broken
+
+pub returns-in-Chapter-clause-broken : goal.returns-in-Chapter-clause-broken
+returns-in-Chapter-clause-broken g c = until-kept c.args.pen.now.settings.roll c.next_chapter.result (talk c.args.session.now) (acts_asked (line_shown c.args.line) c.args.line.asked) (g.W.Write.contents c.args.ends.now.output) c.args.pen.now c.next_chapter.new.pen c.next_chapter.ensures.err c.next_chapter.ensures.midway
+
+pub returns-in_err-show-in-Look-clause-broken : goal.returns-in_err-show-in-Look-clause-broken
+returns-in_err-show-in-Look-clause-broken g c =
+    at-fault _ NoMemory _ c.from_residual.ensures.1 (until-none NoMemory c.args.pen.now.settings.roll (talk c.args.session.now) (acts_asked (line_shown c.args.line) c.args.line.asked) (g.W.Write.contents c.args.ends.now.output) c.args.pen.now.out.items c.show.new.pen.out.items tt c.in_err-show-in-Look.ensures.err.out)
+
+pub returns-in_err-say_bad-in-Other-clause-broken : goal.returns-in_err-say_bad-in-Other-clause-broken
+returns-in_err-say_bad-in-Other-clause-broken g c =
+    at-fault _ NoMemory _ c.from_residual-in_err-say_bad-in-Other.ensures.1
+    (until-none NoMemory c.args.pen.now.settings.roll (talk c.args.session.now) (acts_asked (line_shown c.args.line) c.args.line.asked) (g.W.Write.contents c.args.ends.now.output) c.args.pen.now.out.items c.say_bad.new.self.out.items tt c.in_err-say_bad-in-Other.ensures.err.out)

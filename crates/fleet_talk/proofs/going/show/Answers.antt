@@ -5,5 +5,5 @@ use Rattle.fleet_talk.specs.Said.{under}
 use Rattle.fleet_talk.proofs.Talking.{shown}
 use Rattle.fleet_talk.proofs.going.show.Goals as goal
 
-pub returns : goal.returns
-returns g c = shown c.say.result (talk c.args.session.now) (under c.args.mark) (string_bytes c.in_ok-line.line) c.as_str.result.now c.args.pen.now c.say.new.self c.as_str.ensures.value c.in_ok-line.ensures c.say.ensures
+pub returns-clause-ok : goal.returns-clause-ok
+returns-clause-ok g c = shown c.say.result (talk c.args.session.now) (under c.args.mark) (string_bytes c.in_ok-line.line) c.as_str.result.now c.args.pen.now c.say.new.self c.as_str.ensures.value c.in_ok-line.ensures c.say.ensures.ok

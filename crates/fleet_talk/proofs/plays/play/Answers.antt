@@ -8,9 +8,9 @@ use Rattle.fleet_talk.specs.Said.{under}
 use Rattle.fleet_talk.proofs.Talking.{played}
 use Rattle.fleet_talk.proofs.plays.play.Goals as goal
 
-pub returns : goal.returns
-returns g c =
+pub returns-clause-ok : goal.returns-clause-ok
+returns-clause-ok g c =
     played c.say.result (talk c.args.session.now) (talk c.step.new.self) (under c.args.mark) c.args.event c.in_ok-reply.reply (string_bytes c.write_event.new.out) (string_bytes c.new-text.result) c.as_str.result.now
     (option_copied c.last-entry.result) c.args.pen.now _ c.say.new.self c.in_ok-reply.ensures.step c.new-text.ensures.bytes c.in_ok-write_event.ensures
     (c.last-entry.ensures.value ∙ ap (λ (es : List (Entry _)). slice_get es (length es - 1)) (c.deref.ensures.value ∙ ap (λ (h : History _). h.entries) c.chapter.ensures.history))
-    c.as_str.ensures.value refl refl c.say.ensures
+    c.as_str.ensures.value refl refl c.say.ensures.ok

@@ -1,10 +1,13 @@
 -- One more event of a line, and all of them.
-use Rattle.std.proofs.Common.{◌∙◌, [], ◌++◌, refl, subst}
+use Rattle.std.proofs.Common.{◌∙◌, [], ◌++◌, refl, ap, subst}
 use Rattle.fleet_talk.specs.declared.ends.Settings.{Settings}
 use Rattle.fleet_session.specs.Keeps.{talk}
-use Rattle.fleet_talk.specs.Acts.{Does, play}
+use Rattle.fleet_talk.specs.Act.{play}
+use Rattle.fleet_talk.specs.Acts.{Does}
 use Rattle.fleet_talk.specs.Said.{under}
-use Rattle.fleet_talk.proofs.Talking.{says-none, says-then, says-written, talks-more}
+use Rattle.fleet_talk.proofs.Breaking.{until-times, until-times-written}
+use Rattle.fleet_talk.proofs.Saying.{at-fault, says-none, says-then, says-written}
+use Rattle.fleet_talk.proofs.Talking.{talks-more}
 use Rattle.fleet_talk.proofs.plays.play_all.Goals as goal
 
 pub loop-init : goal.loop-init
@@ -13,7 +16,7 @@ loop-init g c = record { talks = ([], (refl, refl), says-none _ _); settings = r
 pub loop-preserved : goal.loop-preserved
 loop-preserved g c =
     let (text, talks, says) = c.loop.invariant.talks in
-    let (more, did, added) = c.in_ok-play_on.ensures in
+    let (more, did, added) = c.in_ok-play_on.ensures.ok in
     let act = play (under c.args.mark) c.args.more.event in
     let does = subst (λ (st : Settings). Does st.roll (talk c.loop.session) act more (talk c.play_on.new.session)) c.loop.invariant.settings did in
     record {
@@ -25,3 +28,22 @@ loop-preserved g c =
       settings = c.write_if_full.ensures.settings ∙ (added.settings ∙ c.loop.invariant.settings);
       input = c.loop.invariant.input;
     }
+
+pub returns-in_err-play_on-clause-broken : goal.returns-in_err-play_on-clause-broken
+returns-in_err-play_on-clause-broken g c =
+    let (text, talks, says) = c.loop.invariant.talks in
+    let act = play (under c.args.mark) c.args.more.event in
+    let fault = c.in_err-play_on.field-0.0 in
+    at-fault _ fault _ c.from_residual.ensures.1
+    (until-times fault c.args.pen.now.settings.roll (talk c.args.session.now) (talk c.loop.session) act c.loop.counter c.args.more.times (g.W.Write.contents c.args.ends.now.output) (g.W.Write.contents c.loop.ends.output) c.args.pen.now.out.items c.loop.pen.out.items c.play_on.new.pen.out.items text c.loop-test.true talks says c.in_err-play_on.ensures.midway c.in_err-play_on.ensures.err.out)
+
+pub returns-in_err-write_if_full-clause-broken : goal.returns-in_err-write_if_full-clause-broken
+returns-in_err-write_if_full-clause-broken g c =
+    let (text, talks, says) = c.loop.invariant.talks in
+    let (more, did, added) = c.in_ok-play_on.ensures.ok in
+    let act = play (under c.args.mark) c.args.more.event in
+    let fault = c.in_err-write_if_full.field-0.0 in
+    let does = subst (λ (st : Settings). Does st.roll (talk c.loop.session) act more (talk c.play_on.new.session)) c.loop.invariant.settings did in
+    at-fault _ fault _ c.from_residual-in_err-write_if_full.ensures.1
+    (until-times-written fault c.args.pen.now.settings.roll (talk c.args.session.now) (talk c.loop.session) (talk c.play_on.new.session) act c.loop.counter c.args.more.times (g.W.Write.contents c.args.ends.now.output) (g.W.Write.contents c.loop.ends.output) (g.W.Write.contents c.write_if_full.new.output)
+    c.args.pen.now.out.items c.loop.pen.out.items c.play_on.new.pen.out.items c.write_if_full.new.pen.out.items text more c.loop-test.true talks says does added.out c.in_err-write_if_full.ensures.broken)

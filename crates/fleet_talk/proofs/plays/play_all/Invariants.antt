@@ -2,7 +2,8 @@
 use Rattle.std.proofs.Common.{◌≡◌, ℕ, List}
 use Rattle.std.specs.Prelude.{replicate}
 use Rattle.fleet_session.specs.Keeps.{talk}
-use Rattle.fleet_talk.specs.Acts.{Talks, play}
+use Rattle.fleet_talk.specs.Act.{play}
+use Rattle.fleet_talk.specs.Acts.{Talks}
 use Rattle.fleet_talk.specs.Said.{under}
 use Rattle.fleet_talk.specs.Says.{Says}
 use Rattle.fleet_talk.proofs.plays.play_all.Given as goal

@@ -2,10 +2,10 @@
 use Rattle.std.proofs.Common.{◌++◌, refl}
 use Rattle.fleet_session.specs.Keeps.{talk}
 use Rattle.fleet_talk.proofs.Talking.{added-then}
-use Rattle.fleet_talk.proofs.plays.play_on.Goals as goal
+use Rattle.fleet_talk.proofs.plays.play_in_room.Goals as goal
 
-pub returns : goal.returns
-returns g c =
-    let (before, rolled, first) = c.in_ok-roll.ensures in
-    let (after, plays, rest) = c.in_ok-play.ensures in
+pub returns-clause-ok : goal.returns-clause-ok
+returns-clause-ok g c =
+    let (before, rolled, first) = c.in_ok-roll.ensures.ok in
+    let (after, plays, rest) = c.in_ok-play.ensures.ok in
     (before ++ after, (talk c.roll.new.session, before, after, rolled, plays, refl), added-then c.args.pen.now c.roll.new.pen c.play.new.pen before after first rest)

@@ -1,0 +1,30 @@
+-- What a conversation comes to.
+use Rattle.std.proofs.Common.{ℕ, Option, Err, IfSome, refl, sym, subst}
+use Rattle.std.specs.Io.Buffered.{reader_remaining}
+use Rattle.errands_answer.specs.Kit.{kit_laws}
+use Rattle.fleet_session.specs.Keeps.{talk}
+use Rattle.fleet_talk.specs.declared.fault.TalkFault.{TalkFault}
+use Rattle.fleet_talk.specs.Conversation.{ComesTo, Terms}
+use Rattle.fleet_talk.specs.Heading.{HearsAll, drafted}
+use Rattle.fleet_talk.proofs.Finishing.{come-head, come-refused, come-talk}
+use Rattle.fleet_talk.proofs.conversation.hold.Goals as goal
+
+pub returns-in-Ok : goal.returns-in-Ok
+returns-in-Ok g c =
+    let on : Terms = record { kit = kit_laws c.args.ground.kit; floor = c.args.ground.grid; settings = c.args.pen.now.settings; head = drafted c.args.ground.head } in
+    come-talk on (reader_remaining g.I.Read.remaining c.args.ends.now.input) (reader_remaining g.I.Read.remaining c.hear_head.new.ends.input) (g.W.Write.contents c.args.ends.now.output) (g.W.Write.contents c.hear_head.new.ends.output) (g.W.Write.contents c.go_on-ended.new.ends.output) (drafted c.hear_head.new.head) c.hear_head.new.bytes.items c.in-Ok-Some.first c.args.pen.now.out.items c.hear_head.new.pen.out.items c.go_on-ended.new.pen.out.items c.hear_head.new.pen.settings (talk c.in-Ok.session) c.go_on-ended.result c.keep_last.result
+    (subst (λ (at : Option ℕ). IfSome (reader_remaining g.I.Read.remaining c.args.ends.now.input) (λ xs. HearsAll c.args.pen.now.settings (drafted c.args.ground.head) xs (reader_remaining g.I.Read.remaining c.hear_head.new.ends.input) (drafted c.hear_head.new.head) c.hear_head.new.bytes.items at (g.W.Write.contents c.args.ends.now.output) (g.W.Write.contents c.hear_head.new.ends.output) c.args.pen.now.out.items c.hear_head.new.pen.out.items)) c.in-Ok-Some.field-0-is c.in-Ok-Some.ensures.all)
+    c.hear_head.ensures.settings c.in-Ok.ensures.can c.in-Ok.ensures.orderly c.in-Ok.ensures.ok c.go_on-ended.ensures.talks c.go_on-ended.ensures.broken c.keep_last.ensures
+
+pub returns-in-Ok-Some : goal.returns-in-Ok-Some
+returns-in-Ok-Some g c =
+    let on : Terms = record { kit = kit_laws c.args.ground.kit; floor = c.args.ground.grid; settings = c.args.pen.now.settings; head = drafted c.args.ground.head } in
+    subst (λ (fault : TalkFault). IfSome (reader_remaining g.I.Read.remaining c.args.ends.now.input) (λ xs. ComesTo on xs (g.W.Write.contents c.args.ends.now.output) (g.W.Write.contents c.hear_head.new.ends.output) c.args.pen.now.out.items c.hear_head.new.pen.out.items (Err fault))) (sym c.opening_fault.ensures)
+    (come-refused on (reader_remaining g.I.Read.remaining c.args.ends.now.input) (reader_remaining g.I.Read.remaining c.hear_head.new.ends.input) (g.W.Write.contents c.args.ends.now.output) (g.W.Write.contents c.hear_head.new.ends.output) (drafted c.hear_head.new.head) c.hear_head.new.bytes.items c.in-Ok-Some.first c.args.pen.now.out.items c.hear_head.new.pen.out.items c.in-Err-open.fault
+    (subst (λ (at : Option ℕ). IfSome (reader_remaining g.I.Read.remaining c.args.ends.now.input) (λ xs. HearsAll c.args.pen.now.settings (drafted c.args.ground.head) xs (reader_remaining g.I.Read.remaining c.hear_head.new.ends.input) (drafted c.hear_head.new.head) c.hear_head.new.bytes.items at (g.W.Write.contents c.args.ends.now.output) (g.W.Write.contents c.hear_head.new.ends.output) c.args.pen.now.out.items c.hear_head.new.pen.out.items)) c.in-Ok-Some.field-0-is c.in-Ok-Some.ensures.all)
+    (λ starts is named. (c.in-Err-open.ensures.refused starts is c.in-Err-open.fault named).0 refl))
+
+pub returns : goal.returns
+returns g c =
+    let on : Terms = record { kit = kit_laws c.args.ground.kit; floor = c.args.ground.grid; settings = c.args.pen.now.settings; head = drafted c.args.ground.head } in
+    come-head on (reader_remaining g.I.Read.remaining c.args.ends.now.input) (g.W.Write.contents c.args.ends.now.output) (g.W.Write.contents c.hear_head.new.ends.output) c.args.pen.now.out.items c.hear_head.new.pen.out.items c.in-Err.fault c.in-Err.ensures.broken

@@ -1,0 +1,47 @@
+-- What is done at a line once the fleet is open.
+use Rattle.std.specs.Prelude.{ℕ, ◌+◌, Bool, true, false, List, [], ◌∷◌, ◌++◌, replicate, Option, if◌then◌else◌}
+use Rattle.fleet_book.specs.declared.event.Event.{Event}
+use Rattle.fleet_talk.specs.declared.ask.Asked.{Asked}
+use Rattle.fleet_talk.specs.declared.ask.Asked.TheVariants.{Nothing, Events, Chapter, Look, Quit, Other, Long}
+use Rattle.fleet_talk.specs.declared.ends.Settings.{Settings}
+use Rattle.fleet_talk.specs.Ask.{Line, line_in}
+use Rattle.fleet_talk.specs.Says.{bad_line, end_line}
+
+-- what is done at a line, under the line's mark
+pub data Act : Type 0 where
+  -- a text is said
+  say : Option (List ℕ) → List ℕ → Act
+  -- an event is done
+  play : Option (List ℕ) → Event → Act
+  -- the chapter is handed out
+  turn : Option (List ℕ) → Act
+  -- the fleet is looked at
+  show : Option (List ℕ) → Act
+
+abbrev pub acts_asked : Line → Asked → List Act
+acts_asked line Nothing = []
+acts_asked line (Events more) = replicate more.times (play line.mark more.event)
+acts_asked line Chapter = turn line.mark ∷ []
+acts_asked line Look = show line.mark ∷ []
+acts_asked line Quit = []
+acts_asked line Other = say line.mark (bad_line line.number) ∷ []
+acts_asked line Long = say line.mark (bad_line line.number) ∷ []
+
+-- the end of a line's answer, where that is to be said
+abbrev pub acts_end : Settings → Line → List Act
+acts_end settings line = if settings.marks then say line.mark (end_line line.number) ∷ [] else []
+
+-- what is done at a line once the fleet is open
+abbrev pub acts_on : Settings → Line → List Act
+acts_on settings line = acts_asked line line.asked ++ acts_end settings line
+
+-- whether a line ends the conversation
+abbrev pub is_quit : Asked → Bool
+is_quit Quit = true
+is_quit _ = false
+
+-- what is done at lines, the first of which has this number, up to one that says quit
+abbrev pub acts_from : Settings → ℕ → List (List ℕ) → List Act
+acts_from settings number [] = []
+acts_from settings number (bytes ∷ lines) =
+    if is_quit (line_in number bytes).asked then [] else acts_on settings (line_in number bytes) ++ acts_from settings (number + 1) lines

@@ -1,0 +1,91 @@
+-- A conversation as a whole: over all lines of an input, or up to a fault.
+use Rattle.std.specs.Prelude.{◌≡◌, ℕ, false, List, ◌++◌, length, Option, Some, None, Result, Ok, Err, unwrap_or, if◌then◌else◌}
+use Rattle.std.specs.declared.alloc.Global.{Global}
+use Rattle.fleet_grid.specs.Floor.{Floor}
+use Rattle.fleet_book.specs.declared.limits.Limits.{Limits}
+use Rattle.fleet_core.specs.Hooks.{HookLaws, AreOrderly}
+use Rattle.fleet_core.specs.Opening.{CanOpen}
+use Rattle.fleet_core.specs.OpeningFaults.{IsRefused}
+use Rattle.fleet_core.specs.declared.faults.OpenFault.{OpenFault}
+use Rattle.fleet_script.specs.Script.{Draft, limits_over}
+use Rattle.errands_answer.specs.Kit.{KitLaws, cut_laws}
+use Rattle.fleet_session.specs.Talk.{Talk, opened_talk}
+use Rattle.fleet_talk.specs.declared.ends.Settings.{Settings}
+use Rattle.fleet_talk.specs.declared.fault.TalkFault.{TalkFault}
+use Rattle.fleet_talk.specs.declared.fault.TalkFault.TheVariants.{Input, Output, Shelf, Opening as Unopened, NoMemory}
+use Rattle.fleet_talk.specs.declared.ground.TheConstants.{TALK_LIMITS}
+use Rattle.fleet_talk.specs.Act.{Act, acts_from}
+use Rattle.fleet_talk.specs.Acts.{Talks}
+use Rattle.fleet_talk.specs.Broken.{SaysUntil}
+use Rattle.fleet_talk.specs.Heard.{Opening, Head, all_of, head_of, heard_lines}
+use Rattle.fleet_talk.specs.Says.{Says}
+
+-- ---- the fleet of a head
+
+-- the clients, the limits and the closures' laws that a head gives, and a conversation's own where it says nothing
+abbrev pub clients_in : Draft → ℕ
+clients_in d = unwrap_or d.clients 1
+
+abbrev pub limits_in : Draft → Limits
+limits_in d = limits_over TALK_LIMITS d.limits
+
+abbrev pub laws_in : KitLaws → Draft → List ℕ → HookLaws
+laws_in kit d starts = cut_laws (length starts) (if unwrap_or d.south false then kit.south else kit.plain)
+
+-- what a conversation is held on: the closures' laws, the map, the settings, and what a file's header lines said
+pub record Terms : Type 0 where
+  pub kit : KitLaws
+  pub floor : Floor
+  pub settings : Settings
+  pub head : Draft
+
+-- the head of a conversation over an input
+abbrev pub head_in : Terms → List ℕ → Head
+head_in on bytes = head_of on.settings on.head 1 (heard_lines bytes)
+
+-- the fleet may be opened
+abbrev pub MayOpen : Terms → Opening → Type 0
+MayOpen on o = CanOpen on.floor o.starts (clients_in o.head) (limits_in o.head) (laws_in on.kit o.head o.starts) × AreOrderly (laws_in on.kit o.head o.starts)
+
+-- the fleet, just opened
+abbrev pub opened : {A : Type 0} → Terms → Opening → Talk A
+opened on o = opened_talk on.floor o.starts (clients_in o.head) (limits_in o.head) (laws_in on.kit o.head o.starts)
+
+-- all that is done at the lines of the open fleet
+abbrev pub acts_of : Terms → Opening → List Act
+acts_of on o = acts_from on.settings o.number o.lines
+
+-- ---- texts of conversations
+
+-- the text of a whole conversation: the lines of the input were answered one by one, up to one that says quit, or to the end
+pub data IsConversation (on : Terms) (bytes text : List ℕ) : Type 0 where
+  -- no line opened the fleet
+  unopened : (head_in on bytes).opening ≡ None → text ≡ all_of (head_in on bytes).said → IsConversation on bytes text
+  -- the fleet was opened, and all was done that the lines from then on ask
+  talked : (o : Opening) → (head_in on bytes).opening ≡ Some o → MayOpen on o → (answers : List ℕ) (last : Talk Global) → Talks on.settings.roll (opened on o) (acts_of on o) answers last
+      → text ≡ all_of (head_in on bytes).said ++ answers → IsConversation on bytes text
+
+-- the beginning of one: some first texts of its head, or all of these and what is said of some first acts
+pub data IsBegun (on : Terms) (bytes text : List ℕ) : Type 0 where
+  in_head : (said left : List (List ℕ)) → (head_in on bytes).said ≡ said ++ left → text ≡ all_of said → IsBegun on bytes text
+  in_talk : (o : Opening) → (head_in on bytes).opening ≡ Some o → MayOpen on o → (done left : List Act) → acts_of on o ≡ done ++ left
+      → (answers : List ℕ) (last : Talk Global) → Talks on.settings.roll (opened on o) done answers last
+      → text ≡ all_of (head_in on bytes).said ++ answers → IsBegun on bytes text
+
+-- the head of one whose fleet is refused for this reason
+pub record IsRefusedHead (on : Terms) (bytes text : List ℕ) (why : OpenFault) : Type 0 where
+  pub opening : Opening
+  pub at : (head_in on bytes).opening ≡ Some opening
+  pub refused : IsRefused on.floor opening.starts (clients_in opening.head) (limits_in opening.head) (laws_in on.kit opening.head opening.starts) why
+  pub is : text ≡ all_of (head_in on bytes).said
+
+-- ---- how one ends
+
+-- what was said of an input when the conversation came to this end, and what a writer took of it
+abbrev pub ComesTo : Terms → List ℕ → Option (List ℕ) → Option (List ℕ) → List ℕ → List ℕ → Result (Unit {0}) TalkFault → Type 0
+ComesTo on bytes before after waited waits (Ok done) = (text : List ℕ) × IsConversation on bytes text × Says before after waited waits text
+ComesTo on bytes before after waited waits (Err Input) = (text : List ℕ) × IsBegun on bytes text × SaysUntil Input before after waited waits text
+ComesTo on bytes before after waited waits (Err Output) = (text : List ℕ) × IsBegun on bytes text × SaysUntil Output before after waited waits text
+ComesTo on bytes before after waited waits (Err Shelf) = (text : List ℕ) × IsBegun on bytes text × SaysUntil Shelf before after waited waits text
+ComesTo on bytes before after waited waits (Err (Unopened why)) = (text : List ℕ) × IsRefusedHead on bytes text why × Says before after waited waits text
+ComesTo on bytes before after waited waits (Err NoMemory) = (text : List ℕ) × IsBegun on bytes text × SaysUntil NoMemory before after waited waits text

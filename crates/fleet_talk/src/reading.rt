@@ -1,0 +1,22 @@
+//! The lines of the input, one by one.
+
+ghost use Rattle.std.specs.Prelude.{IfOk, IfErr, IfSome};
+ghost use Rattle.std.specs.Io.Buffered.{reader_remaining};
+ghost use Rattle.fleet_talk.specs.Broken.{IsMidway};
+ghost use Rattle.fleet_talk.specs.Heard.{IsNext};
+
+use crate::fault::TalkFault;
+use crate::ground::MOST_LINE;
+use fleet_lines::read_line;
+use std::io::{BufReader, Read};
+
+/// Reads the next line, and returns whether there was one.
+pub(crate) fn next_line<I: Read>(
+    input: &mut BufReader<I>,
+    bytes: &mut Vec<u8>,
+) -> Result<bool, TalkFault>
+    ensures next { IfOk result (λ found. IfSome (reader_remaining I.remaining input.old) (λ xs. IsNext xs (reader_remaining I.remaining input.new) found bytes.new.items)) }
+    ensures midway { IfErr result (λ fault. IsMidway fault) }
+{
+    Ok(read_line(input, MOST_LINE + 1, bytes)?)
+}

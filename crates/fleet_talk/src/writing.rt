@@ -1,0 +1,52 @@
+//! When what was said is written.
+
+ghost use Rattle.std.specs.Prelude.{◌≡◌, [], OnOk, IfErr};
+ghost use Rattle.fleet_talk.specs.Broken.{SaysUntil};
+ghost use Rattle.fleet_talk.specs.Says.{Says};
+
+use crate::ends::Ends;
+use crate::fault::TalkFault;
+use crate::pen::Pen;
+use std::io::{Read, Write};
+
+/// Writes what was said.
+fn write_now<W: Write>(pen: &mut Pen, output: &mut W) -> Result<(), TalkFault>
+    ensures says { OnOk result (Says (W.contents output.old) (W.contents output.new) pen.old.out.items pen.new.out.items []) }
+    ensures broken { IfErr result (λ fault. SaysUntil fault (W.contents output.old) (W.contents output.new) pen.old.out.items pen.new.out.items []) }
+    ensures settings { pen.new.settings ≡ pen.old.settings }
+{
+    if pen.write_out(output) {
+        Ok(())
+    } else {
+        Err(TalkFault::Output)
+    }
+}
+
+/// Writes what was said if much waits.
+pub(crate) fn write_if_full<W: Write>(pen: &mut Pen, output: &mut W) -> Result<(), TalkFault>
+    ensures says { OnOk result (Says (W.contents output.old) (W.contents output.new) pen.old.out.items pen.new.out.items []) }
+    ensures broken { IfErr result (λ fault. SaysUntil fault (W.contents output.old) (W.contents output.new) pen.old.out.items pen.new.out.items []) }
+    ensures settings { pen.new.settings ≡ pen.old.settings }
+{
+    if !pen.is_full() {
+        return Ok(());
+    }
+    write_now(pen, output)
+}
+
+/// Writes what was said where no whole line is at hand, or much waits.
+pub(crate) fn write_if_due<I: Read, W: Write, S>(
+    ends: &mut Ends<I, W, S>,
+    pen: &mut Pen,
+) -> Result<(), TalkFault>
+    ensures says { OnOk result (Says (W.contents ends.old.output) (W.contents ends.new.output) pen.old.out.items pen.new.out.items []) }
+    ensures broken { IfErr result (λ fault. SaysUntil fault (W.contents ends.old.output) (W.contents ends.new.output) pen.old.out.items pen.new.out.items []) }
+    ensures settings { pen.new.settings ≡ pen.old.settings }
+    ensures input { ends.new.input ≡ ends.old.input }
+{
+    let has_line = ends.input.buffer().iter().any(|byte| *byte == b'\n');
+    if has_line && !pen.is_full() {
+        return Ok(());
+    }
+    write_now(pen, &mut ends.output)
+}

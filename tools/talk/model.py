@@ -1,0 +1,239 @@
+#!/usr/bin/env python3
+"""A conversation with a fleet once more: an independent model of `fleet talk`, written from docs/PROTOCOL.md over the model of `errands`.
+
+usage: tools/talk/model.py [--marks] [--roll] MAP [SCRIPT] < LINES
+       tools/talk/model.py --cases FILE
+
+Answers as `fleet talk` does: output, error text, status. With --cases it reads the test cases of crates/golden_talk (its stdin) and prints
+what the program has to print of them, but for the trials of failing streams. `talk(map, script, lines, marks, roll)` returns (output, error
+text, status). Standard library only.
+"""
+import os
+import sys
+
+sys.path.insert(0, os.path.join(os.path.dirname(os.path.abspath(__file__)), "..", "reference"))
+import model
+
+MOST = 8192
+DEFAULTS = {"life": 2 ** 40, "orders": 2 ** 62, "clock": 2 ** 48, "chapters": model.U32}
+HEADERS = {"robots", "clients", "ties", "turns"} | set(model.LIMIT_DEFAULTS)
+
+
+class Head:
+    def __init__(self):
+        self.seen, self.starts, self.clients, self.south = set(), None, 1, False
+        self.limits = dict(model.LIMIT_DEFAULTS, **DEFAULTS)
+
+    def add(self, words):
+        """Whether the words are a header line that says nothing for the second time."""
+        key = words[0].decode("latin-1")
+        if key not in HEADERS or key in self.seen:
+            return False
+        if key == "robots":
+            cells = [model._number(word, model.U32) for word in words[1:]]
+            if not 1 <= len(cells) <= 512 or None in cells:
+                return False
+            self.starts = cells
+        else:
+            script = one_line([b"robots 0", b" ".join(words)])
+            if script is None:
+                return False
+            if key == "clients":
+                self.clients = script.clients
+            elif key == "ties":
+                self.south = script.south
+            elif key != "turns":
+                self.limits[key] = script.limits[key]
+        self.seen.add(key)
+        return True
+
+
+def one_line(lines):
+    """The script that the lines are, or none."""
+    try:
+        return model.read_script(b"".join(line + b"\n" for line in lines))
+    except model.ScriptFault:
+        return None
+
+
+def words_of(told):
+    return told.replace(b"\t", b" ").split()
+
+
+def kind_of(raw):
+    """What a line asks, its words or events, and its mark."""
+    kept = raw[:MOST + 1]
+    bare = kept[:-1] if kept.endswith(b"\r") else kept
+    mark, told = None, bare
+    if bare.startswith(b"@"):
+        ends = [at for at in (bare.find(b" "), bare.find(b"\t")) if at >= 0]
+        end = min(ends) if ends else len(bare)
+        mark, told = bare[:end], bare[end + 1:]
+    if len(raw) > MOST:
+        return "bad", None, mark
+    if told.startswith(b"#") or told.strip(b" \t") == b"":
+        return "nothing", None, mark
+    words = [word for word in told.replace(b"\t", b" ").split(b" ") if word]
+    script = one_line([b"robots 0", told])
+    if script is not None and script.events:
+        return "events", script.events, mark
+    if len(words) == 1 and words[0] in (b"look", b"chapter", b"quit"):
+        return words[0].decode(), None, mark
+    return "header", words, mark
+
+
+class Talk:
+    def __init__(self, grid, head, marks, roll):
+        self.grid, self.head, self.marks, self.roll = grid, head, marks, roll
+        self.world, self.out, self.limited = None, [], False
+
+    def say(self, mark, lines):
+        for line in lines:
+            self.out.append((mark + b" " if mark is not None else b"") + line.encode("latin-1") + b"\n")
+
+    def open(self):
+        hooks = (model.south_hooks if self.head.south else model.plain_hooks)(len(self.head.starts))
+        self.world = model.World(self.grid, self.head.starts, self.head.clients, self.head.limits, hooks)
+        self.rings = model.run(self.grid, self.head.starts, self.head.clients, self.head.limits, hooks, [])
+
+    def turn(self):
+        told = f"chapter {self.world.number} entries {len(self.world.entries)}"
+        self.world.next_chapter()
+        return told
+
+    def event(self, mark, event):
+        w = self.world
+        if self.roll and event[0] in ("take", "tick", "shut") and w.chapter_full():
+            try:
+                self.say(mark, [self.turn()])
+            except model.BookSpent:
+                pass
+        before = len(w.entries)
+        reply = model._event(self.rings, w, event, self.head.limits, self.head.clients)
+        self.limited |= model.limit_met([reply])
+        self.say(mark, model.event_lines(event, reply, w.entries[before] if len(w.entries) > before else None))
+
+    def look(self):
+        w = self.world
+        eldest, within = w.eldest(), w.idle_within()
+        state = "idle" if eldest is None else f"busy eldest {eldest}"
+        told = f"look tick {w.ticks} chapter {w.number} entries {len(w.entries)} {state}"
+        if within is not None:
+            told += f" within {within}"
+        return told + " at " + " ".join(map(str, w.place))
+
+    def line(self, number, raw):
+        """Whether the conversation goes on."""
+        kind, what, mark = kind_of(raw)
+        if kind == "quit":
+            return False
+        if self.world is None and kind in ("events", "look", "chapter"):
+            if self.head.starts is None:
+                kind = "bad"
+            else:
+                self.open()
+        if kind == "header" and (self.world is not None or not self.head.add(what)):
+            kind = "bad"
+        if kind == "bad":
+            self.say(mark, [f"bad-line {number}"])
+        elif kind == "events":
+            for event in what:
+                self.event(mark, event)
+        elif kind == "look":
+            self.say(mark, [self.look()])
+        elif kind == "chapter":
+            try:
+                self.say(mark, [self.turn()])
+            except model.BookSpent:
+                self.say(mark, ["chapter-refused 1 book-spent"])
+        if self.marks:
+            self.say(mark, [f". {number}"])
+        return True
+
+
+def head_of(script):
+    head = Head()
+    for number, raw in enumerate(model.split_lines(script, cr=False), 1):
+        kind, words, mark = kind_of(raw)
+        if kind == "nothing" and mark is None:
+            continue
+        if kind != "header" or mark is not None or not head.add(words):
+            raise model.Stop(5, f"fleet: script {number}")
+    return head
+
+
+def talk(text, script, lines, marks=False, roll=False):
+    """(output, error text, status)"""
+    try:
+        rows = model.read_map(text)
+    except model.MapFault as fault:
+        return b"", fault.text().replace("errands", "fleet") + "\n", 4
+    try:
+        head = head_of(script)
+    except model.Stop as stop:
+        return b"", stop.args[1] + "\n", stop.args[0]
+    held = Talk(model.Grid(*rows), head, marks, roll)
+    try:
+        for number, raw in enumerate(model.split_lines(lines, cr=False), 1):
+            if not held.line(number, raw):
+                break
+    except model.OpenFault as fault:
+        code = fault.args[0]
+        return b"".join(held.out), f"fleet: opening {code} {model.OPENING[code]}\n", 5
+    if held.limited:
+        return b"".join(held.out), "fleet: limit\n", 8
+    return b"".join(held.out), "", 0
+
+
+def cases(text):
+    """The cases of crates/golden_talk: names, options, conversations."""
+    for block in text.split(b"case: ")[1:]:
+        name, rest = block.split(b"\n", 1)
+        options = []
+        while rest.startswith(b"+ "):
+            option, rest = rest[2:].split(b"\n", 1)
+            options.append(option)
+        yield name, options, rest
+
+
+def tell(name, options, lines):
+    script, text = b"", model_map(b"ring")
+    for option in options:
+        word, _, more = option.partition(b" ")
+        if word == b"script":
+            script += more + b"\n"
+        if word == b"map":
+            text = model_map(more)
+    if b"cut" in options:
+        lines = lines[:-1]
+    out, error, status = talk(text, script, lines, b"marks" in options, b"roll" in options)
+    return b"case: " + name + b"\n" + out + f"status {status}\n{error}".encode()
+
+
+MAPS = {
+    b"ring": b"type octile\nheight 3\nwidth 3\nmap\n...\n.@.\n...\n",
+    b"line": b"type octile\nheight 1\nwidth 3\nmap\n...\n",
+    b"bad": b"type octile\nheight 1\nwidth 3\nmap\n..\n",
+}
+
+
+def model_map(name):
+    return MAPS[name]
+
+
+def main(words):
+    if words[:1] == ["--cases"]:
+        with open(words[1], "rb") as file:
+            for case in cases(file.read()):
+                sys.stdout.buffer.write(tell(*case))
+        return 0
+    names = [word for word in words if not word.startswith("--")]
+    texts = [open(name, "rb").read() for name in names] + [b""]
+    out, error, status = talk(texts[0], texts[1], sys.stdin.buffer.read(), "--marks" in words, "--roll" in words)
+    sys.stdout.buffer.write(out)
+    sys.stderr.write(error)
+    return status
+
+
+if __name__ == "__main__":
+    sys.exit(main(sys.argv[1:]))
