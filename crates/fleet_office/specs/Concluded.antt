@@ -38,11 +38,11 @@ pub record AreHome {A : Type 0} (count : ℕ) (cs : List (ClientView A)) (ts : L
   pub distinct : AreDistinct (cores cs)
   pub counted : sum_by (λ t. t.count) ts ≡ ticks
 
--- why not
+-- why not. Tickers are away only where not all parts of the ledger are there
 abbrev pub IsAway : {A : Type 0} → ℕ → List (ClientView A) → List TickerView → ℕ → ConcludeFault → Type 0
 IsAway count cs ts ticks (Missing c) = (c < count) × IsMissing cs c
 IsAway count cs ts ticks (Twice c) = HasAll count cs × AreTwice cs c
-IsAway count cs ts ticks (Tickers m) = HasAll count cs × AreDistinct (cores cs) × (0 < m) × (sum_by (λ t. t.count) ts + m ≡ ticks)
+IsAway count cs ts ticks (Tickers m) = HasAll count cs × AreDistinct (cores cs) × (0 < m) × (sum_by (λ t. t.count) ts + m ≡ ticks) × (sum_by (λ t. t.parts) ts ≢ 65536)
 IsAway count cs ts ticks ChapterFull = ⊥
 IsAway count cs ts ticks NoMemory = ⊥
 

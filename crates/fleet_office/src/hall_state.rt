@@ -202,6 +202,7 @@ impl<N: OfficeName<A>, A: Allocator + Copy> HallState<N, A> {
         ensures tickers { tickers.new.items ≡ tickers.old.items }
         ensures value { result ≡ sum_by (λ t. t.count) tickers.old.items }
         ensures bound { result ≤ clock self.old.world.history }
+        ensures whole { sum_by (λ t. t.parts) tickers.old.items ≡ 65536 → result ≡ clock self.old.world.history }
     {
         let clock = self.core.clock();
         ticks_of_all(&mut self.book, tickers.as_mut_slice(), clock)

@@ -84,8 +84,8 @@ impl<N: OfficeName<A>, A: Allocator + Copy> Office<N, A> {
     /// clients had not collected. It makes no tick. Waits for nobody.
     ///
     /// Refused in this order: `Missing`, a client that is not handed in; `Twice`, a client that is handed in twice; `Tickers`,
-    /// the ticks of tickers that are not handed in (one that made no tick may stay away); `ChapterFull`, where an order is left
-    /// in a lane; `NoMemory`. After the last two the takes made stand, and mailboxes may be wider: by no more than their notices,
+    /// the ticks of tickers that are not handed in (one that made no tick may stay away), never where all parts of the ledger
+    /// are there; `ChapterFull`, where an order is left in a lane; `NoMemory`. After the last two the takes made stand, and mailboxes may be wider: by no more than their notices,
     /// their client's unfinished errands and two for each order that was left. No notice is lost: all comes back for a further
     /// call.
     pub fn conclude(

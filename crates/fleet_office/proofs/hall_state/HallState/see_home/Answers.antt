@@ -29,6 +29,7 @@ returns-then-made-tick-clause-err g c = (
   c.in_default-twice.ensures.none,
   omega (arith, c.if-made-tick.true),
   omega (arith, c.ticks_by-made.ensures.value, c.if-made-tick.true, c.clock-tick.ensures, ap (λ h. clock h.world.history) c.ticks_by-made.ensures.same),
+  (λ all. absurd (omega (arith, c.ticks_by-made.ensures.whole all, c.if-made-tick.true, c.clock-tick.ensures, ap (λ h. clock h.world.history) c.ticks_by-made.ensures.same))),
 )
 
 pub returns-clause-ok : goal.returns-clause-ok

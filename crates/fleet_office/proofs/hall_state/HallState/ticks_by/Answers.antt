@@ -29,3 +29,8 @@ returns-clause-value g c = c.ticks_of_all.ensures.value ∙ ap (sum_by (λ t. t.
 
 pub returns-clause-bound : goal.returns-clause-bound
 returns-clause-bound g c = rw (← c.self.view_is) (omega (arith, c.ticks_of_all.ensures.bound, c.self.invariant.clock))
+
+pub returns-clause-whole : goal.returns-clause-whole
+returns-clause-whole g c all =
+    let whole : c.ticks_of_all.result ≡ c.clock-clock.result = c.ticks_of_all.ensures.whole (ap (sum_by (λ t. t.parts)) c.as_mut_slice.ensures.value ∙ all) in
+    rw (← c.self.view_is) (whole ∙ c.clock-clock.ensures)

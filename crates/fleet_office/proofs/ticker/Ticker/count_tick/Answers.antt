@@ -10,6 +10,7 @@ invariant_of-self g c = (
   c.add.ensures.parts ∙ c.audit.ensures.parts ∙ c.self.invariant.0,
   c.add.ensures.amount ∙ ap (λ n. n + 1) (c.audit.ensures.amount ∙ c.self.invariant.1),
   c.self.invariant.2,
+  c.self.invariant.3,
 )
 
 pub returns-clause-book : goal.returns-clause-book
