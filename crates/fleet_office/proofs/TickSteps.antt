@@ -1,5 +1,5 @@
 -- A turn's tick is the last entry of the history that it leaves.
-use Rattle.std.proofs.Common.{◌≡◌, ℕ, zero, suc, ◌≤◌, List, [], ◌∷◌, ◌++◌, length, refl, ap, sym, ◌∙◌, arith}
+use Rattle.std.proofs.Common.{◌≡◌, ℕ, zero, suc, List, [], ◌∷◌, ◌++◌, length, ap, sym, ◌∙◌, arith}
 use Rattle.fleet_grid.specs.Floor.{Floor}
 use Rattle.fleet_history.specs.declared.history.Arrival.{Arrival}
 use Rattle.fleet_history.specs.declared.history.Bye.{Bye}

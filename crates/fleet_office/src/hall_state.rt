@@ -131,7 +131,7 @@ impl<N: OfficeName<A>, A: Allocator + Copy> HallState<N, A> {
         self.core.limits().lane
     }
 
-    /// Takes at most `lane` orders of the client, until none is found or its mailbox is full. Answers how many were
+    /// Takes at most `lane` orders of the client, until none is found or its mailbox is full. Returns how many were
     /// taken, and whether the mailbox was full.
     fn take_some(&mut self, client: u32) -> Result<(u32, bool), (TurnCause, u32)>
         requires { client < length self.old.ends }
