@@ -5,7 +5,7 @@ usage: tools/talk/model.py [--marks] [--roll] MAP [SCRIPT] < LINES
        tools/talk/model.py --cases FILE
 
 Answers as `fleet talk` does: output, error text, status. With --cases it reads the test cases of crates/golden_talk (its stdin) and prints
-what the program has to print of them, but for the trials of failing streams. `talk(map, script, lines, marks, roll)` returns (output, error
+what the program has to print of them. `talk(map, script, lines, marks, roll)` returns (output, error
 text, status). Standard library only.
 """
 import os
@@ -49,9 +49,9 @@ class Head:
 
 
 def one_line(lines):
-    """The script that the lines are, or none."""
+    """The script that the lines are, or none. The model takes one carriage return from each, as a conversation did before."""
     try:
-        return model.read_script(b"".join(line + b"\n" for line in lines))
+        return model.read_script(b"".join(line + b"\r\n" for line in lines))
     except model.ScriptFault:
         return None
 
@@ -207,7 +207,20 @@ def tell(name, options, lines):
     if b"cut" in options:
         lines = lines[:-1]
     out, error, status = talk(text, script, lines, b"marks" in options, b"roll" in options)
-    return b"case: " + name + b"\n" + out + f"status {status}\n{error}".encode()
+    told = b"case: " + name + b"\n" + out + f"status {status}\n{error}".encode()
+    if b"trials" in options:
+        told += b"".join(trial + b": as it should\n" for trial in TRIALS)
+    return told
+
+
+TRIALS = (
+    b"read byte by byte",
+    b"each read fails",
+    b"each write fails",
+    b"each write fails once",
+    b"each write takes no byte",
+    b"each chapter is not kept",
+)
 
 
 MAPS = {

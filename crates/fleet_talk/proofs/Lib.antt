@@ -8,3 +8,4 @@ pub mod Onward
 pub mod Finishing
 pub mod Starting
 pub mod Runs
+pub mod Alike

@@ -1,5 +1,5 @@
 -- A conversation as a whole: over all lines of an input, or up to a fault.
-use Rattle.std.specs.Prelude.{◌≡◌, ℕ, false, List, ◌++◌, length, Option, Some, None, Result, Ok, Err, unwrap_or, if◌then◌else◌}
+use Rattle.std.specs.Prelude.{◌≡◌, ℕ, true, false, is_some, List, ◌++◌, length, Option, Some, None, Result, Ok, Err, unwrap_or, if◌then◌else◌}
 use Rattle.std.specs.declared.alloc.Global.{Global}
 use Rattle.fleet_grid.specs.Floor.{Floor}
 use Rattle.fleet_book.specs.declared.limits.Limits.{Limits}
@@ -7,7 +7,7 @@ use Rattle.fleet_core.specs.Hooks.{HookLaws, AreOrderly}
 use Rattle.fleet_core.specs.Opening.{CanOpen}
 use Rattle.fleet_core.specs.OpeningFaults.{IsRefused}
 use Rattle.fleet_core.specs.declared.faults.OpenFault.{OpenFault}
-use Rattle.fleet_script.specs.Script.{Draft, limits_over}
+use Rattle.fleet_script.specs.Script.{Draft, blank_draft, limits_over}
 use Rattle.errands_answer.specs.Kit.{KitLaws, cut_laws}
 use Rattle.fleet_session.specs.Talk.{Talk, opened_talk}
 use Rattle.fleet_talk.specs.declared.ends.Settings.{Settings}
@@ -89,3 +89,16 @@ ComesTo on bytes before after waited waits (Err Output) = (text : List ℕ) × I
 ComesTo on bytes before after waited waits (Err Shelf) = (text : List ℕ) × IsBegun on bytes text × SaysUntil Shelf before after waited waits text
 ComesTo on bytes before after waited waits (Err (Unopened why)) = (text : List ℕ) × IsRefusedHead on bytes text why × Says before after waited waits text
 ComesTo on bytes before after waited waits (Err NoMemory) = (text : List ℕ) × IsBegun on bytes text × SaysUntil NoMemory before after waited waits text
+
+-- ---- scripts
+
+-- a head names the four limits for which a conversation takes others than a script
+pub record NamesLimits (d : Draft) : Type 0 where
+  pub life : is_some d.limits.life ≡ true
+  pub orders : is_some d.limits.orders ≡ true
+  pub clock : is_some d.limits.clock ≡ true
+  pub chapters : is_some d.limits.chapters ≡ true
+
+-- a conversation without marks, in which no chapter is handed out unasked
+abbrev pub plain_terms : KitLaws → Floor → Terms
+plain_terms kit m = record { kit = kit; floor = m; settings = record { marks = false; roll = false }; head = blank_draft }

@@ -1,17 +1,22 @@
 //! What a conversation is. No call does anything.
 
-ghost use Rattle.std.specs.Prelude.{◌≡◌, ℕ, false, List, map, None};
+ghost use Rattle.std.specs.Prelude.{◌≡◌, ℕ, false, List, map, None, Ok, IfSome};
+ghost use Rattle.std.specs.declared.alloc.Global.{Global};
 ghost use Rattle.fleet_grid.specs.Floor.{Floor};
 ghost use Rattle.fleet_book.specs.declared.event.Event.{Event};
 ghost use Rattle.fleet_book.specs.declared.limits.Limits.{Limits};
 ghost use Rattle.fleet_core.specs.Hooks.{HookLaws, AreOrderly};
 ghost use Rattle.fleet_core.specs.Opening.{CanOpen};
+ghost use Rattle.fleet_script.specs.Script.{Plan, script_of};
 ghost use Rattle.fleet_world.specs.declared.reply.Reply.{Reply};
 ghost use Rattle.fleet_world.specs.Run.{State, Run, opened_state};
+ghost use Rattle.errands_answer.specs.Kit.{KitLaws, chosen_laws};
 ghost use Rattle.errands_text.specs.Output.{run_text};
 ghost use Rattle.fleet_session.specs.Talk.{Talk, forget, opened_talk};
 ghost use Rattle.fleet_talk.specs.Act.{play};
 ghost use Rattle.fleet_talk.specs.Acts.{Talks};
+ghost use Rattle.fleet_talk.specs.Conversation.{IsConversation, NamesLimits, head_in, plain_terms};
+ghost use Rattle.fleet_talk.specs.Heard.{AreShort};
 
 /// A conversation in which no chapter is handed out is a run: what is said of events, from the opening on, is what `errands run`
 /// prints of a run of the same events from the same opening, which ends in the same world.
@@ -20,4 +25,15 @@ pub fn a_conversation_is_a_run<A>()
         CanOpen m starts clients limits laws → AreOrderly laws → Talks false (opened_talk m starts clients limits laws) (map (play None) events) text t →
         (replies : List Reply) × (last : State A) × Run (opened_state m starts clients limits laws) events replies last × (forget last ≡ t)
         × (text ≡ run_text events replies last.world.history.entries) }
+{}
+
+/// A script in form, held as a conversation, is a run: all that is written of it is what `errands run` prints of a run of its events.
+///
+/// No line is longer than a line may be; the head names the four limits for which a conversation takes others; no marks are asked
+/// for, and no chapter is handed out unasked.
+pub fn a_script_is_a_run()
+    ensures { (kit : KitLaws) (m : Floor) (bytes text : List ℕ) (plan : Plan) →
+        script_of bytes ≡ Ok plan → AreShort bytes → IfSome (head_in (plain_terms kit m) bytes).opening (λ o. NamesLimits o.head) → IsConversation (plain_terms kit m) bytes text →
+        (replies : List Reply) × (last : State Global) × Run (opened_state m plan.starts plan.clients plan.limits (chosen_laws kit plan)) plan.events replies last
+        × (text ≡ run_text plan.events replies last.world.history.entries) }
 {}

@@ -21,4 +21,4 @@ pub use ends::{Ends, Settings, Shelf, ShelfFault};
 pub use fault::TalkFault;
 pub use ground::{Ground, MOST_LINE, MOST_ROBOTS, TALK_LIMITS};
 pub use heading::read_head;
-pub use law::a_conversation_is_a_run;
+pub use law::{a_conversation_is_a_run, a_script_is_a_run};

@@ -1,40 +1,65 @@
-//! `golden_talk` holds a conversation on a ring of eight cells, as `fleet talk --marks` does: its lines are stored in `stdin`, and
-//! the answers in `stdout`. Those to event lines are what the independent model of `errands` prints.
+//! `golden_talk` holds conversations as `fleet talk` does, and prints what was written and how each ended. Its test cases stand in `stdin`,
+//! what comes of them in `stdout`: `tools/talk/model.py --cases` prints the same from an independent model.
+//!
+//! A case begins with a line `case: NAME`. Lines that begin with `+ ` follow: `+ marks` and `+ roll` are the settings, `+ script LINE` is a
+//! line of the file of header lines, `+ map NAME` another map, `+ cut` takes the last line feed away, and `+ trials` asks for the
+//! trials of readers, writers and shelves that fail. The other lines are those of the conversation.
 #![tactic(auto)]
 
-use fleet_lib::{Chapter, Ends, Settings, Shelf, ShelfFault, TalkTexts, run_talk};
-use std::alloc::Alloc;
-use std::io::BufReader;
-use std::process::ExitCode;
+mod case;
+mod hold;
+mod sink;
+mod source;
+mod tray;
+mod trial;
 
-const MAP: &[u8] = b"type octile\nheight 3\nwidth 3\nmap\n...\n.@.\n...\n";
+use case::{Case, cases_of};
+use hold::{Streams, outcome_of};
+use std::alloc::{Alloc, AllocError, Global};
+use std::io::{self, Read, Write};
+use trial::{Trial, is_good};
 
-/// A shelf that keeps no chapter.
-#[derive(Drop)]
-struct NoShelf;
-
-impl Shelf for NoShelf {
-    fn keep(&mut self, _chapter: &Chapter) -> Result<(), ShelfFault> {
-        Ok(())
+/// Prints what comes of a case.
+fn tell_case<R: Alloc<A = Global>>(
+    rt: &R,
+    case: Case<'_>,
+    told: &mut Vec<u8>,
+) -> Result<(), AllocError> {
+    let outcome = outcome_of(rt, case, Streams::GOOD, case.lines)?;
+    told.extend_from_slice(b"case: ")?;
+    told.extend_from_slice(case.name)?;
+    told.extend_from_slice(b"\n")?;
+    told.extend_from_slice(&outcome.output)?;
+    let line = format!(in rt.alloc(); "status {}\n", outcome.status)?;
+    told.extend_from_slice(line.as_bytes())?;
+    told.extend_from_slice(&outcome.complaint)?;
+    if !case.has_trials {
+        return Ok(());
     }
+    for trial in Trial::ALL {
+        let answer = if is_good(rt, case, &outcome, trial)? {
+            "as it should"
+        } else {
+            "WRONG"
+        };
+        let line = format!(in rt.alloc(); "{}: {answer}\n", trial.name())?;
+        told.extend_from_slice(line.as_bytes())?;
+    }
+    Ok(())
 }
 
-fn main(rt: HostRuntime) -> ExitCode {
-    let Ok(input) = BufReader::new(rt.alloc(), rt.stdin()) else {
-        return ExitCode::from(7);
-    };
-    let mut ends = Ends {
-        input,
-        output: rt.stdout(),
-        shelf: NoShelf,
-    };
-    let texts = TalkTexts {
-        map: MAP,
-        script: b"",
-    };
-    let settings = Settings {
-        marks: true,
-        roll: false,
-    };
-    ExitCode::from(run_talk(&rt, texts, settings, &mut ends, &mut rt.stderr()))
+/// What all cases of a text come to.
+fn tell_all<R: Alloc<A = Global>>(rt: &R, text: &[u8]) -> Result<Vec<u8>, AllocError> {
+    let mut told = Vec::new(rt.alloc());
+    for case in &cases_of(rt.alloc(), text)? {
+        tell_case(rt, *case, &mut told)?;
+    }
+    Ok(told)
+}
+
+fn main(rt: HostRuntime) -> io::Result<()> {
+    let mut text = Vec::new(rt.alloc());
+    rt.stdin().read_to_end(&mut text)?;
+    let told = tell_all(&rt, &text)?;
+    rt.stdout().write_all(&told)
 }

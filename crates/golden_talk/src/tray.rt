@@ -1,0 +1,20 @@
+//! A shelf that fails.
+
+use fleet_lib::{Chapter, Shelf, ShelfFault};
+
+/// Takes chapters in their order, and keeps none. It fails when this many were taken.
+#[derive(Clone, Copy, Drop)]
+pub(crate) struct Tray {
+    pub(crate) taken: u64,
+    pub(crate) room: u64,
+}
+
+impl Shelf for Tray {
+    fn keep(&mut self, chapter: &Chapter) -> Result<(), ShelfFault> {
+        if self.taken == self.room || u64::from(chapter.number) != self.taken {
+            return Err(ShelfFault::File);
+        }
+        self.taken = self.taken.saturating_add(1);
+        Ok(())
+    }
+}
