@@ -8,6 +8,9 @@ use std::sync::atomic::{AtomicU64, Ordering};
 use std::sync::{Arc, Mutex, Wait};
 use std::thread::{self, Threads};
 
+/// The case makes no more notices.
+const MOST_NOTICES: u32 = 10;
+
 /// The guests of an office under a lock, and how many of their orders the lanes took.
 #[derive(Drop)]
 pub(crate) struct Lent<N: OfficeName<Global>> {
@@ -41,8 +44,11 @@ impl<N: OfficeName<Global>> Lent<N> {
         let guests = &mut *held;
         let mut collected = 0u64;
         if let Some(guest) = guests.first_mut() {
-            while collected < 10 && guest.collect().is_some() {
-                collected += 1;
+            for _ in 0..MOST_NOTICES {
+                let Some(_notice) = guest.collect() else {
+                    break;
+                };
+                collected = collected.saturating_add(1);
             }
         }
         collected
