@@ -1,15 +1,15 @@
 //! The word `talk`.
 
-ghost use Rattle.std.specs.Prelude.{◌≤◌, length};
+ghost use Rattle.std.specs.Prelude.{◌≤◌, length, vec_len};
 
-use crate::closures::converse_with_closures;
+use crate::closures::{Host, hold_with_closures};
 use crate::input::InputFault;
 use crate::said::fail;
 use errands_text::{Complaint, write_whole};
 use fleet_grid::Grid;
 use fleet_map::{MapFault, read_map};
 use fleet_script::{Head, ScriptFault};
-use fleet_talk::{Ends, Settings, Shelf, TalkFault, read_head};
+use fleet_talk::{Ends, Ground, Settings, Shelf, TalkFault, converse, read_head};
 use std::alloc::{Alloc, AllocError, Global};
 use std::io::{Read, Write};
 
@@ -21,7 +21,7 @@ pub struct TalkTexts<'a> {
 }
 
 /// Says on the error writer what is wrong. The result is the status.
-fn complain<E: Write>(alloc: Global, complaint: Complaint, error: &mut E) -> u8 {
+pub(crate) fn complain<E: Write>(alloc: Global, complaint: Complaint, error: &mut E) -> u8 {
     match format!(in alloc; "fleet: {complaint}\n") {
         Ok(line) => {
             write_whole(error, line.as_bytes());
@@ -32,7 +32,7 @@ fn complain<E: Write>(alloc: Global, complaint: Complaint, error: &mut E) -> u8 
 }
 
 /// What is wrong where a conversation broke off.
-fn complaint_of(fault: TalkFault) -> Complaint {
+pub(crate) fn complaint_of(fault: TalkFault) -> Complaint {
     match fault {
         TalkFault::Input | TalkFault::Output | TalkFault::Shelf => Complaint::File,
         TalkFault::Opening(fault) => Complaint::Opening(fault),
@@ -41,7 +41,7 @@ fn complaint_of(fault: TalkFault) -> Complaint {
 }
 
 /// The map and the head of the texts.
-fn grounds(alloc: Global, texts: TalkTexts<'_>) -> Result<(Grid, Head), Complaint>
+pub(crate) fn grounds(alloc: Global, texts: TalkTexts<'_>) -> Result<(Grid, Head), Complaint>
     requires { length texts.script.now ≤ 16777216 }
 {
     let map = match read_map(alloc, texts.map) {
@@ -57,6 +57,19 @@ fn grounds(alloc: Global, texts: TalkTexts<'_>) -> Result<(Grid, Head), Complain
     match Grid::new(map) {
         Ok(grid) => Ok((grid, head)),
         Err(AllocError) => Err(Complaint::Memory),
+    }
+}
+
+/// A conversation that is to be held.
+#[derive(Drop)]
+struct TalkHost<'a, I, W, S> {
+    settings: Settings,
+    ends: &'a mut Ends<I, W, S>,
+}
+
+impl<R: Alloc<A = Global>, I: Read, W: Write, S: Shelf> Host<R> for TalkHost<'_, I, W, S> {
+    fn hold(self, rt: &R, ground: Ground) -> Result<bool, TalkFault> {
+        converse(rt, ground, self.settings, self.ends)
     }
 }
 
@@ -76,7 +89,7 @@ pub fn run_talk<R: Alloc<A = Global>, I: Read, W: Write, S: Shelf, E: Write>(
         Ok(grounds) => grounds,
         Err(complaint) => return complain(alloc, complaint, error),
     };
-    match converse_with_closures(rt, grid, head, settings, ends) {
+    match hold_with_closures(rt, grid, head, TalkHost { settings, ends }) {
         Ok(false) => 0,
         Ok(true) => complain(alloc, Complaint::Limit, error),
         Err(fault) => complain(alloc, complaint_of(fault), error),

@@ -13,8 +13,11 @@ mod marks;
 mod pen;
 mod plays;
 
+pub use ask::{Asked, Line, line_of};
 pub use conversation::{TalkFault, converse};
 pub use ends::{Ends, Settings, Shelf, ShelfFault};
 pub use ground::{Ground, MOST_LINE, MOST_ROBOTS, TALK_LIMITS};
 pub use heading::read_head;
 pub use law::a_conversation_is_a_run;
+pub use look::{write_cells, write_eldest, write_within};
+pub use marks::add_marked;

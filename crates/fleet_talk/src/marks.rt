@@ -39,7 +39,7 @@ fn add_lines<A: Allocator + Copy>(
 }
 
 /// Adds the text to the others, under its mark if it has one.
-pub(crate) fn add_marked<A: Allocator + Copy>(
+pub fn add_marked<A: Allocator + Copy>(
     out: &mut Vec<u8, A>,
     mark: Option<&[u8]>,
     text: &[u8],
