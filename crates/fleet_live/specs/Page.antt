@@ -8,7 +8,7 @@ use Rattle.fleet_live.specs.Said.{notice_line}
 
 -- a text was said, and nothing else changed
 pub record IsSaid (old new : Page) (text : List ℕ) : Type 0 where
-  pub text : new.text.items ≡ old.text.items ++ text
+  pub added : new.text.items ≡ old.text.items ++ text
   pub ended : new.ended ≡ old.ended
   pub gone : new.gone ≡ old.gone
 

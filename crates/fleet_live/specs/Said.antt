@@ -12,7 +12,7 @@ use Rattle.fleet_talk.specs.Look.{eldest_text, within_text}
 
 -- the answer to an order that client c posted
 abbrev pub post_text : ℕ → Result ℕ PostFault → List ℕ
-post_text c (Ok number) = codes "posted " ++ decimal c ++ codes " " ++ decimal number ++ codes "\n"
+post_text c (Ok number) = codes "posted " ++ (decimal c ++ (codes " " ++ (decimal number ++ codes "\n")))
 post_text c (Err (post_fault.LaneFull order)) = codes "lane-full " ++ decimal c ++ codes "\n"
 post_text c (Err post_fault.Closed) = codes "post-refused " ++ decimal c ++ codes " 1 closed\n"
 post_text c (Err (post_fault.NumbersSpent order)) = codes "post-refused " ++ decimal c ++ codes " 2 numbers-spent\n"
@@ -20,7 +20,7 @@ post_text c (Err (post_fault.NumbersSpent order)) = codes "post-refused " ++ dec
 -- the answer to a shut: a farewell that is made at once stands in the same line
 abbrev pub shut_text : ℕ → Result (Option ℕ) ShutFault → List ℕ
 shut_text robot (Ok None) = codes "shut " ++ decimal robot ++ codes "\n"
-shut_text robot (Ok (Some stamp)) = codes "shut " ++ decimal robot ++ codes " farewell " ++ decimal stamp ++ codes "\n"
+shut_text robot (Ok (Some stamp)) = codes "shut " ++ (decimal robot ++ (codes " farewell " ++ (decimal stamp ++ codes "\n")))
 shut_text robot (Err fault) = codes "shut-refused " ++ decimal robot ++ codes " " ++ shut_fault_text fault ++ codes "\n"
 
 -- a notice that client c collected

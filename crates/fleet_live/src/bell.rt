@@ -43,7 +43,7 @@ pub(crate) enum Call {
     Nothing,
     Stop(Stop),
     Grant(Wish),
-    Settle,
+    Tell,
 }
 
 /// What is asked and not done yet.
@@ -51,13 +51,13 @@ pub(crate) enum Call {
 struct Asks {
     wishes: VecDeque<Wish>,
     stop: Option<Stop>,
-    settle: bool,
+    tell: bool,
 }
 
 impl Asks {
     /// Whether nothing is asked.
     fn is_quiet(&self) -> bool {
-        self.stop.is_none() && self.wishes.is_empty() && !self.settle
+        self.stop.is_none() && self.wishes.is_empty() && !self.tell
     }
 
     /// What is to be done next.
@@ -68,9 +68,9 @@ impl Asks {
         if let Some(wish) = self.wishes.pop_front() {
             return Call::Grant(wish);
         }
-        if self.settle {
-            self.settle = false;
-            return Call::Settle;
+        if self.tell {
+            self.tell = false;
+            return Call::Tell;
         }
         Call::Nothing
     }
@@ -89,7 +89,7 @@ impl Bell {
             asks: Mutex::new(Asks {
                 wishes: VecDeque::new(alloc),
                 stop: None,
-                settle: false,
+                tell: false,
             }),
             rung: Condvar::new(),
         }
@@ -108,11 +108,11 @@ impl Bell {
         done
     }
 
-    /// Asks to take the orders that wait, and to tell what was kept back.
-    pub(crate) fn ask_to_settle<R: Wait>(&self, rt: &R) {
+    /// Asks to tell what was kept back.
+    pub(crate) fn ask_to_tell<R: Wait>(&self, rt: &R) {
         let mut held = self.asks.lock(rt);
         let asks = &mut *held;
-        asks.settle = true;
+        asks.tell = true;
         mem::drop(held);
         self.rung.notify_all();
     }

@@ -11,8 +11,6 @@ use fleet_talk::{Asked, Line};
 /// What the keeper is asked for.
 #[derive(Clone, Copy, Debug, PartialEq, Eq)]
 pub(crate) enum Wanted {
-    /// To take the orders, without an answer.
-    Settle,
     Shut(u32),
     Look,
     Chapter,

@@ -18,7 +18,6 @@ const PIECE: usize = 65_536;
 struct Hearing<'a, N: OfficeName<Global>> {
     here: &'a Conversation<N>,
     bell: &'a Bell,
-    settles: bool,
     /// How many wishes it had.
     wishes: u64,
 }
@@ -57,11 +56,6 @@ impl<N: OfficeName<Global>> Hearing<'_, N> {
             Demand::Quit => return Ok(true),
             Demand::Post(client, order) => {
                 self.here.post(rt, alloc, line.mark, client, order)?;
-                if self.settles {
-                    self.ask(rt, alloc, None, Wanted::Settle)?;
-                } else {
-                    self.bell.ask_to_settle(rt);
-                }
             }
             Demand::Ask(wanted) => self.ask(rt, alloc, line.mark, wanted)?,
             Demand::Watch(on) => {
@@ -102,20 +96,17 @@ impl<N: OfficeName<Global>> Hearing<'_, N> {
     }
 }
 
-/// Hears a conversation to its end. The fleet stops where the first one ended, or where memory ran out. With `settles` each order waits
-/// until it was taken: so it is where turns are made on demand.
+/// Hears a conversation to its end. The fleet stops where the first one ended, or where memory ran out.
 pub(crate) fn hear<N: OfficeName<Global>, R: Wait, I: Read + Drop>(
     rt: &R,
     alloc: Global,
     here: &Conversation<N>,
     bell: &Bell,
-    settles: bool,
     input: I,
 ) {
     let mut hearing = Hearing {
         here,
         bell,
-        settles,
         wishes: 0,
     };
     let stop = match BufReader::with_capacity(alloc, PIECE, input) {

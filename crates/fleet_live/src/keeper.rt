@@ -207,10 +207,6 @@ impl<N: OfficeName<Global>> Keeper<'_, N> {
     ) -> Result<String, Stop> {
         let alloc = rt.alloc();
         match wanted {
-            Wanted::Settle => {
-                self.settle(rt, work)?;
-                Ok(String::new(alloc))
-            }
             Wanted::Shut(robot) => self.shut_line(rt, work, robot),
             Wanted::Look => {
                 let look = self.office.look(rt, &work.ticker)?;
@@ -238,15 +234,6 @@ impl<N: OfficeName<Global>> Keeper<'_, N> {
         Ok(shut_text(rt.alloc(), robot, done)?)
     }
 
-    /// Takes the orders that wait, and tells what there is to be told.
-    fn settle<R: Alloc<A = Global> + Wait, S>(
-        &self,
-        rt: &R,
-        _work: &mut Work<N, S>,
-    ) -> Result<(), Stop> {
-        Ok(self.tell_all(rt)?)
-    }
-
     /// Grants a wish.
     fn grant<R: Alloc<A = Global> + Wait, S: Shelf>(
         &self,
@@ -263,11 +250,9 @@ impl<N: OfficeName<Global>> Keeper<'_, N> {
         let Some(one) = self.conversations.get(place) else {
             return Ok(());
         };
-        if !text.is_empty() {
-            match &mark {
-                Some(mark) => one.voice.say(rt, Some(mark.as_slice()), text.as_str())?,
-                None => one.voice.say(rt, None, text.as_str())?,
-            }
+        match &mark {
+            Some(mark) => one.voice.say(rt, Some(mark.as_slice()), text.as_str())?,
+            None => one.voice.say(rt, None, text.as_str())?,
         }
         one.note_grant(rt);
         Ok(())
@@ -289,7 +274,7 @@ impl<N: OfficeName<Global>> Keeper<'_, N> {
             Call::Nothing => Ok(()),
             Call::Stop(stop) => Err(stop),
             Call::Grant(wish) => self.grant(rt, work, wish),
-            Call::Settle => self.settle(rt, work),
+            Call::Tell => Ok(self.tell_all(rt)?),
         }
     }
 }

@@ -59,16 +59,15 @@ fn start_pipes<
     rt: &R,
     conversations: &[Arc<Conversation<N>>],
     bell: &Arc<Bell>,
-    settles: bool,
     pipes: Vec<Pipes<P, Q>>,
 ) -> Result<(), AllocError> {
-    let mut place = 1;
+    let mut place = 1usize;
     for Pipes { input, output } in pipes {
         if let Some(one) = conversations.get(place) {
             let _writer = start_writer(rt, &one.voice, bell, output)?;
-            start_reader(rt, one, bell, settles, input)?;
+            start_reader(rt, one, bell, input)?;
         }
-        place += 1;
+        place = place.saturating_add(1);
     }
     Ok(())
 }
@@ -101,8 +100,8 @@ fn serve<
         counts,
         shelf,
     } = ends;
-    let settles = settings.period.is_none();
-    let conversations = conversations_of(alloc, clients, pipes.len(), !settles)?;
+    let paced = settings.period.is_some();
+    let conversations = conversations_of(alloc, clients, pipes.len(), paced)?;
     let Some(first) = conversations.first() else {
         return Err(AllocError);
     };
@@ -114,8 +113,8 @@ fn serve<
     first.watch(settings.watch);
     let writer = start_writer(rt, &first.voice, &bell, output)?;
     let _scribe = start_writer(rt, &tally, &bell, counts)?;
-    start_pipes(rt, &conversations, &bell, settles, pipes)?;
-    start_reader(rt, first, &bell, settles, input)?;
+    start_pipes(rt, &conversations, &bell, pipes)?;
+    start_reader(rt, first, &bell, input)?;
     let mut work = Work {
         ticker,
         shelf,
@@ -125,7 +124,7 @@ fn serve<
     let keeper = Keeper {
         office,
         conversations: conversations.as_slice(),
-        paced: !settles,
+        paced,
     };
     let stop = match settings.period {
         Some(period) => keep_pace(rt, &keeper, (&bell, &tally), &mut work, period),

@@ -34,6 +34,7 @@ pub(crate) fn post_in<N: OfficeName<Global>>(
 }
 
 /// Tells the next notice that a client finds, and returns whether there was one.
+
 fn tell_next<N: OfficeName<Global>>(
     alloc: Global,
     guest: &mut Guest<N>,

@@ -132,10 +132,10 @@ impl Voice {
             }
             // What was kept back for want of room can be told now.
             if text.len() >= crate::page::MOST_TEXT {
-                bell.ask_to_settle(rt);
+                bell.ask_to_tell(rt);
             }
         }
         self.leave(rt);
-        bell.ask_to_settle(rt);
+        bell.ask_to_tell(rt);
     }
 }
