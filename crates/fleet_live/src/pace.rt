@@ -1,5 +1,7 @@
 //! When turns are made.
 
+ghost use Rattle.std.specs.Prelude.{◌<◌, ◌^◌};
+
 use crate::bell::{Bell, Stop};
 use crate::keeper::{Keeper, Turned, Work};
 use crate::period::next_due;
@@ -11,17 +13,35 @@ use std::alloc::{Alloc, Global};
 use std::sync::Wait;
 use std::time::{Clock, Duration, Instant};
 
-/// The microseconds that are told apart at most: 73,000 years.
-const MOST_MICROS: u64 = 1 << 61;
+/// The microseconds that are told apart at most: 63,000 years.
+const MOST_MICROS: u64 = 2_000_000_000_000_000_000;
 
 /// The microseconds of a minute.
 const MINUTE: u64 = 60_000_000;
+
+/// As many microseconds as are told apart.
+fn told_apart(micros: u64) -> u64
+    ensures { result < 2 ^ 62 }
+{
+    if micros < MOST_MICROS {
+        micros
+    } else {
+        MOST_MICROS
+    }
+}
+
+/// The microseconds of a period, at least one.
+fn length_of(period: u32) -> u64
+    ensures { (0 < result) × (result < 2 ^ 32) }
+{
+    if period == 0 { 1 } else { u64::from(period) }
+}
 
 /// The microseconds since then.
 fn micros_since<R: Clock>(rt: &R, start: Instant) -> Result<u64, Stop> {
     match start.elapsed(rt) {
         Ok(time) => match u64::try_from(time.as_micros()) {
-            Ok(micros) => Ok(micros.min(MOST_MICROS)),
+            Ok(micros) => Ok(micros),
             Err(_) => Ok(MOST_MICROS),
         },
         Err(_) => Err(Stop::Input),
@@ -100,13 +120,13 @@ fn step<N: OfficeName<Global>, R: Alloc<A = Global> + Clock + Wait, S: Shelf>(
         let call = bell.wait_for(rt, Duration::from_micros(deadlines.turn - now));
         return keeper.heed(rt, work, call);
     }
-    let period = u64::from(deadlines.period.max(1));
+    let period = length_of(deadlines.period);
     work.tally.note_lateness(now - deadlines.turn, period);
     if keeper.turn(rt, work, true)? != Turned::Made {
         return Err(Stop::Limit);
     }
     let now = micros_since(rt, deadlines.start)?;
-    deadlines.turn = next_due(deadlines.turn.min(MOST_MICROS), period, now);
+    deadlines.turn = next_due(told_apart(deadlines.turn), period, told_apart(now));
     say_counts(rt, deadlines, &mut work.tally, notes, now)?;
     heed_some(rt, keeper, bell, work)
 }
