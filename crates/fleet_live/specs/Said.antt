@@ -1,13 +1,11 @@
 -- The lines that a fleet in real time says.
 use Rattle.std.specs.Prelude.{ℕ, List, ◌++◌, Option, Some, None, Result, Ok, Err, codes, decimal}
 use Rattle.fleet_book.specs.declared.notice.Notice.{Notice}
-use Rattle.fleet_book.specs.declared.event.Event.TheVariants.{Collect}
-use Rattle.fleet_world.specs.declared.reply.Reply.TheVariants.{Collected}
 use Rattle.fleet_core.specs.declared.faults.ShutFault.{ShutFault}
 use Rattle.fleet_lanes.specs.declared.fault.PostFault.{PostFault}
 use Rattle.fleet_lanes.specs.declared.fault.PostFault.TheVariants as post_fault
 use Rattle.fleet_office.specs.declared.look.Look.{Look}
-use Rattle.errands_text.specs.Output.{event_text, notice_text, place_text, shut_fault_text}
+use Rattle.errands_text.specs.Output.{notice_text, place_text, shut_fault_text}
 use Rattle.fleet_talk.specs.Look.{eldest_text, within_text}
 
 -- the answer to an order that client c posted
