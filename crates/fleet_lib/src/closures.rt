@@ -1,7 +1,7 @@
-//! The closures of a fleet that is talked to. No function may hand out a boxed closure that it made, so what is done with them is
-//! called where they are made.
+//! The closures of a fleet that is talked to. No function may hand out a boxed closure that it made, so they are made where the
+//! conversation is held.
 
-ghost use Rattle.std.specs.Prelude.{◌≡◌, ◌<◌, ◌≤◌, IfOk, vec_len};
+ghost use Rattle.std.specs.Prelude.{◌≡◌, ◌<◌, IfOk};
 ghost use Rattle.std.specs.Box.{box_value};
 ghost use Rattle.fleet_hooks.specs.Law.{IsRank};
 ghost use Rattle.fleet_lib.specs.declared.closures.TheConstants.{SOUTH_FIRST};
@@ -12,25 +12,26 @@ use fleet_hooks::{
     ArrivalHook, ArrivalView, Farewell, FarewellView, Hooks, StampLaw, TieHook, TieLaw, TieView,
 };
 use fleet_script::Head;
-use fleet_talk::{Ground, MOST_ROBOTS, TalkFault};
+use fleet_talk::{Ends, Ground, MOST_ROBOTS, Settings, Shelf, TalkFault, converse};
 use std::alloc::{Alloc, AllocError, Global};
+use std::io::{Read, Write};
 
-const NOUGHT: StampLaw = StampLaw { low: 0, high: 0 };
+pub(crate) const NOUGHT: StampLaw = StampLaw { low: 0, high: 0 };
 
-const BELOW_THOUSAND: StampLaw = StampLaw { low: 0, high: 999 };
+pub(crate) const BELOW_THOUSAND: StampLaw = StampLaw { low: 0, high: 999 };
 
-const ALIKE: TieLaw = TieLaw {
+pub(crate) const ALIKE: TieLaw = TieLaw {
     low: [0, 0, 0, 0],
     high: [0, 0, 0, 0],
 };
 
-const SOUTH_FIRST: TieLaw = TieLaw {
+pub(crate) const SOUTH_FIRST: TieLaw = TieLaw {
     low: [1, 1, 0, 1],
     high: [9, 9, 0, 9],
 };
 
 /// A box for each of these.
-fn boxes_of<T: Drop, S: Drop, F: Drop>(
+pub(crate) fn boxes_of<T: Drop, S: Drop, F: Drop>(
     alloc: Global,
     tie: T,
     arrival: S,
@@ -44,20 +45,13 @@ fn boxes_of<T: Drop, S: Drop, F: Drop>(
     Ok((tie, arrival, farewell))
 }
 
-/// What is done with a fleet's map, closures and head.
-pub(crate) trait Host<R> {
-    /// Does it, and returns whether a limit was met.
-    fn hold(self, rt: &R, ground: Ground) -> Result<bool, TalkFault>
-        // Of each call: only a call with a condition may hand on closures.
-        requires { 0 ≤ vec_len ground.kit.plain.ties };
-}
-
-/// Makes the closures of `errands run`, for as many robots as a fleet may have, and lets the host do its work with them.
-pub(crate) fn hold_with_closures<R: Alloc<A = Global>, H: Host<R> + Drop>(
+/// Holds a conversation with the closures of `errands run`, for as many robots as it may have.
+pub(crate) fn converse_with_closures<R: Alloc<A = Global>, I: Read, W: Write, S: Shelf>(
     rt: &R,
     grid: Grid,
     head: Head,
-    host: H,
+    settings: Settings,
+    ends: &mut Ends<I, W, S>,
 ) -> Result<bool, TalkFault> {
     let alloc = rt.alloc();
     // Where memory is refused for one of them, none is used, and all are let go at one place.
@@ -105,5 +99,5 @@ pub(crate) fn hold_with_closures<R: Alloc<A = Global>, H: Host<R> + Drop>(
         drop(kit);
         return Err(TalkFault::NoMemory);
     }
-    host.hold(rt, Ground { grid, kit, head })
+    converse(rt, Ground { grid, kit, head }, settings, ends)
 }

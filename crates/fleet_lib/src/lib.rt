@@ -7,6 +7,7 @@ mod convert;
 mod explain;
 mod input;
 mod live;
+mod live_closures;
 mod said;
 mod talk;
 mod view;

@@ -1,15 +1,15 @@
 //! The word `live`.
 
-ghost use Rattle.std.specs.Prelude.{◌≤◌, length, vec_len};
+ghost use Rattle.std.specs.Prelude.{◌≤◌, length};
 
-use crate::closures::{Host, hold_with_closures};
 use crate::input::InputFault;
+use crate::live_closures::keep_with_closures;
 use crate::said::fail;
 use crate::talk::{TalkTexts, complain, complaint_of, grounds};
 use errands_text::{Complaint, write_whole};
-use fleet_live::{LiveEnds, LiveSettings, keep_live, read_period};
+use fleet_live::{LiveEnds, LiveSettings, read_period};
 use fleet_script::Head;
-use fleet_talk::{Ground, MOST_ROBOTS, Shelf, TalkFault};
+use fleet_talk::{MOST_ROBOTS, Shelf};
 use fleet_words::Live;
 use std::alloc::{Alloc, AllocError, Global};
 use std::io::{Read, Write};
@@ -30,27 +30,6 @@ enum BadWord {
 impl From<AllocError> for BadWord {
     fn from(_error: AllocError) -> BadWord {
         BadWord::NoMemory
-    }
-}
-
-/// A fleet that is to be kept.
-#[derive(Drop)]
-struct LiveHost<I, W, P, Q, E, S> {
-    settings: LiveSettings,
-    ends: LiveEnds<I, W, P, Q, E, S>,
-}
-
-impl<
-    R: Alloc<A = Global> + Clock + Threads + Wait + Copy + Send + Drop + 'static,
-    I: Read + Send + Drop + 'static,
-    W: Write + Send + Drop + 'static,
-    P: Read + Send + Drop + 'static,
-    Q: Write + Send + Drop + 'static,
-    E: Write + Send + Drop + 'static,
-    S: Shelf + Drop,
-> Host<R> for LiveHost<I, W, P, Q, E, S> {
-    fn hold(self, rt: &R, ground: Ground) -> Result<bool, TalkFault> {
-        keep_live(rt, ground, self.settings, self.ends)
     }
 }
 
@@ -137,7 +116,7 @@ pub fn run_live<
     if let Err(word) = add_words(alloc, &mut head, live) {
         return complain_of_word(word, error);
     }
-    match hold_with_closures(rt, grid, head, LiveHost { settings, ends }) {
+    match keep_with_closures(rt, grid, head, settings, ends) {
         Ok(false) => 0,
         Ok(true) => complain(alloc, Complaint::Limit, error),
         Err(fault) => complain(alloc, complaint_of(fault), error),

@@ -1,15 +1,15 @@
 //! The word `talk`.
 
-ghost use Rattle.std.specs.Prelude.{◌≤◌, length, vec_len};
+ghost use Rattle.std.specs.Prelude.{◌≤◌, length};
 
-use crate::closures::{Host, hold_with_closures};
+use crate::closures::converse_with_closures;
 use crate::input::InputFault;
 use crate::said::fail;
 use errands_text::{Complaint, write_whole};
 use fleet_grid::Grid;
 use fleet_map::{MapFault, read_map};
 use fleet_script::{Head, ScriptFault};
-use fleet_talk::{Ends, Ground, Settings, Shelf, TalkFault, converse, read_head};
+use fleet_talk::{Ends, Settings, Shelf, TalkFault, read_head};
 use std::alloc::{Alloc, AllocError, Global};
 use std::io::{Read, Write};
 
@@ -60,19 +60,6 @@ pub(crate) fn grounds(alloc: Global, texts: TalkTexts<'_>) -> Result<(Grid, Head
     }
 }
 
-/// A conversation that is to be held.
-#[derive(Drop)]
-struct TalkHost<'a, I, W, S> {
-    settings: Settings,
-    ends: &'a mut Ends<I, W, S>,
-}
-
-impl<R: Alloc<A = Global>, I: Read, W: Write, S: Shelf> Host<R> for TalkHost<'_, I, W, S> {
-    fn hold(self, rt: &R, ground: Ground) -> Result<bool, TalkFault> {
-        converse(rt, ground, self.settings, self.ends)
-    }
-}
-
 /// Holds a conversation on the map. The result is the status: 0 good, 3 a line could not be read, or an answer or a chapter not
 /// written, 4 the map, 5 the script or the opening is refused, 7 out of memory, 8 a limit was met.
 pub fn run_talk<R: Alloc<A = Global>, I: Read, W: Write, S: Shelf, E: Write>(
@@ -89,7 +76,7 @@ pub fn run_talk<R: Alloc<A = Global>, I: Read, W: Write, S: Shelf, E: Write>(
         Ok(grounds) => grounds,
         Err(complaint) => return complain(alloc, complaint, error),
     };
-    match hold_with_closures(rt, grid, head, TalkHost { settings, ends }) {
+    match converse_with_closures(rt, grid, head, settings, ends) {
         Ok(false) => 0,
         Ok(true) => complain(alloc, Complaint::Limit, error),
         Err(fault) => complain(alloc, complaint_of(fault), error),
