@@ -499,17 +499,19 @@ class LiveFleet:
     def _read(self) -> None:
         """Hears what the fleet says, to its end."""
         assert self._process.stdout is not None
-        for line in self._process.stdout:
-            words = line.decode().split()
-            if words[0] == "tick" and self._on_tick is not None:
-                self._on_tick(int(words[1][:-1]), [int(word) for word in words[2:]])
-                continue
+        try:
+            for line in self._process.stdout:
+                words = line.decode().split()
+                if words[0] == "tick" and self._on_tick is not None:
+                    self._on_tick(int(words[1][:-1]), [int(word) for word in words[2:]])
+                    continue
+                with self._changed:
+                    self._hear(words)
+                    self._changed.notify_all()
+        finally:
             with self._changed:
-                self._hear(words)
+                self._over = True
                 self._changed.notify_all()
-        with self._changed:
-            self._over = True
-            self._changed.notify_all()
 
     def _hear(self, words: List[str]) -> None:
         """Takes in a line."""
