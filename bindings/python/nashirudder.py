@@ -9,18 +9,25 @@
             fleet.tick()
         print(fleet.look().cells)
 
-The fleet stands still until `tick` is called. Cells count row by row from 0, robots and clients from 0, ticks and errands from 1.
-`docs/PROTOCOL.md` of Nashirudder has the lines that are written and read.
+The fleet stands still until `tick` is called. One that moves by itself is a `LiveFleet`, which `fleet live` keeps:
+
+    with LiveFleet("site.map", robots=[0, 4, 24], period_ms=20, on_tick=draw) as fleet:
+        errand = fleet.go(robot=1, cell=12)
+        print(errand.accepted(timeout=1), errand.arrived(timeout=10))
+
+Cells count row by row from 0, robots and clients from 0, ticks and errands from 1. `docs/PROTOCOL.md` of Nashirudder has the lines that
+are written and read.
 """
 
 import subprocess
 import tempfile
+import threading
 from collections import deque
 from dataclasses import dataclass
 from os import PathLike
-from typing import Deque, Dict, List, Optional, Sequence, Tuple, Union
+from typing import Callable, Deque, Dict, List, Optional, Sequence, Tuple, Union
 
-__all__ = ["Arrival", "Chapter", "Ended", "Errand", "Farewell", "Fleet", "FleetError", "Look", "Refused", "Waiting"]
+__all__ = ["Arrival", "Chapter", "Ended", "Errand", "Farewell", "Fleet", "FleetError", "LiveErrand", "LiveFleet", "Look", "Refused", "Waiting"]
 
 
 class FleetError(Exception):
@@ -128,6 +135,20 @@ class Errand:
 def _refusal(words: Sequence[str]) -> Refused:
     """What `.. CODE NAME` says."""
     return Refused(words[-1], int(words[-2]))
+
+
+def _look_in(words: Sequence[str]) -> Look:
+    """What a line `look ..` says."""
+    at = words.index("at")
+    named = dict(zip(words, words[1:at]))
+    return Look(
+        tick=int(named["tick"]),
+        chapter=int(named["chapter"]),
+        entries=int(named["entries"]),
+        eldest=int(named["eldest"]) if "eldest" in named else None,
+        within=int(named["within"]) if "within" in named else None,
+        cells=[int(word) for word in words[at + 1 :]],
+    )
 
 
 class Fleet:
@@ -362,17 +383,7 @@ class Fleet:
 
     def look(self) -> Look:
         """How the fleet stands. It changes nothing."""
-        words = self._ask("look")[0][0]
-        at = words.index("at")
-        named = dict(zip(words, words[1:at]))
-        return Look(
-            tick=int(named["tick"]),
-            chapter=int(named["chapter"]),
-            entries=int(named["entries"]),
-            eldest=int(named["eldest"]) if "eldest" in named else None,
-            within=int(named["within"]) if "within" in named else None,
-            cells=[int(word) for word in words[at + 1 :]],
-        )
+        return _look_in(self._ask("look")[0][0])
 
     def chapter(self) -> Chapter:
         """Hands out the present chapter and begins the next. Raises Refused with "book-spent" where it is the last."""
@@ -389,6 +400,259 @@ class Fleet:
             self._end()
 
     def __enter__(self) -> "Fleet":
+        return self
+
+    def __exit__(self, *_: object) -> None:
+        self.close()
+
+
+class LiveErrand:
+    """A robot of a fleet in real time is to come to a cell, as a client asked."""
+
+    def __init__(self, fleet: "LiveFleet", client: int, robot: int, cell: int) -> None:
+        self._fleet = fleet
+        self._verdict: Optional[List[str]] = None
+        self._arrival: Optional[Arrival] = None
+        self.client = client
+        self.robot = robot
+        self.cell = cell
+
+    def accepted(self, timeout: Optional[float] = None) -> int:
+        """The errand's number among its client's accepted ones, from 1. Waits for the verdict, so many seconds at most.
+
+        Raises Refused with the verdict's name where it was refused, Waiting where the time went by, and Ended where the fleet did.
+        """
+        self._fleet._wait(lambda: self._verdict is not None, timeout)
+        assert self._verdict is not None
+        if self._verdict[0] == "accepted":
+            return int(self._verdict[1])
+        raise _refusal(self._verdict)
+
+    def arrived(self, timeout: Optional[float] = None) -> Arrival:
+        """The arrival. Waits for it, so many seconds at most. Raises as `accepted` does."""
+        self.accepted(timeout)
+        self._fleet._wait(lambda: self._arrival is not None, timeout)
+        assert self._arrival is not None
+        return self._arrival
+
+
+class LiveFleet:
+    """A fleet that moves by itself, a turn every `period_ms` milliseconds; without it, a turn for each `tick`.
+
+    `on_tick` is called with the number of each tick and the robots' cells, in a thread of its own. The other words are those of `Fleet`.
+    Each method may be called from any thread.
+
+    Raises Refused with the name of the opening's refusal, as "start" or "shared", and Ended where the map cannot be read.
+    """
+
+    def __init__(
+        self,
+        map: Union[str, "PathLike[str]"],
+        robots: Sequence[int],
+        clients: int = 1,
+        *,
+        period_ms: Optional[float] = None,
+        on_tick: Optional[Callable[[int, List[int]], None]] = None,
+        ties: str = "plain",
+        traces: Union[str, "PathLike[str]", None] = None,
+        program: str = "fleet",
+        **limits: int,
+    ) -> None:
+        head = ["robots " + " ".join(str(int(cell)) for cell in robots), f"clients {int(clients)}", f"ties {ties}"]
+        head += [f"{name} {int(number)}" for name, number in limits.items()]
+        self._head = tempfile.NamedTemporaryFile("w", suffix=".script")
+        self._head.write("".join(line + "\n" for line in head))
+        self._head.flush()
+        words = [program, "live"]
+        if period_ms is not None:
+            words += ["--period", f"{round(period_ms * 1000)}us"]
+        if on_tick is not None:
+            words.append("--watch")
+        if traces is not None:
+            words += ["--traces", str(traces)]
+        words += [str(map), self._head.name]
+        self._complaints = tempfile.TemporaryFile()
+        self._process = subprocess.Popen(
+            words, stdin=subprocess.PIPE, stdout=subprocess.PIPE, stderr=self._complaints
+        )
+        self._on_tick = on_tick
+        self._marks = 0
+        self._answers: Dict[int, List[str]] = {}
+        self._posting: Dict[int, LiveErrand] = {}
+        self._orders: Dict[Tuple[int, int], LiveErrand] = {}
+        self._errands: Dict[Tuple[int, int], LiveErrand] = {}
+        self._over = False
+        self._changed = threading.Condition()
+        self._sending = threading.Lock()
+        self.status: Optional[int] = None
+        """The exit status, once the fleet is closed: 0, or 8 where a limit was met."""
+        self._reader = threading.Thread(target=self._read, daemon=True)
+        self._reader.start()
+        try:
+            self.look()
+        except BaseException:
+            self._end()
+            raise
+
+    # ---- lines
+
+    def _read(self) -> None:
+        """Hears what the fleet says, to its end."""
+        assert self._process.stdout is not None
+        try:
+            for line in self._process.stdout:
+                words = line.decode().split()
+                if words[0] == "tick" and self._on_tick is not None:
+                    self._on_tick(int(words[1][:-1]), [int(word) for word in words[2:]])
+                    continue
+                with self._changed:
+                    self._hear(words)
+                    self._changed.notify_all()
+        finally:
+            with self._changed:
+                self._over = True
+                self._changed.notify_all()
+
+    def _hear(self, words: List[str]) -> None:
+        """Takes in a line."""
+        if words[0].startswith("@"):
+            mark = int(words[0][1:])
+            errand = self._posting.pop(mark, None)
+            if errand is not None and words[1] == "posted":
+                self._orders[errand.client, int(words[3])] = errand
+            self._answers[mark] = words[1:]
+        elif words[0] == "collected" and words[3] == "verdict":
+            errand = self._orders.pop((int(words[1]), int(words[4])), None)
+            if errand is not None:
+                errand._verdict = words[5:]
+                if words[5] == "accepted":
+                    self._errands[errand.client, int(words[6])] = errand
+        elif words[0] == "collected":
+            client, number = int(words[1]), int(words[4])
+            robot, cell, tick, stamp = (int(word) for word in words[6::2])
+            errand = self._errands.pop((client, number), None)
+            if errand is not None:
+                errand._arrival = Arrival(robot, client, number, cell, tick, stamp)
+
+    def _wait(self, done: Callable[[], bool], timeout: Optional[float]) -> None:
+        """Waits until that is so."""
+        with self._changed:
+            self._changed.wait_for(lambda: done() or self._over, timeout)
+            if done():
+                return
+            if not self._over:
+                raise Waiting("the time went by")
+        raise self._ended()
+
+    def _ask(self, command: str, errand: Optional[LiveErrand] = None) -> List[str]:
+        """Sends a command, and returns its answer."""
+        with self._changed:
+            self._marks += 1
+            mark = self._marks
+            if errand is not None:
+                self._posting[mark] = errand
+        try:
+            with self._sending:
+                assert self._process.stdin is not None
+                self._process.stdin.write(f"@{mark} {command}\n".encode())
+                self._process.stdin.flush()
+        except (BrokenPipeError, ConnectionError, ValueError):
+            raise self._ended() from None
+        self._wait(lambda: mark in self._answers, None)
+        with self._changed:
+            words = self._answers.pop(mark)
+        if words[0] == "bad-line":
+            raise ValueError(f"no line of the protocol: {command!r}")
+        return words
+
+    def _ended(self) -> FleetError:
+        """What there is to raise where the program ended."""
+        if self._complaints.closed:
+            return Ended(self.status, "the fleet is closed")
+        self.status = self._process.wait()
+        self._complaints.seek(0)
+        complaint = self._complaints.read().decode(errors="replace").strip()
+        words = complaint.split()
+        if words[:2] == ["fleet:", "opening"]:
+            return _refusal(words)
+        return Ended(self.status, complaint)
+
+    def _end(self) -> None:
+        """Lets the program end."""
+        if self._process.stdin is not None:
+            try:
+                self._process.stdin.close()
+            except BrokenPipeError:
+                pass
+        self._reader.join()
+        if self._process.stdout is not None:
+            self._process.stdout.close()
+        self.status = self._process.wait()
+        self._complaints.close()
+        self._head.close()
+
+    # ---- orders
+
+    def _post(self, client: int, order: str, errand: LiveErrand) -> None:
+        """Posts an order."""
+        words = self._ask(f"post {client} {order}", errand)
+        if words[0] == "post-refused":
+            raise _refusal(words)
+        if words[0] != "posted":
+            raise Refused(words[0])
+
+    def go(self, robot: int, cell: int, client: int = 0) -> LiveErrand:
+        """Asks a robot to come to a cell, after the errands that it has. The verdict is the errand's `accepted`.
+
+        Raises Refused with "lane-full", "closed" or "no-client" where the order was not posted.
+        """
+        errand = LiveErrand(self, client, robot, cell)
+        self._post(client, f"go {robot} {cell}", errand)
+        return errand
+
+    def withdraw(self, errand: LiveErrand, timeout: Optional[float] = None) -> None:
+        """Takes back an errand that its robot is not heading for yet. Raises Refused with "too-late" or "no-errand"."""
+        order = LiveErrand(self, errand.client, errand.robot, errand.cell)
+        self._post(errand.client, f"withdraw {errand.accepted(timeout)}", order)
+        self._wait(lambda: order._verdict is not None, timeout)
+        if order._verdict is not None and order._verdict[0] != "withdrawn":
+            raise _refusal(order._verdict)
+
+    def shut(self, robot: int) -> Optional[Farewell]:
+        """A robot finishes its errands and gets no more. Returns its farewell if it has none. Raises Refused with "no-robot" or "already"."""
+        words = self._ask(f"shut {robot}")
+        if words[0] == "shut-refused":
+            raise _refusal(words)
+        return Farewell(robot, int(words[3])) if len(words) == 4 else None
+
+    # ---- time
+
+    def tick(self, count: int = 1) -> List[int]:
+        """Makes `count` turns and returns the robots' cells, where there is no period. Raises Refused with "clock-spent"."""
+        words = self._ask(f"tick {count}")
+        if words[0] == "tick-refused":
+            raise _refusal(words)
+        return [int(word) for word in words[2:]]
+
+    def look(self) -> Look:
+        """How the fleet stands. It changes nothing."""
+        return _look_in(self._ask("look"))
+
+    def chapter(self) -> Chapter:
+        """Hands out the present chapter and begins the next. Raises Refused with "book-spent" where it is the last."""
+        words = self._ask("chapter")
+        if words[0] == "chapter-refused":
+            raise _refusal(words)
+        return Chapter(int(words[1]), int(words[3]))
+
+    # ---- the end
+
+    def close(self) -> None:
+        """Ends the program, which keeps the last chapter if `traces` was given."""
+        if not self._complaints.closed:
+            self._end()
+
+    def __enter__(self) -> "LiveFleet":
         return self
 
     def __exit__(self, *_: object) -> None:

@@ -1,13 +1,15 @@
 //! `fleet`: for the people around a fleet of robots. `fleet view MAP TRACE..` prints a page that replays traces on a map, with `--svg` a
 //! moving picture, with `--tick N` a picture of what stands after N ticks. `fleet check MAP PLAN` judges a plan of any planner. `fleet talk MAP`
 //! answers lines as they come. `fleet convert --to FORM MAP TRACE` prints a trace as a plan, and `fleet explain MAP [INPUT]` says what is wrong with
-//! files. What each word does is in `fleet_lib`.
+//! files. `fleet live MAP` keeps a fleet in real time. What each word does is in `fleet_lib`.
 #![tactic(auto)]
 
+mod chapters;
 mod check;
 mod convert;
 mod ends;
 mod explain;
+mod live;
 mod talk;
 mod view;
 
@@ -15,6 +17,7 @@ use check::run_check;
 use convert::run_convert;
 use explain::run_explain;
 use fleet_lib::{InputFault, Job, WordFault, fail, parse_words, write_whole};
+use live::hold_live;
 use std::alloc::{Alloc, Global};
 use std::env::{self, Env};
 use std::io::{self, ErrorKind, Write};
@@ -64,6 +67,7 @@ fn main(rt: HostRuntime) -> ExitCode {
         Ok(Job::Talk(talk)) => hold_talk(&rt, &talk, rt.stdin(), output, &mut error),
         Ok(Job::Convert(convert)) => run_convert(&rt, &convert, &mut output, &mut error),
         Ok(Job::Explain(explain)) => run_explain(&rt, &explain, &mut output, &mut error),
+        Ok(Job::Live(live)) => hold_live(&rt, &live, rt.stdin(), output, &mut error),
         Err(status) => status,
     };
     ExitCode::from(status)

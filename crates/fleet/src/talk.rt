@@ -2,47 +2,15 @@
 
 ghost use Rattle.std.specs.Prelude.{◌≤◌, vec_len, IfOk};
 
+use crate::chapters::TraceFolder;
 use crate::ends::{MOST_MAP_BYTES, file_bytes};
-use fleet_lib::{
-    Chapter, Ends, InputFault, Settings, Shelf, ShelfFault, Talk, TalkTexts, fail, run_talk,
-    trace_line, write_whole,
-};
+use fleet_lib::{Ends, InputFault, Settings, Talk, TalkTexts, fail, run_talk};
 use std::alloc::{Alloc, Global};
-use std::fs::{File, Files};
-use std::io::{BufReader, ErrorKind, Read, Write};
+use std::fs::Files;
+use std::io::{BufReader, Read, Write};
 
 /// The bytes that are read at most at once.
 const PIECE: usize = 65_536;
-
-/// A folder for the traces of chapters, or none.
-#[derive(Drop)]
-struct TraceFolder<'a, R> {
-    rt: &'a R,
-    name: Option<&'a str>,
-}
-
-impl<R: Files + Alloc<A = Global>> Shelf for TraceFolder<'_, R> {
-    fn keep(&mut self, chapter: &Chapter) -> Result<(), ShelfFault> {
-        let Some(folder) = self.name else {
-            return Ok(());
-        };
-        let alloc = self.rt.alloc();
-        let number = chapter.number;
-        let name = format!(in alloc; "{folder}/chapter-{number}.json")?;
-        let text = trace_line(alloc, chapter)?;
-        match File::create(self.rt, name.as_str()) {
-            Ok(mut file) => {
-                if write_whole(&mut file, text.as_bytes()) {
-                    Ok(())
-                } else {
-                    Err(ShelfFault::File)
-                }
-            }
-            Err(fault) if fault.kind() == ErrorKind::OutOfMemory => Err(ShelfFault::NoMemory),
-            Err(_) => Err(ShelfFault::File),
-        }
-    }
-}
 
 /// The header lines of the file that is named, and none where no file is.
 fn script_bytes<R: Files + Alloc<A = Global>>(
@@ -58,14 +26,15 @@ fn script_bytes<R: Files + Alloc<A = Global>>(
 }
 
 /// What the files have that are named, the map first.
-fn texts_of<R: Files + Alloc<A = Global>>(
+pub(crate) fn texts_of<R: Files + Alloc<A = Global>>(
     rt: &R,
-    talk: &Talk,
+    map: &str,
+    script: &Option<String>,
 ) -> Result<(Vec<u8>, Vec<u8>), InputFault>
     ensures { IfOk result (λ texts. vec_len texts.1 ≤ 16777216) }
 {
-    let map = file_bytes(rt, talk.map.as_str(), MOST_MAP_BYTES)?;
-    let script = match &talk.script {
+    let map = file_bytes(rt, map, MOST_MAP_BYTES)?;
+    let script = match script {
         Some(name) => script_bytes(rt, Some(name.as_str()))?,
         None => script_bytes(rt, None)?,
     };
@@ -80,7 +49,7 @@ pub(crate) fn hold_talk<R: Files + Alloc<A = Global>, I: Read + Drop, W: Write +
     output: W,
     error: &mut E,
 ) -> u8 {
-    let (map, script) = match texts_of(rt, talk) {
+    let (map, script) = match texts_of(rt, talk.map.as_str(), &talk.script) {
         Ok(texts) => texts,
         Err(fault) => {
             drop(input);

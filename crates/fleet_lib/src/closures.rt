@@ -16,22 +16,22 @@ use fleet_talk::{Ends, Ground, MOST_ROBOTS, Settings, Shelf, TalkFault, converse
 use std::alloc::{Alloc, AllocError, Global};
 use std::io::{Read, Write};
 
-const NOUGHT: StampLaw = StampLaw { low: 0, high: 0 };
+pub(crate) const NOUGHT: StampLaw = StampLaw { low: 0, high: 0 };
 
-const BELOW_THOUSAND: StampLaw = StampLaw { low: 0, high: 999 };
+pub(crate) const BELOW_THOUSAND: StampLaw = StampLaw { low: 0, high: 999 };
 
-const ALIKE: TieLaw = TieLaw {
+pub(crate) const ALIKE: TieLaw = TieLaw {
     low: [0, 0, 0, 0],
     high: [0, 0, 0, 0],
 };
 
-const SOUTH_FIRST: TieLaw = TieLaw {
+pub(crate) const SOUTH_FIRST: TieLaw = TieLaw {
     low: [1, 1, 0, 1],
     high: [9, 9, 0, 9],
 };
 
 /// A box for each of these.
-fn boxes_of<T: Drop, S: Drop, F: Drop>(
+pub(crate) fn boxes_of<T: Drop, S: Drop, F: Drop>(
     alloc: Global,
     tie: T,
     arrival: S,

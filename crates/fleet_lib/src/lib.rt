@@ -6,6 +6,8 @@ mod closures;
 mod convert;
 mod explain;
 mod input;
+mod live;
+mod live_closures;
 mod said;
 mod talk;
 mod view;
@@ -18,11 +20,13 @@ pub use explain::{
     MOST_SCRIPT_BYTES, answer_explain_map, answer_explain_script, answer_explain_trace,
 };
 pub use fleet_history::Chapter;
+pub use fleet_live::{LiveEnds, Pipes};
 pub use fleet_talk::{Ends, Settings, Shelf, ShelfFault};
 pub use fleet_words::{
-    Check, Convert, Explain, Form, Job, Shown, Talk, View, WordFault, parse_words,
+    Check, Convert, Explain, Form, Job, Live, Shown, Talk, View, WordFault, parse_words,
 };
 pub use input::{InputFault, read_up_to};
+pub use live::run_live;
 pub use said::{Said, fail, tell};
 pub use talk::{TalkTexts, run_talk};
 pub use view::{MOST_TRACE_BYTES, answer_view};

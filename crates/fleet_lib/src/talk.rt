@@ -21,7 +21,7 @@ pub struct TalkTexts<'a> {
 }
 
 /// Says on the error writer what is wrong. The result is the status.
-fn complain<E: Write>(alloc: Global, complaint: Complaint, error: &mut E) -> u8 {
+pub(crate) fn complain<E: Write>(alloc: Global, complaint: Complaint, error: &mut E) -> u8 {
     match format!(in alloc; "fleet: {complaint}\n") {
         Ok(line) => {
             write_whole(error, line.as_bytes());
@@ -32,7 +32,7 @@ fn complain<E: Write>(alloc: Global, complaint: Complaint, error: &mut E) -> u8 
 }
 
 /// What is wrong where a conversation broke off.
-fn complaint_of(fault: TalkFault) -> Complaint {
+pub(crate) fn complaint_of(fault: TalkFault) -> Complaint {
     match fault {
         TalkFault::Input | TalkFault::Output | TalkFault::Shelf => Complaint::File,
         TalkFault::Opening(fault) => Complaint::Opening(fault),
@@ -41,7 +41,7 @@ fn complaint_of(fault: TalkFault) -> Complaint {
 }
 
 /// The map and the head of the texts.
-fn grounds(alloc: Global, texts: TalkTexts<'_>) -> Result<(Grid, Head), Complaint>
+pub(crate) fn grounds(alloc: Global, texts: TalkTexts<'_>) -> Result<(Grid, Head), Complaint>
     requires { length texts.script.now ≤ 16777216 }
 {
     let map = match read_map(alloc, texts.map) {

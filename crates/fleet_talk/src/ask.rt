@@ -15,7 +15,7 @@ use fleet_script::{EventLine, Repeat, event_line};
 
 /// What a line asks, its mark apart.
 #[derive(Clone, Copy)]
-pub(crate) enum Asked {
+pub enum Asked {
     /// It is blank, or a comment.
     Nothing,
     Events(Repeat),
@@ -30,11 +30,11 @@ pub(crate) enum Asked {
 
 /// A line: its number from 1, its mark, what follows that, and what this asks.
 #[derive(Clone, Copy)]
-pub(crate) struct Line<'a> {
-    pub(crate) number: u64,
-    pub(crate) mark: Option<&'a [u8]>,
-    pub(crate) told: &'a [u8],
-    pub(crate) asked: Asked,
+pub struct Line<'a> {
+    pub number: u64,
+    pub mark: Option<&'a [u8]>,
+    pub told: &'a [u8],
+    pub asked: Asked,
 }
 
 /// The line without the carriage return at its end.
@@ -124,7 +124,7 @@ fn asked_of(bytes: &[u8], told: &[u8]) -> Asked
 }
 
 /// The line of this number, by its first bytes: one more than a line may have, where it is longer.
-pub(crate) fn line_of(number: u64, bytes: &[u8]) -> Line<'_>
+pub fn line_of(number: u64, bytes: &[u8]) -> Line<'_>
     ensures { line_shown result ≡ line_in number bytes.now }
 {
     let bare = without_return(bytes);

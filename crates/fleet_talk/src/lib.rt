@@ -16,9 +16,12 @@ mod plays;
 mod reading;
 mod writing;
 
+pub use ask::{Asked, Line, line_of};
 pub use conversation::converse;
 pub use ends::{Ends, Settings, Shelf, ShelfFault};
 pub use fault::TalkFault;
 pub use ground::{Ground, MOST_LINE, MOST_ROBOTS, TALK_LIMITS};
 pub use heading::read_head;
 pub use law::{a_conversation_is_a_run, a_script_is_a_run};
+pub use look::{write_cells, write_eldest, write_within};
+pub use marks::add_marked;

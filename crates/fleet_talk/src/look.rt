@@ -9,7 +9,7 @@ use std::alloc::{AllocError, Global};
 use std::fmt::Write;
 
 /// Who is eldest, or that the fleet is idle.
-fn write_eldest(text: &mut String, eldest: Option<u32>) -> Result<(), AllocError>
+pub fn write_eldest(text: &mut String, eldest: Option<u32>) -> Result<(), AllocError>
     ensures { OnOk result (string_bytes text.new ≡ string_bytes text.old ++ eldest_text eldest) }
 {
     match eldest {
@@ -19,7 +19,7 @@ fn write_eldest(text: &mut String, eldest: Option<u32>) -> Result<(), AllocError
 }
 
 /// Within how many ticks the fleet is idle, where that is known.
-fn write_within(text: &mut String, within: Option<u64>) -> Result<(), AllocError>
+pub fn write_within(text: &mut String, within: Option<u64>) -> Result<(), AllocError>
     ensures { OnOk result (string_bytes text.new ≡ string_bytes text.old ++ within_text within) }
 {
     match within {
@@ -29,7 +29,7 @@ fn write_within(text: &mut String, within: Option<u64>) -> Result<(), AllocError
 }
 
 /// The cells, each after a blank.
-fn write_cells(text: &mut String, cells: &[u32]) -> Result<(), AllocError>
+pub fn write_cells(text: &mut String, cells: &[u32]) -> Result<(), AllocError>
     ensures { OnOk result (string_bytes text.new ≡ string_bytes text.old ++ place_text cells.now) }
 {
     for cell in cells {

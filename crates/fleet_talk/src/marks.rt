@@ -1,7 +1,8 @@
 //! Answers under their marks.
 
 ghost use Rattle.std.specs.Prelude.{◌≡◌, ◌++◌, true, OnOk};
-ghost use Rattle.fleet_talk.specs.Says.{opened, marked_from};
+ghost use Rattle.fleet_talk.specs.Said.{under};
+ghost use Rattle.fleet_talk.specs.Says.{opened, marked, marked_from};
 
 use std::alloc::{AllocError, Allocator};
 
@@ -35,4 +36,18 @@ pub(crate) fn add_lines<A: Allocator + Copy>(
         begins = *byte == b'\n';
     }
     Ok(())
+}
+
+/// Adds the text to the others, under its mark if it has one.
+pub fn add_marked<A: Allocator + Copy>(
+    out: &mut Vec<u8, A>,
+    mark: Option<&[u8]>,
+    text: &[u8],
+) -> Result<(), AllocError>
+    ensures { OnOk result (out.new.items ≡ out.old.items ++ marked (under mark.entry) text.now) }
+{
+    match mark {
+        Some(mark) => add_lines(out, mark, text),
+        None => out.extend_from_slice(text),
+    }
 }

@@ -1,5 +1,5 @@
 -- What the words ask for.
-use Rattle.std.specs.Prelude.{◌≡◌, Bool, true, false, List, map, Option, Some, None, codes, string_bytes, if◌then◌else◌}
+use Rattle.std.specs.Prelude.{◌≡◌, Bool, true, false, List, [], map, Option, Some, None, codes, string_bytes, if◌then◌else◌}
 use Rattle.std.specs.Option.{option_map, option_map_or, option_and_then}
 use Rattle.std.specs.Str.{bytes_eq}
 use Rattle.std.specs.Str.Parse.{digits_value, without_leading_plus}
@@ -13,6 +13,7 @@ use Rattle.fleet_words.specs.declared.convert.Form.{Form}
 use Rattle.fleet_words.specs.declared.convert.Form.TheVariants.{Pibt2, Moves, Lorr}
 use Rattle.fleet_words.specs.declared.convert.Convert.{Convert as ConvertJob}
 use Rattle.fleet_words.specs.declared.explain.Explain.{Explain as ExplainJob}
+use Rattle.fleet_words.specs.declared.live.Live.{Live as LiveJob}
 use Rattle.fleet_words.specs.declared.words.Job.{Job}
 use Rattle.fleet_words.specs.declared.words.Job.TheVariants as job
 
@@ -68,6 +69,22 @@ pub record IsExplain (rows : List Row) (explain : ExplainJob) : Type 0 where
   pub floor : first_of (codes "MAP") rows ≡ Some (string_bytes explain.map)
   pub other : first_of (codes "INPUT") rows ≡ option_map (λ s. string_bytes s) explain.other
 
+-- the words of an argument that may have none
+abbrev pub or_none : Option (List Text) → List Text
+or_none None = []
+or_none (Some words) = words
+
+-- what the words after `live` ask for
+pub record IsLive (rows : List Row) (live : LiveJob) : Type 0 where
+  pub floor : first_of (codes "MAP") rows ≡ Some (string_bytes live.map)
+  pub script : first_of (codes "SCRIPT") rows ≡ option_map (λ s. string_bytes s) live.script
+  pub robots : first_of (codes "robots") rows ≡ option_map (λ s. string_bytes s) live.robots
+  pub clients : first_of (codes "clients") rows ≡ option_map (λ s. string_bytes s) live.clients
+  pub period : first_of (codes "period") rows ≡ option_map (λ s. string_bytes s) live.period
+  pub traces : first_of (codes "traces") rows ≡ option_map (λ s. string_bytes s) live.traces
+  pub pipes : or_none (all_of (codes "client") rows) ≡ map (λ s. string_bytes s) live.pipes.items
+  pub watch : live.watch ≡ has_flag (codes "watch") rows
+
 -- the job of a subcommand and the words that stand for its arguments
 abbrev pub IsJobOf : Option (Text × List Row) → Job → Type 0
 IsJobOf found (job.View view) = (rows : List Row) × (found ≡ Some (codes "view", rows)) × IsView rows view
@@ -75,3 +92,4 @@ IsJobOf found (job.Check check) = (rows : List Row) × (found ≡ Some (codes "c
 IsJobOf found (job.Talk talk) = (rows : List Row) × (found ≡ Some (codes "talk", rows)) × IsTalk rows talk
 IsJobOf found (job.Convert convert) = (rows : List Row) × (found ≡ Some (codes "convert", rows)) × IsConvert rows convert
 IsJobOf found (job.Explain explain) = (rows : List Row) × (found ≡ Some (codes "explain", rows)) × IsExplain rows explain
+IsJobOf found (job.Live live) = (rows : List Row) × (found ≡ Some (codes "live", rows)) × IsLive rows live

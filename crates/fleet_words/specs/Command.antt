@@ -48,9 +48,24 @@ convert_app = with_rule (with_rule (with_rule (new_app (codes "convert")) to_rul
 abbrev pub explain_app : App
 explain_app = with_rule (with_rule (new_app (codes "explain")) (file_rule (codes "MAP"))) (new_rule (codes "INPUT"))
 
+-- an option with a value, as --robots 0,5
+abbrev pub option_rule : Text → Rule
+option_rule name = record (new_rule name) { long = Some name; value_names = 1 }
+
+-- --client IN,OUT, which may be given more than once
+abbrev pub pipes_rule : Rule
+pipes_rule = record (new_rule (codes "client")) { long = Some (codes "client"); value_names = 1; action = Some Append }
+
+abbrev pub with_live_options : App → App
+with_live_options app = with_rule (with_rule (with_rule (with_rule app (option_rule (codes "robots"))) (option_rule (codes "clients"))) (option_rule (codes "period"))) pipes_rule
+
+-- live [--robots CELLS] [--clients N] [--period TIME] [--client IN,OUT].. [--watch] [--traces DIR] MAP [SCRIPT]
+abbrev pub live_app : App
+live_app = with_rule (with_rule (with_rule (with_rule (with_live_options (new_app (codes "live"))) (flag_rule (codes "watch"))) traces_rule) (file_rule (codes "MAP"))) (new_rule (codes "SCRIPT"))
+
 -- fleet, which tells its version and wants a word
 abbrev pub fleet_top : App
 fleet_top = let app = new_app (codes "fleet") in record app { top = record app.top { has_version = true; subcommand_required = true } }
 
 abbrev pub fleet_app : App
-fleet_app = with_subcommand (with_subcommand (with_subcommand (with_subcommand (with_subcommand fleet_top view_app.top) check_app.top) talk_app.top) convert_app.top) explain_app.top
+fleet_app = with_subcommand (with_subcommand (with_subcommand (with_subcommand (with_subcommand (with_subcommand fleet_top view_app.top) check_app.top) talk_app.top) convert_app.top) explain_app.top) live_app.top

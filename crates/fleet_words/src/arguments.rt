@@ -5,7 +5,7 @@ ghost use Rattle.std.specs.Option.{option_map};
 ghost use Rattle.clap.specs.declared.builder.command.Command.TheViews.{out-Command as fields_of};
 ghost use Rattle.clap.specs.Words.{app_of, new_app, rule_of, with_rule, first_of, all_of, found_of, rows_of};
 ghost use Rattle.fleet_words.specs.Command.{file_rule, files_rule, flag_rule};
-ghost use Rattle.fleet_words.specs.Asked.{has_flag};
+ghost use Rattle.fleet_words.specs.Asked.{has_flag, or_none};
 
 use clap::{Arg, ArgAction, ArgMatches, Command};
 use std::alloc::{AllocError, Global};
@@ -130,6 +130,20 @@ pub(crate) fn words_for(
         Some(words) => copies(alloc, words),
         // `clap` has a word for each required argument, so this never runs
         None => Err(AllocError),
+    }
+}
+
+/// The words that stand for an argument that may have several, or none.
+pub(crate) fn some_words_for(
+    alloc: Global,
+    matches: &ArgMatches<'_>,
+    name: &str,
+) -> Result<Vec<String>, AllocError>
+    ensures { IfOk result (λ words. or_none (all_of name.now (rows_of (found_of matches.now))) ≡ map (λ s. string_bytes s) words.items) }
+{
+    match matches.get_strs(name) {
+        None => Ok(Vec::new(alloc)),
+        Some(given) => copies(alloc, given),
     }
 }
 

@@ -8,6 +8,7 @@ ghost use Rattle.fleet_words.specs.Command.{fleet_app, fleet_top};
 use crate::check::check_command;
 use crate::convert::convert_command;
 use crate::explain::explain_command;
+use crate::live::live_command;
 use crate::talk::talk_command;
 use crate::view::view_command;
 use clap::Command;
@@ -33,7 +34,7 @@ fn top_command<'a>(alloc: Global) -> Command<'a>
 {
     Command::new(alloc, "fleet")
         .about(
-            "Looks at fleets of robots: shows traces of what they did, judges plans and writes them, and answers lines as they come",
+            "Looks at fleets of robots: shows traces of what they did, judges plans and writes them, answers lines as they come, and keeps fleets in real time",
         )
         .version("0.1.0")
         .subcommand_required(true)
@@ -47,7 +48,8 @@ fn fleet_command<'a>(alloc: Global) -> Result<Command<'a>, AllocError>
     let command = with_subcommand(command, check_command(alloc))?;
     let command = with_subcommand(command, talk_command(alloc))?;
     let command = with_subcommand(command, convert_command(alloc))?;
-    with_subcommand(command, explain_command(alloc))
+    let command = with_subcommand(command, explain_command(alloc))?;
+    with_subcommand(command, live_command(alloc))
 }
 
 /// The command, whose usage has this name whatever the program's file is called.

@@ -27,7 +27,7 @@ pub struct Talk {
 }
 
 /// The option that names a folder.
-fn traces_option<'a>(alloc: Global) -> Arg<'a>
+pub(crate) fn traces_option<'a>(alloc: Global) -> Arg<'a>
     ensures rule { rule_of result ≡ traces_rule }
     ensures own { result.global ≡ false }
 {
@@ -38,7 +38,7 @@ fn traces_option<'a>(alloc: Global) -> Arg<'a>
 }
 
 /// An argument that names a file, and may be left out.
-fn script_argument<'a>(alloc: Global) -> Arg<'a>
+pub(crate) fn script_argument<'a>(alloc: Global) -> Arg<'a>
     ensures rule { rule_of result ≡ new_rule (codes "SCRIPT") }
     ensures own { result.global ≡ false }
 {

@@ -12,6 +12,7 @@ use crate::check::{Check, check_in};
 use crate::commands::named_command;
 use crate::convert::{Convert, convert_in};
 use crate::explain::{Explain, explain_in};
+use crate::live::{Live, live_in};
 use crate::talk::{Talk, talk_in};
 use crate::view::{View, view_in};
 use clap::error::ErrorKind;
@@ -26,6 +27,7 @@ pub enum Job {
     Talk(Talk),
     Convert(Convert),
     Explain(Explain),
+    Live(Live),
 }
 
 /// Why the words name no job.
@@ -63,6 +65,8 @@ fn job_from(alloc: Global, matches: &ArgMatches<'_>) -> Result<Job, AllocError>
                 Ok(Job::Convert(convert_in(alloc, inner)?))
             } else if name == "explain" {
                 Ok(Job::Explain(explain_in(alloc, inner)?))
+            } else if name == "live" {
+                Ok(Job::Live(live_in(alloc, inner)?))
             } else {
                 // `clap` takes no other word, so this never runs
                 Err(AllocError)

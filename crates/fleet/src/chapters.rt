@@ -1,0 +1,48 @@
+//! The folder of chapters.
+
+use fleet_lib::{Chapter, Shelf, ShelfFault, trace_line, write_whole};
+use std::alloc::{Alloc, Global};
+use std::fs::{self, File, Files};
+use std::io::ErrorKind;
+
+/// A folder for the traces of chapters, or none.
+#[derive(Drop)]
+pub(crate) struct TraceFolder<'a, R> {
+    pub(crate) rt: &'a R,
+    pub(crate) name: Option<&'a str>,
+}
+
+/// Writes a file under this name, and then gives it the other: so that a file of that name is always whole.
+fn write_beside<R: Files + Alloc<A = Global>>(
+    rt: &R,
+    beside: &str,
+    name: &str,
+    text: &[u8],
+) -> Result<(), ShelfFault> {
+    let mut file = match File::create(rt, beside) {
+        Ok(file) => file,
+        Err(fault) if fault.kind() == ErrorKind::OutOfMemory => return Err(ShelfFault::NoMemory),
+        Err(_) => return Err(ShelfFault::File),
+    };
+    if !write_whole(&mut file, text) {
+        return Err(ShelfFault::File);
+    }
+    match fs::rename(rt, beside, name) {
+        Ok(()) => Ok(()),
+        Err(_) => Err(ShelfFault::File),
+    }
+}
+
+impl<R: Files + Alloc<A = Global>> Shelf for TraceFolder<'_, R> {
+    fn keep(&mut self, chapter: &Chapter) -> Result<(), ShelfFault> {
+        let Some(folder) = self.name else {
+            return Ok(());
+        };
+        let alloc = self.rt.alloc();
+        let number = chapter.number;
+        let name = format!(in alloc; "{folder}/chapter-{number}.json")?;
+        let beside = format!(in alloc; "{folder}/chapter-{number}.part")?;
+        let text = trace_line(alloc, chapter)?;
+        write_beside(self.rt, beside.as_str(), name.as_str(), text.as_bytes())
+    }
+}

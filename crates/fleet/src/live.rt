@@ -1,0 +1,85 @@
+//! The word `live`.
+
+use crate::chapters::TraceFolder;
+use crate::talk::texts_of;
+use fleet_lib::{InputFault, Live, LiveEnds, Pipes, TalkTexts, fail, run_live};
+use std::alloc::{Alloc, Global};
+use std::fs::{File, Files, OpenOptions};
+use std::io::{Read, Write};
+use std::sync::Wait;
+use std::thread::Threads;
+use std::time::Clock;
+
+/// Opens a named pipe in both directions: so it waits for no client, and clients may come and go.
+fn open_pipe<R: Files<File = File>>(rt: &R, name: &str) -> Option<File> {
+    match OpenOptions::new().read(true).write(true).open(rt, name) {
+        Ok(file) => Some(file),
+        Err(_) => None,
+    }
+}
+
+/// The pipes that a word names, with a comma between them. `None` where there is no comma, or one cannot be opened.
+fn pipes_named<R: Files<File = File>>(rt: &R, word: &str) -> Option<Pipes<File, File>> {
+    let (input, output) = word.split_once(',')?;
+    let input = open_pipe(rt, input)?;
+    let output = open_pipe(rt, output)?;
+    Some(Pipes { input, output })
+}
+
+/// The pipes of all clients that have some.
+fn pipes_of<R: Files<File = File> + Alloc<A = Global>>(
+    rt: &R,
+    words: &[String],
+) -> Result<Vec<Pipes<File, File>>, InputFault> {
+    let mut all = Vec::new(rt.alloc());
+    for word in words {
+        let Some(pipes) = pipes_named(rt, word.as_str()) else {
+            return Err(InputFault::File);
+        };
+        if all.push(pipes).is_err() {
+            return Err(InputFault::NoMemory);
+        }
+    }
+    Ok(all)
+}
+
+/// Keeps a fleet in real time, or on demand. The result is the status, as of `run_live`, or 3 where a file failed.
+pub(crate) fn hold_live<
+    R: Files<File = File>
+        + Alloc<A = Global>
+        + Clock
+        + Threads
+        + Wait
+        + Copy
+        + Send
+        + Drop
+        + 'static,
+    I: Read + Send + Drop + 'static,
+    W: Write + Send + Drop + 'static,
+    E: Write + Copy + Send + Drop + 'static,
+>(rt: &R, live: &Live, input: I, output: W, error: &mut E) -> u8 {
+    let (map, script) = match texts_of(rt, live.map.as_str(), &live.script) {
+        Ok(texts) => texts,
+        Err(fault) => return fail(fault, error),
+    };
+    let pipes = match pipes_of(rt, &live.pipes) {
+        Ok(pipes) => pipes,
+        Err(fault) => return fail(fault, error),
+    };
+    let name = match &live.traces {
+        Some(name) => Some(name.as_str()),
+        None => None,
+    };
+    let ends = LiveEnds {
+        input,
+        output,
+        pipes,
+        counts: *error,
+        shelf: TraceFolder { rt, name },
+    };
+    let texts = TalkTexts {
+        map: &map,
+        script: &script,
+    };
+    run_live(rt, texts, live, ends, error)
+}

@@ -1,0 +1,124 @@
+//! The word `live`.
+
+ghost use Rattle.std.specs.Prelude.{◌≤◌, length};
+
+use crate::input::InputFault;
+use crate::live_closures::keep_with_closures;
+use crate::said::fail;
+use crate::talk::{TalkTexts, complain, complaint_of, grounds};
+use errands_text::{Complaint, write_whole};
+use fleet_live::{LiveEnds, LiveSettings, read_period};
+use fleet_script::Head;
+use fleet_talk::{MOST_ROBOTS, Shelf};
+use fleet_words::Live;
+use std::alloc::{Alloc, AllocError, Global};
+use std::io::{Read, Write};
+use std::sync::Wait;
+use std::thread::Threads;
+use std::time::Clock;
+
+/// A word that says nothing.
+#[derive(Clone, Copy, Debug, PartialEq, Eq)]
+enum BadWord {
+    Robots,
+    Clients,
+    Period,
+    Pipes,
+    NoMemory,
+}
+
+impl From<AllocError> for BadWord {
+    fn from(_error: AllocError) -> BadWord {
+        BadWord::NoMemory
+    }
+}
+
+/// The words between commas, with a blank in place of each comma.
+fn apart(alloc: Global, word: &[u8]) -> Result<Vec<u8>, AllocError> {
+    let mut words = Vec::with_capacity(alloc, word.len())?;
+    for byte in word {
+        words.push_reserved(if *byte == b',' { b' ' } else { *byte });
+    }
+    Ok(words)
+}
+
+/// Adds what the words say to the head.
+fn add_words(alloc: Global, head: &mut Head, live: &Live) -> Result<(), BadWord> {
+    if let Some(cells) = &live.robots {
+        let cells = apart(alloc, cells.as_bytes())?;
+        if !head.add_header(alloc, MOST_ROBOTS, b"robots", &cells)? {
+            return Err(BadWord::Robots);
+        }
+    }
+    if let Some(clients) = &live.clients {
+        if !head.add_header(alloc, MOST_ROBOTS, b"clients", clients.as_bytes())? {
+            return Err(BadWord::Clients);
+        }
+    }
+    if live.pipes.len() > head.clients.unwrap_or(1) as usize {
+        return Err(BadWord::Pipes);
+    }
+    Ok(())
+}
+
+/// How the fleet is kept.
+fn settings_of(live: &Live) -> Result<LiveSettings, BadWord> {
+    let period = match &live.period {
+        None => None,
+        Some(word) => match read_period(word.as_bytes()) {
+            Some(micros) => Some(micros),
+            None => return Err(BadWord::Period),
+        },
+    };
+    Ok(LiveSettings {
+        period,
+        watch: live.watch,
+    })
+}
+
+/// Says which word is wrong. The result is the status.
+fn complain_of_word<E: Write>(word: BadWord, error: &mut E) -> u8 {
+    let text = match word {
+        BadWord::Robots => "error: invalid value for '--robots <CELLS>'\n",
+        BadWord::Clients => "error: invalid value for '--clients <N>'\n",
+        BadWord::Period => "error: invalid value for '--period <TIME>'\n",
+        BadWord::Pipes => "error: more '--client <IN,OUT>' than clients\n",
+        BadWord::NoMemory => return fail(InputFault::NoMemory, error),
+    };
+    write_whole(error, text.as_bytes());
+    2
+}
+
+/// Keeps a fleet on the map in real time, or on demand. The result is the status: 0 good, 2 a word is wrong, 3 a line could not be read,
+/// or an answer or a chapter not written, 4 the map, 5 the script or the opening is refused, 7 out of memory, 8 a limit was met.
+pub fn run_live<
+    R: Alloc<A = Global> + Clock + Threads + Wait + Copy + Send + Drop + 'static,
+    I: Read + Send + Drop + 'static,
+    W: Write + Send + Drop + 'static,
+    P: Read + Send + Drop + 'static,
+    Q: Write + Send + Drop + 'static,
+    E: Write + Send + Drop + 'static,
+    S: Shelf + Drop,
+    F: Write,
+>(rt: &R, texts: TalkTexts<'_>, live: &Live, ends: LiveEnds<I, W, P, Q, E, S>, error: &mut F) -> u8
+    requires { length texts.script.now ≤ 16777216 }
+{
+    let alloc = rt.alloc();
+    let settings = match settings_of(live) {
+        Ok(settings) => settings,
+        Err(word) => return complain_of_word(word, error),
+    };
+    let (grid, head) = match grounds(alloc, texts) {
+        Ok(grounds) => grounds,
+        Err(complaint) => return complain(alloc, complaint, error),
+    };
+    let mut head = head;
+    if let Err(word) = add_words(alloc, &mut head, live) {
+        return complain_of_word(word, error);
+    }
+    match keep_with_closures(rt, grid, head, settings, ends) {
+        Ok(false) => 0,
+        Ok(true) => complain(alloc, Complaint::Limit, error),
+        Err(fault) => complain(alloc, complaint_of(fault), error),
+    }
+}

@@ -1,0 +1,4 @@
+pub mod Demand
+pub mod Page
+pub mod Period
+pub mod Said

@@ -1,0 +1,155 @@
+//! What conversations ask of the keeper.
+
+use crate::demand::Wanted;
+use std::alloc::{AllocError, Global};
+use std::collections::VecDeque;
+use std::mem;
+use std::sync::{Condvar, CondvarTimeouts, Mutex, Wait};
+use std::time::{Clock, Duration};
+
+/// Why the fleet stops.
+#[derive(Clone, Copy, Debug, PartialEq, Eq)]
+pub(crate) enum Stop {
+    /// The first conversation ended.
+    Quit,
+    /// A line of the first conversation could not be read.
+    Input,
+    /// The reader of the first conversation's output went away.
+    Output,
+    /// A chapter could not be kept.
+    Shelf,
+    /// No tick can follow.
+    Limit,
+    NoMemory,
+}
+
+impl From<AllocError> for Stop {
+    fn from(_error: AllocError) -> Stop {
+        Stop::NoMemory
+    }
+}
+
+/// What a conversation wants, and under which mark the answer stands.
+#[derive(Drop)]
+pub(crate) struct Wish {
+    pub(crate) place: usize,
+    pub(crate) mark: Option<Vec<u8>>,
+    pub(crate) wanted: Wanted,
+}
+
+/// What the keeper has to do.
+#[derive(Drop)]
+pub(crate) enum Call {
+    Nothing,
+    Stop(Stop),
+    Grant(Wish),
+    Tell,
+}
+
+/// What is asked and not done yet.
+#[derive(Drop)]
+struct Asks {
+    wishes: VecDeque<Wish>,
+    stop: Option<Stop>,
+    tell: bool,
+}
+
+impl Asks {
+    /// Whether nothing is asked.
+    fn is_quiet(&self) -> bool {
+        self.stop.is_none() && self.wishes.is_empty() && !self.tell
+    }
+
+    /// What is to be done next.
+    fn next(&mut self) -> Call {
+        if let Some(stop) = self.stop {
+            return Call::Stop(stop);
+        }
+        if let Some(wish) = self.wishes.pop_front() {
+            return Call::Grant(wish);
+        }
+        if self.tell {
+            self.tell = false;
+            return Call::Tell;
+        }
+        Call::Nothing
+    }
+}
+
+/// The keeper's bell.
+#[derive(Drop)]
+pub(crate) struct Bell {
+    asks: Mutex<Asks>,
+    rung: Condvar,
+}
+
+impl Bell {
+    pub(crate) fn new(alloc: Global) -> Bell {
+        Bell {
+            asks: Mutex::new(Asks {
+                wishes: VecDeque::new(alloc),
+                stop: None,
+                tell: false,
+            }),
+            rung: Condvar::new(),
+        }
+    }
+
+    /// Asks for something, which is answered.
+    pub(crate) fn ask<R: Wait>(&self, rt: &R, wish: Wish) -> Result<(), AllocError> {
+        let mut held = self.asks.lock(rt);
+        let asks = &mut *held;
+        let done = match asks.wishes.push_back(wish) {
+            Ok(()) => Ok(()),
+            Err(_) => Err(AllocError),
+        };
+        mem::drop(held);
+        self.rung.notify_all();
+        done
+    }
+
+    /// Asks to tell what was kept back.
+    pub(crate) fn ask_to_tell<R: Wait>(&self, rt: &R) {
+        let mut held = self.asks.lock(rt);
+        let asks = &mut *held;
+        asks.tell = true;
+        mem::drop(held);
+        self.rung.notify_all();
+    }
+
+    /// Asks to stop. The first reason counts.
+    pub(crate) fn ask_to_stop<R: Wait>(&self, rt: &R, stop: Stop) {
+        let mut held = self.asks.lock(rt);
+        let asks = &mut *held;
+        if asks.stop.is_none() {
+            asks.stop = Some(stop);
+        }
+        mem::drop(held);
+        self.rung.notify_all();
+    }
+
+    /// What is to be done now.
+    pub(crate) fn poll<R: Wait>(&self, rt: &R) -> Call {
+        let mut held = self.asks.lock(rt);
+        let asks = &mut *held;
+        asks.next()
+    }
+
+    /// Waits until something is to be done.
+    pub(crate) fn wait<R: Wait>(&self, rt: &R) -> Call {
+        let mut held = self
+            .rung
+            .wait_while(rt, self.asks.lock(rt), |asks| asks.is_quiet());
+        let asks = &mut *held;
+        asks.next()
+    }
+
+    /// Waits until something is to be done, for so long at most.
+    pub(crate) fn wait_for<R: Wait + Clock>(&self, rt: &R, time: Duration) -> Call {
+        let (mut held, _result) = self
+            .rung
+            .wait_timeout_while(rt, self.asks.lock(rt), time, |asks| asks.is_quiet());
+        let asks = &mut *held;
+        asks.next()
+    }
+}

@@ -1,0 +1,108 @@
+//! A conversation: the clients that it speaks for, and what is said in it.
+
+use crate::demand::Rights;
+use crate::said::post_text;
+use crate::told::post_in;
+use crate::voice::Voice;
+use fleet_book::Order;
+use fleet_office::{Guest, OfficeName};
+use std::alloc::{AllocError, Global};
+use std::mem;
+use std::sync::atomic::{AtomicU64, Ordering};
+use std::sync::{Arc, Condvar, Mutex, Wait};
+
+/// A conversation, shared by its reader, its writer and the keeper.
+#[derive(Drop)]
+pub(crate) struct Conversation<N: OfficeName<Global>> {
+    pub(crate) place: usize,
+    pub(crate) rights: Rights,
+    pub(crate) voice: Arc<Voice>,
+    guests: Mutex<Vec<Guest<N>>>,
+    /// How many wishes the keeper granted.
+    granted: Mutex<u64>,
+    /// Rung where the keeper granted one.
+    answered: Condvar,
+    /// 1 where tick lines are said.
+    watching: AtomicU64,
+}
+
+impl<N: OfficeName<Global>> Conversation<N> {
+    pub(crate) fn new(
+        place: usize,
+        rights: Rights,
+        voice: Arc<Voice>,
+        guests: Vec<Guest<N>>,
+    ) -> Conversation<N> {
+        Conversation {
+            place,
+            rights,
+            voice,
+            guests: Mutex::new(guests),
+            granted: Mutex::new(0),
+            answered: Condvar::new(),
+            watching: AtomicU64::new(0),
+        }
+    }
+
+    /// Posts an order and answers. No verdict stands before that answer, since both are said while the guests are held.
+    pub(crate) fn post<R: Wait>(
+        &self,
+        rt: &R,
+        alloc: Global,
+        mark: Option<&[u8]>,
+        client: u32,
+        order: Order,
+    ) -> Result<(), AllocError> {
+        let mut held = self.guests.lock(rt);
+        let guests = &mut *held;
+        let text = match post_in(guests, client, order) {
+            Some(posted) => post_text(alloc, client, posted)?,
+            None => format!(in alloc; "no-client {client}\n")?,
+        };
+        let said = self.voice.say(rt, mark, text.as_str());
+        mem::drop(held);
+        said
+    }
+
+    /// Tells what the clients find while there is room, and returns whether that was all.
+    pub(crate) fn tell<R: Wait>(&self, rt: &R, alloc: Global) -> Result<bool, AllocError> {
+        let mut held = self.guests.lock(rt);
+        let guests = &mut *held;
+        self.voice.tell_all(rt, alloc, guests)
+    }
+
+    /// Takes the guests home.
+    pub(crate) fn take_guests<R: Wait>(&self, rt: &R, alloc: Global) -> Vec<Guest<N>> {
+        let mut held = self.guests.lock(rt);
+        let guests = &mut *held;
+        mem::replace(guests, Vec::new(alloc))
+    }
+
+    /// Says whether tick lines are said from now on.
+    pub(crate) fn watch(&self, on: bool) {
+        self.watching
+            .store(if on { 1 } else { 0 }, Ordering::SeqCst);
+    }
+
+    /// Whether tick lines are said.
+    pub(crate) fn is_watching(&self) -> bool {
+        self.watching.load(Ordering::SeqCst) != 0
+    }
+
+    /// Notes that the keeper granted a wish.
+    pub(crate) fn note_grant<R: Wait>(&self, rt: &R) {
+        let mut held = self.granted.lock(rt);
+        let granted = &mut *held;
+        *granted = granted.saturating_add(1);
+        mem::drop(held);
+        self.answered.notify_all();
+    }
+
+    /// Waits until the keeper granted so many wishes.
+    pub(crate) fn wait_for_grant<R: Wait>(&self, rt: &R, count: u64) {
+        let held = self
+            .answered
+            .wait_while(rt, self.granted.lock(rt), |granted| *granted < count);
+        mem::drop(held);
+    }
+}

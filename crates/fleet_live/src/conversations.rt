@@ -1,0 +1,92 @@
+//! The conversations of a fleet.
+
+ghost use Rattle.fleet_office.specs.Views.{AreOn, cores};
+
+use crate::conversation::Conversation;
+use crate::demand::Rights;
+use crate::voice::Voice;
+use fleet_lanes::Client;
+use fleet_office::{Guest, OfficeName, guests_of};
+use std::alloc::{AllocError, Global};
+use std::sync::Arc;
+
+/// A shared voice.
+pub(crate) fn new_voice(alloc: Global) -> Result<Arc<Voice>, AllocError> {
+    match Arc::new(alloc, Voice::new(alloc)) {
+        Ok(voice) => Ok(voice),
+        Err(_) => Err(AllocError),
+    }
+}
+
+/// A shared conversation of these guests.
+fn new_conversation<N: OfficeName<Global>>(
+    alloc: Global,
+    place: usize,
+    rights: Rights,
+    guests: Vec<Guest<N>>,
+) -> Result<Arc<Conversation<N>>, AllocError> {
+    let voice = new_voice(alloc)?;
+    match Arc::new(alloc, Conversation::new(place, rights, voice, guests)) {
+        Ok(one) => Ok(one),
+        Err(_) => Err(AllocError),
+    }
+}
+
+/// The conversation of a client that has pipes.
+fn own_conversation<N: OfficeName<Global>>(
+    alloc: Global,
+    guest: Guest<N>,
+) -> Result<Arc<Conversation<N>>, AllocError> {
+    let place = (guest.number() as usize).saturating_add(1);
+    let mut guests = Vec::with_capacity(alloc, 1)?;
+    guests.push_reserved(guest);
+    let rights = Rights {
+        rules: false,
+        ticks: false,
+    };
+    new_conversation(alloc, place, rights, guests)
+}
+
+/// The conversations: the first is that of the clients that have no pipes, the others are those of clients 0, 1, ..
+pub(crate) fn conversations_of<N: OfficeName<Global>>(
+    alloc: Global,
+    clients: Vec<Client>,
+    pipes: usize,
+    paced: bool,
+) -> Result<Vec<Arc<Conversation<N>>>, AllocError>
+    requires { AreOn N.rings (cores clients.items) }
+{
+    let Ok(guests) = guests_of::<N, Global>(alloc, clients) else {
+        return Err(AllocError);
+    };
+    let mut rest = Vec::with_capacity(alloc, guests.len())?;
+    let mut own = Vec::new(alloc);
+    for guest in guests {
+        if (guest.number() as usize) < pipes {
+            push_one(&mut own, own_conversation(alloc, guest)?)?;
+        } else if rest.push(guest).is_err() {
+            return Err(AllocError);
+        }
+    }
+    let rights = Rights {
+        rules: true,
+        ticks: !paced,
+    };
+    let mut all = Vec::new(alloc);
+    push_one(&mut all, new_conversation(alloc, 0, rights, rest)?)?;
+    for one in own {
+        push_one(&mut all, one)?;
+    }
+    Ok(all)
+}
+
+/// Adds a conversation to the others.
+fn push_one<N: OfficeName<Global>>(
+    all: &mut Vec<Arc<Conversation<N>>>,
+    one: Arc<Conversation<N>>,
+) -> Result<(), AllocError> {
+    match all.push(one) {
+        Ok(()) => Ok(()),
+        Err(_) => Err(AllocError),
+    }
+}

@@ -1,0 +1,167 @@
+//! The end: guests come home, the office is concluded, and what was not collected is told.
+
+ghost use Rattle.std.specs.Prelude.{◌≡◌, IfOk};
+ghost use Rattle.fleet_office.specs.Views.{AreOn, cores};
+
+use crate::bell::Stop;
+use crate::conversation::Conversation;
+use crate::keeper::{Work, turn_page};
+use crate::said::notice_text;
+use crate::voice::Voice;
+use fleet_book::Notice;
+use fleet_lanes::Client;
+use fleet_office::{ConcludeFault, Final, Guest, Home, Office, OfficeName, clients_of};
+use fleet_talk::Shelf;
+use std::alloc::{Alloc, AllocError, Global};
+use std::mem;
+use std::sync::{Arc, Wait};
+
+/// How many chapters the orders that are left may need at most: each has room for one.
+const MOST_CHAPTERS: u32 = 65_536;
+
+/// Adds guests to the others.
+fn push_all<N: OfficeName<Global>>(
+    all: &mut Vec<Guest<N>>,
+    more: Vec<Guest<N>>,
+) -> Result<(), AllocError> {
+    for one in more {
+        if all.push(one).is_err() {
+            return Err(AllocError);
+        }
+    }
+    Ok(())
+}
+
+/// All clients, from all conversations.
+fn clients_home<N: OfficeName<Global>, R: Alloc<A = Global> + Wait>(
+    rt: &R,
+    conversations: &[Arc<Conversation<N>>],
+) -> Result<Vec<Client>, AllocError>
+    ensures { IfOk result (λ clients. AreOn N.rings (cores clients.items)) }
+{
+    let alloc = rt.alloc();
+    let mut guests = Vec::new(alloc);
+    for one in conversations {
+        push_all(&mut guests, one.take_guests(rt, alloc))?;
+    }
+    match clients_of::<N, Global>(alloc, guests) {
+        Ok(clients) => Ok(clients),
+        Err(_guests) => Err(AllocError),
+    }
+}
+
+/// Concludes the office, in further chapters where orders are left that have no room in this one.
+fn conclude<N: OfficeName<Global>, R: Alloc<A = Global> + Wait, S: Shelf>(
+    rt: &R,
+    home: Home<N>,
+    shelf: &mut S,
+) -> Result<Final, Stop>
+    requires on { AreOn N.rings (cores home.clients.items) }
+{
+    let mut home = home;
+    for _ in 0..MOST_CHAPTERS {
+        let Home {
+            office,
+            clients,
+            tickers,
+        } = home;
+        match office.conclude(rt.alloc(), clients, tickers) {
+            Ok(end) => return Ok(end),
+            Err((ConcludeFault::ChapterFull, back)) => {
+                match turn_page(rt, &back.office, shelf) {
+                    Ok(Some(_chapter)) => home = back,
+                    Ok(None) => {
+                        mem::drop(back);
+                        return Err(Stop::Limit);
+                    }
+                    Err(stop) => {
+                        mem::drop(back);
+                        return Err(stop);
+                    }
+                }
+            }
+            Err((_fault, back)) => {
+                mem::drop(back);
+                return Err(Stop::NoMemory);
+            }
+        }
+    }
+    mem::drop(home);
+    Err(Stop::Limit)
+}
+
+/// Tells a client what it did not collect.
+fn tell_left<R: Wait>(
+    rt: &R,
+    alloc: Global,
+    voice: &Voice,
+    client: u32,
+    notices: &[Notice],
+) -> Result<(), AllocError> {
+    for notice in notices {
+        let text = notice_text(alloc, client, *notice)?;
+        voice.say(rt, None, text.as_str())?;
+    }
+    Ok(())
+}
+
+/// Tells what nobody collected, and then that nothing follows. The clients that have pipes are the first ones.
+fn tell_rest<N: OfficeName<Global>, R: Alloc<A = Global> + Wait>(
+    rt: &R,
+    conversations: &[Arc<Conversation<N>>],
+    end: &Final,
+) -> Result<(), AllocError> {
+    let alloc = rt.alloc();
+    let tick = end.tick;
+    let last = format!(in alloc; "ended {tick}\n")?;
+    let mut client = 0u32;
+    for notices in &end.rest {
+        let own = (client as usize).saturating_add(1);
+        let place = if own < conversations.len() { own } else { 0 };
+        if let Some(one) = conversations.get(place) {
+            tell_left(rt, alloc, &one.voice, client, notices)?;
+        }
+        client = client.saturating_add(1);
+    }
+    for one in conversations {
+        one.voice.say(rt, None, last.as_str())?;
+    }
+    Ok(())
+}
+
+/// Ends the fleet: the guests come home, the office is concluded, what was not collected is told, and the last chapter is kept.
+pub(crate) fn finish<N: OfficeName<Global>, R: Alloc<A = Global> + Wait, S: Shelf + Drop>(
+    rt: &R,
+    office: Office<N>,
+    conversations: &[Arc<Conversation<N>>],
+    work: Work<N, S>,
+) -> Result<(), Stop> {
+    let alloc = rt.alloc();
+    let Work {
+        ticker,
+        shelf,
+        tally: _,
+        limited: _,
+    } = work;
+    let mut shelf = shelf;
+    let mut tickers = Vec::new(alloc);
+    if tickers.push(ticker).is_err() {
+        mem::drop(office);
+        return Err(Stop::NoMemory);
+    }
+    let clients = match clients_home(rt, conversations) {
+        Ok(clients) => clients,
+        Err(AllocError) => {
+            mem::drop(office);
+            return Err(Stop::NoMemory);
+        }
+    };
+    let home = Home {
+        office,
+        clients,
+        tickers,
+    };
+    let end = conclude(rt, home, &mut shelf)?;
+    tell_rest(rt, conversations, &end)?;
+    Ok(shelf.keep(&end.chapter)?)
+}

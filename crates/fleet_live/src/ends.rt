@@ -1,0 +1,28 @@
+//! Where a fleet's lines come from and where what it says goes.
+
+/// How a fleet is kept.
+#[derive(Clone, Copy, Debug, PartialEq, Eq)]
+pub struct LiveSettings {
+    /// The microseconds between two turns; without it a turn is made where a line asks for one.
+    pub period: Option<u32>,
+    /// Whether the first conversation watches from the start.
+    pub watch: bool,
+}
+
+/// The pipes of a client of its own.
+#[derive(Drop)]
+pub struct Pipes<P, Q> {
+    pub input: P,
+    pub output: Q,
+}
+
+/// The reader and the writer of the first conversation, the pipes of clients 0, 1, .., the writer of the counts, and the shelf of
+/// the chapters.
+#[derive(Drop)]
+pub struct LiveEnds<I, W, P, Q, E, S> {
+    pub input: I,
+    pub output: W,
+    pub pipes: Vec<Pipes<P, Q>>,
+    pub counts: E,
+    pub shelf: S,
+}

@@ -1,0 +1,25 @@
+//! A fleet in real time: clients talk to an office, each conversation in threads of its own, while turns are made at their deadlines
+//! or on demand.
+#![tactic(auto)]
+
+mod bell;
+mod conversation;
+mod conversations;
+mod demand;
+mod ending;
+mod ends;
+mod hearing;
+mod keeper;
+mod live;
+mod pace;
+mod page;
+mod period;
+mod said;
+mod tally;
+mod threads;
+mod told;
+mod voice;
+
+pub use ends::{LiveEnds, LiveSettings, Pipes};
+pub use live::keep_live;
+pub use period::read_period;

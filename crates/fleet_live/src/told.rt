@@ -1,0 +1,72 @@
+//! What clients post and are told.
+
+ghost use Rattle.std.specs.Prelude.{◌≡◌, ◌==◌, OnOk, IfNone};
+ghost use Rattle.std.specs.List.{position};
+ghost use Rattle.fleet_live.specs.Page.{IsTold};
+
+use crate::page::Page;
+use crate::said::notice_text;
+use fleet_book::Order;
+use fleet_lanes::PostFault;
+use fleet_office::{Guest, OfficeName};
+use std::alloc::{AllocError, Global};
+
+/// How many notices of a client are told in one go at most: more than an outlet holds.
+const HANDFUL: u32 = 65_537;
+
+/// The place of the guest of this number.
+fn place_of<N: OfficeName<Global>>(guests: &[Guest<N>], client: u32) -> Option<usize>
+    ensures { result ≡ position (λ g. g.number == client) guests.now }
+{
+    guests.iter().position(|guest| guest.number() == client)
+}
+
+/// Posts an order of this client. `None` where it is none of these.
+pub(crate) fn post_in<N: OfficeName<Global>>(
+    guests: &mut [Guest<N>],
+    client: u32,
+    order: Order,
+) -> Option<Result<u64, PostFault>>
+    ensures stranger { IfNone result (guests.new ≡ guests.old) }
+{
+    let at = place_of(guests, client)?;
+    Some(guests[at].post(order))
+}
+
+/// Tells the next notice that a client finds, and returns whether there was one.
+
+fn tell_next<N: OfficeName<Global>>(
+    alloc: Global,
+    guest: &mut Guest<N>,
+    page: &mut Page,
+) -> Result<bool, AllocError>
+    ensures { OnOk result (IsTold guest.old guest.new page.old page.new) }
+{
+    match guest.collect() {
+        Some(notice) => {
+            let text = notice_text(alloc, guest.number(), notice)?;
+            page.say(None, text.as_str())?;
+            Ok(true)
+        }
+        None => Ok(false),
+    }
+}
+
+/// Tells a client's notices while there is room, and returns whether all that it finds were told.
+pub(crate) fn tell<N: OfficeName<Global>>(
+    alloc: Global,
+    guest: &mut Guest<N>,
+    page: &mut Page,
+) -> Result<bool, AllocError>
+    ensures { OnOk result (IsTold guest.old guest.new page.old page.new) }
+{
+    for _ in 0..HANDFUL {
+        if page.is_full() {
+            return Ok(false);
+        }
+        if !tell_next(alloc, guest, page)? {
+            return Ok(true);
+        }
+    }
+    Ok(false)
+}

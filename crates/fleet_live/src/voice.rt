@@ -1,0 +1,141 @@
+//! What is said in a conversation, shared by those that say it and the thread that writes it.
+
+use crate::bell::Bell;
+use crate::page::Page;
+use crate::told::tell;
+use errands_text::write_whole;
+use fleet_office::{Guest, OfficeName};
+use std::alloc::{AllocError, Global};
+use std::io::Write;
+use std::mem;
+use std::sync::{Condvar, Mutex, Wait};
+
+/// A page under its lock.
+#[derive(Drop)]
+pub(crate) struct Voice {
+    page: Mutex<Page>,
+    /// Rung where something waits to be written, or nothing follows.
+    filled: Condvar,
+    /// Rung where all that waited is being written, or cannot be.
+    drained: Condvar,
+}
+
+impl Voice {
+    pub(crate) fn new(alloc: Global) -> Voice {
+        Voice {
+            page: Mutex::new(Page::new(alloc)),
+            filled: Condvar::new(),
+            drained: Condvar::new(),
+        }
+    }
+
+    /// Says a line, under its mark if it has one.
+    pub(crate) fn say<R: Wait>(
+        &self,
+        rt: &R,
+        mark: Option<&[u8]>,
+        line: &str,
+    ) -> Result<(), AllocError> {
+        let mut held = self.page.lock(rt);
+        let page = &mut *held;
+        let done = page.say(mark, line);
+        mem::drop(held);
+        self.filled.notify_all();
+        done
+    }
+
+    /// Says a line where there is room, and leaves it out where there is none.
+    pub(crate) fn say_if_room<R: Wait>(&self, rt: &R, line: &str) -> Result<(), AllocError> {
+        let mut held = self.page.lock(rt);
+        let page = &mut *held;
+        let done = page.say_if_room(line);
+        mem::drop(held);
+        self.filled.notify_all();
+        done
+    }
+
+    /// Tells what these clients find while there is room, and returns whether that was all.
+    pub(crate) fn tell_all<N: OfficeName<Global>, R: Wait>(
+        &self,
+        rt: &R,
+        alloc: Global,
+        guests: &mut [Guest<N>],
+    ) -> Result<bool, AllocError> {
+        let mut held = self.page.lock(rt);
+        let page = &mut *held;
+        let mut all = true;
+        for guest in guests {
+            all &= tell(alloc, guest, page)?;
+        }
+        mem::drop(held);
+        self.filled.notify_all();
+        Ok(all)
+    }
+
+    /// Says that nothing follows.
+    pub(crate) fn end<R: Wait>(&self, rt: &R) {
+        let mut held = self.page.lock(rt);
+        let page = &mut *held;
+        page.ended = true;
+        mem::drop(held);
+        self.filled.notify_all();
+    }
+
+    /// Whether the reader of the output went away.
+    pub(crate) fn is_gone<R: Wait>(&self, rt: &R) -> bool {
+        let held = self.page.lock(rt);
+        held.gone
+    }
+
+    /// Waits until there is room, or the reader of the output went away.
+    pub(crate) fn wait_for_room<R: Wait>(&self, rt: &R) {
+        let held = self.drained.wait_while(rt, self.page.lock(rt), |page| {
+            !page.gone && page.is_full()
+        });
+        mem::drop(held);
+    }
+
+    /// Waits for something to write, and swaps it for the empty text. Nothing where nothing follows.
+    fn take<R: Wait>(&self, rt: &R, text: &mut Vec<u8>) {
+        let mut held = self.filled.wait_while(rt, self.page.lock(rt), |page| {
+            !page.ended && page.text.is_empty()
+        });
+        let page = &mut *held;
+        mem::swap(text, &mut page.text);
+        mem::drop(held);
+        self.drained.notify_all();
+    }
+
+    /// Says that the reader of the output went away, or that all was written.
+    fn leave<R: Wait>(&self, rt: &R) {
+        let mut held = self.page.lock(rt);
+        let page = &mut *held;
+        page.gone = true;
+        mem::drop(held);
+        self.drained.notify_all();
+    }
+
+    /// Writes all that is said, until nothing follows or the reader of the output goes away.
+    pub(crate) fn write_all<R: Wait, W: Write>(
+        &self,
+        rt: &R,
+        alloc: Global,
+        bell: &Bell,
+        output: &mut W,
+    ) {
+        let mut text = Vec::new(alloc);
+        for _ in rt.forever() {
+            text.clear();
+            self.take(rt, &mut text);
+            if text.is_empty() || !write_whole(output, &text) {
+                break;
+            }
+            // What was kept back for want of room can be told now.
+            if text.len() >= crate::page::MOST_TEXT {
+                bell.ask_to_tell(rt);
+            }
+        }
+        self.leave(rt);
+        bell.ask_to_tell(rt);
+    }
+}
