@@ -6,3 +6,4 @@ mod Walks
 mod Solutions
 mod Answered
 mod Tellings
+pub mod Seated

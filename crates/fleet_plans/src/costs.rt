@@ -49,7 +49,7 @@ pub fn costs_of<A: Allocator + Copy>(
 }
 
 /// A list of n zeros.
-fn zeros<A: Allocator + Copy>(alloc: A, n: usize) -> Result<Vec<u32, A>, AllocError>
+pub(crate) fn zeros<A: Allocator + Copy>(alloc: A, n: usize) -> Result<Vec<u32, A>, AllocError>
     ensures { IfOk result (λ list. list.items ≡ replicate n 0) }
 {
     let mut list = Vec::with_capacity(alloc, n)?;

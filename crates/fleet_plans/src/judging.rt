@@ -1,13 +1,16 @@
 //! The judge of plans.
 
 ghost use Rattle.std.specs.Prelude.{◌≡◌, ◌<◌, ◌+◌, ◌-◌, ◌^◌, ◌⊎◌, ℕ, length, OnOk, IfErr};
-ghost use Rattle.fleet_grid.specs.Step.{IsPlacement};
+ghost use Rattle.fleet_check.specs.Fault.{IsFirstFault};
+ghost use Rattle.fleet_grid.specs.Step.{IsPlacement, IsConflictFree};
 ghost use Rattle.fleet_plans.specs.Valid.{place_at, AreStepsFree, IsValidPlan, IsStepFault, IsPlanFault};
 
+use crate::costs::zeros;
 use crate::placements::Placements;
+use crate::seats::is_free;
 use fleet_check::{StepFault, check_placement, check_step};
 use fleet_grid::Grid;
-use std::alloc::Allocator;
+use std::alloc::{AllocError, Allocator};
 
 /// The first placement of a plan that is at fault.
 #[derive(Clone, Copy, Debug, PartialEq, Eq)]
@@ -18,10 +21,38 @@ pub struct PlanFault {
     pub fault: StepFault,
 }
 
+/// Whether a step is conflict-free, or its first fault. `check_step` looks for faults in their order and keeps a tree; `is_free` says of
+/// most steps that there is none, with a table that is made once.
+fn judge_step<A: Allocator + Copy, B: Allocator + Copy>(
+    alloc: A,
+    grid: &Grid<B>,
+    seats: &mut [u32],
+    from: &[u32],
+    to: &[u32],
+) -> Result<(), StepFault>
+    requires { IsPlacement grid.now from.now }
+    ensures ok { OnOk result (IsConflictFree grid.now from.now to.now) }
+    ensures fault { IfErr result (λ fault. IsFirstFault grid.now from.now to.now fault) }
+{
+    if is_free(grid, seats, from, to) {
+        return Ok(());
+    }
+    check_step(alloc, grid, from, to)
+}
+
+/// A table with a robot for each cell; an empty one where memory is refused.
+fn seats_of<A: Allocator + Copy, B: Allocator + Copy>(alloc: A, grid: &Grid<B>) -> Vec<u32, A> {
+    match zeros(alloc, grid.cell_count() as usize) {
+        Ok(seats) => seats,
+        Err(AllocError) => Vec::new(alloc),
+    }
+}
+
 /// Judges the steps of a plan whose robots can start so.
 fn judge_steps<A: Allocator + Copy, B: Allocator + Copy>(
     alloc: A,
     grid: &Grid<B>,
+    seats: &mut [u32],
     places: &Placements<A>,
 ) -> Result<(), PlanFault>
     requires starts { IsPlacement grid.now (place_at places.now 0) }
@@ -30,7 +61,7 @@ fn judge_steps<A: Allocator + Copy, B: Allocator + Copy>(
     ensures fault { IfErr result (λ f. (t : ℕ) × (f.time ≡ t + 1) × IsStepFault grid.now places.now t f.fault) }
 {
     for time in 1..places.len() {
-        if let Err(fault) = check_step(alloc, grid, places.at(time - 1), places.at(time)) {
+        if let Err(fault) = judge_step(alloc, grid, seats, places.at(time - 1), places.at(time)) {
             let time = time as u32;
             return Err(PlanFault { time, fault });
         }
@@ -57,5 +88,6 @@ pub fn judge_plan<A: Allocator + Copy, B: Allocator + Copy>(
     if let Err(fault) = check_placement(alloc, grid, places.at(0)) {
         return Err(PlanFault { time: 0, fault });
     }
-    judge_steps(alloc, grid, places)
+    let mut seats = seats_of(alloc, grid);
+    judge_steps(alloc, grid, seats.as_mut_slice(), places)
 }

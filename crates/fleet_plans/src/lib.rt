@@ -13,6 +13,7 @@ mod places;
 mod plan;
 mod report;
 mod runners;
+mod seats;
 mod sides;
 mod tracks;
 mod walk;

@@ -1,6 +1,6 @@
 //! What is at fault in a map, a script and a trace, in sentences. Each names the fault that the grammar has there.
 
-use fleet_explain::{Explanation, explain_map, explain_script};
+use fleet_explain::{Explanation, explain_map, explain_script, explain_trace};
 use std::alloc::{AllocError, Global};
 
 /// A ring of eight cells.
@@ -46,4 +46,18 @@ fn maps_are_explained(rt: HostRuntime) {
     let explanation = explain_map(alloc, map.as_bytes()).expect(&rt, "memory");
     let sentence = format!(in alloc; "{explanation}").expect(&rt, "memory");
     assert!(rt; sentence.contains("row 0, column 2"));
+}
+
+/// Robot 0 goes east, and then south onto the wall.
+const TRACE: &str =
+    r#"{"chapter":0,"entries":[["tick",[1,7],[],[]],["tick",[4,6],[],[]]],"opening":{"clients":[[0,0,0,false]],"life":1000000,"queue":16,"robots":[[0,false,null,[],[0,0],[0,0]],[8,false,null,[],[0,0],[0,0]]],"tick":0},"version":2}"#;
+
+#[test]
+fn steps_of_traces_are_explained(rt: HostRuntime) {
+    let alloc = rt.alloc();
+    let explanation = explain_trace(alloc, MAP.as_bytes(), TRACE.as_bytes()).expect(&rt, "memory");
+    let sentence = format!(in alloc; "{explanation}").expect(&rt, "memory");
+    let expected =
+        "the trace: entry 2, a tick: the step has a conflict, or leaves the floor: robot 0 comes to no floor";
+    assert_eq!(rt; sentence.as_str(), expected);
 }

@@ -37,8 +37,7 @@ const RUNNERS: &str =
     r#"{"actionModel":"MAPF","teamSize":2,"start":[[0,0,"E"],[1,0,"E"]],"actualPaths":["R,R,D","U,W,R"],"errors":[]}"#;
 
 /// Robot 0 comes to the wall's east, robot 1 to where it was, and then robot 0 comes back.
-const RUNNERS_VERTEX: &str =
-    r#" {"start":[[0,1],[0,0]],"actualPaths":["R,L","R"]}"#;
+const RUNNERS_VERTEX: &str = r#" {"start":[[0,1],[0,0]],"actualPaths":["R,L","R"]}"#;
 
 const MISSING_PATH: &str = r#"{"start":[[0,1],[0,0]],"actualPaths":["R,L"]}"#;
 

@@ -1,9 +1,7 @@
 -- A trace on a map that is read.
-use Rattle.std.proofs.Common.{refl}
 use Rattle.std.proofs.lemmas.Result.{IfOk-weaker}
 use Rattle.fleet_map.specs.Grammar.{view}
 use Rattle.fleet_trace.specs.Trace.{trace_of}
-use Rattle.fleet_explain.specs.Explained.{IsTraceExplained}
 use Rattle.fleet_explain.proofs.Answered.{trace_on, trace_none}
 use Rattle.fleet_explain.proofs.explanation.explain_trace.Goals as goal
 

@@ -1,6 +1,6 @@
 use Rattle.std.proofs.Common.{◌≡◌, drop}
 use Rattle.std.specs.List.{list_any}
-use Rattle.fleet_explain.specs.Lines.{texts, is_event_line, has_key}
+use Rattle.fleet_explain.specs.Lines.{texts, has_key}
 use Rattle.fleet_explain.proofs.line.has_line_of.Given as goal
 
 abbrev pub invariant-loop-line : goal.invariant-loop-line
