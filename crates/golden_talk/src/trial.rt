@@ -44,11 +44,11 @@ impl Trial {
     }
 }
 
-/// The length of the text up to its last line feed.
-fn length_of_lines(text: &[u8]) -> usize {
+/// The text up to its last line feed.
+fn whole_lines(text: &[u8]) -> &[u8] {
     match text.iter().rposition(|byte| *byte == b'\n') {
-        Some(last) => last.saturating_add(1).min(text.len()),
-        None => 0,
+        Some(last) => &text[..last.saturating_add(1).min(text.len())],
+        None => &[],
     }
 }
 
@@ -61,7 +61,7 @@ fn each_read<R: Alloc<A = Global>>(rt: &R, case: Case<'_>) -> Result<bool, Alloc
             ..Streams::GOOD
         };
         let met = outcome_of(rt, case, streams, case.lines)?;
-        let read = &case.lines[..length_of_lines(&case.lines[..good_reads])];
+        let read = whole_lines(&case.lines[..good_reads]);
         let whole = outcome_of(rt, case, Streams::GOOD, read)?;
         named &= if whole.status == 5 {
             met.is_like(&whole)
