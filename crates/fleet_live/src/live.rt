@@ -1,6 +1,6 @@
 //! A fleet in real time, as a whole.
 
-ghost use Rattle.std.specs.Prelude.{◌≤◌, vec_len};
+ghost use Rattle.std.specs.Prelude.{◌≡◌, ◌≢◌, ◌≤◌, vec_len};
 ghost use Rattle.fleet_office.specs.Views.{AreOn, IsNamed, cores};
 
 use crate::bell::{Bell, Stop};
@@ -13,6 +13,7 @@ use crate::pace::{keep_on_demand, keep_pace};
 use crate::tally::Tally;
 use crate::threads::{start_reader, start_writer};
 use crate::voice::Voice;
+use fleet_core::OpenFault;
 use fleet_grid::Grid;
 use fleet_hooks::Hooks;
 use fleet_lanes::Client;
@@ -29,6 +30,17 @@ use std::time::{Clock, Duration};
 
 /// How often it is looked whether a pipe's reader took all, 5 milliseconds apart.
 const MOST_LOOKS: u32 = 200;
+
+/// Why the fleet was not opened.
+fn unopened(fault: OpenFault) -> TalkFault
+    ensures memory { (fault ≡ OpenFault.NoMemory) → result ≡ TalkFault.NoMemory }
+    ensures named { (fault ≢ OpenFault.NoMemory) → result ≡ TalkFault.Opening fault }
+{
+    match fault {
+        OpenFault::NoMemory => TalkFault::NoMemory,
+        named => TalkFault::Opening(named),
+    }
+}
 
 /// What an office is opened with.
 #[derive(Drop)]
@@ -195,7 +207,7 @@ fn keep_fleet<
     } = opening;
     let (office, clients, ticker) = match Office::<N>::open(rt.alloc(), desk, grid, starts, hooks) {
         Ok(opened) => opened,
-        Err(fault) => return Err(TalkFault::from(fault)),
+        Err(fault) => return Err(unopened(fault)),
     };
     match serve(rt, &office, clients, ticker, settings, ends) {
         Ok(left) => {
@@ -268,7 +280,7 @@ pub fn keep_live<
         }
         Err(fault) => {
             mem::drop(hooks);
-            Err(TalkFault::from(fault))
+            Err(unopened(fault))
         }
     }
 }
