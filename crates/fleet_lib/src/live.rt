@@ -1,6 +1,6 @@
 //! The word `live`.
 
-ghost use Rattle.std.specs.Prelude.{◌≤◌, length};
+ghost use Rattle.std.specs.Prelude.{◌≡◌, ◌≤◌, ◌==◌, if◌then◌else◌, IfOk, length, map};
 
 use crate::input::InputFault;
 use crate::live_closures::keep_with_closures;
@@ -33,13 +33,20 @@ impl From<AllocError> for BadWord {
     }
 }
 
+/// The byte, or a blank where it is a comma.
+fn blank_for_comma(byte: u8) -> u8
+    ensures { result ≡ if byte == 44 then 32 else byte }
+{
+    if byte == b',' { b' ' } else { byte }
+}
+
 /// The words between commas, with a blank in place of each comma.
-fn apart(alloc: Global, word: &[u8]) -> Result<Vec<u8>, AllocError> {
-    let mut words = Vec::with_capacity(alloc, word.len())?;
-    for byte in word {
-        words.push_reserved(if *byte == b',' { b' ' } else { *byte });
-    }
-    Ok(words)
+fn apart(alloc: Global, word: &[u8]) -> Result<Vec<u8>, AllocError>
+    ensures { IfOk result (λ words. words.items ≡ map (λ b. if b == 44 then 32 else b) word.now) }
+{
+    word.iter()
+        .map(|byte| blank_for_comma(*byte))
+        .collect(alloc)
 }
 
 /// Adds what the words say to the head.
