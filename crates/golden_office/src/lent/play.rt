@@ -5,6 +5,7 @@ ghost use Rattle.fleet_office.specs.Views.{IsNamed, AreOn, cores};
 
 use crate::lent::shared::{Lent, post_in_thread};
 use crate::waiting::wait_for;
+use fleet_book::Notice;
 use fleet_grid::Grid;
 use fleet_hooks::Hooks;
 use fleet_lanes::Client;
@@ -107,6 +108,15 @@ fn home_from<
     }
 }
 
+/// The number of notices that were left, of all clients.
+fn left_of(rest: &[Vec<Notice>]) -> u64 {
+    let mut count = 0u64;
+    for notices in rest {
+        count = count.saturating_add(notices.len() as u64);
+    }
+    count
+}
+
 /// Lets the clients live, and concludes.
 fn live_in<
     N: OfficeName<Global> + Send + Sync + 'static,
@@ -129,7 +139,7 @@ fn live_in<
     }
     match office.conclude(rt.alloc(), clients, tickers) {
         Ok(end) => {
-            let rest = end.rest.iter().map(|notices| notices.len() as u64).sum();
+            let rest = left_of(end.rest.as_slice());
             mem::drop(end);
             Ok(Outcome { rest, ..outcome })
         }
