@@ -235,6 +235,9 @@ def model_map(name):
 
 
 def main(words):
+    if {"--help", "-h"} & set(words):
+        print(__doc__.strip())
+        return 0
     if words[:1] == ["--cases"]:
         with open(words[1], "rb") as file:
             for case in cases(file.read()):
