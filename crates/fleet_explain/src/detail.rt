@@ -40,7 +40,7 @@ fn place_after<'a>(cells: &'a [u32], entries: &'a [Entry]) -> &'a [u32]
     place
 }
 
-/// The first fault of a step to these cells, after so many entries of the chapter.
+/// The first fault of a step to these cells, after this many entries of the chapter.
 fn step_detail(
     alloc: Global,
     grid: &Grid,

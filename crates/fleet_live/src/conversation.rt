@@ -98,7 +98,7 @@ impl<N: OfficeName<Global>> Conversation<N> {
         self.answered.notify_all();
     }
 
-    /// Waits until the keeper granted so many wishes.
+    /// Waits until the keeper granted this many wishes.
     pub(crate) fn wait_for_grant<R: Wait>(&self, rt: &R, count: u64) {
         let held = self
             .answered

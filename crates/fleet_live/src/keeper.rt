@@ -143,7 +143,7 @@ impl<N: OfficeName<Global>> Keeper<'_, N> {
         Ok(Turned::ChapterFull)
     }
 
-    /// Makes a turn and tells what came of it; `shown` says whether those that watch see it.
+    /// Makes a turn and tells each client its notices; `shown` says whether those that watch see it.
     pub(crate) fn turn<R: Alloc<A = Global> + Wait, S: Shelf>(
         &self,
         rt: &R,

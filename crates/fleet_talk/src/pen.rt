@@ -79,7 +79,7 @@ impl Pen {
         self.say(alloc, line.mark, text.as_str())
     }
 
-    /// Takes back what was said after so many bytes.
+    /// Takes back what was said after this many bytes.
     pub(crate) fn take_back(&mut self, said: usize)
         ensures out { self.new.out.items ≡ take said self.old.out.items }
         ensures settings { self.new.settings ≡ self.old.settings }
