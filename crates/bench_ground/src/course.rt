@@ -5,7 +5,7 @@ ghost use Rattle.std.specs.Option.{option_map};
 ghost use Rattle.bench_ground.specs.Fleet.{field_of, goal_of, distance_of};
 
 use fleet_field::Compass;
-use fleet_grid::Grid;
+use fleet_grid::{Grid, Ways};
 use fleet_pibt::Goals;
 use std::alloc::Allocator;
 
@@ -42,10 +42,10 @@ impl<'a> Goals for Course<'a> {
         field.at(cell)
     }
 
-    fn ways<A: Allocator + Copy>(&self, grid: &Grid<A>, robot: u32, cell: u32) -> u8 {
+    fn ways<A: Allocator + Copy>(&self, grid: &Grid<A>, robot: u32, cell: u32) -> Ways {
         match self.field(robot) {
             Some(field) => field.ways(grid, cell),
-            None => 0,
+            None => Ways::NONE,
         }
     }
 }

@@ -5,7 +5,7 @@ use Rattle.std.proofs.lemmas.Nat.{div-mul-add, mod-mul-add, div-add-mod', mod_be
 use Rattle.std.proofs.lemmas.Bool.{cases_order}
 use Rattle.fleet_grid.specs.declared.dir.Dir.{Dir}
 use Rattle.fleet_grid.specs.declared.dir.Dir.TheVariants.{North, East, South, West}
-use Rattle.fleet_grid.specs.Floor.{Floor, HasForm, IsFloor, IsNeighbour, IsNeighbourIn}
+use Rattle.fleet_grid.specs.Floor.{Floor, HasForm, IsFloor, IsNeighbour, IsNeighbourIn, cell_across}
 use Rattle.fleet_grid.specs.Padded.{IsOpen, IsPadded, place}
 use Rattle.fleet_grid.specs.Walk.{AreJoined, IsBridgeless}
 use Rattle.fleet_grid.proofs.Edges.{beside_once}
@@ -13,7 +13,7 @@ use Rattle.fleet_grid.proofs.Forms.{floor_inside, wide, few_cells}
 use Rattle.fleet_grid.proofs.Places.{place_inside, place_once, east_on, south_on, east_back, south_back}
 use Rattle.fleet_bridge.specs.inside.First.{HasNoneBeside, HasNone, HasNoneBelow}
 use Rattle.fleet_bridge.specs.inside.Search.{NearWithout}
-use Rattle.fleet_bridge.specs.inside.Places.{IsSpot, IsStep, IsOnWay, HasNoneAt, cell_across, place_across}
+use Rattle.fleet_bridge.specs.inside.Places.{IsSpot, IsStep, IsOnWay, HasNoneAt, place_across}
 use Rattle.fleet_bridge.specs.declared.places.Spot.{Spot}
 use Rattle.fleet_bridge.proofs.Joins.{joined_on, joined_by, joined_same, joined_back, besides_back}
 use Rattle.fleet_bridge.proofs.Rounds.{none_is, near_turn}

@@ -38,7 +38,7 @@ fn is_outside<A: Allocator + Copy>(tree: &Tree<A>, cell: u32, outer: u32) -> boo
 /// Whether the edge from `inner`, of the subtree of `cell`, in a direction leaves that subtree, and is not the one to the parent.
 #[tactic(auto, using(crate::proofs::Rounds::crossed_at))]
 fn leaves<A: Allocator + Copy, B: Allocator + Copy>(
-    sides: &Sides<'_, A, B>,
+    sides: &Sides<'_, B>,
     tree: &Tree<A>,
     cell: u32,
     inner: u32,
@@ -56,8 +56,9 @@ fn leaves<A: Allocator + Copy, B: Allocator + Copy>(
     is_outside(tree, cell, outer)
 }
 
+/// Whether an edge from `inner` does.
 fn leaves_from<A: Allocator + Copy, B: Allocator + Copy>(
-    sides: &Sides<'_, A, B>,
+    sides: &Sides<'_, B>,
     tree: &Tree<A>,
     cell: u32,
     inner: u32,
@@ -65,21 +66,17 @@ fn leaves_from<A: Allocator + Copy, B: Allocator + Copy>(
     requires under { IsUnder (slice_index tree.now.up.items) cell inner }
     ensures { result ≡ true → IsCrossedIn sides.now tree.now cell }
 {
-    if leaves(sides, tree, cell, inner, Dir::North) {
-        return true;
+    for dir in Dir::ALL {
+        if leaves(sides, tree, cell, inner, dir) {
+            return true;
+        }
     }
-    if leaves(sides, tree, cell, inner, Dir::East) {
-        return true;
-    }
-    if leaves(sides, tree, cell, inner, Dir::South) {
-        return true;
-    }
-    leaves(sides, tree, cell, inner, Dir::West)
+    false
 }
 
 /// Whether the tree shows a walk around the edge of the cell and its parent.
 fn is_crossed<A: Allocator + Copy, B: Allocator + Copy>(
-    sides: &Sides<'_, A, B>,
+    sides: &Sides<'_, B>,
     tree: &Tree<A>,
     cell: u32,
 ) -> bool
@@ -93,7 +90,7 @@ fn is_crossed<A: Allocator + Copy, B: Allocator + Copy>(
 /// Whether the tree shows a walk around the edge.
 #[tactic(auto, using(crate::proofs::Rounds::round_up, crate::proofs::Rounds::round_down, crate::proofs::Rounds::round_off))]
 fn is_round<A: Allocator + Copy, B: Allocator + Copy>(
-    sides: &Sides<'_, A, B>,
+    sides: &Sides<'_, B>,
     tree: &Tree<A>,
     a: u32,
     b: u32,
@@ -114,7 +111,7 @@ fn is_round<A: Allocator + Copy, B: Allocator + Copy>(
 /// Whether the edge is a bridge: asks the tree, and searches only where the tree shows no walk around.
 fn is_bridge_by<A: Allocator + Copy, B: Allocator + Copy>(
     alloc: A,
-    sides: &Sides<'_, A, B>,
+    sides: &Sides<'_, B>,
     tree: &Tree<A>,
     is_sound: bool,
     a: u32,
@@ -133,7 +130,7 @@ fn is_bridge_by<A: Allocator + Copy, B: Allocator + Copy>(
 /// The far end of the edge in a direction, if that is a bridge.
 fn bridge_beside<A: Allocator + Copy, B: Allocator + Copy>(
     alloc: A,
-    sides: &Sides<'_, A, B>,
+    sides: &Sides<'_, B>,
     tree: &Tree<A>,
     is_sound: bool,
     cell: u32,
@@ -155,7 +152,7 @@ fn bridge_beside<A: Allocator + Copy, B: Allocator + Copy>(
 #[tactic(auto, using(crate::proofs::Rounds::from_east, crate::proofs::Rounds::from_south, crate::proofs::Rounds::from_none))]
 fn bridge_from<A: Allocator + Copy, B: Allocator + Copy>(
     alloc: A,
-    sides: &Sides<'_, A, B>,
+    sides: &Sides<'_, B>,
     tree: &Tree<A>,
     is_sound: bool,
     cell: u32,
@@ -176,7 +173,7 @@ fn bridge_from<A: Allocator + Copy, B: Allocator + Copy>(
 #[tactic(auto, using(crate::proofs::Rounds::first_is))]
 fn first_by<A: Allocator + Copy, B: Allocator + Copy>(
     alloc: A,
-    sides: &Sides<'_, A, B>,
+    sides: &Sides<'_, B>,
     tree: &Tree<A>,
     is_sound: bool,
 ) -> Result<Option<(u32, u32)>, AllocError>
@@ -195,7 +192,7 @@ fn first_by<A: Allocator + Copy, B: Allocator + Copy>(
 /// The first bridge, from the tree.
 fn first_by_sides<A: Allocator + Copy, B: Allocator + Copy>(
     alloc: A,
-    sides: &Sides<'_, A, B>,
+    sides: &Sides<'_, B>,
 ) -> Result<Option<(u32, u32)>, AllocError>
     ensures { IfOk result (λ found. MatchOption found (IsBridgeless (IsNeighbour sides.now)) (λ it. IsFirstBridge (IsNeighbour sides.now) it.0 it.1)) }
 {
@@ -210,8 +207,7 @@ fn first_by_tree<A: Allocator + Copy, B: Allocator + Copy>(
 ) -> Result<Option<(u32, u32)>, AllocError>
     ensures { IfOk result (λ found. MatchOption found (IsBridgeless (IsNeighbour grid.now)) (λ it. IsFirstBridge (IsNeighbour grid.now) it.0 it.1)) }
 {
-    let sides = Sides::new(alloc, grid)?;
-    first_by_sides(alloc, &sides)
+    first_by_sides(alloc, &Sides::new(grid))
 }
 
 /// The bridge of least lower cell, then least upper cell. Edges next to squares of floor, or on short rounds, are passed over;

@@ -56,7 +56,7 @@ fn place<A: Allocator + Copy>(growth: &mut Growth<A>, cell: u32, parent: u32, ro
 /// The neighbour in a direction, unless it is placed.
 #[inline(always)]
 fn unplaced_beside<A: Allocator + Copy, B: Allocator + Copy>(
-    sides: &Sides<'_, A, B>,
+    sides: &Sides<'_, B>,
     growth: &Growth<A>,
     cell: u32,
     dir: Dir,
@@ -72,7 +72,7 @@ fn unplaced_beside<A: Allocator + Copy, B: Allocator + Copy>(
 /// The first neighbour that is not placed.
 #[inline(always)]
 fn first_unplaced<A: Allocator + Copy, B: Allocator + Copy>(
-    sides: &Sides<'_, A, B>,
+    sides: &Sides<'_, B>,
     growth: &Growth<A>,
     cell: u32,
 ) -> Option<u32> {
@@ -91,7 +91,7 @@ fn first_unplaced<A: Allocator + Copy, B: Allocator + Copy>(
 /// Places a neighbour below the cell, and gives it; where all are placed, the parent.
 #[inline(always)]
 fn grow<A: Allocator + Copy, B: Allocator + Copy>(
-    sides: &Sides<'_, A, B>,
+    sides: &Sides<'_, B>,
     growth: &mut Growth<A>,
     cell: u32,
     root: u32,
@@ -106,7 +106,7 @@ fn grow<A: Allocator + Copy, B: Allocator + Copy>(
 /// Places the part of the root, each cell below the last one that had a way to it. So an edge off the tree leads from
 /// a cell to one of those above it. The root is its own parent.
 fn place_part<A: Allocator + Copy, B: Allocator + Copy>(
-    sides: &Sides<'_, A, B>,
+    sides: &Sides<'_, B>,
     growth: &mut Growth<A>,
     count: u32,
     root: u32,
@@ -124,7 +124,7 @@ fn place_part<A: Allocator + Copy, B: Allocator + Copy>(
 
 /// Places each part below its first cell.
 fn place_parts<A: Allocator + Copy, B: Allocator + Copy>(
-    sides: &Sides<'_, A, B>,
+    sides: &Sides<'_, B>,
     growth: &mut Growth<A>,
     count: u32,
 ) {
@@ -138,7 +138,7 @@ fn place_parts<A: Allocator + Copy, B: Allocator + Copy>(
 /// All cells placed, each part below its first cell.
 pub(crate) fn place_all<A: Allocator + Copy, B: Allocator + Copy>(
     alloc: A,
-    sides: &Sides<'_, A, B>,
+    sides: &Sides<'_, B>,
     count: u32,
 ) -> Result<Growth<A>, AllocError> {
     let mut growth = Growth::new(alloc, count)?;

@@ -1,10 +1,10 @@
 //! The padded form of a map, in which a step takes no division.
 
 ghost use Rattle.std.specs.Prelude.{◌≡◌, ◌≢◌, ◌⊎◌, ℕ, ◌+◌, ◌<◌, ◌≤◌, length, slice_index, MatchOption, true, false};
-ghost use Rattle.fleet_grid.specs.Floor.{IsNeighbourIn};
+ghost use Rattle.fleet_grid.specs.Floor.{IsNeighbourIn, cell_across};
 ghost use Rattle.fleet_grid.specs.Padded.{IsOpen};
 ghost use Rattle.fleet_grid.specs.declared.dir.Dir.TheVariants.{East, South};
-ghost use Rattle.fleet_bridge.specs.inside.Places.{IsLaidOut, IsSpot, IsStep, IsSquare, IsInside, HasNoneAt, HasNoneBesideAt, cell_across, place_across};
+ghost use Rattle.fleet_bridge.specs.inside.Places.{IsLaidOut, IsSpot, IsStep, IsSquare, IsInside, HasNoneAt, HasNoneBesideAt, place_across};
 
 use fleet_grid::{Dir, FAR, Grid};
 use std::alloc::Allocator;
@@ -63,24 +63,14 @@ fn across<B: Allocator + Copy>(places: &Places<'_, B>, spot: Spot, dir: Dir) -> 
     ensures cell { result.cell ≡ cell_across places.now.width spot.cell dir }
     ensures place { result.place ≡ place_across places.now.stride spot.place dir }
 {
-    let Spot { cell, place } = spot;
-    let (width, stride) = (places.width, places.stride);
-    match dir {
-        Dir::North => Spot {
-            cell: cell.saturating_sub(width),
-            place: place - stride,
-        },
-        Dir::East => Spot {
-            cell: cell + 1,
-            place: place + 1,
-        },
-        Dir::South => Spot {
-            cell: cell + width,
-            place: place + stride,
-        },
-        Dir::West => Spot {
-            cell: cell.saturating_sub(1),
-            place: place - 1,
+    let (place, stride) = (spot.place, places.stride);
+    Spot {
+        cell: dir.across(places.width, spot.cell),
+        place: match dir {
+            Dir::North => place - stride,
+            Dir::East => place + 1,
+            Dir::South => place + stride,
+            Dir::West => place - 1,
         },
     }
 }

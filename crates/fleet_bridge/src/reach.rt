@@ -12,7 +12,7 @@ use std::alloc::{AllocError, Allocator};
 /// The number of the neighbour in a direction, if the edge to it is off the tree.
 #[inline(always)]
 fn reach_beside<A: Allocator + Copy, B: Allocator + Copy>(
-    sides: &Sides<'_, A, B>,
+    sides: &Sides<'_, B>,
     up: &Vec<u32, A>,
     number: &Vec<u32, A>,
     cell: u32,
@@ -30,7 +30,7 @@ fn reach_beside<A: Allocator + Copy, B: Allocator + Copy>(
 
 /// The least number that an edge off the tree reaches from the cell, its own counted too.
 fn reach<A: Allocator + Copy, B: Allocator + Copy>(
-    sides: &Sides<'_, A, B>,
+    sides: &Sides<'_, B>,
     up: &Vec<u32, A>,
     number: &Vec<u32, A>,
     cell: u32,
@@ -84,7 +84,7 @@ fn hand_all_up<A: Allocator + Copy>(
 /// Each cell's own reach.
 fn reaches<A: Allocator + Copy, B: Allocator + Copy>(
     alloc: A,
-    sides: &Sides<'_, A, B>,
+    sides: &Sides<'_, B>,
     up: &Vec<u32, A>,
     number: &Vec<u32, A>,
     count: u32,
@@ -100,7 +100,7 @@ fn reaches<A: Allocator + Copy, B: Allocator + Copy>(
 #[tactic(auto, using(crate::proofs::Inner::under_own))]
 pub(crate) fn furthest<A: Allocator + Copy, B: Allocator + Copy>(
     alloc: A,
-    sides: &Sides<'_, A, B>,
+    sides: &Sides<'_, B>,
     growth: &Growth<A>,
     number: &Vec<u32, A>,
     count: u32,

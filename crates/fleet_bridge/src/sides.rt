@@ -1,46 +1,21 @@
-//! In which directions the cells of a map have neighbours, written down once, so that no later look-up divides.
+//! A map with the ways of its cells at hand, so that no look-up of a neighbour divides.
 
-ghost use Rattle.std.specs.Prelude.{◌≡◌, ℕ, length, vec_len, IfOk, MatchOption, true, false};
-ghost use Rattle.fleet_grid.specs.Floor.{Floor, HasForm, IsNeighbourIn};
-ghost use Rattle.fleet_bridge.specs.inside.Sides.{IsOpen, AreOpen, is_open};
+ghost use Rattle.std.specs.Prelude.{◌≡◌, ℕ, MatchOption};
+ghost use Rattle.fleet_grid.specs.Floor.{IsNeighbourIn};
 
-use fleet_grid::{Dir, Grid};
-use std::alloc::{AllocError, Allocator};
+use fleet_grid::{Dir, Grid, Ways};
+use std::alloc::Allocator;
 use std::marker::Model;
 
-/// In which directions a cell has a neighbour.
-#[derive(Clone, Copy)]
-struct Open {
-    north: bool,
-    east: bool,
-    south: bool,
-    west: bool,
-}
-
-impl Open {
-    /// Whether there is a neighbour in that direction.
-    #[inline(always)]
-    fn is_open(&self, dir: Dir) -> bool
-        ensures { result ≡ is_open self.now dir }
-    {
-        match dir {
-            Dir::North => self.north,
-            Dir::East => self.east,
-            Dir::South => self.south,
-            Dir::West => self.west,
-        }
-    }
-}
-
-/// A map with the sides of its cells. Contracts see the map.
+/// A map with the ways of its cells. Contracts see the map.
 #[derive(Drop)]
-pub(crate) struct Sides<'a, A: Allocator + Copy, B: Allocator + Copy> {
+pub(crate) struct Sides<'a, B: Allocator + Copy> {
     grid: &'a Grid<B>,
     width: u32,
-    opens: Vec<Open, A>,
+    ways: &'a [u8],
 }
 
-impl<'a, A: Allocator + Copy, B: Allocator + Copy> Model for Sides<'a, A, B> {
+impl<'a, B: Allocator + Copy> Model for Sides<'a, B> {
     ghost use Rattle.fleet_grid.specs.Floor.{Floor};
     ghost use Rattle.fleet_bridge.specs.inside.Sides.{AreSides};
 
@@ -48,70 +23,19 @@ impl<'a, A: Allocator + Copy, B: Allocator + Copy> Model for Sides<'a, A, B> {
 
     ghost view = { λ s. s.grid.now };
 
-    ghost invariant = { λ s. AreSides s.grid.now s.width s.opens.items };
+    ghost invariant = { λ s. AreSides s.grid.now s.width s.ways.now };
 }
 
-/// Whether the cell has a neighbour in the direction.
-fn has_neighbour<B: Allocator + Copy>(grid: &Grid<B>, cell: u32, dir: Dir) -> bool
-    ensures yes { result ≡ true → (b : ℕ) × IsNeighbourIn grid.now dir cell b }
-    ensures no { result ≡ false → (b : ℕ) → IsNeighbourIn grid.now dir cell b → ⊥ }
-{
-    match grid.neighbour(cell, dir) {
-        Some(_) => true,
-        None => false,
-    }
-}
-
-/// The sides of a cell.
-fn open_of<B: Allocator + Copy>(grid: &Grid<B>, cell: u32) -> Open
-    ensures { IsOpen grid.now cell result }
-{
-    Open {
-        north: has_neighbour(grid, cell, Dir::North),
-        east: has_neighbour(grid, cell, Dir::East),
-        south: has_neighbour(grid, cell, Dir::South),
-        west: has_neighbour(grid, cell, Dir::West),
-    }
-}
-
-/// The cell on that side.
-#[tactic(auto, using(crate::proofs::Opens::north_of, crate::proofs::Opens::east_of, crate::proofs::Opens::south_of, crate::proofs::Opens::west_of, crate::proofs::Opens::small_cell))]
-#[inline(always)]
-fn across(width: u32, cell: u32, dir: Dir) -> u32
-    ensures { (m : Floor) (b : ℕ) → HasForm m → m.width ≡ width → IsNeighbourIn m dir cell b → result ≡ b }
-{
-    match dir {
-        Dir::North => cell.saturating_sub(width),
-        Dir::East => cell.saturating_add(1),
-        Dir::South => cell.saturating_add(width),
-        Dir::West => cell.saturating_sub(1),
-    }
-}
-
-/// The sides of all cells, in turn.
-fn opens_of<A: Allocator + Copy, B: Allocator + Copy>(
-    alloc: A,
-    grid: &Grid<B>,
-) -> Result<Vec<Open, A>, AllocError>
-    ensures size { IfOk result (λ opens. vec_len opens ≡ length grid.now.letters) }
-    ensures each { IfOk result (λ opens. AreOpen grid.now opens.items) }
-{
-    let count = grid.cell_count();
-    let mut opens = Vec::with_capacity(alloc, count as usize)?;
-    for cell in 0..count {
-        opens.push_reserved(open_of(grid, cell));
-    }
-    Ok(opens)
-}
-
-impl<'a, A: Allocator + Copy, B: Allocator + Copy> Sides<'a, A, B> {
-    /// The sides of all cells of a map.
-    pub(crate) fn new(alloc: A, grid: &'a Grid<B>) -> Result<Sides<'a, A, B>, AllocError>
-        ensures { IfOk result (λ sides. sides ≡ grid.now) }
+impl<'a, B: Allocator + Copy> Sides<'a, B> {
+    /// The ways of a map's cells.
+    pub(crate) fn new(grid: &'a Grid<B>) -> Sides<'a, B>
+        ensures { result ≡ grid.now }
     {
-        let opens = opens_of(alloc, grid)?;
-        let width = grid.width();
-        Ok(Sides { grid, width, opens })
+        Sides {
+            grid,
+            width: grid.width(),
+            ways: grid.ways(),
+        }
     }
 
     /// The map.
@@ -127,8 +51,14 @@ impl<'a, A: Allocator + Copy, B: Allocator + Copy> Sides<'a, A, B> {
         ensures { MatchOption result ((b : ℕ) → IsNeighbourIn self.now dir cell b → ⊥) (λ b. IsNeighbourIn self.now dir cell b) }
     {
         let at = cell as usize;
-        if at < self.opens.len() && self.opens[at].is_open(dir) {
-            Some(across(self.width, cell, dir))
+        if at >= self.ways.len() {
+            return None;
+        }
+        let ways = Ways {
+            byte: self.ways[at],
+        };
+        if ways.has(dir) {
+            Some(dir.across(self.width, cell))
         } else {
             None
         }

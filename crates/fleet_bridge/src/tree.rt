@@ -28,7 +28,7 @@ pub(crate) struct Tree<A: Allocator + Copy = Global> {
 
 /// Whether the edge to the neighbour in a direction has one top.
 fn has_one_top<A: Allocator + Copy, B: Allocator + Copy>(
-    sides: &Sides<'_, A, B>,
+    sides: &Sides<'_, B>,
     tree: &Tree<A>,
     cell: u32,
     dir: Dir,
@@ -43,7 +43,7 @@ fn has_one_top<A: Allocator + Copy, B: Allocator + Copy>(
 
 /// Whether each edge from the cell has one top.
 fn has_one_top_around<A: Allocator + Copy, B: Allocator + Copy>(
-    sides: &Sides<'_, A, B>,
+    sides: &Sides<'_, B>,
     tree: &Tree<A>,
     cell: u32,
 ) -> bool
@@ -65,12 +65,7 @@ fn has_one_top_around<A: Allocator + Copy, B: Allocator + Copy>(
 
 /// Whether the second cell lies in that direction.
 #[tactic(auto, using(crate::proofs::Inner::near_by))]
-fn is_beside<A: Allocator + Copy, B: Allocator + Copy>(
-    sides: &Sides<'_, A, B>,
-    a: u32,
-    b: u32,
-    dir: Dir,
-) -> bool
+fn is_beside<B: Allocator + Copy>(sides: &Sides<'_, B>, a: u32, b: u32, dir: Dir) -> bool
     ensures { result ≡ true → IsNeighbour sides.now a b }
 {
     match sides.beside(a, dir) {
@@ -80,28 +75,20 @@ fn is_beside<A: Allocator + Copy, B: Allocator + Copy>(
 }
 
 /// Whether the two cells are neighbours.
-fn is_near<A: Allocator + Copy, B: Allocator + Copy>(
-    sides: &Sides<'_, A, B>,
-    a: u32,
-    b: u32,
-) -> bool
+fn is_near<B: Allocator + Copy>(sides: &Sides<'_, B>, a: u32, b: u32) -> bool
     ensures { result ≡ true → IsNeighbour sides.now a b }
 {
-    if is_beside(sides, a, b, Dir::North) {
-        return true;
+    for dir in Dir::ALL {
+        if is_beside(sides, a, b, dir) {
+            return true;
+        }
     }
-    if is_beside(sides, a, b, Dir::East) {
-        return true;
-    }
-    if is_beside(sides, a, b, Dir::South) {
-        return true;
-    }
-    is_beside(sides, a, b, Dir::West)
+    false
 }
 
 /// Whether the cell keeps what the proof needs.
 fn is_fit<A: Allocator + Copy, B: Allocator + Copy>(
-    sides: &Sides<'_, A, B>,
+    sides: &Sides<'_, B>,
     tree: &Tree<A>,
     cell: u32,
 ) -> bool
@@ -121,7 +108,7 @@ fn is_fit<A: Allocator + Copy, B: Allocator + Copy>(
 
 /// Whether all cells do.
 fn are_fit<A: Allocator + Copy, B: Allocator + Copy>(
-    sides: &Sides<'_, A, B>,
+    sides: &Sides<'_, B>,
     tree: &Tree<A>,
     count: u32,
 ) -> bool
@@ -138,7 +125,7 @@ fn are_fit<A: Allocator + Copy, B: Allocator + Copy>(
 /// The tree, before its check.
 fn tree_of<A: Allocator + Copy, B: Allocator + Copy>(
     alloc: A,
-    sides: &Sides<'_, A, B>,
+    sides: &Sides<'_, B>,
     count: u32,
 ) -> Result<Tree<A>, AllocError>
     ensures { IfOk result (λ tree. AreUnder tree.up.items count tree.low.items) }
@@ -164,7 +151,7 @@ fn tree_of<A: Allocator + Copy, B: Allocator + Copy>(
 /// The tree, and whether it passed its check.
 pub(crate) fn spanning_tree<A: Allocator + Copy, B: Allocator + Copy>(
     alloc: A,
-    sides: &Sides<'_, A, B>,
+    sides: &Sides<'_, B>,
 ) -> Result<(Tree<A>, bool), AllocError>
     ensures { IfOk result (λ it. it.1 ≡ true → IsSpanning sides.now it.0) }
 {

@@ -11,7 +11,6 @@ use Rattle.fleet_field.specs.Shelf.{HasKept, AreKept}
 use Rattle.fleet_field.specs.inside.Sorted.{AreSorted}
 use Rattle.fleet_field.specs.inside.Uses.{IsOneOf}
 use Rattle.fleet_field.proofs.Ahead.{kept_at, missing_more, each_pushed}
-use Rattle.fleet_field.proofs.Together.{each_with}
 use Rattle.fleet_field.proofs.Uses.{each_field, fields_count}
 
 -- one of the fields is that of the goal

@@ -4,11 +4,11 @@ use Rattle.std.specs.List.{Contains}
 use Rattle.std.proofs.lemmas.Bool.{cases_eq, eq-eqb, ne_eqb}
 use Rattle.std.proofs.lemmas.List.{take_more, length_push}
 use Rattle.std.proofs.lemmas.List.Sums.{sum_by_push}
-use Rattle.std.proofs.lemmas.List.Elements.{Contains-push_cases, Contains-get_or}
+use Rattle.std.proofs.lemmas.List.Elements.{Contains-push_cases}
 use Rattle.std.proofs.Math.ListN.{get_or-append}
 use Rattle.std.proofs.Math.Seq.{get_or-append_seam}
 use Rattle.fleet_grid.specs.Floor.{Floor}
-use Rattle.fleet_field.specs.Field.{Aim, aim_of, IsField}
+use Rattle.fleet_field.specs.Field.{Aim, IsField}
 use Rattle.fleet_field.specs.declared.store.Held.{Held}
 use Rattle.fleet_field.specs.Store.{shown, Serves, IsOnce, HasUsesLeft}
 use Rattle.fleet_field.specs.Several.{AreFields, AreHeld, HaveUsesLeft, times}

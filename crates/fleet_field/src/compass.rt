@@ -10,8 +10,8 @@ ghost use Rattle.fleet_field.specs.Compass.{next_cell, steps_down};
 use crate::bits::{free_ways, ways_of_cells};
 use crate::columns::Columns;
 use crate::search::search;
-use crate::ways::{is_less, is_way};
-use fleet_grid::{Dir, Grid, four_ways};
+use crate::ways::is_less;
+use fleet_grid::{Dir, Grid, Ways};
 use std::alloc::{AllocError, Allocator, Global};
 use std::marker::Model;
 
@@ -36,34 +36,36 @@ impl<A: Allocator + Copy> Model for Compass<A> {
 }
 
 /// The cell that the first of a cell's ways leads to.
-fn next_cell(width: u32, ways: u8, cell: u32) -> Option<u32>
+fn next_cell(width: u32, ways: Ways, cell: u32) -> Option<u32>
     requires slim { width ≤ 1048576 }
     requires few { cell < 1048576 }
-    ensures { result ≡ next_cell width ways cell }
+    ensures { result ≡ next_cell width ways.byte cell }
 {
-    if is_way(ways, 0) {
-        return Some(cell.saturating_sub(width));
+    if ways.has(Dir::North) {
+        return Some(Dir::North.across(width, cell));
     }
-    if is_way(ways, 1) {
-        return Some(cell + 1);
+    if ways.has(Dir::East) {
+        return Some(Dir::East.across(width, cell));
     }
-    if is_way(ways, 2) {
-        return Some(cell + width);
+    if ways.has(Dir::South) {
+        return Some(Dir::South.across(width, cell));
     }
-    if is_way(ways, 3) {
-        return Some(cell.saturating_sub(1));
+    if ways.has(Dir::West) {
+        return Some(Dir::West.across(width, cell));
     }
     None
 }
 
 /// The ways of a cell; past the last cell there are none.
-fn ways_in(ways: &[u8], cell: u32) -> u8
-    ensures { result ≡ slice_index ways.now cell }
+fn ways_in(ways: &[u8], cell: u32) -> Ways
+    ensures { result.byte ≡ slice_index ways.now cell }
 {
     if (cell as usize) < ways.len() {
-        ways[cell as usize]
+        Ways {
+            byte: ways[cell as usize],
+        }
     } else {
-        0
+        Ways::NONE
     }
 }
 
@@ -81,7 +83,10 @@ fn steps_down(width: u32, ways: &[u8], goal: u32, cell: u32) -> Option<u32>
         if cell as usize >= ways.len() {
             return None;
         }
-        match next_cell(width, ways[cell as usize], cell) {
+        let here = Ways {
+            byte: ways[cell as usize],
+        };
+        match next_cell(width, here, cell) {
             Some(next) => cell = next,
             None => return None,
         }
@@ -135,10 +140,10 @@ impl<A: Allocator + Copy> Compass<A> {
     }
 
     /// The ways from a cell of a map that is not this one's.
-    fn ways_elsewhere<B: Allocator + Copy>(&self, grid: &Grid<B>, cell: u32) -> u8
-        ensures { AreNearer grid.now (λ c. slice_index_or self.now.away c None) cell result }
+    fn ways_elsewhere<B: Allocator + Copy>(&self, grid: &Grid<B>, cell: u32) -> Ways
+        ensures { AreNearer grid.now (λ c. slice_index_or self.now.away c None) cell result.byte }
     {
-        four_ways(
+        Ways::of(
             self.is_nearer(grid, cell, Dir::North),
             self.is_nearer(grid, cell, Dir::East),
             self.is_nearer(grid, cell, Dir::South),
@@ -147,8 +152,8 @@ impl<A: Allocator + Copy> Compass<A> {
     }
 
     /// The ways from a cell of the map that lead nearer to the goal.
-    pub fn ways<B: Allocator + Copy>(&self, grid: &Grid<B>, cell: u32) -> u8
-        ensures { AreNearer grid.now (λ c. slice_index_or self.now.away c None) cell result }
+    pub fn ways<B: Allocator + Copy>(&self, grid: &Grid<B>, cell: u32) -> Ways
+        ensures { AreNearer grid.now (λ c. slice_index_or self.now.away c None) cell result.byte }
     {
         if grid.width() != self.width {
             return self.ways_elsewhere(grid, cell);

@@ -8,7 +8,7 @@ ghost use Rattle.fleet_field.specs.Field.{IsField};
 use crate::columns::Columns;
 use crate::flood::flood;
 use crate::ways::is_less;
-use fleet_grid::{Dir, Grid, WALL, four_ways};
+use fleet_grid::{Dir, Grid, WALL, Ways};
 use std::alloc::{AllocError, Allocator, Global};
 use std::marker::Model;
 
@@ -78,11 +78,11 @@ impl<A: Allocator + Copy> Field<A> {
         }
     }
 
-    /// The ways from a cell of the map that lead nearer to the goal: bit `dir.number()` stands for the way in that direction.
-    pub fn ways<B: Allocator + Copy>(&self, grid: &Grid<B>, cell: u32) -> u8
-        ensures { AreNearer grid.now (λ c. slice_index_or self.now.away c None) cell result }
+    /// The ways from a cell of the map that lead nearer to the goal.
+    pub fn ways<B: Allocator + Copy>(&self, grid: &Grid<B>, cell: u32) -> Ways
+        ensures { AreNearer grid.now (λ c. slice_index_or self.now.away c None) cell result.byte }
     {
-        four_ways(
+        Ways::of(
             self.is_nearer(grid, cell, Dir::North),
             self.is_nearer(grid, cell, Dir::East),
             self.is_nearer(grid, cell, Dir::South),

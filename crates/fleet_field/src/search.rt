@@ -3,10 +3,12 @@
 //! are equally far.
 
 ghost use Rattle.std.specs.Prelude.{◌≡◌, ℕ, ◌+◌, ◌*◌, ◌%◌, ◌^◌, ◌<◌, ◌≤◌, List, length, slice_index, take, IfOk};
+ghost use Rattle.fleet_grid.specs.Direction.{dir_number};
 ghost use Rattle.fleet_field.specs.inside.Bytes.{IsLook, IsAround, IsSpread, IsReady, IsSearched};
 
 use crate::fronts::make_room;
-use crate::ways::{further_ways, is_way};
+use crate::ways::further_ways;
+use fleet_grid::{Dir, Ways};
 use std::alloc::{AllocError, Allocator};
 use std::mem;
 
@@ -18,24 +20,23 @@ fn look(
     ways: &mut [u8],
     next: &mut [u32],
     count: usize,
-    further: u8,
-    number: u8,
+    further: Ways,
+    dir: Dir,
     place: usize,
 ) -> usize
-    requires number { number < 4 }
     requires inside { place < length ways.old }
     requires small { length ways.old < 1073741824 }
     requires room { count < length next.old }
     ensures len { length ways.new ≡ length ways.old }
     ensures kept { length next.new ≡ length next.old }
     ensures most { result ≤ count + 1 }
-    ensures look { IsLook ways.old (take count next.old) further number (2 ^ ((number + 2) % 4)) place ways.new (take result next.new) }
+    ensures look { IsLook ways.old (take count next.old) further.byte (dir_number dir) (2 ^ ((dir_number dir + 2) % 4)) place ways.new (take result next.new) }
 {
-    if !is_way(further, number) {
+    if !further.has(dir) {
         return count;
     }
     let byte = ways[place];
-    ways[place] = byte | 1 << (number + 2) % 4;
+    ways[place] = byte | 1 << (dir.number() + 2) % 4;
     next[count] = place as u32;
     if byte & 15 == 0 { count + 1 } else { count }
 }
@@ -53,10 +54,10 @@ fn around(ways: &mut [u8], next: &mut [u32], count: usize, stride: usize, place:
     ensures around { IsAround ways.old (take count next.old) stride place ways.new (take result next.new) }
 {
     let further = further_ways(ways[place]);
-    let north = look(ways, next, count, further, 0, place - stride);
-    let east = look(ways, next, north, further, 1, place + 1);
-    let south = look(ways, next, east, further, 2, place + stride);
-    look(ways, next, south, further, 3, place - 1)
+    let north = look(ways, next, count, further, Dir::North, place - stride);
+    let east = look(ways, next, north, further, Dir::East, place + 1);
+    let south = look(ways, next, east, further, Dir::South, place + stride);
+    look(ways, next, south, further, Dir::West, place - 1)
 }
 
 /// One level: from the places of `now` to those next to them that are one further, and how many these are.

@@ -12,7 +12,7 @@ use crate::compass::Compass;
 use crate::compasses::compasses;
 use crate::holds::{hold_with, key_of, missing_of, use_again};
 use crate::shelf::Shelf;
-use fleet_grid::Grid;
+use fleet_grid::{Grid, Ways};
 use slab::Slab;
 use std::alloc::{AllocError, Allocator, Global};
 use std::marker::Model;
@@ -147,11 +147,10 @@ impl<A: Allocator + Copy> FieldStore<A> {
         self.held[key].field.at(cell)
     }
 
-    /// The ways from a cell of the map that lead nearer to the goal of the key: bit `dir.number()` stands for the way in
-    /// that direction.
-    pub fn ways<B: Allocator + Copy>(&self, grid: &Grid<B>, key: usize, cell: u32) -> u8
+    /// The ways from a cell of the map that lead nearer to the goal of the key.
+    pub fn ways<B: Allocator + Copy>(&self, grid: &Grid<B>, key: usize, cell: u32) -> Ways
         requires { IsSome (shown self.now key) }
-        ensures { (held : HeldView Aim) → shown self.now key ≡ Some held → AreNearer grid.now (λ c. slice_index_or held.field.away c None) cell result }
+        ensures { (held : HeldView Aim) → shown self.now key ≡ Some held → AreNearer grid.now (λ c. slice_index_or held.field.away c None) cell result.byte }
     {
         self.held[key].field.ways(grid, cell)
     }

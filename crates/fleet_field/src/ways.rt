@@ -1,9 +1,10 @@
 //! Ways that lead nearer, a bit for each direction.
 
-ghost use Rattle.std.specs.Prelude.{◌≡◌, ℕ, ◌<◌, ◌==◌, ◌↔◌, IsTrue};
-ghost use Rattle.std.specs.Int.{bit_at};
+ghost use Rattle.std.specs.Prelude.{◌↔◌, IsTrue};
 ghost use Rattle.fleet_grid.specs.Ways.{IsLess};
 ghost use Rattle.fleet_field.specs.inside.Bytes.{AreFurther};
+
+use fleet_grid::Ways;
 
 /// Whether both are distances, and the first is less.
 pub(crate) fn is_less(a: Option<u32>, b: Option<u32>) -> bool
@@ -15,18 +16,12 @@ pub(crate) fn is_less(a: Option<u32>, b: Option<u32>) -> bool
     }
 }
 
-/// Whether a way is among these.
-pub(crate) fn is_way(ways: u8, number: u8) -> bool
-    requires { number < 8 }
-    ensures { result ≡ (bit_at ways number == 1) }
-{
-    ways >> number & 1 == 1
-}
-
 /// The ways that lead one further from a place whose byte is this: those that are open and do not lead nearer.
 #[inline(always)]
-pub(crate) fn further_ways(byte: u8) -> u8
-    ensures { AreFurther byte result }
+pub(crate) fn further_ways(byte: u8) -> Ways
+    ensures { AreFurther byte result.byte }
 {
-    byte >> 4 & !byte
+    Ways {
+        byte: byte >> 4 & !byte,
+    }
 }

@@ -1,8 +1,8 @@
 -- Neighbours, in both directions.
-use Rattle.std.proofs.Common.{◌≡◌, ℕ, arith}
+use Rattle.std.proofs.Common.{◌≡◌, ℕ, sym, arith}
 use Rattle.fleet_grid.specs.declared.dir.Dir.{Dir}
 use Rattle.fleet_grid.specs.declared.dir.Dir.TheVariants.{North, East, South, West}
-use Rattle.fleet_grid.specs.Floor.{Floor, IsBeside, IsNeighbour}
+use Rattle.fleet_grid.specs.Floor.{Floor, IsBeside, IsNeighbour, cell_across}
 
 -- the other way
 abbrev pub opposite : Dir → Dir
@@ -26,3 +26,10 @@ beside_once width North a b c p q = omega (arith, p, q)
 beside_once width East a b c p q = omega (arith, p.0, q.0)
 beside_once width South a b c p q = omega (arith, p, q)
 beside_once width West a b c p q = omega (arith, p.0, q.0)
+
+-- a cell next to another has the number that is said
+pub beside_across : (width : ℕ) (dir : Dir) (a b : ℕ) → IsBeside width dir a b → b ≡ cell_across width a dir
+beside_across width North a b p = omega (arith, p)
+beside_across width East a b p = sym p.0
+beside_across width South a b p = sym p
+beside_across width West a b p = omega (arith, p.0)

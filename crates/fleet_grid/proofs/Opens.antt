@@ -4,20 +4,25 @@ use Rattle.std.proofs.lemmas.Bool.{cases_eq, false≢true}
 use Rattle.std.proofs.lemmas.List.{length-append, get_or_append_left, get_or_push}
 use Rattle.fleet_grid.specs.declared.dir.Dir.{Dir}
 use Rattle.fleet_grid.specs.declared.dir.Dir.TheVariants.{North, East, South, West}
-use Rattle.fleet_grid.specs.Floor.{Floor, is_floor, IsFloor, IsBeside, IsNeighbourIn}
+use Rattle.fleet_grid.specs.Floor.{Floor, is_floor, IsFloor, IsBeside, IsNeighbourIn, cell_across}
 use Rattle.fleet_grid.specs.Ways.{IsWay, AreOpen}
-use Rattle.fleet_grid.proofs.Edges.{beside_once}
+use Rattle.fleet_grid.proofs.Edges.{beside_once, beside_across}
 
--- a floor cell next to: the way is open exactly where that cell is floor
-pub leads_on : (m : Floor) (cell other : ℕ) (dir : Dir) → IsFloor m cell → IsBeside m.width dir cell other → is_floor m other ≡ true ↔ ((w : ℕ) × IsNeighbourIn m dir cell w)
-leads_on m cell other dir floor beside = (
-  λ on. (other, record { from = floor; to = on; beside = beside }),
-  λ way. subst (IsFloor m) (sym (beside_once m.width dir cell other way.0 beside way.1.beside)) way.1.to,
+-- the map has a cell on that side: the way is open exactly where it is floor
+pub leads_on : (m : Floor) (cell other : ℕ) (dir : Dir) → IsFloor m cell → other ≡ cell_across m.width cell dir → IsBeside m.width dir cell (cell_across m.width cell dir)
+    → is_floor m other ≡ true ↔ ((w : ℕ) × IsNeighbourIn m dir cell w)
+leads_on m cell other dir floor e there =
+    let beside : IsBeside m.width dir cell other = subst (IsBeside m.width dir cell) (sym e) there in (
+      λ on. (other, record { from = floor; to = on; beside = beside }),
+      λ way. subst (IsFloor m) (sym (beside_once m.width dir cell other way.0 beside way.1.beside)) way.1.to,
+    )
+
+-- it has none there: the way is shut
+pub leads_nowhere : (m : Floor) (cell : ℕ) (dir : Dir) → (IsBeside m.width dir cell (cell_across m.width cell dir) → ⊥) → false ≡ true ↔ ((w : ℕ) × IsNeighbourIn m dir cell w)
+leads_nowhere m cell dir none = (
+  λ e. absurd (false≢true e),
+  λ way. absurd (none (subst (IsBeside m.width dir cell) (beside_across m.width dir cell way.0 way.1.beside) way.1.beside)),
 )
-
--- no cell next to: the way is shut
-pub leads_nowhere : (m : Floor) (cell : ℕ) (dir : Dir) → ((b : ℕ) → IsBeside m.width dir cell b → ⊥) → false ≡ true ↔ ((w : ℕ) × IsNeighbourIn m dir cell w)
-leads_nowhere m cell dir none = (λ e. absurd (false≢true e), λ way. absurd (none way.0 way.1.beside))
 
 -- a byte of the four answers
 pub four_open : (m : Floor) (cell byte : ℕ) (n e s w : Bool)

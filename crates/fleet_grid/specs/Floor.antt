@@ -1,6 +1,6 @@
 -- The floor graph of a map: its cells are the numbers `row * width + col`, and its edges join floor cells that
 -- share a side. The letters are MovingAI's.
-use Rattle.std.specs.Prelude.{◌≡◌, ◌≢◌, ℕ, ◌+◌, ◌*◌, ◌%◌, ◌≤◌, ◌||◌, ◌==◌, Bool, IsTrue, List, length, slice_index}
+use Rattle.std.specs.Prelude.{◌≡◌, ◌≢◌, ℕ, ◌+◌, ◌-◌, ◌*◌, ◌%◌, ◌≤◌, ◌||◌, ◌==◌, Bool, IsTrue, List, length, slice_index}
 use Rattle.fleet_grid.specs.declared.dir.Dir.{Dir}
 use Rattle.fleet_grid.specs.declared.dir.Dir.TheVariants.{North, East, South, West}
 
@@ -36,6 +36,13 @@ IsBeside width North a b = b + width ≡ a
 IsBeside width East a b = (a + 1 ≡ b) × (b % width ≢ 0)
 IsBeside width South a b = a + width ≡ b
 IsBeside width West a b = (b + 1 ≡ a) × (a % width ≢ 0)
+
+-- the number of the cell next to a cell in that direction, where the map has one there
+abbrev pub cell_across : ℕ → ℕ → Dir → ℕ
+cell_across width cell North = cell - width
+cell_across width cell East = cell + 1
+cell_across width cell South = cell + width
+cell_across width cell West = cell - 1
 
 -- two floor cells, the second next to the first in that direction
 pub record IsNeighbourIn (m : Floor) (dir : Dir) (a b : ℕ) : Type 0 where

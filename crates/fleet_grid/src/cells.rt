@@ -1,7 +1,7 @@
 //! A map's sides and letters: which cells are floor, and which of them is next to which.
 
-ghost use Rattle.std.specs.Prelude.{◌≡◌, ℕ, ◌*◌, ◌<◌, ◌≤◌, length, MatchOption};
-ghost use Rattle.fleet_grid.specs.Floor.{floor_of, is_floor, HasForm, IsFloor, IsBeside, IsNeighbourIn};
+ghost use Rattle.std.specs.Prelude.{◌≡◌, ℕ, ◌*◌, ◌<◌, ◌≤◌, ◌↔◌, IsTrue, length, MatchOption};
+ghost use Rattle.fleet_grid.specs.Floor.{floor_of, is_floor, HasForm, IsFloor, IsBeside, IsNeighbourIn, cell_across};
 
 use crate::dir::Dir;
 use crate::letters::is_floor_byte;
@@ -25,6 +25,21 @@ impl<A: Allocator + Copy> Model for Cells<A> {
     ghost view = { λ c. floor_of c.height c.width c.letters.items };
 
     ghost invariant = { λ c. HasForm (floor_of c.height c.width c.letters.items) };
+}
+
+/// Whether a map of that width has a cell next to a cell in a direction; below a cell it always has.
+#[tactic(auto, using(crate::proofs::Columns::north_side, crate::proofs::Columns::east_end, crate::proofs::Columns::south_side, crate::proofs::Columns::west_end))]
+fn has_side(width: u32, cell: u32, dir: Dir) -> bool
+    requires wide { 0 < width }
+    requires small { cell < 1048576 }
+    ensures { IsTrue result ↔ IsBeside width dir cell (cell_across width cell dir) }
+{
+    match dir {
+        Dir::North => width <= cell,
+        Dir::East => (cell + 1) % width != 0,
+        Dir::South => true,
+        Dir::West => cell % width != 0,
+    }
 }
 
 impl<A: Allocator + Copy> Cells<A> {
@@ -104,12 +119,10 @@ impl<A: Allocator + Copy> Cells<A> {
         ensures { MatchOption result ((b : ℕ) → IsBeside self.now.width dir cell b → ⊥) (λ b. IsBeside self.now.width dir cell b) }
     {
         let small = self.small(cell);
-        match dir {
-            Dir::North => cell.checked_sub(self.width),
-            Dir::East if (small + 1) % self.width != 0 => Some(small + 1),
-            Dir::South => Some(small + self.width),
-            Dir::West if small % self.width != 0 => Some(small - 1),
-            _ => None,
+        if has_side(self.width, small, dir) {
+            Some(dir.across(self.width, small))
+        } else {
+            None
         }
     }
 

@@ -1,7 +1,8 @@
 //! The four directions.
 
-ghost use Rattle.std.specs.Prelude.{◌≡◌};
+ghost use Rattle.std.specs.Prelude.{◌≡◌, ◌<◌, ◌≤◌};
 ghost use Rattle.fleet_grid.specs.Direction.{dir_number};
+ghost use Rattle.fleet_grid.specs.Floor.{cell_across};
 
 /// A direction on a map, in the order in which ties are decided.
 #[derive(Clone, Copy, Debug, PartialEq, Eq)]
@@ -29,6 +30,21 @@ impl Dir {
             Dir::East => 1,
             Dir::South => 2,
             Dir::West => 3,
+        }
+    }
+
+    /// The cell next to a cell in this direction, where a map of that width has one there.
+    #[inline(always)]
+    pub fn across(self, width: u32, cell: u32) -> u32
+        requires slim { width ≤ 1048576 }
+        requires small { cell < 1048576 }
+        ensures { result ≡ cell_across width cell self }
+    {
+        match self {
+            Dir::North => cell.saturating_sub(width),
+            Dir::East => cell + 1,
+            Dir::South => cell + width,
+            Dir::West => cell.saturating_sub(1),
         }
     }
 }

@@ -21,4 +21,4 @@ pub use law::{
 };
 pub use padded::{FAR, WALL, place_of};
 pub use placement::is_placement;
-pub use ways::four_ways;
+pub use ways::Ways;

@@ -2,7 +2,7 @@
 //! letters of three rows.
 
 ghost use Rattle.std.specs.Prelude.{◌≡◌, ℕ, ◌+◌, ◌*◌, ◌%◌, ◌<◌, ◌≤◌, ◌↔◌, length, IfOk, IsTrue, MatchOption};
-ghost use Rattle.fleet_grid.specs.Floor.{HasForm, IsFloor, IsBeside, IsNeighbourIn};
+ghost use Rattle.fleet_grid.specs.Floor.{HasForm, IsFloor, IsBeside, IsNeighbourIn, cell_across};
 ghost use Rattle.fleet_grid.specs.Ways.{IsWay, AreOpen, AreWays};
 ghost use Rattle.fleet_grid.specs.declared.dir.Dir.TheVariants.{North, East, South, West};
 
@@ -10,69 +10,89 @@ use crate::cells::Cells;
 use crate::dir::Dir;
 use std::alloc::{AllocError, Allocator};
 
-/// Ways as a byte: bit `dir.number()` stands for the way in a direction.
-pub fn four_ways(north: bool, east: bool, south: bool, west: bool) -> u8
-    ensures north { IsWay result North ↔ IsTrue north }
-    ensures east { IsWay result East ↔ IsTrue east }
-    ensures south { IsWay result South ↔ IsTrue south }
-    ensures west { IsWay result West ↔ IsTrue west }
-    ensures low { result < 16 }
-{
-    u8::from(north) + 2 * u8::from(east) + 4 * u8::from(south) + 8 * u8::from(west)
+/// Some of the four ways from a cell.
+#[derive(Clone, Copy, Debug, PartialEq, Eq)]
+pub struct Ways {
+    /// Bit `dir.number()` stands for the way in that direction.
+    pub byte: u8,
 }
 
-/// The cell after a cell of that column in its row.
-#[tactic(auto, using(crate::proofs::Columns::east_there, crate::proofs::Columns::east_none))]
-fn east_of(width: u32, cell: u32, column: u32) -> Option<u32>
-    requires wide { 0 < width }
-    requires small { cell < 1048576 }
-    requires column { column ≡ cell % width }
-    ensures { MatchOption result ((b : ℕ) → IsBeside width East cell b → ⊥) (λ b. IsBeside width East cell b) }
-{
-    if column + 1 < width {
-        Some(cell + 1)
-    } else {
-        None
+impl Ways {
+    /// No way.
+    pub const NONE: Ways = Ways { byte: 0 };
+
+    /// The ways in those of the four directions for which this is said.
+    pub fn of(north: bool, east: bool, south: bool, west: bool) -> Ways
+        ensures north { IsWay result.byte North ↔ IsTrue north }
+        ensures east { IsWay result.byte East ↔ IsTrue east }
+        ensures south { IsWay result.byte South ↔ IsTrue south }
+        ensures west { IsWay result.byte West ↔ IsTrue west }
+        ensures low { result.byte < 16 }
+    {
+        Ways {
+            byte: u8::from(north) + 2 * u8::from(east) + 4 * u8::from(south) + 8 * u8::from(west),
+        }
+    }
+
+    /// Whether the way in a direction is one of these.
+    #[inline(always)]
+    pub fn has(self, dir: Dir) -> bool
+        ensures { IsTrue result ↔ IsWay self.byte dir }
+    {
+        match dir {
+            Dir::North => self.byte % 2 == 1,
+            Dir::East => self.byte / 2 % 2 == 1,
+            Dir::South => self.byte / 4 % 2 == 1,
+            Dir::West => self.byte / 8 % 2 == 1,
+        }
     }
 }
 
-/// The cell before a cell of that column in its row.
-fn west_of(width: u32, cell: u32, column: u32) -> Option<u32>
+/// Whether a map of that width has a cell next to a cell of that column in a direction; below a cell it always has.
+#[tactic(auto, using(crate::proofs::Columns::north_side, crate::proofs::Columns::east_side, crate::proofs::Columns::south_side, crate::proofs::Columns::west_side))]
+fn has_side(width: u32, cell: u32, column: u32, dir: Dir) -> bool
+    requires wide { 0 < width }
+    requires slim { width ≤ 1024 }
     requires column { column ≡ cell % width }
-    ensures { MatchOption result ((b : ℕ) → IsBeside width West cell b → ⊥) (λ b. IsBeside width West cell b) }
+    ensures { IsTrue result ↔ IsBeside width dir cell (cell_across width cell dir) }
 {
-    if column > 0 { Some(cell - 1) } else { None }
+    match dir {
+        Dir::North => width <= cell,
+        Dir::East => column + 1 < width,
+        Dir::South => true,
+        Dir::West => 0 < column,
+    }
 }
 
-/// Whether there is a cell next to a floor cell in a direction, and it is floor.
+/// Whether there is a cell next to a floor cell of that column in a direction, and it is floor.
 #[tactic(auto, using(crate::proofs::Opens::leads_on, crate::proofs::Opens::leads_nowhere))]
-fn leads<A: Allocator + Copy>(cells: &Cells<A>, cell: u32, dir: Dir, beside: Option<u32>) -> bool
+fn leads<A: Allocator + Copy>(cells: &Cells<A>, cell: u32, column: u32, dir: Dir) -> bool
     requires floor { IsFloor cells.now cell }
-    requires beside { MatchOption beside ((b : ℕ) → IsBeside cells.now.width dir cell b → ⊥) (λ b. IsBeside cells.now.width dir cell b) }
+    requires column { column ≡ cell % cells.now.width }
     ensures { IsTrue result ↔ ((w : ℕ) × IsNeighbourIn cells.now dir cell w) }
 {
-    let Some(other) = beside else {
+    let (_count, width) = (cells.count(), cells.width());
+    if !has_side(width, cell, column, dir) {
         return false;
-    };
-    cells.is_floor(other)
+    }
+    cells.is_floor(dir.across(width, cell))
 }
 
 /// The ways from a cell of that column.
-fn open_ways<A: Allocator + Copy>(cells: &Cells<A>, cell: u32, column: u32) -> u8
+fn open_ways<A: Allocator + Copy>(cells: &Cells<A>, cell: u32, column: u32) -> Ways
     requires inside { cell < length cells.now.letters }
     requires column { column ≡ cell % cells.now.width }
-    ensures open { AreOpen cells.now cell result }
-    ensures low { result < 16 }
+    ensures open { AreOpen cells.now cell result.byte }
+    ensures low { result.byte < 16 }
 {
-    let (_count, width) = (cells.count(), cells.width());
     if !cells.is_floor(cell) {
-        return 0;
+        return Ways::NONE;
     }
-    four_ways(
-        leads(cells, cell, Dir::North, cell.checked_sub(width)),
-        leads(cells, cell, Dir::East, east_of(width, cell, column)),
-        leads(cells, cell, Dir::South, Some(cell + width)),
-        leads(cells, cell, Dir::West, west_of(width, cell, column)),
+    Ways::of(
+        leads(cells, cell, column, Dir::North),
+        leads(cells, cell, column, Dir::East),
+        leads(cells, cell, column, Dir::South),
+        leads(cells, cell, column, Dir::West),
     )
 }
 
@@ -98,7 +118,7 @@ pub(crate) fn ways_of<A: Allocator + Copy>(
     let mut ways = Vec::with_capacity(alloc, count as usize)?;
     let mut column = 0;
     for cell in 0..count {
-        ways.push_reserved(open_ways(cells, cell, column));
+        ways.push_reserved(open_ways(cells, cell, column).byte);
         column = next_column(width, cell, column);
     }
     Ok(ways)

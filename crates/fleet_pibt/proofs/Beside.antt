@@ -36,13 +36,13 @@ rated-cost true nearer dir c w own tells p e = let q = p.near (tells.0 refl) in 
 rated-cost false nearer dir c w own tells p e = let q = p.far (λ way. cc (tells.1 way)) in omega (arith, q, e)
 
 pub candidate-from : (s : Setting) (robot : ℕ) (dir : Dir) (around : Around) (cell price rank rank' side : ℕ) (is_near : Bool) (law : TieLaw) → IsAround s.floor (cell_of s robot) around → cell ≡ cell_in around dir →
-    cell ≢ around.own → ((w : ℕ) → IsNeighbourIn s.floor dir (cell_of s robot) w → IsRated around.nearer dir (cost s robot w) (cost s robot (cell_of s robot))) → IsTrue is_near ↔ IsWay around.nearer dir → price ≡ cond is_near 0 2 →
+    cell ≢ around.own → ((w : ℕ) → IsNeighbourIn s.floor dir (cell_of s robot) w → IsRated around.nearer.byte dir (cost s robot w) (cost s robot (cell_of s robot))) → IsTrue is_near ↔ IsWay around.nearer.byte dir → price ≡ cond is_near 0 2 →
     rank' ≡ rank + 1 → side ≡ dir_number dir → IsRank law dir rank → ((l : TieLaw) → slice_get s.laws robot ≡ Some l → law ≡ l) →
     IsCandidate s robot (record { cost = price; rank = rank'; side = side; cell = cell })
 candidate-from s robot dir around cell price rank rank' side is_near law seen is ne rated tells low same place within tied =
     let step = spot-beside s.floor (cell_of s robot) dir around cell seen is ne in
     record {
-      cost_is = rated-cost is_near around.nearer dir price (cost s robot cell) (cost s robot (cell_of s robot)) tells (rated cell step) low;
+      cost_is = rated-cost is_near around.nearer.byte dir price (cost s robot cell) (cost s robot (cell_of s robot)) tells (rated cell step) low;
       kind = inr (record {
         dir = dir;
         step = step;

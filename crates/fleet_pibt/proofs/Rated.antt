@@ -34,9 +34,9 @@ no-way : (nearer : ℕ) (dir : Dir) → nearer ≡ 0 → IsWay nearer dir → �
 no-way nearer dir e way = let z : bit_at nearer (dir_number dir) ≡ 0 = ap (λ (n : ℕ). bit_at n (dir_number dir)) e ∙ bit_at-zero (dir_number dir) in cc (z, way)
 
 module _ (s : Setting) (scene : IsScene s) (waits : List (Option ℕ)) (are : AreGoals s.floor s.from waits s.goals s.distance) (arounds : List Around) (seen : AreArounds s.floor s.goals s.distance s.from arounds) where
-  way-tells : (r : ℕ) (around : Around) (l : r < robots s) → slice_get arounds r ≡ Some around → (dir : Dir) (w : ℕ) → IsNeighbourIn s.floor dir (cell_of s r) w → IsWay around.nearer dir ↔ (cost s r w < cost s r (cell_of s r))
+  way-tells : (r : ℕ) (around : Around) (l : r < robots s) → slice_get arounds r ≡ Some around → (dir : Dir) (w : ℕ) → IsNeighbourIn s.floor dir (cell_of s r) w → IsWay around.nearer.byte dir ↔ (cost s r w < cost s r (cell_of s r))
   way-tells r around l e dir w n = elim (none_or_some (s.goals r)) [
-    | inl none ↦ (let own = idle-own s scene waits are r l none in (λ way. absurd (no-way around.nearer dir ((seen.asked r around e).idle none) way), λ less. absurd (omega (arith, less, own))))
+    | inl none ↦ (let own = idle-own s scene waits are r l none in (λ way. absurd (no-way around.nearer.byte dir ((seen.asked r around e).idle none) way), λ less. absurd (omega (arith, less, own))))
     | inr some ↦ (
         let tells = (seen.asked r around e).tells (subst IsSome (sym some.1) refl) dir w n in
         let less = closer-less s scene waits are r l some.0 some.1 w (dir, n) in
@@ -49,6 +49,6 @@ module _ (s : Setting) (scene : IsScene s) (waits : List (Option ℕ)) (are : Ar
       let below = seen-below arounds r around e in
       let l : r < robots s = omega (arith, below, seen.same_length) in
       let there : near s (cell_of s r) w = (dir, n) in
-      rated-by around.nearer dir (cost s r w) (cost s r (cell_of s r))
+      rated-by around.nearer.byte dir (cost s r w) (cost s r (cell_of s r))
       (differ_by_one s.floor (cell_of s r) w _ _ _ scene.form there (cost-own s scene waits are r l) (cost-beside s scene waits are r l w there))
       (way-tells r around l e dir w n)

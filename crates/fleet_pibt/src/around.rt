@@ -6,8 +6,7 @@ ghost use Rattle.fleet_grid.specs.Ways.{AreOpen};
 ghost use Rattle.fleet_pibt.specs.inside.Around.{IsSpot, IsAround, AreArounds, IsAsked, AreAsked, cell_in};
 
 use crate::goals::Goals;
-use crate::ways::is_way;
-use fleet_grid::{Dir, Grid};
+use fleet_grid::{Dir, Grid, Ways};
 use std::alloc::Allocator;
 
 /// A robot's own cell, the cells next to it, and which of those are nearer to its goal. Where there is no floor the own cell
@@ -19,8 +18,8 @@ pub(crate) struct Around {
     pub(crate) east: u32,
     pub(crate) south: u32,
     pub(crate) west: u32,
-    /// The ways to them, bit by bit.
-    pub(crate) nearer: u8,
+    /// The ways to those.
+    pub(crate) nearer: Ways,
 }
 
 impl Around {
@@ -31,7 +30,7 @@ impl Around {
         east: 0,
         south: 0,
         west: 0,
-        nearer: 0,
+        nearer: Ways::NONE,
     };
 
     /// The cell in a direction.
@@ -48,28 +47,22 @@ impl Around {
 }
 
 /// The cell next to the floor cell `own` in a direction where that is an exit, and else `own`. No letter is read.
-#[tactic(auto, using(crate::proofs::Spots::spot_shut, crate::proofs::Spots::spot_north, crate::proofs::Spots::spot_east, crate::proofs::Spots::spot_south, crate::proofs::Spots::spot_west))]
-fn spot<A: Allocator + Copy>(grid: &Grid<A>, exits: u8, own: u32, dir: Dir) -> u32
+fn spot<A: Allocator + Copy>(grid: &Grid<A>, exits: Ways, own: u32, dir: Dir) -> u32
     requires floor { IsFloor grid.now own }
-    requires exits { AreOpen grid.now own exits }
+    requires exits { AreOpen grid.now own exits.byte }
     ensures { IsSpot grid.now own dir result }
 {
-    let width = grid.width();
-    if !is_way(exits, dir) {
-        return own;
-    }
-    match dir {
-        Dir::North => own - width,
-        Dir::East => own + 1,
-        Dir::South => own + width,
-        Dir::West => own - 1,
+    if exits.has(dir) {
+        dir.across(grid.width(), own)
+    } else {
+        own
     }
 }
 
 /// What a robot sees from the floor cell `own` with these exits, where the ways in `nearer` lead nearer to its goal.
-fn look<A: Allocator + Copy>(grid: &Grid<A>, exits: u8, own: u32, nearer: u8) -> Around
+fn look<A: Allocator + Copy>(grid: &Grid<A>, exits: Ways, own: u32, nearer: Ways) -> Around
     requires floor { IsFloor grid.now own }
-    requires exits { AreOpen grid.now own exits }
+    requires exits { AreOpen grid.now own exits.byte }
     ensures cells { IsAround grid.now own result }
     ensures nearer { result.nearer ≡ nearer }
 {
@@ -84,8 +77,8 @@ fn look<A: Allocator + Copy>(grid: &Grid<A>, exits: u8, own: u32, nearer: u8) ->
 }
 
 /// The ways that lead the robot nearer to its goal.
-fn asked<G: Goals, A: Allocator + Copy>(grid: &Grid<A>, goals: &G, robot: u32, own: u32) -> u8
-    ensures { IsAsked grid.now (G.goal_of goals.now robot) (G.distance goals.now robot) own result }
+fn asked<G: Goals, A: Allocator + Copy>(grid: &Grid<A>, goals: &G, robot: u32, own: u32) -> Ways
+    ensures { IsAsked grid.now (G.goal_of goals.now robot) (G.distance goals.now robot) own result.byte }
 {
     goals.ways(grid, robot, own)
 }
@@ -123,6 +116,9 @@ pub(crate) fn gather<G: Goals, A: Allocator + Copy>(
     let ways = grid.ways();
     for (robot, seen) in arounds.iter_mut().enumerate() {
         let own = from[robot];
-        *seen = look(grid, ways[own as usize], own, seen.nearer);
+        let exits = Ways {
+            byte: ways[own as usize],
+        };
+        *seen = look(grid, exits, own, seen.nearer);
     }
 }

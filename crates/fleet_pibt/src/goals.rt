@@ -4,7 +4,7 @@ ghost use Rattle.std.specs.Prelude.{◌≡◌, ◌↔◌, ℕ, Option, None, IsS
 ghost use Rattle.fleet_grid.specs.Floor.{IsNeighbourIn};
 ghost use Rattle.fleet_grid.specs.Ways.{AreNearer, IsLess};
 
-use fleet_grid::{Dir, Grid, four_ways};
+use fleet_grid::{Dir, Grid, Ways};
 use std::alloc::Allocator;
 
 /// Where each robot goes, and how far that is. An implementation says `goal` and `at`; `ways` follows from them, and may be
@@ -22,17 +22,17 @@ pub trait Goals {
     fn at(&self, robot: u32, cell: u32) -> Option<u32>
         ensures { result ≡ distance self.now robot cell };
 
-    /// The ways out of the cell that lead nearer to the robot's goal: bit `dir.number()` stands for the way in that direction,
-    /// and tells of a floor neighbour whether it has a lesser distance. An idle robot has none.
-    fn ways<A: Allocator + Copy>(&self, grid: &Grid<A>, robot: u32, cell: u32) -> u8
-        ensures nearer { IsSome (goal_of self.now robot) → AreNearer grid.now (distance self.now robot) cell result }
-        ensures idle { goal_of self.now robot ≡ None → result ≡ 0 }
+    /// The ways out of the cell that lead nearer to the robot's goal: of those to floor neighbours the ones to a lesser distance.
+    /// An idle robot has none.
+    fn ways<A: Allocator + Copy>(&self, grid: &Grid<A>, robot: u32, cell: u32) -> Ways
+        ensures nearer { IsSome (goal_of self.now robot) → AreNearer grid.now (distance self.now robot) cell result.byte }
+        ensures idle { goal_of self.now robot ≡ None → result.byte ≡ 0 }
     {
         if self.goal(robot).is_none() {
-            return 0;
+            return Ways::NONE;
         }
         let own = self.at(robot, cell);
-        four_ways(
+        Ways::of(
             is_less(self.at(robot, beside(grid, cell, Dir::North)), own),
             is_less(self.at(robot, beside(grid, cell, Dir::East)), own),
             is_less(self.at(robot, beside(grid, cell, Dir::South)), own),

@@ -14,7 +14,6 @@ mod sight;
 mod stepper;
 mod table;
 mod tables;
-mod ways;
 
 pub use goals::Goals;
 pub use priority::order;

@@ -10,7 +10,6 @@ use crate::around::Around;
 use crate::choice::{Candidate, cells, in_order};
 use crate::goals::Goals;
 use crate::sight::Sight;
-use crate::ways::is_way;
 use fleet_grid::{Dir, Grid};
 use fleet_hooks::{TieHook, TieView};
 use std::alloc::Allocator;
@@ -72,22 +71,10 @@ impl<'a, G: Goals, A: Allocator + Copy> Sight for Scene<'a, G, A> {
 impl<'a, G: Goals, A: Allocator + Copy> Scene<'a, G, A> {
     /// The candidate of the own cell of a robot that sees this.
     fn staying(&self, robot: u32, around: Around) -> Candidate
-        requires whole { let s = setting
-            self.now.grid.now
-            self.now.from.now
-            (G.goal_of self.now.goals.now)
-            (G.distance self.now.goals.now)
-            (map (λ h. h.law) self.now.ties.now)
-            in IsWhole s self.now.arounds.now }
+        requires whole { ⟦<Scene<'a, G, A> as Sight>⟧.is_whole self.now }
         requires known { robot < length self.now.from.now }
         requires seen { slice_get self.now.arounds.now robot ≡ Some around }
-        ensures candidate { let s = setting
-            self.now.grid.now
-            self.now.from.now
-            (G.goal_of self.now.goals.now)
-            (G.distance self.now.goals.now)
-            (map (λ h. h.law) self.now.ties.now)
-            in IsCandidate s robot result }
+        ensures candidate { IsCandidate (⟦<Scene<'a, G, A> as Sight>⟧.setting self.now) robot result }
         ensures own { result.cell ≡ slice_index self.now.from.now robot }
         ensures rank { result.rank ≡ 0 }
     {
@@ -101,22 +88,10 @@ impl<'a, G: Goals, A: Allocator + Copy> Scene<'a, G, A> {
 
     /// The candidate in a direction of a robot that sees this, or that of the own cell where there is no floor.
     fn moving(&self, robot: u32, around: Around, dir: Dir) -> Candidate
-        requires whole { let s = setting
-            self.now.grid.now
-            self.now.from.now
-            (G.goal_of self.now.goals.now)
-            (G.distance self.now.goals.now)
-            (map (λ h. h.law) self.now.ties.now)
-            in IsWhole s self.now.arounds.now }
+        requires whole { ⟦<Scene<'a, G, A> as Sight>⟧.is_whole self.now }
         requires known { robot < length self.now.from.now }
         requires seen { slice_get self.now.arounds.now robot ≡ Some around }
-        ensures candidate { let s = setting
-            self.now.grid.now
-            self.now.from.now
-            (G.goal_of self.now.goals.now)
-            (G.distance self.now.goals.now)
-            (map (λ h. h.law) self.now.ties.now)
-            in IsCandidate s robot result }
+        ensures candidate { IsCandidate (⟦<Scene<'a, G, A> as Sight>⟧.setting self.now) robot result }
         ensures covers { (w : ℕ) → IsNeighbourIn self.now.grid.now dir (slice_index self.now.from.now robot) w → result.cell ≡ w }
     {
         let cell = around.beside(dir);
@@ -131,7 +106,7 @@ impl<'a, G: Goals, A: Allocator + Copy> Scene<'a, G, A> {
             tick: self.tick,
         };
         Candidate {
-            cost: cost_beside(is_way(around.nearer, dir)),
+            cost: cost_beside(around.nearer.has(dir)),
             rank: rank_beside(self.ties[robot as usize].rank(view)),
             side: dir.number(),
             cell,

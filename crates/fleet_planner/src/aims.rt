@@ -9,7 +9,7 @@ ghost use Rattle.fleet_planner.specs.Turned.{turned, AreFloorTurns, AreKnownTurn
 use crate::keys::{distance_of, goal_of, ways_of};
 use crate::turns::{GoalChange, turn_to};
 use fleet_field::{FieldStore, Shelf};
-use fleet_grid::Grid;
+use fleet_grid::{Grid, Ways};
 use fleet_pibt::Goals;
 use std::alloc::{AllocError, Allocator, Global};
 use std::marker::Model;
@@ -134,7 +134,7 @@ impl<A: Allocator + Copy> Goals for Aims<A> {
         distance_of(&self.store, &self.keys, robot, cell)
     }
 
-    fn ways<B: Allocator + Copy>(&self, grid: &Grid<B>, robot: u32, cell: u32) -> u8 {
+    fn ways<B: Allocator + Copy>(&self, grid: &Grid<B>, robot: u32, cell: u32) -> Ways {
         ways_of(&self.store, &self.keys, grid, robot, cell)
     }
 }

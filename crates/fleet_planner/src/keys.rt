@@ -6,17 +6,14 @@ ghost use Rattle.fleet_planner.specs.Aims.{goal_in, distance_in};
 ghost use Rattle.fleet_planner.specs.Keys.{key_at, field_at, AreShowing};
 
 use fleet_field::FieldStore;
-use fleet_grid::Grid;
+use fleet_grid::{Grid, Ways};
 use std::alloc::Allocator;
 
 /// The robot's key; none past the last robot.
 pub(crate) fn key_of(keys: &[Option<usize>], robot: u32) -> Option<usize>
     ensures { result ≡ key_at keys.now robot }
 {
-    match keys.get(robot as usize) {
-        Some(key) => *key,
-        None => None,
-    }
+    keys.get(robot as usize).copied().flatten()
 }
 
 /// The robot's goal.
@@ -46,20 +43,20 @@ pub(crate) fn distance_of<A: Allocator + Copy>(
     store.at(key, cell)
 }
 
-/// The ways out of the cell that lead nearer to the robot's goal, a bit for each direction; none without a goal.
+/// The ways out of the cell that lead nearer to the robot's goal; none without a goal.
 pub(crate) fn ways_of<A: Allocator + Copy, B: Allocator + Copy>(
     store: &FieldStore<A>,
     keys: &[Option<usize>],
     grid: &Grid<B>,
     robot: u32,
     cell: u32,
-) -> u8
+) -> Ways
     requires { AreShowing store.now keys.now }
-    ensures nearer { AreNearer grid.now (distance_in (field_at store.now (key_at keys.now robot))) cell result }
-    ensures idle { goal_in (field_at store.now (key_at keys.now robot)) ≡ None → result ≡ 0 }
+    ensures nearer { AreNearer grid.now (distance_in (field_at store.now (key_at keys.now robot))) cell result.byte }
+    ensures idle { goal_in (field_at store.now (key_at keys.now robot)) ≡ None → result.byte ≡ 0 }
 {
     match key_of(keys, robot) {
         Some(key) => store.ways(grid, key, cell),
-        None => 0,
+        None => Ways::NONE,
     }
 }

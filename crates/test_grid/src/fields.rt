@@ -125,8 +125,8 @@ const WAYS: [(u32, u8); 8] = [
 
 /// Whether these ways lead nearer by a field and by a compass, which tell the same distance.
 fn have_ways(grid: &Grid, field: &Field, compass: &Compass, cell: u32, ways: u8) -> bool {
-    field.ways(grid, cell) == ways
-        && compass.ways(grid, cell) == ways
+    field.ways(grid, cell).byte == ways
+        && compass.ways(grid, cell).byte == ways
         && compass.at(cell) == field.at(cell)
 }
 
@@ -143,7 +143,7 @@ fn ways_by_store(rt: &impl Abort, grid: &Grid, store: &mut FieldStore)
 {
     let key = hold(store, grid, 0).expect(rt, "memory for a field");
     for (cell, ways) in WAYS {
-        assert!(rt; store.ways(grid, key, cell) == ways);
+        assert!(rt; store.ways(grid, key, cell).byte == ways);
     }
 }
 

@@ -99,7 +99,7 @@ fn check_aimed<A: Allocator + Copy>(rt: &impl Abort, aims: &Aims<A>, grid: &Grid
     assert!(rt; is_away(aims, 0, 5, Some(1)));
     assert!(rt; is_away(aims, 0, 4, None));
     // East and south.
-    assert!(rt; aims.ways(grid, 0, 0) == 6 && aims.ways(grid, 1, 0) == 0);
+    assert!(rt; aims.ways(grid, 0, 0).byte == 6 && aims.ways(grid, 1, 0).byte == 0);
 }
 
 /// Robot 0 is given the goal 8, then robot 1, and then robot 0 is turned to cell 1.

@@ -20,13 +20,6 @@ pub record IsSpot (m : Floor) (stride : ℕ) (spot : Spot) : Type 0 where
   pub floor : IsFloor m spot.cell
   pub at : spot.place ≡ place m.width stride spot.cell
 
--- the cell on that side, where there is one
-abbrev pub cell_across : ℕ → ℕ → Dir → ℕ
-cell_across width cell North = cell - width
-cell_across width cell East = cell + 1
-cell_across width cell South = cell + width
-cell_across width cell West = cell - 1
-
 -- the place on that side
 abbrev pub place_across : ℕ → ℕ → Dir → ℕ
 place_across stride at North = at - stride

@@ -29,7 +29,7 @@ pub record IsAsked (m : Floor) (goal : Option ℕ) (distance : ℕ → Option �
 
 -- the list has for each robot the ways that lead nearer
 abbrev pub AreAsked : Floor → (ℕ → Option ℕ) → (ℕ → ℕ → Option ℕ) → List ℕ → List Around → Type 0
-AreAsked m goals distance from arounds = (r : ℕ) (around : Around) → slice_get arounds r ≡ Some around → IsAsked m (goals r) (distance r) (slice_index from r) around.nearer
+AreAsked m goals distance from arounds = (r : ℕ) (around : Around) → slice_get arounds r ≡ Some around → IsAsked m (goals r) (distance r) (slice_index from r) around.nearer.byte
 
 -- the list has for each robot what it sees
 pub record AreArounds (m : Floor) (goals : ℕ → Option ℕ) (distance : ℕ → ℕ → Option ℕ) (from : List ℕ) (arounds : List Around) : Type 0 where
@@ -46,7 +46,7 @@ pub record IsRated (nearer : ℕ) (dir : Dir) (cost own : ℕ) : Type 0 where
 abbrev pub AreRated : Setting → List Around → Type 0
 AreRated s arounds =
     (r : ℕ) (around : Around) → slice_get arounds r ≡ Some around →
-    (dir : Dir) (w : ℕ) → IsNeighbourIn s.floor dir (cell_of s r) w → IsRated around.nearer dir (cost s r w) (cost s r (cell_of s r))
+    (dir : Dir) (w : ℕ) → IsNeighbourIn s.floor dir (cell_of s r) w → IsRated around.nearer.byte dir (cost s r w) (cost s r (cell_of s r))
 
 -- a step's setting, with what its robots see
 pub record IsWhole (s : Setting) (arounds : List Around) : Type 0 where

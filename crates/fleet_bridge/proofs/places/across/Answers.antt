@@ -14,20 +14,8 @@ overflow_add-result g c =
     let x = spot_around p.grid.now p.stride p.list.now c.requires.laid_out.form c.requires.laid_out.padded c.args.spot.cell c.args.spot.place c.requires.spot.floor c.requires.spot.at in
     omega (arith, x, c.requires.laid_out.wide)
 
-pub overflow_add-result-in-East : goal.overflow_add-result-in-East
-overflow_add-result-in-East g c =
-    let p = c.args.places.now in
-    let x = spot_around p.grid.now p.stride p.list.now c.requires.laid_out.form c.requires.laid_out.padded c.args.spot.cell c.args.spot.place c.requires.spot.floor c.requires.spot.at in
-    omega (arith, x, c.requires.laid_out.wide)
-
 pub overflow_add-result-in-South : goal.overflow_add-result-in-South
 overflow_add-result-in-South g c =
-    let p = c.args.places.now in
-    let x = spot_around p.grid.now p.stride p.list.now c.requires.laid_out.form c.requires.laid_out.padded c.args.spot.cell c.args.spot.place c.requires.spot.floor c.requires.spot.at in
-    omega (arith, x, c.requires.laid_out.wide)
-
-pub overflow_add-result-in-South-2 : goal.overflow_add-result-in-South-2
-overflow_add-result-in-South-2 g c =
     let p = c.args.places.now in
     let x = spot_around p.grid.now p.stride p.list.now c.requires.laid_out.form c.requires.laid_out.padded c.args.spot.cell c.args.spot.place c.requires.spot.floor c.requires.spot.at in
     omega (arith, x, c.requires.laid_out.wide)

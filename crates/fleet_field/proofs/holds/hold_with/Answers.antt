@@ -1,4 +1,4 @@
-use Rattle.std.proofs.Common.{◌≡◌, List, Option, length, refl, sym, ap, subst, arith}
+use Rattle.std.proofs.Common.{◌≡◌, List, Option, refl, sym, ap, subst, arith}
 use Rattle.fleet_field.specs.Field.{Aim}
 use Rattle.fleet_field.specs.inside.Uses.{IsFilled}
 use Rattle.fleet_field.specs.Store.{IsOnce}

@@ -1,4 +1,4 @@
-use Rattle.std.proofs.Common.{◌≡◌, ℕ, ◌+◌, ◌<◌, List, [], ◌∷◌, ◌++◌, length, slice_index, refl, sym, ap, subst, ◌∙◌, arith}
+use Rattle.std.proofs.Common.{◌≡◌, ℕ, ◌+◌, List, [], ◌∷◌, ◌++◌, slice_index, refl, sym, ap, subst, ◌∙◌, arith}
 use Rattle.fleet_field.specs.inside.Sorted.{AreSorted}
 use Rattle.fleet_field.specs.inside.Uses.{IsOneOf}
 use Rattle.fleet_field.proofs.Fronted.{kept_there, sorted_found, sorted_missing, sorted_there}

@@ -41,7 +41,7 @@ pub loop-cell-preserved : goal.loop-cell-preserved
 loop-cell-preserved g c =
     let m = c.args.cells.now in
     let i = c.loop-cell.invariant in
-    let on = ways_more m c.loop-cell.cell c.open_ways.result c.loop-cell.ways.items i.ways c.open_ways.ensures.open c.open_ways.ensures.low in
+    let on = ways_more m c.loop-cell.cell c.open_ways.result.byte c.loop-cell.ways.items i.ways c.open_ways.ensures.open c.open_ways.ensures.low in
     record {
       column = λ pos. c.next_column-column.ensures;
       ways = rw c.push_reserved.ensures.items on;

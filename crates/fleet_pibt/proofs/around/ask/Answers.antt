@@ -6,7 +6,7 @@ use Rattle.fleet_pibt.proofs.around.ask.Goals as goal
 pub loop-robot-preserved : goal.loop-robot-preserved
 loop-robot-preserved g c =
     seen-more
-    (λ r around. IsAsked c.args.grid.now (g.G.Goals.goal_of c.args.goals.now r) (g.G.Goals.distance c.args.goals.now r) (slice_index c.args.from.now r) around.nearer)
+    (λ r around. IsAsked c.args.grid.now (g.G.Goals.goal_of c.args.goals.now r) (g.G.Goals.distance c.args.goals.now r) (slice_index c.args.from.now r) around.nearer.byte)
     c.loop-robot.arounds c.loop-robot.robot _ c.loop-robot.invariant c.asked-seen.ensures
 
 pub returns : goal.returns

@@ -12,8 +12,8 @@ loop-robot-preserved g c =
     let seen = c.loop-robot.arounds in
     let robot = c.loop-robot.robot in
     let inside = seen-at seen robot _ (omega (arith, c.loop-robot-test.true, c.loop-robot.auto.arounds)) in
-    let asked : IsAsked m (g.G.Goals.goal_of goals robot) (g.G.Goals.distance goals robot) (slice_index from robot) c.look.result.nearer = rw c.look.ensures.nearer (c.loop-robot.invariant.0 robot _ inside) in (
-      seen-all (λ r around. IsAsked m (g.G.Goals.goal_of goals r) (g.G.Goals.distance goals r) (slice_index from r) around.nearer) seen robot c.look.result c.loop-robot.invariant.0 asked,
+    let asked : IsAsked m (g.G.Goals.goal_of goals robot) (g.G.Goals.distance goals robot) (slice_index from robot) c.look.result.nearer.byte = rw c.look.ensures.nearer (c.loop-robot.invariant.0 robot _ inside) in (
+      seen-all (λ r around. IsAsked m (g.G.Goals.goal_of goals r) (g.G.Goals.distance goals r) (slice_index from r) around.nearer.byte) seen robot c.look.result c.loop-robot.invariant.0 asked,
       seen-more (λ r around. IsAround m (slice_index from r) around) seen robot c.look.result c.loop-robot.invariant.1 c.look.ensures.cells,
     )
 

@@ -6,7 +6,7 @@ use Rattle.fleet_planner.proofs.keys.ways_of.Goals as goal
 pub returns-in-Some-clause-nearer : goal.returns-in-Some-clause-nearer
 returns-in-Some-clause-nearer g c =
     let key = sym c.key_of.ensures ∙ c.in-Some.is in
-    ways_shown c.args.store.now (key_at c.args.keys.now c.args.robot) c.in-Some.key c.args.grid.now c.args.cell c.ways.result key (c.requires c.args.robot c.in-Some.key key) c.ways.ensures
+    ways_shown c.args.store.now (key_at c.args.keys.now c.args.robot) c.in-Some.key c.args.grid.now c.args.cell c.ways.result.byte key (c.requires c.args.robot c.in-Some.key key) c.ways.ensures
 
 pub returns-in-Some-clause-idle : goal.returns-in-Some-clause-idle
 returns-in-Some-clause-idle g c =

@@ -1,10 +1,10 @@
-use Rattle.std.proofs.Common.{◌≡◌, ℕ, ◌<◌, List, Option, length, slice_index, refl, sym, ap, subst, ◌∙◌}
+use Rattle.std.proofs.Common.{◌≡◌, ℕ, ◌<◌, List, Option, length, slice_index, refl, sym, subst, ◌∙◌}
 use Rattle.std.specs.Prelude.{IfOk}
 use Rattle.std.proofs.lemmas.Result.{on_err_weaker, IfOk-from_err}
 use Rattle.fleet_grid.specs.Floor.{IsFloor}
 use Rattle.fleet_field.specs.Field.{Aim}
 use Rattle.fleet_field.specs.Several.{AreFields, AreHeld, HaveUsesLeft}
-use Rattle.fleet_field.specs.Store.{shown, Serves, IsOnce}
+use Rattle.fleet_field.specs.Store.{Serves, IsOnce}
 use Rattle.fleet_field.specs.declared.store.Held.{Held}
 use Rattle.fleet_field.proofs.Missing.{floor_missing}
 use Rattle.fleet_field.proofs.Together.{each_with, held_with, served_with, once_with, on_ok, on_err}

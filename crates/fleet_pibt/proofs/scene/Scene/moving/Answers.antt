@@ -13,9 +13,9 @@ returns-clause-candidate g c =
     let seen = c.requires.whole.gathered.each c.args.robot c.args.around c.requires.seen in
     let self = c.args.self.now in
     let s : Setting = setting self.grid.now self.from.now (g.G.Goals.goal_of self.goals.now) (g.G.Goals.distance self.goals.now) (map (λ h. h.law) self.ties.now) in
-    candidate-from s c.args.robot c.args.dir _ c.beside-cell.result c.cost_beside.result c.rank.result c.rank_beside.result c.number.result c.is_way.result _ seen c.beside-cell.ensures c.if-cell-around.false
+    candidate-from s c.args.robot c.args.dir _ c.beside-cell.result c.cost_beside.result c.rank.result c.rank_beside.result c.number.result c.has.result _ seen c.beside-cell.ensures c.if-cell-around.false
     (c.requires.whole.rated c.args.robot c.args.around c.requires.seen c.args.dir)
-    c.is_way.ensures c.cost_beside.ensures
+    c.has.ensures c.cost_beside.ensures
     c.rank_beside.ensures c.number.ensures c.rank.ensures
     (λ l e. mapped-at (λ h. h.law) c.args.self.now.ties.now c.args.robot l c.index-self-robot.result e)
 
