@@ -1,5 +1,5 @@
 -- The laws of stored closures: between which bounds their answers lie.
-use Rattle.std.specs.Prelude.{ℕ, ◌<◌, ◌≤◌, slice_index}
+use Rattle.std.specs.Prelude.{ℕ, List, ◌<◌, ◌≤◌, slice_index}
 use Rattle.fleet_grid.specs.Direction.{dir_number}
 use Rattle.fleet_grid.specs.declared.dir.Dir.{Dir}
 use Rattle.fleet_hooks.specs.declared.law.StampLaw.{StampLaw}
@@ -9,6 +9,10 @@ use Rattle.fleet_hooks.specs.declared.law.TieLaw.{TieLaw}
 abbrev pub IsTieLaw : TieLaw → Type 0
 IsTieLaw law = (d : ℕ) → d < 4 → slice_index law.low d ≤ slice_index law.high d
 
+-- in each direction this rank alone
+abbrev pub exact_law : List ℕ → TieLaw
+exact_law ranks = record { low = ranks; high = ranks }
+
 -- the rank lies between the law's bounds for the direction
 pub record IsRank (law : TieLaw) (dir : Dir) (rank : ℕ) : Type 0 where
   pub low : slice_index law.low (dir_number dir) ≤ rank
@@ -17,6 +21,10 @@ pub record IsRank (law : TieLaw) (dir : Dir) (rank : ℕ) : Type 0 where
 -- the least stamp is at most the greatest
 abbrev pub IsStampLaw : StampLaw → Type 0
 IsStampLaw law = law.low ≤ law.high
+
+-- this stamp alone
+abbrev pub exact_stamp : ℕ → StampLaw
+exact_stamp stamp = record { low = stamp; high = stamp }
 
 -- the stamp lies between the law's bounds
 pub record IsStamp (law : StampLaw) (stamp : ℕ) : Type 0 where

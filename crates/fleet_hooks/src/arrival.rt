@@ -1,22 +1,31 @@
-//! The closure that stamps arrivals.
+//! What stamps arrivals: a closure, or a fixed stamp.
 
 ghost use Rattle.std.specs.Prelude.{◌≡◌, ℕ, ◌<◌, ◌^◌};
-ghost use Rattle.fleet_hooks.specs.Law.{IsStampLaw, IsStamp};
+ghost use Rattle.std.specs.Option.{ForSome};
+ghost use Rattle.fleet_hooks.specs.Law.{IsStampLaw, IsStamp, exact_stamp};
 
 use crate::law::StampLaw;
 use crate::views::ArrivalView;
 
 type Arrival = Box<dyn Fn(ArrivalView) -> u32 + Send>;
 
-/// A closure that gives each arrival of a robot its stamp, with its law.
+/// A closure that stamps within a law.
+#[derive(Drop)]
+struct StampClosure {
+    law: StampLaw,
+    run: Arrival,
+    ghost callable: { Arrival.IsAlwaysCallable run },
+    ghost lawful: { (view : _) (stamp : ℕ) → stamp < 2 ^ 32 → Arrival.post run view stamp → IsStamp law stamp },
+}
+
+/// What gives each arrival of a robot its stamp, with its law: a closure, or one fixed stamp.
 #[derive(Drop)]
 pub struct ArrivalHook {
     /// The bounds of the stamps.
     pub law: StampLaw,
-    run: Arrival,
+    closure: Option<StampClosure>,
     ghost fits: { IsStampLaw law },
-    ghost callable: { Arrival.IsAlwaysCallable run },
-    ghost lawful: { (view : _) (stamp : ℕ) → stamp < 2 ^ 32 → Arrival.post run view stamp → IsStamp law stamp },
+    ghost same: { ForSome closure (λ closure. closure.law ≡ law) },
 }
 
 impl ArrivalHook {
@@ -27,10 +36,22 @@ impl ArrivalHook {
         requires lawful { (view : _) (stamp : ℕ) → stamp < 2 ^ 32 → Arrival.post run view stamp → IsStamp law stamp }
         ensures { result.law ≡ law }
     {
-        ArrivalHook { law, run }
+        let closure = Some(StampClosure { law, run });
+        ArrivalHook { law, closure }
     }
 
-    /// The law that was handed in with the closure.
+    /// Gives each arrival this stamp. It takes no memory.
+    pub fn fixed(stamp: u32) -> ArrivalHook
+        ensures { result.law ≡ exact_stamp stamp }
+    {
+        let law = StampLaw {
+            low: stamp,
+            high: stamp,
+        };
+        ArrivalHook { law, closure: None }
+    }
+
+    /// The law within which the stamps lie.
     pub fn law(&self) -> StampLaw
         ensures value { result ≡ self.now.law }
         ensures fits { IsStampLaw result }
@@ -38,10 +59,13 @@ impl ArrivalHook {
         self.law
     }
 
-    /// The closure's stamp of an arrival.
+    /// The stamp of an arrival.
     pub fn stamp(&self, view: ArrivalView) -> u32
         ensures { IsStamp self.now.law result }
     {
-        (self.run)(view)
+        match &self.closure {
+            Some(closure) => (closure.run)(view),
+            None => self.law.low,
+        }
     }
 }

@@ -1,22 +1,31 @@
-//! The closure that is called once, when a robot has done its last errand.
+//! What answers once, when a robot has done its last errand: a closure, or a fixed answer.
 
 ghost use Rattle.std.specs.Prelude.{◌≡◌, ℕ, ◌<◌, ◌^◌};
-ghost use Rattle.fleet_hooks.specs.Law.{IsStampLaw, IsStamp};
+ghost use Rattle.std.specs.Option.{ForSome};
+ghost use Rattle.fleet_hooks.specs.Law.{IsStampLaw, IsStamp, exact_stamp};
 
 use crate::law::StampLaw;
 use crate::views::FarewellView;
 
 type Last = Box<dyn FnOnce(FarewellView) -> u32 + Send>;
 
-/// A closure that gives a robot's farewell its answer, with its law. Its one call spends it.
+/// A closure that answers within a law.
+#[derive(Drop)]
+struct LastClosure {
+    law: StampLaw,
+    run: Last,
+    ghost callable: { Last.IsAlwaysCallable run },
+    ghost lawful: { (view : _) (stamp : ℕ) → stamp < 2 ^ 32 → Last.post run view stamp → IsStamp law stamp },
+}
+
+/// What gives a robot's farewell its answer, with its law: a closure, whose one call spends it, or a fixed answer.
 #[derive(Drop)]
 pub struct Farewell {
     /// The bounds of the answer.
     pub law: StampLaw,
-    run: Last,
+    closure: Option<LastClosure>,
     ghost fits: { IsStampLaw law },
-    ghost callable: { Last.IsAlwaysCallable run },
-    ghost lawful: { (view : _) (stamp : ℕ) → stamp < 2 ^ 32 → Last.post run view stamp → IsStamp law stamp },
+    ghost same: { ForSome closure (λ closure. closure.law ≡ law) },
 }
 
 impl Farewell {
@@ -27,10 +36,22 @@ impl Farewell {
         requires lawful { (view : _) (stamp : ℕ) → stamp < 2 ^ 32 → Last.post run view stamp → IsStamp law stamp }
         ensures { result.law ≡ law }
     {
-        Farewell { law, run }
+        let closure = Some(LastClosure { law, run });
+        Farewell { law, closure }
     }
 
-    /// The law that was handed in with the closure.
+    /// Gives the farewell this answer. It takes no memory.
+    pub fn fixed(answer: u32) -> Farewell
+        ensures { result.law ≡ exact_stamp answer }
+    {
+        let law = StampLaw {
+            low: answer,
+            high: answer,
+        };
+        Farewell { law, closure: None }
+    }
+
+    /// The law within which the answer lies.
     pub fn law(&self) -> StampLaw
         ensures value { result ≡ self.now.law }
         ensures fits { IsStampLaw result }
@@ -38,11 +59,17 @@ impl Farewell {
         self.law
     }
 
-    /// The closure's answer, which is its last.
+    /// The answer, which is its last.
     pub fn call(self, view: FarewellView) -> u32
         ensures { IsStamp self.law result }
     {
-        let Farewell { law: _, run } = self;
-        run(view)
+        let Farewell { law, closure } = self;
+        match closure {
+            Some(closure) => {
+                let LastClosure { law: _, run } = closure;
+                run(view)
+            }
+            None => law.low,
+        }
     }
 }

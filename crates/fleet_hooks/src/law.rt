@@ -8,7 +8,7 @@ pub struct TieLaw {
 }
 
 impl TieLaw {
-    /// The law that each rank keeps.
+    /// The law that allows every rank.
     pub const ANY: TieLaw = TieLaw {
         low: [0; 4],
         high: [255; 4],
@@ -23,7 +23,7 @@ pub struct StampLaw {
 }
 
 impl StampLaw {
-    /// The law that each stamp keeps.
+    /// The law that allows every stamp.
     pub const ANY: StampLaw = StampLaw {
         low: 0,
         high: 4_294_967_295,

@@ -1,23 +1,32 @@
-//! The closure that ranks the neighbours of a robot's cell.
+//! What ranks the neighbours of a robot's cell: a closure, or fixed ranks.
 
 ghost use Rattle.std.specs.Prelude.{◌≡◌, ℕ, ◌<◌, ◌^◌};
-ghost use Rattle.fleet_hooks.specs.Law.{IsTieLaw, IsRank};
+ghost use Rattle.std.specs.Option.{ForSome};
+ghost use Rattle.fleet_hooks.specs.Law.{IsTieLaw, IsRank, exact_law};
 
 use crate::law::TieLaw;
 use crate::views::TieView;
 
 type Tie = Box<dyn Fn(TieView) -> u8 + Send>;
 
-/// A closure that ranks a floor neighbour of a robot's cell, with its law. Of two neighbours that are equally near to
+/// A closure that ranks within a law.
+#[derive(Drop)]
+struct RankClosure {
+    law: TieLaw,
+    run: Tie,
+    ghost callable: { Tie.IsAlwaysCallable run },
+    ghost lawful: { (view : _) (rank : ℕ) → rank < 2 ^ 8 → Tie.post run view rank → IsRank law view.dir rank },
+}
+
+/// What ranks a floor neighbour of a robot's cell, with its law: a closure, or one fixed rank a direction. Of two neighbours that are equally near to
 /// the robot's goal the robot tries the one of less rank first.
 #[derive(Drop)]
 pub struct TieHook {
     /// The bounds of the ranks.
     pub law: TieLaw,
-    run: Tie,
+    closure: Option<RankClosure>,
     ghost fits: { IsTieLaw law },
-    ghost callable: { Tie.IsAlwaysCallable run },
-    ghost lawful: { (view : _) (rank : ℕ) → rank < 2 ^ 8 → Tie.post run view rank → IsRank law view.dir rank },
+    ghost same: { ForSome closure (λ closure. closure.law ≡ law) },
 }
 
 impl TieHook {
@@ -28,10 +37,22 @@ impl TieHook {
         requires lawful { (view : _) (rank : ℕ) → rank < 2 ^ 8 → Tie.post run view rank → IsRank law view.dir rank }
         ensures { result.law ≡ law }
     {
-        TieHook { law, run }
+        let closure = Some(RankClosure { law, run });
+        TieHook { law, closure }
     }
 
-    /// The law that was handed in with the closure.
+    /// Ranks by the direction alone: `ranks` are those of north, east, south and west. It takes no memory.
+    pub fn fixed(ranks: [u8; 4]) -> TieHook
+        ensures { result.law ≡ exact_law ranks }
+    {
+        let law = TieLaw {
+            low: ranks,
+            high: ranks,
+        };
+        TieHook { law, closure: None }
+    }
+
+    /// The law within which the ranks lie.
     pub fn law(&self) -> TieLaw
         ensures value { result ≡ self.now.law }
         ensures fits { IsTieLaw result }
@@ -39,10 +60,13 @@ impl TieHook {
         self.law
     }
 
-    /// The closure's rank of a neighbour.
+    /// The rank of a neighbour.
     pub fn rank(&self, view: TieView) -> u8
         ensures { IsRank self.now.law view.dir result }
     {
-        (self.run)(view)
+        match &self.closure {
+            Some(closure) => (closure.run)(view),
+            None => self.law.low[view.dir.number() as usize],
+        }
     }
 }
