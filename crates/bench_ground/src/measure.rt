@@ -37,8 +37,9 @@ impl Measure {
     }
 }
 
-/// A line of the kernel, the map, the number of robots, how many things one repeat works on, the repeats, and the nanoseconds by thing of the
-/// fastest repeat and on average.
+/// Prints one line of measurements: what was measured (`kernel`), the map, the number of robots (`fleet`), how many things
+/// (cells, robots, calls) one repeat works on, how often it was repeated, and the nanoseconds a thing, in the fastest repeat
+/// and on average.
 pub fn print_measure(
     rt: &impl Print,
     kernel: &str,
@@ -55,7 +56,7 @@ pub fn print_measure(
     )
 }
 
-/// A number of hundredths, told with two decimals.
+/// A number of hundredths, printed with two decimals.
 #[derive(Clone, Copy)]
 struct Hundredths(u128);
 
@@ -65,7 +66,7 @@ impl fmt::Display for Hundredths {
     }
 }
 
-/// The nanoseconds by thing.
+/// The nanoseconds a thing.
 fn by_thing(nanos: u128, things: u64) -> Hundredths {
     Hundredths(nanos.saturating_mul(100) / u128::from(things.max(1)))
 }

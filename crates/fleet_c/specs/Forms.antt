@@ -5,8 +5,7 @@ use Rattle.fleet_book.specs.declared.verdict.Verdict.{Verdict}
 use Rattle.fleet_book.specs.declared.verdict.Verdict.TheVariants as verdict
 use Rattle.fleet_book.specs.declared.notice.Notice.{Notice}
 use Rattle.fleet_book.specs.declared.notice.Notice.TheVariants as notice
-use Rattle.fleet_hooks.specs.declared.law.StampLaw.{StampLaw}
-use Rattle.fleet_hooks.specs.declared.law.TieLaw.{TieLaw}
+use Rattle.fleet_hooks.specs.Law.{exact_law, exact_stamp}
 use Rattle.fleet_core.specs.Hooks.{HookLaws}
 use Rattle.fleet_core.specs.declared.faults.TickReport.{TickReport}
 use Rattle.fleet_c.specs.declared.codes.TheConstants.{ACCEPTED, CLOSING, WITHDRAWN, CLIENT_CLOSED, UNKNOWN_ROBOT, ROBOT_SHUT, NO_CELL, BLOCKED, UNREACHABLE, QUEUE_FULL, LIFE_SPENT, NO_ERRAND, TOO_LATE}
@@ -32,20 +31,12 @@ limits_of s = record {
 abbrev pub starts_of : List Robot → List ℕ
 starts_of robots = map (λ r. r.cell) robots
 
--- in each direction this rank alone
-abbrev pub exact_law : List ℕ → TieLaw
-exact_law ranks = record { low = ranks; high = ranks }
-
--- each stamp is 0
-abbrev pub nought : StampLaw
-nought = record { low = 0; high = 0 }
-
 -- each robot ranks as it says, and each stamp is 0
 abbrev pub laws_of_robots : List Robot → HookLaws
 laws_of_robots robots = record {
   ties = map (λ r. exact_law r.ranks) robots;
-  arrivals = map (λ (_ : Robot). nought) robots;
-  farewells = map (λ (_ : Robot). nought) robots;
+  arrivals = map (λ (_ : Robot). exact_stamp 0) robots;
+  farewells = map (λ (_ : Robot). exact_stamp 0) robots;
 }
 
 abbrev pub report_of : TickReport → Report

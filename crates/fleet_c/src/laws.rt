@@ -1,43 +1,24 @@
-//! The laws of the closures that are made for a fleet.
+//! The laws of what the robots of a fleet answer.
 
-ghost use Rattle.std.specs.Prelude.{◌≡◌, ◌<◌, Some, true, length, map, slice_get, slice_index};
+ghost use Rattle.std.specs.Prelude.{◌≡◌, ◌<◌, Some, true, length, map, slice_get};
 ghost use Rattle.fleet_core.specs.Hooks.{laws_of};
-ghost use Rattle.fleet_grid.specs.Direction.{dir_number};
-ghost use Rattle.fleet_c.specs.Forms.{exact_law, nought, laws_of_robots};
+ghost use Rattle.fleet_hooks.specs.Law.{exact_law, exact_stamp};
+ghost use Rattle.fleet_c.specs.Forms.{laws_of_robots};
 ghost use Rattle.fleet_c.specs.declared.robot.Robot.{Robot};
 
 use crate::robot::Robot;
-use fleet_grid::Dir;
 use fleet_hooks::{ArrivalHook, Farewell, Hooks, StampLaw, TieHook, TieLaw};
 
 /// Each stamp is 0.
-pub(crate) const NOUGHT: StampLaw = StampLaw { low: 0, high: 0 };
-
-/// Each rank is 0.
-pub(crate) const ALIKE: TieLaw = TieLaw {
-    low: [0, 0, 0, 0],
-    high: [0, 0, 0, 0],
-};
+const NOUGHT: StampLaw = StampLaw { low: 0, high: 0 };
 
 /// The law of one rank in each direction.
-pub(crate) fn exact(ranks: [u8; 4]) -> TieLaw
+fn exact(ranks: [u8; 4]) -> TieLaw
     ensures { result ≡ exact_law ranks }
 {
     TieLaw {
         low: ranks,
         high: ranks,
-    }
-}
-
-/// The rank in a direction.
-pub(crate) fn rank_in(ranks: [u8; 4], dir: Dir) -> u8
-    ensures { result ≡ slice_index ranks (dir_number dir) }
-{
-    match dir {
-        Dir::North => ranks[0],
-        Dir::East => ranks[1],
-        Dir::South => ranks[2],
-        Dir::West => ranks[3],
     }
 }
 
@@ -71,7 +52,7 @@ fn exact_at(robots: &[Robot], r: usize) -> TieLaw
 
 fn nought_at(robots: &[Robot], r: usize) -> StampLaw
     requires { r < length robots.now }
-    ensures { slice_get (map (λ (x : Robot). nought) robots.now) r ≡ Some result }
+    ensures { slice_get (map (λ (x : Robot). exact_stamp 0) robots.now) r ≡ Some result }
 {
     let _robot = robots[r];
     NOUGHT
@@ -89,7 +70,7 @@ fn is_stamp_law(a: StampLaw, b: StampLaw) -> bool
     a == b
 }
 
-/// Whether the closures rank as the robots say.
+/// Whether the ties rank as the robots say.
 fn are_ties(ties: &[TieHook], robots: &[Robot]) -> bool
     ensures { result ≡ true → map (λ h. h.law) ties.now ≡ map (λ x. exact_law x.ranks) robots.now }
 {
@@ -106,9 +87,9 @@ fn are_ties(ties: &[TieHook], robots: &[Robot]) -> bool
     true
 }
 
-/// Whether there is one closure a robot, and each stamps 0.
+/// Whether there is one answer a robot, and each is 0.
 fn are_arrivals(arrivals: &[ArrivalHook], robots: &[Robot]) -> bool
-    ensures { result ≡ true → map (λ h. h.law) arrivals.now ≡ map (λ (x : Robot). nought) robots.now }
+    ensures { result ≡ true → map (λ h. h.law) arrivals.now ≡ map (λ (x : Robot). exact_stamp 0) robots.now }
 {
     if arrivals.len() != robots.len() {
         return false;
@@ -123,9 +104,9 @@ fn are_arrivals(arrivals: &[ArrivalHook], robots: &[Robot]) -> bool
     true
 }
 
-/// Whether there is one closure a robot, and each stamps 0.
+/// Whether there is one answer a robot, and each is 0.
 fn are_farewells(farewells: &[Farewell], robots: &[Robot]) -> bool
-    ensures { result ≡ true → map (λ h. h.law) farewells.now ≡ map (λ (x : Robot). nought) robots.now }
+    ensures { result ≡ true → map (λ h. h.law) farewells.now ≡ map (λ (x : Robot). exact_stamp 0) robots.now }
 {
     if farewells.len() != robots.len() {
         return false;
@@ -140,7 +121,7 @@ fn are_farewells(farewells: &[Farewell], robots: &[Robot]) -> bool
     true
 }
 
-/// Whether the closures are these robots'. They are not where one could not be made.
+/// Whether the answers are these robots'. They are not where one found no memory.
 pub(crate) fn are_of(hooks: &Hooks, robots: &[Robot]) -> bool
     ensures { result ≡ true → laws_of hooks.now ≡ laws_of_robots robots.now }
 {

@@ -1,8 +1,8 @@
 //! A fleet for C: an opaque handle that owns one, and what C does to it. bindings/c/nashirudder.h declares it all.
 #![tactic(auto)]
 
+mod answers;
 mod chapters;
-mod closures;
 mod codes;
 mod edge;
 mod fault;

@@ -18,18 +18,18 @@ pub struct Note {
     pub number: u64,
     /// Of an arrival: the tick, counted from 1. Else 0.
     pub tick: u64,
-    /// Of a verdict: which. Of an arrival: 0.
+    /// The verdict's code. Of an arrival: 0.
     pub verdict: u32,
-    /// Of an arrival. Else 0.
+    /// The robot of an arrival. Else 0.
     pub robot: u32,
-    /// Of an arrival. Else 0.
+    /// The cell of an arrival. Else 0.
     pub cell: u32,
-    /// Of an arrival. Else 0.
+    /// The stamp of an arrival. Else 0.
     pub stamp: u32,
 }
 
 impl Note {
-    /// Says nothing.
+    /// All fields 0.
     const BLANK: Note = Note {
         seq: 0,
         order: 0,
@@ -41,7 +41,7 @@ impl Note {
         stamp: 0,
     };
 
-    /// For C.
+    /// A notice as the struct that C reads.
     pub(crate) fn of(notice: Notice) -> Note
         ensures { result ≡ note_of notice }
     {

@@ -3,19 +3,18 @@
 ghost use Rattle.std.specs.Prelude.{◌≡◌, IfOk, IfErr, map};
 ghost use Rattle.std.specs.Box.{box_value};
 ghost use Rattle.fleet_core.specs.Hooks.{laws_of};
-ghost use Rattle.fleet_hooks.specs.Law.{IsRank};
 ghost use Rattle.fleet_map.specs.Text.{lines_of};
 ghost use Rattle.fleet_map.specs.FirstFault.{IsFirstFault};
-ghost use Rattle.fleet_c.specs.Forms.{starts_of, exact_law, laws_of_robots};
+ghost use Rattle.fleet_c.specs.Forms.{starts_of, laws_of_robots};
 ghost use Rattle.fleet_c.specs.Opening.{Reads, IsAtOpening, IsOpened, IsRefusal, IsRefusedOn};
 
-use crate::laws::{NOUGHT, are_of, exact, rank_in};
+use crate::laws::are_of;
 use crate::refusal::Refusal;
 use crate::robot::Robot;
 use crate::setup::Setup;
 use fleet_core::{Core, OpenFault, World};
 use fleet_grid::Grid;
-use fleet_hooks::{ArrivalHook, ArrivalView, Farewell, FarewellView, Hooks, TieHook, TieView};
+use fleet_hooks::{ArrivalHook, Farewell, Hooks, TieHook};
 use fleet_map::{MapFault, read_map};
 use std::alloc::{AllocError, Global};
 
@@ -38,22 +37,7 @@ fn starts(alloc: Global, robots: &[Robot]) -> Result<Vec<u32>, AllocError>
     robots.iter().map(|robot| robot.cell).collect(alloc)
 }
 
-/// A box for each of these.
-fn boxes_of<T: Drop, S: Drop, F: Drop>(
-    alloc: Global,
-    tie: T,
-    arrival: S,
-    farewell: F,
-) -> Result<(Box<T>, Box<S>, Box<F>), AllocError>
-    ensures { IfOk result (λ r. (box_value r.0 ≡ tie) × (box_value r.1 ≡ arrival) × (box_value r.2 ≡ farewell)) }
-{
-    let tie = Box::new(alloc, tie)?;
-    let arrival = Box::new(alloc, arrival)?;
-    let farewell = Box::new(alloc, farewell)?;
-    Ok((tie, arrival, farewell))
-}
-
-/// The core of a world that is opened with the robots' closures, which are let go.
+/// The core of a world that is opened with the robots' answers, which are let go.
 fn core_of(
     alloc: Global,
     grid: Grid,
@@ -77,13 +61,13 @@ fn core_of(
         Err(OpenFault::NoRobots) => Err(Refusal::RobotCount),
         Err(OpenFault::Start(robot)) => Err(Refusal::Start(robot)),
         Err(OpenFault::Shared(first, second)) => Err(Refusal::Shared(first, second)),
-        // There is one closure of each kind a robot.
+        // There is one answer of each kind a robot.
         Err(OpenFault::Hooks) => unreachable!(),
         Err(OpenFault::NoMemory) => Err(Refusal::NoMemory),
     }
 }
 
-/// The core of a world at its opening, whose closures are made for it.
+/// The core of a world at its opening, whose robots' answers are made for it.
 fn opened(
     alloc: Global,
     grid: Grid,
@@ -97,23 +81,12 @@ fn opened(
 {
     let mut hooks = Hooks::new(alloc);
     for robot in robots {
-        let ranks = robot.ranks;
-        let tie = move |view: TieView| -> u8
-            ensures { IsRank (exact_law ranks) view.dir result }
-        { rank_in(ranks, view.dir) };
-        let arrival = |_view: ArrivalView| -> u32
-            ensures { result ≡ 0 }
-        { 0 };
-        let farewell = |_view: FarewellView| -> u32
-            ensures { result ≡ 0 }
-        { 0 };
-        if let Ok((tie, arrival, farewell)) = boxes_of(alloc, tie, arrival, farewell) {
-            let tie = TieHook::new(exact(ranks), tie);
-            let arrival = ArrivalHook::new(NOUGHT, arrival);
-            let farewell = Farewell::new(NOUGHT, farewell);
-            // Where memory is refused a closure is missing, which shows below.
-            let _ = hooks.push(tie, arrival, farewell);
-        }
+        // Where memory is refused an answer is missing, which shows below.
+        let _ = hooks.push(
+            TieHook::fixed(robot.ranks),
+            ArrivalHook::fixed(0),
+            Farewell::fixed(0),
+        );
     }
     if !are_of(&hooks, robots) {
         drop(hooks);

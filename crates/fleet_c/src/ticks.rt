@@ -5,7 +5,7 @@ ghost use Rattle.fleet_c.specs.Answers.{IsTicked, IsShut};
 ghost use Rattle.fleet_c.specs.Codes.{tick_code, shut_code};
 ghost use Rattle.fleet_c.specs.Handles.{OnFleet};
 
-use crate::closures::{shut, ticked};
+use crate::answers::{shut, ticked};
 use crate::codes::{ALREADY_SHUT, CHAPTER_FULL, CLOCK_SPENT, DONE, NO_MEMORY, NO_ROBOT, NOT_OPEN};
 use crate::handle::Handle;
 use crate::report::Report;

@@ -1,4 +1,4 @@
-//! What holds of plans that are written.
+//! Laws of traces that are written as plans. Their bodies are empty: what they ensure is what they say.
 
 ghost use Rattle.std.specs.Prelude.{◌≡◌, ◌≤◌, ℕ, List, length, Some, None};
 ghost use Rattle.std.specs.declared.alloc.Global.{Global};
@@ -11,17 +11,18 @@ ghost use Rattle.fleet_convert.specs.History.{places_in};
 ghost use Rattle.fleet_convert.specs.Cells.{cells_plan, last_place};
 ghost use Rattle.fleet_convert.specs.Moves.{moves_plan};
 
-/// The placements of a legal history are a valid plan.
+/// Where the robots of a legal history stand, at its opening and after each tick, is a valid plan.
 pub fn legal_places_are_a_plan()
     ensures { (m : Floor) (h : History Global) → IsLegal m h → IsValidPlan m (places_in h) }
 {}
 
-/// The text of a valid plan as lines of cells reads as a plan with these placements, and with the cells at its end as goals.
+/// A valid plan that is written as lines of cells, and read again, has the same placements; its goals are the cells at its
+/// end.
 pub fn cells_read_back()
     ensures { (m : Floor) (places : List (List ℕ)) → HasForm m → HasSize places → IsValidPlan m places → IsReadAs m.width m.height (source_of m.width m.height (cells_plan m.width places)) (Some (last_place places)) places }
 {}
 
-/// The text of a valid plan of one robot or more as lines of moves reads as a plan with these placements.
+/// A valid plan of one robot or more that is written as lines of moves, and read again, has the same placements.
 pub fn moves_read_back()
     ensures { (m : Floor) (places : List (List ℕ)) → HasForm m → HasSize places → 1 ≤ length (place_at places 0) → IsValidPlan m places → IsReadAs m.width m.height (source_of m.width m.height (moves_plan m.width places)) None places }
 {}

@@ -55,17 +55,17 @@ fn first_of(bytes: &[u8], most: usize) -> &[u8]
     }
 }
 
-/// What was read of a line.
+/// A piece of a line, as one read gave it.
 #[derive(Clone, Copy)]
 pub(crate) struct Part {
-    /// How many bytes, its line feed included.
+    /// The number of bytes read, with the line feed where the line ends.
     pub(crate) len: usize,
-    /// Whether the line ends with it.
+    /// Whether it is the line's last piece.
     pub(crate) is_last: bool,
 }
 
-/// Reads what the reader has at hand of a line, and adds it without its line feed to what is kept of that, as long as that
-/// has at most `most` bytes.
+/// Reads the next piece of a line, which is what the reader has in its buffer of it, and adds it to `line` without its line
+/// feed. Bytes beyond `most` are read and dropped.
 pub(crate) fn read_part<R: BufRead, A: Allocator + Copy>(
     reader: &mut R,
     most: usize,

@@ -67,8 +67,8 @@ impl<A: Allocator + Copy> Head<A> {
         }
     }
 
-    /// Adds one more header line, by its first word and the others, and returns whether it is one and none said the same
-    /// before; else nothing changes. A fleet has `most` robots at most.
+    /// Adds a header line, given as its first word (`key`) and its other words. Returns true where it is a header line and
+    /// the first with this key, otherwise false, and changes nothing then. A line `robots` may name at most `most` cells.
     pub fn add_header(
         &mut self,
         alloc: A,

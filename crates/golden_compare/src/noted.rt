@@ -17,8 +17,9 @@ pub struct Noted<'a> {
 }
 
 impl Noted<'_> {
-    /// What is found of a run that came to this and was to come to `wanted`.
-    pub fn beside(self, wanted: Noted<'_>) -> Finding
+    /// Compares what a run noted with what was wanted of it. Names the first that differs: the views, the stamps, or the
+    /// robots' cells at the end.
+    pub fn compare(self, wanted: Noted<'_>) -> Finding
         ensures alike { (result ≡ AsTheRow) ↔
             ((self.entry.note ≡ wanted.entry.note)
             × (self.entry.stamps.now ≡ wanted.entry.stamps.now)

@@ -80,7 +80,7 @@ impl Sheet {
     }
 }
 
-/// The last line of a row: whether it ended after the last allocation.
+/// Writes the last line of a test case: whether a play was reached in which no allocation was refused.
 pub(crate) fn tell_end(told: &mut String, ended: bool) -> Result<(), AllocError> {
     let end = if ended {
         "no more growths"

@@ -83,7 +83,7 @@ fn compare<A: Allocator + Copy>(
         stamps: &wanted_stamps,
         cells: row.end,
     };
-    Ok(met.beside(wanted))
+    Ok(met.compare(wanted))
 }
 
 /// Compares the world that a run of a row ended in, and what its closures noted, with the row.

@@ -1,6 +1,6 @@
 use Rattle.std.proofs.Common.{refl, rules}
 use Rattle.fleet_core.proofs.Alike.{alike-more, alike-maps}
-use Rattle.fleet_c.specs.Forms.{nought}
+use Rattle.fleet_hooks.specs.Law.{exact_stamp}
 use Rattle.fleet_c.specs.declared.robot.Robot.{Robot}
 use Rattle.fleet_c.proofs.laws.are_farewells.Goals as goal
 
@@ -8,4 +8,4 @@ pub loop-r-preserved : goal.loop-r-preserved
 loop-r-preserved g c = alike-more _ _ c.loop-r.r c.farewell_at-found.result c.nought_at-wanted.result c.farewell_at-found.ensures c.nought_at-wanted.ensures (c.if-not-is_stamp_law.ensures refl) c.loop-r.invariant
 
 pub returns : goal.returns
-returns g c = λ t. alike-maps (λ h. h.law) (λ (x : Robot). nought) c.args.farewells.now c.args.robots.now c.loop-r.r (search rules) (search rules) c.loop-r.invariant
+returns g c = λ t. alike-maps (λ h. h.law) (λ (x : Robot). exact_stamp 0) c.args.farewells.now c.args.robots.now c.loop-r.r (search rules) (search rules) c.loop-r.invariant

@@ -1,6 +1,6 @@
 use Rattle.std.proofs.Common.{◌≡◌, ◌<◌, ℕ, map}
 use Rattle.std.specs.Prelude.{slice_get}
-use Rattle.fleet_c.specs.Forms.{exact_law}
+use Rattle.fleet_hooks.specs.Law.{exact_law}
 use Rattle.fleet_c.specs.declared.robot.Robot.{Robot}
 use Rattle.fleet_c.proofs.laws.are_ties.Given as goal
 

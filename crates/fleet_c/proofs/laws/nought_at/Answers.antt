@@ -1,8 +1,8 @@
 use Rattle.std.proofs.Common.{[], refl}
 use Rattle.fleet_core.proofs.Alike.{word_there}
-use Rattle.fleet_c.specs.Forms.{nought}
+use Rattle.fleet_hooks.specs.Law.{exact_stamp}
 use Rattle.fleet_c.specs.declared.robot.Robot.{Robot}
 use Rattle.fleet_c.proofs.laws.nought_at.Goals as goal
 
 pub returns : goal.returns
-returns c = word_there (λ (x : Robot). nought) c.args.robots.now c.args.r (record { cell = 0; ranks = [] }) _ c.requires refl
+returns c = word_there (λ (x : Robot). exact_stamp 0) c.args.robots.now c.args.r (record { cell = 0; ranks = [] }) _ c.requires refl

@@ -1,14 +1,11 @@
-//! Ticks and shuts of a core, with closures that are made for the call and let go after it.
+//! Ticks and shuts of a core, with what its robots answer: their ranks, and 0 as stamps and at farewells.
 
-ghost use Rattle.std.specs.Prelude.{◌≡◌, ◌<◌, ◌≤◌, ◌^◌, ◌↔◌, true, false, IfOk, OnErr};
+ghost use Rattle.std.specs.Prelude.{◌≡◌, ◌<◌, ◌≤◌, ◌↔◌, true, false, IfOk, OnErr};
 ghost use Rattle.fleet_core.specs.Core.{Shuts, Ticks, HasNoEntries};
 ghost use Rattle.fleet_history.specs.History.{clock, robots, is_shut};
-ghost use Rattle.fleet_hooks.specs.Law.{IsRank};
-ghost use Rattle.fleet_c.specs.Forms.{exact_law};
 
-use crate::laws::{ALIKE, NOUGHT, exact, rank_in};
 use fleet_core::{Core, RobotHooks, ShutFault, TickFault, TickReport};
-use fleet_hooks::{ArrivalHook, ArrivalView, Farewell, FarewellView, TieHook, TieView};
+use fleet_hooks::{ArrivalHook, Farewell, TieHook};
 use std::alloc::{Alloc, Global};
 
 /// The allocator alone, as a runtime.
@@ -23,8 +20,8 @@ impl Alloc for Heap {
     }
 }
 
-/// No closures, with room for those of this many robots where there is memory.
-fn no_closures(alloc: Global, robots: usize) -> RobotHooks {
+/// No answers, with room for those of this many robots where there is memory.
+fn no_answers(alloc: Global, robots: usize) -> RobotHooks {
     let mut none = RobotHooks {
         ties: Vec::new(alloc),
         arrivals: Vec::new(alloc),
@@ -44,38 +41,12 @@ pub(crate) fn ticked(alloc: Global, core: &mut Core) -> Result<TickReport, TickF
     ensures ok { IfOk result (λ report. Ticks core.old report core.new) }
     ensures err { OnErr result (core.new ≡ core.old) }
 {
-    // Where memory is refused a closure is missing, and the core refuses the tick.
-    let mut robots = no_closures(alloc, core.robots());
+    // Where memory is refused an answer is missing, and the core refuses the tick.
+    let mut robots = no_answers(alloc, core.robots());
     for law in core.tie_laws() {
-        let ranks = law.low;
-        if *law == ALIKE {
-            // A closure that captures nothing: its block has one byte.
-            let alike = |_view: TieView| -> u8
-                ensures { result ≡ 0 }
-            { 0 };
-            if let Ok(alike) = Box::new(alloc, alike) {
-                let _ = robots.ties.push(TieHook::new(ALIKE, alike));
-            }
-        } else {
-            let tie = move |view: TieView| -> u8
-                ensures { IsRank (exact_law ranks) view.dir result }
-            { rank_in(ranks, view.dir) };
-            if let Ok(tie) = Box::new(alloc, tie) {
-                let _ = robots.ties.push(TieHook::new(exact(ranks), tie));
-            }
-        }
-        let arrival = |_view: ArrivalView| -> u32
-            ensures { result ≡ 0 }
-        { 0 };
-        if let Ok(arrival) = Box::new(alloc, arrival) {
-            let _ = robots.arrivals.push(ArrivalHook::new(NOUGHT, arrival));
-        }
-        let farewell = |_view: FarewellView| -> u32
-            ensures { result ≡ 0 }
-        { 0 };
-        if let Ok(farewell) = Box::new(alloc, farewell) {
-            let _ = robots.farewells.push(Some(Farewell::new(NOUGHT, farewell)));
-        }
+        let _ = robots.ties.push(TieHook::fixed(law.low));
+        let _ = robots.arrivals.push(ArrivalHook::fixed(0));
+        let _ = robots.farewells.push(Some(Farewell::fixed(0)));
     }
     core.tick_by(&Heap(alloc), &mut robots)
 }
@@ -89,19 +60,15 @@ pub(crate) fn shut(alloc: Global, core: &mut Core, robot: u32) -> Result<Option<
     ensures ok { IfOk result (λ farewell. Shuts core.old robot farewell core.new) }
     ensures err { OnErr result (core.new ≡ core.old) }
 {
+    // Where memory is refused an answer is missing, and the core refuses the shut.
     let mut robots = RobotHooks {
         ties: Vec::new(alloc),
         arrivals: Vec::new(alloc),
         farewells: Vec::new(alloc),
     };
+    let _ = robots.farewells.reserve(core.robots());
     for _ in 0..core.robots() {
-        let farewell = |_view: FarewellView| -> u32
-            ensures { result ≡ 0 }
-        { 0 };
-        // Where memory is refused a closure is missing, and the core refuses the shut.
-        if let Ok(farewell) = Box::new(alloc, farewell) {
-            let _ = robots.farewells.push(Some(Farewell::new(NOUGHT, farewell)));
-        }
+        let _ = robots.farewells.push(Some(Farewell::fixed(0)));
     }
     core.shut_by(&mut robots, robot)
 }
