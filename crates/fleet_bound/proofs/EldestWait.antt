@@ -58,9 +58,12 @@ module _ (m : Moment) where
   next k (inr found) (inl none) = inr (found.0, eldest_stays m.wait k (suc k) found.0 (omega arith) found.1 (comes_from (m.wait found.0) (m.wait k) found.1.age found.0 k found.1.waits (λ w s. cc)))
   next k (inr found) (inr some) = elim (cases_lt found.1.age some.0) [
     | inl more ↦ inr (k, eldest_moves m.wait k (suc k) found.0 some.0 (omega arith) found.1 some.1 (comes_from (m.wait k) (m.wait found.0) some.0 k found.0 some.1 (λ w s. (let same = same_age w found.1.age (sym s ∙ found.1.waits) in inl (omega (arith, same, more))))))
-    | inr less ↦ inr (found.0, eldest_stays m.wait k (suc k) found.0 (omega arith) found.1 (comes_from (m.wait found.0) (m.wait k) found.1.age found.0 k found.1.waits
-        (λ w s. (let same = same_age w some.0 (sym s ∙ some.1) in
-            elim (cases_order w found.1.age) [ inl eq ↦ inr (sym eq, found.1.known) | inr ne ↦ inl (elim ne [ inl c ↦ c | inr c ↦ absurd (omega (arith, c, same, less)) ]) ]))))
+    | inr less ↦ inr (
+      found.0,
+      eldest_stays m.wait k (suc k) found.0 (omega arith) found.1 (comes_from (m.wait found.0) (m.wait k) found.1.age found.0 k found.1.waits
+          (λ w s. (let same = same_age w some.0 (sym s ∙ some.1) in
+          elim (cases_order w found.1.age) [ inl eq ↦ inr (sym eq, found.1.known) | inr ne ↦ inl (elim ne [ inl c ↦ c | inr c ↦ absurd (omega (arith, c, same, less)) ]) ]))),
+    )
   ]
 
   search_eldest : (k : ℕ) → NobodyWaits k ⊎ ((e : ℕ) × IsEldest k m e)
