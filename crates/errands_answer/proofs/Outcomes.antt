@@ -9,7 +9,7 @@ use Rattle.fleet_book.specs.declared.event.Event.{Event}
 use Rattle.fleet_world.specs.declared.reply.Reply.{Reply}
 use Rattle.fleet_world.specs.Run.{State, Run, opened_state}
 use Rattle.fleet_world.specs.Laws.{KeepsRings, KeepsEachRing}
-use Rattle.fleet_world.proofs.Plays.{end-once}
+use Rattle.fleet_world.proofs.RunLaws.{end-once}
 use Rattle.fleet_history.specs.Legal.{IsLegal}
 use Rattle.fleet_history.specs.Laws.{ArrivesInOrder, ArrivalsRise, EachTick, HasNoConflict, AcceptsNoneClosed}
 use Rattle.fleet_history.specs.Numbering.{AreNumbered}

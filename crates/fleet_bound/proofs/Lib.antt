@@ -11,8 +11,8 @@ pub mod Moments
 pub mod Ticks
 pub mod Pauses
 pub mod Runs
-pub mod Keeps
+pub mod BoundLaws
 pub mod Errands
 pub mod Longest
 pub mod Queues
-pub mod Within
+pub mod TickCounts

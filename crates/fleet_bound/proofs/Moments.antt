@@ -1,6 +1,9 @@
 -- A history, seen as a moment of waits.
 use Rattle.std.proofs.Common.{◌≡◌, ℕ, ◌+◌, ◌*◌, ◌<◌, ◌≤◌, inl, inr, Option, Some, None, sym, refl, ap, ◌∙◌, subst, arith}
-use Rattle.std.specs.Prelude.{max, slice_index, unwrap_or}
+use Rattle.std.specs.Prelude.{max, length, slice_index, unwrap_or}
+use Rattle.std.specs.List.{range_with_len}
+use Rattle.std.proofs.lemmas.List.{length-map}
+use Rattle.std.proofs.lemmas.List.FromFn.{length-range_with_len}
 use Rattle.fleet_grid.specs.Floor.{Floor, IsFloor, IsNeighbour}
 use Rattle.fleet_grid.specs.Walk.{IsDistance}
 use Rattle.fleet_grid.specs.Distance.{distance}
@@ -13,6 +16,7 @@ use Rattle.fleet_history.specs.Waits.{wait}
 use Rattle.fleet_history.proofs.Legal.{legal-placement, length-place}
 use Rattle.fleet_history.proofs.Reach.{front-reach}
 use Rattle.fleet_pibt.specs.Eldest.{IsEldest}
+use Rattle.fleet_pibt.specs.Order.{ComesBefore}
 use Rattle.fleet_planner.specs.Planned.{waits, goals, goal_of, cell_of}
 use Rattle.fleet_planner.proofs.Lists.{item_of, none_past}
 use Rattle.fleet_bound.specs.Waiting as waiting
@@ -48,21 +52,26 @@ within-moment m h n = record { positive = reach-positive m; near = λ r w known 
 -- ---- the eldest
 
 module _ {A : Type 0} (m : Floor) (h : History A) where
+  length-waits : length (waits h) ≡ robots h
+  length-waits = length-map (range_with_len 0 (robots h)) (wait h) ∙ length-range_with_len 0 (robots h)
+
   pub eldest-of : (e : ℕ) → waiting.IsEldest (robots h) (moment m h) e → IsEldest (waits h) e
   eldest-of e eldest = record {
-    wait = eldest.age;
-    waits_so = item_of (wait h) (robots h) e eldest.known ∙ eldest.waits;
-    longest = λ r v is. (let known = none_past (wait h) (robots h) r v is in eldest.greatest r v known (sym (item_of (wait h) (robots h) r known) ∙ is));
+    known = omega (arith, eldest.known, length-waits);
+    age = eldest.age;
+    waits = item_of (wait h) (robots h) e eldest.known ∙ eldest.waits;
+    first = λ r l ne. (let known : r < robots h = omega (arith, l, length-waits) in
+        subst (λ (o : Option ℕ). ComesBefore (Some eldest.age) o e r) (sym (item_of (wait h) (robots h) r known)) (eldest.first r known ne));
   }
 
   pub eldest-is : (e : ℕ) → IsEldest (waits h) e → waiting.IsEldest (robots h) (moment m h) e
   eldest-is e eldest =
-      let known : e < robots h = none_past (wait h) (robots h) e eldest.wait eldest.waits_so in
+      let known : e < robots h = omega (arith, eldest.known, length-waits) in
       record {
         known = known;
-        age = eldest.wait;
-        waits = sym (item_of (wait h) (robots h) e known) ∙ eldest.waits_so;
-        greatest = λ q v l is. eldest.longest q v (item_of (wait h) (robots h) q l ∙ is);
+        age = eldest.age;
+        waits = sym (item_of (wait h) (robots h) e known) ∙ eldest.waits;
+        first = λ r l ne. subst (λ (o : Option ℕ). ComesBefore (Some eldest.age) o e r) (item_of (wait h) (robots h) r l) (eldest.first r (omega (arith, l, length-waits)) ne);
       }
 
   pub goal-is : (e : ℕ) (f : Errand) → e < robots h → front h e ≡ Some f → goal_of (goals h) e ≡ Some f.cell

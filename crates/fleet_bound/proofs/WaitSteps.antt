@@ -3,6 +3,7 @@ use Rattle.std.proofs.Common.{◌≡◌, ◌≢◌, ℕ, zero, suc, ◌+◌, ◌
 use Rattle.std.specs.Prelude.{max}
 use Rattle.std.proofs.Math.Nat.{mul-le-mul_right, add-mul}
 use Rattle.std.proofs.lemmas.Bool.{cases_Bool}
+use Rattle.fleet_pibt.proofs.Precedences.{outranks}
 use Rattle.fleet_bound.specs.Waiting.{Moment, comes_before, count_before, IsEldest, IsWithin, IsAdvance, IsPause}
 use Rattle.fleet_bound.proofs.WaitCounts.{below-mono, below-strict, below-some_fails}
 use Rattle.fleet_bound.proofs.EldestWait.{none_or_some, comes_before-true, comes_before-from, comes_before-not, eldest-exists, eldest-before}
@@ -74,7 +75,7 @@ module _ (n reach : ℕ) (m m' : Moment) (arrives : ℕ → Bool) (tick : IsAdva
   tick-eldest : (e e' : ℕ) → IsEldest n m e → IsEldest n m' e' → arrives e ≡ false → e' ≡ e
   tick-eldest e e' eldest eldest' away =
       let mine : m'.wait e ≡ Some (eldest.age + 1) = tick.waits_on e eldest.age eldest.known eldest.waits away in
-      let above = eldest'.greatest e (eldest.age + 1) eldest.known mine in
+      let above = outranks m'.wait n e' eldest' e (eldest.age + 1) eldest.known mine in
       let positive : 0 < eldest'.age = elim above [ inl a ↦ omega arith | inr b ↦ omega (arith, b.0) ] in
       elim (none_or_some (m.wait e')) [
         | inl none ↦ (let gone : m'.wait e' ≡ None = tick.idle e' eldest'.known none in absurd (cc (eldest'.waits)))
@@ -82,7 +83,7 @@ module _ (n reach : ℕ) (m m' : Moment) (arrives : ℕ → Bool) (tick : IsAdva
           | inl here ↦ (let zero_wait : eldest'.age ≡ 0 = tick.anew e' some.0 eldest'.age eldest'.known some.1 here eldest'.waits in absurd (omega arith))
           | inr gone ↦ (
               let value : eldest'.age ≡ some.0 + 1 = same_value eldest'.age (some.0 + 1) (sym eldest'.waits ∙ tick.waits_on e' some.0 eldest'.known some.1 gone) in
-              elim (eldest.greatest e' some.0 eldest'.known some.1) [
+              elim (outranks m.wait n e eldest e' some.0 eldest'.known some.1) [
                 | inl a ↦ absurd (elim above [ inl b ↦ omega arith | inr b ↦ omega (arith, b.0) ])
                 | inr a ↦ elim above [ inl b ↦ absurd (omega (arith, a.0)) | inr b ↦ omega (arith, a.1, b.1) ]
               ])
@@ -140,14 +141,14 @@ module _ (n reach : ℕ) (m m' : Moment) (pause : IsPause n m m') (r w : ℕ) (k
   -- the eldest is another only if nobody has waited
   pause-eldest : (e e' : ℕ) → IsEldest n m e → IsEldest n m' e' → e' ≡ e
   pause-eldest e e' eldest eldest' =
-      let old : 0 < eldest.age = elim (eldest.greatest r w known waits) [ inl a ↦ omega arith | inr b ↦ omega (arith, b.0) ] in
+      let old : 0 < eldest.age = elim (outranks m.wait n e eldest r w known waits) [ inl a ↦ omega arith | inr b ↦ omega (arith, b.0) ] in
       let mine : m'.wait e ≡ Some eldest.age = (pause.kept e eldest.age eldest.known eldest.waits).0 in
-      let above = eldest'.greatest e eldest.age eldest.known mine in
+      let above = outranks m'.wait n e' eldest' e eldest.age eldest.known mine in
       elim (none_or_some (m.wait e')) [
         | inl none ↦ (let zero_wait : eldest'.age ≡ 0 = pause.fresh e' eldest'.age eldest'.known none eldest'.waits in absurd (elim above [ inl a ↦ omega arith | inr b ↦ omega (arith, b.0) ]))
         | inr some ↦ (
             let value : eldest'.age ≡ some.0 = same_value eldest'.age some.0 (sym eldest'.waits ∙ (pause.kept e' some.0 eldest'.known some.1).0) in
-            elim (eldest.greatest e' some.0 eldest'.known some.1) [
+            elim (outranks m.wait n e eldest e' some.0 eldest'.known some.1) [
               | inl a ↦ absurd (elim above [ inl b ↦ omega arith | inr b ↦ omega (arith, b.0) ])
               | inr a ↦ elim above [ inl b ↦ absurd (omega (arith, a.0)) | inr b ↦ omega (arith, a.1, b.1) ]
             ])

@@ -1,5 +1,5 @@
 -- How soon errands arrive, and how soon a fleet is idle.
-use Rattle.std.specs.Prelude.{◌≡◌, ℕ, ◌+◌, ◌*◌, ◌<◌, ◌≤◌, ◌⊎◌, List, Some, None, true, length, slice_get, Contains}
+use Rattle.std.specs.Prelude.{⊤, ◌≡◌, ℕ, ◌+◌, ◌*◌, ◌<◌, ◌≤◌, ◌⊎◌, List, Some, None, true, length, slice_get, Contains}
 use Rattle.fleet_grid.specs.Floor.{Floor}
 use Rattle.fleet_queue.specs.declared.errand.Errand.{Errand}
 use Rattle.fleet_book.specs.declared.order.Order.{Order}
@@ -31,7 +31,7 @@ ArrivesInTurn {A} m h client (Go robot cell) (Accepted number) = (more : List (E
     (length (unfinished h robot) + 1) * wait_bound m h ≤ tick_count more →
     IsGone (onward (after h (Take client (Go robot cell) (Accepted number))) more) robot
     (record { client = client; number = number; cell = cell })
-ArrivesInTurn m h client _ _ = Unit {0}
+ArrivesInTurn m h client _ _ = ⊤
 
 -- nobody has a front after a legal continuation that has this many ticks and takes no order
 abbrev pub IsIdleWithin : {A : Type 0} → Floor → History A → ℕ → Type 0

@@ -2,6 +2,7 @@
 -- A robot waits while it has a front errand. There are n robots, 0 to n - 1, and no distance is above reach.
 use Rattle.std.specs.Prelude.{◌≡◌, ℕ, ◌+◌, ◌*◌, ◌<◌, ◌≤◌, max, ◌⊎◌, Bool, true, false, nat_lt, ◌==◌, ◌&&◌, ◌||◌, Option, Some, None}
 use Rattle.std.specs.List.{count_by, range_with_len}
+use Rattle.fleet_pibt.specs.Eldest.{IsEldestOf}
 
 -- one moment of a fleet
 pub record Moment : Type 0 where
@@ -10,8 +11,7 @@ pub record Moment : Type 0 where
   -- how far each robot that has a front is from its goal
   pub away : ℕ → ℕ
 
--- whether a robot q with this wait comes before the robot r that has waited w: a greater wait, or an equal one and a
--- lesser number
+-- the test of ComesBefore, as far as it is counted: whether a robot q with this wait comes before the robot r that has waited w
 abbrev pub comes_before : Option ℕ → ℕ → ℕ → ℕ → Bool
 comes_before None q w r = false
 comes_before (Some v) q w r = nat_lt w v || ((v == w) && nat_lt q r)
@@ -20,12 +20,9 @@ comes_before (Some v) q w r = nat_lt w v || ((v == w) && nat_lt q r)
 abbrev pub count_before : ℕ → Moment → ℕ → ℕ → ℕ
 count_before n m w r = count_by (λ q. comes_before (m.wait q) q w r) (range_with_len 0 n)
 
--- the robot of greatest wait, the least number on a tie
-pub record IsEldest (n : ℕ) (m : Moment) (e : ℕ) : Type 0 where
-  pub known : e < n
-  pub age : ℕ
-  pub waits : m.wait e ≡ Some age
-  pub greatest : (q v : ℕ) → q < n → m.wait q ≡ Some v → (v < age) ⊎ ((v ≡ age) × (e ≤ q))
+-- the robot that comes before all others
+abbrev pub IsEldest : ℕ → Moment → ℕ → Type 0
+IsEldest n m e = IsEldestOf m.wait n e
 
 -- each robot that has a front is at most reach from its goal
 pub record IsWithin (n reach : ℕ) (m : Moment) : Type 0 where

@@ -49,8 +49,8 @@ pub fn entries_keep_bound<A>()
     ensures next { (m : Floor) (h : History A) → IsLegal m h → KeepsBound m h → KeepsBound m (start (next_opening h)) }
 {}
 
-/// In a legal history whose ticks are all advancing, and whose opening keeps the bound, each wait is below it: the history
-/// keeps the bound too, as does each continuation.
+/// Each wait of a legal history is below the bound, where each of its ticks is advancing and the waits at its opening leave room for
+/// the bound (`KeepsBound`). Its own waits leave that room too, and so do those of each history that goes on from it.
 pub fn waits_are_bounded<A>()
     ensures bounded { (m : Floor) (h : History A) → IsLegal m h → EachTick (IsAdvancingTick m) h →
         KeepsBound m (start h.opening) → WaitsAreBounded m h }

@@ -44,51 +44,23 @@ pending w c = slice_index_or w.mailboxes c no_pending
 -- each client's mailbox grows by what the entry tells it
 abbrev pub delivered : {A : Type 0} → History A → Entry A → ℕ → List Pending → List Pending
 delivered h e c [] = []
-delivered h e c (box ∷ boxes) = record { notices = box.notices ++ told h c e; limit = box.limit } ∷ delivered h e (c + 1) boxes
+delivered h e c (box ∷ boxes) = record box { notices = box.notices ++ told h c e } ∷ delivered h e (c + 1) boxes
 
 -- a world with one more entry
 abbrev pub grown : {A : Type 0} → World A → Entry A → World A
-grown w e = record {
-  floor = w.floor;
-  limits = w.limits;
-  ties = w.ties;
-  number = w.number;
-  history = after w.history e;
-  mailboxes = delivered w.history e 0 w.mailboxes;
-}
+grown w e = record w { history = after w.history e; mailboxes = delivered w.history e 0 w.mailboxes }
 
 -- the world without the first notice of a mailbox
 abbrev pub without_first : {A : Type 0} → World A → ℕ → World A
-without_first w c = record {
-  floor = w.floor;
-  limits = w.limits;
-  ties = w.ties;
-  number = w.number;
-  history = w.history;
-  mailboxes = slice_set w.mailboxes c (record { notices = drop 1 (pending w c).notices; limit = (pending w c).limit });
-}
+without_first w c = record w { mailboxes = slice_set w.mailboxes c (record (pending w c) { notices = drop 1 (pending w c).notices }) }
 
 -- the world whose mailbox of this client may hold this much more
 abbrev pub widened : {A : Type 0} → World A → ℕ → ℕ → World A
-widened w c extra = record {
-  floor = w.floor;
-  limits = w.limits;
-  ties = w.ties;
-  number = w.number;
-  history = w.history;
-  mailboxes = slice_set w.mailboxes c (record { notices = (pending w c).notices; limit = (pending w c).limit + extra });
-}
+widened w c extra = record w { mailboxes = slice_set w.mailboxes c (record (pending w c) { limit = (pending w c).limit + extra }) }
 
 -- the world in its next chapter
 abbrev pub next_world : {A : Type 0} → World A → World A
-next_world w = record {
-  floor = w.floor;
-  limits = w.limits;
-  ties = w.ties;
-  number = w.number + 1;
-  history = start (next_opening w.history);
-  mailboxes = w.mailboxes;
-}
+next_world w = record w { number = w.number + 1; history = start (next_opening w.history) }
 
 -- a client's notices and unfinished errands leave room for two more
 abbrev pub HasRoom : {A : Type 0} → World A → ℕ → Type 0

@@ -6,6 +6,4 @@ pub mod Opening
 pub mod OpeningFaults
 pub mod Core
 pub mod Calls
-pub mod Mailboxes
-pub mod Kept
 pub mod inside

@@ -1,5 +1,5 @@
 -- Why worlds are not opened.
-use Rattle.std.specs.Prelude.{ℕ, ◌≡◌, ◌<◌, ◌≤◌, ◌⊎◌, List, length, slice_index}
+use Rattle.std.specs.Prelude.{⊤, ℕ, ◌≡◌, ◌<◌, ◌≤◌, ◌⊎◌, List, length, slice_index}
 use Rattle.fleet_grid.specs.Floor.{Floor, IsFloor}
 use Rattle.fleet_grid.specs.Step.{IsPlacement}
 use Rattle.fleet_book.specs.declared.limits.Limits.{Limits}
@@ -39,4 +39,4 @@ IsRefused m starts clients limits laws fault.NoMemory = ⊥
 -- a reason other than out of memory
 abbrev pub IsNamed : OpenFault → Type 0
 IsNamed fault.NoMemory = ⊥
-IsNamed _ = Unit {0}
+IsNamed _ = ⊤

@@ -3,3 +3,5 @@ pub mod Begun
 pub mod Ready
 pub mod Spent
 pub mod Stamped
+pub mod Kept
+pub mod Mailboxes

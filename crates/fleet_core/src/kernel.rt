@@ -49,7 +49,7 @@ pub struct Core<A: Allocator + Copy = Global> {
 impl<A: Allocator + Copy> Model for Core<A> {
     ghost use Rattle.fleet_history.specs.History.{history_of};
     ghost use Rattle.fleet_core.specs.Core.{World};
-    ghost use Rattle.fleet_core.specs.Kept.{IsKept};
+    ghost use Rattle.fleet_core.specs.inside.Kept.{IsKept};
 
     ghost Value = { World A };
 

@@ -1,7 +1,7 @@
 //! The clients' mailboxes: for each the notices that it was not given yet, in a ring of fixed room.
 
 ghost use Rattle.std.specs.Prelude.{◌≡◌, ◌+◌, ◌<◌, ◌≤◌, ◌^◌, ◌==◌, [], ◌∷◌, ◌++◌, ℕ, All, count_by, length, drop, replicate, slice_get, slice_index, IfOk, OnOk, OnErr};
-ghost use Rattle.fleet_core.specs.Mailboxes.{box_at, with_notice, with_box, AreDelivered};
+ghost use Rattle.fleet_core.specs.inside.Mailboxes.{box_at, with_notice, with_box, AreDelivered};
 
 use circular_buffer::HeapCircularBuffer;
 use fleet_book::{Notice, Verdict};
@@ -110,7 +110,7 @@ pub(crate) struct Mailboxes<A: Allocator + Copy> {
 
 impl<A: Allocator + Copy> Model for Mailboxes<A> {
     ghost use Rattle.std.specs.Prelude.{◌≡◌, length};
-    ghost use Rattle.fleet_core.specs.Mailboxes.{Mailboxes};
+    ghost use Rattle.fleet_core.specs.inside.Mailboxes.{Mailboxes};
 
     ghost Value = { Mailboxes };
 

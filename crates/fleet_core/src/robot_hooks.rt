@@ -1,14 +1,14 @@
 //! The closures of a world's robots, apart from its core.
 
-ghost use Rattle.std.specs.Prelude.{Some, slice_get, ◌≡◌, ◌≤◌, ◌<◌, ◌↔◌, ℕ, List, true, false, length, OnOk, map};
-ghost use Rattle.fleet_history.specs.History.{robots, clock, is_shut};
+ghost use Rattle.std.specs.Prelude.{Some, slice_get, ◌≡◌, ◌<◌, true, length, map};
+ghost use Rattle.fleet_history.specs.History.{robots};
 ghost use Rattle.fleet_history.specs.Legal.{is_done};
 ghost use Rattle.fleet_core.specs.Hooks.{AreArrivals, AreFarewells, spare_laws, IsLeft};
 ghost use Rattle.fleet_core.specs.Calls.{AnswersTick, AnswersShut};
-ghost use Rattle.fleet_core.specs.Core.{HasNoEntries};
 
 use crate::faults::{ShutFault, TickFault, TickReport};
 use crate::kernel::Core;
+use crate::world_opening::MOST_ROBOTS;
 use fleet_history::RobotState;
 use fleet_hooks::{ArrivalHook, Farewell, StampLaw, TieHook, TieLaw};
 use std::alloc::{Alloc, Allocator, Global};
@@ -122,7 +122,7 @@ impl<A: Allocator + Copy> Core<A> {
         ensures { result ≡ true → AreFarewells self.now.history (spare_laws farewells.now) }
     {
         let robots = self.chapter().opening.robots.as_slice();
-        if farewells.len() != robots.len() || robots.len() > 512 {
+        if farewells.len() != robots.len() || robots.len() > MOST_ROBOTS {
             return false;
         }
         for r in 0..farewells.len() {
@@ -176,11 +176,7 @@ impl<A: Allocator + Copy> Core<A> {
 
     /// Why the robot is not shut.
     fn no_shut(&self, robot: u32) -> Result<Option<u32>, ShutFault>
-        ensures no_robot { (result ≡ Err ShutFault.NoRobot) ↔ (robots self.now.history ≤ robot) }
-        ensures already { (result ≡ Err ShutFault.Already) ↔ ((robot < robots self.now.history) × (is_shut self.now.history robot ≡ true)) }
-        ensures chapter_full { (result ≡ Err ShutFault.ChapterFull) ↔
-            ((robot < robots self.now.history) × (is_shut self.now.history robot ≡ false) × HasNoEntries self.now) }
-        ensures err { OnOk result ⊥ }
+        ensures { AnswersShut self.now robot result self.now }
     {
         if robot as usize >= self.robots() {
             return Err(ShutFault::NoRobot);
@@ -215,10 +211,7 @@ impl<A: Allocator + Copy> Core<A> {
 
     /// Why no tick is made.
     fn no_tick(&self) -> Result<TickReport, TickFault>
-        ensures clock_spent { (result ≡ Err TickFault.ClockSpent) ↔ (clock self.now.history ≡ self.now.limits.clock) }
-        ensures chapter_full { (result ≡ Err TickFault.ChapterFull) ↔
-            ((clock self.now.history < self.now.limits.clock) × HasNoEntries self.now) }
-        ensures err { OnOk result ⊥ }
+        ensures { AnswersTick self.now result self.now }
     {
         if self.is_spent() {
             return Err(TickFault::ClockSpent);

@@ -14,7 +14,7 @@ use fleet_grid::Grid;
 use fleet_history::{Arrival, Bye, Entry};
 use fleet_hooks::{ArrivalHook, Farewell, TieHook};
 use fleet_planner::Planner;
-use fleet_state::FleetState;
+use fleet_state::{FleetState, Landings};
 use std::alloc::{AllocError, Allocator};
 
 /// Where the robots go, who arrives there and who says farewell. The stamps are given when nothing can fail any more.
@@ -61,8 +61,7 @@ fn step_of<A: Allocator + Copy>(
     ensures step { IfOk result (λ step. IsStep grid.now (map (λ h. h.law) ties.now) state.now (goals_of planner.old.aims) step.to.items step.arrived.items step.leaving.items) }
 {
     let to = planner.plan(alloc, grid, state, ties)?;
-    let arrived = state.dues(alloc, to.as_slice())?;
-    let leaving = state.leaving(alloc, to.as_slice())?;
+    let Landings { arrived, leaving } = state.landings(alloc, to.as_slice())?;
     Ok(TickDraft {
         to,
         arrived,
@@ -89,8 +88,8 @@ fn make_ready<A: Allocator + Copy>(
     planner.turn(grid, state, to)
 }
 
-/// The planned step of the next tick, for which all is ready: there is room for its entry, and the robots aim at the goals
-/// that they have after it.
+/// Plans the next tick, and does all of it that allocates: on return its entry has room in the list, and the robots aim at the
+/// goals that they have after it.
 pub(crate) fn ready<A: Allocator + Copy>(
     alloc: A,
     grid: &Grid<A>,

@@ -125,7 +125,7 @@ impl<A: Allocator + Copy> World<A> {
     ///
     /// Refused in this order: this is the last of the chapters, out of memory.
     pub fn next_chapter(&mut self) -> Result<Chapter<A>, ChapterFault>
-        // Of each call: only a call with a condition may lend closures to another crate.
+        // Of each call: the checker lets closures go to another crate only in a call with a `requires`.
         requires { 0 ≤ self.old.core.number }
         ensures book_spent { (result ≡ Err ChapterFault.BookSpent) ↔ (self.old.core.number + 1 ≡ self.old.core.limits.chapters) }
         ensures history { IfOk result (λ chapter. history_of chapter ≡ self.old.core.history) }
@@ -255,7 +255,7 @@ impl<A: Allocator + Copy> World<A> {
     ///
     /// Refused in this order: the ticks are spent, the chapter is full, out of memory.
     pub fn tick<R: Alloc<A = A>>(&mut self, rt: &R) -> Result<TickReport, TickFault>
-        // Of each call: only a call with a condition may lend closures to another crate.
+        // Of each call: the checker lets closures go to another crate only in a call with a `requires`.
         requires { 0 ≤ self.old.core.number }
         ensures clock_spent { (result ≡ Err TickFault.ClockSpent) ↔ (clock self.old.core.history ≡ self.old.core.limits.clock) }
         ensures chapter_full { (result ≡ Err TickFault.ChapterFull) ↔

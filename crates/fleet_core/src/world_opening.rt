@@ -12,6 +12,12 @@ use fleet_grid::Grid;
 use fleet_hooks::{Farewell, Hooks};
 use std::alloc::{AllocError, Allocator};
 
+/// The most robots that a world has.
+pub(crate) const MOST_ROBOTS: usize = 512;
+
+/// The most clients that a world has.
+const MOST_CLIENTS: u32 = 64;
+
 /// The first robot that does not start on floor.
 fn first_off_floor<A: Allocator + Copy>(grid: &Grid<A>, starts: &[u32]) -> Option<u32>
     requires { length starts.now ≤ 512 }
@@ -69,10 +75,10 @@ pub(crate) fn opening_fault<A: Allocator + Copy>(
 ) -> Option<OpenFault>
     ensures { MatchOption result (CanOpen grid.now starts.now clients limits (laws_of hooks.now)) (λ fault. IsRefused grid.now starts.now clients limits (laws_of hooks.now) fault) }
 {
-    if !limits.is_valid() || clients < 1 || clients > 64 {
+    if !limits.is_valid() || clients < 1 || clients > MOST_CLIENTS {
         return Some(OpenFault::Limits);
     }
-    if starts.is_empty() || starts.len() > 512 {
+    if starts.is_empty() || starts.len() > MOST_ROBOTS {
         return Some(OpenFault::NoRobots);
     }
     if let Some(r) = first_off_floor(grid, starts) {

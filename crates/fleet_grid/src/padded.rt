@@ -7,10 +7,10 @@ use crate::cells::Cells;
 use std::alloc::{AllocError, Allocator, Global};
 
 /// A place that is not reached.
-pub const FAR: u32 = 4294967295;
+pub const FAR: u32 = u32::MAX;
 
 /// A place that is never reached.
-pub const WALL: u32 = 4294967294;
+pub const WALL: u32 = u32::MAX - 1;
 
 /// The place of a cell in the padded list.
 pub fn place_of(width: u32, stride: u32, cell: u32) -> usize

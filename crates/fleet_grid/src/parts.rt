@@ -10,7 +10,7 @@ use crate::dir::Dir;
 use std::alloc::{AllocError, Allocator};
 
 /// The label of a cell that has none.
-const BARE: u32 = 4294967295;
+const BARE: u32 = u32::MAX;
 
 /// Labels the floor cell next to the one that the queue holds at `head`, unless it has its label, and puts it after the queue.
 fn visit<A: Allocator + Copy>(

@@ -14,8 +14,8 @@ use Rattle.fleet_history.specs.Notices.{told}
 use Rattle.fleet_history.proofs.Legal.{All-single}
 use Rattle.fleet_core.specs.Pending.{Pending, no_pending}
 use Rattle.fleet_core.specs.Core.{World, pending, Takes}
-use Rattle.fleet_core.proofs.Kept.{told_to}
-use Rattle.fleet_core.proofs.Kept.{length-delivered, box_at-delivered}
+use Rattle.fleet_core.proofs.CoreKept.{told_to}
+use Rattle.fleet_core.proofs.CoreKept.{length-delivered, box_at-delivered}
 use Rattle.fleet_lanes.specs.Ends.{EndView, ClientView}
 use Rattle.fleet_office.specs.Views.{OthersStay, Moves, IsSettled}
 use Rattle.fleet_office.specs.Draining.{used, Widens, TakesNext, Drains}

@@ -22,7 +22,7 @@ use Rattle.fleet_history.proofs.Rings.{ring-after}
 use Rattle.fleet_history.proofs.After.{clock-after}
 use Rattle.fleet_core.specs.Pending.{Pending, no_pending}
 use Rattle.fleet_core.specs.Core.{World, pending, grown}
-use Rattle.fleet_core.proofs.Kept.{length-delivered, box_at-delivered}
+use Rattle.fleet_core.proofs.CoreKept.{length-delivered, box_at-delivered}
 use Rattle.fleet_lanes.specs.Names.{LaneName}
 use Rattle.fleet_lanes.specs.Ends.{EndView}
 use Rattle.fleet_office.specs.Hall.{RingLaw, RingLaws, IsLawful, Gives, handed, took}

@@ -11,7 +11,7 @@ use Rattle.fleet_history.proofs.After.{place-after}
 use Rattle.fleet_history.proofs.Legal.{legal-opening, length-place, fits-at}
 use Rattle.fleet_history.proofs.Places.{legal-before}
 use Rattle.fleet_core.specs.Core.{World}
-use Rattle.fleet_core.proofs.Ticked.{arrived-few, leaving-few}
+use Rattle.fleet_core.proofs.TickFacts.{arrived-few, leaving-few}
 use Rattle.fleet_office.specs.declared.report.TurnReport.{TurnReport}
 use Rattle.fleet_office.specs.Hall.{HallView, GivesFrom, Turns}
 use Rattle.fleet_office.specs.Shown.{IsLastTick}

@@ -14,8 +14,8 @@ use Rattle.fleet_history.proofs.Numbered.{noticed-length}
 use Rattle.fleet_history.proofs.Owed.{owed-after_take}
 use Rattle.fleet_core.specs.Pending.{Pending}
 use Rattle.fleet_core.specs.Core.{World, pending, grown, Takes}
-use Rattle.fleet_core.proofs.Kept.{told_to}
-use Rattle.fleet_core.proofs.Kept.{box_at-delivered}
+use Rattle.fleet_core.proofs.CoreKept.{told_to}
+use Rattle.fleet_core.proofs.CoreKept.{box_at-delivered}
 use Rattle.fleet_lanes.specs.Names.{LaneName}
 use Rattle.fleet_lanes.specs.Ends.{EndView}
 use Rattle.fleet_office.specs.Hall.{IsLawful, took}

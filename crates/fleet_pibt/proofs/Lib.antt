@@ -18,3 +18,4 @@ pub mod Beside
 pub mod Seen
 pub mod Rated
 pub mod Spots
+pub mod Precedences

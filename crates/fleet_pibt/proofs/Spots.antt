@@ -1,10 +1,10 @@
 -- The cells next to a floor cell.
-use Rattle.std.proofs.Common.{◌≡◌, ℕ, ◌+◌, ◌-◌, ◌<◌, ◌≤◌, inl, inr, Option, List, length, slice_index, refl, sym, ◌∙◌, subst, arith}
+use Rattle.std.proofs.Common.{◌≡◌, ℕ, ◌<◌, inl, inr, Option, List, length, slice_index, refl, sym, ◌∙◌, subst, arith}
 use Rattle.std.proofs.lemmas.Bool.{cases_eq}
 use Rattle.fleet_grid.specs.Floor.{Floor, IsFloor, IsNeighbourIn, cell_across}
 use Rattle.fleet_grid.specs.Ways.{IsWay, AreOpen}
 use Rattle.fleet_grid.specs.declared.dir.Dir.{Dir}
-use Rattle.fleet_grid.specs.declared.dir.Dir.TheVariants.{North, East, South, West}
+use Rattle.fleet_grid.specs.declared.dir.Dir.TheVariants.{North, South}
 use Rattle.fleet_grid.proofs.Edges.{beside_across}
 use Rattle.fleet_grid.proofs.Forms.{floor_inside}
 use Rattle.fleet_pibt.specs.inside.Around.{IsSpot, AreArounds}

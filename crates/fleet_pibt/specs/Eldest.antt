@@ -1,9 +1,14 @@
--- The robot that has waited longest.
-use Rattle.std.specs.Prelude.{◌≡◌, ℕ, ◌<◌, ◌≤◌, ◌⊎◌, Option, Some, List}
-use Rattle.fleet_pibt.specs.Order.{wait_of}
+-- The robot that comes before all others.
+use Rattle.std.specs.Prelude.{◌≡◌, ◌≢◌, ℕ, ◌<◌, Option, Some, List, length}
+use Rattle.fleet_pibt.specs.Order.{wait_of, ComesBefore}
 
--- it has the greatest wait, and on a tie the least number
-pub record IsEldest (waits : List (Option ℕ)) (eldest : ℕ) : Type 0 where
-  pub wait : ℕ
-  pub waits_so : wait_of waits eldest ≡ Some wait
-  pub longest : (r v : ℕ) → wait_of waits r ≡ Some v → (v < wait) ⊎ ((v ≡ wait) × (eldest ≤ r))
+-- of n robots with these waits it waits, and comes before each other one
+pub record IsEldestOf (wait_of : ℕ → Option ℕ) (n eldest : ℕ) : Type 0 where
+  pub known : eldest < n
+  pub age : ℕ
+  pub waits : wait_of eldest ≡ Some age
+  pub first : (r : ℕ) → r < n → r ≢ eldest → ComesBefore (Some age) (wait_of r) eldest r
+
+-- of the robots with a list of waits
+abbrev pub IsEldest : List (Option ℕ) → ℕ → Type 0
+IsEldest waits eldest = IsEldestOf (wait_of waits) (length waits) eldest

@@ -16,5 +16,5 @@ mod table;
 mod tables;
 
 pub use goals::Goals;
-pub use priority::order;
+pub use priority::{comes_before, order};
 pub use stepper::Stepper;

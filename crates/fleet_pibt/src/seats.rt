@@ -7,7 +7,7 @@ use std::alloc::{AllocError, Allocator, Global};
 use std::marker::Model;
 
 /// What is written for nobody.
-const NOBODY: u16 = 65535;
+const NOBODY: u16 = u16::MAX;
 
 /// Who stands on a cell before the step, and who has reserved it.
 #[derive(Clone, Copy)]

@@ -100,8 +100,7 @@ impl<A: Allocator + Copy> Stepper<A> {
         ensures advances { (e g : ℕ) → IsEldest waits.now e → G.goal_of goals.now e ≡ Some g →
             IsOpenAhead grid.now from.now g (slice_index from.now e) →
             Advances grid.now g (slice_index from.now e) (slice_index to.new e) }
-        ensures bridgeless { IsBridgeless (IsNeighbour grid.now) →
-            IsAdvancing grid.now waits.now (G.goal_of goals.now) from.now to.new }
+        ensures bridgeless { IsBridgeless (IsNeighbour grid.now) → IsAdvancing grid.now waits.now (G.goal_of goals.now) from.now to.new }
         ensures by_law { (e g : ℕ) (law : _) → IsEldest waits.now e → G.goal_of goals.now e ≡ Some g →
             IsOpenAhead grid.now from.now g (slice_index from.now e) →
             slice_get (map (λ h. h.law) ties.now) e ≡ Some law →

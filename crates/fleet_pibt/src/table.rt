@@ -7,7 +7,7 @@ use std::alloc::{AllocError, Allocator, Global};
 use std::marker::Model;
 
 /// What is written for no number.
-const NOTHING: u32 = 4294967295;
+const NOTHING: u32 = u32::MAX;
 
 /// A list of numbers or nothing, each in four bytes.
 #[derive(Drop)]

@@ -1,3 +1,2 @@
 -- What only proofs and private functions use.
 pub mod Turns
-pub mod Longest

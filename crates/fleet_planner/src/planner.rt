@@ -29,7 +29,7 @@ use std::marker::Model;
 use std::thread::Threads;
 
 /// The bytes of fields that are kept where nothing else is said: 256 MiB.
-const KEPT_BYTES: usize = 268435456;
+const KEPT_BYTES: usize = 256 << 20;
 
 /// What each robot aims at, the means to plan a step, and the fields of goals that no robot has any more.
 #[derive(Drop)]
@@ -241,20 +241,14 @@ fn goal_after<A: Allocator + Copy>(state: &FleetState<A>, robot: u32) -> Option<
     requires { robot < robot_count state.now }
     ensures { result ≡ cell_of (slice_get (queue_at state.now.queues robot).items 1) }
 {
-    match state.next(robot) {
-        Some(next) => Some(next.cell),
-        None => None,
-    }
+    Some(state.next(robot)?.cell)
 }
 
 /// Whether the map has no bridge.
 fn has_no_bridge<A: Allocator + Copy>(alloc: A, grid: &Grid<A>) -> Result<bool, AllocError>
     ensures { IfOk result (λ none. IsTrue none ↔ IsBridgeless (IsNeighbour grid.now)) }
 {
-    match first_bridge(alloc, grid)? {
-        Some(_bridge) => Ok(false),
-        None => Ok(true),
-    }
+    Ok(first_bridge(alloc, grid)?.is_none())
 }
 
 /// Whether nobody waits.

@@ -2,22 +2,24 @@
 
 ghost use Rattle.std.specs.Prelude.{◌≡◌, ℕ, ◌+◌, ◌<◌, ◌≤◌, None, length, MatchOption};
 ghost use Rattle.fleet_pibt.specs.Order.{wait_of};
-ghost use Rattle.fleet_pibt.specs.Eldest.{IsEldest};
-ghost use Rattle.fleet_planner.specs.inside.Longest.{IsLongest};
+ghost use Rattle.fleet_pibt.specs.Eldest.{IsEldest, IsEldestOf};
 
-/// The robot that has waited longer, of one found so far and a further one of greater number.
+use fleet_pibt::comes_before;
+
+/// The eldest of some robots and one more, where `found` is that of the others.
 fn longer(waits: &[Option<u64>], found: Option<u32>, robot: u32) -> Option<u32>
     requires known { robot < length waits.now }
-    requires found { MatchOption found ((r : ℕ) → r < robot → wait_of waits.now r ≡ None) (λ e. IsLongest waits.now robot e) }
-    ensures { MatchOption result ((r : ℕ) → r < robot + 1 → wait_of waits.now r ≡ None) (λ e. IsLongest waits.now (robot + 1) e) }
+    requires found { MatchOption found ((r : ℕ) → r < robot → wait_of waits.now r ≡ None) (λ e. IsEldestOf (wait_of waits.now) robot e) }
+    ensures { MatchOption result ((r : ℕ) → r < robot + 1 → wait_of waits.now r ≡ None) (λ e. IsEldestOf (wait_of waits.now) (robot + 1) e) }
 {
-    let Some(wait) = waits[robot as usize] else {
+    let Some(_wait) = waits[robot as usize] else {
         return found;
     };
     match found {
-        Some(eldest) => match waits[eldest as usize] {
-            Some(longest) => if wait > longest { Some(robot) } else { found },
-            None => Some(robot),
+        Some(eldest) => if comes_before(waits, eldest, robot) {
+            found
+        } else {
+            Some(robot)
         },
         None => Some(robot),
     }

@@ -36,7 +36,7 @@ impl<A: Allocator + Copy> Session<A> {
         limits: Limits,
         hooks: Hooks<A>,
     ) -> Result<Session<A>, OpenFault>
-        // Of each call: only a call with a condition may hand on closures that another crate hands out.
+        // Of each call: the checker lets closures come from another crate only in a call with a `requires`.
         requires { clients < 2 ^ 32 }
         ensures refused { (fault : _) → IsNamed fault → ((result ≡ Err fault) ↔ IsRefused grid starts.items clients limits (laws_of hooks) fault) }
         ensures can { OnOk result (CanOpen grid starts.items clients limits (laws_of hooks)) }
@@ -63,11 +63,12 @@ impl<A: Allocator + Copy> Session<A> {
         self.world.chapter().entries.len() == self.world.core.limits().chapter as usize
     }
 
-    /// Hands out the present chapter and begins the next, whose opening is the state now. What waits goes on waiting.
+    /// Ends the chapter and returns it. The next one opens with the state that the world is in, and each client's orders and notices
+    /// wait on as before.
     ///
     /// Refused in this order: this is the last of the chapters, out of memory.
     pub fn next_chapter(&mut self) -> Result<Chapter<A>, ChapterFault>
-        // Of each call: only a call with a condition may lend closures to another crate.
+        // Of each call: the checker lets closures go to another crate only in a call with a `requires`.
         requires { 0 ≤ self.old.world.core.number }
         ensures book_spent { (result ≡ Err ChapterFault.BookSpent) ↔ (self.old.world.core.number + 1 ≡ self.old.world.core.limits.chapters) }
         ensures history { IfOk result (λ chapter. history_of chapter ≡ self.old.world.core.history) }

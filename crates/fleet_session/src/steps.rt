@@ -117,7 +117,7 @@ impl<A: Allocator + Copy> Session<A> {
 
     /// Does one event, and returns what is replied. A refused event changes nothing, nor does one for which memory ran out.
     pub fn step<R: Alloc<A = A>>(&mut self, rt: &R, event: Event) -> Result<Reply, AllocError>
-        // Of each call: only a call with a condition may lend closures to another crate.
+        // Of each call: the checker lets closures go to another crate only in a call with a `requires`.
         requires { 0 ≤ self.old.world.core.number }
         ensures step { IfOk result (λ reply. TalkStep (talk self.old) event reply (talk self.new)) }
         ensures err { OnErr result (talk self.new ≡ talk self.old) }

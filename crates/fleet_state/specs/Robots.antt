@@ -1,5 +1,5 @@
 -- The robots of a state, and what a step and a take make of them.
-use Rattle.std.specs.Prelude.{ℕ, ◌≡◌, ◌<◌, ◌++◌, List, [], ◌∷◌, Option, None, length, slice_set, slice_index_or}
+use Rattle.std.specs.Prelude.{⊤, ℕ, ◌≡◌, ◌<◌, ◌++◌, List, [], ◌∷◌, Option, None, length, slice_set, slice_index_or}
 use Rattle.fleet_queue.specs.declared.errand.Errand.{Errand}
 use Rattle.fleet_queue.specs.Queue.{Queue, is_of, without_behind_front}
 use Rattle.fleet_book.specs.declared.facts.Place.{Place}
@@ -41,7 +41,7 @@ stepped x r cell = record {
 -- an accepted errand finds room in its robot's queue
 abbrev pub HasPlace : List Queue → Order → Verdict → Type 0
 HasPlace queues (Go robot cell) (Accepted number) = length (queue_at queues robot).items < (queue_at queues robot).capacity
-HasPlace queues _ _ = Unit {0}
+HasPlace queues _ _ = ⊤
 
 -- the robots once the errand joined this one's queue
 abbrev pub joined : Robots → ℕ → Errand → Robots

@@ -12,4 +12,5 @@ mod state;
 mod verdict;
 
 pub use clients::Tally;
+pub use due::Landings;
 pub use state::FleetState;

@@ -8,7 +8,7 @@ ghost use Rattle.fleet_state.specs.Landed.{landing, is_last};
 ghost use Rattle.fleet_state.specs.Opened.{HaveRooms, robots_in};
 ghost use Rattle.fleet_state.specs.Robots.{queue_at, stepped, joined, without_errand, HasPlace, AreTaken, IsPlaceAmong};
 
-use crate::landing::{front_cell, is_leaving, landing, one_more, take_landed, wait_on};
+use crate::landing::{front_cell, landing, one_more, take_landed, wait_after};
 use crate::queues::{fronts_of, queues_of};
 use fleet_book::{Order, Place, Verdict};
 use fleet_history::RobotState;
@@ -166,18 +166,6 @@ impl<A: Allocator + Copy> Robots<A> {
         }
     }
 
-    /// Whether the robot, shut or not, says farewell where a step brings it to the cell.
-    pub(crate) fn is_leaving(&self, shut: bool, robot: usize, cell: u32) -> bool
-        requires { robot < length self.now.queues }
-        ensures { result ≡ (shut && is_last cell (queue_at self.now.queues robot).items) }
-    {
-        if self.may_land(robot, cell) {
-            is_leaving(shut, &self.queues[robot], cell)
-        } else {
-            false
-        }
-    }
-
     /// Lets the robot step to the cell: counts its wait on, and takes the errand that it lands on out of its queue.
     pub(crate) fn step(&mut self, robot: usize, cell: u32) -> Option<Errand>
         requires known { robot < length self.old.queues }
@@ -202,8 +190,8 @@ impl<A: Allocator + Copy> Robots<A> {
     {
         self.cells[robot] = cell;
         let errands = &mut self.queues[robot];
-        self.waits[robot] = wait_on(errands, cell, self.waits[robot]);
         let landed = take_landed(errands, cell);
+        self.waits[robot] = wait_after(landed, errands, self.waits[robot]);
         self.fronts[robot] = front_cell(errands);
         landed
     }

@@ -19,7 +19,7 @@ use Rattle.fleet_world.specs.declared.reply.Reply.TheVariants.{Posted, LaneFull,
 use Rattle.fleet_world.specs.Run.{State, Run, opened_state}
 use Rattle.errands_text.specs.Output.{event_text, run_text, entries_made}
 use Rattle.fleet_session.specs.Talk.{Talk, TalkStep, TalkRun, forget, opened_talk}
-use Rattle.fleet_session.proofs.Forgets.{run-opened}
+use Rattle.fleet_session.proofs.TalkLaws.{run-opened}
 use Rattle.fleet_talk.specs.Act.{play}
 use Rattle.fleet_talk.specs.Acts.{Talks, Rolls, stays, rolls, last_entry}
 

@@ -11,8 +11,8 @@ use Rattle.fleet_history.specs.declared.history.RobotState.{RobotState}
 use Rattle.fleet_history.specs.declared.history.Opening.{Opening}
 use Rattle.fleet_history.specs.History.{unknown_client}
 use Rattle.fleet_history.specs.Legal.{IsRobotInOrder, is_none_left}
-use Rattle.fleet_trace.specs.Opened.{IsErrandInOrder, IsWaitInOrder}
-use Rattle.fleet_trace.proofs.Naming.{impossible}
+use Rattle.fleet_trace.specs.inside.Opened.{IsErrandInOrder, IsWaitInOrder}
+use Rattle.fleet_trace.proofs.ErrandNames.{impossible}
 
 -- a test that failed refuses what it is needed for
 pub refuses : (P : Type 0) (b : Bool) → b ≡ false → (P → b ≡ true) → IsTrue false ↔ P

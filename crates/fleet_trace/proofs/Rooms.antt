@@ -8,7 +8,7 @@ use Rattle.fleet_history.specs.declared.history.Opening.{Opening}
 use Rattle.fleet_history.specs.declared.history.RobotState.{RobotState}
 use Rattle.fleet_history.proofs.Legal.{unknown_robot}
 use Rattle.fleet_state.specs.Opened.{HaveRooms, errands_in}
-use Rattle.fleet_trace.specs.Rooms.{robot_joined, is_for, room_for}
+use Rattle.fleet_trace.specs.inside.Rooms.{robot_joined, is_for, room_for}
 
 errands-at : {A : Type 0} (xs : List (RobotState A)) (r : ℕ) → r < length xs → errands_in xs r ≡ (get_or xs r unknown_robot).errands
 errands-at xs r l = get_or-map (λ x. x.errands) xs r unknown_robot [] l

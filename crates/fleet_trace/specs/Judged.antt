@@ -1,5 +1,5 @@
 -- The first entry of a trace that breaks a rule, and the first rule that it breaks.
-use Rattle.std.specs.Prelude.{ℕ, ◌≡◌, ◌<◌, ◌+◌, ◌⊎◌, List, ◌∷◌, ◌++◌, Option, false, is_some, map, length, All, MatchOption}
+use Rattle.std.specs.Prelude.{⊤, ℕ, ◌≡◌, ◌<◌, ◌+◌, ◌⊎◌, List, ◌∷◌, ◌++◌, Option, false, is_some, map, length, All, MatchOption}
 use Rattle.fleet_grid.specs.Floor.{Floor}
 use Rattle.fleet_grid.specs.Step.{IsConflictFree}
 use Rattle.fleet_hooks.specs.Law.{IsStamp}
@@ -87,12 +87,12 @@ IsFirstIllegal m h at rule = ((at ≡ 0) × (rule ≡ 1) × (IsInOrder m h.openi
 -- why entries are not judged legal, unless memory ran out
 abbrev pub IsEntryFault : {A : Type 0} → Floor → History A → JudgeFault → Type 0
 IsEntryFault m h (Illegal at rule) = IsIllegalAt m h at rule
-IsEntryFault m h NoMemory = Unit {0}
+IsEntryFault m h NoMemory = ⊤
 
 -- why a trace is not judged legal, unless memory ran out
 abbrev pub IsJudgeFault : {A : Type 0} → Floor → History A → JudgeFault → Type 0
 IsJudgeFault m h (Illegal at rule) = IsFirstIllegal m h at rule
-IsJudgeFault m h NoMemory = Unit {0}
+IsJudgeFault m h NoMemory = ⊤
 
 -- ---- judged on a state
 

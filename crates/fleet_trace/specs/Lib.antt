@@ -4,9 +4,5 @@ pub mod Fits
 pub mod Version
 pub mod Told
 pub mod Reads
-pub mod Opened
-pub mod Clients
 pub mod Judged
-pub mod Calm
-pub mod Rooms
 pub mod inside

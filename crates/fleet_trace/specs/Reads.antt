@@ -1,5 +1,5 @@
 -- What reading answers.
-use Rattle.std.specs.Prelude.{◌≡◌, ◌≢◌, ℤ, List, ℕ, Option, Some, None, option_and_then, Result, Ok, Err, IsUtf8}
+use Rattle.std.specs.Prelude.{⊤, ◌≡◌, ◌≢◌, ℤ, List, ℕ, Option, Some, None, option_and_then, Result, Ok, Err, IsUtf8}
 use Rattle.std.specs.declared.alloc.Global.{Global}
 use Rattle.serde_json.specs.Data.{Data}
 use Rattle.serde_json.specs.Read.{read}
@@ -16,7 +16,7 @@ Gives see (Ok x) told = told ≡ Some (see x)
 Gives see (Err Shape) told = told ≡ None
 Gives see (Err NotJson) told = ⊥
 Gives see (Err Version) told = ⊥
-Gives see (Err NoMemory) told = Unit {0}
+Gives see (Err NoMemory) told = ⊤
 
 -- the bytes are a JSON value's text
 abbrev pub IsJson : List ℕ → Data → Type 0
@@ -28,7 +28,7 @@ Tells bytes t = (d : Data) × (IsJson bytes d × (trace_in d ≡ Some t))
 
 -- no number is under `version`, or that of a known version
 abbrev pub IsVersionKnown : Option ℤ → Type 0
-IsVersionKnown None = Unit {0}
+IsVersionKnown None = ⊤
 IsVersionKnown (Some n) = version_of n ≢ None
 
 -- the number under `version` is that of no known version
@@ -49,4 +49,4 @@ abbrev pub IsTraceFault : List ℕ → TraceFault → Type 0
 IsTraceFault bytes NotJson = (d : Data) → IsJson bytes d → ⊥
 IsTraceFault bytes Version = (d : Data) × (IsJson bytes d × IsVersionUnknown (version_number d))
 IsTraceFault bytes Shape = (d : Data) × (IsJson bytes d × (IsVersionKnown (version_number d) × (trace_in {A = Global} d ≡ None)))
-IsTraceFault bytes NoMemory = Unit {0}
+IsTraceFault bytes NoMemory = ⊤

@@ -1,6 +1,6 @@
 pub mod Fronts
-pub mod Moves
-pub mod Plays
+pub mod StepLaws
+pub mod RunLaws
 pub mod Rings
-pub mod Leaves
-pub mod Refused
+pub mod FinalLists
+pub mod Refusals

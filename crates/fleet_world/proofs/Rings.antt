@@ -24,7 +24,7 @@ use Rattle.fleet_core.specs.Core as core
 use Rattle.fleet_core.specs.Core.{World, pending, delivered}
 use Rattle.fleet_world.specs.Run.{State, Lists, lists, lane, outlet, mailbox, with_lists, with_sent, with_taken, with_given, with_collected, no_lists, Step, Run, state_of}
 use Rattle.fleet_world.specs.Laws.{RingLaw, KeepsRings}
-use Rattle.fleet_core.proofs.Kept.{length-delivered, box_at-delivered}
+use Rattle.fleet_core.proofs.CoreKept.{length-delivered, box_at-delivered}
 
 -- ---- one client
 

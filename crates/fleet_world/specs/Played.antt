@@ -1,4 +1,4 @@
--- The lists of the clients, as a session keeps them and as a run leaves them.
+-- The lists of the clients, as a run keeps them and as a run leaves them.
 use Rattle.std.specs.Prelude.{ℕ, List, [], ◌++◌, map, slice_index_or}
 use Rattle.std.specs.List.{range_with_len}
 use Rattle.fleet_book.specs.declared.order.Order.{Order}

@@ -6,7 +6,7 @@ mod leftovers;
 mod lists;
 mod play;
 mod reply;
-mod session;
+mod run_state;
 mod steps;
 
 pub use crate::faults::RunFault;

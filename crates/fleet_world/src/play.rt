@@ -17,7 +17,7 @@ ghost use Rattle.fleet_world.specs.Played.{collected_of, end_of};
 
 use crate::faults::RunFault;
 use crate::reply::Reply;
-use crate::session::Session;
+use crate::run_state::RunState;
 use fleet_book::{Event, Limits, Notice, Order};
 use fleet_core::World;
 use fleet_grid::Grid;
@@ -71,7 +71,7 @@ pub fn run<A: Allocator + Copy, R: Alloc<A = A>>(
     ensures advancing { IfOk result (λ p. IsBridgeless (IsNeighbour p.world.core.floor) → EachTick (IsAdvancingTick p.world.core.floor) p.world.core.history) }
     ensures bounded { IfOk result (λ p. IsBridgeless (IsNeighbour p.world.core.floor) → WaitsAreBounded p.world.core.floor p.world.core.history) }
 {
-    let mut session = match Session::open(rt.alloc(), grid, starts, clients, limits, hooks) {
+    let mut session = match RunState::open(rt.alloc(), grid, starts, clients, limits, hooks) {
         Ok(session) => session,
         Err(fault) => return Err(RunFault::Opening(fault)),
     };

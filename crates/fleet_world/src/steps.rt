@@ -3,16 +3,16 @@
 ghost use Rattle.std.specs.Prelude.{◌≡◌, IfOk, IfErr, OnErr, length};
 ghost use Rattle.fleet_history.specs.Notices.{seq_of as seq_of_notice};
 ghost use Rattle.fleet_world.specs.Run.{Step, Run, IsAtEvent};
-ghost use Rattle.fleet_world.specs.inside.Session.{state};
+ghost use Rattle.fleet_world.specs.inside.RunState.{state};
 
 use crate::faults::RunFault;
 use crate::reply::Reply;
-use crate::session::Session;
+use crate::run_state::RunState;
 use fleet_book::{Event, Notice, Order};
 use fleet_core::{ShutFault, TakeFault, TickFault};
 use std::alloc::{Alloc, AllocError, Allocator};
 
-impl<A: Allocator + Copy> Session<A> {
+impl<A: Allocator + Copy> RunState<A> {
     /// A post: the order joins the lane, unless that is full.
     pub(crate) fn post(&mut self, client: u32, order: Order) -> Result<Reply, AllocError>
         ensures step { IfOk result (λ reply. Step (state self.old) (Event.Post client order) reply (state self.new)) }

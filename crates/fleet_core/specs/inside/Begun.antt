@@ -9,8 +9,8 @@ use Rattle.fleet_state.specs.State.{State, IsStateOf, HasFullRooms}
 use Rattle.fleet_planner.specs.Aimed.{Planner, IsNewPlanner}
 use Rattle.fleet_core.specs.Core.{opening_of}
 use Rattle.fleet_core.specs.Hooks.{HookLaws, AreOrderly}
-use Rattle.fleet_core.specs.Kept.{IsKept}
-use Rattle.fleet_core.specs.Mailboxes.{Mailboxes}
+use Rattle.fleet_core.specs.inside.Kept.{IsKept}
+use Rattle.fleet_core.specs.inside.Mailboxes.{Mailboxes}
 
 -- with this many empty mailboxes, each with this room
 pub record AreMeans (m : Floor) (robots clients room : ℕ) (p : Planner) (x : Mailboxes) : Type 0 where

@@ -2,7 +2,7 @@
 //! the waits, and from 0 they fit their types whatever a trace says.
 
 ghost use Rattle.std.specs.Prelude.{◌≡◌, IfOk, map};
-ghost use Rattle.fleet_trace.specs.Calm.{first_wait, calm_robot, calm};
+ghost use Rattle.fleet_trace.specs.inside.Calm.{first_wait, calm_robot, calm};
 
 use fleet_history::{Opening, RobotState, Row};
 use fleet_queue::Errand;

@@ -2,8 +2,8 @@
 
 ghost use Rattle.std.specs.Prelude.{◌≡◌, ◌↔◌, ◌≤◌, ◌^◌, ◌==◌, ℕ, IsTrue, IfOk, count_by};
 ghost use Rattle.fleet_history.specs.Legal.{IsClientInOrder, owed_at};
-ghost use Rattle.fleet_trace.specs.Clients.{AreClientsInOrder};
-ghost use Rattle.fleet_trace.specs.Opened.{owed_in, AreSizesInOrder};
+ghost use Rattle.fleet_trace.specs.inside.Clients.{AreClientsInOrder};
+ghost use Rattle.fleet_trace.specs.inside.Opened.{owed_in, AreSizesInOrder};
 
 use super::names::are_names_in_order;
 use fleet_history::{ClientState, Opening, RobotState};

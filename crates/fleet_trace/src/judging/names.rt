@@ -3,7 +3,7 @@
 ghost use Rattle.std.specs.Prelude.{◌≡◌, ◌↔◌, ◌<◌, ◌+◌, ◌^◌, IsTrue, IfOk, MatchBool, length};
 ghost use Rattle.std.specs.Ordering.{nat_cmp};
 ghost use Rattle.std.specs.BTreeMap.{get};
-ghost use Rattle.fleet_trace.specs.Opened.{AreRising, AreClientNamesInOrder, AreEntered, IsAbove};
+ghost use Rattle.fleet_trace.specs.inside.Opened.{AreRising, AreClientNamesInOrder, AreEntered, IsAbove};
 
 use fleet_history::RobotState;
 use fleet_queue::Errand;

@@ -2,7 +2,7 @@
 
 ghost use Rattle.std.specs.Prelude.{◌≡◌, ◌↔◌, ◌≤◌, IsTrue, IfOk};
 ghost use Rattle.fleet_history.specs.Legal.{IsInOrder};
-ghost use Rattle.fleet_trace.specs.Opened.{AreSizesInOrder};
+ghost use Rattle.fleet_trace.specs.inside.Opened.{AreSizesInOrder};
 
 use super::clients::are_clients_in_order;
 use super::robots::{are_robots_in_order, is_placed};

@@ -5,7 +5,7 @@ ghost use Rattle.fleet_grid.specs.Floor.{IsFloor};
 ghost use Rattle.fleet_grid.specs.Step.{IsPlacement};
 ghost use Rattle.fleet_hooks.specs.Law.{IsStampLaw};
 ghost use Rattle.fleet_history.specs.Legal.{IsRobotInOrder, is_none_left};
-ghost use Rattle.fleet_trace.specs.Opened.{IsErrandInOrder, IsWaitInOrder};
+ghost use Rattle.fleet_trace.specs.inside.Opened.{IsErrandInOrder, IsWaitInOrder};
 
 use fleet_grid::{Grid, is_placement};
 use fleet_history::{ClientState, Opening, RobotState};

@@ -2,7 +2,7 @@
 
 ghost use Rattle.std.specs.Prelude.{◌≡◌, ◌≤◌, ◌<◌, ◌+◌, ◌==◌, ℕ, All, IfOk, if◌then◌else◌, length, map, min, slice_index, true, false};
 ghost use Rattle.fleet_state.specs.Follows.{IsPlaced};
-ghost use Rattle.fleet_trace.specs.Rooms.{robot_joined, room_for};
+ghost use Rattle.fleet_trace.specs.inside.Rooms.{robot_joined, room_for};
 
 use fleet_book::{Order, Verdict};
 use fleet_history::{Entry, Opening, RobotState};
@@ -51,7 +51,8 @@ fn widen<A: Allocator + Copy>(rooms: &mut Vec<u32, A>, robot: u32, queue: u32)
     }
 }
 
-/// By robot: room for the errands that the opening has and the entries accept, and for no more than it may have.
+/// For how many errands each robot's queue has memory in a chapter: for those at the opening and one more for each that an entry
+/// adds, up to the limit of a queue.
 pub(crate) fn rooms_of<A: Allocator + Copy>(
     alloc: A,
     opening: &Opening<A>,

@@ -67,34 +67,6 @@ fn are_same_robots(farewells: &[Bye], others: &[Bye]) -> bool
     true
 }
 
-/// Whether a tick shows the arrivals that are due.
-fn shows_due<A: Allocator + Copy>(
-    alloc: A,
-    state: &FleetState<A>,
-    to: &[u32],
-    arrived: &[Arrival],
-) -> Result<bool, AllocError>
-    requires { length to.now ≡ robot_count state.now }
-    ensures { IfOk result (λ fine. Of state.now (λ h. IsTrue fine ↔ ShowsDue h to.now arrived.now)) }
-{
-    let dues = state.dues(alloc, to)?;
-    Ok(are_same_dues(arrived, &dues))
-}
-
-/// Whether a tick whose arrivals are due shows the farewells of those that say farewell.
-fn shows_leaving<A: Allocator + Copy>(
-    alloc: A,
-    state: &FleetState<A>,
-    to: &[u32],
-    farewells: &[Bye],
-) -> Result<bool, AllocError>
-    requires { length to.now ≡ robot_count state.now }
-    ensures { IfOk result (λ fine. (arrived : List Arrival) → Of state.now (λ h. ShowsDue h to.now arrived → IsTrue fine ↔ ShowsLeaving h to.now arrived farewells.now)) }
-{
-    let leaving = state.leaving(alloc, to)?;
-    Ok(are_same_robots(farewells, &leaving))
-}
-
 /// The first rule that what a tick shows breaks.
 pub(crate) fn broken_shown<A: Allocator + Copy>(
     alloc: A,
@@ -107,10 +79,11 @@ pub(crate) fn broken_shown<A: Allocator + Copy>(
     requires { length to.now ≡ robot_count state.now }
     ensures { IfOk result (λ rule. Of state.now (λ h. h.opening.robots ≡ robots.now → MatchOption rule (ShowsDue h to.now arrived.now × ShowsLeaving h to.now arrived.now farewells.now × AreStamps h arrived.now farewells.now) (λ n. ShownBreaks h to.now arrived.now farewells.now n))) }
 {
-    if !shows_due(alloc, state, to, arrived)? {
+    let landings = state.landings(alloc, to)?;
+    if !are_same_dues(arrived, &landings.arrived) {
         return Ok(Some(5));
     }
-    if !shows_leaving(alloc, state, to, farewells)? {
+    if !are_same_robots(farewells, &landings.leaving) {
         return Ok(Some(6));
     }
     if !are_stamps(robots, arrived) || !are_last_stamps(robots, farewells) {

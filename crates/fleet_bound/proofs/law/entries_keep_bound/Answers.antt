@@ -1,4 +1,4 @@
-use Rattle.fleet_bound.proofs.Keeps.{bound-take, bound-tick, bound-shut, bound-next}
+use Rattle.fleet_bound.proofs.BoundLaws.{bound-take, bound-tick, bound-shut, bound-next}
 use Rattle.fleet_bound.proofs.law.entries_keep_bound.Goals as goal
 
 pub returns : goal.returns

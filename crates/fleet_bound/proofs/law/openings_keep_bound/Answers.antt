@@ -1,4 +1,4 @@
-use Rattle.fleet_bound.proofs.Keeps.{bound-begins, bound-empty}
+use Rattle.fleet_bound.proofs.BoundLaws.{bound-begins, bound-empty}
 use Rattle.fleet_bound.proofs.law.openings_keep_bound.Goals as goal
 
 pub returns : goal.returns

@@ -1,4 +1,4 @@
-use Rattle.fleet_bound.proofs.Keeps.{bounded-legal, bound-legal, bound-short, bound-onward}
+use Rattle.fleet_bound.proofs.BoundLaws.{bounded-legal, bound-legal, bound-short, bound-onward}
 use Rattle.fleet_bound.proofs.law.waits_are_bounded.Goals as goal
 
 pub returns : goal.returns

@@ -1,5 +1,5 @@
 use Rattle.std.proofs.Common.{refl, rules}
-use Rattle.fleet_core.proofs.Alike.{alike-more, alike-maps}
+use Rattle.fleet_core.proofs.Matches.{alike-more, alike-maps}
 use Rattle.fleet_hooks.specs.Law.{exact_stamp}
 use Rattle.fleet_c.specs.declared.robot.Robot.{Robot}
 use Rattle.fleet_c.proofs.laws.are_farewells.Goals as goal

@@ -1,5 +1,5 @@
 use Rattle.std.proofs.Common.{[], refl}
-use Rattle.fleet_core.proofs.Alike.{word_there}
+use Rattle.fleet_core.proofs.Matches.{word_there}
 use Rattle.fleet_hooks.specs.Law.{exact_stamp}
 use Rattle.fleet_c.specs.declared.robot.Robot.{Robot}
 use Rattle.fleet_c.proofs.laws.nought_at.Goals as goal

@@ -1,6 +1,6 @@
 use Rattle.std.proofs.Common.{refl, arith}
 use Rattle.std.proofs.lemmas.Result.{IfOk-from_err}
-use Rattle.fleet_core.proofs.Refused.{all_err, on_ok_map}
+use Rattle.fleet_core.proofs.Refusals.{all_err, on_ok_map}
 use Rattle.fleet_core.proofs.entries.make_begun.Goals as goal
 
 pub begin-requires : goal.begin-requires

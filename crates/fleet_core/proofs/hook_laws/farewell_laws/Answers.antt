@@ -3,7 +3,7 @@ use Rattle.std.specs.Prelude.{All}
 use Rattle.std.proofs.lemmas.List.Elements.{All-nil}
 use Rattle.fleet_hooks.specs.Law.{IsStampLaw}
 use Rattle.fleet_hooks.specs.declared.law.StampLaw.{StampLaw}
-use Rattle.fleet_core.proofs.Alike.{word_more, words_all, all_more}
+use Rattle.fleet_core.proofs.Matches.{word_more, words_all, all_more}
 use Rattle.fleet_core.proofs.hook_laws.farewell_laws.Goals as goal
 
 pub push_reserved-requires : goal.push_reserved-requires

@@ -1,5 +1,5 @@
 use Rattle.std.proofs.Common.{◌∙◌, ◌+◌, ℕ, ap, arith}
-use Rattle.fleet_core.proofs.Alike.{word_more, words_all}
+use Rattle.fleet_core.proofs.Matches.{word_more, words_all}
 use Rattle.fleet_core.proofs.hook_laws.tie_laws.Goals as goal
 
 pub push_reserved-requires : goal.push_reserved-requires

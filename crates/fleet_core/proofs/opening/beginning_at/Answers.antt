@@ -10,10 +10,10 @@ use Rattle.fleet_planner.specs.Planned.{IsPlanned}
 use Rattle.fleet_state.specs.State.{IsStateOf}
 use Rattle.fleet_state.proofs.Parts.{queue-limit}
 use Rattle.fleet_core.specs.Core.{opening_of}
-use Rattle.fleet_core.specs.Mailboxes.{Mailboxes}
-use Rattle.fleet_core.proofs.Bounded.{bound-opened}
+use Rattle.fleet_core.specs.inside.Mailboxes.{Mailboxes}
+use Rattle.fleet_core.proofs.WaitBound.{bound-opened}
 use Rattle.fleet_planner.proofs.GoalsKept.{aimed-start}
-use Rattle.fleet_core.proofs.Opens.{legal-opened, boxes-opened, within-opened, robot_count, unfinished-opened}
+use Rattle.fleet_core.proofs.OpeningFacts.{legal-opened, boxes-opened, within-opened, robot_count, unfinished-opened}
 use Rattle.fleet_core.proofs.opening.beginning_at.Goals as goal
 
 no_more : (a b : ℕ) → a ≡ b → a ≤ b

@@ -5,7 +5,7 @@ use Rattle.fleet_history.specs.History.{start}
 use Rattle.fleet_history.specs.Legal.{IsInOrder}
 use Rattle.fleet_history.proofs.Legal.{legal-opening}
 use Rattle.fleet_core.specs.Core.{opening_of}
-use Rattle.fleet_core.proofs.Opens.{legal-opened}
+use Rattle.fleet_core.proofs.OpeningFacts.{legal-opened}
 use Rattle.fleet_core.proofs.opening.opened.Goals as goal
 
 pub opening_at-requires : goal.opening_at-requires

@@ -2,7 +2,7 @@ use Rattle.std.proofs.Common.{◌≡◌, ◌∙◌, ◌+◌, ℕ, length, map, a
 use Rattle.std.specs.List.{range_with_len}
 use Rattle.std.proofs.lemmas.Result.{IfOk-from_err}
 use Rattle.fleet_core.specs.Core.{robot_at}
-use Rattle.fleet_core.proofs.Opens.{robots_more}
+use Rattle.fleet_core.proofs.OpeningFacts.{robots_more}
 use Rattle.fleet_core.proofs.opening.robots_at.Goals as goal
 
 pub bounds-starts-r : goal.bounds-starts-r

@@ -1,5 +1,5 @@
 use Rattle.std.proofs.Common.{refl, rules}
-use Rattle.fleet_core.proofs.Alike.{alike-more, alike-maps}
+use Rattle.fleet_core.proofs.Matches.{alike-more, alike-maps}
 use Rattle.fleet_core.proofs.robot_hooks.are_arrivals.Goals as goal
 
 pub loop-r-preserved : goal.loop-r-preserved

@@ -1,5 +1,5 @@
 use Rattle.std.proofs.Common.{ap, ◌∙◌}
-use Rattle.fleet_core.proofs.Alike.{word_there}
+use Rattle.fleet_core.proofs.Matches.{word_there}
 use Rattle.fleet_core.proofs.robot_hooks.arrival_at.Goals as goal
 
 pub returns : goal.returns

@@ -1,6 +1,6 @@
 use Rattle.std.proofs.Common.{Some, None, ap, sym, ◌∙◌}
 use Rattle.std.specs.Option.{option_map}
-use Rattle.fleet_core.proofs.Alike.{word_there}
+use Rattle.fleet_core.proofs.Matches.{word_there}
 use Rattle.fleet_core.proofs.robot_hooks.farewell_at.Goals as goal
 
 pub returns-in-Some : goal.returns-in-Some

@@ -1,5 +1,5 @@
 use Rattle.std.proofs.Common.{refl}
-use Rattle.fleet_core.proofs.Refused.{not_true}
+use Rattle.fleet_core.proofs.Refusals.{not_true}
 use Rattle.fleet_core.proofs.stamps.last_word_if.Goals as goal
 
 pub last_word-requires : goal.last_word-requires

@@ -5,8 +5,8 @@ use Rattle.fleet_hooks.specs.declared.law.StampLaw.{StampLaw}
 use Rattle.fleet_history.specs.declared.history.Arrival.{Arrival}
 use Rattle.fleet_history.specs.Legal.{Due, due_of, no_law}
 use Rattle.fleet_core.specs.Hooks.{law_at}
-use Rattle.fleet_core.proofs.Delivers.{nobody}
-use Rattle.fleet_core.proofs.Stamped.{default-any, word-at, set-alike, one-more}
+use Rattle.fleet_core.proofs.Deliveries.{nobody}
+use Rattle.fleet_core.proofs.StampLists.{default-any, word-at, set-alike, one-more}
 use Rattle.fleet_core.proofs.stamps.stamp_arrivals.Goals as goal
 
 pub bounds-to-arrival : goal.bounds-to-arrival

@@ -2,7 +2,7 @@ use Rattle.std.proofs.Common.{◌≡◌, ◌<◌, ℕ, map, get_or}
 use Rattle.fleet_hooks.specs.Law.{IsStamp}
 use Rattle.fleet_history.specs.Legal.{due_of}
 use Rattle.fleet_core.specs.Hooks.{law_at}
-use Rattle.fleet_core.proofs.Delivers.{nobody}
+use Rattle.fleet_core.proofs.Deliveries.{nobody}
 use Rattle.fleet_core.proofs.stamps.stamp_arrivals.Given as goal
 
 abbrev pub invariant-loop-j : goal.invariant-loop-j

@@ -4,7 +4,7 @@ use Rattle.std.proofs.lemmas.List.{get_or-map, length-map}
 use Rattle.fleet_history.specs.declared.history.Bye.{Bye}
 use Rattle.fleet_core.specs.Hooks.{spare_laws, IsLastStamp}
 use Rattle.fleet_core.proofs.Farewells.{spare_law}
-use Rattle.fleet_core.proofs.Stamped.{no_farewell, word-at, set-alike, one-more, default-any, spare-still, spent-more}
+use Rattle.fleet_core.proofs.StampLists.{no_farewell, word-at, set-alike, one-more, default-any, spare-still, spent-more}
 use Rattle.fleet_core.proofs.stamps.stamp_farewells.Goals as goal
 use Rattle.fleet_core.proofs.stamps.stamp_farewells.Goals.{in-Some, in_default}
 

@@ -1,6 +1,6 @@
 use Rattle.std.proofs.Common.{◌≡◌, ◌<◌, ℕ, map, take, get_or, vec_len}
 use Rattle.fleet_core.specs.Hooks.{spare_laws, without_all, IsLastStamp}
-use Rattle.fleet_core.proofs.Stamped.{no_farewell}
+use Rattle.fleet_core.proofs.StampLists.{no_farewell}
 use Rattle.fleet_core.proofs.stamps.stamp_farewells.Given as goal
 
 abbrev pub invariant-loop-j : goal.invariant-loop-j

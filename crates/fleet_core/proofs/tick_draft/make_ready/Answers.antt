@@ -1,6 +1,6 @@
 use Rattle.std.proofs.Common.{refl, arith}
 use Rattle.std.proofs.lemmas.Result.{IfOk-from_err}
-use Rattle.fleet_core.proofs.Refused.{all_err, on_ok_map}
+use Rattle.fleet_core.proofs.Refusals.{all_err, on_ok_map}
 use Rattle.fleet_core.proofs.tick_draft.make_ready.Goals as goal
 
 pub turn-requires : goal.turn-requires

@@ -3,7 +3,7 @@ use Rattle.std.proofs.lemmas.Result.{IfOk-from_err}
 use Rattle.fleet_state.proofs.Parts.{cell-count, queue-count}
 use Rattle.fleet_planner.specs.Aimed.{Planner, MayPlan}
 use Rattle.fleet_core.specs.inside.Ready.{IsReady, IsOnSame}
-use Rattle.fleet_core.proofs.Refused.{all_err}
+use Rattle.fleet_core.proofs.Refusals.{all_err}
 use Rattle.fleet_core.proofs.tick_draft.ready.Goals as goal
 
 pub step_of-requires : goal.step_of-requires

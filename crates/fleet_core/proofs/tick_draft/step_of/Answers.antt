@@ -6,29 +6,22 @@ use Rattle.fleet_history.specs.Legal.{due, leaving}
 use Rattle.fleet_state.proofs.Parts.{cell-count, queue-count}
 use Rattle.fleet_core.proofs.tick_draft.step_of.Goals as goal
 
-pub dues-requires : goal.dues-requires
-dues-requires g c =
+pub landings-requires : goal.landings-requires
+landings-requires g c =
     omega (arith, ap length c.as_slice.ensures.value, c.in_ok-to.ensures.conflict_free.same_length, cell-count c.requires.may.is, queue-count c.requires.may.is)
-
-pub leaving-requires : goal.leaving-requires
-leaving-requires g c =
-    omega (arith, ap length c.as_slice-2.ensures.value, c.in_ok-to.ensures.conflict_free.same_length, cell-count c.requires.may.is, queue-count c.requires.may.is)
 
 pub returns-in_err-to-clause-step : goal.returns-in_err-to-clause-step
 returns-in_err-to-clause-step g c = IfOk-from_err c.from_residual.result _ c.from_residual.ensures.0
 
-pub returns-in_err-arrived-clause-step : goal.returns-in_err-arrived-clause-step
-returns-in_err-arrived-clause-step g c = IfOk-from_err c.from_residual-in_err-arrived.result _ c.from_residual-in_err-arrived.ensures.0
-
-pub returns-in_err-leaving-clause-step : goal.returns-in_err-leaving-clause-step
-returns-in_err-leaving-clause-step g c = IfOk-from_err c.from_residual-in_err-leaving.result _ c.from_residual-in_err-leaving.ensures.0
+pub returns-in_err-landings-clause-step : goal.returns-in_err-landings-clause-step
+returns-in_err-landings-clause-step g c = IfOk-from_err c.from_residual-in_err-landings.result _ c.from_residual-in_err-landings.ensures.0
 
 pub returns-clause-step : goal.returns-clause-step
 returns-clause-step g c = record {
   conflict_free = c.in_ok-to.ensures.conflict_free;
   planned = c.in_ok-to.ensures.planned;
-  arrived = λ m h is. c.in_ok-arrived.ensures m h is ∙ ap (due h) c.as_slice.ensures.value;
+  arrived = λ m h is. c.in_ok-landings.ensures.arrived m h is ∙ ap (due h) c.as_slice.ensures.value;
   leaving = λ stamped others m h is shows.
-      c.in_ok-leaving.ensures stamped others m h is (shows ∙ ap (due h) (sym c.as_slice-2.ensures.value))
-      ∙ ap (λ (to : List ℕ). leaving h (after h (entry.Tick to stamped others))) c.as_slice-2.ensures.value;
+      c.in_ok-landings.ensures.leaving stamped others m h is (shows ∙ ap (due h) (sym c.as_slice.ensures.value))
+      ∙ ap (λ (to : List ℕ). leaving h (after h (entry.Tick to stamped others))) c.as_slice.ensures.value;
 }

@@ -1,4 +1,4 @@
-use Rattle.fleet_session.proofs.Forgets.{run-opened}
+use Rattle.fleet_session.proofs.TalkLaws.{run-opened}
 use Rattle.fleet_session.proofs.law.sessions_forget_nothing.Goals as goal
 
 pub returns : goal.returns

@@ -6,7 +6,7 @@ use Rattle.fleet_history.specs.declared.history.Entry.{Entry}
 use Rattle.fleet_history.specs.History.{place}
 use Rattle.fleet_history.specs.Legal.{Fits}
 use Rattle.fleet_trace.specs.Judged.{Breaks}
-use Rattle.fleet_trace.proofs.Naming.{impossible}
+use Rattle.fleet_trace.proofs.ErrandNames.{impossible}
 use Rattle.fleet_trace.proofs.EntryByEntry.{as-many, tick_judged, same_tick}
 use Rattle.fleet_trace.proofs.judging.broken_rule.Goals as goal
 

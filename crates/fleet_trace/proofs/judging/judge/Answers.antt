@@ -5,8 +5,8 @@ use Rattle.fleet_history.specs.History.{history_of, start, with_entries}
 use Rattle.fleet_history.specs.Legal.{IsLegal}
 use Rattle.fleet_history.proofs.Legal.{legal-opening}
 use Rattle.fleet_trace.specs.Judged.{IsJudgeFault}
-use Rattle.fleet_trace.proofs.Naming.{impossible}
-use Rattle.fleet_trace.proofs.Calmed.{legal-memory}
+use Rattle.fleet_trace.proofs.ErrandNames.{impossible}
+use Rattle.fleet_trace.proofs.CalmOpening.{legal-memory}
 use Rattle.fleet_trace.proofs.judging.judge.Goals as goal
 
 pub returns-then-not-branch-clause-legal : goal.returns-then-not-branch-clause-legal

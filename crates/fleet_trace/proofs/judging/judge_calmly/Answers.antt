@@ -1,7 +1,7 @@
 -- The verdict after the calm opening is the opening's own.
 use Rattle.std.proofs.Common.{◌^◌, ◌<◌, sym, subst, arith}
 use Rattle.fleet_history.specs.declared.history.Opening.{Opening}
-use Rattle.fleet_trace.proofs.Calmed.{calm-order, calm-ok, calm-err}
+use Rattle.fleet_trace.proofs.CalmOpening.{calm-order, calm-ok, calm-err}
 use Rattle.fleet_trace.proofs.judging.judge_calmly.Goals as goal
 
 pub judge_behind-requires-clause-order : goal.judge_behind-requires-clause-order

@@ -1,4 +1,4 @@
-use Rattle.fleet_trace.proofs.Again.{reads_again}
+use Rattle.fleet_trace.proofs.RoundTrip.{reads_again}
 use Rattle.fleet_trace.proofs.law.trace_reads_back.Goals as goal
 
 pub returns : goal.returns

@@ -1,7 +1,7 @@
 use Rattle.std.proofs.Common.{◌∙◌}
 use Rattle.std.proofs.lemmas.Result.{IfOk-weaker}
 use Rattle.fleet_trace.specs.Trace.{trace_of}
-use Rattle.fleet_trace.proofs.Again.{tells_itself, tells_only}
+use Rattle.fleet_trace.proofs.RoundTrip.{tells_itself, tells_only}
 use Rattle.fleet_trace.proofs.law.write_and_read.Goals as goal
 
 pub returns-clause-same : goal.returns-clause-same

@@ -15,8 +15,8 @@ use Rattle.fleet_world.specs.Laws.{KeepsRings, KeepsEachRing, CollectsInOrder, I
 use Rattle.fleet_world.specs.Played.{collected_of, end_of}
 use Rattle.fleet_world.specs.Run.{State, Run, state_of, opened_state}
 use Rattle.fleet_core.proofs.OpeningRefusals.{not_refused}
-use Rattle.fleet_world.proofs.Refused.{done, opening-at, opening-no_memory, at_event-memory, at_event-no_opening}
-use Rattle.fleet_world.proofs.Plays.{IsEnd, ends, same_length, end-left, end-clients, end-each, end-once}
+use Rattle.fleet_world.proofs.Refusals.{done, opening-at, opening-no_memory, at_event-memory, at_event-no_opening}
+use Rattle.fleet_world.proofs.RunLaws.{IsEnd, ends, same_length, end-left, end-clients, end-each, end-once}
 use Rattle.fleet_world.proofs.play.run.Goals as goal
 
 pub open-requires : goal.open-requires

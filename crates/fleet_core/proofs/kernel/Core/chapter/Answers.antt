@@ -1,7 +1,7 @@
 use Rattle.fleet_history.specs.History.{history_of}
 use Rattle.fleet_planner.proofs.GoalsKept.{each_advances}
-use Rattle.fleet_core.proofs.Bounded.{bound-kept, waits-kept}
-use Rattle.fleet_core.proofs.Kept.{counts-small, pending-small}
+use Rattle.fleet_core.proofs.WaitBound.{bound-kept, waits-kept}
+use Rattle.fleet_core.proofs.CoreKept.{counts-small, pending-small}
 use Rattle.fleet_core.proofs.kernel.Core.chapter.Goals as goal
 
 pub returns-clause-legal : goal.returns-clause-legal

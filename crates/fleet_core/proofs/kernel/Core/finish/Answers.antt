@@ -1,5 +1,5 @@
 use Rattle.fleet_history.specs.History.{history_of}
-use Rattle.fleet_core.proofs.Bounded.{waits-kept}
+use Rattle.fleet_core.proofs.WaitBound.{waits-kept}
 use Rattle.fleet_planner.proofs.GoalsKept.{each_advances}
 use Rattle.fleet_core.proofs.kernel.Core.finish.Goals as goal
 

@@ -1,8 +1,8 @@
 use Rattle.std.proofs.Common.{arith, ◌<◌, sym, subst}
 use Rattle.std.proofs.lemmas.List.{length-drop}
 use Rattle.fleet_history.specs.History.{history_of, clients}
-use Rattle.fleet_core.specs.Mailboxes.{box_at}
-use Rattle.fleet_core.proofs.Kept.{boxes-with}
+use Rattle.fleet_core.specs.inside.Mailboxes.{box_at}
+use Rattle.fleet_core.proofs.CoreKept.{boxes-with}
 use Rattle.fleet_core.proofs.kernel.Core.give.Goals as goal
 
 pub pop-requires : goal.pop-requires

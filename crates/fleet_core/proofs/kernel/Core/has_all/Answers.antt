@@ -1,5 +1,5 @@
 use Rattle.std.proofs.Common.{refl, map, ap, ◌∙◌}
-use Rattle.fleet_core.proofs.Alike.{arrivals-alike}
+use Rattle.fleet_core.proofs.Matches.{arrivals-alike}
 use Rattle.fleet_core.proofs.kernel.Core.has_all.Goals as goal
 
 pub returns-clause-arrivals : goal.returns-clause-arrivals

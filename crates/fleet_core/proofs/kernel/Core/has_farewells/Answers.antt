@@ -2,7 +2,7 @@ use Rattle.std.proofs.Common.{◌≡◌, Some, length, map, refl, sym, ap, ◌�
 use Rattle.std.specs.Prelude.{slice_get}
 use Rattle.std.proofs.lemmas.List.{length-map}
 use Rattle.fleet_core.specs.Hooks.{spare_laws}
-use Rattle.fleet_core.proofs.Alike.{left-more, left-all}
+use Rattle.fleet_core.proofs.Matches.{left-more, left-all}
 use Rattle.fleet_core.proofs.kernel.Core.has_farewells.Goals as goal
 
 pub loop-r-preserved : goal.loop-r-preserved

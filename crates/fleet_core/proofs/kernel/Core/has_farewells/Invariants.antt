@@ -1,5 +1,5 @@
 use Rattle.fleet_core.specs.Hooks.{spare_laws}
-use Rattle.fleet_core.proofs.Alike.{SeenLeft}
+use Rattle.fleet_core.proofs.Matches.{SeenLeft}
 use Rattle.fleet_core.proofs.kernel.Core.has_farewells.Given as goal
 
 abbrev pub invariant-loop-r : goal.invariant-loop-r

@@ -3,7 +3,7 @@ use Rattle.std.proofs.lemmas.Bool.{leb-false}
 use Rattle.fleet_history.specs.History.{history_of, clients}
 use Rattle.fleet_state.proofs.Parts.{tally-count}
 use Rattle.fleet_core.specs.Core.{HasNoRoom}
-use Rattle.fleet_core.proofs.Kept.{counts-small}
+use Rattle.fleet_core.proofs.CoreKept.{counts-small}
 use Rattle.fleet_core.proofs.kernel.Core.has_room.Goals as goal
 
 pub len_of-requires : goal.len_of-requires

@@ -5,7 +5,7 @@ use Rattle.fleet_grid.specs.Walk.{IsBridgeless}
 use Rattle.fleet_history.specs.History.{history_of, robots}
 use Rattle.fleet_bound.specs.Idle.{longest_queue, longest_after, idle_within}
 use Rattle.fleet_bound.proofs.Longest.{longest-room}
-use Rattle.fleet_bound.proofs.Within.{within-told, within-exact, within-idle}
+use Rattle.fleet_bound.proofs.TickCounts.{within-told, within-exact, within-idle}
 use Rattle.fleet_state.proofs.Parts.{robots-few}
 use Rattle.fleet_core.proofs.kernel.Core.idle_within.Goals as goal
 use Rattle.fleet_core.proofs.kernel.Core.idle_within.Goals.{After-idle_within}

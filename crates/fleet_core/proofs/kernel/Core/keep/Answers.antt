@@ -1,4 +1,4 @@
-use Rattle.fleet_core.proofs.Refused.{kept-fields}
+use Rattle.fleet_core.proofs.Refusals.{kept-fields}
 use Rattle.fleet_core.proofs.kernel.Core.keep.Goals as goal
 
 pub invariant_of-self : goal.invariant_of-self

@@ -8,14 +8,14 @@ use Rattle.fleet_planner.specs.Planned.{IsPlanned}
 use Rattle.fleet_state.proofs.NextOpening.{goes-on}
 use Rattle.fleet_state.proofs.Parts.{queue-count}
 use Rattle.fleet_core.specs.Hooks.{AreArrivals, AreFarewells}
-use Rattle.fleet_core.specs.Kept.{IsKept}
-use Rattle.fleet_bound.proofs.Keeps.{bound-next}
-use Rattle.fleet_core.proofs.Bounded.{bound-kept, waits-kept}
+use Rattle.fleet_core.specs.inside.Kept.{IsKept}
+use Rattle.fleet_bound.proofs.BoundLaws.{bound-next}
+use Rattle.fleet_core.proofs.WaitBound.{bound-kept, waits-kept}
 use Rattle.fleet_planner.proofs.GoalsKept.{each_advances, aimed-next}
-use Rattle.fleet_core.proofs.Hooked.{arrivals-next, farewells-next}
-use Rattle.fleet_core.proofs.Kept.{boxes-next, within-next, within-room}
-use Rattle.fleet_core.proofs.Apart.{chapter-no_memory-book_spent, done}
-use Rattle.fleet_core.proofs.Refused.{not_same}
+use Rattle.fleet_core.proofs.ClosuresKept.{arrivals-next, farewells-next}
+use Rattle.fleet_core.proofs.CoreKept.{boxes-next, within-next, within-room}
+use Rattle.fleet_core.proofs.FaultCases.{chapter-no_memory-book_spent, done}
+use Rattle.fleet_core.proofs.Refusals.{not_same}
 use Rattle.fleet_core.proofs.kernel.Core.next_chapter.Goals as goal
 
 -- the next chapter's history starts at the opening that follows

@@ -2,7 +2,7 @@
 use Rattle.std.proofs.Common.{refl, sym, subst}
 use Rattle.fleet_history.specs.History.{start}
 use Rattle.fleet_core.specs.Hooks.{HookLaws}
-use Rattle.fleet_core.specs.Kept.{IsKept}
+use Rattle.fleet_core.specs.inside.Kept.{IsKept}
 use Rattle.fleet_core.proofs.kernel.Core.open.Goals as goal
 
 pub invariant_of-result : goal.invariant_of-result

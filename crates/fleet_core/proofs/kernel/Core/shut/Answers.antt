@@ -9,10 +9,10 @@ use Rattle.fleet_history.specs.Legal.{Fits, is_none_left}
 use Rattle.fleet_state.proofs.Parts.{cell-count, queue-count}
 use Rattle.fleet_core.specs.Core.{HasEntries}
 use Rattle.fleet_core.specs.Hooks.{AreFarewells, spare_laws}
-use Rattle.fleet_core.proofs.Entered.{kept-shut, may-follow, shuts-so}
-use Rattle.fleet_core.proofs.Hooked.{farewell-there, farewell-is, farewells-idle}
-use Rattle.fleet_core.proofs.Apart.{done, shut-already-chapter_full, shut-already-no_robot, shut-chapter_full-already, shut-chapter_full-no_robot, shut-no_memory-already, shut-no_memory-chapter_full, shut-no_memory-no_robot, shut-no_robot-already, shut-no_robot-chapter_full}
-use Rattle.fleet_core.proofs.Refused.{not_both, not_same, not_true}
+use Rattle.fleet_core.proofs.EntriesKept.{kept-shut, may-follow, shuts-so}
+use Rattle.fleet_core.proofs.ClosuresKept.{farewell-there, farewell-is, farewells-idle}
+use Rattle.fleet_core.proofs.FaultCases.{done, shut-already-chapter_full, shut-already-no_robot, shut-chapter_full-already, shut-chapter_full-no_robot, shut-no_memory-already, shut-no_memory-chapter_full, shut-no_memory-no_robot, shut-no_robot-already, shut-no_robot-chapter_full}
+use Rattle.fleet_core.proofs.Refusals.{not_both, not_same, not_true}
 use Rattle.fleet_core.proofs.kernel.Core.shut.Goals as goal
 use Rattle.fleet_core.proofs.kernel.Core.shut.Goals.{After-last_word_if-farewell}
 

@@ -7,10 +7,10 @@ use Rattle.fleet_state.proofs.Parts.{cells-of, tally-count}
 use Rattle.fleet_bound.proofs.Errands.{accepted-gone}
 use Rattle.fleet_core.specs.Core.{HasRoom, HasEntries}
 use Rattle.fleet_core.specs.Hooks.{AreFarewells}
-use Rattle.fleet_core.proofs.Entered.{box-known, kept-take, may-follow, notice-room, notice-small, takes-so}
-use Rattle.fleet_core.proofs.Hooked.{farewells-take}
-use Rattle.fleet_core.proofs.Apart.{done, take-chapter_full-mailbox_full, take-mailbox_full-chapter_full, take-no_memory-chapter_full, take-no_memory-mailbox_full}
-use Rattle.fleet_core.proofs.Refused.{kept-refused, not_both, not_same}
+use Rattle.fleet_core.proofs.EntriesKept.{box-known, kept-take, may-follow, notice-room, notice-small, takes-so}
+use Rattle.fleet_core.proofs.ClosuresKept.{farewells-take}
+use Rattle.fleet_core.proofs.FaultCases.{done, take-chapter_full-mailbox_full, take-mailbox_full-chapter_full, take-no_memory-chapter_full, take-no_memory-mailbox_full}
+use Rattle.fleet_core.proofs.Refusals.{kept-refused, not_both, not_same}
 use Rattle.fleet_core.proofs.kernel.Core.take.Goals as goal
 
 pub has_room-requires : goal.has_room-requires

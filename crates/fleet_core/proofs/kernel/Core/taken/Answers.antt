@@ -1,7 +1,7 @@
 use Rattle.std.proofs.Common.{arith, ◌≡◌, ◌<◌, sym, subst}
 use Rattle.fleet_history.specs.History.{history_of, clients, taken_count}
 use Rattle.fleet_state.proofs.Parts.{tally-count}
-use Rattle.fleet_core.proofs.Kept.{taken-small}
+use Rattle.fleet_core.proofs.CoreKept.{taken-small}
 use Rattle.fleet_core.proofs.kernel.Core.taken.Goals as goal
 
 pub taken-requires : goal.taken-requires

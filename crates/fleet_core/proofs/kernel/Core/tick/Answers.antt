@@ -11,13 +11,13 @@ use Rattle.fleet_state.specs.Follows.{MayTick}
 use Rattle.fleet_state.specs.State.{IsStateOf}
 use Rattle.fleet_state.proofs.Parts.{cell-count, queue-count}
 use Rattle.fleet_core.specs.Core.{HasEntries}
-use Rattle.fleet_core.specs.Mailboxes.{AreDelivered}
+use Rattle.fleet_core.specs.inside.Mailboxes.{AreDelivered}
 use Rattle.fleet_core.specs.Hooks.{AreArrivals, AreFarewells, spare_laws}
 use Rattle.fleet_core.specs.inside.Ready.{IsStep, IsReady}
-use Rattle.fleet_core.proofs.Entered.{deliver-known, deliver-on_map, deliver-room, deliver-small, kept-tick, may-follow, planned-so, ticks-so}
-use Rattle.fleet_core.proofs.Apart.{done, tick-chapter_full-clock_spent, tick-clock_spent-chapter_full, tick-no_memory-chapter_full, tick-no_memory-clock_spent}
-use Rattle.fleet_core.proofs.Refused.{kept-refused, not_same}
-use Rattle.fleet_core.proofs.Ticked.{step-stamps, stamped-fits, stamped-left, stamped-shows}
+use Rattle.fleet_core.proofs.EntriesKept.{deliver-known, deliver-on_map, deliver-room, deliver-small, kept-tick, may-follow, planned-so, ticks-so}
+use Rattle.fleet_core.proofs.FaultCases.{done, tick-chapter_full-clock_spent, tick-clock_spent-chapter_full, tick-no_memory-chapter_full, tick-no_memory-clock_spent}
+use Rattle.fleet_core.proofs.Refusals.{kept-refused, not_same}
+use Rattle.fleet_core.proofs.TickFacts.{step-stamps, stamped-fits, stamped-left, stamped-shows}
 use Rattle.fleet_core.proofs.kernel.Core.tick.Goals as goal
 use Rattle.fleet_core.proofs.kernel.Core.tick.Goals.{After-stamp-report, After-add}
 

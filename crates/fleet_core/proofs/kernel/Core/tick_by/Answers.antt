@@ -1,6 +1,5 @@
 use Rattle.std.proofs.Common.{◌∙◌, map, refl, ap, sym, subst}
 use Rattle.fleet_core.specs.Hooks.{AreArrivals}
-use Rattle.fleet_core.proofs.Refused.{none_ok, none_ok_at, all_err}
 use Rattle.fleet_core.proofs.kernel.Core.tick_by.Goals as goal
 
 pub tick-requires-clause-ties : goal.tick-requires-clause-ties
@@ -13,14 +12,7 @@ pub tick-requires-clause-farewells : goal.tick-requires-clause-farewells
 tick-requires-clause-farewells g c = c.if-not-has_all.ensures.farewells refl
 
 pub returns-then-not-has_all : goal.returns-then-not-has_all
-returns-then-not-has_all g c = record {
-  clock_spent = c.no_tick.ensures.clock_spent;
-  chapter_full = c.no_tick.ensures.chapter_full;
-  early = none_ok _ c.no_tick.result c.no_tick.ensures.err;
-  entries = none_ok _ c.no_tick.result c.no_tick.ensures.err;
-  ok = none_ok_at _ c.no_tick.result c.no_tick.ensures.err;
-  err = all_err c.no_tick.result refl;
-}
+returns-then-not-has_all g c = c.no_tick.ensures
 
 pub returns : goal.returns
 returns g c = record {

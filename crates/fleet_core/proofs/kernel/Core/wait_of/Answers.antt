@@ -2,7 +2,7 @@ use Rattle.std.proofs.Common.{arith, ◌<◌, ◌∙◌, sym, subst}
 use Rattle.fleet_history.specs.History.{history_of, robots}
 use Rattle.fleet_bound.specs.Bound.{wait_bound}
 use Rattle.fleet_state.proofs.Parts.{queue-count}
-use Rattle.fleet_core.proofs.Bounded.{if-below, waits-kept}
+use Rattle.fleet_core.proofs.WaitBound.{if-below, waits-kept}
 use Rattle.fleet_core.proofs.kernel.Core.wait_of.Goals as goal
 
 pub wait_of-requires : goal.wait_of-requires

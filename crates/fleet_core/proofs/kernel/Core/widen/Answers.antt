@@ -1,10 +1,10 @@
 use Rattle.std.proofs.Common.{arith, ◌+◌, ◌^◌, ◌<◌, ◌≤◌, ap, sym, subst}
 use Rattle.fleet_history.specs.History.{history_of, clients}
 use Rattle.fleet_core.specs.Core.{pending}
-use Rattle.fleet_core.specs.Kept.{AreBoxes}
-use Rattle.fleet_core.specs.Mailboxes.{Mailboxes}
-use Rattle.fleet_core.proofs.Kept.{boxes-with, either-way}
-use Rattle.fleet_core.proofs.Refused.{on_ok_map, on_err_map}
+use Rattle.fleet_core.specs.inside.Kept.{AreBoxes}
+use Rattle.fleet_core.specs.inside.Mailboxes.{Mailboxes}
+use Rattle.fleet_core.proofs.CoreKept.{boxes-with, either-way}
+use Rattle.fleet_core.proofs.Refusals.{on_ok_map, on_err_map}
 use Rattle.fleet_core.proofs.kernel.Core.widen.Goals as goal
 
 pub widen-requires-clause-known : goal.widen-requires-clause-known

@@ -2,8 +2,8 @@ use Rattle.std.proofs.Common.{◌==◌, List, take, arith, refl, subst, get_or}
 use Rattle.std.proofs.lemmas.List.{length-take, take_all}
 use Rattle.std.proofs.lemmas.List.Sums.{count_by-le-length}
 use Rattle.fleet_history.specs.declared.history.Arrival.{Arrival}
-use Rattle.fleet_core.specs.Mailboxes.{box_at, AreDelivered}
-use Rattle.fleet_core.proofs.Delivers.{delivered-more, room-here, nobody}
+use Rattle.fleet_core.specs.inside.Mailboxes.{box_at, AreDelivered}
+use Rattle.fleet_core.proofs.Deliveries.{delivered-more, room-here, nobody}
 use Rattle.std.specs.Prelude.{slice_index}
 use Rattle.fleet_core.proofs.mailbox.Mailboxes.deliver.Goals as goal
 

@@ -1,5 +1,5 @@
 use Rattle.std.proofs.Common.{take}
-use Rattle.fleet_core.specs.Mailboxes.{AreDelivered}
+use Rattle.fleet_core.specs.inside.Mailboxes.{AreDelivered}
 use Rattle.fleet_core.proofs.mailbox.Mailboxes.deliver.Given as goal
 
 abbrev pub invariant-loop-a : goal.invariant-loop-a

@@ -1,9 +1,9 @@
 use Rattle.std.proofs.Common.{◌∙◌, ◌<◌, ◌+◌, ◌^◌, length, ap, sym, subst, arith}
 use Rattle.std.specs.Prelude.{slice_index}
 use Rattle.std.proofs.lemmas.List.{length-set, get_or_default}
-use Rattle.fleet_core.specs.Mailboxes.{Mailboxes, box_at, with_notice}
+use Rattle.fleet_core.specs.inside.Mailboxes.{Mailboxes, box_at, with_notice}
 use Rattle.fleet_core.specs.Pending.{Pending}
-use Rattle.fleet_core.proofs.Boxed.{box-there, notice-put}
+use Rattle.fleet_core.proofs.OneMailbox.{box-there, notice-put}
 use Rattle.fleet_core.proofs.mailbox.Mailboxes.push.Goals as goal
 
 pub index_mut-mailbox-requires : goal.index_mut-mailbox-requires

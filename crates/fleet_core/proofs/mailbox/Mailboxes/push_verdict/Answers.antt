@@ -1,6 +1,6 @@
 use Rattle.std.proofs.Common.{◌∙◌, ℕ, ap}
 use Rattle.fleet_book.specs.declared.notice.Notice.TheVariants as notice
-use Rattle.fleet_core.specs.Mailboxes.{with_notice}
+use Rattle.fleet_core.specs.inside.Mailboxes.{with_notice}
 use Rattle.fleet_core.proofs.mailbox.Mailboxes.push_verdict.Goals as goal
 
 pub next_number-seq-requires : goal.next_number-seq-requires

@@ -1,9 +1,9 @@
 use Rattle.std.proofs.Common.{◌∙◌, ◌<◌, ◌≤◌, ◌+◌, ◌^◌, length, ap, sym, subst, arith}
 use Rattle.std.proofs.lemmas.List.{length-set}
-use Rattle.fleet_core.specs.Mailboxes.{Mailboxes, box_at, with_box}
+use Rattle.fleet_core.specs.inside.Mailboxes.{Mailboxes, box_at, with_box}
 use Rattle.fleet_core.specs.Pending.{Pending}
-use Rattle.fleet_core.proofs.Boxed.{box-there, box-put, box-kept}
-use Rattle.fleet_core.proofs.Refused.{on_ok_map, on_err_map}
+use Rattle.fleet_core.proofs.OneMailbox.{box-there, box-put, box-kept}
+use Rattle.fleet_core.proofs.Refusals.{on_ok_map, on_err_map}
 use Rattle.fleet_core.proofs.mailbox.Mailboxes.widen.Goals as goal
 
 pub index_mut-mailbox-requires : goal.index_mut-mailbox-requires

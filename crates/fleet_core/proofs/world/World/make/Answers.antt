@@ -2,7 +2,7 @@ use Rattle.std.proofs.Common.{◌∙◌, ap, refl}
 use Rattle.std.proofs.lemmas.Result.{IfOk-from_err}
 use Rattle.fleet_core.specs.Hooks.{HookLaws, laws_of}
 use Rattle.fleet_core.specs.Core.{opened_world}
-use Rattle.fleet_core.proofs.Opens.{arrivals-opened, farewells-opened, some_laws}
+use Rattle.fleet_core.proofs.OpeningFacts.{arrivals-opened, farewells-opened, some_laws}
 use Rattle.fleet_core.proofs.world.World.make.Goals as goal
 
 pub returns-in_err-laws : goal.returns-in_err-laws

@@ -12,7 +12,7 @@ returns-clause-nearer g c =
     let a = c.self.inside in
     let aim : field_at a.store (key_at a.keys.items c.args.robot) ≡ aim_at c.args.self.now c.args.robot =
     sym (aim_at-fields a.store a.keys.items c.args.robot) ∙ ap (λ (aims : List (Option Aim)). aim_at aims c.args.robot) c.self.view_is in
-    λ some. subst (λ (o : Option Aim). AreNearer c.args.grid.now (distance_in o) c.args.cell c.ways_of.result) aim (rw c.deref.ensures.value at c.ways_of.ensures.nearer)
+    λ some. subst (λ (o : Option Aim). AreNearer c.args.grid.now (distance_in o) c.args.cell c.ways_of.result.byte) aim (rw c.deref.ensures.value at c.ways_of.ensures.nearer)
 
 pub returns-clause-idle : goal.returns-clause-idle
 returns-clause-idle g c =

@@ -5,7 +5,7 @@ use Rattle.fleet_history.specs.History.{clients, unknown_client}
 use Rattle.fleet_core.proofs.OpeningRefusals.{refused-memory, refused-ok}
 use Rattle.fleet_core.specs.Core.{World}
 use Rattle.fleet_core.specs.Hooks.{laws_of}
-use Rattle.fleet_world.proofs.Refused.{fault-at}
+use Rattle.fleet_world.proofs.Refusals.{fault-at}
 use Rattle.fleet_session.proofs.session.Session.open.Goals as goal
 
 pub invariant_of-result : goal.invariant_of-result

@@ -14,12 +14,12 @@ invariant_of-self g c =
     let l : r < length queues = omega (arith, c.requires.known, ap (λ (x : Robots). length x.queues) c.self.view_is) in
     let count = sym (length-set queues r c.take_landed-landed.new.queue) in (
       length-set c.self.inside.cells.items r c.args.cell ∙ c.self.invariant.0 ∙ count,
-      length-set c.self.inside.waits.items r c.wait_on.result ∙ c.self.invariant.1 ∙ count,
+      length-set c.self.inside.waits.items r c.wait_after.result ∙ c.self.invariant.1 ∙ count,
       fronts-set queues c.self.inside.fronts.items r c.take_landed-landed.new.queue c.front_cell.result c.self.invariant.2 l c.front_cell.ensures,
     )
 
-pub wait_on-requires : goal.wait_on-requires
-wait_on-requires g c = record {
+pub wait_after-requires : goal.wait_after-requires
+wait_after-requires g c = record {
   small = λ w e. c.requires.small w
       (sym (get_or_read c.self.inside.waits.items c.args.robot c.index.result.now (omega (arith, c.requires.known, ap (λ (x : Robots). length x.queues) c.self.view_is, c.self.invariant.1)) c.index.ensures None
       ∙ ap (λ (x : Robots). slice_index_or x.waits c.args.robot None) c.self.view_is) ∙ e);
@@ -35,8 +35,8 @@ returns g c =
     let read : q ≡ queue_at queues r = get_or_read queues r q l c.index_mut-errands.ensures.value no_queue in
     record {
       landing = c.take_landed-landed.ensures.landed ∙ ap (λ (q : Queue). landing c.args.cell q.items) read ∙ ap (λ (x : Robots). landing c.args.cell (queue_at x.queues r).items) c.self.view_is;
-      stepped = stepped-inside (record { cells = c.self.inside.cells.items; queues = queues; waits = waits }) c.args.self.now r c.args.cell q c.take_landed-landed.new.queue c.index.result.now c.wait_on.result
-          c.self.view_is read c.take_landed-landed.ensures.rest (get_or_read waits r c.index.result.now (omega (arith, l, c.self.invariant.1)) c.index.ensures None) c.wait_on.ensures;
+      stepped = stepped-inside (record { cells = c.self.inside.cells.items; queues = queues; waits = waits }) c.args.self.now r c.args.cell q c.take_landed-landed.new.queue c.index.result.now c.wait_after.result
+          c.self.view_is read c.take_landed-landed.ensures.rest (get_or_read waits r c.index.result.now (omega (arith, l, c.self.invariant.1)) c.index.ensures None) (c.wait_after.ensures c.args.cell q.items c.take_landed-landed.ensures.landed (ap (λ (x : Queue). x.items) c.take_landed-landed.ensures.rest));
     }
 
 pub index_mut-requires : goal.index_mut-requires

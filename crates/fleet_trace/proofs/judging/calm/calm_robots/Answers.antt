@@ -1,5 +1,5 @@
-use Rattle.fleet_trace.specs.Calm.{calm_robot}
-use Rattle.fleet_trace.proofs.Alls.{map_push, map_done}
+use Rattle.fleet_trace.specs.inside.Calm.{calm_robot}
+use Rattle.fleet_trace.proofs.AllItems.{map_push, map_done}
 use Rattle.fleet_trace.proofs.judging.calm.calm_robots.Goals as goal
 
 pub loop-robot-preserved : goal.loop-robot-preserved

@@ -1,5 +1,5 @@
 use Rattle.std.proofs.Common.{◌≡◌, map, take}
-use Rattle.fleet_trace.specs.Calm.{calm_robot}
+use Rattle.fleet_trace.specs.inside.Calm.{calm_robot}
 use Rattle.fleet_trace.proofs.judging.calm.calm_robots.Given as goal
 
 abbrev pub invariant-loop-robot : goal.invariant-loop-robot

@@ -4,9 +4,9 @@ use Rattle.std.specs.List.{slice_index_or}
 use Rattle.fleet_history.specs.declared.history.ClientState.{ClientState}
 use Rattle.fleet_history.specs.History.{unknown_client}
 use Rattle.fleet_history.specs.Legal.{IsClientInOrder, owed_at}
-use Rattle.fleet_trace.specs.Opened.{AreClientNamesInOrder, owed_in}
-use Rattle.fleet_trace.proofs.Naming.{impossible}
-use Rattle.fleet_trace.proofs.Ordered.{owed-few, client_fine, client_tested, names_fine, names_tested}
+use Rattle.fleet_trace.specs.inside.Opened.{AreClientNamesInOrder, owed_in}
+use Rattle.fleet_trace.proofs.ErrandNames.{impossible}
+use Rattle.fleet_trace.proofs.OpeningOrder.{owed-few, client_fine, client_tested, names_fine, names_tested}
 use Rattle.fleet_trace.proofs.judging.clients.are_clients_in_order.Goals as goal
 
 pub owed_of-requires : goal.owed_of-requires

@@ -4,7 +4,7 @@ use Rattle.std.proofs.lemmas.List.{take_all}
 use Rattle.std.proofs.lemmas.List.Sums.{sum_by_more, sum_by_more_le}
 use Rattle.fleet_queue.specs.declared.errand.Errand.{Errand}
 use Rattle.fleet_history.specs.declared.history.RobotState.{RobotState}
-use Rattle.fleet_trace.specs.Opened.{owed_in}
+use Rattle.fleet_trace.specs.inside.Opened.{owed_in}
 use Rattle.fleet_trace.proofs.judging.clients.owed_of.Goals as goal
 
 pub overflow_add-owed : goal.overflow_add-owed

@@ -1,5 +1,5 @@
 use Rattle.std.proofs.Common.{◌≡◌, take}
-use Rattle.fleet_trace.specs.Opened.{owed_in}
+use Rattle.fleet_trace.specs.inside.Opened.{owed_in}
 use Rattle.fleet_trace.proofs.judging.clients.owed_of.Given as goal
 
 abbrev pub invariant-loop-robot : goal.invariant-loop-robot

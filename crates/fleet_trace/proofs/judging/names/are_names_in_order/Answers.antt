@@ -4,8 +4,8 @@ use Rattle.std.proofs.lemmas.Bool.{cases_eq}
 use Rattle.std.specs.Ordering.{nat_cmp}
 use Rattle.std.specs.BTreeMap.{get}
 use Rattle.fleet_queue.specs.declared.errand.Errand.{Errand}
-use Rattle.fleet_trace.specs.Opened.{AreRising, AreEntered, AreClientNamesInOrder, errands_in}
-use Rattle.fleet_trace.proofs.Naming.{impossible, errands_at_robot, names_all}
+use Rattle.fleet_trace.specs.inside.Opened.{AreRising, AreEntered, AreClientNamesInOrder, errands_in}
+use Rattle.fleet_trace.proofs.ErrandNames.{impossible, errands_at_robot, names_all}
 use Rattle.fleet_trace.proofs.judging.names.are_names_in_order.Goals as goal
 
 pub returns-then-not-is_rising : goal.returns-then-not-is_rising

@@ -3,8 +3,8 @@ use Rattle.std.specs.List.{slice_get}
 use Rattle.std.specs.Ordering.{nat_cmp}
 use Rattle.std.specs.BTreeMap.{get}
 use Rattle.fleet_queue.specs.declared.errand.Errand.{Errand}
-use Rattle.fleet_trace.specs.Opened.{AreEntered}
-use Rattle.fleet_trace.proofs.Naming.{some_is, none_is, get-slice, errands_at_robot, entered_new, entered_same, entered_next, clash, is_other}
+use Rattle.fleet_trace.specs.inside.Opened.{AreEntered}
+use Rattle.fleet_trace.proofs.ErrandNames.{some_is, none_is, get-slice, errands_at_robot, entered_new, entered_same, entered_next, clash, is_other}
 use Rattle.fleet_trace.proofs.judging.names.enter_numbers.Goals as goal
 use Rattle.fleet_trace.proofs.judging.names.enter_numbers.Goals.{then-errands-place+in_ok-insert+else-is_some, else-errands-place}
 

@@ -1,6 +1,6 @@
 use Rattle.std.specs.Ordering.{nat_cmp}
 use Rattle.std.specs.BTreeMap.{get}
-use Rattle.fleet_trace.specs.Opened.{AreEntered}
+use Rattle.fleet_trace.specs.inside.Opened.{AreEntered}
 use Rattle.fleet_trace.proofs.judging.names.enter_numbers.Given as goal
 
 abbrev pub invariant-loop-place : goal.invariant-loop-place

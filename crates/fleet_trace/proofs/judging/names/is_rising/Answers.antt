@@ -1,6 +1,6 @@
 use Rattle.std.proofs.Common.{◌∙◌, ◌+◌, sym, subst, refl, Option}
-use Rattle.fleet_trace.specs.Opened.{IsGreatest}
-use Rattle.fleet_trace.proofs.Naming.{impossible, get-slice, falls, greatest_new, greatest_same, rising_new, rising_same, rising_all}
+use Rattle.fleet_trace.specs.inside.Opened.{IsGreatest}
+use Rattle.fleet_trace.proofs.ErrandNames.{impossible, get-slice, falls, greatest_new, greatest_same, rising_new, rising_same, rising_all}
 use Rattle.fleet_trace.proofs.judging.names.is_rising.Goals as goal
 use Rattle.fleet_trace.proofs.judging.names.is_rising.Goals.{then-errand-client+else-not-is_above, else-errand-client}
 

@@ -1,5 +1,5 @@
 use Rattle.std.proofs.Common.{ℕ, ◌<◌}
-use Rattle.fleet_trace.specs.Opened.{IsNamed, IsGreatest}
+use Rattle.fleet_trace.specs.inside.Opened.{IsNamed, IsGreatest}
 use Rattle.fleet_trace.proofs.judging.names.is_rising.Given as goal
 
 abbrev pub invariant-loop-errand : goal.invariant-loop-errand

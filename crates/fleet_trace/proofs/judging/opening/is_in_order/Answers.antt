@@ -1,7 +1,7 @@
 use Rattle.std.proofs.Common.{◌∙◌, sym}
-use Rattle.fleet_trace.proofs.Alls.{owed-small}
-use Rattle.fleet_trace.proofs.Naming.{impossible}
-use Rattle.fleet_trace.proofs.Ordered.{in_order, clients_of, same_test, placed_fine, placed_tested}
+use Rattle.fleet_trace.proofs.AllItems.{owed-small}
+use Rattle.fleet_trace.proofs.ErrandNames.{impossible}
+use Rattle.fleet_trace.proofs.OpeningOrder.{in_order, clients_of, same_test, placed_fine, placed_tested}
 use Rattle.fleet_trace.proofs.judging.opening.is_in_order.Goals as goal
 use Rattle.fleet_trace.proofs.judging.opening.is_in_order.Goals.{then-not-placed-via-then-not-placed, then-not-placed-via-else-not-placed+then-not-are_robots_in_order}
 

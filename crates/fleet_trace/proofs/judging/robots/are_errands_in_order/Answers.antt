@@ -1,5 +1,5 @@
-use Rattle.fleet_trace.specs.Opened.{IsErrandInOrder}
-use Rattle.fleet_trace.proofs.Alls.{all_on, all_fails, all_done}
+use Rattle.fleet_trace.specs.inside.Opened.{IsErrandInOrder}
+use Rattle.fleet_trace.proofs.AllItems.{all_on, all_fails, all_done}
 use Rattle.fleet_trace.proofs.judging.robots.are_errands_in_order.Goals as goal
 
 pub loop-errand-preserved : goal.loop-errand-preserved

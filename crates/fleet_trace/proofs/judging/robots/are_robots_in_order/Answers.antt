@@ -2,7 +2,7 @@ use Rattle.std.proofs.Common.{◌≡◌, ◌∙◌, ◌<◌, ◌≤◌, sym, sub
 use Rattle.fleet_grid.specs.Floor.{IsFloor}
 use Rattle.fleet_history.specs.declared.history.RobotState.{RobotState}
 use Rattle.fleet_history.specs.Legal.{IsRobotInOrder}
-use Rattle.fleet_trace.proofs.Alls.{all_on, all_fails, all_done, cell_at, length-cells}
+use Rattle.fleet_trace.proofs.AllItems.{all_on, all_fails, all_done, cell_at, length-cells}
 use Rattle.fleet_trace.proofs.judging.robots.are_robots_in_order.Goals as goal
 
 pub is_robot_in_order-requires : goal.is_robot_in_order-requires

@@ -1,6 +1,6 @@
 use Rattle.fleet_history.specs.declared.history.RobotState.{RobotState}
 use Rattle.std.proofs.Common.{refl}
-use Rattle.fleet_trace.proofs.Alls.{map_push, map_done}
+use Rattle.fleet_trace.proofs.AllItems.{map_push, map_done}
 use Rattle.fleet_trace.proofs.judging.robots.cells_of.Goals as goal
 
 pub loop-robot-preserved : goal.loop-robot-preserved

@@ -1,5 +1,5 @@
 -- The errand of a robot, test by test.
-use Rattle.fleet_trace.specs.Opened.{IsErrandInOrder}
+use Rattle.fleet_trace.specs.inside.Opened.{IsErrandInOrder}
 use Rattle.fleet_trace.proofs.Robots.{decides, unknown, too_low, too_high, reached}
 use Rattle.fleet_trace.proofs.judging.robots.is_errand_in_order.Goals as goal
 use Rattle.fleet_trace.proofs.judging.robots.is_errand_in_order.Goals.{then-errand-lt1-via-then-errand-lt1, then-errand-lt1-via-else-errand-lt1+then-errand-clients}

@@ -1,6 +1,6 @@
 use Rattle.std.proofs.Common.{◌∙◌, ap, length, arith}
 use Rattle.fleet_history.specs.declared.history.RobotState.{RobotState}
-use Rattle.fleet_trace.proofs.Alls.{map_push, map_done}
+use Rattle.fleet_trace.proofs.AllItems.{map_push, map_done}
 use Rattle.fleet_trace.proofs.judging.rooms.opened_rooms.Goals as goal
 
 pub overflow_cast-len : goal.overflow_cast-len

@@ -4,7 +4,7 @@ use Rattle.std.specs.Prelude.{All}
 use Rattle.std.proofs.lemmas.List.{length-map, take_all}
 use Rattle.fleet_history.specs.declared.history.Entry.{Entry}
 use Rattle.fleet_history.specs.declared.history.RobotState.{RobotState}
-use Rattle.fleet_trace.specs.Rooms.{room_for}
+use Rattle.fleet_trace.specs.inside.Rooms.{room_for}
 use Rattle.fleet_trace.proofs.Rooms.{rooms-opened, room-within, room-joined, room-kept}
 use Rattle.fleet_trace.proofs.judging.rooms.rooms_of.Goals as goal
 use Rattle.fleet_trace.proofs.judging.rooms.rooms_of.Goals.{in-Some, in_default}

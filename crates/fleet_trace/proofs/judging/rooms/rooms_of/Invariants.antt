@@ -1,5 +1,5 @@
 use Rattle.std.proofs.Common.{◌≡◌, ◌<◌, ℕ, length, take, slice_index}
-use Rattle.fleet_trace.specs.Rooms.{room_for}
+use Rattle.fleet_trace.specs.inside.Rooms.{room_for}
 use Rattle.fleet_trace.proofs.judging.rooms.rooms_of.Given as goal
 
 abbrev pub invariant-loop-entry : goal.invariant-loop-entry

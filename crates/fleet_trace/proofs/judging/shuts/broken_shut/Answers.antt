@@ -1,6 +1,6 @@
 use Rattle.std.proofs.Common.{◌∙◌, ◌<◌, sym, subst, refl, inl, inr, ℕ, arith}
-use Rattle.fleet_trace.proofs.Naming.{impossible}
-use Rattle.fleet_trace.proofs.Shutting.{shows_farewell, shows_no_farewell, farewell_stamp, stamp_farewell, no_farewell}
+use Rattle.fleet_trace.proofs.ErrandNames.{impossible}
+use Rattle.fleet_trace.proofs.ShutRules.{shows_farewell, shows_no_farewell, farewell_stamp, stamp_farewell, no_farewell}
 use Rattle.fleet_trace.proofs.judging.shuts.broken_shut.Goals as goal
 
 pub returns-then-robot-robots : goal.returns-then-robot-robots

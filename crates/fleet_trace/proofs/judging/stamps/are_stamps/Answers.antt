@@ -2,7 +2,7 @@ use Rattle.std.proofs.Common.{map, slice_index_or}
 use Rattle.fleet_hooks.specs.Law.{IsStamp}
 use Rattle.fleet_history.specs.declared.history.Arrival.{Arrival}
 use Rattle.fleet_history.specs.Legal.{no_law}
-use Rattle.fleet_trace.proofs.Alls.{all_on, all_fails, all_done}
+use Rattle.fleet_trace.proofs.AllItems.{all_on, all_fails, all_done}
 use Rattle.fleet_trace.proofs.judging.stamps.are_stamps.Goals as goal
 
 pub loop-arrival-preserved : goal.loop-arrival-preserved

@@ -2,7 +2,7 @@ use Rattle.std.proofs.Common.{sym}
 use Rattle.std.proofs.lemmas.List.{get_or-map}
 use Rattle.fleet_history.specs.declared.history.RobotState.{RobotState}
 use Rattle.fleet_history.specs.Legal.{no_law}
-use Rattle.fleet_trace.proofs.Alls.{get_or-map_past}
+use Rattle.fleet_trace.proofs.AllItems.{get_or-map_past}
 use Rattle.fleet_trace.proofs.judging.stamps.farewell_law_of.Goals as goal
 
 pub returns-then-r-robots : goal.returns-then-r-robots

@@ -2,7 +2,7 @@ use Rattle.std.proofs.Common.{◌∙◌, ◌<◌, sym, subst, refl, inl, inr, ar
 use Rattle.fleet_book.specs.declared.verdict.Verdict.{Verdict}
 use Rattle.fleet_history.specs.Verdicts.{IsVerdict}
 use Rattle.fleet_history.proofs.Places.{verdict-one}
-use Rattle.fleet_trace.proofs.Naming.{impossible}
+use Rattle.fleet_trace.proofs.ErrandNames.{impossible}
 use Rattle.fleet_trace.proofs.EntryByEntry.{placed}
 use Rattle.fleet_trace.proofs.judging.takes.broken_take.Goals as goal
 

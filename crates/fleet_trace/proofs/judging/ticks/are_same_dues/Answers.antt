@@ -1,6 +1,6 @@
 use Rattle.std.proofs.Common.{◌∙◌, sym}
 use Rattle.fleet_history.specs.Legal.{due_of}
-use Rattle.fleet_trace.proofs.Naming.{impossible}
+use Rattle.fleet_trace.proofs.ErrandNames.{impossible}
 use Rattle.fleet_trace.proofs.EntryByEntry.{same_at}
 use Rattle.fleet_trace.proofs.judging.ticks.are_same_dues.Goals as goal
 

@@ -1,5 +1,5 @@
 use Rattle.fleet_history.specs.declared.history.Bye.{Bye}
-use Rattle.fleet_trace.proofs.Naming.{impossible}
+use Rattle.fleet_trace.proofs.ErrandNames.{impossible}
 use Rattle.fleet_trace.proofs.EntryByEntry.{same_at}
 use Rattle.fleet_trace.proofs.judging.ticks.are_same_robots.Goals as goal
 

@@ -1,21 +1,23 @@
-use Rattle.std.proofs.Common.{◌∙◌, sym, refl, inl, inr}
-use Rattle.fleet_trace.proofs.Naming.{impossible}
+use Rattle.std.proofs.Common.{◌≡◌, ◌∙◌, sym, refl, inl, inr}
+use Rattle.fleet_trace.proofs.ErrandNames.{impossible}
 use Rattle.fleet_trace.proofs.EntryByEntry.{stamps_fine, arrivals_tested, farewells_tested}
 use Rattle.fleet_trace.proofs.judging.ticks.broken_shown.Goals as goal
 use Rattle.fleet_trace.proofs.judging.ticks.broken_shown.Goals.{then-not-are_stamps-via-then-not-are_stamps, then-not-are_stamps-via-else-not-are_stamps+then-not-are_last_stamps}
 
-pub returns-then-not-branch : goal.returns-then-not-branch
-returns-then-not-branch g c = λ m h is same. inl (refl, λ shows. impossible (sym c.if-not-branch.true ∙ (c.in_ok-shows_due.ensures m h is).1 shows))
+pub returns-then-not-are_same_dues : goal.returns-then-not-are_same_dues
+returns-then-not-are_same_dues g c = λ m h is same.
+    inl (refl, λ shows. impossible (sym c.if-not-are_same_dues.true ∙ c.are_same_dues.ensures.1 (shows ∙ sym (c.in_ok-landings.ensures.arrived m h is))))
 
-pub returns-then-not-branch-2 : goal.returns-then-not-branch-2
-returns-then-not-branch-2 g c = λ m h is same.
-    let due = (c.in_ok-shows_due.ensures m h is).0 c.if-not-branch.false in
-    inr (inl (refl, due, λ shows. impossible (sym c.if-not-branch-2.true ∙ (c.in_ok-shows_leaving.ensures c.args.arrived.now m h is due).1 shows)))
+pub returns-then-not-are_same_robots : goal.returns-then-not-are_same_robots
+returns-then-not-are_same_robots g c = λ m h is same.
+    let due = c.are_same_dues.ensures.0 c.if-not-are_same_dues.false ∙ c.in_ok-landings.ensures.arrived m h is in
+    let left = c.in_ok-landings.ensures.leaving c.args.arrived.now c.args.farewells.now m h is due in
+    inr (inl (refl, due, λ shows. impossible (sym c.if-not-are_same_robots.true ∙ c.are_same_robots.ensures.1 (shows ∙ sym left))))
 
 pub returns-then-not-are_stamps : goal.returns-then-not-are_stamps
 returns-then-not-are_stamps g c = λ m h is same.
-    let due = (c.in_ok-shows_due.ensures m h is).0 c.if-not-branch.false in
-    let leaving = (c.in_ok-shows_leaving.ensures c.args.arrived.now m h is due).0 c.if-not-branch-2.false in
+    let due = c.are_same_dues.ensures.0 c.if-not-are_same_dues.false ∙ c.in_ok-landings.ensures.arrived m h is in
+    let leaving = c.are_same_robots.ensures.0 c.if-not-are_same_robots.false ∙ c.in_ok-landings.ensures.leaving c.args.arrived.now c.args.farewells.now m h is due in
     inr (inr (
       refl,
       due,
@@ -29,8 +31,8 @@ returns-then-not-are_stamps g c = λ m h is same.
 
 pub returns : goal.returns
 returns g c = λ m h is same.
-    let due = (c.in_ok-shows_due.ensures m h is).0 c.if-not-branch.false in (
+    let due = c.are_same_dues.ensures.0 c.if-not-are_same_dues.false ∙ c.in_ok-landings.ensures.arrived m h is in (
       due,
-      (c.in_ok-shows_leaving.ensures c.args.arrived.now m h is due).0 c.if-not-branch-2.false,
+      c.are_same_robots.ensures.0 c.if-not-are_same_robots.false ∙ c.in_ok-landings.ensures.leaving c.args.arrived.now c.args.farewells.now m h is due,
       stamps_fine h c.args.robots.now same c.args.arrived.now c.args.farewells.now (c.are_stamps.ensures.0 c.if-not-are_stamps.false) (c.are_last_stamps.ensures.0 c.if-not-are_last_stamps.false),
     )

@@ -1,0 +1,68 @@
+-- Answers that may be refused.
+use Rattle.std.proofs.Common.{◌≡◌, ◌∙◌, ℕ, ◌<◌, ◌≤◌, List, ◌↔◌, IsTrue, Bool, true, false, ap, sym, subst, arith}
+use Rattle.std.specs.Prelude.{Result, Ok, Err, IfOk, OnOk}
+use Rattle.fleet_planner.specs.Aims.{goals_of}
+use Rattle.fleet_grid.specs.Floor.{Floor, IsNeighbour}
+use Rattle.fleet_grid.specs.Walk.{IsBridgeless}
+use Rattle.fleet_field.specs.Store.{Keeps}
+use Rattle.fleet_hooks.specs.declared.law.TieLaw.{TieLaw}
+use Rattle.fleet_book.specs.declared.limits.Limits.{Limits}
+use Rattle.fleet_history.specs.History.{History}
+use Rattle.fleet_state.specs.State.{State}
+use Rattle.fleet_planner.specs.Aimed.{Planner}
+use Rattle.fleet_core.specs.inside.Kept.{IsKept}
+use Rattle.fleet_core.specs.inside.Mailboxes.{Mailboxes}
+use Rattle.fleet_planner.proofs.GoalsKept.{aimed-kept}
+use Rattle.fleet_core.specs.inside.Ready.{IsOnSame}
+pub use Rattle.fleet_planner.proofs.Refused.{all_err, on_ok_map, on_err_map}
+
+-- what holds of each answer of a call that is always refused
+pub none_ok : {X E : Type 0} (P : Type 0) (r : Result X E) → OnOk r ⊥ → OnOk r P
+none_ok P (Ok x) none = absurd none
+none_ok P (Err e) none = tt
+
+pub none_ok_at : {X E : Type 0} (P : X → Type 0) (r : Result X E) → OnOk r ⊥ → IfOk r P
+none_ok_at P (Ok x) none = absurd none
+none_ok_at P (Err e) none = tt
+
+-- a core whose planner was refused keeps what it kept
+pub kept-refused : {A : Type 0} {m : Floor} {limits : Limits} {ties : List TieLaw} {n : ℕ} {h : History A} {s : State A} {p : Planner} {x : Mailboxes} → IsKept m limits ties n h s p x →
+    {q : Planner} → q.aims ≡ p.aims → IsOnSame m p q → IsKept m limits ties n h s q x
+kept-refused {m = m} k aims same = record {
+  is = k.is;
+  room = k.room;
+  within = k.within;
+  boxed = k.boxed;
+  aimed = record {
+    aimed = ap goals_of aims ∙ k.aimed.aimed;
+    on = same.on;
+    sized = same.size ∙ k.aimed.sized;
+    bridge = subst (λ (b : Bool). IsTrue b ↔ IsBridgeless (IsNeighbour m)) (sym same.bridge) k.aimed.bridge;
+    kept = same.keeps;
+  };
+  tied = k.tied;
+  bounded = k.bounded;
+}
+
+-- no two numbers stand both ways
+pub not_both : {a b : ℕ} → a < b → b ≤ a → ⊥
+not_both less most = omega (arith, less, most)
+
+pub not_same : {a b : ℕ} → a < b → a ≡ b → ⊥
+not_same less same = omega (arith, less, same)
+
+pub not_true : {b : Bool} → b ≡ true → b ≡ false → ⊥
+not_true p q = cc
+
+-- what a core keeps, with other fields in its planner
+pub kept-fields : {A : Type 0} {m : Floor} {limits : Limits} {ties : List TieLaw} {n : ℕ} {h : History A} {s : State A} {p q : Planner} {x : Mailboxes} → IsKept m limits ties n h s p x →
+    q.aims ≡ p.aims → q.size ≡ p.size → q.bridgeless ≡ p.bridgeless → Keeps m q.kept → IsKept m limits ties n h s q x
+kept-fields k same size bridge kept = record {
+  is = k.is;
+  room = k.room;
+  within = k.within;
+  boxed = k.boxed;
+  aimed = aimed-kept k.is k.aimed same size bridge kept;
+  tied = k.tied;
+  bounded = k.bounded;
+}

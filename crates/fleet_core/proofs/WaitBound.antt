@@ -1,0 +1,42 @@
+-- A core's history keeps the bound on waits.
+use Rattle.std.proofs.Common.{◌≡◌, ℕ, ◌<◌, List, Option, Some, None, refl, sym, ◌∙◌}
+use Rattle.std.specs.Prelude.{IfSome}
+use Rattle.fleet_grid.specs.Floor.{Floor, IsNeighbour}
+use Rattle.fleet_grid.specs.Walk.{IsBridgeless}
+use Rattle.fleet_hooks.specs.declared.law.TieLaw.{TieLaw}
+use Rattle.fleet_book.specs.declared.limits.Limits.{Limits}
+use Rattle.fleet_history.specs.declared.history.Opening.{Opening}
+use Rattle.fleet_history.specs.History.{History, start}
+use Rattle.fleet_history.proofs.Legal.{legal-opening}
+use Rattle.fleet_history.proofs.Withdrawals.{unfinished-start}
+use Rattle.fleet_bound.specs.Bound.{KeepsBound, WaitsAreBounded}
+use Rattle.fleet_bound.proofs.BoundLaws.{bound-empty, bound-legal, bound-short}
+use Rattle.fleet_state.specs.State.{State}
+use Rattle.fleet_planner.specs.Aimed.{Planner}
+use Rattle.fleet_core.specs.Core.{opening_of}
+use Rattle.fleet_core.specs.Hooks.{HookLaws, AreOrderly}
+use Rattle.fleet_core.specs.inside.Kept.{IsKept}
+use Rattle.fleet_core.specs.inside.Mailboxes.{Mailboxes}
+use Rattle.fleet_core.specs.Opening.{CanOpen}
+use Rattle.fleet_planner.proofs.GoalsKept.{each_advances}
+use Rattle.fleet_core.proofs.OpeningFacts.{legal-opened, unfinished-opened}
+
+-- at the opening nobody waits
+pub bound-opened : {A : Type 0} (m : Floor) (starts : List ℕ) (n : ℕ) (limits : Limits) (laws : HookLaws) → CanOpen m starts n limits laws → AreOrderly laws →
+    KeepsBound {A = A} m (start (opening_of starts n limits laws))
+bound-opened {A = A} m starts n limits laws can orderly =
+    let o : Opening A = opening_of starts n limits laws in
+    bound-empty m o (legal-opening m (start o) (legal-opened m starts n limits laws can orderly))
+    (λ r l. sym (unfinished-start o r) ∙ unfinished-opened A starts n limits laws r)
+
+module _ {A : Type 0} {m : Floor} {limits : Limits} {ties : List TieLaw} {number : ℕ} {h : History A} {s : State A} {p : Planner} {x : Mailboxes} (k : IsKept m limits ties number h s p x) where
+  pub bound-kept : IsBridgeless (IsNeighbour m) → KeepsBound m h
+  bound-kept none = bound-legal m h k.is.legal (each_advances m ties h k.tied.planned none) (k.bounded none)
+
+  pub waits-kept : IsBridgeless (IsNeighbour m) → WaitsAreBounded m h
+  waits-kept none = bound-short m h k.is.legal (bound-kept none)
+
+-- a wait, if there is one
+pub if-below : (o : Option ℕ) (n : ℕ) → ((w : ℕ) → o ≡ Some w → w < n) → IfSome o (λ w. w < n)
+if-below None n each = search
+if-below (Some w) n each = each w refl
