@@ -80,9 +80,9 @@ fn write_paths(out: &mut String, width: u32, places: &Placements) -> Result<(), 
     Ok(())
 }
 
-/// The text of a plan on a map of this width, as the JSON of the League of Robot Runners, in the action model MAPF: `start` has
-/// each robot's row and column, `actualPaths` its steps, letters of U, D, L, R, W separated by commas. The only error is out of
-/// memory.
+/// The text of a plan on a map of this width, as the JSON of the League of Robot Runners, in the action model MAPF:
+/// `start` has each robot's row and column, and `actualPaths` its steps, as letters U, D, L, R, W separated by commas.
+/// The only error is out of memory.
 pub fn runners_plan(alloc: Global, width: u32, places: &Placements) -> Result<String, AllocError>
     requires { 1 ≤ width }
     ensures { IfOk result (λ text. string_bytes text ≡ runners_plan width places.now) }
