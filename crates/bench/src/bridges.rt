@@ -1,4 +1,4 @@
-//! The measure of the first bridge.
+//! Measures the search of the first bridge.
 
 use bench_ground::{Measure, print_measure};
 use fleet_bridge::first_bridge;
@@ -10,7 +10,7 @@ use std::time::{Clock, Instant};
 /// How often the bridge is searched on each map.
 const REPEATS: u32 = 8;
 
-/// The first bridge of a map, by cell.
+/// The first bridge of a map: the time for each cell.
 pub(crate) fn measure_bridge<R: Alloc<A = Global> + Clock + Print>(
     rt: &R,
     map: &str,

@@ -1,4 +1,4 @@
-//! Measures of the check of a step.
+//! Measures the check of a step.
 
 ghost use Rattle.fleet_grid.specs.Step.{IsPlacement};
 
@@ -13,7 +13,7 @@ use std::time::{Clock, Instant};
 /// How often a step is checked.
 const REPEATS: u32 = 200;
 
-/// The check of a step of each number of robots, by robot.
+/// The check of a step for each number of robots: the time for each robot.
 pub(crate) fn measure_check<R: Alloc<A = Global> + Clock + Print>(
     rt: &R,
     map: &str,

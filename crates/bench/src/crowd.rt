@@ -1,4 +1,4 @@
-//! A full map, each of whose steps is checked.
+//! A full map, on which each step is checked.
 
 ghost use Rattle.std.specs.Prelude.{◌≡◌, ◌<◌, ◌≤◌, length, vec_len};
 ghost use Rattle.fleet_grid.specs.Step.{IsPlacement};
@@ -23,9 +23,9 @@ const STEPS: u32 = 200;
 /// The result of the steps.
 #[derive(Clone, Copy)]
 struct Steps {
-    /// Those without a conflict.
+    /// Steps without a conflict.
     free: u32,
-    /// Those in which somebody moved.
+    /// Steps in which some robot moved.
     moved: u32,
 }
 
@@ -39,7 +39,7 @@ fn hall(alloc: Global) -> Result<Grid, AllocError> {
     })
 }
 
-/// Makes the steps, with goals that change where they are reached.
+/// Makes the steps; a robot that reaches its goal gets a new one.
 fn count_steps(
     alloc: Global,
     site: &Site,
@@ -88,7 +88,7 @@ fn steps_from(
     Ok(count_steps(alloc, site, fields, &mut fleet, &mut stepper, ties))
 }
 
-/// A robot on each cell of the site, each with one of 32 goals; none where the starts do not fill the map.
+/// A robot on each cell of the site, each with one of 32 goals; `None` if the starts do not fill the map.
 fn crowd_on(alloc: Global, site: &Site) -> Result<Option<Steps>, AllocError> {
     let mut ties = Vec::with_capacity(alloc, ROBOTS)?;
     for _ in 0..ROBOTS {
@@ -104,7 +104,7 @@ fn crowd_on(alloc: Global, site: &Site) -> Result<Option<Steps>, AllocError> {
     Ok(Some(steps))
 }
 
-/// A crowd in the hall; none where the starts do not fill the map.
+/// A crowd in the hall; `None` if the starts do not fill the map.
 fn crowd(alloc: Global) -> Result<Option<Steps>, AllocError> {
     match Site::new(alloc, hall(alloc)?)? {
         Some(site) => crowd_on(alloc, &site),
@@ -112,7 +112,8 @@ fn crowd(alloc: Global) -> Result<Option<Steps>, AllocError> {
     }
 }
 
-/// A line of the steps: how many have no conflict, and whether in three of four somebody moved.
+/// Prints a line about the steps: how many have no conflict, and whether some robot moved in at least three quarters of
+/// them.
 pub(crate) fn tell_crowd<R: Alloc<A = Global> + Print>(rt: &R) -> io::Result<()> {
     match crowd(rt.alloc())? {
         Some(Steps { free, moved }) => {

@@ -1,4 +1,4 @@
-//! Measures of distance fields, and of the compasses that a world goes by.
+//! Measures distance fields, and the compasses that a world uses.
 
 ghost use Rattle.std.specs.Prelude.{ℕ, ◌<◌, length, slice_index};
 ghost use Rattle.fleet_grid.specs.Floor.{IsFloor};
@@ -24,7 +24,7 @@ enum Search {
     Compass,
 }
 
-/// One field, and one compass, by cell that it reaches.
+/// One field, and one compass: the time for each cell that it reaches.
 pub(crate) fn measure_field<R: Alloc<A = Global> + Clock + Print>(
     rt: &R,
     map: &str,
@@ -73,7 +73,7 @@ fn time_search<R: Alloc<A = Global> + Clock>(
     Ok(start.elapsed(rt)?.as_nanos())
 }
 
-/// Many fields, one after another and over all processors, by cell that they reach.
+/// Many fields, one after another and on all processors: the time for each cell that they reach.
 pub(crate) fn measure_fields<R: Alloc<A = Global> + Clock + Print + Threads + Sync>(
     rt: &R,
     map: &str,

@@ -10,10 +10,11 @@ use std::io::{self, ErrorKind};
 use std::thread::Threads;
 use std::time::{Clock, Instant};
 
-/// How many ticks the robot is under way.
+/// How many ticks the robot travels.
 const TICKS: u32 = 4_096;
 
-/// A line of each shape: the milliseconds in which its text was read, its grid described, and its world opened and run.
+/// Prints a line for each shape: the milliseconds in which its text was read, its grid described, and its world opened
+/// and run.
 pub(crate) fn measure_hostile<R: Alloc<A = Global> + Clock + Print + Threads + Sync>(
     rt: &R,
     shapes: &[Shape],

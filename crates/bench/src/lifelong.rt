@@ -1,4 +1,4 @@
-//! Measures of long runs of a world, whose robots always have two errands.
+//! Measures long runs of a world whose robots always have two errands.
 
 ghost use Rattle.std.specs.Prelude.{◌<◌, length};
 
@@ -10,25 +10,26 @@ use std::io;
 use std::thread::Threads;
 use std::time::{Clock, Instant};
 
-/// How many ticks times robots a run has.
+/// How long a run is: the number of its ticks times the number of its robots.
 const ROBOT_TICKS: usize = 256_000;
 
-/// With goals from all cells one run goes before the one that counts.
+/// With goals from all cells, one run is made before the run that counts.
 const CELLS: Work = Work::Run {
     name: "lifelong_cells",
     before: 1,
 };
 
-/// With goals from stations so many go before that each station was a goal: C++ has their fields before its first tick.
+/// With goals from stations, enough runs are made before the one that counts that each station was a goal: the C++
+/// program has the stations' fields before its first tick.
 const STATIONS: Work = Work::Run {
     name: "lifelong_stations",
     before: 8,
 };
 
-/// How many cells the stations are.
+/// The number of stations.
 const STATION_COUNT: usize = 400;
 
-/// What a run came to: its ticks, the nanoseconds of these with all takes and gives, its arrivals, and its greatest wait.
+/// The result of a run: its ticks, their nanoseconds with all takes and gives, its arrivals, and its greatest wait.
 #[derive(Clone, Copy)]
 pub struct Run {
     pub ticks: u64,
@@ -57,7 +58,7 @@ impl Run {
     }
 }
 
-/// Runs of each number of robots, with goals from all cells of the part, and from some stations in it.
+/// Runs for each number of robots, with goals from all cells of the part, and from some stations in it.
 pub(crate) fn measure_lifelong<R: Alloc<A = Global> + Clock + Print + Threads + Sync>(
     rt: &R,
     kind: Kind,
@@ -68,7 +69,7 @@ pub(crate) fn measure_lifelong<R: Alloc<A = Global> + Clock + Print + Threads + 
     measure_run(rt, kind, site, STATIONS, &stations)
 }
 
-/// A run of each number of robots.
+/// A run for each number of robots.
 fn measure_run<R: Alloc<A = Global> + Clock + Print + Threads + Sync>(
     rt: &R,
     kind: Kind,
@@ -83,7 +84,7 @@ fn measure_run<R: Alloc<A = Global> + Clock + Print + Threads + Sync>(
     measure_fleets(rt, kind, site, task, &mut Random::from_seed(11))
 }
 
-/// Runs of a world, of which the last counts, after this many others.
+/// Several runs of a world, of which only the last counts.
 pub(crate) fn time_run<R: Alloc<A = Global> + Clock + Threads + Sync>(
     rt: &R,
     world: &mut World,
@@ -126,8 +127,8 @@ fn time_turns<R: Alloc<A = Global> + Clock + Threads + Sync>(
     Ok(run)
 }
 
-/// One tick, and what the client does after it: it takes all notices, and gives who arrived a new errand. Answers how many
-/// arrived.
+/// Makes one tick, and does what the client does after it: it takes all notices, and gives each robot that arrived a
+/// new errand. Returns how many robots arrived.
 fn turn<R: Alloc<A = Global> + Threads + Sync>(
     rt: &R,
     world: &mut World,
@@ -164,8 +165,8 @@ fn greatest_wait(world: &World) -> u64 {
     greatest
 }
 
-/// A line of the run: its name, the map, the robots, the ticks, the arrivals, the ticks by second, the greatest wait, and the
-/// nanoseconds by tick and robot.
+/// Prints a line about the run: its name, the map, the robots, the ticks, the arrivals, the ticks per second, the
+/// greatest wait, and the nanoseconds per tick and robot.
 pub(crate) fn print_run(
     rt: &impl Print,
     name: &str,

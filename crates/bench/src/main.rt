@@ -1,5 +1,5 @@
-//! `bench`: measures the kernels on maps that it builds itself. With the name of a kernel it prints a line of `name key=value`
-//! for each measure, with `maps` what is known of the maps; without a name it prints the names.
+//! `bench`: measures the kernels on maps that it builds itself. With the name of a kernel it prints a line of
+//! `name key=value` for each measure; with `maps` it prints facts about the maps; without a name it prints the names.
 #![tactic(auto)]
 
 mod bridges;
@@ -25,11 +25,11 @@ use std::thread::Threads;
 use std::time::Clock;
 use std::{env, io};
 
-/// What is printed where no kernel is named.
+/// What is printed if no kernel is named.
 const KERNELS: &str =
     "bench: name a kernel: field, fields, bridge, check, step, tick, lifelong, hostile or maps\n";
 
-/// The kernel that the first word after the program's name is.
+/// The kernel that the first argument names.
 fn kernel_asked(rt: &(impl Env + Alloc)) -> io::Result<Option<Kernel>> {
     let mut words = env::args(rt)?;
     let _program = words.next();

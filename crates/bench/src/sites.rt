@@ -36,7 +36,7 @@ fn measure_kind<R: Alloc<A = Global> + Clock + Print + Threads + Sync>(
     }
 }
 
-/// Measures the kernel on a site. Hostile shapes and the counts of maps are none of a site's.
+/// Measures the kernel on a site. Kernels that need no site (hostile shapes, counts of maps) do nothing here.
 fn measure_on<R: Alloc<A = Global> + Clock + Print + Threads + Sync>(
     rt: &R,
     kernel: Kernel,

@@ -1,4 +1,4 @@
-//! Measures of the step of all robots.
+//! Measures the step of all robots.
 
 ghost use Rattle.std.specs.Prelude.{◌≡◌, ℕ, ◌<◌, ◌≤◌, length, vec_len};
 ghost use Rattle.fleet_grid.specs.Step.{IsPlacement};
@@ -18,15 +18,15 @@ pub const FLEETS: [usize; 3] = [16, 128, 512];
 /// No fleet has more.
 const MOST: usize = 512;
 
-/// From how many fields robots take theirs.
+/// The number of fields from which robots take theirs.
 const FIELDS: usize = 64;
 
-/// How many ticks are timed together, and how often.
+/// How many ticks are timed together, and how many times.
 const TICKS: u32 = 20;
 
 const REPEATS: u32 = 100;
 
-/// A step of each number of robots, by robot.
+/// A step for each number of robots: the time for each robot.
 pub(crate) fn measure_step<R: Alloc<A = Global> + Clock + Print>(
     rt: &R,
     map: &str,
@@ -42,7 +42,7 @@ pub(crate) fn measure_step<R: Alloc<A = Global> + Clock + Print>(
     measure_each(rt, map, site, &fields, &ties, &mut random)
 }
 
-/// A step of each number of robots, by robot.
+/// A step for each number of robots: the time for each robot.
 fn measure_each<R: Alloc<A = Global> + Clock + Print>(
     rt: &R,
     map: &str,

@@ -1,4 +1,4 @@
-//! Measures of the tick of a world, whose robots get a new errand where they have none.
+//! Measures the tick of a world whose robots get a new errand when they have none.
 
 ghost use Rattle.std.specs.Prelude.{◌<◌, length};
 
@@ -10,13 +10,13 @@ use std::io;
 use std::thread::Threads;
 use std::time::{Clock, Instant};
 
-/// From how many cells robots take their goals.
+/// The number of cells from which robots take their goals.
 const GOALS: usize = 64;
 
-/// How many ticks are timed, each by itself.
+/// How many ticks are timed, each one separately.
 const TICKS: u32 = 200;
 
-/// A tick of each number of robots, by robot.
+/// A tick for each number of robots: the time for each robot.
 pub(crate) fn measure_tick<R: Alloc<A = Global> + Clock + Print + Threads + Sync>(
     rt: &R,
     kind: Kind,
@@ -32,7 +32,7 @@ pub(crate) fn measure_tick<R: Alloc<A = Global> + Clock + Print + Threads + Sync
     measure_fleets(rt, kind, site, task, &mut random)
 }
 
-/// Ticks of a world, each timed by itself. What clients do between them is not timed.
+/// Ticks of a world, each timed separately. What clients do between ticks is not timed.
 pub(crate) fn time_ticks<R: Alloc<A = Global> + Clock + Threads + Sync>(
     rt: &R,
     world: &mut World,
@@ -62,7 +62,7 @@ fn order_all(world: &mut World, goals: &[u32], random: &mut Random)
     }
 }
 
-/// Sends the robot to the cell, where it has no errand.
+/// Sends the robot to the cell, if it has no errand.
 fn order_idle(world: &mut World, robot: u32, cell: u32) {
     if (robot as usize) < world.robots() && world.wait_of(robot).is_none() {
         order_one(world, robot, cell);

@@ -1,4 +1,4 @@
-//! The world that a measure of ticks or of a long run is made on.
+//! The world on which ticks or a long run are measured.
 
 ghost use Rattle.std.specs.Prelude.{◌<◌, length};
 
@@ -31,18 +31,18 @@ const KEPT: usize = 1 << 29;
 /// No world has more robots.
 pub const MOST_ROBOTS: u32 = 512;
 
-/// What is measured of a world.
+/// What is measured on a world.
 #[derive(Clone, Copy)]
 pub enum Work {
-    /// Each tick by itself.
+    /// Each tick separately.
     Ticks,
-    /// A long run, under this name, after this many of the same length that are not counted.
+    /// A long run with this name, after a number of runs of the same length that are not counted.
     Run { name: &'static str, before: u32 },
-    /// This many ticks in which the first robot goes to the first goal. Who asks for them takes the time.
+    /// A number of ticks in which the first robot goes to the first goal. The caller measures the time.
     Way { ticks: u32 },
 }
 
-/// What is measured on a map of this name, and where its robots go.
+/// What is measured on a map with this name, and the goals of its robots.
 #[derive(Clone, Copy)]
 pub(crate) struct Task<'a> {
     pub(crate) map: &'a str,
@@ -57,7 +57,7 @@ pub(crate) struct Ground {
     pub(crate) starts: Vec<u32>,
 }
 
-/// Measures a world of each number of robots.
+/// Measures a world for each number of robots.
 pub(crate) fn measure_fleets<R: Alloc<A = Global> + Clock + Print + Threads + Sync>(
     rt: &R,
     kind: Kind,
@@ -77,7 +77,8 @@ pub(crate) fn measure_fleets<R: Alloc<A = Global> + Clock + Print + Threads + Sy
     Ok(())
 }
 
-/// Measures a world with one client, of this many robots on the ground, which is taken. The closures answer 0.
+/// Measures a world with one client and this many robots on the ground, which is taken out of the `Option`. The
+/// closures return 0.
 pub(crate) fn measure_world<R: Alloc<A = Global> + Clock + Print + Threads + Sync>(
     rt: &R,
     task: Task<'_>,
@@ -98,7 +99,7 @@ pub(crate) fn measure_world<R: Alloc<A = Global> + Clock + Print + Threads + Syn
     measure_hooked(rt, task, ground, hooks, random)
 }
 
-/// Measures a world of these closures.
+/// Measures a world with these closures.
 fn measure_hooked<R: Alloc<A = Global> + Clock + Print + Threads + Sync>(
     rt: &R,
     task: Task<'_>,

@@ -12,9 +12,9 @@ use std::alloc::Allocator;
 /// Robots and their fields.
 #[derive(Drop)]
 pub struct Course<'a> {
-    /// The fields that there are.
+    /// All fields.
     pub fields: &'a [Compass],
-    /// For each robot the number of its field.
+    /// The number of each robot's field.
     pub aims: &'a [usize],
 }
 

@@ -14,7 +14,7 @@ use fleet_pibt::Stepper;
 use std::alloc::{AllocError, Global};
 use std::mem;
 
-/// Robots under way. Each list has one entry for each robot.
+/// Robots that move. Each list has one item for each robot.
 #[derive(Drop)]
 pub struct Fleet {
     /// Where it is.
@@ -28,8 +28,8 @@ pub struct Fleet {
 }
 
 impl Fleet {
-    /// The fleet that starts from these cells, each robot with the field of its number, and from the first again where there
-    /// are fewer fields.
+    /// A fleet that starts on these cells. Robot r gets field number r; if there are fewer fields, they are used again
+    /// from the first one on.
     pub fn new(
         alloc: Global,
         site: &Site,
@@ -93,7 +93,7 @@ impl Fleet {
         mem::swap(&mut self.from, &mut self.to);
     }
 
-    /// Gives each robot that is on its goal a new one, and counts the wait of the others.
+    /// Gives each robot that is on its goal a new one, and increases the wait of the others.
     pub fn arrive(&mut self, site: &Site, fields: &[Compass], random: &mut Random)
         requires some { 0 < length fields.now }
         requires way { IsUnderWay site.now.grid site.now.home (length fields.now) self.old.from.items self.old.to.items self.old.waits.items self.old.aims.items }
@@ -112,7 +112,7 @@ impl Fleet {
     }
 }
 
-/// The number of each robot's field: its own, and from the first again where there are fewer fields.
+/// The number of each robot's field: the robot's number, or from the first field on again if there are fewer fields.
 fn aims_of(alloc: Global, robots: usize, fields: usize) -> Result<Vec<usize>, AllocError>
     requires { 0 < fields }
     ensures count { IfOk result (λ aims. length aims.items ≡ robots) }
@@ -132,7 +132,7 @@ struct Turn {
     wait: Option<u64>,
 }
 
-/// A new field for a robot on its goal; the same one, and a tick more, for another robot.
+/// A new field for a robot that is on its goal; for another robot the same field, and a wait of one tick more.
 fn next_turn(fields: &[Compass], cell: u32, turn: Turn, random: &mut Random) -> Turn
     requires { turn.aim < length fields.now }
     ensures aim { result.aim < length fields.now }

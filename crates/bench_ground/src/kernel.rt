@@ -6,19 +6,19 @@ ghost use Rattle.bench_ground.specs.Kernels.{kernel_named};
 /// What is measured.
 #[derive(Clone, Copy, Debug, PartialEq, Eq)]
 pub enum Kernel {
-    /// One distance field, by floor cell of its part.
+    /// One distance field: time for each floor cell of its part.
     Field,
-    /// Many fields, over all processors, by cell.
+    /// Many fields, on all processors: time for each cell.
     Fields,
-    /// The first bridge of a map, by cell.
+    /// The first bridge of a map: time for each cell.
     Bridge,
-    /// The check of a step, by robot.
+    /// The check of a step: time for each robot.
     Check,
-    /// A step of all robots, by robot.
+    /// A step of all robots: time for each robot.
     Step,
-    /// A tick of a world, by robot.
+    /// A tick of a world: time for each robot.
     Tick,
-    /// Long runs of a world, by tick and robot.
+    /// Long runs of a world: time for each tick and robot.
     Lifelong,
     /// Whole maps of a hostile shape, in milliseconds.
     Hostile,

@@ -12,11 +12,11 @@ use std::alloc::{AllocError, Global};
 /// A kind of map.
 #[derive(Clone, Copy, Debug, PartialEq, Eq)]
 pub enum Kind {
-    /// Floor from side to side, 1,024 by 1,024.
+    /// Floor everywhere, 1,024 by 1,024.
     Open,
-    /// 20 columns and 40 rows of shelves of two by ten cells, 164 by 340, as the `warehouse-20-40-10-2-2` of MovingAI.
+    /// 20 columns and 40 rows of shelves of two by ten cells, 164 by 340, like `warehouse-20-40-10-2-2` of MovingAI.
     Warehouse,
-    /// A maze of 512 by 512 without rounds.
+    /// A maze of 512 by 512 without cycles.
     Maze,
     /// One corridor that winds to the middle, 511 by 511.
     Spiral,
@@ -26,7 +26,7 @@ impl Kind {
     /// All kinds.
     pub const ALL: [Kind; 4] = [Kind::Open, Kind::Warehouse, Kind::Maze, Kind::Spiral];
 
-    /// What it is called in a line.
+    /// Its name in a printed line.
     pub fn name(self) -> &'static str
         ensures { result.now ≡ name_of self }
     {
@@ -76,12 +76,12 @@ impl Kind {
     }
 }
 
-/// Whether a warehouse's outer wall stands there.
+/// Whether a warehouse's outer wall is there.
 fn is_outer_wall(row: u32, col: u32) -> bool {
     row == 0 || row == 163 || col == 0 || col == 339
 }
 
-/// Whether a shelf stands there: two rows by ten columns, and aisles of two cells between them.
+/// Whether a shelf is there: two rows by ten columns, with aisles of two cells between shelves.
 fn is_shelf(row: u32, col: u32) -> bool {
     if row < 2 || row >= 162 || col < 50 || col >= 290 {
         return false;
@@ -89,7 +89,8 @@ fn is_shelf(row: u32, col: u32) -> bool {
     (row - 2) % 4 < 2 && (col - 50) % 12 < 10
 }
 
-/// Whether a maze has a way there. Each cell of even row and column is joined to the one above it or to the one before it.
+/// Whether a maze is open there. Each cell of even row and column is joined to the one above it or to the one before
+/// it.
 fn is_passage(row: u32, col: u32) -> bool
     requires low { row < 1024 }
     requires slim { col < 1024 }
@@ -117,8 +118,8 @@ fn joins_north(row: u32, col: u32) -> bool {
     col == 0 || (mixed ^ (mixed >> 15)).wrapping_mul(3266489917) >> 31 == 1
 }
 
-/// Whether the corridor of a spiral of this many rows and columns comes there. It is made of rings, each cut before its first
-/// cell, and joined there to the next one, if there is one.
+/// Whether the corridor of a spiral of this many rows and columns passes there. The corridor consists of rings. Each
+/// ring is cut before its first cell, and joined there to the next ring, if there is one.
 pub(crate) fn is_corridor(side: u32, row: u32, col: u32) -> bool
     requires low { row < 1024 }
     requires slim { col < 1024 }

@@ -1,4 +1,5 @@
-//! What `bench` measures on and by: maps that it builds itself, fleets under way on them, and what a measure found.
+//! The parts with which `bench` measures: maps that it builds itself, fleets that move on them, and the results of
+//! measures.
 #![tactic(auto)]
 
 mod course;

@@ -1,10 +1,10 @@
-//! What a measure found, and its line.
+//! The result of a measure, and its line.
 
 ghost use Rattle.std.specs.Prelude.{◌≡◌, ◌+◌, ◌<◌, ◌^◌, min};
 
 use std::{fmt, io};
 
-/// This many repeats on a map, and the time of the fastest and of all together.
+/// A number of repeats on a map, with the time of the fastest and of all together.
 #[derive(Clone, Copy, Debug, PartialEq, Eq)]
 pub struct Measure {
     /// How many times the work was done.
@@ -23,7 +23,7 @@ impl Measure {
         all: 0,
     };
 
-    /// With one repeat more, which took this many nanoseconds.
+    /// With one more repeat, which took this many nanoseconds.
     pub fn with(self, nanos: u128) -> Measure
         ensures more { self.repeats + 1 < 2 ^ 64 → result.repeats ≡ self.repeats + 1 }
         ensures least { result.least ≡ min self.least nanos }
@@ -37,9 +37,9 @@ impl Measure {
     }
 }
 
-/// Prints one line of measurements: what was measured (`kernel`), the map, the number of robots (`fleet`), how many things
-/// (cells, robots, calls) one repeat works on, how often it was repeated, and the nanoseconds a thing, in the fastest repeat
-/// and on average.
+/// Prints one line of measurements: what was measured (`kernel`), the map, the number of robots (`fleet`), how many
+/// things (cells, robots, calls) one repeat works on, how often it was repeated, and the nanoseconds for each thing, in
+/// the fastest repeat and on average.
 pub fn print_measure(
     rt: &impl Print,
     kernel: &str,
@@ -66,7 +66,7 @@ impl fmt::Display for Hundredths {
     }
 }
 
-/// The nanoseconds a thing.
+/// The nanoseconds for each thing.
 fn by_thing(nanos: u128, things: u64) -> Hundredths {
     Hundredths(nanos.saturating_mul(100) / u128::from(things.max(1)))
 }

@@ -1,24 +1,24 @@
-//! Numbers that look as if they were thrown, and are the same in each run.
+//! Pseudo-random numbers, which are the same in each run.
 
 ghost use Rattle.std.specs.Prelude.{◌≡◌, ◌<◌};
 ghost use Rattle.bench_ground.specs.Random.{next_seed, drawn};
 
-/// A linear congruential sequence, as Knuth's MMIX has it.
+/// A linear congruential sequence, with the constants of Knuth's MMIX.
 #[derive(Clone, Copy, Debug)]
 pub struct Random {
-    /// What the next number comes of.
+    /// The state from which the next number is computed.
     pub seed: u64,
 }
 
 impl Random {
-    /// The sequence from a seed on.
+    /// The sequence that begins with a seed.
     pub fn from_seed(seed: u64) -> Random
         ensures { result.seed ≡ seed }
     {
         Random { seed }
     }
 
-    /// The next number, below a bound: what the upper bits of the next seed leave when the bound divides them.
+    /// The next number below a bound: the upper bits of the next seed, modulo the bound.
     pub fn below(&mut self, bound: usize) -> usize
         requires { 0 < bound }
         ensures below { result < bound }

@@ -9,7 +9,7 @@ use std::alloc::{AllocError, Global};
 /// The number of rows, and of columns.
 const SIDE: u32 = 1024;
 
-/// What stands before the rows of a map's text.
+/// The text of a map before its rows.
 const HEAD: &[u8] = b"type octile\nheight 1024\nwidth 1024\nmap\n";
 
 /// A shape of floor.
@@ -19,11 +19,11 @@ pub enum Shape {
     Serpentine,
     /// One corridor that winds to the middle.
     Spiral,
-    /// One row, and a column that hangs on each second cell of it.
+    /// One row, with a column at every second cell of it.
     Comb,
-    /// Each second cell, as the white ones of a chessboard.
+    /// Every second cell, like the white cells of a chessboard.
     Checker,
-    /// Floor from side to side.
+    /// Floor everywhere.
     Full,
     /// The outermost cells.
     Border,
@@ -40,7 +40,7 @@ impl Shape {
         Shape::Border,
     ];
 
-    /// What it is called in a line.
+    /// Its name in a printed line.
     pub fn name(self) -> &'static str
         ensures { result.now ≡ name_of self }
     {

@@ -1,4 +1,4 @@
-//! The map that a measure is made on, with goals and starts that are thrown over one part of it.
+//! The map of a measure, with random goals and starts in one part of it.
 
 ghost use Rattle.std.specs.Prelude.{◌≡◌, ℕ, ◌+◌, ◌<◌, ◌≤◌, length, slice_get, slice_index, slice_set, IfOk, MatchOption, Some, true, false, vec_capacity, vec_len};
 ghost use Rattle.fleet_grid.specs.Floor.{IsFloor};
@@ -25,7 +25,7 @@ pub struct Site {
 }
 
 impl Site {
-    /// A map with its first part; none where it has no floor.
+    /// A map with its first part; `None` if the map has no floor.
     pub fn new(alloc: Global, grid: Grid) -> Result<Option<Site>, AllocError>
         ensures { IfOk result (λ site. MatchOption site ((c : ℕ) → IsFloor grid c → ⊥) (λ s. s.grid ≡ grid)) }
     {
@@ -43,7 +43,7 @@ impl Site {
         self.cells[random.below(self.cells.len())]
     }
 
-    /// This many cells of the part; a cell may be there more than once.
+    /// This many random cells of the part; a cell may be there more than once.
     pub fn goals(
         &self,
         alloc: Global,
@@ -79,7 +79,7 @@ impl Site {
         Ok(fields)
     }
 
-    /// This many cells of the part, each once, or fewer where they are hard to find.
+    /// This many distinct cells of the part, or fewer if they are hard to find.
     #[tactic(auto, using(crate::proofs::Throws::starts_none))]
     pub fn starts(
         &self,
@@ -116,7 +116,7 @@ fn first_floor(grid: &Grid) -> Option<u32>
     None
 }
 
-/// Whether a walk leads from the cell, where that is floor, to `home`.
+/// Whether the cell is floor and a walk leads from it to `home`.
 fn is_within(grid: &Grid, home: u32, cell: u32) -> bool
     requires { IsFloor grid.now home }
     ensures { result ≡ true → IsWithin grid.now home cell }
@@ -127,7 +127,7 @@ fn is_within(grid: &Grid, home: u32, cell: u32) -> bool
     grid.same_part(cell, home)
 }
 
-/// Adds a cell that is of the part, and not `home`.
+/// Adds a cell that is in the part and is not `home`.
 fn add_within(grid: &Grid, home: u32, cells: &mut Vec<u32>, cell: u32) -> Result<(), AllocError>
     requires home { IsFloor grid.now home }
     requires within { AreWithin grid.now home cells.old.items }
@@ -141,7 +141,7 @@ fn add_within(grid: &Grid, home: u32, cells: &mut Vec<u32>, cell: u32) -> Result
     Ok(())
 }
 
-/// The cells from `home` on that are of its part.
+/// The cells of the part, with numbers from `home` on.
 fn part_of(alloc: Global, grid: &Grid, home: u32) -> Result<Vec<u32>, AllocError>
     requires { IsFloor grid.now home }
     ensures some { IfOk result (λ cells. 0 < vec_len cells) }
@@ -154,7 +154,7 @@ fn part_of(alloc: Global, grid: &Grid, home: u32) -> Result<Vec<u32>, AllocError
     Ok(cells)
 }
 
-/// The list of `home` alone.
+/// A list that has only `home`.
 #[tactic(auto, using(crate::proofs::Throws::home_within))]
 fn only_home(alloc: Global, grid: &Grid, home: u32) -> Result<Vec<u32>, AllocError>
     requires { IsFloor grid.now home }
@@ -164,7 +164,7 @@ fn only_home(alloc: Global, grid: &Grid, home: u32) -> Result<Vec<u32>, AllocErr
     Vec::from_slice(alloc, &[home])
 }
 
-/// Takes a cell that is not taken, and says whether it did.
+/// Takes a cell that is not taken yet, and returns whether it did.
 fn take(taken: &mut Vec<bool>, cell: u32) -> bool
     requires inside { cell < vec_len taken.old }
     ensures taken { taken.new.items ≡ slice_set taken.old.items cell true }

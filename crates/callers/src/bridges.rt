@@ -8,7 +8,7 @@ use fleet_bridge::first_bridge;
 use fleet_grid::Grid;
 use std::alloc::{AllocError, Global};
 
-/// Whether every wait on this map is bounded: it has no bridge.
+/// Whether every wait on this map is bounded, since it has no bridge.
 pub fn has_no_bridge(alloc: Global, grid: &Grid) -> Result<bool, AllocError>
     ensures { IfOk result (λ safe. IsTrue safe → IsBridgeless (IsNeighbour grid.now)) }
 {

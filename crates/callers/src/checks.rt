@@ -7,7 +7,7 @@ use fleet_check::{StepFault, check_step};
 use fleet_grid::Grid;
 use std::alloc::Global;
 
-/// Whether the robots may step so; `None` out of memory.
+/// Whether the step is free of conflicts; `None` if memory runs out.
 pub fn is_safe(alloc: Global, grid: &Grid, from: &[u32], to: &[u32]) -> Option<bool>
     requires { IsPlacement grid.now from.now }
     ensures { IfSome result (λ safe. IsTrue safe ↔ IsConflictFree grid.now from.now to.now) }

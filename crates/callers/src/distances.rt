@@ -7,7 +7,7 @@ use fleet_field::Field;
 use fleet_grid::Grid;
 use std::alloc::{AllocError, Global};
 
-/// The distances of all cells to where the robot is to go; `None` where that is not floor.
+/// The distances of all cells to a robot's goal; `None` if the goal is not floor.
 pub fn field_to(alloc: Global, grid: &Grid, goal: u32) -> Result<Option<Field>, AllocError>
     ensures { IfOk result (λ found. IfSome found (λ field. IsField grid.now goal field)) }
 {

@@ -1,4 +1,4 @@
-//! Callers of the libraries, one each, as their `CALLING.md` pages quote them: short functions that a program could have.
+//! A short function that uses each library, as a program could. Their `CALLING.md` pages quote them.
 #![tactic(auto)]
 
 mod bridges;

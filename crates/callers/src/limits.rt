@@ -5,7 +5,7 @@ ghost use Rattle.fleet_book.specs.Limits.{AreValid};
 
 use fleet_book::Limits;
 
-/// The limits of a fleet whose robots have this many errands at most; `None` where no fleet may have that many.
+/// The limits of a fleet whose robots have at most this many errands; `None` if no fleet may have that many.
 pub fn with_queue(queue: u32) -> Option<Limits>
     ensures { IfSome result (λ limits. AreValid limits × (limits.queue ≡ queue)) }
 {

@@ -10,7 +10,7 @@ use fleet_hooks::Hooks;
 use fleet_world::{Event, Limits, RunFault, run};
 use std::alloc::{Alloc, Global};
 
-/// The map, and the history of these events on it for one client.
+/// The map, and the history of these events on it, for one client.
 pub fn history_after<R: Alloc<A = Global>>(
     rt: &R,
     grid: Grid,

@@ -8,7 +8,7 @@ ghost use Rattle.fleet_core.specs.Core.{Takes};
 use fleet_book::{Order, Verdict};
 use fleet_core::World;
 
-/// Orders client 0's robot to a cell. Returns the verdict; `None` where the order was not taken.
+/// Gives client 0's order to send a robot to a cell. Returns the verdict; `None` if the order was not taken.
 pub fn order(world: &mut World, robot: u32, cell: u32) -> Option<Verdict>
     requires { 0 < clients world.old.core.history }
     ensures taken { IfSome result (λ v. Takes world.old.core 0 (Order.Go robot cell) v world.new.core) }

@@ -5,7 +5,7 @@ use fleet_book::Verdict;
 use fleet_history::{Arrival, Chapter, Entry};
 use std::alloc::{AllocError, Global};
 
-/// What the clients sent and collected, and what the history says of it.
+/// What the clients sent and collected, and what the history says about it.
 #[derive(Clone, Copy)]
 pub(crate) struct Account {
     pub(crate) told: Tally,
@@ -52,13 +52,13 @@ impl Account {
         }
     }
 
-    /// Errands that are in a queue still.
+    /// Errands that are still in a queue.
     pub(crate) fn queued(&self) -> u64 {
         self.accepted.saturating_sub(self.arrived)
     }
 
-    /// Whether each order has its verdict, each accepted errand its arrival or its place in a queue, and all that the history
-    /// says was told, in order.
+    /// Whether each order has its verdict, each accepted errand has arrived or is in a queue, and the clients got a
+    /// notice for everything in the history, in order.
     pub(crate) fn is_right(&self) -> bool {
         self.told.in_order
             && self.told.orders == self.told.verdicts
@@ -92,7 +92,8 @@ impl Times {
         }
     }
 
-    /// Notes the arrivals of a tick after this many others. The result is how long the longest of their robots had waited.
+    /// Notes the arrivals of a tick, with the number of ticks before it. Returns the longest wait of the robots that
+    /// arrived.
     fn arrive(&mut self, arrived: &[Arrival], tick: u64) -> u64 {
         let mut greatest = 0;
         for arrival in arrived {
@@ -104,7 +105,7 @@ impl Times {
         greatest
     }
 
-    /// How long a robot that arrives at that tick had waited before.
+    /// How long a robot that arrives in that tick had waited.
     fn wait_before(&self, arrival: &Arrival, tick: u64) -> u64 {
         let mut since = 0;
         if let Some(errands) = self.accepted.get(arrival.client as usize) {
@@ -118,7 +119,7 @@ impl Times {
         tick.saturating_sub(since)
     }
 
-    /// Notes what the chapter shows. The result is how many ticks a robot waited at most for an arrival.
+    /// Notes what the chapter shows. Returns the longest wait for an arrival, in ticks.
     fn read(&mut self, chapter: &Chapter) -> Result<u64, AllocError> {
         let (mut tick, mut greatest) = (0u64, 0u64);
         for entry in &chapter.entries {
@@ -139,7 +140,7 @@ impl Times {
     }
 }
 
-/// How many ticks a robot waited at most for an arrival that the chapter shows.
+/// The longest wait, in ticks, for an arrival that the chapter shows.
 pub(crate) fn greatest_wait(
     alloc: Global,
     chapter: &Chapter,

@@ -30,7 +30,7 @@ pub(crate) struct DepotReport {
     pub(crate) floor: u32,
 }
 
-/// Why a day at the depot had no end.
+/// Why a day at the depot failed.
 #[derive(Clone, Copy)]
 pub(crate) enum DepotFault {
     Opening(OpenFault),
@@ -50,7 +50,7 @@ impl From<AllocError> for DepotFault {
     }
 }
 
-/// The clients and the tickers that come home from their work, and what each client collected.
+/// The clients and tickers that come back from their work, and what each client collected.
 type WorkEnd<N> = (Vec<Client>, Vec<Ticker<N>>, Vec<Tally>);
 
 /// The clients at their work, each with a seed of its own.
@@ -76,7 +76,7 @@ fn workers_of<N: OfficeName<Global>>(
     Ok(workers)
 }
 
-/// The clients that come home from their work, and what each collected.
+/// The clients that come back from their work, and what each one collected.
 fn home_of<N: OfficeName<Global>>(
     alloc: Global,
     workers: Vec<Worker<N>>,
@@ -126,7 +126,7 @@ fn tickers_of<N: OfficeName<Global>>(
     Ok(tickers)
 }
 
-/// Lets the clients of an office that was just opened send their orders, with two tickers. All of them come home.
+/// Lets the clients of an office that was just opened send their orders, with two tickers. Returns all of them.
 fn work_in<N: OfficeName<Global> + Send + Sync, R: Alloc<A = Global> + Threads + Sync + Wait>(
     rt: &R,
     office: &Office<N>,
@@ -149,7 +149,7 @@ fn work_in<N: OfficeName<Global> + Send + Sync, R: Alloc<A = Global> + Threads +
     Ok((clients, tickers, tallies))
 }
 
-/// The day of an office that ended so.
+/// The result of a day whose office ended in this way.
 fn day_at(end: Final, tallies: &[Tally]) -> DepotReport {
     DepotReport {
         account: account_of(&end, tallies),
@@ -159,7 +159,7 @@ fn day_at(end: Final, tallies: &[Tally]) -> DepotReport {
     }
 }
 
-/// Concludes an office by the clients and the tickers that came home.
+/// Concludes an office with the clients and the tickers that came back.
 fn conclude<N: OfficeName<Global>>(
     alloc: Global,
     office: Office<N>,
@@ -177,7 +177,7 @@ fn conclude<N: OfficeName<Global>>(
     }
 }
 
-/// Opens an office over the desk, lets clients and tickers work side by side, and concludes.
+/// Opens an office over the desk, lets clients and tickers work in threads, and concludes it.
 pub(crate) fn spend_day<
     N: OfficeName<Global> + Send + Sync,
     R: Alloc<A = Global> + Threads + Sync + Wait,

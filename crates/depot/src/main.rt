@@ -1,13 +1,15 @@
-//! `depot` keeps a fleet of a warehouse going: each client posts random errands from a thread of its own and collects its
-//! notices, while two tickers move all robots. `depot [--robots N] [--clients N] [--turns N] [--seed N]`: each client posts N
-//! orders, and each ticker makes N turns and further ones until all errands are done. Its last line is `accounted: orders N
-//! verdicts N accepted N arrived N queued N`, and its status 0 exactly where nothing was lost or doubled.
+//! `depot` keeps a fleet in a warehouse going: each client posts random errands from a thread of its own and collects
+//! its notices, while two tickers move all robots. `depot [--robots N] [--clients N] [--turns N] [--seed N]`: each
+//! client posts N orders, and each ticker makes N turns, and then further ones until all errands are done. Its last
+//! line is `accounted: orders N verdicts N accepted N arrived N queued N`. Its status is 0 exactly if nothing was lost
+//! or doubled.
 //!
-//! What depends on the threads' schedule is printed on the error writer: ticks a second, and the greatest wait with its bound.
+//! Facts that depend on the threads' schedule are printed on the error writer: ticks per second, and the greatest wait
+//! with its bound.
 //!
-//! Statuses, each but 0 with a line on the error writer: 0 all orders accounted for; 1 an order or a notice lost or doubled;
-//! 2 the words, or a request for help; 3 the clock or an output failed; 5 the office was not opened; 7 out of memory; 8 a
-//! turn or the end was refused, as where a limit is met.
+//! Statuses, each except 0 with a line on the error writer: 0 all orders are accounted for; 1 an order or a notice was
+//! lost or doubled; 2 the command line is wrong, or asks for help; 3 the clock or an output failed; 5 the office was
+//! not opened; 7 out of memory; 8 a turn or the end was refused, for example because a limit was met.
 #![tactic(auto)]
 
 mod account;
@@ -37,7 +39,7 @@ fn words_given(rt: &(impl Env + Alloc<A = Global>)) -> io::Result<Vec<String>> {
     Ok(env::args(rt)?.collect(rt.alloc())?)
 }
 
-/// What depends on the schedule: the pace, and how long a robot waited at most, next to the bound that no wait reaches.
+/// Facts that depend on the schedule: the speed, and the longest wait of a robot, with the bound that no wait reaches.
 fn pace_of(
     alloc: Global,
     day: &DepotReport,
@@ -50,7 +52,7 @@ fn pace_of(
     format!(in alloc; "ticks a second: {ticks}\ngreatest wait: {wait}, below {bound}\n")
 }
 
-/// The line of the fate of all orders.
+/// The line with the account of all orders.
 fn line_of(alloc: Global, day: &DepotReport) -> Result<String, AllocError> {
     let told = &day.account.told;
     format!(in alloc;
@@ -63,7 +65,7 @@ fn line_of(alloc: Global, day: &DepotReport) -> Result<String, AllocError> {
     )
 }
 
-/// The status of a day that had no end.
+/// The status of a day that failed.
 fn status_of(fault: DepotFault) -> u8 {
     match fault {
         DepotFault::Opening(OpenFault::NoMemory)
@@ -75,7 +77,7 @@ fn status_of(fault: DepotFault) -> u8 {
     }
 }
 
-/// The line of a day that had no end.
+/// The line of a day that failed.
 fn words_of(alloc: Global, fault: DepotFault) -> Result<String, AllocError> {
     match fault {
         DepotFault::Opening(OpenFault::NoMemory)
@@ -92,7 +94,7 @@ fn words_of(alloc: Global, fault: DepotFault) -> Result<String, AllocError> {
     }
 }
 
-/// Says what is to be written of a day that took so long. The result is the status.
+/// Writes what is printed for a day that took this long. Returns the status.
 fn tell(
     alloc: Global,
     day: &DepotReport,
@@ -110,7 +112,7 @@ fn tell(
     Ok(1)
 }
 
-/// Keeps a depot going, and says what is to be written of it. The result is the status.
+/// Keeps a depot going, and writes what is printed for it. Returns the status.
 fn keep_going<R: Alloc<A = Global> + Clock + Threads + Sync + Wait>(
     rt: &R,
     settings: &Settings,
@@ -136,7 +138,7 @@ fn keep_going<R: Alloc<A = Global> + Clock + Threads + Sync + Wait>(
     }
 }
 
-/// Does what the program's words say. The result is the status.
+/// Does what the program's arguments say. Returns the status.
 fn obey<R: Alloc<A = Global> + Clock + Threads + Sync + Wait>(
     rt: &R,
     words: &[String],
@@ -153,7 +155,7 @@ fn obey<R: Alloc<A = Global> + Clock + Threads + Sync + Wait>(
     }
 }
 
-/// What is written on the output and on the error writer. The result is the status.
+/// Writes the output and the error text. Returns the status.
 fn run<R: Env + Alloc<A = Global> + Clock + Threads + Sync + Wait>(
     rt: &R,
     line: &mut String,

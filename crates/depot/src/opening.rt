@@ -20,7 +20,8 @@ use std::sync::Wait;
 use std::sync::atomic::AtomicU64;
 use std::thread::Threads;
 
-/// A robot's queue has room for all errands that the clients' mailboxes let them have at once, and one chapter for them all.
+/// A robot's queue has room for all errands that the clients' mailboxes allow at once, and one chapter has room for all
+/// entries.
 const LIMITS: Limits = Limits {
     queue: 4_096,
     mailbox: 64,
@@ -31,7 +32,7 @@ const LIMITS: Limits = Limits {
     ..Limits::DEFAULT
 };
 
-/// What the threads share, where there is a robot and a cell to send it to.
+/// What the threads share, if there is a robot and a cell to which it can be sent.
 fn shift_of(settings: &Settings, cells: Vec<u32>) -> Result<Shift, OpenFault> {
     if settings.robots == 0 || cells.is_empty() {
         return Err(OpenFault::NoRobots);
@@ -47,7 +48,7 @@ fn shift_of(settings: &Settings, cells: Vec<u32>) -> Result<Shift, OpenFault> {
     })
 }
 
-/// Where the robots start, and what the threads share.
+/// The robots' start cells, and what the threads share.
 fn starts_of(
     alloc: Global,
     grid: &Grid,
@@ -58,7 +59,7 @@ fn starts_of(
     Ok((starts, shift_of(settings, cells)?))
 }
 
-/// The desk, the warehouse, where the robots start in it, and what the threads share.
+/// The desk, the warehouse, the robots' start cells in it, and what the threads share.
 fn site_of(alloc: Global, settings: &Settings) -> Result<(Desk, Grid, Vec<u32>, Shift), OpenFault> {
     let grid = warehouse(alloc)?;
     let (starts, shift) = starts_of(alloc, &grid, settings)?;
@@ -85,7 +86,7 @@ fn day_with<R: Alloc<A = Global> + Threads + Sync + Wait>(
     }
 }
 
-/// A day at the depot of these settings, or out of memory for its closures. They return 0.
+/// A day at the depot with these settings, or out of memory for its closures, which return 0.
 fn hooked_day<R: Alloc<A = Global> + Threads + Sync + Wait>(
     rt: &R,
     settings: &Settings,
@@ -101,7 +102,7 @@ fn hooked_day<R: Alloc<A = Global> + Threads + Sync + Wait>(
     Ok(day_with(rt, settings, hooks))
 }
 
-/// A day at the depot of these settings.
+/// A day at the depot with these settings.
 pub(crate) fn day_of<R: Alloc<A = Global> + Threads + Sync + Wait>(
     rt: &R,
     settings: &Settings,

@@ -1,4 +1,4 @@
-//! The depot's size, from the program's words.
+//! The depot's size, from the program's command line.
 
 ghost use Rattle.std.specs.Prelude.{◌≡◌, ◌≤◌, IfOk};
 
@@ -14,7 +14,7 @@ pub(crate) struct Settings {
     pub(crate) robots: u32,
     /// 1 to 64.
     pub(crate) clients: u32,
-    /// Orders of each client, and turns that each ticker makes at least: 1 to 1,000,000.
+    /// Orders of each client, and the least number of turns that each ticker makes: 1 to 1,000,000.
     pub(crate) turns: u64,
     /// 0 to 4,294,967,295.
     pub(crate) seed: u64,
@@ -23,7 +23,7 @@ pub(crate) struct Settings {
 /// Why there are no settings.
 #[derive(Drop)]
 pub(crate) enum SettingsFault {
-    /// What is wrong with the words, as `clap` says it. A request for help is among these.
+    /// What is wrong with the words, as `clap` says it. A request for help ends here too.
     Words(String),
     NoMemory,
 }
@@ -47,7 +47,7 @@ fn option<'a>(alloc: Global, name: &'a str, help: &'a str) -> Arg<'a> {
         .help(help)
 }
 
-/// The options' names, and what is said of each.
+/// The options' names, with the help text of each.
 const OPTIONS: [(&str, &str); 4] = [
     ("robots", "Robots, 1 to 512 (default 8)"),
     ("clients", "Clients, 1 to 64 (default 3)"),
@@ -75,7 +75,7 @@ fn command<'a>(alloc: Global) -> Result<Command<'a>, AllocError> {
 /// The least and the greatest number of an option.
 type Range = (u64, u64);
 
-/// The number of an option, or another where it is not given.
+/// The number of an option, or a default if it is not given.
 fn number_of(
     alloc: Global,
     matches: &ArgMatches<'_>,
@@ -97,7 +97,7 @@ fn number_of(
     }
 }
 
-/// What is said of a word that is no number in the range, in the form of `clap`'s own errors.
+/// The text about a word that is not a number in the range, in the form of `clap`'s own errors.
 fn out_of_range(alloc: Global, name: &str, word: &str, range: Range) -> Result<String, AllocError> {
     let (least, most) = range;
     format!(in alloc;
@@ -105,7 +105,7 @@ fn out_of_range(alloc: Global, name: &str, word: &str, range: Range) -> Result<S
     )
 }
 
-/// The settings that the options are.
+/// The settings that the options give.
 fn settings_from(alloc: Global, matches: &ArgMatches<'_>) -> Result<Settings, SettingsFault> {
     Ok(Settings {
         robots: number_of(alloc, matches, "robots", 8, (1, 512))? as u32,
@@ -124,7 +124,7 @@ pub(crate) fn settings_of(alloc: Global, words: &[String]) -> Result<Settings, S
     }
 }
 
-/// Why `clap` did not take the words.
+/// Why `clap` did not accept the words.
 fn fault_from(alloc: Global, error: &Error) -> SettingsFault {
     if error.kind() == ErrorKind::OutOfMemory {
         return SettingsFault::NoMemory;

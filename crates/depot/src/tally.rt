@@ -13,7 +13,7 @@ pub(crate) struct Tally {
     pub(crate) arrived: u64,
     /// The number of the last notice.
     pub(crate) last: u64,
-    /// Whether the notices were numbered through, and the verdicts in the order of the orders.
+    /// Whether the notices were numbered without a gap, and the verdicts were in the order of the orders.
     pub(crate) in_order: bool,
 }
 
@@ -52,7 +52,7 @@ impl Tally {
         self.in_order &= number == self.last;
     }
 
-    /// Whether all that was sent has its verdict, and all that was accepted has arrived.
+    /// Whether everything that was sent has its verdict, and everything that was accepted has arrived.
     pub(crate) fn is_settled(&self) -> bool {
         self.verdicts == self.orders && self.arrived == self.accepted
     }

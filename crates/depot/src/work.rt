@@ -13,13 +13,13 @@ use std::sync::atomic::{AtomicU64, Ordering};
 use std::thread;
 use std::thread::{Threads, join};
 
-/// How often a client looks for a free slot or a notice at most, and how many turns a ticker makes at most.
+/// The greatest number of times that a client looks for a free slot or a notice, and of turns that a ticker makes.
 const MOST_TRIES: u64 = 200_000_000;
 
 /// No office has more clients.
 const MOST_CLIENTS: usize = 64;
 
-/// How many notices a client collects at once at most.
+/// The greatest number of notices that a client collects at once.
 const HANDFUL: u32 = 64;
 
 /// A client with what it sends and what it collected.
@@ -40,8 +40,9 @@ enum Posted {
     Refused,
 }
 
-/// What all threads share: how many robots there are, on which cells errands lie, how many orders each client sends and where
-/// its random errands begin, how many turns each ticker makes at least, and how many clients have done their work.
+/// What all threads share: how many robots there are; to which cells errands lead; how many orders each client sends,
+/// and the seeds of its random errands; the least number of turns of each ticker; and how many clients have done their
+/// work.
 #[derive(Drop)]
 pub(crate) struct Shift {
     pub(crate) robots: u32,
@@ -56,7 +57,7 @@ pub(crate) struct Shift {
 }
 
 impl<N: OfficeName<Global>> Worker<N> {
-    /// Collects what is on the outlet, a handful at most.
+    /// Collects what is on the outlet, at most 64 notices.
     fn collect(&mut self) {
         for _ in 0..HANDFUL {
             let Some(notice) = self.guest.collect() else {
@@ -135,7 +136,7 @@ fn tick<N: OfficeName<Global>, R: Alloc<A = Global> + Wait>(
     }
 }
 
-/// Two tickers side by side.
+/// Two tickers in two threads.
 fn tick_both<N: OfficeName<Global> + Send + Sync, R: Alloc<A = Global> + Threads + Sync + Wait>(
     rt: &R,
     office: &Office<N>,

@@ -10,7 +10,7 @@ const HEIGHT: u32 = 33;
 
 const WIDTH: u32 = 61;
 
-/// What stands in that row and column: shelves of one row by four columns, with an aisle on each side.
+/// What is in that row and column: shelves of one row by four columns, with an aisle on each side.
 fn letter_at(row: u32, col: u32) -> u8 {
     if row % 2 == 1 && col % 5 != 0 {
         b'@'
@@ -28,7 +28,7 @@ fn letters(alloc: Global) -> Result<Vec<u8>, AllocError>
         .collect(alloc)
 }
 
-/// The warehouse, whose map has no bridge.
+/// The warehouse. Its map has no bridge.
 pub(crate) fn warehouse(alloc: Global) -> Result<Grid, AllocError> {
     Grid::new(MapText {
         height: HEIGHT,
@@ -44,7 +44,7 @@ pub(crate) fn floor_of(alloc: Global, grid: &Grid) -> Result<Vec<u32>, AllocErro
         .collect(alloc)
 }
 
-/// Where this many robots start: spread over the cells.
+/// The start cells of this many robots: spread over the cells.
 pub(crate) fn starts_on(alloc: Global, cells: &[u32], robots: u32) -> Result<Vec<u32>, AllocError> {
     let robots = robots as usize;
     (0..robots)

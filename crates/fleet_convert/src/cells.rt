@@ -1,4 +1,4 @@
-//! A plan as a line of cells a time.
+//! A plan as text with one line of cells for each time.
 
 ghost use Rattle.std.specs.Prelude.{◌≡◌, ◌++◌, ◌≤◌, OnOk, IfOk, string_bytes, codes};
 ghost use Rattle.fleet_convert.specs.Cells.{cell_text, cells_text, place_line, places_text, cells_head, cells_plan};
@@ -27,7 +27,7 @@ fn write_cells(out: &mut String, width: u32, cells: &[u32]) -> Result<(), AllocE
     Ok(())
 }
 
-/// The line of a time.
+/// The line for one time.
 fn write_place(out: &mut String, width: u32, time: usize, place: &[u32]) -> Result<(), AllocError>
     requires { 1 ≤ width }
     ensures { OnOk result (string_bytes out.new ≡ string_bytes out.old ++ place_line width time place.now) }
@@ -48,7 +48,7 @@ fn write_places(out: &mut String, width: u32, places: &Placements) -> Result<(),
     Ok(())
 }
 
-/// Cells between two texts.
+/// Cells, with one text before and one after them.
 pub(crate) fn write_between(
     out: &mut String,
     before: &str,
@@ -76,8 +76,8 @@ fn write_head(out: &mut String, width: u32, starts: &[u32], goals: &[u32]) -> Re
     out.push_str("solution=\n")
 }
 
-/// The text of a plan on a map of this width, as pibt2 and LaCAM write it: the number of robots, where they begin, where they end
-/// (under `goals`), and a line `TIME:CELLS` for each time. The only error is out of memory.
+/// The text of a plan on a map of this width, as pibt2 and LaCAM write it: the number of robots, their start cells,
+/// their last cells (under `goals`), and a line `TIME:CELLS` for each time. The only error is out of memory.
 pub fn cells_plan(alloc: Global, width: u32, places: &Placements) -> Result<String, AllocError>
     requires { 1 ≤ width }
     ensures { IfOk result (λ text. string_bytes text ≡ cells_plan width places.now) }

@@ -1,4 +1,4 @@
-//! The text of a map and of a trace on it, as a plan.
+//! Turns the text of a map and of a trace on it into a plan.
 
 ghost use Rattle.std.specs.Prelude.{◌≡◌, ◌≤◌, Ok, IfOk, IfErr, string_bytes};
 ghost use Rattle.fleet_map.specs.Form.{HasSides};
@@ -24,7 +24,7 @@ use thiserror::Error;
 pub enum PlanForm {
     /// A line of cells for each time, as pibt2 and LaCAM write it.
     Pibt2,
-    /// A line of move letters for each robot, as plans of the MAPF benchmarks are handed in.
+    /// A line of move letters for each robot, as plans for the MAPF benchmarks are submitted.
     Moves,
     /// The JSON of the League of Robot Runners, without rotation.
     Runners,
@@ -33,14 +33,14 @@ pub enum PlanForm {
 /// Why a map and a trace give no plan.
 #[derive(Clone, Copy, Debug, PartialEq, Eq, Error)]
 pub enum ConvertFault {
-    /// The bytes are no map.
+    /// The bytes are not a map.
     #[error("the map: {0}")]
     Map(MapFault),
-    /// The bytes tell no trace.
+    /// The bytes are not a trace.
     #[error("the trace: {0}")]
     Trace(TraceFault),
-    /// The entry `at`, from 1, is the first that breaks a rule, and `rule` the first that it breaks; at 0 the opening breaks
-    /// rule 1.
+    /// Entry `at`, counted from 1, is the first that breaks a rule, and `rule` is the first rule that it breaks. If
+    /// `at` is 0, the opening breaks rule 1.
     #[error("entry {at} breaks rule {rule}")]
     Illegal { at: u64, rule: u8 },
     /// Memory ran out.
@@ -76,7 +76,7 @@ fn plan_text(
     }
 }
 
-/// The plan of a chapter on a map that was read.
+/// The plan of a chapter, on a map that was read already.
 fn convert_chapter(
     alloc: Global,
     form: PlanForm,
@@ -99,9 +99,10 @@ fn convert_chapter(
     }
 }
 
-/// The text of a trace on a map, as a plan of its placements in this form: where the robots stand at the opening and after each
-/// tick. The map is read first, then the trace, which is then judged: one that is not legal on the map gives no plan. Read
-/// again by `read_plan`, a plan in the first two forms has these placements (`cells_read_back`, `moves_read_back`).
+/// The text of a trace on a map, as a plan in this form: the robots' cells at the opening and after each tick. The map
+/// is read first, then the trace, and then the trace is judged: a trace that is not legal on the map gives no plan. A
+/// plan in one of the first two forms reads back, by `read_plan`, as these same placements (`cells_read_back`,
+/// `moves_read_back`).
 pub fn convert(
     alloc: Global,
     form: PlanForm,

@@ -8,7 +8,7 @@ use fleet_history::{Chapter, Entry, RobotState};
 use fleet_plans::Placements;
 use std::alloc::{AllocError, Global};
 
-/// Where the robots stand before the first entry.
+/// The robots' cells before the first entry.
 fn opened_cells(alloc: Global, robots: &[RobotState]) -> Result<Vec<u32>, AllocError>
     ensures { IfOk result (λ cells. cells.items ≡ map (λ x. x.cell) robots.now) }
 {
@@ -27,7 +27,7 @@ fn push_ticks(places: &mut Placements, entries: &[Entry]) -> Result<(), AllocErr
     Ok(())
 }
 
-/// Where the robots of a chapter stand: item 0 at the opening, item t after t ticks. The only error is out of memory.
+/// The robots' cells in a chapter: item 0 at the opening, item t after t ticks. The only error is out of memory.
 pub fn places_in(alloc: Global, chapter: &Chapter) -> Result<Placements, AllocError>
     ensures { IfOk result (λ places. places ≡ places_in (history_of chapter.now)) }
 {

@@ -1,4 +1,4 @@
-//! A plan as a line of move letters a robot.
+//! A plan as text with one line of move letters for each robot.
 
 ghost use Rattle.std.specs.Prelude.{◌≡◌, ◌++◌, ◌≤◌, OnOk, IfOk, string_bytes};
 ghost use Rattle.fleet_plans.specs.Valid.{place_at};
@@ -36,8 +36,8 @@ fn write_tracks(out: &mut String, width: u32, places: &Placements) -> Result<(),
     Ok(())
 }
 
-/// The text of a plan on a map of this width, as plans of the MAPF benchmarks are handed in: where the robots begin, and a line
-/// of the letters u, d, l, r, w for each robot. The only error is out of memory.
+/// The text of a plan on a map of this width, as plans for the MAPF benchmarks are submitted: the robots' start cells,
+/// and a line of the letters u, d, l, r, w for each robot. The only error is out of memory.
 pub fn moves_plan(alloc: Global, width: u32, places: &Placements) -> Result<String, AllocError>
     requires { 1 ≤ width }
     ensures { IfOk result (λ text. string_bytes text ≡ moves_plan width places.now) }

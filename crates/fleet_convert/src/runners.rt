@@ -10,7 +10,7 @@ use fleet_plans::Placements;
 use std::alloc::{AllocError, Global};
 use std::fmt::Write;
 
-/// What stands before the item in this place of a list.
+/// The text before the item at this place of a list.
 fn comma_before(place: usize) -> &'static str
     ensures { result.now ≡ comma_before place }
 {
@@ -34,7 +34,7 @@ fn write_path(
     Ok(())
 }
 
-/// A robot's row and column, after others.
+/// A robot's row and column, as the next item of a list.
 fn write_start(out: &mut String, width: u32, robot: usize, cell: u32) -> Result<(), AllocError>
     requires { 1 ≤ width }
     ensures { OnOk result (string_bytes out.new ≡ string_bytes out.old ++ (comma_before robot ++ codes "[" ++ decimal (cell / width) ++ codes "," ++ decimal (cell % width) ++ codes "]")) }
@@ -44,7 +44,7 @@ fn write_start(out: &mut String, width: u32, robot: usize, cell: u32) -> Result<
     write!(out, "[{row},{column}]")
 }
 
-/// Where the robots start.
+/// The robots' start cells.
 fn write_starts(out: &mut String, width: u32, cells: &[u32]) -> Result<(), AllocError>
     requires { 1 ≤ width }
     ensures { OnOk result (string_bytes out.new ≡ string_bytes out.old ++ starts_from width 0 cells.now) }
@@ -55,7 +55,7 @@ fn write_starts(out: &mut String, width: u32, cells: &[u32]) -> Result<(), Alloc
     Ok(())
 }
 
-/// A robot's path in quotes, after others.
+/// A robot's path in quotes, as the next item of a list.
 fn write_quoted(
     out: &mut String,
     width: u32,
@@ -80,9 +80,9 @@ fn write_paths(out: &mut String, width: u32, places: &Placements) -> Result<(), 
     Ok(())
 }
 
-/// The text of a plan on a map of this width, as the JSON of the League of Robot Runners, in the action model MAPF: `start` has
-/// each robot's row and column, `actualPaths` its steps, letters of U, D, L, R, W separated by commas. The only error is out of
-/// memory.
+/// The text of a plan on a map of this width, as the JSON of the League of Robot Runners, in the action model MAPF:
+/// `start` has each robot's row and column, and `actualPaths` its steps, as letters U, D, L, R, W separated by commas.
+/// The only error is out of memory.
 pub fn runners_plan(alloc: Global, width: u32, places: &Placements) -> Result<String, AllocError>
     requires { 1 ≤ width }
     ensures { IfOk result (λ text. string_bytes text ≡ runners_plan width places.now) }

@@ -7,7 +7,7 @@ ghost use Rattle.fleet_convert.specs.Runners.{capital};
 
 use fleet_plans::Placements;
 
-/// A step of a robot. Up leads to the row above.
+/// A step of a robot. `Up` leads to the row above.
 #[derive(Clone, Copy, Debug, PartialEq, Eq)]
 pub(crate) enum Step {
     Up,
@@ -18,7 +18,7 @@ pub(crate) enum Step {
 }
 
 impl Step {
-    /// Its letter, as plans of the MAPF benchmarks have it.
+    /// Its letter in plans of the MAPF benchmarks.
     pub(crate) fn letter(self) -> &'static str
         ensures { result.now ≡ letter self ∷ [] }
     {
@@ -31,7 +31,7 @@ impl Step {
         }
     }
 
-    /// Its letter, as the League of Robot Runners has it.
+    /// Its letter in plans of the League of Robot Runners.
     pub(crate) fn capital(self) -> &'static str
         ensures { result.now ≡ capital self }
     {
@@ -45,7 +45,7 @@ impl Step {
     }
 }
 
-/// The step from a cell to a cell, on a map of this width.
+/// The step from one cell to another, on a map of this width.
 fn step_between(width: u32, from: u32, to: u32) -> Step
     ensures { result ≡ step_between width from to }
 {
@@ -63,14 +63,14 @@ fn step_between(width: u32, from: u32, to: u32) -> Step
     }
 }
 
-/// The robot's cell in a placement, 0 where it has none.
+/// The robot's cell in a placement; 0 if it has none.
 fn cell_of(place: &[u32], robot: usize) -> u32
     ensures { result ≡ slice_index place.now robot }
 {
     if robot < place.len() { place[robot] } else { 0 }
 }
 
-/// The robot's step from a time to the next.
+/// The robot's step from one time to the next.
 pub(crate) fn step_at(width: u32, places: &Placements, robot: usize, time: usize) -> Step
     requires { time < 18446744073709551615 }
     ensures { result ≡ step_between width (slice_index (place_at places.now time) robot) (slice_index (place_at places.now (time + 1)) robot) }

@@ -1,4 +1,4 @@
-//! What there is to say of a map and a plan's text.
+//! The answer to the text of a map and of a plan.
 
 ghost use Rattle.std.specs.Prelude.{◌≡◌, ◌≢◌, ◌≤◌, ◌++◌, Some, codes, decimal, length, IfOk};
 ghost use Rattle.fleet_map.specs.Form.{HasSides};
@@ -18,14 +18,14 @@ use fleet_map::{MapFault, MapText, read_map};
 use std::alloc::{AllocError, Allocator, Global};
 use std::fmt;
 
-/// What there is to say of a map and a plan's text.
+/// The answer to the text of a map and of a plan.
 #[derive(Clone, Copy, Debug, PartialEq, Eq)]
 pub enum PlanAnswer {
     /// The map cannot be read.
     Map(MapFault),
-    /// The text is no plan: the first line that may not stand where it does, from 1.
+    /// The text is no plan. This is the number, from 1, of the first line that is not allowed where it is.
     Text(u32),
-    /// The text begins as JSON and is no plan.
+    /// The text begins as JSON and is not a plan.
     Json(RunnersFault),
     /// The plan is valid.
     Valid(PlanReport),
@@ -66,7 +66,7 @@ fn judge_on<A: Allocator + Copy>(
     }
 }
 
-/// The line of a fault. Out of memory has none.
+/// The line of a fault; an error for out of memory.
 fn line_of(fault: PlanTextFault) -> Result<u32, AllocError>
     ensures { IfOk result (λ line. fault ≡ PlanTextFault.Line line) }
 {
@@ -76,7 +76,7 @@ fn line_of(fault: PlanTextFault) -> Result<u32, AllocError>
     }
 }
 
-/// The fault of a text in JSON. Out of memory is none.
+/// The fault of a text in JSON; an error for out of memory.
 fn json_fault(fault: RunnersFault) -> Result<RunnersFault, AllocError>
     ensures same { IfOk result (λ named. named ≡ fault) }
     ensures named { IfOk result (λ named. named ≢ RunnersFault.NoMemory) }
@@ -87,7 +87,7 @@ fn json_fault(fault: RunnersFault) -> Result<RunnersFault, AllocError>
     }
 }
 
-/// What there is to say of a plan's lines on a map.
+/// The answer to a plan's lines on a map.
 fn answer_lines(alloc: Global, map: MapText, text: &[u8]) -> Result<PlanAnswer, AllocError>
     requires sides { HasSides (view map) }
     requires short { length text.now ≤ 16777216 }
@@ -102,7 +102,7 @@ fn answer_lines(alloc: Global, map: MapText, text: &[u8]) -> Result<PlanAnswer, 
     }
 }
 
-/// What there is to say of a plan in JSON on a map.
+/// The answer to a plan in JSON on a map.
 fn answer_json(alloc: Global, map: MapText, text: &[u8]) -> Result<PlanAnswer, AllocError>
     requires { HasSides (view map) }
     ensures { IfOk result (λ answer. IsJsonAnswer (view map) text.now answer) }
@@ -116,7 +116,7 @@ fn answer_json(alloc: Global, map: MapText, text: &[u8]) -> Result<PlanAnswer, A
     }
 }
 
-/// What there is to say of a plan's text on a map.
+/// The answer to a plan's text on a map.
 fn answer_text(alloc: Global, map: MapText, text: &[u8]) -> Result<PlanAnswer, AllocError>
     requires sides { HasSides (view map) }
     requires short { length text.now ≤ 16777216 }
@@ -129,7 +129,7 @@ fn answer_text(alloc: Global, map: MapText, text: &[u8]) -> Result<PlanAnswer, A
     }
 }
 
-/// The fault of a map. Out of memory is none.
+/// The fault of a map; an error for out of memory.
 fn map_fault(fault: MapFault) -> Result<MapFault, AllocError>
     ensures same { IfOk result (λ named. named ≡ fault) }
     ensures named { IfOk result (λ named. named ≢ MapFault.NoMemory) }
@@ -140,8 +140,8 @@ fn map_fault(fault: MapFault) -> Result<MapFault, AllocError>
     }
 }
 
-/// What there is to say of a map and a plan's text: the first of a fault of the map, a fault of the text, and the
-/// verdict on the plan.
+/// The answer to the text of a map and of a plan: a fault of the map; if there is none, a fault of the plan's text; if
+/// there is none, the verdict on the plan.
 pub fn check_texts(alloc: Global, map: &[u8], text: &[u8]) -> Result<PlanAnswer, AllocError>
     requires { length text.now ≤ 16777216 }
     ensures { IfOk result (λ answer. IsPlanAnswer map.now text.now answer) }
@@ -152,7 +152,7 @@ pub fn check_texts(alloc: Global, map: &[u8], text: &[u8]) -> Result<PlanAnswer,
     }
 }
 
-/// A step's fault as it prints: its kind, and its robots.
+/// A step's fault as it is printed: its kind, and its robots.
 #[derive(Clone, Copy)]
 pub struct FaultText(pub StepFault);
 
@@ -171,7 +171,7 @@ impl fmt::Display for FaultText {
     }
 }
 
-/// How many robots end on their goals, as it prints.
+/// How many robots end on their goals, as it is printed.
 #[derive(Clone, Copy)]
 struct GoalsText(Option<u32>);
 

@@ -16,7 +16,7 @@ fn comma(text: &[u8]) -> Option<usize>
     text.iter().position(|byte| *byte == b',')
 }
 
-/// The first part of a list and what follows its comma, or `None` where nothing is left.
+/// The first part of a list and what follows its comma; `None` if nothing is left.
 #[tactic(auto, using(crate::proofs::Parts::parts_first, crate::proofs::Parts::parts_last))]
 pub(crate) fn first_part(text: &[u8]) -> Option<(&[u8], &[u8])>
     ensures cut { MatchOption result (parts_of text.now ≡ []) (λ x. parts_of text.now ≡ x.0.now ∷ parts_of x.1.now) }
@@ -31,7 +31,7 @@ pub(crate) fn first_part(text: &[u8]) -> Option<(&[u8], &[u8])>
     }
 }
 
-/// A coordinate, 1,024 where it is more.
+/// A coordinate; 1,024 if it is greater.
 fn coordinate_of(word: &[u8]) -> Option<u32>
     ensures exact { result ≡ coordinate word.now }
     ensures small { IfSome result (λ n. n ≤ 1024) }
@@ -71,7 +71,7 @@ fn cell_of(sides: Sides, first: &[u8], second: &[u8]) -> Option<u32>
     Some(sides.cell_at(x, y))
 }
 
-/// The cells of a list `(X,Y),(X,Y),..`, or `None` where the text is no such list.
+/// The cells of a list `(X,Y),(X,Y),..`; `None` if the text is not such a list.
 pub(crate) fn cells_of<A: Allocator + Copy>(
     alloc: A,
     sides: Sides,

@@ -7,7 +7,7 @@ ghost use Rattle.fleet_plans.specs.Costs.{IsOneFleet, AreCostsBy, IsNoted, great
 use crate::placements::Placements;
 use std::alloc::{AllocError, Allocator};
 
-/// Notes of each robot that moves in a step to this time that it does.
+/// Notes this time for each robot that moves in the step to it.
 fn note_moves(costs: &mut [u32], from: &[u32], to: &[u32], time: u32)
     requires before { length from.now ≡ length costs.old }
     requires after { length to.now ≡ length costs.old }
@@ -33,8 +33,8 @@ fn fill_costs<A: Allocator + Copy>(costs: &mut [u32], places: &Placements<A>)
     }
 }
 
-/// Each robot's cost: the number of the last step in which it moves, 0 where it never does. So it is the time from
-/// which the robot stays where it ends. Item t of `places` has the robots' cells at time t.
+/// Each robot's cost: the number of the last step in which it moves, or 0 if it never moves. This is the time from
+/// which the robot stays on its last cell. Item t of `places` has the robots' cells at time t.
 pub fn costs_of<A: Allocator + Copy>(
     alloc: A,
     places: &Placements<A>,
@@ -57,7 +57,7 @@ pub(crate) fn zeros<A: Allocator + Copy>(alloc: A, n: usize) -> Result<Vec<u32, 
     Ok(list)
 }
 
-/// The sum of costs.
+/// The sum of these costs.
 pub fn sum_of_costs(costs: &[u32]) -> u64
     requires { length costs.now < 2 ^ 32 }
     ensures { result ≡ sum costs.now }
@@ -65,7 +65,7 @@ pub fn sum_of_costs(costs: &[u32]) -> u64
     costs.iter().map(|cost| u64::from(*cost)).sum()
 }
 
-/// The greatest cost, 0 where there is none: the makespan, from which on no robot moves.
+/// The greatest of these costs, 0 if there are none: the makespan, from which on no robot moves.
 pub fn makespan(costs: &[u32]) -> u32
     ensures { result ≡ greatest costs.now }
 {

@@ -1,13 +1,14 @@
-//! Why a text is no plan.
+//! Why a text is not a plan.
 
 use std::alloc::{AllocError, AllocFailed};
 
-/// Why a text is no plan.
+/// Why a text is not a plan.
 #[derive(Clone, Copy, Debug, PartialEq, Eq)]
 pub enum PlanTextFault {
-    /// The first line that may not stand where it does, from 1; the one after the last where the text ends too early.
+    /// The number, from 1, of the first line that is not allowed where it is; if the text ends too early, that of the
+    /// line after the last.
     Line(u32),
-    /// Memory ran out, which says nothing of the text.
+    /// Memory ran out; this says nothing about the text.
     NoMemory,
 }
 

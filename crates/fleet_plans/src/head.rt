@@ -29,7 +29,7 @@ fn place_of(line: &[u8], byte: u8) -> Option<usize>
     line.iter().position(|b| *b == byte)
 }
 
-/// What stands before the first such byte, and what stands after it.
+/// The text before the first such byte, and the text after it.
 #[tactic(auto, using(crate::proofs::Parts::rest_of))]
 pub(crate) fn split_once(line: &[u8], byte: u8) -> Option<(&[u8], &[u8])>
     ensures value { option_map (λ x. (x.0.now, x.1.now)) result ≡ split_once byte line.now }
@@ -39,7 +39,7 @@ pub(crate) fn split_once(line: &[u8], byte: u8) -> Option<(&[u8], &[u8])>
     Some((&line[..at], &line[at + 1..]))
 }
 
-/// Takes what a line says, where none said it before.
+/// Takes what a line says, unless an earlier line said it.
 fn set_once<T: Drop>(place: &mut Option<T>, said: Option<T>) -> Option<()>
     ensures { option_map (λ done. place.new) result ≡ option_map Some (if_new place.old said) }
 {
@@ -53,7 +53,7 @@ fn set_once<T: Drop>(place: &mut Option<T>, said: Option<T>) -> Option<()>
     }
 }
 
-/// The form of a solution, as a value names it: whether it is one of moves.
+/// The form of a solution that a value names: whether it is the form of moves.
 fn is_form_of_moves(value: &[u8]) -> Option<bool>
     ensures { result ≡ form_in value.now }
 {
@@ -67,7 +67,7 @@ fn is_form_of_moves(value: &[u8]) -> Option<bool>
 }
 
 impl<A: Allocator + Copy> Head<A> {
-    /// The head without lines.
+    /// The head before any line.
     fn new() -> Head<A>
         ensures { shown result ≡ blank_head }
     {
@@ -125,7 +125,7 @@ impl<A: Allocator + Copy> Head<A> {
     }
 }
 
-/// A plan's text whose head is read.
+/// A plan's text whose head was read.
 pub(crate) struct Opened<'a, A: Allocator + Copy = Global> {
     pub(crate) head: Head<A>,
     /// The number of the first line after the head.

@@ -15,14 +15,14 @@ use std::alloc::{AllocError, Allocator};
 /// The first placement of a plan that is at fault.
 #[derive(Clone, Copy, Debug, PartialEq, Eq)]
 pub struct PlanFault {
-    /// Its time: 0 where the robots cannot start so, else the number of the step that leads to it.
+    /// Its time: 0 if the robots cannot start where they are, otherwise the number of the step that leads to it.
     pub time: u32,
     /// What is wrong with it.
     pub fault: StepFault,
 }
 
-/// Whether a step is conflict-free, or its first fault. `check_step` looks for faults in their order and keeps a tree; `is_free` says of
-/// most steps that there is none, with a table that is made once.
+/// `Ok` if a step is conflict-free, otherwise its first fault. `check_step` looks for faults in their order and keeps a
+/// tree. For most steps `is_free` finds that there is no fault, with a table that is made once.
 fn judge_step<A: Allocator + Copy, B: Allocator + Copy>(
     alloc: A,
     grid: &Grid<B>,
@@ -40,7 +40,7 @@ fn judge_step<A: Allocator + Copy, B: Allocator + Copy>(
     check_step(alloc, grid, from, to)
 }
 
-/// A table with a robot for each cell; an empty one where memory is refused.
+/// A table with a robot for each cell; an empty one if memory runs out.
 fn seats_of<A: Allocator + Copy, B: Allocator + Copy>(alloc: A, grid: &Grid<B>) -> Vec<u32, A> {
     match zeros(alloc, grid.cell_count() as usize) {
         Ok(seats) => seats,
@@ -48,7 +48,7 @@ fn seats_of<A: Allocator + Copy, B: Allocator + Copy>(alloc: A, grid: &Grid<B>) 
     }
 }
 
-/// Judges the steps of a plan whose robots can start so.
+/// Judges the steps of a plan whose starts are a placement.
 fn judge_steps<A: Allocator + Copy, B: Allocator + Copy>(
     alloc: A,
     grid: &Grid<B>,
@@ -71,9 +71,9 @@ fn judge_steps<A: Allocator + Copy, B: Allocator + Copy>(
 
 /// Judges a plan: item t of `places` has the robots' cells at time t.
 ///
-/// It is valid where the robots can start so (distinct cells, each on the floor) and each step is conflict-free (Stern
-/// et al., SoCS 2019). The fault is that of the first placement at fault, as `check_placement` names it at time 0 and
-/// `check_step` at each later one; `NoMemory` where the search for conflicts found no room.
+/// It is valid if the starts are distinct floor cells and each step is conflict-free (Stern et al., SoCS 2019). The
+/// fault is that of the first placement at fault: at time 0 as `check_placement` names it, at later times as
+/// `check_step` does. `NoMemory` if the search for conflicts ran out of memory.
 pub fn judge_plan<A: Allocator + Copy, B: Allocator + Copy>(
     alloc: A,
     grid: &Grid<B>,

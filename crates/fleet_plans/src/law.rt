@@ -1,4 +1,4 @@
-//! What holds of valid plans.
+//! Laws of valid plans.
 
 ghost use Rattle.std.specs.Prelude.{◌≡◌, ◌<◌, ℕ, List, length};
 ghost use Rattle.fleet_grid.specs.Floor.{Floor};

@@ -1,4 +1,4 @@
-//! Plans of other planners: read from the texts that the field's tools write, judged step by step, and written.
+//! Plans of other planners: reads the texts that tools of the field write, and judges the plans step by step.
 #![tactic(auto)]
 
 mod answer;

@@ -7,12 +7,12 @@ ghost use Rattle.fleet_plans.specs.Cut.{cut, IsCut};
 use std::alloc::{AllocError, Allocator, Global};
 use std::marker::Model;
 
-/// The placements of a plan by time, each the robots' cells by number. Contracts see a list of lists.
+/// The placements of a plan, by time; each has the robots' cells, by number. Contracts see a list of lists.
 #[derive(Drop)]
 pub struct Placements<A: Allocator + Copy = Global> {
     /// The cells of all placements, one after the other.
     cells: Vec<u32, A>,
-    /// Where each placement ends there.
+    /// For each placement, its end in the list of cells.
     ends: Vec<usize, A>,
 }
 
@@ -35,7 +35,7 @@ fn start_of(ends: &[usize], time: usize) -> usize
     if time == 0 { 0 } else { ends[time - 1] }
 }
 
-/// The cells from one place on and before another.
+/// The cells from one place up to another.
 fn part(cells: &[u32], start: usize, end: usize) -> &[u32]
     requires order { start ≤ end }
     requires inside { end ≤ length cells.now }
@@ -44,7 +44,7 @@ fn part(cells: &[u32], start: usize, end: usize) -> &[u32]
     &cells[start..end]
 }
 
-/// The placement at a time of those that end at these places; no cells where there is none.
+/// The placement at a time, where these are the ends of all placements; empty if there is none.
 fn place_at<'a>(cells: &'a [u32], ends: &[usize], time: usize) -> &'a [u32]
     requires { IsCut 0 ends.now (length cells.now) }
     ensures { result.now ≡ place_at (cut 0 ends.now cells.now) time }
@@ -68,7 +68,7 @@ impl<A: Allocator + Copy> Placements<A> {
         }
     }
 
-    /// Makes room for a number of placements with a number of cells in all.
+    /// Reserves memory for a number of placements with a number of cells in all.
     pub fn reserve(&mut self, places: usize, cells: usize) -> Result<(), AllocError>
         ensures { self.new ≡ self.old }
     {
@@ -76,7 +76,7 @@ impl<A: Allocator + Copy> Placements<A> {
         self.ends.reserve(places)
     }
 
-    /// Adds a placement after the others. Where memory is refused, they stay as they are.
+    /// Adds a placement at the end. If memory runs out, nothing changes.
     pub fn push(&mut self, place: &[u32]) -> Result<(), AllocError>
         ensures added { OnOk result (self.new ≡ self.old ++ place.now ∷ []) }
         ensures kept { IfErr result (λ _. self.new ≡ self.old) }
@@ -94,7 +94,7 @@ impl<A: Allocator + Copy> Placements<A> {
         self.ends.len()
     }
 
-    /// The placement at a time; no cells where there is none.
+    /// The placement at a time; empty if there is none.
     pub fn at(&self, time: usize) -> &[u32]
         ensures { result.now ≡ place_at self.now time }
     {

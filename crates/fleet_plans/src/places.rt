@@ -1,4 +1,4 @@
-//! The solution of a plan's text, as one line of cells a time.
+//! The solution of a plan's text, with one line of cells for each time.
 
 ghost use Rattle.std.specs.Prelude.{◌≡◌, ◌≤◌, ◌+◌, ◌<◌, ◌^◌, [], length, IfOk, IfSome, Some, Ok, Err};
 ghost use Rattle.fleet_map.specs.Text.{lines_of, number_of};
@@ -26,7 +26,7 @@ fn is_number(number: usize, word: &[u8]) -> bool
     }
 }
 
-/// The cells of a line of this time, or `None` where it is no such line.
+/// The cells in the line of this time; `None` if it is not such a line.
 fn place_of<A: Allocator + Copy>(
     alloc: A,
     sides: Sides,
@@ -42,7 +42,7 @@ fn place_of<A: Allocator + Copy>(
     }
 }
 
-/// Whether the cells are the starts, where these are named.
+/// Whether the cells are the starts, if the head names starts.
 fn agrees<A: Allocator + Copy>(starts: &Option<Row<u32, A>>, place: &[u32]) -> bool
     ensures { result ≡ agrees starts.now place.now }
 {
@@ -52,7 +52,7 @@ fn agrees<A: Allocator + Copy>(starts: &Option<Row<u32, A>>, place: &[u32]) -> b
     }
 }
 
-/// Whether each robot has a goal, where goals are named.
+/// Whether each robot has a goal, if the head names goals.
 pub(crate) fn covers<A: Allocator + Copy>(goals: &Option<Row<u32, A>>, place: &[u32]) -> bool
     ensures { result ≡ covers goals.now place.now }
 {
@@ -62,7 +62,7 @@ pub(crate) fn covers<A: Allocator + Copy>(goals: &Option<Row<u32, A>>, place: &[
     }
 }
 
-/// Whether a plan with this head may begin so.
+/// Whether a plan with this head may begin with these cells.
 fn begins<A: Allocator + Copy>(head: &Head<A>, place: &[u32]) -> bool
     ensures { result ≡ begins (shown head.now) place.now }
 {
@@ -94,7 +94,7 @@ fn add_step<A: Allocator + Copy>(
     Ok(places.push(place.as_slice())?)
 }
 
-/// The placements of a solution whose first line has this number.
+/// The placements of a solution; this is the number of its first line.
 #[tactic(auto, unfolding(crate::specs::Places::places_of))]
 pub(crate) fn read_places<A: Allocator + Copy>(
     alloc: A,

@@ -18,16 +18,16 @@ use crate::walk::walk;
 use fleet_history::Row;
 use std::alloc::{Allocator, Global};
 
-/// A plan: where robots are at each time, and where they are to go.
+/// A plan: the robots' cells at each time, and their goals.
 #[derive(Drop)]
 pub struct Plan<A: Allocator + Copy = Global> {
-    /// The robots' goals by number, where the text names them.
+    /// The robots' goals by number, if the text names them.
     pub goals: Option<Row<u32, A>>,
-    /// The robots' cells by time, one placement at least.
+    /// The robots' cells by time: at least one placement.
     pub places: Placements<A>,
 }
 
-/// The plan of a solution of moves, whose first line has this number.
+/// The plan that a solution of moves says; this is the number of the solution's first line.
 fn plan_of_moves<A: Allocator + Copy>(
     alloc: A,
     sides: Sides,
@@ -58,7 +58,7 @@ fn plan_of_moves<A: Allocator + Copy>(
     Ok(Plan { goals, places })
 }
 
-/// The plan of a solution after this head, whose first line has this number.
+/// The plan that the solution after this head says; this is the number of the solution's first line.
 fn plan_after<A: Allocator + Copy>(
     alloc: A,
     sides: Sides,
@@ -85,10 +85,10 @@ fn plan_after<A: Allocator + Copy>(
     Ok(Plan { goals, places })
 }
 
-/// The plan that a text is: lines KEY=VALUE up to the line `solution=`, and then a line TIME:CELLS for each time, as
-/// Okumura's planners write it, or, with the line `form=moves`, a line of the letters u, d, l, r, w for each robot.
+/// Reads a plan in lines: lines KEY=VALUE up to the line `solution=`, and then a line TIME:CELLS for each time, as
+/// Okumura's planners write it; or, with the line `form=moves`, a line of the letters u, d, l, r, w for each robot.
 ///
-/// The fault is the first line that may not stand where it does, or `NoMemory`.
+/// The fault is the first line that is not allowed where it is, or `NoMemory`.
 pub fn read_plan<A: Allocator + Copy>(
     alloc: A,
     sides: Sides,

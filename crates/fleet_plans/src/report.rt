@@ -1,4 +1,4 @@
-//! What there is to say of a valid plan.
+//! The report on a valid plan.
 
 ghost use Rattle.std.specs.Prelude.{◌≡◌, ◌≤◌, ◌<◌, ◌^◌, ◌-◌, ℕ, length, OnOk, IfOk, IfErr};
 ghost use Rattle.std.specs.Option.{option_map};
@@ -14,22 +14,22 @@ use fleet_grid::Grid;
 use fleet_history::Row;
 use std::alloc::{AllocError, Allocator};
 
-/// The result of a valid plan.
+/// The figures of a valid plan.
 #[derive(Clone, Copy, Debug, PartialEq, Eq)]
 pub struct PlanReport {
     /// The number of steps.
     pub steps: u32,
     /// The number of robots.
     pub robots: u32,
-    /// The sum of the robots' costs: of the times from which each stays where it ends.
+    /// The sum of the robots' costs, where a robot's cost is the time from which it stays on its last cell.
     pub sum_of_costs: u64,
     /// The greatest cost, from which on no robot moves.
     pub makespan: u32,
-    /// How many robots end on their goals, where the plan names goals.
+    /// How many robots end on their goals, if the plan names goals.
     pub on_goals: Option<u32>,
 }
 
-/// How many robots of a plan end on their goals, where it names goals.
+/// How many robots of a plan end on their goals, if it names goals.
 fn goals_of<A: Allocator + Copy>(goals: &Option<Row<u32, A>>, last: &[u32]) -> Option<u32>
     requires { length last.now < 2 ^ 32 }
     ensures { result ≡ option_map (λ goals. goals_reached goals last.now) goals.now }
@@ -40,7 +40,7 @@ fn goals_of<A: Allocator + Copy>(goals: &Option<Row<u32, A>>, last: &[u32]) -> O
     }
 }
 
-/// The result of a valid plan.
+/// The figures of a valid plan.
 fn report_of<A: Allocator + Copy, B: Allocator + Copy>(
     alloc: A,
     grid: &Grid<B>,

@@ -1,4 +1,4 @@
-//! Plans in JSON, as the League of Robot Runners has them.
+//! Plans in JSON, in the form of the League of Robot Runners.
 
 mod fault;
 mod paths;
@@ -23,21 +23,21 @@ use serde_json::Value;
 use starts::read_starts;
 use std::alloc::{AllocError, Global};
 
-/// Whether the byte is no white space of JSON.
+/// Whether the byte is not white space of JSON.
 fn is_mark(byte: u8) -> bool
     ensures { result ≡ is_mark byte }
 {
     byte != b' ' && byte != b'\t' && byte != b'\n' && byte != b'\r'
 }
 
-/// The place of the first byte that is no white space.
+/// The place of the first byte that is not white space.
 fn first_mark(text: &[u8]) -> Option<usize>
     ensures { result ≡ position is_mark text.now }
 {
     text.iter().position(|byte| is_mark(*byte))
 }
 
-/// Whether a text is one of JSON: after white space it begins with a brace.
+/// Whether a text is in JSON: its first byte after white space is `{`.
 pub(crate) fn is_json(text: &[u8]) -> bool
     ensures { result ≡ is_json text.now }
 {
@@ -47,7 +47,7 @@ pub(crate) fn is_json(text: &[u8]) -> bool
     }
 }
 
-/// Whether the plan names no action model other than MAPF.
+/// Whether the plan's action model is MAPF or is missing.
 fn is_mapf(plan: &Value) -> bool
     ensures { result ≡ is_mapf (get (codes "actionModel") (view plan.now)) }
 {
@@ -60,7 +60,7 @@ fn is_mapf(plan: &Value) -> bool
     }
 }
 
-/// Whether the plan names no other number of robots.
+/// Whether the plan's number of robots is this one or is missing.
 fn has_size(plan: &Value, robots: usize) -> bool
     ensures { result ≡ has_size robots (get (codes "teamSize") (view plan.now)) }
 {
@@ -84,7 +84,7 @@ fn lent(alloc: Global, tracks: &[Row<u8>]) -> Result<Vec<&[u8]>, AllocError>
     Ok(lent)
 }
 
-/// The plan that a value is.
+/// The plan that a JSON value says.
 fn plan_of(alloc: Global, sides: Sides, value: &Value) -> Result<Plan, RunnersFault>
     ensures found { IfOk result (λ plan. IsToldAs sides.width sides.height (runners_of sides.width sides.height (view value.now)) plan.goals plan.places) }
     ensures fault { IfErr result (λ fault. IsToldFault fault (runners_of sides.width sides.height (view value.now))) }
@@ -106,10 +106,10 @@ fn plan_of(alloc: Global, sides: Sides, value: &Value) -> Result<Plan, RunnersFa
     })
 }
 
-/// The plan that a text in JSON is, as the League of Robot Runners has plans of robots that do not turn: `start` has each robot's
-/// row and column, `actualPaths` its steps, letters of U, D, L, R, W separated by commas.
+/// Reads a plan in JSON, in the form of the League of Robot Runners, for robots that do not turn: `start` has each
+/// robot's row and column, and `actualPaths` its steps, as letters U, D, L, R, W separated by commas.
 ///
-/// The fault is the first, by the keys in the order of `RunnersKey`.
+/// The fault is the first one, with the keys in the order of `RunnersKey`.
 pub fn read_runners(alloc: Global, sides: Sides, text: &[u8]) -> Result<Plan, RunnersFault>
     ensures found { IfOk result (λ plan. IsRunnersPlan sides.width sides.height text.now plan.goals plan.places) }
     ensures fault { IfErr result (λ fault. IsRunnersFault sides.width sides.height text.now fault) }

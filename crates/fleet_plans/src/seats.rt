@@ -8,7 +8,7 @@ ghost use Rattle.fleet_plans.specs.inside.Seats.{AreSeated, is_taken, is_swap};
 use fleet_grid::{Dir, Grid};
 use std::alloc::Allocator;
 
-/// Whether an edge leads in that direction from the one cell to the other.
+/// Whether an edge leads in that direction from one cell to the other.
 fn leads<B: Allocator + Copy>(grid: &Grid<B>, dir: Dir, from: u32, to: u32) -> bool
     ensures { IsTrue result ↔ IsNeighbourIn grid.now dir from to }
 {
@@ -44,7 +44,7 @@ fn are_moves<B: Allocator + Copy>(grid: &Grid<B>, from: &[u32], to: &[u32]) -> b
     true
 }
 
-/// The robot that came last to the cell, 0 where the table has no such cell.
+/// The robot that came to the cell last; 0 if the table has no such cell.
 fn seat_at(seats: &[u32], cell: u32) -> usize
     ensures { result ≡ slice_index seats.now cell }
 {
@@ -54,7 +54,7 @@ fn seat_at(seats: &[u32], cell: u32) -> usize
     }
 }
 
-/// Whether a robot before it is on the robot's new cell.
+/// Whether a robot with a lower number is on the robot's new cell.
 fn is_taken(seats: &[u32], to: &[u32], robot: usize) -> bool
     requires { robot < length to.now }
     ensures { result ≡ is_taken seats.now to.now robot }
@@ -63,7 +63,7 @@ fn is_taken(seats: &[u32], to: &[u32], robot: usize) -> bool
     other < robot && to[other] == to[robot]
 }
 
-/// Seats the robot on its new cell, unless a robot before it is there or the table has no such cell.
+/// Enters the robot at its new cell, unless a robot with a lower number is there or the table has no such cell.
 fn seat(seats: &mut [u32], to: &[u32], robot: usize) -> bool
     requires inside { robot < length to.now }
     requires few { robot < 2 ^ 32 }
@@ -78,7 +78,7 @@ fn seat(seats: &mut [u32], to: &[u32], robot: usize) -> bool
     true
 }
 
-/// Seats each robot on its new cell, unless two come to one.
+/// Enters each robot at its new cell, unless two robots come to one cell.
 fn seat_all(seats: &mut [u32], to: &[u32]) -> bool
     requires { length to.now < 2 ^ 32 }
     ensures { IsTrue result → AreSeated seats.new to.now (length to.now) }
@@ -91,7 +91,7 @@ fn seat_all(seats: &mut [u32], to: &[u32]) -> bool
     true
 }
 
-/// Whether the robot exchanges its cell with one before it.
+/// Whether the robot exchanges its cell with a robot with a lower number.
 fn is_swap(seats: &[u32], from: &[u32], to: &[u32], robot: usize) -> bool
     requires equal { length to.now ≡ length from.now }
     requires inside { robot < length from.now }
@@ -101,7 +101,7 @@ fn is_swap(seats: &[u32], from: &[u32], to: &[u32], robot: usize) -> bool
     other < robot && to[other] == from[robot] && from[other] == to[robot]
 }
 
-/// Whether no robot exchanges its cell with one before it.
+/// Whether no robot exchanges its cell with a robot with a lower number.
 fn is_without_swap(seats: &[u32], from: &[u32], to: &[u32]) -> bool
     requires { length to.now ≡ length from.now }
     ensures { IsTrue result → (r : ℕ) → r < length from.now → is_swap seats.now from.now to.now r ≡ false }
@@ -114,8 +114,9 @@ fn is_without_swap(seats: &[u32], from: &[u32], to: &[u32]) -> bool
     true
 }
 
-/// Whether a step is conflict-free. In the table each cell has the robot that came to it last; what earlier steps left there says nothing,
-/// since a robot is on a cell only where `to` has it there. It may say no of a step without a conflict, as where the table is too short.
+/// Whether a step is conflict-free. For each cell the table has the robot that came to it last. What earlier steps left
+/// there does no harm, since a robot counts as on a cell only if `to` has it there. The result may be `false` for a
+/// step without a conflict, for example if the table is too short.
 pub(crate) fn is_free<B: Allocator + Copy>(
     grid: &Grid<B>,
     seats: &mut [u32],

@@ -1,12 +1,12 @@
-//! The sides of a map, and the numbers of its cells.
+//! Height and width of a map, and the numbers of its cells.
 
 ghost use Rattle.std.specs.Prelude.{◌≡◌, ◌≤◌, ◌<◌, ◌*◌, ◌^◌};
 ghost use Rattle.fleet_plans.specs.Cells.{cell_at};
 
-/// What stands for a cell outside of the map: no map has a cell of this number.
+/// The number for any cell outside of the map: no map has a cell with this number.
 pub(crate) const NO_CELL: u32 = u32::MAX;
 
-/// The sides of a map.
+/// Height and width of a map.
 #[derive(Clone, Copy)]
 pub struct Sides {
     pub width: u32,

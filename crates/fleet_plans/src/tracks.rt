@@ -1,4 +1,4 @@
-//! The solution of a plan's text, as one line of move letters a robot.
+//! The solution of a plan's text, with one line of move letters for each robot.
 
 ghost use Rattle.std.specs.Prelude.{◌≡◌, ◌≤◌, ◌+◌, ◌<◌, ◌*◌, ◌^◌, ◌⊎◌, ℕ, [], length, slice_index, slice_index_or, map, IfOk, Some, Ok, Err};
 ghost use Rattle.std.specs.List.{list_all};
@@ -22,7 +22,7 @@ fn are_moves(line: &[u8]) -> bool
     })
 }
 
-/// The tracks of n robots, of a solution whose first line has this number.
+/// The tracks of n robots in a solution; this is the number of its first line.
 #[tactic(auto, unfolding(crate::specs::Tracks::tracks_of))]
 pub(crate) fn read_tracks<A: Allocator + Copy>(
     alloc: A,
@@ -52,7 +52,7 @@ pub(crate) fn read_tracks<A: Allocator + Copy>(
     }
 }
 
-/// Where a move leads.
+/// The cell to which a move leads.
 pub(crate) fn moved(sides: Sides, cell: u32, letter: u8) -> u32
     ensures { result ≡ moved sides.width sides.height cell letter }
 {

@@ -10,7 +10,7 @@ use fleet_history::{Chapter, Entry, RobotState};
 use fleet_trace::{TraceFault, read_trace};
 use std::alloc::{AllocError, Global};
 
-/// The chapters of these texts. The fault is that of the first text that is no trace.
+/// Reads the chapters from these texts. The fault is that of the first text that is no trace.
 pub(crate) fn read_chapters(alloc: Global, texts: &[Vec<u8>]) -> Result<Vec<Chapter>, TraceFault>
     ensures told { IfOk result (λ chapters. TellEach (map (λ text. text.items) texts.now) (map trace_of chapters.items)) }
     ensures fault { IfErr result (λ fault. TellsNot (map (λ text. text.items) texts.now) fault) }
@@ -23,14 +23,14 @@ pub(crate) fn read_chapters(alloc: Global, texts: &[Vec<u8>]) -> Result<Vec<Chap
     Ok(chapters)
 }
 
-/// Where the robots stand before the first entry.
+/// The robots' cells before the first entry.
 fn opened_cells(alloc: Global, robots: &[RobotState]) -> Result<Vec<u32>, AllocError>
     ensures { IfOk result (λ cells. cells.items ≡ map (λ x. x.cell) robots.now) }
 {
     robots.iter().map(|robot| robot.cell).collect(alloc)
 }
 
-/// Where the robots stand after the entries.
+/// The robots' cells after the entries.
 fn cells_after(
     alloc: Global,
     robots: &[RobotState],
@@ -47,7 +47,7 @@ fn cells_after(
     Ok(cells)
 }
 
-/// The ticks made up to the end of the chapter, where that number has 64 bits.
+/// The ticks made up to the end of the chapter; `None` if the number does not fit into 64 bits.
 fn clock_of(chapter: &Chapter) -> Option<u64>
     ensures { MatchOption result (2 ^ 64 < clock (history_of chapter.now) + 1) (λ ticks. ticks ≡ clock (history_of chapter.now)) }
 {
@@ -59,7 +59,7 @@ fn clock_of(chapter: &Chapter) -> Option<u64>
     chapter.opening.tick.checked_add(ticks as u64)
 }
 
-/// Whether the second chapter goes on where the first ends.
+/// Whether the second chapter continues the first.
 fn goes_on(alloc: Global, first: &Chapter, next: &Chapter) -> Result<bool, AllocError>
     ensures { IfOk result (λ b. b ≡ goes_on (trace_of first.now) (trace_of next.now)) }
 {
@@ -81,7 +81,7 @@ fn goes_on(alloc: Global, first: &Chapter, next: &Chapter) -> Result<bool, Alloc
     Ok(same)
 }
 
-/// Whether the chapter may follow another, where there is one.
+/// Whether the chapter may follow the one before it, if there is one.
 fn fits_behind(alloc: Global, before: Option<&Chapter>, next: &Chapter) -> Result<bool, AllocError>
     ensures { IfOk result (λ b. b ≡ fits_behind (option_map trace_of (option_copied before.entry)) (trace_of next.now)) }
 {
@@ -91,7 +91,7 @@ fn fits_behind(alloc: Global, before: Option<&Chapter>, next: &Chapter) -> Resul
     }
 }
 
-/// The place, from 0, of the first chapter that does not go on where the one before it ends.
+/// The place, from 0, of the first chapter that does not continue the one before it.
 pub(crate) fn first_unfit(alloc: Global, chapters: &[Chapter]) -> Result<Option<usize>, AllocError>
     ensures first { IfOk result (λ place. place ≡ first_unfit 0 None (map trace_of chapters.now)) }
     ensures within { IfOk result (λ place. IfSome place (λ p. p < length chapters.now)) }

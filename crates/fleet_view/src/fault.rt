@@ -1,17 +1,17 @@
-//! Why a map and traces are not shown.
+//! Why a map and traces cannot be shown.
 
 use fleet_map::MapFault;
 use fleet_trace::TraceFault;
 use std::alloc::AllocError;
 
-/// Why a map and traces are not shown.
+/// Why a map and traces cannot be shown.
 #[derive(Clone, Copy, Debug, PartialEq, Eq)]
 pub enum ViewFault {
-    /// The bytes are no map.
+    /// The bytes are not a map.
     Map(MapFault),
-    /// The bytes of one of the traces tell none.
+    /// The bytes of one of the traces are not a trace.
     Trace(TraceFault),
-    /// The trace with this number, from 1, does not go on where the one before it ends.
+    /// The trace with this number, from 1, does not continue the one before it.
     Chapter(u64),
     NoMemory,
 }

@@ -1,4 +1,4 @@
-//! What holds of the page's text.
+//! Laws of the page's text.
 
 ghost use Rattle.std.specs.Prelude.{◌≡◌, ℕ, List};
 ghost use Rattle.std.specs.declared.alloc.Global.{Global};
@@ -8,7 +8,8 @@ ghost use Rattle.fleet_trace.specs.Trace.{Trace};
 ghost use Rattle.fleet_view.specs.Page.{chapters_text, map_text};
 ghost use Rattle.fleet_view.specs.Closed.{HasNoTag};
 
-/// Nothing that a page carries of its input has the byte `<`, so that none of it ends the script element in which it stands.
+/// No part of the input that a page contains has the byte `<`, so that none of it ends the script element in which it
+/// is.
 pub fn input_ends_no_element()
     ensures rows { (bytes : List ℕ) (m : Map) → IsMapText bytes m → HasNoTag (map_text m) }
     ensures traces { (ts : List (Trace Global)) → HasNoTag (chapters_text ts) }

@@ -1,4 +1,4 @@
-//! A trace to look at: a page that replays it, and a picture of it, as text.
+//! Shows traces: a page that replays a trace, and a picture of it, both as text.
 #![tactic(auto)]
 
 mod chapters;

@@ -13,7 +13,7 @@ use fleet_map::MapText;
 use fleet_trace::write_trace;
 use std::alloc::{AllocError, Global};
 
-/// The rows of a map, a line each.
+/// The rows of a map, one line for each.
 fn write_rows(out: &mut Vec<u8>, height: u32, width: u32, cells: &[u8]) -> Result<(), AllocError>
     requires { length cells.now ≡ height * width }
     ensures { OnOk result (out.new.items ≡ out.old.items ++ rows_text height width cells.now) }
@@ -28,7 +28,7 @@ fn write_rows(out: &mut Vec<u8>, height: u32, width: u32, cells: &[u8]) -> Resul
     Ok(())
 }
 
-/// The text of each trace, a line each.
+/// The text of each trace, one line for each.
 fn write_chapters(alloc: Global, out: &mut Vec<u8>, chapters: &[Chapter]) -> Result<(), AllocError>
     ensures { OnOk result (out.new.items ≡ out.old.items ++ chapters_text (map trace_of chapters.now)) }
 {

@@ -16,7 +16,7 @@ use fleet_map::MapText;
 use std::alloc::{AllocError, Global};
 use std::fmt::Write;
 
-/// Where a cell lies.
+/// The upper left corner of a cell in the picture.
 fn write_point(out: &mut String, width: u32, cell: u32) -> Result<(), AllocError>
     requires { 1 ≤ width }
     ensures { OnOk result (string_bytes out.new ≡ string_bytes out.old ++ point_text width cell) }
@@ -56,7 +56,7 @@ fn write_walls(out: &mut String, width: u32, letters: &[u8]) -> Result<(), Alloc
     Ok(())
 }
 
-/// What stands before the map's squares.
+/// The text of the picture before the squares of the map.
 fn write_head(out: &mut String, height: u32, width: u32) -> Result<(), AllocError>
     requires low { height ≤ 1024 }
     requires slim { width ≤ 1024 }
@@ -111,7 +111,7 @@ fn write_points(out: &mut String, width: u32, cells: &[u32]) -> Result<(), Alloc
     Ok(())
 }
 
-/// The values that a robot's shape goes through.
+/// The points through which a robot's shape moves, in order.
 fn write_values(out: &mut String, width: u32, start: u32, cells: &[u32]) -> Result<(), AllocError>
     requires { 1 ≤ width }
     ensures { OnOk result (string_bytes out.new ≡ string_bytes out.old ++ values_text width start cells.now) }
@@ -128,14 +128,14 @@ fn write_disc(out: &mut String, robot: usize) -> Result<(), AllocError>
     write!(out, "{DISC}{hue}{NUMBER}{robot}{SHAPE_END}")
 }
 
-/// How long a robot moves, in tenths of a second: two for each tick.
+/// How long a robot's shape moves, in tenths of a second: two for each tick.
 fn time_of(cells: &[u32]) -> usize
     ensures { result ≡ 2 * max 1 (length cells.now) }
 {
     if cells.is_empty() { 2 } else { 2 * cells.len() }
 }
 
-/// A shape that goes from cell to cell.
+/// A shape that moves from cell to cell.
 fn write_moving(
     out: &mut String,
     width: u32,
@@ -153,7 +153,7 @@ fn write_moving(
     write_disc(out, robot)
 }
 
-/// Where a robot stands after a number of ticks, or after the last.
+/// The robot's cell after n ticks; if there are fewer ticks, its last cell.
 fn cell_behind(tick: u32, start: u32, cells: &[u32]) -> u32
     ensures { result ≡ cell_behind tick start cells.now }
 {
@@ -165,7 +165,7 @@ fn cell_behind(tick: u32, start: u32, cells: &[u32]) -> u32
     }
 }
 
-/// A shape that stands.
+/// A shape that does not move.
 fn write_still(out: &mut String, width: u32, robot: usize, cell: u32) -> Result<(), AllocError>
     requires { 1 ≤ width }
     ensures { OnOk result (string_bytes out.new ≡ string_bytes out.old ++ still_text width robot cell) }
@@ -223,7 +223,7 @@ fn write_shapes(
     Ok(())
 }
 
-/// What stands under the robots.
+/// The part of the picture below the robots: the map.
 fn write_floor(out: &mut String, floor: &MapText) -> Result<(), AllocError>
     requires { HasSides (view floor.now) }
     ensures { OnOk result (string_bytes out.new ≡ string_bytes out.old ++ (head_text floor.now.height floor.now.width ++ walls_text (view floor.now))) }
@@ -235,7 +235,8 @@ fn write_floor(out: &mut String, floor: &MapText) -> Result<(), AllocError>
     Ok(())
 }
 
-/// The picture of a map and of chapters on it: each tick of theirs, or what stands after one. The only error is that memory runs out.
+/// The picture of a map and of chapters on it: of all their ticks, or of the state after one tick. The only error is
+/// that memory runs out.
 pub fn picture_of(
     alloc: Global,
     floor: &MapText,

@@ -15,7 +15,7 @@ pub(crate) const WALL: &str = "M";
 
 pub(crate) const WALLS_END: &str = "\"/>\n";
 
-/// A shape that goes from one value to the next.
+/// The beginning of a shape that moves.
 pub(crate) const TRACK: &str =
     "<g><animateTransform attributeName=\"transform\" type=\"translate\" values=\"";
 
@@ -23,7 +23,7 @@ pub(crate) const TRACK_TIME: &str = "\" dur=\"";
 
 pub(crate) const TRACK_END: &str = "00ms\" repeatCount=\"indefinite\"/>";
 
-/// A shape that stands.
+/// The beginning of a shape that does not move.
 pub(crate) const STILL: &str = "<g transform=\"translate(";
 
 pub(crate) const STILL_END: &str = ")\">";

@@ -1,4 +1,4 @@
-//! What there is to show of the text of a map and of traces on it.
+//! The page and the picture for the text of a map and of traces on it.
 
 ghost use Rattle.std.specs.Prelude.{◌≡◌, ℕ, List, Ok, map, IfOk, IfErr, string_bytes};
 ghost use Rattle.fleet_map.specs.Form.{HasSides};
@@ -15,7 +15,7 @@ use fleet_map::{MapFault, MapText, read_map};
 use fleet_trace::TraceFault;
 use std::alloc::{AllocError, Global};
 
-/// The chapters of these texts, where each goes on where the one before it ends.
+/// Reads the chapters from these texts, and checks that each one continues the one before it.
 fn chapters_in_turn(alloc: Global, texts: &[Vec<u8>]) -> Result<Vec<Chapter>, ViewFault>
     ensures told { IfOk result (λ chapters. AreInTurn (map (λ text. text.items) texts.now) (map trace_of chapters.items)) }
     ensures fault { IfErr result (λ fault. AreNotInTurn (map (λ text. text.items) texts.now) fault) }
@@ -67,8 +67,8 @@ fn picture_on(
     }
 }
 
-/// The page of a map and of traces on it: chapters, each of which goes on where the one before it ends. The map is read first, then
-/// the traces in their order; whether each goes on is looked at when all are read.
+/// The page of a map and of traces on it. The traces are chapters, and each one continues the one before it. The map is
+/// read first, then the traces in their order; when all are read, it is checked that each continues the one before it.
 pub fn view_page(alloc: Global, bytes: &[u8], texts: &[Vec<u8>]) -> Result<Vec<u8>, ViewFault>
     ensures page { IfOk result (λ page. IsPage bytes.now (map (λ text. text.items) texts.now) page.items) }
     ensures fault { IfErr result (λ fault. IsUnshown bytes.now (map (λ text. text.items) texts.now) fault) }
@@ -80,8 +80,8 @@ pub fn view_page(alloc: Global, bytes: &[u8], texts: &[Vec<u8>]) -> Result<Vec<u
     }
 }
 
-/// The picture of a map and of traces on it, which are chapters as for `view_page`: each tick of theirs, or what stands after one.
-/// Ticks count from the first opening. The faults come as there.
+/// The picture of a map and of traces on it, which are chapters as for `view_page`: of all their ticks, or of the state
+/// after one tick. Ticks count from the first opening. The faults are those of `view_page`, in the same order.
 pub fn view_picture(
     alloc: Global,
     bytes: &[u8],

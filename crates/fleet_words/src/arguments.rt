@@ -1,4 +1,4 @@
-//! Arguments and subcommands of `clap`, and what stands for them.
+//! Arguments and subcommands of `clap`, and their values in a command line.
 
 ghost use Rattle.std.specs.Prelude.{◌≡◌, IfOk, Some, map, false, string_bytes};
 ghost use Rattle.std.specs.Option.{option_map};
@@ -10,7 +10,7 @@ ghost use Rattle.fleet_words.specs.Asked.{has_flag, or_none};
 use clap::{Arg, ArgAction, ArgMatches, Command};
 use std::alloc::{AllocError, Global};
 
-/// An argument that names a file, with what help says of it.
+/// An argument that names a file, with its help text.
 fn file_argument<'a>(alloc: Global, name: &'a str, help: &'a str) -> Arg<'a>
     ensures rule { rule_of result ≡ file_rule name.entry.now }
     ensures own { result.global ≡ false }
@@ -40,7 +40,7 @@ pub(crate) fn flag<'a>(alloc: Global, name: &'a str, help: &'a str) -> Arg<'a>
         .help(help)
 }
 
-/// A subcommand, with what help says of it and an example.
+/// A subcommand, with its help text and an example.
 pub(crate) fn subcommand<'a>(
     alloc: Global,
     name: &'a str,
@@ -65,7 +65,7 @@ pub(crate) fn with_argument<'a>(
     command.arg(argument)
 }
 
-/// A command with one more file to name.
+/// A command with one more argument, which names a file.
 pub(crate) fn with_file<'a>(
     alloc: Global,
     command: Command<'a>,
@@ -78,7 +78,7 @@ pub(crate) fn with_file<'a>(
     with_argument(command, file_argument(alloc, name, help))
 }
 
-/// The word that stands for a required argument.
+/// The value of a required argument.
 pub(crate) fn word_for(
     alloc: Global,
     matches: &ArgMatches<'_>,
@@ -93,7 +93,7 @@ pub(crate) fn word_for(
     }
 }
 
-/// The word that stands for an argument that may be left out.
+/// The value of an argument that may be left out.
 pub(crate) fn some_word_for(
     alloc: Global,
     matches: &ArgMatches<'_>,
@@ -118,7 +118,7 @@ fn copies(alloc: Global, words: &[&str]) -> Result<Vec<String>, AllocError>
     Ok(copies)
 }
 
-/// The words that stand for an argument that may have several.
+/// The values of an argument that may have several.
 pub(crate) fn words_for(
     alloc: Global,
     matches: &ArgMatches<'_>,
@@ -133,7 +133,7 @@ pub(crate) fn words_for(
     }
 }
 
-/// The words that stand for an argument that may have several, or none.
+/// The values of an argument that may have several, or none.
 pub(crate) fn some_words_for(
     alloc: Global,
     matches: &ArgMatches<'_>,

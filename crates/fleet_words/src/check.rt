@@ -37,7 +37,7 @@ pub(crate) fn check_command<'a>(alloc: Global) -> Result<Command<'a>, AllocError
     )
 }
 
-/// What the words after `check` ask for.
+/// What the arguments of `check` ask for.
 pub(crate) fn check_in(alloc: Global, matches: &ArgMatches<'_>) -> Result<Check, AllocError>
     ensures { IfOk result (λ check. IsCheck (rows_of (found_of matches.now)) check) }
 {

@@ -1,4 +1,4 @@
-//! The command `fleet` and its subcommands, as `clap` has them.
+//! The command `fleet` and its subcommands, as `clap` reads them.
 
 ghost use Rattle.std.specs.Prelude.{◌≡◌, IfOk, IsOkAnd, false};
 ghost use Rattle.clap.specs.declared.builder.command.Command.TheViews.{out-Command as fields_of};
@@ -14,7 +14,7 @@ use crate::view::view_command;
 use clap::Command;
 use std::alloc::{AllocError, Global};
 
-/// The command with one more subcommand, where there was memory for that one.
+/// The command with one more subcommand, if there was memory for that one.
 fn with_subcommand<'a>(
     command: Command<'a>,
     subcommand: Result<Command<'a>, AllocError>,
@@ -52,7 +52,7 @@ fn fleet_command<'a>(alloc: Global) -> Result<Command<'a>, AllocError>
     with_subcommand(command, live_command(alloc))
 }
 
-/// The command, whose usage has this name whatever the program's file is called.
+/// The command; its usage has this name, whatever the program's file is called.
 fn called<'a>(command: Command<'a>, name: &str) -> Result<Command<'a>, AllocError>
     ensures { IfOk result (λ c. app_of c ≡ app_of command.entry) }
 {

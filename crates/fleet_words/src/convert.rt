@@ -24,7 +24,7 @@ pub enum Form {
 /// To write a trace on a map as a plan.
 #[derive(Debug, Drop)]
 pub struct Convert {
-    /// None where the word is the name of no form.
+    /// `None` if the word is not the name of a form.
     pub form: Option<Form>,
     pub map: String,
     pub trace: String,
@@ -65,7 +65,7 @@ pub(crate) fn convert_command<'a>(alloc: Global) -> Result<Command<'a>, AllocErr
     )
 }
 
-/// The form of a name.
+/// The form with a given name.
 fn form_named(name: &str) -> Option<Form>
     ensures { result ≡ form_named name.now }
 {
@@ -90,7 +90,7 @@ fn form_in(matches: &ArgMatches<'_>) -> Option<Form>
     }
 }
 
-/// What the words after `convert` ask for.
+/// What the arguments of `convert` ask for.
 pub(crate) fn convert_in(alloc: Global, matches: &ArgMatches<'_>) -> Result<Convert, AllocError>
     ensures { IfOk result (λ convert. IsConvert (rows_of (found_of matches.now)) convert) }
 {

@@ -10,11 +10,11 @@ use crate::arguments::{some_word_for, subcommand, with_argument, with_file, word
 use clap::{Arg, ArgMatches, Command};
 use std::alloc::{AllocError, Global};
 
-/// To say what is wrong with a map, and with a script or a trace on it.
+/// To say what is wrong with a map, or with a script or a trace on it.
 #[derive(Debug, Drop)]
 pub struct Explain {
     pub map: String,
-    /// A script or a trace, where one is named.
+    /// A script or a trace, if one is named.
     pub other: Option<String>,
 }
 
@@ -42,7 +42,7 @@ pub(crate) fn explain_command<'a>(alloc: Global) -> Result<Command<'a>, AllocErr
     with_argument(command, other)
 }
 
-/// What the words after `explain` ask for.
+/// What the arguments of `explain` ask for.
 pub(crate) fn explain_in(alloc: Global, matches: &ArgMatches<'_>) -> Result<Explain, AllocError>
     ensures { IfOk result (λ explain. IsExplain (rows_of (found_of matches.now)) explain) }
 {

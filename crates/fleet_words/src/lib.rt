@@ -1,5 +1,5 @@
-//! The words that the program `fleet` is given, as `clap` takes them, and the job that they name. A word is a file of its own
-//! (`view`), a variant of `Job`, and a line in `commands` and in `job_from`.
+//! The command line of the program `fleet`, as `clap` reads it, and the job that it names. Each subcommand has a file
+//! of its own (such as `view`), a variant of `Job`, and a line in `commands` and in `job_from`.
 #![tactic(auto)]
 
 mod arguments;

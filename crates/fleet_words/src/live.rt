@@ -27,9 +27,10 @@ pub struct Live {
     pub period: Option<String>,
     /// The folder for the traces of chapters.
     pub traces: Option<String>,
-    /// The pipes of clients 0, 1, ..: where their lines come from, a comma, and where what they are told goes.
+    /// The pipes of clients 0, 1, ..: the pipe from which their lines come, a comma, and the pipe for what is printed
+    /// for them.
     pub pipes: Vec<String>,
-    /// Whether tick lines are said from the start.
+    /// Whether tick lines are printed from the start.
     pub watch: bool,
 }
 
@@ -56,7 +57,7 @@ fn pipes_option<'a>(alloc: Global) -> Arg<'a>
         .help("The named pipes of the next client, from 0: its lines, and what it is told")
 }
 
-/// The options that say what the fleet begins with and when it makes turns.
+/// The options for the fleet's opening, and for when it makes turns.
 fn with_options<'a>(alloc: Global, command: Command<'a>) -> Result<Command<'a>, AllocError>
     ensures app { IfOk result (λ c. app_of c ≡ with_live_options (app_of command.entry)) }
     ensures own { IfOk result (λ c. (fields_of c).has_globals ≡ (fields_of command.entry).has_globals) }
@@ -104,7 +105,7 @@ pub(crate) fn live_command<'a>(alloc: Global) -> Result<Command<'a>, AllocError>
     with_argument(command, script_argument(alloc))
 }
 
-/// What the words after `live` ask for.
+/// What the arguments of `live` ask for.
 pub(crate) fn live_in(alloc: Global, matches: &ArgMatches<'_>) -> Result<Live, AllocError>
     ensures { IfOk result (λ live. IsLive (rows_of (found_of matches.now)) live) }
 {

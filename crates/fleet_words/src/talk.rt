@@ -67,7 +67,7 @@ pub(crate) fn talk_command<'a>(alloc: Global) -> Result<Command<'a>, AllocError>
     with_argument(command, script_argument(alloc))
 }
 
-/// What the words after `talk` ask for.
+/// What the arguments of `talk` ask for.
 pub(crate) fn talk_in(alloc: Global, matches: &ArgMatches<'_>) -> Result<Talk, AllocError>
     ensures { IfOk result (λ talk. IsTalk (rows_of (found_of matches.now)) talk) }
 {

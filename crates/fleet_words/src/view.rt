@@ -19,7 +19,7 @@ pub enum Shown {
     Page,
     /// As a picture that moves.
     Moving,
-    /// As a picture of what stands after this number of ticks.
+    /// As a picture of the fleet after this number of ticks.
     Still(u32),
 }
 
@@ -91,7 +91,7 @@ fn shown_in(matches: &ArgMatches<'_>) -> Result<Shown, AllocError>
     }
 }
 
-/// What the words after `view` ask for.
+/// What the arguments of `view` ask for.
 pub(crate) fn view_in(alloc: Global, matches: &ArgMatches<'_>) -> Result<View, AllocError>
     ensures { IfOk result (λ view. IsView (rows_of (found_of matches.now)) view) }
 {

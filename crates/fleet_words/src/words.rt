@@ -1,4 +1,4 @@
-//! The words that the program is given, and the job that they name.
+//! The program's command line, and the job that it names.
 
 ghost use Rattle.std.specs.Prelude.{◌≡◌, [], IfOk, IfErr, true, map, string_bytes};
 ghost use Rattle.clap.specs.Words.{fault_of, subcommand_of, subcommand_rows_of, takes};
@@ -19,7 +19,7 @@ use clap::error::ErrorKind;
 use clap::{ArgMatches, Error};
 use std::alloc::{AllocError, Global};
 
-/// What the program is to do.
+/// What the program has to do.
 #[derive(Debug, Drop)]
 pub enum Job {
     View(View),
@@ -33,7 +33,7 @@ pub enum Job {
 /// Why the words name no job.
 #[derive(Debug, Drop)]
 pub enum WordFault {
-    /// What `clap` says of the words. A request for help is among these.
+    /// What `clap` prints about the words. A request for help ends here too.
     Words(String),
     NoMemory,
 }
@@ -49,7 +49,7 @@ impl From<AllocError> for WordFault {
     }
 }
 
-/// The job of the words that `clap` took.
+/// The job of the words that `clap` accepted.
 fn job_from(alloc: Global, matches: &ArgMatches<'_>) -> Result<Job, AllocError>
     ensures { IfOk result (λ job. IsJobOf (subcommand_rows_of matches.now) job) }
 {
@@ -77,7 +77,7 @@ fn job_from(alloc: Global, matches: &ArgMatches<'_>) -> Result<Job, AllocError>
     }
 }
 
-/// Why `clap` did not take the words.
+/// Why `clap` did not accept the words.
 fn fault_from(alloc: Global, error: &Error) -> WordFault
     ensures { kind_of error.now ≡ OutOfMemory → result ≡ NoMemory }
 {

@@ -1,4 +1,5 @@
-//! `quickstart`: two robots change sides in a small hall, and their client is told how. The shortest whole program on a world: copy it.
+//! `quickstart`: two robots change sides in a small hall, and their client gets its notices. It is the shortest whole
+//! program on a world: copy it.
 #![tactic(auto)]
 
 ghost use Rattle.std.specs.Prelude.{◌<◌, OnOk};
@@ -16,7 +17,8 @@ use std::alloc::{Alloc, Global};
 /// A hall of two rows of three cells, numbered row by row from 0.
 const MAP: &[u8] = b"type octile\nheight 2\nwidth 3\nmap\n...\n...\n";
 
-/// Begins the next chapter of the history where this one is full. A program that keeps its history stores the old one here.
+/// Begins the next chapter of the history if this one is full. A program that keeps its history stores the old chapter
+/// here.
 fn turn_page(world: &mut World) -> Result<()>
     requires { 0 < clients world.old.core.history }
     ensures { OnOk result (0 < clients world.new.core.history) }
@@ -27,7 +29,7 @@ fn turn_page(world: &mut World) -> Result<()>
     Ok(())
 }
 
-/// Sends each robot to the other side, and prints what client 0 is told.
+/// Sends each robot to the other side, and prints the notices of client 0.
 fn play<R: Alloc<A = Global> + Print>(rt: &R, world: &mut World) -> Result<()>
     requires { 0 < clients world.old.core.history }
 {

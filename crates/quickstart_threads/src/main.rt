@@ -1,5 +1,5 @@
-//! `quickstart_threads`: two clients post errands from threads of their own while a ticker moves the robots. The shortest whole
-//! program on an office: copy it. It prints the same whatever the schedule of the threads.
+//! `quickstart_threads`: two clients post errands from threads of their own while a ticker moves the robots. It is the
+//! shortest whole program on an office: copy it. It prints the same under every schedule of the threads.
 #![tactic(auto)]
 
 ghost use Rattle.fleet_office.specs.Views.{IsNamed};
@@ -19,10 +19,10 @@ use std::thread::{Threads, for_each_mut, join, yield_now};
 /// A hall of two rows of three cells, numbered row by row from 0.
 const MAP: &[u8] = b"type octile\nheight 2\nwidth 3\nmap\n...\n...\n";
 
-/// The cells to which each of the two clients sends the robot of its number.
+/// The cells to which each of the two clients sends a robot: client c sends robot c.
 const ERRANDS: [u32; 3] = [5, 1, 3];
 
-/// All loops end after this many rounds, as a proof wants it.
+/// All loops end after this many rounds, since a proof needs a bound.
 const ROUNDS: u64 = 1_000_000_000;
 
 /// A client's thread: posts its errands, and collects until those of both clients are done.

@@ -1,4 +1,4 @@
-//! An allocator for tests: it refuses one allocation, so that a test can see what a call answers then.
+//! An allocator for tests: it refuses one allocation, so that a test can see what a call returns then.
 #![tactic(auto)]
 
 mod refusing;

@@ -3,7 +3,7 @@
 use std::alloc::{AllocError, Allocator};
 use std::sync::atomic::{AtomicU64, Ordering};
 
-/// Passes each call on to `inner`, but for the one allocation that comes after this many others.
+/// Passes each call on to `inner`, except one allocation: the one that comes after a given number of others.
 pub struct Refusing<B: Allocator> {
     inner: B,
     left: AtomicU64,
@@ -25,7 +25,7 @@ impl<B: Allocator> Drop for Refusing<B> {
     }
 }
 
-/// Whether none is left before the one to refuse. It counts down, past 0 too.
+/// Whether this is the allocation to refuse. Counts down at each call, past 0 too.
 fn is_refused(left: &AtomicU64) -> bool {
     left.fetch_sub(1, Ordering::SeqCst) == 0
 }

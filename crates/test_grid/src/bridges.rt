@@ -51,7 +51,7 @@ fn failed_push(rt: HostRuntime) {
     assert!(rt; edge_is_bridge(&rt, rt.alloc(), &grid, 5, Dir::West) == Some(true));
 }
 
-/// Whether the edge in that direction is a bridge; none where no edge leads there.
+/// Whether the edge in that direction is a bridge; `None` if no edge leads there.
 fn edge_is_bridge(
     rt: &impl Abort,
     alloc: Global,
@@ -77,7 +77,7 @@ fn first_by_search(rt: &impl Abort, alloc: Global, grid: &Grid) -> Option<(u32, 
     None
 }
 
-/// The letters of a map: a bit of the number for each cell.
+/// The letters of a map: each cell is given by one bit of the number.
 fn drawn(rt: &impl Abort, alloc: Global, count: u32, mut bits: u32) -> Vec<u8> {
     let mut cells = Vec::new(alloc);
     for _ in 0..count {
@@ -142,7 +142,7 @@ fn bridge_behind_a_long_ring(rt: HostRuntime) {
     assert!(rt; first_in(&rt, rt.alloc(), &grid) == Some((200, 201)));
 }
 
-/// Whether an allocation is refused. The next call over the same memory finds the first bridge then.
+/// Whether an allocation is refused. After a refusal, the next call with the same memory finds the first bridge.
 fn is_refused(
     rt: &impl Abort,
     heap: impl Allocator + Copy,

@@ -21,7 +21,7 @@ fn hall(rt: &impl Abort, alloc: Global) -> Grid {
     grid_of(rt, alloc, 32, 32, &cells)
 }
 
-/// Whether the check of the step is answered so.
+/// Whether the check of the step returns this.
 fn is_answered(
     heap: impl Allocator + Copy,
     grid: &Grid,
@@ -69,7 +69,7 @@ fn cells_between(rt: &impl Abort, alloc: Global, first: u32, end: u32) -> Vec<u3
     cells
 }
 
-/// The last two robots to one cell, then across one edge, and robots 0 and 32 across another.
+/// Three conflicts: the last two robots come to one cell, or cross one edge; or robots 0 and 32 cross another edge.
 fn change_cells(rt: &impl Abort, alloc: Global, grid: &Grid, from: &[u32], to: &mut [u32])
     requires { IsPlacement grid.now from.now }
 {
@@ -93,7 +93,7 @@ fn move_fleet(rt: &impl Abort, alloc: Global, grid: &Grid, from: &[u32])
     change_cells(rt, alloc, grid, from, &mut last);
 }
 
-/// Robots 0 to 511 on the first 512 cells: a row of 32 each.
+/// Robots 0 to 511 on the first 512 cells, in rows of 32.
 #[test]
 fn whole_fleet(rt: HostRuntime) {
     let grid = hall(&rt, rt.alloc());
@@ -102,7 +102,7 @@ fn whole_fleet(rt: HostRuntime) {
     move_fleet(&rt, rt.alloc(), &grid, &from);
 }
 
-/// Whether an allocation is refused while a step is checked. A second check of it meets no refusal then.
+/// Whether an allocation is refused while a step is checked. After a refusal a second check succeeds.
 fn is_refused(rt: &impl Abort, heap: impl Allocator + Copy, grid: &Grid, from: &[u32]) -> bool
     requires { IsPlacement grid.now from.now }
 {
@@ -111,7 +111,7 @@ fn is_refused(rt: &impl Abort, heap: impl Allocator + Copy, grid: &Grid, from: &
     met
 }
 
-/// What comes before the conflicts is named without memory.
+/// Faults that come before conflicts are named without taking memory.
 fn name_without_memory(rt: &impl Abort, heap: impl Allocator + Copy, grid: &Grid, from: &[u32])
     requires { IsPlacement grid.now from.now }
 {

@@ -24,7 +24,7 @@ fn ring(rt: &impl Abort, alloc: Global) -> Grid
     grid
 }
 
-/// Holds a goal once more. Its key is held.
+/// Holds the field of a goal once more. Its key is held already.
 fn hold<A: Allocator + Copy>(
     store: &mut FieldStore<A>,
     grid: &Grid,
@@ -123,7 +123,7 @@ const WAYS: [(u32, u8); 8] = [
     (8, 9),
 ];
 
-/// Whether these ways lead nearer by a field and by a compass, which tell the same distance.
+/// Whether a field and a compass have these ways nearer, and the same distance.
 fn have_ways(grid: &Grid, field: &Field, compass: &Compass, cell: u32, ways: u8) -> bool {
     field.ways(grid, cell).byte == ways
         && compass.ways(grid, cell).byte == ways
@@ -222,7 +222,7 @@ fn held_together(rt: HostRuntime) {
     hold_shared(&rt, &mut store, &grid);
 }
 
-/// Goals on the ring's floor: the numbers to 3,000 by nine, with 0 for the wall.
+/// Goals on the ring's floor: the numbers to 3,000 modulo nine, with 0 in place of the wall.
 fn goals_around(rt: &impl Abort, alloc: Global) -> Vec<u32> {
     let mut goals = Vec::new(alloc);
     for number in 0..3000u32 {
@@ -244,7 +244,7 @@ fn are_alike(field: &Field, other: &Field) -> bool {
     true
 }
 
-/// The field is the one that a single call makes.
+/// Checks that the field is the one that a single call makes.
 fn check_single(rt: &impl Abort, alloc: Global, grid: &Grid, goal: u32, field: &Field)
     requires { IsFloor grid.now goal }
 {

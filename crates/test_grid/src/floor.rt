@@ -9,7 +9,7 @@ use fleet_map::MapText;
 use std::alloc::{AllocError, Allocator, Global};
 use std::process::Abort;
 
-/// The grid of a map; none where its letters do not fill its sides.
+/// The grid of a map; `None` if the number of letters does not fit the map's sides.
 pub(crate) fn grid_of_text<A: Allocator + Copy>(
     map: MapText<A>,
 ) -> Result<Option<Grid<A>>, AllocError>

@@ -21,7 +21,7 @@ fn ring(rt: &impl Abort, alloc: Global) -> Grid {
     grid_of(rt, alloc, 3, 3, b"....@....")
 }
 
-/// A turn of each of two robots.
+/// A change of each of two robots' goals.
 fn both(first: Option<u32>, second: Option<u32>) -> [GoalChange; 2] {
     [
         GoalChange {
@@ -55,7 +55,7 @@ fn aim_at_corner<A: Allocator + Copy>(
     aims.aim(shelf, grid, robot, 8)
 }
 
-/// Turns two robots.
+/// Gives two robots new goals.
 fn turn_both<A: Allocator + Copy>(
     rt: &impl Abort,
     aims: &mut Aims<A>,
@@ -81,7 +81,7 @@ fn have_goals<A: Allocator + Copy>(aims: &Aims<A>, first: Option<u32>, second: O
     aims.goal(0) == first && aims.goal(1) == second
 }
 
-/// Whether a robot's goal is so far from the cell.
+/// Whether the cell has this distance to a robot's goal.
 fn is_away<A: Allocator + Copy>(aims: &Aims<A>, robot: u32, cell: u32, away: Option<u32>) -> bool
     requires known { robot < 2 }
     requires robots { length aims.now ≡ 2 }
@@ -134,12 +134,12 @@ fn aimed_and_turned(rt: HostRuntime) {
     aim_and_turn_over(&rt, rt.alloc(), &grid);
 }
 
-/// What robot 0 aims at after a turn to cell 1, which may be refused.
+/// What robot 0 aims at after it was given cell 1, which may have been refused.
 fn goal_after(refused: bool) -> u32 {
     if refused { 8 } else { 1 }
 }
 
-/// Whether an allocation is refused while robots are given goals and turned to others. What is refused changes nothing.
+/// Whether an allocation is refused while robots get goals and then other goals. A refused call changes nothing.
 fn is_turn_refused<A: Allocator + Copy>(
     rt: &impl Abort,
     aims: &mut Aims<A>,
@@ -181,8 +181,8 @@ fn refused_growths(rt: HostRuntime) {
     assert!(rt; 0 < refused && refused < 32);
 }
 
-/// Turns a robot to the goal that it has, and to none. Where no allocation was left after the goal's own, one here would be
-/// refused. Whether the goal was found.
+/// Gives a robot the goal that it has, and then none. If the heap had no memory left after the first goal, any
+/// allocation here would be refused. Returns whether the first goal was found.
 fn turn_without_memory<A: Allocator + Copy>(
     rt: &impl Abort,
     aims: &mut Aims<A>,

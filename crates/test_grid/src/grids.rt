@@ -13,7 +13,7 @@ fn counts<A: Allocator + Copy>(grid: &Grid<A>) -> [u32; 3] {
     [grid.cell_count(), grid.floor_count(), grid.edge_count()]
 }
 
-/// Whether a walk joins two floor cells; none where one is not floor.
+/// Whether a walk joins two floor cells; `None` if one of them is not floor.
 fn are_joined(grid: &Grid, a: u32, b: u32) -> Option<bool> {
     if grid.is_floor(a) && grid.is_floor(b) {
         Some(grid.same_part(a, b))
@@ -22,7 +22,7 @@ fn are_joined(grid: &Grid, a: u32, b: u32) -> Option<bool> {
     }
 }
 
-/// The height, the width and the counts of a map that is read; none where it is no map, or an allocation is refused.
+/// The height, the width and the counts of a map that is read; `None` if it is not a map, or an allocation is refused.
 fn sides_and_counts<A: Allocator + Copy>(heap: A, text: &[u8]) -> Option<(u32, u32, [u32; 3])> {
     // The first allocation is the map's own.
     let map = read_map(heap, text).ok()?;
@@ -66,7 +66,8 @@ fn ring_of_eight(rt: HostRuntime) {
     check_neighbours(&rt, &grid);
 }
 
-/// Maps by their sides and letters, how many cells, floor cells and edges they have, and whether a walk joins two cells.
+/// Maps by their sides and letters; how many cells, floor cells and edges they have; and whether a walk joins two given
+/// cells.
 const MAPS: [(u32, u32, &[u8], [u32; 3], (u32, u32), Option<bool>); 3] = [
     // ring_of_eight
     (3, 3, b"....@....", [9, 8, 8], (0, 8), Some(true)),
@@ -97,12 +98,12 @@ fn worked_maps(rt: HostRuntime) {
     }
 }
 
-/// How many of the places are such a one.
+/// How many of the places have this value.
 fn count_of(places: &[u32], wanted: u32) -> usize {
     places.iter().filter(|place| **place == wanted).count()
 }
 
-/// The length of the padded rows, and how many places there are, free ones and walls.
+/// The length of the padded rows, and the numbers of all places, of free places and of walls.
 fn padding(grid: &Grid) -> (u32, [usize; 3]) {
     let (stride, places) = grid.padded();
     (
@@ -188,7 +189,7 @@ fn large_maps(rt: HostRuntime) {
     }
 }
 
-/// Whether an allocation is refused. A map of a row of three cells is counted else.
+/// Whether an allocation is refused. Otherwise the counts of a map with one row of three cells are right.
 fn is_refused(rt: &impl Abort, heap: impl Allocator + Copy) -> bool {
     match sides_and_counts(heap, b"type octile\nheight 1\nwidth 3\nmap\n...\n") {
         Some(told) => {

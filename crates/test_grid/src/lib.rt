@@ -1,5 +1,5 @@
-//! Calls on the crates that know cells and lie below a world, each on its own: tests alone. Grids, fields, bridges, the check of a step,
-//! goals, the step, what a fleet goes by, and the bound on waits.
+//! Tests of the crates that know cells and are below the world: grids, fields, bridges, the check of a step, goals, the
+//! step, the planner, and the bound on waits.
 #![tactic(auto)]
 
 #[cfg(test)]

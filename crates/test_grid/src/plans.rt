@@ -1,4 +1,4 @@
-//! Happy paths. The step of a tick is run by the world's tests.
+//! Plain calls that succeed. The tests of the world run the step of a tick.
 
 use fleet_planner::eldest;
 

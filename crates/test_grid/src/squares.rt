@@ -7,11 +7,11 @@ use std::alloc::{AllocError, Global};
 pub(crate) enum Shape {
     Open,
     Border,
-    /// The border without its cell 5.
+    /// The border, except its cell 5.
     BlockedBorder,
-    /// Each other row, and the rows are joined at alternating ends: one part, one long corridor.
+    /// Every other row; the rows are joined at alternating ends, so that they are one part, one long corridor.
     Snake,
-    /// Each other row, and no two are joined.
+    /// Every other row, of which no two are joined.
     Stripes,
 }
 

@@ -1,5 +1,5 @@
-//! Worked orders, the smallest steps, how often a tie closure is asked, and each allocation refused in turn. Whole runs are
-//! tested above, over proved distances.
+//! Orders of priority worked out by hand, the smallest steps, how often a tie closure is called, and each allocation
+//! refused in turn. The tests of the crates above make whole runs, over proved distances.
 
 ghost use Rattle.std.specs.Prelude.{◌≡◌, ℕ, Option, Some, None, cond, ◌==◌, ◌<◌, [], ◌∷◌, length};
 ghost use Rattle.fleet_grid.specs.Floor.{floor_of};
@@ -82,7 +82,7 @@ fn idle_robot_stays(rt: HostRuntime) {
     assert!(rt; step_idle(&rt, alloc, &grid, slice::from_ref(&tie)) == 0);
 }
 
-/// Where the lone robot of the map `..` goes from this cell, where it has waited so long. Its goal is cell 1.
+/// Where the only robot on the map `..` goes from this cell, after this wait. Its goal is cell 1.
 fn step_east(
     grid: &Grid,
     stepper: &mut Stepper,
@@ -134,7 +134,7 @@ fn are_made(heap: impl Allocator + Copy) -> bool {
     Stepper::new(heap, 9, 2).is_ok()
 }
 
-/// Whether an allocation is refused while the tables are made. They are made again then.
+/// Whether an allocation is refused while the tables are made. After a refusal they are made again.
 fn is_refused(rt: &impl Abort, heap: impl Allocator + Copy) -> bool {
     let met = !are_made(heap);
     assert!(rt; !met || are_made(heap));

@@ -1,4 +1,4 @@
-//! Happy paths.
+//! Plain calls that succeed.
 
 use fleet_bound::{idle_within, longest_queue};
 use fleet_queue::{Errand, ErrandQueue};

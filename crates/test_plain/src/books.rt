@@ -47,8 +47,8 @@ const REACHED: Facts = Facts {
 
 const OTHER: Order = Order::Go { robot: 0, cell: 4 };
 
-/// Each fact that refuses is turned right in its order, and the next refusal shows. Robot 1 is shut, and the life of
-/// client 0 is spent.
+/// The facts that refuse are set right one after the other, and each time the next refusal shows. Robot 1 is shut, and
+/// client 0 has had all errands that its life allows.
 const REFUSALS: [(u32, Order, Facts, Verdict); 8] = [
     (0, GO, WRONG, Verdict::NoRobot),
     (0, GO, KNOWN, Verdict::RobotShut),
@@ -184,7 +184,7 @@ const MOST: Limits = Limits {
     chapters: 4_294_967_295,
 };
 
-/// Each limit one past an end of its range.
+/// Each limit, one beyond an end of its range.
 const OUTSIDE: [Limits; 17] = [
     Limits { lane: 0, ..LEAST },
     Limits { outlet: 0, ..LEAST },
@@ -244,7 +244,7 @@ fn check_invalid(rt: &impl Abort, several: &[Limits]) {
     }
 }
 
-/// Each limit at both ends of its range, and one past them.
+/// Each limit at both ends of its range, and one beyond them.
 #[test]
 fn ranges(rt: HostRuntime) {
     assert!(rt; Limits::DEFAULT.is_valid() && LEAST.is_valid() && MOST.is_valid());

@@ -1,4 +1,4 @@
-//! The closures' own answers, and how often they are called, which no clause says.
+//! What the closures return, and how often they are called, which no clause says.
 
 ghost use Rattle.std.specs.Prelude.{◌≡◌, ◌<◌, ◌≤◌, ◌+◌, ℕ};
 

@@ -41,7 +41,7 @@ fn arrived(seq: u64, number: u64) -> Notice {
     }
 }
 
-/// A call on one of the two ends, with its answer.
+/// A call on one of the two ends, with its result.
 enum Call {
     Post(Order, Result<u64, PostFault>),
     Close(Result<u64, PostFault>),
@@ -53,7 +53,7 @@ enum Call {
     Give(Notice, Result<(), Notice>),
 }
 
-/// Whether the call is answered so.
+/// Whether the call returns this.
 fn is_answered(client: &mut Client, hall: &mut HallEnd, call: &Call) -> bool {
     match call {
         Call::Post(order, answer) => client.post(*order) == *answer,
@@ -91,14 +91,14 @@ const FULL_LANE: [Call; 6] = [
     Call::Sent(3),
 ];
 
-/// A client of two orders closes by its second.
+/// A client that may send two orders closes with the second.
 const TWO_ORDERS: [Call; 3] = [
     Call::Post(GO, Ok(1)),
     Call::Post(GO, Err(PostFault::NumbersSpent(GO))),
     Call::Close(Ok(2)),
 ];
 
-/// Nothing goes after a close. A full lane leaves the client open.
+/// Nothing can be sent after a close. A full lane leaves the client open.
 const CLOSED: [Call; 11] = [
     Call::Post(GO, Ok(1)),
     Call::Close(Err(PostFault::LaneFull(Order::Close))),
@@ -175,7 +175,7 @@ fn lane_and_numbers(rt: HostRuntime) {
     check_lane(&rt, rt.alloc(), limits(4, 4), &PEEKS);
 }
 
-/// An order of this number goes over the lane, and two notices of it over the outlet.
+/// An order with this number goes over the lane, and two notices about it over the outlet.
 fn play_round(rt: &impl Abort, client: &mut Client, hall: &mut HallEnd, number: u64)
     requires least { 1 ≤ number }
     requires most { number ≤ 1000 }
@@ -194,7 +194,7 @@ fn play_round(rt: &impl Abort, client: &mut Client, hall: &mut HallEnd, number: 
     assert!(rt; client.collect() == None);
 }
 
-/// The smallest rings, over and over: each end finds what the other has done.
+/// The smallest rings, many times over: each end finds what the other has done.
 #[test]
 fn a_thousand_rounds(rt: HostRuntime) {
     let (mut client, mut hall) = lane_pair(rt.alloc(), 0, limits(1, 2)).expect(
@@ -206,7 +206,7 @@ fn a_thousand_rounds(rt: HostRuntime) {
     }
 }
 
-/// What the ends know of each other, once they were next to each other, is taken and collected.
+/// After both ends were looked at together, what they know of each other is taken and collected.
 fn take_what_is_known(rt: &impl Abort, client: &mut Client, hall: &mut HallEnd) {
     assert!(rt; hall.known() == 2 && client.known() == 1);
     assert!(rt; hall.peek_known() == GO && hall.take_known() == GO);
@@ -231,7 +231,7 @@ const ROUNDS: u64 = 2_000;
 
 const TRIES: u32 = 200_000_000;
 
-/// Sends this many orders and collects as many notices, and answers whether the notices came in their order.
+/// Sends this many orders and collects as many notices. Returns whether the notices came in their order.
 fn send_all(client: &mut Client) -> bool {
     let mut seen = 0;
     for _ in 0..TRIES {
@@ -268,7 +268,7 @@ fn serve_all(hall: &mut HallEnd) -> bool {
     given >= ROUNDS
 }
 
-/// Both ends at work side by side.
+/// Both ends at work in two threads.
 fn work_both(rt: &(impl Abort + Threads + Sync), client: &mut Client, hall: &mut HallEnd) {
     let (sent, served) = thread::join(rt, || send_all(client), || serve_all(hall));
     assert!(rt; sent && served);

@@ -1,5 +1,5 @@
-//! Calls on the crates that know no cells, each on its own: tests alone. Maps' texts, queues, books, lanes, scripts, hooks, and
-//! histories' rows.
+//! Tests of the crates that do not know cells: texts of maps, queues, books, lanes, scripts, hooks, and the rows of
+//! histories.
 #![tactic(auto)]
 
 #[cfg(test)]

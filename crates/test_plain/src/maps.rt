@@ -1,4 +1,4 @@
-//! The worked maps, the corners of the grammar, and each allocation refused in turn.
+//! Maps worked out by hand, the corners of the grammar, and each allocation refused in turn.
 
 use fleet_map::text::{first_line, first_word, is_blank_byte, number_up_to, trimmed_line};
 use fleet_map::{MOST_SIDE, MapFault, read_map};
@@ -173,7 +173,7 @@ fn write_floor(text: &mut String, height: u64, width: u64) -> Result<(), AllocEr
     Ok(())
 }
 
-/// The sides and the number of cells that are read of an open map, or its fault.
+/// The sides and the number of cells of an open map that is read, or its fault.
 fn read_sides(
     rt: &impl Abort,
     alloc: Global,
@@ -222,7 +222,7 @@ fn numbers_and_blanks(rt: HostRuntime) {
     assert!(rt; is_blank_byte(b'\t') && !is_blank_byte(b'\r'));
 }
 
-/// Whether a read meets a refused allocation. The next read over the same memory gives the map then.
+/// Whether a read meets a refused allocation. The next read with the same memory then gives the map.
 fn is_refused(rt: &impl Abort, heap: impl Allocator + Copy) -> bool {
     let met = is_faulty(heap, WHOLE, MapFault::NoMemory);
     assert!(rt; !met || is_read_as(heap, WHOLE, 1, 3, b"..."));

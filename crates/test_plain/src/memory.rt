@@ -1,5 +1,5 @@
-//! Refused memory: over a heap that is too small, each call answers so and gives everything back, whichever block did not
-//! fit. Over one that is just large enough it succeeds.
+//! Refused memory. On a heap that is too small each call says so and gives everything back, whichever block did not
+//! fit. On a heap that is just large enough it succeeds.
 
 use fleet_book::{Account, Book, Limits, Order};
 use fleet_lanes::lane_pair;
@@ -42,8 +42,8 @@ fn makes_lanes<A: Allocator + Copy>(heap: A) -> bool {
     client.post(GO) == Ok(1) && hall.take() == Some(GO)
 }
 
-/// Four errands of 24 bytes are six units of 16 bytes. Two accounts of 24 bytes are three, and three flags are one. Two
-/// rings of two slots take 896 bytes.
+/// Four errands of 24 bytes take six units of 16 bytes. Two accounts of 24 bytes take three units, and three flags take
+/// one. Two rings of two slots take 896 bytes.
 #[test]
 fn refused_growths(rt: HostRuntime) {
     for units in 0..64 {

@@ -1,4 +1,4 @@
-//! The queue on its happy path, and at its room.
+//! The queue in ordinary use, and when it is full.
 
 use fleet_queue::{Errand, ErrandQueue};
 use std::process::Abort;
@@ -41,7 +41,7 @@ const B2: Errand = Errand {
     cell: 7,
 };
 
-/// A call on a queue, with its answer.
+/// A call on a queue, with its result.
 enum Call {
     Push(Errand, Result<(), Errand>),
     Pop(Option<Errand>),
@@ -54,7 +54,7 @@ enum Call {
     IsFull(bool),
 }
 
-/// Whether the call is answered so.
+/// Whether the call returns this.
 fn is_answered(queue: &mut ErrandQueue, call: &Call) -> bool {
     match call {
         Call::Push(errand, answer) => queue.try_push(*errand) == *answer,

@@ -31,7 +31,7 @@ fn script_of_closing_lines(rt: HostRuntime) {
     assert!(rt; script.events[1] == Event::Shut(3));
 }
 
-/// Lines as a conversation reads them, one by one: what may follow a head, and what may not.
+/// Lines read one by one, as a conversation reads them: which may follow a head, and which may not.
 #[test]
 fn lines_one_by_one(rt: HostRuntime) {
     let ticks = Repeat {
@@ -50,7 +50,7 @@ fn lines_one_by_one(rt: HostRuntime) {
     assert!(rt; event_line(b"robots 0") == EventLine::Other);
 }
 
-/// The faults of scripts and lanes as a program prints them.
+/// The faults of scripts and lanes as they are printed.
 #[test]
 fn faults_in_words(rt: HostRuntime) {
     let fault = format!(in rt.alloc(); "{}", ScriptFault::Line(3)).expect(&rt, "memory");
@@ -85,7 +85,7 @@ const FAULTS: [(&[u8], Option<u32>); 10] = [
     (b"robots 0\n#\nwait\n", Some(3)),
 ];
 
-/// Scripts of closing lines, and the line at which each is refused; none where it is read.
+/// Scripts of closing lines, and the line at which each is refused; `None` if it is read.
 const CLOSING_FAULTS: [(&[u8], Option<u32>); 11] = [
     (b"ties south\nties plain\n", Some(2)),
     (b"ties east\nrobots 0\n", Some(1)),

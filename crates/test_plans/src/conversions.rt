@@ -1,4 +1,4 @@
-//! A trace as a plan in each form. The expected values were worked out by hand from where the robots stand.
+//! A trace as a plan in each form. The expected values were worked out by hand from the robots' cells.
 
 use fleet_convert::{ConvertFault, PlanForm, convert};
 use fleet_plans::{PlanAnswer, check_texts};
@@ -7,7 +7,7 @@ use std::alloc::Global;
 /// A ring of eight cells.
 const MAP: &str = "type octile\nheight 3\nwidth 3\nmap\n...\n.@.\n...\n";
 
-/// Robot 0 goes east along the upper side, robot 1 west along the lower one, and then both stay a tick.
+/// Robot 0 goes east along the upper side, robot 1 goes west along the lower side, and then both stay for one tick.
 const TRACE: &str =
     r#"{"chapter":0,"entries":[["tick",[1,7],[],[]],["tick",[2,6],[],[]],["tick",[2,6],[],[]]],"opening":{"clients":[[0,0,0,false]],"life":1000000,"queue":16,"robots":[[0,false,null,[],[0,0],[0,0]],[8,false,null,[],[0,0],[0,0]]],"tick":0},"version":2}"#;
 
@@ -19,7 +19,7 @@ const MOVES: &str = "form=moves\nstarts=(0,0),(2,2),\nsolution=\nrrw\nllw\n";
 const RUNNERS: &str =
     "{\"actionModel\":\"MAPF\",\"teamSize\":2,\"start\":[[0,0],[2,2]],\"actualPaths\":[\"R,R,W\",\"L,L,W\"]}\n";
 
-/// The plan in this form, and no text where there is none.
+/// The plan in this form; an empty text if there is none.
 fn plan(alloc: Global, form: PlanForm) -> String {
     match convert(alloc, form, MAP.as_bytes(), TRACE.as_bytes()) {
         Ok(text) => text,

@@ -1,4 +1,4 @@
-//! What is at fault in a map, a script and a trace, in sentences. Each names the fault that the grammar has there.
+//! Sentences that say what is at fault in a map, a script and a trace. Each names the fault that the grammar has there.
 
 use fleet_explain::{Explanation, explain_map, explain_script, explain_trace};
 use std::alloc::{AllocError, Global};
@@ -6,7 +6,7 @@ use std::alloc::{AllocError, Global};
 /// A ring of eight cells.
 const MAP: &str = "type octile\nheight 3\nwidth 3\nmap\n...\n.@.\n...\n";
 
-/// The sentence on a script.
+/// The sentence about the script.
 fn on_script(alloc: Global, script: &str) -> Result<String, AllocError> {
     if script.len() > 4096 {
         return Err(AllocError);

@@ -1,4 +1,4 @@
-//! Calls on plans of other planners, on traces as plans, and on explanations: tests alone.
+//! Tests of plans of other planners, of traces as plans, and of explanations.
 #![tactic(auto)]
 
 #[cfg(test)]

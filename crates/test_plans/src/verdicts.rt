@@ -36,14 +36,14 @@ const TWO_STARTS: &str = "starts=(0,0)\nstarts=(0,0)\nsolution=\n0:(0,0)\n";
 const RUNNERS: &str =
     r#"{"actionModel":"MAPF","teamSize":2,"start":[[0,0,"E"],[1,0,"E"]],"actualPaths":["R,R,D","U,W,R"],"errors":[]}"#;
 
-/// Robot 0 comes to the wall's east, robot 1 to where it was, and then robot 0 comes back.
+/// Robot 0 comes to the cell east of the wall, robot 1 to the cell where robot 0 was, and then robot 0 comes back.
 const RUNNERS_VERTEX: &str = r#" {"start":[[0,1],[0,0]],"actualPaths":["R,L","R"]}"#;
 
 const MISSING_PATH: &str = r#"{"start":[[0,1],[0,0]],"actualPaths":["R,L"]}"#;
 
 const TURNING: &str = r#"{"actionModel":"MAPF_T","start":[[0,1]],"actualPaths":["F"]}"#;
 
-/// What is said of a plan on the map, as it prints; `plan N` of a text that is none.
+/// The answer to a plan on the map, as it is printed; `plan N` for a text that is no plan.
 fn answer(alloc: Global, plan: &str) -> Result<String, AllocError> {
     if plan.len() > 4096 {
         return Err(AllocError);

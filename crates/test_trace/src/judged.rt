@@ -29,7 +29,7 @@ const WITHDRAWALS: &str =
 const SHUT: &str =
     "{\"chapter\":0,\"entries\":[[\"take\",0,[\"go\",0,1],[\"accepted\",1]],[\"shut\",0],[\"take\",0,[\"go\",0,0],[\"refused\",3]],[\"tick\",[1],[[0,0,1,7]],[[0,4294967295]]]],\"opening\":{\"clients\":[[0,0,0,false]],\"life\":1000000,\"queue\":16,\"robots\":[[0,false,null,[],[0,999],[0,4294967295]]],\"tick\":0},\"version\":2}";
 
-/// The clock can hold no further tick, and a robot has waited as long.
+/// The clock has room for no further tick, and a robot has waited as long as that.
 const LATE: &str =
     "{\"chapter\":4294967295,\"entries\":[[\"tick\",[1],[[0,0,1,0]],[]],[\"tick\",[1],[],[]]],\"opening\":{\"clients\":[[1,1,1,false]],\"life\":1,\"queue\":65536,\"robots\":[[0,false,18446744073709551615,[[0,1,1]],[0,0],[0,0]]],\"tick\":18446744073709551615},\"version\":2}";
 
@@ -46,7 +46,7 @@ fn open_floor(rt: &impl Abort, alloc: Global, height: u32, width: u32) -> Grid
     Grid::new(map).expect(rt, "memory for a grid")
 }
 
-/// What is judged of the trace on a map.
+/// The judge's result for the trace on a map.
 fn judged(rt: &impl Abort, alloc: Global, grid: &Grid, text: &str) -> Result<(), JudgeFault> {
     let chapter = read_trace(alloc, text.as_bytes()).expect(rt, "a trace");
     judge(alloc, grid, &chapter)
@@ -85,7 +85,7 @@ fn judged_swap(rt: HostRuntime) {
     assert!(rt; is_broken(&rt, rt.alloc(), &square, (SWAP, 1, 4)));
 }
 
-/// Writes the trace of 512 robots side by side, with the largest limits and these clients.
+/// Writes the trace of 512 robots next to each other, with the largest limits and these clients.
 fn write_crowd(text: &mut String, clients: &str) -> Result<(), AllocError> {
     text.push_str("{\"chapter\":0,\"entries\":[],\"opening\":{\"clients\":")?;
     text.push_str(clients)?;
@@ -109,7 +109,7 @@ fn judged_crowd(
     judged(rt, alloc, grid, &text)
 }
 
-/// Clients of a crowd, and what is judged.
+/// The clients of a large fleet, and the judge's result.
 const CROWDS: [(&str, Result<(), JudgeFault>); 2] = [
     ("[[0,0,0,false]]", Ok(())),
     (

@@ -1,4 +1,4 @@
-//! Calls on traces: tests alone. They are written, read back and judged, truncated and hostile ones too.
+//! Tests of traces: they are written, read back and judged; truncated and hostile ones too.
 #![tactic(auto)]
 
 #[cfg(test)]

@@ -109,13 +109,13 @@ fn fault_of(alloc: Global, bytes: &[u8]) -> Option<TraceFault> {
     read_trace(alloc, bytes).err()
 }
 
-/// Whether that is written of the chapter.
+/// Whether this is the text of the chapter.
 fn is_written_as(rt: &impl Abort, alloc: Global, chapter: &Chapter, text: &str) -> bool {
     let written = write_trace(alloc, chapter).expect(rt, "memory for a trace");
     written.as_str() == text
 }
 
-/// Whether that is written of a chapter that was written and read.
+/// Whether this is the text of a chapter that was written and read back.
 fn is_written_again_as(rt: &impl Abort, alloc: Global, chapter: &Chapter, text: &str) -> bool {
     let again = write_and_read(alloc, chapter).expect(rt, "memory for a chapter");
     is_written_as(rt, alloc, &again, text)
@@ -128,8 +128,8 @@ fn one_cell_trace(rt: HostRuntime) {
     assert!(rt; is_written_again_as(&rt, rt.alloc(), &chapter, ONE_CELL));
 }
 
-/// Texts, and what is written of the chapters that they tell: white space and the order of keys are free, and a text of
-/// version 1 tells the same chapter.
+/// Texts, each with the text that its chapter is written as: white space and the order of keys are free, and a text of
+/// version 1 reads as the same chapter.
 const WRITTEN: [(&str, &str); 6] = [
     (ONE_CELL, ONE_CELL),
     (ONE_CELL_FIRST, ONE_CELL),

@@ -1,4 +1,4 @@
-//! Why a text is no plan in JSON.
+//! Why a text is not a plan in JSON.
 
 ghost use Rattle.std.specs.Prelude.{◌≡◌, Some};
 ghost use Rattle.fleet_plans.specs.declared.runners.fault.RunnersFault.TheVariants.{NoMemory};
@@ -20,16 +20,16 @@ pub enum RunnersKey {
     ActualPaths,
 }
 
-/// Why a text is no plan in JSON. The keys are looked at in the order in which `RunnersKey` has them.
+/// Why a text is not a plan in JSON. The keys are checked in the order of `RunnersKey`.
 #[derive(Clone, Copy, Debug, PartialEq, Eq)]
 pub enum RunnersFault {
     /// It is not UTF-8, or not JSON, or nested deeper than 127.
     NotJson,
-    /// Nothing stands under the key, or a value of another form.
+    /// The key is missing, or its value is not in the right form.
     Key(RunnersKey),
-    /// The item of this robot, in the list under the key, has another form.
+    /// In the list under the key, the item of this robot is not in the right form.
     Item(RunnersKey, u32),
-    /// Memory ran out, which says nothing of the text.
+    /// Memory ran out; this says nothing about the text.
     NoMemory,
 }
 
@@ -50,7 +50,7 @@ impl<T: Drop> From<AllocFailed<T>> for RunnersFault {
 }
 
 impl RunnersKey {
-    /// The key as it stands in a plan.
+    /// The key as a plan writes it.
     fn word(self) -> &'static str
         ensures { result.now ≡ key_text self }
     {

@@ -16,7 +16,7 @@ use std::alloc::{AllocError, Global};
 /// The greatest length of a path; no text that is read has a longer one.
 const MOST_BYTES: usize = 16_777_216;
 
-/// The letter of a step, as plans of moves have it.
+/// The letter that plans of moves have for this step.
 fn letter_of(part: &[u8]) -> Option<u8>
     ensures { result ≡ step_in part.now }
 {
@@ -33,7 +33,7 @@ fn letter_of(part: &[u8]) -> Option<u8>
     }
 }
 
-/// The letters of a path, or `None` where a part is none.
+/// The letters of a path; `None` if a part is not a step.
 #[tactic(auto, unfolding(crate::specs::Runners::track_of))]
 fn track_of(alloc: Global, text: &[u8]) -> Result<Option<Row<u8>>, AllocError>
     ensures read { IfOk result (λ track. track ≡ track_of [] (parts_of text.now)) }
@@ -51,7 +51,7 @@ fn track_of(alloc: Global, text: &[u8]) -> Result<Option<Row<u8>>, AllocError>
     Ok(Some(Row::from_vec(letters)))
 }
 
-/// The letters of a robot's path, or `None` where the value is none.
+/// The letters of a robot's path; `None` if the value is not a path.
 fn path_of(alloc: Global, value: &Value) -> Result<Option<Row<u8>>, AllocError>
     ensures read { IfOk result (λ track. track ≡ path_in (view value.now)) }
     ensures few { IfOk result (λ track. IfSome track (λ letters. length letters ≤ 16777216)) }

@@ -1,4 +1,4 @@
-//! Where the robots of a plan in JSON start.
+//! The robots' start cells in a plan in JSON.
 
 ghost use Rattle.std.specs.Prelude.{◌≡◌, ◌≤◌, ◌<◌, ◌^◌, [], length, IfOk, IfSome, option_map, codes};
 ghost use Rattle.serde_json.specs.Find.{as_array};
@@ -25,7 +25,7 @@ pub(super) fn values_of(value: &Value) -> Option<&[Value]>
     }
 }
 
-/// The coordinate in this place of a list, 1,024 where it is more.
+/// The coordinate at this place of a list; 1,024 if it is greater.
 fn coordinate_at(value: &Value, place: usize) -> Option<u32>
     ensures exact { result ≡ coordinate_at place (view value.now) }
     ensures small { IfSome result (λ n. n ≤ 1024) }
@@ -65,7 +65,7 @@ fn all_starts(alloc: Global, sides: Sides, values: &[Value]) -> Result<Row<u32>,
     Ok(Row::from_vec(cells))
 }
 
-/// Where the robots of a plan start.
+/// The robots' start cells.
 pub(super) fn read_starts(
     alloc: Global,
     sides: Sides,

@@ -1,5 +1,5 @@
-//! Fields that are kept: who comes again takes no memory, the longest unused goes first, and all go where memory is refused;
-//! and fields that are searched ahead.
+//! Fields that are kept: a goal that comes again takes no memory, the field that was unused longest goes first, and all
+//! go if memory runs out; and fields that are searched ahead.
 
 ghost use Rattle.fleet_grid.specs.Floor.{IsFloor};
 ghost use Rattle.fleet_field.specs.Store.{Keeps, Serves};
@@ -44,8 +44,8 @@ fn is_kept<A: Allocator + Copy>(shelf: &mut Shelf<A>, goal: u32) -> bool {
     shelf.take(goal).is_some()
 }
 
-/// Visits cell 0 and then another: how far that is from cell 8, and whether the field of cell 0 is kept then; none where
-/// the first visit is refused.
+/// Visits cell 0 and then another cell. Returns how far that cell is from cell 8, and whether the field of cell 0 is
+/// then kept; `None` if the first visit is refused.
 fn visit_both<A: Allocator + Copy>(
     rt: &impl Abort,
     store: &mut FieldStore<A>,
@@ -65,7 +65,7 @@ fn visit_both<A: Allocator + Copy>(
     Some((away, is_kept(shelf, 0)))
 }
 
-/// Two visits over a heap.
+/// Two visits with a heap.
 fn visit_both_over<A: Allocator + Copy>(
     rt: &impl Abort,
     heap: A,
@@ -80,7 +80,8 @@ fn visit_both_over<A: Allocator + Copy>(
     visit_both(rt, &mut store, &mut shelf, grid, other)
 }
 
-/// Where no allocation was left after the first visit, one in a second visit of the same cell would be refused.
+/// If the heap had no memory left after the first visit, any allocation in a second visit of the same cell would be
+/// refused.
 #[test]
 fn held_again_without_memory(rt: HostRuntime) {
     let grid = ring(&rt, rt.alloc());
@@ -96,7 +97,7 @@ fn held_again_without_memory(rt: HostRuntime) {
     assert!(rt; held == 15);
 }
 
-/// Whatever allocation of a search is refused, the search is made where a field was kept, which goes.
+/// Whichever allocation of a search is refused, the search succeeds if a field was kept, which is then dropped.
 #[test]
 fn kept_goes_before_want_of_memory(rt: HostRuntime) {
     let grid = ring(&rt, rt.alloc());
@@ -138,7 +139,7 @@ fn visit_corners(
     take_corners(shelf)
 }
 
-/// Two fields of nine cells have place.
+/// Two fields of nine cells fit.
 #[test]
 fn longest_unused_goes_first(rt: HostRuntime) {
     let grid = ring(&rt, rt.alloc());
@@ -147,7 +148,7 @@ fn longest_unused_goes_first(rt: HostRuntime) {
     assert!(rt; visit_corners(&rt, &mut store, &mut shelf, &grid) == [false, true, true]);
 }
 
-/// Whether all these goals have a kept field where two fields have place.
+/// Whether all these goals have a kept field, if two fields fit.
 fn is_searched(
     rt: &(impl Abort + Threads + Sync),
     shelf: &mut Shelf,
@@ -186,7 +187,8 @@ fn search_and_visit(
     assert!(rt; take_corners(shelf) == [false, true, true]);
 }
 
-/// Two fields have place. What was searched ahead is found, and the longest unused of other goals made way.
+/// Two fields fit. The fields searched ahead are found; they replaced the fields of other goals that were unused
+/// longest.
 #[test]
 fn searched_ahead(rt: HostRuntime) {
     let grid = ring(&rt, rt.alloc());
@@ -194,7 +196,7 @@ fn searched_ahead(rt: HostRuntime) {
     search_and_visit(&rt, rt.alloc(), &mut shelf, &grid);
 }
 
-/// Whether a field is kept until fewer bytes are.
+/// Whether a field is kept until the number of bytes is made smaller.
 fn keep_less(rt: &impl Abort, alloc: Global, store: &mut FieldStore, grid: &Grid) -> bool
     requires floor { IsFloor grid.now 0 }
     requires serves { Serves grid.now store.old }
@@ -206,7 +208,7 @@ fn keep_less(rt: &impl Abort, alloc: Global, store: &mut FieldStore, grid: &Grid
     is_kept(&mut shelf, 0)
 }
 
-/// Whether a field is kept in too few bytes for one.
+/// Whether a field is kept if the bytes are too few for one.
 fn keep_none(rt: &impl Abort, alloc: Global, store: &mut FieldStore, grid: &Grid) -> bool
     requires floor { IsFloor grid.now 2 }
     requires serves { Serves grid.now store.old }

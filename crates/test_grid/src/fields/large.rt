@@ -26,7 +26,7 @@ fn large_open_map(rt: HostRuntime) {
     assert!(rt; distance_from(&rt, rt.alloc(), &grid, 1048575) == Some(2046));
 }
 
-/// The distances between two cells, from two fields that are searched side by side.
+/// The distances between two cells, from two fields that are searched in parallel.
 fn distances_between(
     rt: &(impl Abort + Threads + Sync),
     alloc: Global,

@@ -13,7 +13,7 @@ use std::process::Abort;
 use std::thread::Threads;
 use test_alloc::Refusing;
 
-/// Holds cell 0 while one allocation is refused, and once more. Whether one was refused.
+/// Holds cell 0 while one allocation is refused, and then once more. Returns whether one was refused.
 fn hold_twice<A: Allocator + Copy>(rt: &impl Abort, store: &mut FieldStore<A>, grid: &Grid) -> bool
     requires floor { IsFloor grid.now 0 }
     requires serves { Serves grid.now store.old }
@@ -48,7 +48,8 @@ fn check_ends<A: Allocator + Copy>(rt: &impl Abort, store: &FieldStore<A>, keys:
     assert!(rt; store.is_held(keys[1]) && store.at(keys[1], 0) == Some(4));
 }
 
-/// Holds all goals of a list, while one allocation is refused, and once more where it was. Whether it was.
+/// Holds all goals of a list while one allocation is refused; if one was, holds them once more. Returns whether one
+/// was.
 #[tactic(auto, using(fleet_field::proofs::Uses::few_new))]
 fn hold_all_twice<A: Allocator + Copy + Send + Sync>(
     rt: &(impl Abort + Threads + Sync),
@@ -89,7 +90,8 @@ fn refused_growths_of_several(rt: HostRuntime) {
     assert!(rt; 0 < refused && refused < 32);
 }
 
-/// Searches several fields while one allocation is refused, and once more where it was. Whether it was.
+/// Searches several fields while one allocation is refused; if one was, searches them once more. Returns whether one
+/// was.
 fn is_search_refused(
     rt: &(impl Abort + Threads + Sync),
     heap: impl Allocator + Copy + Send + Sync,
