@@ -7,7 +7,7 @@ use Rattle.fleet_history.specs.declared.history.ClientState.{ClientState}
 use Rattle.fleet_history.specs.declared.history.RobotState.{RobotState}
 use Rattle.fleet_trace.specs.Fits.{ClientFits, RobotFits}
 use Rattle.fleet_trace.specs.Text.{client_data, listed, robot_data}
-use Rattle.fleet_trace.proofs.write.objects.put_opening.Goals as goal
+use Rattle.fleet_trace.proofs.write.opening.put_opening.Goals as goal
 
 put_in : {a b c d e f : Members} {clients life queue robots tick clients2 life2 queue2 robots2 tick2 : Data} → a ≡ no_members
     → b ≡ put (codes "clients") clients a → c ≡ put (codes "life") life b → d ≡ put (codes "queue") queue c → e ≡ put (codes "robots") robots d
