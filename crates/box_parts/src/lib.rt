@@ -1,4 +1,5 @@
-//! A box as its two parts, the pointer and the allocator, and a box again. Who has the parts owns what the box owned.
+//! Splits a box into its two parts, the pointer and the allocator, and makes a box of them again. Whoever has the parts
+//! owns what the box owned.
 #![tactic(auto)]
 
 ghost use Rattle.std.specs.Prelude.{◌≡◌};
@@ -7,11 +8,11 @@ ghost use Rattle.std.specs.Box.Ownership.{box_owns};
 use std::alloc::Allocator;
 use std::marker::Model;
 
-/// The parts of a box: they own its value and the right to free its block. To let them go, make the box again.
+/// The parts of a box: they own its value and the right to free its block. To drop them, make the box again.
 pub struct Parts<T, A: Allocator> {
-    /// Where the value lies.
+    /// The pointer to the value.
     pub ptr: *mut T,
-    /// What its block was allocated by.
+    /// The allocator of its block.
     pub alloc: A,
     pub ghost value: { T },
 }

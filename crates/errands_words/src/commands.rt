@@ -1,4 +1,4 @@
-//! The command `errands` and its subcommands, as `clap` has them.
+//! The command `errands` and its subcommands, as `clap` reads them.
 
 ghost use Rattle.std.specs.Prelude.{◌≡◌, IfOk, IsOkAnd, codes, false};
 ghost use Rattle.clap.specs.declared.builder.command.Command.TheViews.{out-Command as fields_of};
@@ -8,7 +8,7 @@ ghost use Rattle.errands_words.specs.Command.{errands_app, file_rule, trace_rule
 use clap::{Arg, ArgAction, Command};
 use std::alloc::{AllocError, Global};
 
-/// An argument that names a file, with what help says of it.
+/// An argument that names a file, with its help text.
 fn file_argument<'a>(alloc: Global, name: &'a str, help: &'a str) -> Arg<'a>
     ensures rule { rule_of result ≡ file_rule name.entry.now }
     ensures own { result.global ≡ false }
@@ -16,7 +16,7 @@ fn file_argument<'a>(alloc: Global, name: &'a str, help: &'a str) -> Arg<'a>
     Arg::new(alloc, name).required(true).help(help)
 }
 
-/// A subcommand, with what help says of it and an example.
+/// A subcommand, with its help text and an example.
 fn subcommand<'a>(alloc: Global, name: &'a str, about: &'a str, example: &'a str) -> Command<'a>
     ensures app { app_of result ≡ new_app name.entry.now }
     ensures own { (fields_of result).has_globals ≡ false }

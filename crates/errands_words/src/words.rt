@@ -94,7 +94,7 @@ impl From<AllocError> for WordFault {
     }
 }
 
-/// The word that stands for a required argument.
+/// The value of a required argument.
 fn word_for(alloc: Global, matches: &ArgMatches<'_>, name: &str) -> Result<String, AllocError>
     ensures { IfOk result (λ s. first_of name.now (rows_of (found_of matches.now)) ≡ Some (string_bytes s)) }
 {
@@ -115,7 +115,7 @@ fn has_flag(matches: &ArgMatches<'_>, name: &str) -> bool
     }
 }
 
-/// The words that stand for a map and for one more file.
+/// The values of the arguments for a map and for one more file.
 fn map_and(
     alloc: Global,
     matches: &ArgMatches<'_>,

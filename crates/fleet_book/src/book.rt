@@ -13,7 +13,7 @@ use crate::verdict::Verdict;
 use std::alloc::{AllocError, Allocator, Global};
 use std::marker::Model;
 
-/// The counts on which orders are judged. Clients and robots are numbered from 0. Only `new` takes memory.
+/// The counts by which orders are judged. Clients and robots are numbered from 0. Only `new` allocates.
 #[derive(Drop)]
 pub struct Book<A: Allocator = Global> {
     accounts: Vec<Account, A>,
@@ -61,7 +61,7 @@ impl<A: Allocator> Book<A> {
         }
     }
 
-    /// The verdict of the client's order, which changes nothing here.
+    /// The verdict on the client's order. It changes nothing.
     pub fn judge(&self, client: u32, order: Order, facts: Facts) -> Verdict
         requires { client < length self.now.accounts }
         ensures verdict { result ≡ verdict_of order (standing self.now client order) facts }
@@ -82,7 +82,7 @@ impl<A: Allocator> Book<A> {
         }
     }
 
-    /// An errand of a client that is not closed, by the order of refusals.
+    /// The verdict on an errand of a client that is not closed, with the refusals in their order.
     fn judge_go(&self, account: Account, robot: u32, facts: Facts) -> Verdict
         requires open { account.closed ≡ false }
         requires within { (account.accepted ≤ self.now.life) × (self.now.life ≤ 2 ^ 40) }
@@ -121,7 +121,7 @@ impl<A: Allocator> Book<A> {
         Verdict::Accepted(account.accepted + 1)
     }
 
-    /// Enters a verdict that the client's order was answered.
+    /// Counts the verdict on the client's order.
     pub fn enter(&mut self, client: u32, verdict: Verdict)
         requires client { client < length self.old.accounts }
         requires may { MayEnter self.old.life verdict (account_of self.old client) }
@@ -144,7 +144,7 @@ impl<A: Allocator> Book<A> {
         }
     }
 
-    /// Enters that one unfinished errand of the client is finished.
+    /// Counts one unfinished errand of the client as finished.
     pub fn settle(&mut self, client: u32)
         requires client { client < length self.old.accounts }
         requires owed { 0 < (account_of self.old client).owed }
@@ -238,7 +238,7 @@ impl<A: Allocator> Book<A> {
         }
     }
 
-    /// The client's counts from now on.
+    /// Replaces the client's counts.
     fn put(&mut self, client: u32, account: Account)
         requires client { client < length self.old.accounts }
         requires within { IsWithin self.old.life account }
@@ -249,7 +249,7 @@ impl<A: Allocator> Book<A> {
     }
 }
 
-/// This many copies of the item.
+/// A list of n copies of the item.
 fn filled<T: Copy, A: Allocator>(alloc: A, item: T, count: u32) -> Result<Vec<T, A>, AllocError>
     ensures { IfOk result (λ v. v.items ≡ replicate count item) }
 {

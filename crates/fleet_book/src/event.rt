@@ -2,7 +2,7 @@
 
 use crate::order::Order;
 
-/// What happens at once.
+/// One event of a run.
 #[derive(Clone, Copy, Debug, PartialEq, Eq)]
 pub enum Event {
     /// The client pushes an order on its lane.
@@ -13,7 +13,7 @@ pub enum Event {
     Tick,
     /// The client's next notice goes from the world to its outlet.
     Give(u32),
-    /// The client pops a notice from its outlet.
+    /// The client takes a notice out of its outlet.
     Collect(u32),
     /// The robot refuses further errands.
     Shut(u32),

@@ -1,6 +1,6 @@
 //! What the world knows of an order before it is judged.
 
-/// Where in a robot's queue the errand stands that an order names.
+/// The place, in a robot's queue, of the errand that an order names.
 #[derive(Clone, Copy, Debug, PartialEq, Eq)]
 pub enum Place {
     /// No robot has an unfinished errand of the client with this number.
@@ -11,8 +11,8 @@ pub enum Place {
     Behind,
 }
 
-/// The facts about an order that the book's counts do not show. Those from `robot_known` to `queue_full` are read
-/// of a `Go` alone, and `place` of a `Withdraw` alone.
+/// The facts about an order that the book's counts do not show. Those from `robot_known` to `queue_full` matter only
+/// for a `Go`, and `place` only for a `Withdraw`.
 #[derive(Clone, Copy, Debug, PartialEq, Eq)]
 pub struct Facts {
     /// There is a robot of the order's number.
@@ -25,6 +25,6 @@ pub struct Facts {
     pub same_part: bool,
     /// The robot's queue has no room.
     pub queue_full: bool,
-    /// Where the errand stands that a `Withdraw` names.
+    /// The place of the errand that a `Withdraw` names.
     pub place: Place,
 }

@@ -1,4 +1,4 @@
-//! Orders, verdicts, notices and events, and the book that judges orders on its counts.
+//! Orders, verdicts, notices and events, and the book, which judges orders by its counts.
 #![tactic(auto)]
 
 mod account;

@@ -27,7 +27,7 @@ pub struct Limits {
 }
 
 impl Limits {
-    /// What the program takes where a script says nothing.
+    /// The limits that the program uses if a script does not name them.
     pub const DEFAULT: Limits = Limits {
         lane: 64,
         outlet: 64,

@@ -11,8 +11,8 @@ pub enum Notice {
         order_no: u64,
         verdict: Verdict,
     },
-    /// The robot stood on the cell of the client's errand `number` after the tick, counted from 1, and the arrival
-    /// closure gave the stamp.
+    /// After tick `tick`, counted from 1, the robot was on the cell of the client's errand `number`, and the arrival
+    /// closure returned the stamp.
     Arrived {
         seq: u64,
         number: u64,

@@ -1,10 +1,10 @@
-//! What an order is answered.
+//! The verdict on an order.
 
 ghost use Rattle.std.specs.Prelude.{◌≡◌, ◌↔◌, Some};
 ghost use Rattle.fleet_book.specs.declared.verdict.Verdict.{Verdict};
 ghost use Rattle.fleet_book.specs.Refusals.{refusal_code, refusal_of, verdict_name};
 
-/// The one answer that an order gets: it is carried out, or refused for a reason.
+/// The result of judging an order: it is carried out, or refused for a reason.
 #[derive(Clone, Copy, Debug, PartialEq, Eq)]
 pub enum Verdict {
     /// The errand joins its robot's queue, and has this number among the client's accepted errands.
@@ -15,7 +15,7 @@ pub enum Verdict {
     Withdrawn,
     /// The client is closed.
     ClientClosed,
-    /// There is no robot of this number.
+    /// There is no robot with this number.
     NoRobot,
     /// The robot takes no further errands.
     RobotShut,
@@ -36,7 +36,7 @@ pub enum Verdict {
 }
 
 impl Verdict {
-    /// The number of a refusal, 1 to 10 in the order of the variants; `None` where the order was carried out. Outputs and
+    /// The number of a refusal, 1 to 10 in the order of the variants; `None` if the order was carried out. Outputs and
     /// traces show it.
     pub fn code(self) -> Option<u8>
         ensures { result ≡ refusal_code self }
@@ -56,7 +56,7 @@ impl Verdict {
         }
     }
 
-    /// The refusal of this number; `None` where no refusal has it.
+    /// The refusal of this number; `None` if no refusal has it.
     pub fn of_code(code: u64) -> Option<Verdict>
         ensures refusal { result ≡ refusal_of code }
         ensures inverse { (verdict : Verdict) → (result ≡ Some verdict) ↔ (refusal_code verdict ≡ Some code) }

@@ -1,4 +1,4 @@
-//! How soon a fleet is idle.
+//! After how many ticks a fleet is idle.
 
 ghost use Rattle.std.specs.Prelude.{◌≡◌, ◌≤◌, map};
 ghost use Rattle.fleet_bound.specs.Idle.{longest_queue, idle_within};
@@ -15,8 +15,9 @@ pub fn longest_queue<A: Allocator + Copy>(queues: &[ErrandQueue<A>]) -> usize
         .fold(0, |longest, queue| queue.len().max(longest))
 }
 
-/// How many ticks it takes at most until a fleet that gets no more orders is idle, by the length of its longest queue (at most
-/// 65,536), its robots (at most 512) and the map's floor cells. `None` on a map with a bridge.
+/// The number of ticks after which a fleet without new orders is idle, from the length of its longest queue (at most
+/// 65,536), the number of its robots (at most 512) and the number of the map's floor cells. `None` on a map with a
+/// bridge.
 pub fn idle_within(longest: usize, robots: usize, floor_count: u32, bridgeless: bool) -> Option<u64>
     requires queued { longest ≤ 65536 }
     requires few { robots ≤ 512 }

@@ -1,4 +1,5 @@
-//! Laws of waits over legal histories whose ticks are advancing, for the crates above and for readers. No call does anything.
+//! Laws of waits in legal histories whose ticks are advancing, for the crates above and for readers. The functions do
+//! nothing.
 
 ghost use Rattle.std.specs.Prelude.{◌≡◌, ℕ, ◌-◌, ◌<◌, ◌≤◌, List, [], Option, Some, max};
 ghost use Rattle.fleet_book.specs.declared.order.Order.{Order};
@@ -29,7 +30,7 @@ pub fn reach_is_greatest()
     ensures few { (m : Floor) → reach m ≤ max 1 (floor_count m - 1) }
 {}
 
-/// An opening keeps the bound where no robot has waited yet, as where no robot has errands.
+/// An opening keeps the bound if no robot has waited yet, for example if no robot has errands.
 pub fn openings_keep_bound<A>()
     ensures unwaited { (m : Floor) (o : Opening A) → IsInOrder m o →
         ((r w : ℕ) → r < robots (start o) → wait (start o) r ≡ Some w → w ≡ 0) → KeepsBound m (start o) }
@@ -37,7 +38,7 @@ pub fn openings_keep_bound<A>()
         ((r : ℕ) → r < robots (start o) → errands_at o r ≡ []) → KeepsBound m (start o) }
 {}
 
-/// Each entry that fits keeps the bound, if it is no tick or an advancing one. So does the next chapter's opening.
+/// Each legal entry keeps the bound if it is an advancing tick or no tick at all. So does the next chapter's opening.
 pub fn entries_keep_bound<A>()
     ensures take { (m : Floor) (h : History A) (client : ℕ) (order : Order) (verdict : Verdict) → IsLegal m h →
         Fits m h (Take client order verdict) → KeepsBound m h → KeepsBound m (after h (Take client order verdict)) }
@@ -67,7 +68,7 @@ pub fn errands_arrive<A>()
     ensures { (m : Floor) (h : History A) → ErrandsArrive m h }
 {}
 
-/// A fleet that gets no more orders is idle within the ticks that `idle_within` tells.
+/// A fleet without new orders is idle after the number of ticks that `idle_within` returns.
 pub fn fleet_gets_idle<A>()
     ensures { (m : Floor) (h : History A) → IsIdleWithin m h (idle_ticks (longest_after h) (robots h) (floor_count m)) }
 {}

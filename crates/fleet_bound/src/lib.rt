@@ -1,5 +1,5 @@
-//! The bound on waits: on a map without bridges no robot waits for its front errand as long as the number of robots times the
-//! greatest distance of two cells.
+//! The bound on waits: on a map without bridges every wait is less than the number of robots times the greatest
+//! distance between two cells (at least 1).
 #![tactic(auto)]
 
 mod idle;

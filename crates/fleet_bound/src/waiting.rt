@@ -1,5 +1,5 @@
-//! The bound on waits, as laws of a small relation between moments of a fleet: it knows no world, only waits, distances and
-//! arrivals. It holds where each tick brings the eldest robot nearer. No call does anything.
+//! The bound on waits, as laws of a small relation between moments of a fleet, which knows only waits, distances and
+//! arrivals. The bound holds if each tick brings the eldest robot nearer. The functions do nothing.
 
 ghost use Rattle.std.specs.Prelude.{◌≡◌, ℕ, ◌*◌, ◌<◌, ◌≤◌, Bool, Some};
 ghost use Rattle.fleet_bound.specs.Waiting.{Moment, IsWithin, IsAdvance, IsPause, IsBounded};
@@ -23,7 +23,7 @@ pub fn bound_begins()
         IsWithin n reach m → IsBounded n reach m }
 {}
 
-/// Within the bound each wait is below n times reach.
+/// If the bound holds, each wait is below n times reach.
 pub fn waits_are_bounded()
     ensures { (n reach r w : ℕ) (m : Moment) → IsBounded n reach m → r < n → m.wait r ≡ Some w → w < n * reach }
 {}
@@ -34,8 +34,8 @@ pub fn errands_arrive()
         count * (n * reach) ≤ ticks → left ≡ 0 }
 {}
 
-/// A fleet whose longest queue has `longest` errands, and that gets no more, has none after `longest * n * reach` advancing
-/// ticks.
+/// A fleet whose longest queue has `longest` errands, and that gets no more, has none after `longest * n * reach`
+/// advancing ticks.
 pub fn fleet_gets_idle()
     ensures { (n reach longest ticks : ℕ) (from m : Moment) (counts left : ℕ → ℕ) →
         ((r : ℕ) → r < n → Follows n reach r from (counts r) m (left r) ticks) →

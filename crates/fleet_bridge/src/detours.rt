@@ -15,13 +15,13 @@ use std::alloc::Allocator;
 /// How many steps a walk around an edge has at most.
 const LONGEST: u32 = 64;
 
-/// How many steps are looked at in all, by cell of the map.
+/// How many steps are tried in all, for each cell of the map.
 const STEPS_BY_CELL: u32 = 8;
 
 /// How many places are looked at together.
 const TOGETHER: usize = 1024;
 
-/// The hand that is kept at the wall.
+/// The hand that stays at the wall.
 #[derive(Clone, Copy)]
 enum Hand {
     Left,
@@ -102,7 +102,7 @@ fn next_around<B: Allocator + Copy>(
     Some(next)
 }
 
-/// How many steps lead around the edge from a cell to the next in a direction, with that hand at the wall.
+/// How many steps lead around the edge, from a cell to the next cell in a direction, with that hand at the wall.
 fn steps_at_hand<B: Allocator + Copy>(
     places: &Places<'_, B>,
     from: u32,
@@ -124,7 +124,7 @@ fn steps_at_hand<B: Allocator + Copy>(
     None
 }
 
-/// How many steps were looked at to show that the edge in a direction is no bridge, or that there is none.
+/// How many steps were tried to show that the edge in a direction is no bridge, or that there is no edge.
 fn steps_beside<B: Allocator + Copy>(places: &Places<'_, B>, spot: Spot, dir: Dir) -> Option<u32>
     requires laid_out { IsLaidOut places.now.grid.now places.now.width places.now.stride places.now.list.now }
     requires spot { IsSpot places.now.grid.now places.now.stride spot }
@@ -152,8 +152,8 @@ fn steps_around<B: Allocator + Copy>(places: &Places<'_, B>, spot: Spot) -> Opti
     Some(east.saturating_add(south))
 }
 
-/// The first of the places, or one before it, from which an edge leads that is in doubt: `looked` counts the steps that were
-/// looked at, `most` at most.
+/// The first of the places from which an edge leads that may be a bridge, or a place before it. `looked` counts the
+/// steps that were tried, which are at most `most`.
 fn doubt_among<B: Allocator + Copy>(
     places: &Places<'_, B>,
     from: usize,
@@ -221,8 +221,8 @@ fn doubt_in<B: Allocator + Copy>(places: &Places<'_, B>, most: u32) -> Option<u3
     None
 }
 
-/// The first cell from which an edge leads that neither a square of floor nor a short walk shows to be no bridge. This many
-/// steps are looked at in all that this takes a time in proportion to the map, and no memory.
+/// The first cell from which an edge leads that neither a square of floor nor a short walk shows to be no bridge. The
+/// number of steps tried in all is bounded, so that this takes time in proportion to the map; it allocates nothing.
 pub(crate) fn first_doubt<B: Allocator + Copy>(grid: &Grid<B>) -> Option<u32>
     ensures { MatchOption result (IsBridgeless (IsNeighbour grid.now)) (HasNoneBelow grid.now) }
 {

@@ -169,7 +169,7 @@ fn bridge_from<A: Allocator + Copy, B: Allocator + Copy>(
     Ok(None)
 }
 
-/// The first bridge, by a tree and whether it passed its check.
+/// The first bridge, from a tree and whether the tree passed its check.
 #[tactic(auto, using(crate::proofs::Rounds::first_is))]
 fn first_by<A: Allocator + Copy, B: Allocator + Copy>(
     alloc: A,

@@ -1,5 +1,5 @@
-//! How a spanning tree of each part grows, and the numbers of its cells. Nothing is proved of it but that it is safe: the
-//! tree is checked.
+//! Makes a spanning tree of each part, and numbers its cells. It is proved only that this code is safe: the tree is
+//! checked afterwards.
 
 ghost use Rattle.std.specs.Prelude.{◌≡◌, ◌<◌, vec_len, true};
 
@@ -162,7 +162,8 @@ fn widen_ends<A: Allocator + Copy>(growth: &Growth<A>, end: &mut Vec<u32, A>) {
     }
 }
 
-/// Numbers in the order of placing, in which a subtree's cells stand side by side, and where each subtree ends.
+/// Numbers in the order of placing, in which the cells of a subtree have consecutive numbers; and the end of each
+/// subtree.
 pub(crate) fn numbers_of<A: Allocator + Copy>(
     alloc: A,
     growth: &Growth<A>,

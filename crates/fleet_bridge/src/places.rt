@@ -55,7 +55,7 @@ pub(crate) fn spot_at<B: Allocator + Copy>(places: &Places<'_, B>, at: usize) ->
     }
 }
 
-/// What would lie on that side, were it floor.
+/// The cell that would be on that side, if it were floor.
 #[inline(always)]
 fn across<B: Allocator + Copy>(places: &Places<'_, B>, spot: Spot, dir: Dir) -> Spot
     requires laid_out { IsLaidOut places.now.grid.now places.now.width places.now.stride places.now.list.now }
@@ -104,8 +104,8 @@ fn is_floor(list: &[u32], at: usize) -> bool
     list[at] == FAR
 }
 
-/// Whether four cells of floor lie there side by side. All four are read, so that the squares of several places are looked at
-/// together.
+/// Whether there are four floor cells in a square. All four are read, so that the squares of several places can be
+/// tested together.
 #[inline(always)]
 fn is_square(list: &[u32], stride: usize, at: usize) -> bool
     requires { at + stride + 1 < length list.now }
@@ -116,7 +116,7 @@ fn is_square(list: &[u32], stride: usize, at: usize) -> bool
     upper & lower
 }
 
-/// Whether an edge is there, without a square of floor on either side.
+/// Whether there is an edge that belongs to no square of floor.
 #[inline(always)]
 fn is_bare(from: bool, to: bool, one: bool, other: bool) -> bool
     ensures from { result ≡ true → from ≡ true }

@@ -44,7 +44,7 @@ fn reach<A: Allocator + Copy, B: Allocator + Copy>(
     least
 }
 
-/// Gives the parent the reach of the child's subtree, and its cell, where that is further.
+/// Gives the parent the reach of the child's subtree, with its cell, if that reaches further.
 #[inline(always)]
 fn hand_up<A: Allocator + Copy>(
     up: &Vec<u32, A>,

@@ -45,7 +45,7 @@ impl<'a, B: Allocator + Copy> Sides<'a, B> {
         self.grid
     }
 
-    /// The floor cell next to a cell in a direction; none where either of the two is not floor.
+    /// The floor cell next to a cell in a direction; `None` if either of the two is not floor.
     #[inline(always)]
     pub(crate) fn beside(&self, cell: u32, dir: Dir) -> Option<u32>
         ensures { MatchOption result ((b : ℕ) → IsNeighbourIn self.now dir cell b → ⊥) (λ b. IsNeighbourIn self.now dir cell b) }

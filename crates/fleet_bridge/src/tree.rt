@@ -1,7 +1,7 @@
 //! A spanning tree of each part, with numbers, made in a fixed number of passes.
 //!
-//! Of the passes that make it nothing is proved but that they are safe; `is_fit` checks what the proof needs of the
-//! numbers. Only that `low` lies in the cell's subtree is kept as an invariant.
+//! It is proved only that the passes are safe; `is_fit` checks what the proof needs of the numbers. The only invariant
+//! is that `low` is in the cell's subtree.
 
 ghost use Rattle.std.specs.Prelude.{◌≡◌, ℕ, ◌<◌, length, slice_index, IfOk, true};
 ghost use Rattle.fleet_grid.specs.Floor.{IsNeighbour, IsNeighbourIn};

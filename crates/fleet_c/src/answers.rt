@@ -1,4 +1,4 @@
-//! Ticks and shuts of a core, with what its robots answer: their ranks, and 0 as stamps and at farewells.
+//! Ticks and shuts of a core, with fixed answers: the robots' ranks, and 0 as each stamp and farewell.
 
 ghost use Rattle.std.specs.Prelude.{◌≡◌, ◌<◌, ◌≤◌, ◌↔◌, true, false, IfOk, OnErr};
 ghost use Rattle.fleet_core.specs.Core.{Shuts, Ticks, HasNoEntries};
@@ -8,7 +8,7 @@ use fleet_core::{Core, RobotHooks, ShutFault, TickFault, TickReport};
 use fleet_hooks::{ArrivalHook, Farewell, TieHook};
 use std::alloc::{Alloc, Global};
 
-/// The allocator alone, as a runtime.
+/// A runtime that has only the allocator.
 #[derive(Drop)]
 struct Heap(Global);
 
@@ -20,7 +20,7 @@ impl Alloc for Heap {
     }
 }
 
-/// No answers, with room for those of this many robots where there is memory.
+/// Empty lists of answers, with memory for this many robots if there is enough.
 fn no_answers(alloc: Global, robots: usize) -> RobotHooks {
     let mut none = RobotHooks {
         ties: Vec::new(alloc),
@@ -34,7 +34,7 @@ fn no_answers(alloc: Global, robots: usize) -> RobotHooks {
     none
 }
 
-/// A tick, by the ranks that are the laws of the core's ties.
+/// Makes a tick, with the ranks that the core's tie laws give.
 pub(crate) fn ticked(alloc: Global, core: &mut Core) -> Result<TickReport, TickFault>
     ensures clock_spent { (result ≡ Err TickFault.ClockSpent) ↔ (clock core.old.history ≡ core.old.limits.clock) }
     ensures chapter_full { (result ≡ Err TickFault.ChapterFull) ↔ ((clock core.old.history < core.old.limits.clock) × HasNoEntries core.old) }

@@ -10,7 +10,7 @@ use fleet_core::{ChapterFault, Core};
 use fleet_trace::write_trace;
 use std::alloc::Global;
 
-/// Begins the next chapter, and lets the present one go.
+/// Begins the next chapter, and lets the current one go.
 fn turn(core: &mut Core) -> u32
     ensures { IsTurned core.old result core.new }
 {
@@ -21,7 +21,7 @@ fn turn(core: &mut Core) -> u32
     }
 }
 
-/// Writes the trace of the present chapter.
+/// Writes the trace of the current chapter.
 fn trace(alloc: Global, core: &mut Core, text: &mut [u8], length: &mut usize) -> u32
     ensures { IsTold core.old result text.old text.new length.new core.new }
 {
@@ -37,7 +37,7 @@ fn trace(alloc: Global, core: &mut Core, text: &mut [u8], length: &mut usize) ->
     DONE
 }
 
-/// The text of the present chapter's trace, and its length. Where the list has no room for it only the length is told.
+/// The text of the current chapter's trace, and its length. Where the list has no room for it only the length is told.
 ///
 /// Refused in this order: the handle is closed, out of memory, the list is shorter than the text.
 #[unsafe(no_mangle)]
@@ -58,7 +58,7 @@ pub extern "C" fn nashirudder_trace(
     code
 }
 
-/// Begins the next chapter, whose opening is the state now. The present one is let go: take its trace before.
+/// Begins the next chapter, whose opening is the current state. The present one is let go: take its trace before.
 ///
 /// Refused in this order: the handle is closed, this is the last of the chapters, out of memory.
 #[unsafe(no_mangle)]

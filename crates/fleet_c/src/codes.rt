@@ -2,15 +2,15 @@
 
 /// The call was carried out.
 pub const DONE: u32 = 0;
-/// Memory was refused.
+/// Memory ran out.
 pub const NO_MEMORY: u32 = 1;
 /// The handle is closed.
 pub const NOT_OPEN: u32 = 2;
 /// The handle is open.
 pub const ALREADY_OPEN: u32 = 3;
-/// There is no client of this number.
+/// There is no client with this number.
 pub const NO_CLIENT: u32 = 4;
-/// There is no robot of this number.
+/// There is no robot with this number.
 pub const NO_ROBOT: u32 = 5;
 /// The client's notices and unfinished errands leave no room for two more.
 pub const MAILBOX_FULL: u32 = 6;
@@ -22,15 +22,15 @@ pub const CLOCK_SPENT: u32 = 8;
 pub const ALREADY_SHUT: u32 = 9;
 /// This is the last chapter that there may be.
 pub const BOOK_SPENT: u32 = 10;
-/// The client has no notice that it was not given.
+/// All notices of the client were handed out.
 pub const NO_NOTICE: u32 = 11;
-/// The mailbox may not hold so much.
+/// The mailbox cannot be made that large.
 pub const TOO_WIDE: u32 = 12;
 /// The robot, or each robot, has no errand.
 pub const IDLE: u32 = 13;
 /// The map has a bridge.
 pub const HAS_BRIDGE: u32 = 14;
-/// The list has not the length that is asked for.
+/// The list does not have the required length.
 pub const WRONG_LENGTH: u32 = 15;
 
 /// The line of the map's head is missing or not in its form.
@@ -39,7 +39,7 @@ pub const MAP_HEADER: u32 = 20;
 pub const MAP_SIZE: u32 = 21;
 /// The row of the map is missing or not as long as the width.
 pub const MAP_ROW: u32 = 22;
-/// The byte in that row and column is no letter of a map.
+/// The byte in that row and column is not a letter of a map.
 pub const MAP_CELL: u32 = 23;
 /// The line after the map's rows has more than blanks and tabs.
 pub const MAP_TRAILING: u32 = 24;
@@ -82,7 +82,7 @@ pub const CLOSING: u32 = 2;
 pub const WITHDRAWN: u32 = 3;
 /// Refused: the client is closed.
 pub const CLIENT_CLOSED: u32 = 4;
-/// Refused: there is no robot of this number.
+/// Refused: there is no robot with this number.
 pub const UNKNOWN_ROBOT: u32 = 5;
 /// Refused: the robot takes no further errands.
 pub const ROBOT_SHUT: u32 = 6;

@@ -4,9 +4,9 @@
 #[repr(C)]
 #[derive(Clone, Copy)]
 pub struct Fault {
-    /// The first number that it names: a line, row or robot. Else 0.
+    /// The first number that the refusal names: a line, row or robot; otherwise 0.
     pub first: u64,
-    /// The second number that it names: a column or robot. Else 0.
+    /// The second number that the refusal names: a column or robot; otherwise 0.
     pub second: u64,
     /// Which refusal it is.
     pub code: u32,

@@ -1,4 +1,4 @@
-//! What C holds.
+//! The handle that C holds.
 
 ghost use Rattle.std.specs.Prelude.{◌≡◌, Option, None, Some, is_some, MatchOption, true, false};
 
@@ -6,7 +6,7 @@ use crate::owned::Owned;
 use fleet_core::Core;
 use std::alloc::Global;
 
-/// What C holds: all zero, or what one of the exports left there.
+/// The handle that C holds: all zero, or the bytes that one of the exports left there.
 #[repr(C)]
 #[derive(Drop)]
 pub struct Handle {
@@ -58,10 +58,10 @@ impl Handle {
     }
 }
 
-/// Takes what may move between threads.
+/// Accepts only what may move between threads.
 fn crosses<T: Send>(_item: &T) {}
 
-/// A handle may: this is proved only where it is so.
+/// Passes a handle, which is proved only if a handle may move between threads.
 fn handle_crosses(fleet: &Handle) {
     crosses(fleet);
 }

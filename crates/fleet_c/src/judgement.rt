@@ -1,4 +1,4 @@
-//! What an order was answered.
+//! The verdict on an order.
 
 ghost use Rattle.std.specs.Prelude.{◌≡◌};
 ghost use Rattle.fleet_c.specs.Forms.{judgement_of};

@@ -87,7 +87,7 @@ fn are_ties(ties: &[TieHook], robots: &[Robot]) -> bool
     true
 }
 
-/// Whether there is one answer a robot, and each is 0.
+/// Whether there is one answer for each robot, and each is 0.
 fn are_arrivals(arrivals: &[ArrivalHook], robots: &[Robot]) -> bool
     ensures { result ≡ true → map (λ h. h.law) arrivals.now ≡ map (λ (x : Robot). exact_stamp 0) robots.now }
 {
@@ -104,7 +104,7 @@ fn are_arrivals(arrivals: &[ArrivalHook], robots: &[Robot]) -> bool
     true
 }
 
-/// Whether there is one answer a robot, and each is 0.
+/// Whether there is one answer for each robot, and each is 0.
 fn are_farewells(farewells: &[Farewell], robots: &[Robot]) -> bool
     ensures { result ≡ true → map (λ h. h.law) farewells.now ≡ map (λ (x : Robot). exact_stamp 0) robots.now }
 {
@@ -121,7 +121,7 @@ fn are_farewells(farewells: &[Farewell], robots: &[Robot]) -> bool
     true
 }
 
-/// Whether the answers are these robots'. They are not where one found no memory.
+/// Whether the answers are those of these robots. They are not if memory ran out for one of them.
 pub(crate) fn are_of(hooks: &Hooks, robots: &[Robot]) -> bool
     ensures { result ≡ true → laws_of hooks.now ≡ laws_of_robots robots.now }
 {

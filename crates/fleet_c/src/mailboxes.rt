@@ -1,4 +1,4 @@
-//! What clients are told.
+//! The notices of clients.
 
 ghost use Rattle.std.specs.Prelude.{◌≡◌, ◌≢◌};
 ghost use Rattle.fleet_c.specs.Answers.{Counts, Gives, Widens};
@@ -29,7 +29,7 @@ fn give(core: &mut Core, client: u32, note: &mut Note) -> u32
     DONE
 }
 
-/// How many notices the client was not given.
+/// The number of notices in the client's mailbox.
 fn pending_count(core: &mut Core, client: u32, count: &mut u64) -> u32
     ensures says { Counts core.old client result count.new core.new }
     ensures untouched { (result ≢ DONE) → count.new ≡ count.old }
@@ -60,7 +60,7 @@ fn widen(core: &mut Core, client: u32, extra: u64) -> u32
 
 /// Gives a client its next notice, which leaves the mailbox.
 ///
-/// Refused in this order: the handle is closed, there is no such client, it has no notice that it was not given.
+/// Refused in this order: the handle is closed, there is no such client, all its notices were handed out.
 #[unsafe(no_mangle)]
 pub extern "C" fn nashirudder_give(
     alloc: Global,
@@ -79,7 +79,7 @@ pub extern "C" fn nashirudder_give(
     code
 }
 
-/// How many notices a client was not given yet.
+/// The number of notices in a client's mailbox.
 ///
 /// Refused in this order: the handle is closed, there is no such client.
 #[unsafe(no_mangle)]
@@ -102,8 +102,8 @@ pub extern "C" fn nashirudder_pending_count(
 
 /// Lets a client's mailbox hold this many more notices and unfinished errands.
 ///
-/// Refused in this order: the handle is closed, there is no such client, the mailbox would hold more than 2^60, want of
-/// memory.
+/// Refused in this order: the handle is closed, there is no such client, the mailbox would have room for more than
+/// 2^60, out of memory.
 #[unsafe(no_mangle)]
 pub extern "C" fn nashirudder_widen(
     alloc: Global,

@@ -1,4 +1,4 @@
-//! What is asked of a map alone.
+//! Calls that need only a map.
 
 ghost use Rattle.std.specs.Prelude.{◌≡◌, ◌<◌, ◌≤◌, ◌^◌, ℕ, IfErr, OnOk, length, slice_index, slice_index_or, None};
 ghost use Rattle.fleet_grid.specs.Floor.{IsFloor};
@@ -18,7 +18,7 @@ use fleet_grid::Grid;
 use fleet_map::MapFault;
 use std::alloc::Global;
 
-/// What stands for a cell from which no walk leads to the goal.
+/// The distance of a cell from which no walk leads to the goal.
 const FAR: u32 = 4_294_967_295;
 
 /// Tells a map's fault.
@@ -154,8 +154,8 @@ pub extern "C" fn nashirudder_first_bridge(
 
 /// The least number of edges of a walk from each cell to the goal.
 ///
-/// Refused in this order: the map's first fault, told in `fault`; the list has not one place for each cell; the goal is not
-/// floor; and out of memory at any time.
+/// Refused in this order: the map's first fault, named in `fault`; the list's length is not the number of cells; the
+/// goal is not floor; and out of memory at any time.
 #[unsafe(no_mangle)]
 pub extern "C" fn nashirudder_distances(
     alloc: Global,

@@ -1,4 +1,4 @@
-//! What a client is told.
+//! A notice to a client.
 
 ghost use Rattle.std.specs.Prelude.{◌≡◌};
 ghost use Rattle.fleet_c.specs.Forms.{note_of};

@@ -37,7 +37,7 @@ fn starts(alloc: Global, robots: &[Robot]) -> Result<Vec<u32>, AllocError>
     robots.iter().map(|robot| robot.cell).collect(alloc)
 }
 
-/// The core of a world that is opened with the robots' answers, which are let go.
+/// Opens the core of a world; the robots' fixed answers are dropped.
 fn core_of(
     alloc: Global,
     grid: Grid,
@@ -67,7 +67,7 @@ fn core_of(
     }
 }
 
-/// The core of a world at its opening, whose robots' answers are made for it.
+/// Opens the core of a world, and makes the robots' fixed answers for it.
 fn opened(
     alloc: Global,
     grid: Grid,

@@ -41,8 +41,8 @@ fn order(core: &mut Core, client: u32, order: Order, judgement: &mut Judgement) 
 
 /// A client orders a robot to a cell.
 ///
-/// Refused in this order: the handle is closed, there is no such client, its mailbox leaves no room, the chapter is full,
-/// out of memory. What is taken is judged: see the verdicts.
+/// Refused in this order: the handle is closed, there is no such client, its mailbox has no room, the chapter is full,
+/// out of memory. If the call is not refused, the order is judged: see the verdicts.
 #[unsafe(no_mangle)]
 pub extern "C" fn nashirudder_go(
     alloc: Global,

@@ -1,4 +1,4 @@
-//! Why no fleet is opened.
+//! Why a fleet cannot be opened.
 
 ghost use Rattle.std.specs.Prelude.{◌≡◌};
 ghost use Rattle.fleet_c.specs.Opening.{fault, fault_of};
@@ -11,10 +11,10 @@ use crate::fault::Fault;
 use fleet_map::MapFault;
 use std::alloc::AllocError;
 
-/// Why no fleet is opened; the first that stands is told.
+/// Why a fleet cannot be opened; the first reason that holds is returned.
 #[derive(Clone, Copy)]
 pub enum Refusal {
-    /// Memory was refused.
+    /// Memory ran out.
     NoMemory,
     /// The map's first fault.
     Map(MapFault),
@@ -22,9 +22,9 @@ pub enum Refusal {
     Setup,
     /// There are not 1 to 512 robots.
     RobotCount,
-    /// The robot, the least such, does not start on floor.
+    /// The lowest robot that does not start on floor.
     Start(u32),
-    /// The two robots, the least such pair, start on one cell.
+    /// The first two robots that start on one cell.
     Shared(u32, u32),
 }
 

@@ -5,7 +5,8 @@ ghost use Rattle.fleet_c.specs.Forms.{limits_of};
 
 use fleet_book::Limits;
 
-/// The number of clients, 1 to 64, and the nine limits of a fleet, each in the range of the product's `Limits`.
+/// The number of clients, 1 to 64, and the nine limits of a fleet; each has the range that `Limits` of fleet_book gives
+/// it.
 #[repr(C)]
 #[derive(Clone, Copy)]
 pub struct Setup {

@@ -11,16 +11,16 @@ use crate::fault::Fault;
 use crate::refusal::two;
 use fleet_check::StepFault;
 
-/// Why a step is refused; the first that stands is told.
+/// Why a step is refused; the first reason that holds is returned.
 #[derive(Clone, Copy)]
 pub enum StepRefusal {
-    /// Memory was refused.
+    /// Memory ran out.
     NoMemory,
     /// More robots are named than the map has cells.
     TooMany,
-    /// Before the step the robot, the least such, is not on floor.
+    /// Before the step, this is the lowest robot that is not on floor.
     FromBlocked(u32),
-    /// Before the step the two robots, the first such, are on one cell.
+    /// Before the step, these are the first two robots on one cell.
     FromShared(u32, u32),
     /// The step's first fault.
     Step(StepFault),

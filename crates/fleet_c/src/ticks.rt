@@ -75,7 +75,7 @@ pub extern "C" fn nashirudder_tick(alloc: Global, fleet: &mut Handle, report: &m
     code
 }
 
-/// Shuts a robot: it finishes its errands and gets no more. Where it has none it says farewell at once, and `left` is
+/// Shuts a robot: it finishes its errands and accepts no more. If it has none it says farewell at once, and `left` is
 /// set to true.
 ///
 /// Refused in this order: the handle is closed, there is no such robot, it is shut already, the chapter is full, out of

@@ -1,4 +1,4 @@
-//! What is asked of a fleet. No call here changes it.
+//! Calls that look at a fleet. None of them changes it.
 
 ghost use Rattle.std.specs.Prelude.{◌≡◌, ◌↔◌, IsTrue, ◌≢◌};
 ghost use Rattle.fleet_planner.specs.Aimed.{IsIdle};
@@ -56,7 +56,7 @@ fn eldest(core: &mut Core, robot: &mut u32) -> u32
     }
 }
 
-/// Within how many ticks nobody has an errand.
+/// Within how many ticks no robot has an errand.
 fn idle_within(core: &mut Core, ticks: &mut u64) -> u32
     ensures says { HasIdle core.old result ticks.new core.new }
     ensures untouched { (result ≢ DONE) → ticks.new ≡ ticks.old }
@@ -70,9 +70,9 @@ fn idle_within(core: &mut Core, ticks: &mut u64) -> u32
     }
 }
 
-/// Where the robots stand, by number.
+/// The robots' cells, by number.
 ///
-/// Refused in this order: the handle is closed, the list has not one place for each robot.
+/// Refused in this order: the handle is closed, the list's length is not the number of robots.
 #[unsafe(no_mangle)]
 pub extern "C" fn nashirudder_placement(alloc: Global, fleet: &mut Handle, cells: &mut [u32]) -> u32
     ensures says { OnFleet fleet.old.owned.held fleet.new.owned.held result (λ w n. Places w result cells.old cells.new n) }
@@ -121,9 +121,9 @@ pub extern "C" fn nashirudder_wait_of(
     code
 }
 
-/// The robot of greatest wait, the least number on a tie.
+/// The robot with the longest wait; on a tie, the one with the lowest number.
 ///
-/// Refused in this order: the handle is closed, nobody has an errand.
+/// Refused in this order: the handle is closed, no robot has an errand.
 #[unsafe(no_mangle)]
 pub extern "C" fn nashirudder_eldest(alloc: Global, fleet: &mut Handle, robot: &mut u32) -> u32
     ensures says { OnFleet fleet.old.owned.held fleet.new.owned.held result (λ w n. HasEldest w result robot.new n) }
@@ -137,7 +137,7 @@ pub extern "C" fn nashirudder_eldest(alloc: Global, fleet: &mut Handle, robot: &
     code
 }
 
-/// Whether nobody has an errand. Refused where the handle is closed.
+/// Whether no robot has an errand. Refused where the handle is closed.
 #[unsafe(no_mangle)]
 pub extern "C" fn nashirudder_is_idle(alloc: Global, fleet: &mut Handle, is_idle: &mut bool) -> u32
     ensures says { OnFleet fleet.old.owned.held fleet.new.owned.held result (λ w n. (result ≡ DONE) × (IsTrue is_idle.new ↔ IsIdle w.history) × (n ≡ w)) }
@@ -151,7 +151,7 @@ pub extern "C" fn nashirudder_is_idle(alloc: Global, fleet: &mut Handle, is_idle
     DONE
 }
 
-/// Within how many ticks nobody has an errand any more, where no order is taken meanwhile.
+/// The number of ticks after which no robot has an errand, if no order is taken meanwhile.
 ///
 /// Refused in this order: the handle is closed, the map has a bridge.
 #[unsafe(no_mangle)]

@@ -69,7 +69,7 @@ fn first_not_adjacent<B: Allocator + Copy>(
     None
 }
 
-/// The robot that moves to each cell, where no two move to one; else the first two that do.
+/// For each cell the robot that moves to it; or the first two robots that move to one cell.
 pub(crate) fn seats_of<A: Allocator + Copy>(
     alloc: A,
     to: &[u32],
@@ -102,7 +102,7 @@ fn seat_at<A: Allocator + Copy>(seats: &BTreeMap<u32, u32, A>, cell: u32) -> Opt
     seats.get(&cell).copied()
 }
 
-/// The robot of a greater number with which this one exchanges cells.
+/// The robot with a higher number with which this one exchanges cells.
 fn partner_of<A: Allocator + Copy>(
     seats: &BTreeMap<u32, u32, A>,
     from: &[u32],

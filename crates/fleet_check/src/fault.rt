@@ -6,7 +6,7 @@ ghost use Rattle.fleet_check.specs.declared.fault.StepFault.TheVariants.{NoMemor
 use std::alloc::AllocError;
 use thiserror::Error;
 
-/// The first fault of a step, in this order. Robots are numbered from 0; of a pair the lesser stands first.
+/// The first fault of a step, in this order. Robots are numbered from 0; of a pair, the lower number comes first.
 #[derive(Clone, Copy, Debug, PartialEq, Eq, Error)]
 pub enum StepFault {
     /// The new cells are not as many as the old ones.
@@ -18,7 +18,7 @@ pub enum StepFault {
     /// The first robot that neither stays nor crosses an edge.
     #[error("robot {0} neither stays nor crosses an edge")]
     NotAdjacent(u32),
-    /// The search for conflicts found no room.
+    /// The search for conflicts ran out of memory.
     #[error("out of memory")]
     NoMemory,
     /// The first two robots with one new cell: a vertex conflict.

@@ -1,4 +1,4 @@
-//! The check of a step: whether robots that move at once keep to the edges of a map and out of one another's way.
+//! The check of a step: whether robots that move at the same time keep to the edges of a map and have no conflict.
 #![tactic(auto)]
 
 mod check;

@@ -11,8 +11,8 @@ use std::alloc::Allocator;
 
 /// Whether cells are a placement: each on the floor, and no two alike. Item r is the cell of robot r.
 ///
-/// The first fault is `OffFloor` of the least robot whose cell is not floor, then `Vertex` of the first two robots on
-/// one cell; `NoMemory` where the search for the latter found no room. It is none of the others.
+/// The first fault is `OffFloor` with the lowest robot that is not on floor; if there is none, `Vertex` with the first
+/// two robots on one cell; or `NoMemory` if the search for these ran out of memory. Other faults do not occur.
 pub fn check_placement<A: Allocator + Copy, B: Allocator + Copy>(
     alloc: A,
     grid: &Grid<B>,

@@ -18,7 +18,7 @@ use std::alloc::Allocator;
 use std::mem;
 
 impl<A: Allocator + Copy> Core<A> {
-    /// Hands the chapter out and begins the next, whose opening is the state now.
+    /// Returns the current chapter and begins the next, whose opening is the current state.
     pub fn next_chapter(&mut self) -> Result<Chapter<A>, ChapterFault>
         ensures book_spent { (result ≡ Err ChapterFault.BookSpent) ↔ (self.old.number + 1 ≡ self.old.limits.chapters) }
         ensures history { IfOk result (λ chapter. history_of chapter ≡ self.old.history) }

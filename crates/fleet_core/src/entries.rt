@@ -146,7 +146,8 @@ impl<A: Allocator + Copy> Core<A> {
     }
 }
 
-/// Makes room for one entry more, and aims the robot of an accepted order at its cell, if the errand is the robot's first.
+/// Reserves memory for one more entry, and gives the robot of an accepted order its new goal, if the errand is the
+/// robot's first.
 fn make_begun<A: Allocator + Copy>(
     entries: &mut Vec<Entry<A>, A>,
     planner: &mut Planner<A>,

@@ -1,11 +1,11 @@
-//! What the calls of a world's core refuse, and what a tick reports.
+//! Why calls of a world's core are refused, and what a tick reports.
 
 ghost use Rattle.std.specs.Prelude.{◌≡◌, ◌<◌, ◌^◌};
 
 use std::alloc::AllocError;
 use thiserror::Error;
 
-/// Why a world is not opened; the first that stands is answered.
+/// Why a world is not opened; the first reason that holds is returned.
 #[derive(Clone, Copy, Debug, PartialEq, Eq, Error)]
 pub enum OpenFault {
     /// A limit or the number of clients is out of its range.
@@ -20,15 +20,15 @@ pub enum OpenFault {
     /// The two robots, the least such pair, start on one cell.
     #[error("robots {0} and {1} start on one cell")]
     Shared(u32, u32),
-    /// A list of closures has not one for each robot.
+    /// A list of closures does not have one closure for each robot.
     #[error("a list of closures has not one for each robot")]
     Hooks,
-    /// Memory was refused.
+    /// Memory ran out.
     #[error("out of memory")]
     NoMemory,
 }
 
-/// Why an order is not taken; the first that stands is answered.
+/// Why an order is not taken; the first reason that holds is returned.
 #[derive(Clone, Copy, Debug, PartialEq, Eq, Error)]
 pub enum TakeFault {
     /// The client's notices and unfinished errands leave no room for two more.
@@ -37,12 +37,12 @@ pub enum TakeFault {
     /// The chapter has all the entries that it may have.
     #[error("the chapter is full")]
     ChapterFull,
-    /// Memory was refused.
+    /// Memory ran out.
     #[error("out of memory")]
     NoMemory,
 }
 
-/// Why no tick is made; the first that stands is answered.
+/// Why no tick is made; the first reason that holds is returned.
 #[derive(Clone, Copy, Debug, PartialEq, Eq, Error)]
 pub enum TickFault {
     /// All the ticks were made that may be made.
@@ -51,12 +51,12 @@ pub enum TickFault {
     /// The chapter has all the entries that it may have.
     #[error("the chapter is full")]
     ChapterFull,
-    /// Memory was refused.
+    /// Memory ran out.
     #[error("out of memory")]
     NoMemory,
 }
 
-/// Why a robot is not shut; the first that stands is answered.
+/// Why a robot is not shut; the first reason that holds is returned.
 #[derive(Clone, Copy, Debug, PartialEq, Eq, Error)]
 pub enum ShutFault {
     /// There is no such robot.
@@ -68,18 +68,18 @@ pub enum ShutFault {
     /// The chapter has all the entries that it may have.
     #[error("the chapter is full")]
     ChapterFull,
-    /// Memory was refused.
+    /// Memory ran out.
     #[error("out of memory")]
     NoMemory,
 }
 
-/// Why no further chapter begins; the first that stands is answered.
+/// Why no further chapter begins; the first reason that holds is returned.
 #[derive(Clone, Copy, Debug, PartialEq, Eq, Error)]
 pub enum ChapterFault {
     /// This is the last chapter that there may be.
     #[error("this is the last chapter")]
     BookSpent,
-    /// Memory was refused.
+    /// Memory ran out.
     #[error("out of memory")]
     NoMemory,
 }
@@ -96,7 +96,7 @@ pub struct TickReport {
 }
 
 impl TickReport {
-    /// Of the tick that makes this many in all, with this many arrivals and farewells.
+    /// The report of a tick, with the number of ticks so far and the numbers of arrivals and farewells.
     pub(crate) fn of(tick: u64, arrived: usize, farewells: usize) -> TickReport
         requires arrived { arrived < 2 ^ 32 }
         requires farewells { farewells < 2 ^ 32 }

@@ -1,4 +1,4 @@
-//! What a core's clients are given, and how much they may have pending.
+//! Gives of a core, and the room in its clients' mailboxes.
 
 ghost use Rattle.std.specs.Prelude.{◌≡◌, ◌+◌, ◌<◌, ◌≤◌, ◌^◌, OnOk, OnErr, length, slice_get};
 ghost use Rattle.fleet_history.specs.History.{clients, owed, taken_count};
@@ -51,7 +51,7 @@ impl<A: Allocator + Copy> Core<A> {
         self.state.taken(client)
     }
 
-    /// How many notices the client was not given yet.
+    /// The number of notices in the client's mailbox.
     pub fn pending_count(&self, client: u32) -> usize
         requires { client < clients self.now.history }
         ensures { result ≡ length (pending self.now client).notices }

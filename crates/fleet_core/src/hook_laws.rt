@@ -8,7 +8,7 @@ use fleet_hooks::{ArrivalHook, Farewell, Hooks, StampLaw, TieHook, TieLaw};
 use std::alloc::{AllocError, Allocator, Global};
 use std::marker::Model;
 
-/// The laws of a fleet's closures: three lists, by robot. The stamps of each closure have room between their bounds.
+/// The laws of a fleet's closures: three lists, by robot. In each law the lower bound is at most the upper one.
 #[derive(Drop)]
 pub struct HookLaws<A: Allocator + Copy = Global> {
     pub(crate) ties: Vec<TieLaw, A>,

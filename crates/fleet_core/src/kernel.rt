@@ -1,4 +1,4 @@
-//! The core of a world: its map, limits, history and what follows from them. No closure lies inside.
+//! The core of a world: its map, limits and history, and everything that follows from these. It has no closures.
 
 ghost use Rattle.std.specs.Prelude.{IsTrue, MatchOption, IsSome, IfSome, ◌≡◌, ◌+◌, ◌≤◌, ◌<◌, ◌^◌, ◌↔◌, ℕ, true, false, length, IfOk};
 ghost use Rattle.fleet_bound.specs.Arriving.{IsIdleWithin};
@@ -147,8 +147,8 @@ impl<A: Allocator + Copy> Core<A> {
         is_nobody(self.state.waits())
     }
 
-    /// Within how many ticks nobody has an errand any more, where no order is taken meanwhile: ticks for each errand of the
-    /// longest queue and each robot, as many as a walk can have edges. `None` on a map with a bridge.
+    /// The number of ticks after which no robot has an errand, if no order is taken meanwhile: (length of the longest
+    /// queue) times (number of robots) times (the most edges that a walk can have). `None` on a map with a bridge.
     pub fn idle_within(&self) -> Option<u64>
         ensures told { IsSome result ↔ IsBridgeless (IsNeighbour self.now.floor) }
         ensures exact { IfSome result (λ ticks. ticks ≡ idle_ticks (longest_after self.now.history) (robots self.now.history) (floor_count self.now.floor)) }
@@ -168,8 +168,8 @@ impl<A: Allocator + Copy> Core<A> {
         self.planner.is_bridgeless()
     }
 
-    /// Keeps the fields of goals that no robot has any more, up to this many bytes; 256 MiB where nothing is said. What is
-    /// kept shows in nothing but the time and the memory that a take or a tick needs.
+    /// Keeps the fields of goals that no robot has any more, up to this many bytes; the default is 256 MiB. This
+    /// changes only the time and the memory that a take or a tick needs.
     pub fn keep(&mut self, bytes: usize)
         ensures { self.new ≡ self.old }
     {
@@ -182,14 +182,14 @@ impl<A: Allocator + Copy> Core<A> {
         &self.limits
     }
 
-    /// How many robots there are, 1 to 512.
+    /// The number of robots, 1 to 512.
     pub fn robots(&self) -> usize
         ensures { result ≡ robots self.now.history }
     {
         self.state.robots()
     }
 
-    /// How many clients there are, 1 to 64.
+    /// The number of clients, 1 to 64.
     pub fn clients(&self) -> usize
         ensures { result ≡ clients self.now.history }
     {
@@ -265,8 +265,8 @@ impl<A: Allocator + Copy> Core<A> {
 }
 
 impl<A: Allocator + Copy + Send + Sync> Core<A> {
-    /// Searches the fields of the robots' next errands side by side, where no robot aims at their cells yet, and keeps as
-    /// many as have place. They show in nothing but the time and the memory that a take or a tick needs.
+    /// Searches, in parallel, the fields of the robots' next errands whose cells are no robot's goal yet, and keeps as
+    /// many as fit. This changes only the time and the memory that a take or a tick needs.
     pub fn search_ahead(&mut self, rt: &(impl Threads + Sync)) -> Result<(), AllocError>
         ensures { self.new ≡ self.old }
     {

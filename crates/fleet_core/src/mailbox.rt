@@ -1,4 +1,4 @@
-//! The clients' mailboxes: for each the notices that it was not given yet, in a ring of fixed room.
+//! The clients' mailboxes. Each has the notices that were not given yet, in a ring of fixed size.
 
 ghost use Rattle.std.specs.Prelude.{◌≡◌, ◌+◌, ◌<◌, ◌≤◌, ◌^◌, ◌==◌, [], ◌∷◌, ◌++◌, ℕ, All, count_by, length, drop, replicate, slice_get, slice_index, IfOk, OnOk, OnErr};
 ghost use Rattle.fleet_core.specs.inside.Mailboxes.{box_at, with_notice, with_box, AreDelivered};
@@ -9,7 +9,7 @@ use fleet_history::Arrival;
 use std::alloc::{AllocError, Allocator};
 use std::marker::Model;
 
-/// The pending notices of one client. Only `new` takes memory.
+/// The pending notices of one client. Only `new` allocates.
 #[derive(Drop)]
 pub(crate) struct Mailbox<A: Allocator + Copy> {
     notices: HeapCircularBuffer<Notice, A>,
@@ -101,7 +101,7 @@ fn empty_boxes<A: Allocator + Copy>(
     Ok(boxes)
 }
 
-/// The clients' mailboxes, by number, and how many notices were made for each client. Only `open` and `widen` take memory.
+/// The clients' mailboxes, by number, and how many notices were made for each client. Only `open` and `widen` allocate.
 #[derive(Drop)]
 pub(crate) struct Mailboxes<A: Allocator + Copy> {
     boxes: Vec<Mailbox<A>, A>,
@@ -130,7 +130,7 @@ impl<A: Allocator + Copy> Mailboxes<A> {
         Ok(Mailboxes { boxes, noticed })
     }
 
-    /// How many notices the client was not given yet.
+    /// The number of notices in the client's mailbox.
     pub(crate) fn len_of(&self, client: u32) -> usize
         requires { client < length self.now.boxes }
         ensures value { result ≡ length (box_at self.now.boxes client).notices }
@@ -147,7 +147,7 @@ impl<A: Allocator + Copy> Mailboxes<A> {
         self.boxes[client as usize].limit()
     }
 
-    /// The first notice that the client was not given yet.
+    /// The first notice in the client's mailbox.
     pub(crate) fn first(&self, client: u32) -> Option<Notice>
         requires { client < length self.now.boxes }
         ensures { result ≡ slice_get (box_at self.now.boxes client).notices 0 }
@@ -193,7 +193,7 @@ impl<A: Allocator + Copy> Mailboxes<A> {
         self.push(client, notice);
     }
 
-    /// Tells the clients of these arrivals of a tick that brought the robots to these cells.
+    /// Adds the notices of these arrivals, in a tick that brought the robots to these cells, to the clients' mailboxes.
     pub(crate) fn deliver(&mut self, arrived: &[Arrival], to: &[u32], tick: u64)
         requires known { All (λ a. a.client < length self.old.boxes) arrived.now }
         requires on_map { All (λ a. a.robot < length to.now) arrived.now }

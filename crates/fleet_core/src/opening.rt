@@ -53,7 +53,7 @@ pub(crate) fn robots_at<A: Allocator + Copy>(
     Ok(robots)
 }
 
-/// This many clients that did nothing.
+/// This many clients that have done nothing yet.
 pub(crate) fn nobodies<A: Allocator + Copy>(
     alloc: A,
     count: usize,

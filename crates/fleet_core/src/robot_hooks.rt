@@ -13,15 +13,15 @@ use fleet_history::RobotState;
 use fleet_hooks::{ArrivalHook, Farewell, StampLaw, TieHook, TieLaw};
 use std::alloc::{Alloc, Allocator, Global};
 
-/// The closures of a world's robots, for a holder that keeps them next to the core. Each call that takes both first sees
-/// that their laws are those of the core's history, as they always are for what `World::apart` hands out.
+/// The closures of a world's robots, for a holder that keeps them next to the core. Each call that takes both first
+/// checks that the closures have the laws of the core's history; for what `World::apart` returns this always holds.
 #[derive(Drop)]
 pub struct RobotHooks<A: Allocator + Copy = Global> {
-    /// One a robot, asked once for each neighbour of its cell in each step.
+    /// One for each robot, called once for each neighbour of its cell in each step.
     pub ties: Vec<TieHook, A>,
-    /// One a robot, called at each arrival.
+    /// One for each robot, called at each arrival.
     pub arrivals: Vec<ArrivalHook, A>,
-    /// One a robot, as long as it was not called.
+    /// One for each robot, until it is called.
     pub farewells: Vec<Option<Farewell>, A>,
 }
 
@@ -117,7 +117,8 @@ fn are_arrivals<A: Allocator + Copy>(arrivals: &[ArrivalHook], robots: &[RobotSt
 }
 
 impl<A: Allocator + Copy> Core<A> {
-    /// Whether the closures have the laws of the robots' farewells, and each robot that is not done has its own.
+    /// Whether the closures have the laws of the robots' farewells, and each robot that did not say farewell yet has
+    /// its own.
     fn has_farewells(&self, farewells: &[Option<Farewell>]) -> bool
         ensures { result ≡ true → AreFarewells self.now.history (spare_laws farewells.now) }
     {
@@ -135,7 +136,8 @@ impl<A: Allocator + Copy> Core<A> {
         true
     }
 
-    /// Whether a farewell that is left, or none, is right for the robot.
+    /// Whether the robot's farewell closure has the robot's law; or, if no closure is left, whether the robot has said
+    /// farewell.
     fn may_have(&self, robot: u32, found: Option<StampLaw>, wanted: StampLaw) -> bool
         requires { robot < robots self.now.history }
         ensures { result ≡ true → IsLeft found wanted (is_done self.now.history robot) }

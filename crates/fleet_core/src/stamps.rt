@@ -1,4 +1,4 @@
-//! What the robots' closures answer to a tick's arrivals and farewells.
+//! What the robots' closures return for a tick's arrivals and farewells.
 
 ghost use Rattle.std.specs.Prelude.{◌≡◌, ◌<◌, ℕ, true, false, All, IfSome, is_some, length, map, slice_index, slice_set, vec_len, None};
 ghost use Rattle.fleet_hooks.specs.Law.{IsStamp};
@@ -25,8 +25,8 @@ pub(crate) fn arrive<A: Allocator + Copy>(
     stamp_arrivals(arrived.as_mut_slice(), hooks, to, tick);
 }
 
-/// Calls the closures of the robots that say farewell in a tick that brought them to these cells, and writes their
-/// stamps. The calls spend them.
+/// Calls the closures of the robots that say farewell in a tick that brought them to these cells, writes their stamps,
+/// and consumes the closures.
 pub(crate) fn take_leave<A: Allocator + Copy>(
     leaving: &mut Vec<Bye, A>,
     farewells: &mut Vec<Option<Farewell>, A>,
@@ -93,7 +93,7 @@ fn stamp_farewells<A: Allocator + Copy>(
     }
 }
 
-/// The answer of the robot's farewell closure, if it was not called yet. The call spends it.
+/// Calls the robot's farewell closure, if it was not called yet, and consumes it. Returns its result.
 fn last_word<A: Allocator + Copy>(
     farewells: &mut Vec<Option<Farewell>, A>,
     view: FarewellView,
@@ -108,7 +108,7 @@ fn last_word<A: Allocator + Copy>(
     Some(farewell.call(view))
 }
 
-/// The answer of the farewell closure of a robot that is idle, as `last_word` has it; any other keeps its closure.
+/// Calls the farewell closure of a robot that is idle, as `last_word` does; another robot keeps its closure.
 pub(crate) fn last_word_if<A: Allocator + Copy>(
     idle: bool,
     farewells: &mut Vec<Option<Farewell>, A>,

@@ -1,4 +1,4 @@
-//! The step of a tick: all of it that takes memory, before anything is entered.
+//! The step of a tick: the part that allocates, before the state is changed.
 
 ghost use Rattle.std.specs.Prelude.{◌≡◌, ◌<◌, ◌^◌, length, map, vec_len, IfOk, OnOk, OnErr};
 ghost use Rattle.fleet_planner.specs.Aims.{goals_of};
@@ -17,7 +17,8 @@ use fleet_planner::Planner;
 use fleet_state::{FleetState, Landings};
 use std::alloc::{AllocError, Allocator};
 
-/// Where the robots go, who arrives there and who says farewell. The stamps are given when nothing can fail any more.
+/// Where the robots go, which arrive there and which say farewell. The stamps are written later, when nothing can fail
+/// any more.
 #[derive(Drop)]
 pub(crate) struct TickDraft<A: Allocator + Copy> {
     pub(crate) to: Vec<u32, A>,

@@ -17,7 +17,7 @@ use crate::world::World;
 use std::alloc::Allocator;
 
 impl<A: Allocator + Copy> World<A> {
-    /// How many ticks the robot has waited for the arrival at its front errand's cell; none where it has no errand. On a
+    /// How many ticks the robot has waited for the arrival at its front errand's cell; `None` if it has no errand. On a
     /// bridgeless map it is below the bound, whatever was posted meanwhile.
     pub fn wait_of(&self, robot: u32) -> Option<u64>
         requires { robot < robots self.now.core.history }
@@ -27,22 +27,22 @@ impl<A: Allocator + Copy> World<A> {
         self.core.wait_of(robot)
     }
 
-    /// The robot of greatest wait, the least number on a tie; none where nobody has an errand.
+    /// The robot with the longest wait; on a tie, the one with the lowest number; `None` if no robot has an errand.
     pub fn eldest(&self) -> Option<u32>
         ensures { MatchOption result (IsIdle self.now.core.history) (λ e. IsEldest (waits self.now.core.history) e) }
     {
         self.core.eldest()
     }
 
-    /// Whether nobody has an errand.
+    /// Whether no robot has an errand.
     pub fn is_idle(&self) -> bool
         ensures { IsTrue result ↔ IsIdle self.now.core.history }
     {
         self.core.is_idle()
     }
 
-    /// Within how many ticks nobody has an errand any more, where no order is taken meanwhile: ticks for each errand of the
-    /// longest queue and each robot, as many as a walk can have edges. `None` on a map with a bridge.
+    /// The number of ticks after which no robot has an errand, if no order is taken meanwhile: (length of the longest
+    /// queue) times (number of robots) times (the most edges that a walk can have). `None` on a map with a bridge.
     pub fn idle_within(&self) -> Option<u64>
         ensures told { IsSome result ↔ IsBridgeless (IsNeighbour self.now.core.floor) }
         ensures exact { IfSome result (λ ticks. ticks ≡ idle_ticks (longest_after self.now.core.history) (robots self.now.core.history) (floor_count self.now.core.floor)) }

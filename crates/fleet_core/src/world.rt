@@ -26,7 +26,7 @@ use fleet_history::Chapter;
 use fleet_hooks::Hooks;
 use std::alloc::{Alloc, AllocError, Allocator, Global};
 
-/// A world: robots on a map, the clients whose orders they carry out, the history of it all, and the robots' closures.
+/// A world: robots on a map, the clients whose orders they carry out, one history, and the robots' closures.
 #[derive(Drop)]
 pub struct World<A: Allocator + Copy = Global> {
     /// Its map, limits, history and mailboxes.
@@ -41,9 +41,9 @@ impl<A: Allocator + Copy> World<A> {
     /// Opens a world of `starts.len()` robots, robot r on the cell `starts[r]`, and of this many clients. The closures are
     /// the robots', by number.
     ///
-    /// Refused in this order: the limits or the number of clients (1 to 64) out of range, the number of robots (1 to 512)
-    /// out of range, a robot that is not on floor, two robots on one cell, a list of closures that has not one for each
-    /// robot, out of memory.
+    /// Refused in this order: the limits or the number of clients (1 to 64) out of range, the number of robots (1 to
+    /// 512) out of range, a robot that is not on floor, two robots on one cell, a list of closures that does not have
+    /// one for each robot, out of memory.
     pub fn open(
         alloc: A,
         grid: Grid<A>,
@@ -91,7 +91,7 @@ impl<A: Allocator + Copy> World<A> {
         (self.core, self.robots)
     }
 
-    /// Where the robots stand, by number.
+    /// The robots' cells, by number.
     pub fn placement(&self) -> &[u32]
         ensures { result.now ≡ place self.now.core.history }
     {
@@ -105,7 +105,7 @@ impl<A: Allocator + Copy> World<A> {
         self.core.clock()
     }
 
-    /// The present chapter.
+    /// The current chapter.
     pub fn chapter(&self) -> &Chapter<A>
         ensures history { history_of result.now ≡ self.now.core.history }
         ensures number { result.now.number ≡ self.now.core.number }
@@ -121,7 +121,7 @@ impl<A: Allocator + Copy> World<A> {
         self.core.chapter()
     }
 
-    /// Hands out the present chapter and begins the next, whose opening is the state now. Mailboxes stay.
+    /// Returns the current chapter and begins the next, whose opening is the current state. Mailboxes stay.
     ///
     /// Refused in this order: this is the last of the chapters, out of memory.
     pub fn next_chapter(&mut self) -> Result<Chapter<A>, ChapterFault>
@@ -140,7 +140,7 @@ impl<A: Allocator + Copy> World<A> {
         self.core.next_chapter()
     }
 
-    /// The map and the present chapter.
+    /// The map and the current chapter.
     pub fn finish(self) -> (Grid<A>, Chapter<A>)
         ensures floor { result.0 ≡ self.core.floor }
         ensures history { history_of result.1 ≡ self.core.history }
@@ -154,14 +154,14 @@ impl<A: Allocator + Copy> World<A> {
         core.finish()
     }
 
-    /// How many robots there are, 1 to 512.
+    /// The number of robots, 1 to 512.
     pub fn robots(&self) -> usize
         ensures { result ≡ robots self.now.core.history }
     {
         self.core.robots()
     }
 
-    /// How many clients there are, 1 to 64.
+    /// The number of clients, 1 to 64.
     pub fn clients(&self) -> usize
         ensures { result ≡ clients self.now.core.history }
     {
@@ -192,7 +192,7 @@ impl<A: Allocator + Copy> World<A> {
         self.core.take(client, order)
     }
 
-    /// Shuts a robot: it finishes its errands and gets no more. Answers the farewell's stamp if it has no errands.
+    /// Shuts a robot: it finishes its errands and accepts no more. Answers the farewell's stamp if it has no errands.
     ///
     /// Refused in this order: there is no such robot, it is shut already, the chapter is full, out of memory.
     pub fn shut(&mut self, robot: u32) -> Result<Option<u32>, ShutFault>
@@ -208,7 +208,7 @@ impl<A: Allocator + Copy> World<A> {
         self.core.shut(robot, &mut self.robots.farewells)
     }
 
-    /// The first notice that a client was not given yet.
+    /// The first notice in the client's mailbox.
     pub fn next_notice(&self, client: u32) -> Option<Notice>
         requires { client < clients self.now.core.history }
         ensures { result ≡ slice_get (pending self.now.core client).notices 0 }
@@ -216,7 +216,7 @@ impl<A: Allocator + Copy> World<A> {
         self.core.next_notice(client)
     }
 
-    /// How many notices a client was not given yet.
+    /// The number of notices in the client's mailbox.
     pub fn pending_count(&self, client: u32) -> usize
         requires { client < clients self.now.core.history }
         ensures { result ≡ length (pending self.now.core client).notices }
@@ -234,15 +234,15 @@ impl<A: Allocator + Copy> World<A> {
         self.core.widen(client, extra)
     }
 
-    /// Keeps the fields of goals that no robot has any more, up to this many bytes; 256 MiB where nothing is said. What is
-    /// kept shows in nothing but the time and the memory that a take or a tick needs.
+    /// Keeps the fields of goals that no robot has any more, up to this many bytes; the default is 256 MiB. This
+    /// changes only the time and the memory that a take or a tick needs.
     pub fn keep(&mut self, bytes: usize)
         ensures { self.new.core ≡ self.old.core }
     {
         self.core.keep(bytes);
     }
 
-    /// Takes out the first notice that a client was not given yet.
+    /// Takes the first notice out of a client's mailbox.
     pub fn give(&mut self, client: u32) -> Option<Notice>
         requires { client < clients self.old.core.history }
         ensures notice { result ≡ slice_get (pending self.old.core client).notices 0 }

@@ -65,7 +65,7 @@ fn are_enough<A: Allocator + Copy>(hooks: &Hooks<A>, robots: usize) -> bool
     hooks.ties.len() == robots && hooks.arrivals.len() == robots && hooks.farewells.len() == robots
 }
 
-/// Why a world is not opened, out of memory apart.
+/// Why a world is not opened, except out of memory.
 pub(crate) fn opening_fault<A: Allocator + Copy>(
     grid: &Grid<A>,
     starts: &[u32],

@@ -35,7 +35,7 @@ fn lay_rows(bytes: &mut [u8], height: usize, width: usize, stride: usize, ways: 
     }
 }
 
-/// The bytes of the places before a search: a cell's has its ways to open places, each other none.
+/// The bytes of the places before a search: a cell's byte has the ways to open places; every other byte has none.
 pub(crate) fn free_ways<A: Allocator + Copy>(
     alloc: A,
     height: u32,

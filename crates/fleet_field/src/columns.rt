@@ -4,10 +4,10 @@ ghost use Rattle.std.specs.Prelude.{◌≡◌, ℕ, ◌/◌, ◌<◌, ◌≤◌}
 ghost use Rattle.fleet_grid.specs.Padded.{place};
 ghost use Rattle.fleet_field.specs.Kept.{IsInverse};
 
-/// The whole of whose parts the inverse of a number of columns is the sum.
+/// The unit 1 of the fractions in which the inverse of a number of columns is written.
 const WHOLE: u64 = 1073741824;
 
-/// A number of columns, and its inverse in parts of the whole, rounded up.
+/// A number of columns, and its inverse as a fraction, rounded up.
 #[derive(Clone, Copy)]
 pub struct Columns {
     pub(crate) width: u32,

@@ -1,4 +1,4 @@
-//! One byte a cell: which ways lead nearer to a goal.
+//! One byte for each cell, which says which ways lead nearer to a goal.
 
 ghost use Rattle.std.specs.Prelude.{◌≡◌, ℕ, ◌<◌, ◌≤◌, ◌==◌, ◌↔◌, IsTrue, length, IfOk, None, slice_index, slice_index_or};
 ghost use Rattle.std.specs.Int.{bit_at};
@@ -119,7 +119,7 @@ impl<A: Allocator + Copy> Compass<A> {
         })
     }
 
-    /// The least number of edges of a walk from the cell to the goal, counted by steps; none where no walk leads there.
+    /// The least number of edges of a walk from the cell to the goal, counted by steps; `None` if no walk leads there.
     pub fn at(&self, cell: u32) -> Option<u32>
         ensures { result ≡ slice_index_or self.now.away cell None }
     {
@@ -161,7 +161,7 @@ impl<A: Allocator + Copy> Compass<A> {
         ways_in(&self.ways, cell)
     }
 
-    /// How many cells the map has: as many bytes are taken.
+    /// How many cells the map has, which is the number of bytes of the compass.
     pub(crate) fn cells(&self) -> usize
         ensures { result ≡ length self.now.away }
     {

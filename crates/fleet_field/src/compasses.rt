@@ -25,8 +25,8 @@ fn compass_of<A: Allocator + Copy, B: Allocator + Copy>(
     Compass::from(alloc, grid, goal)
 }
 
-/// The compasses of several goals, floor cells: for each goal in turn the one that `Compass::from` makes. Large work is
-/// done by several threads, and so are many goals, whatever the map.
+/// The compasses of several goals, which are floor cells: for each goal in turn, the one that `Compass::from` makes.
+/// Much work is done by several threads, and so are many goals, whatever the map.
 pub(crate) fn compasses<A: Allocator + Copy + Send + Sync, B: Allocator + Copy + Send + Sync>(
     rt: &(impl Threads + Sync),
     alloc: A,

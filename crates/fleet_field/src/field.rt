@@ -57,7 +57,7 @@ impl<A: Allocator + Copy> Field<A> {
         })
     }
 
-    /// The least number of edges of a walk from the cell to the goal; none where no walk leads there.
+    /// The least number of edges of a walk from the cell to the goal; `None` if no walk leads there.
     pub fn at(&self, cell: u32) -> Option<u32>
         ensures { result ≡ slice_index_or self.now.away cell None }
     {

@@ -1,4 +1,4 @@
-//! The search, level by level, over a padded list in which walls and distances stand side by side.
+//! The search, level by level, in a padded list in which walls and distances are next to each other.
 
 ghost use Rattle.std.specs.Prelude.{◌≡◌, ℕ, ◌+◌, ◌*◌, ◌<◌, ◌≤◌, length, slice_index, take, IfOk, OnOk};
 ghost use Rattle.fleet_grid.specs.Padded.{IsOpen};
@@ -9,7 +9,7 @@ use fleet_grid::FAR;
 use std::alloc::{AllocError, Allocator};
 use std::mem;
 
-/// Marks a place that was not reached, and writes it at the end of the next front, which has this many places.
+/// Marks a place that was not reached before, and writes it at the end of the next front, which has this many places.
 #[inline(always)]
 fn visit(dist: &mut [u32], next: &mut [u32], count: usize, cell: usize, level: u32) -> usize
     requires inside { cell < length dist.old }
@@ -58,7 +58,7 @@ fn around(
     visit(dist, next, south, cell - 1, after)
 }
 
-/// One level: from the places of `now` to those next to them that were not reached before, and how many these are.
+/// One level: the places next to those of `now` that were not reached before. Returns how many they are.
 fn spread(dist: &mut [u32], now: &[u32], next: &mut [u32], stride: usize, level: u32) -> usize
     requires size { length dist.old < 1073741824 }
     requires small { level + 1 < 4294967294 }

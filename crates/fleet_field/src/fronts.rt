@@ -4,7 +4,7 @@ ghost use Rattle.std.specs.Prelude.{◌*◌, ◌<◌, ◌≤◌, length, OnOk};
 
 use std::alloc::{AllocError, Allocator};
 
-/// Makes room for the front after one of this many places: each has four next to it.
+/// Reserves memory for the front after a front of this many places: each place has four next to it.
 pub(crate) fn make_room<A: Allocator + Copy>(
     next: &mut Vec<u32, A>,
     count: usize,

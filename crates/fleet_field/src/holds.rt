@@ -1,4 +1,4 @@
-//! What is held: fields in a slab, each with the number of its holds.
+//! The fields that are held, in a slab, each with the number of its holds.
 
 ghost use Rattle.std.specs.Prelude.{◌≡◌, ◌≢◌, ◌≤◌, ◌⊎◌, ℕ, ◌+◌, ◌<◌, ◌^◌, [], ◌∷◌, None, Some, true, false, length, vec_len, vec_capacity, slice_index, IfOk, OnErr, IsSome, MatchOption};
 ghost use Rattle.fleet_field.specs.Field.{Aim};
@@ -57,7 +57,7 @@ pub(crate) fn is_one_of(goals: &[u32], goal: u32) -> bool
     false
 }
 
-/// Whether the goal needs a field: no key shows it, and it is not among the missing.
+/// Whether the goal needs a field: no key has it, and it is not among the missing goals yet.
 fn is_missing<A: Allocator + Copy>(
     held: &Slab<Held<Compass<A>>, A>,
     missing: &[u32],
@@ -89,7 +89,7 @@ pub(crate) fn missing_of<A: Allocator + Copy>(
     Ok(missing)
 }
 
-/// Puts a field in without a use, unless its goal is there.
+/// Adds a field without a hold, unless there is one for its goal.
 fn put<A: Allocator + Copy>(held: &mut Slab<Held<Compass<A>>, A>, field: Compass<A>)
     requires room { HasRoomFor held.old 1 }
     requires once { IsOnce held.old.slots }
@@ -157,8 +157,8 @@ fn use_all<A: Allocator + Copy>(
     }
 }
 
-/// Puts in the fields that were missing, counts one use more for each goal, and gives the keys in turn. Where memory is
-/// refused, all stays as it was.
+/// Adds the fields that were missing, counts one more hold for each goal, and returns the keys in turn. If memory runs
+/// out, nothing changes.
 pub(crate) fn hold_with<A: Allocator + Copy>(
     alloc: A,
     held: &mut Slab<Held<Compass<A>>, A>,

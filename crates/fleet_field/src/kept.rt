@@ -1,4 +1,4 @@
-//! Fields in a queue: which of them is a goal's, and which stand first.
+//! Fields in a queue, found by their goals and moved to the front.
 
 ghost use Rattle.std.specs.Prelude.{◌≡◌, ◌⊎◌, ◌↔◌, ℕ, ◌+◌, ◌<◌, ◌≤◌, length, slice_index, slice_index_or, take, vec_len, IfSome, IfNone, IsSome, IsTrue, MatchOption};
 ghost use Rattle.std.specs.List.{All, Contains};
@@ -56,7 +56,7 @@ pub(crate) fn take_field<A: Allocator + Copy>(
     kept.remove(at)
 }
 
-/// Puts the field of a goal first, where there is one.
+/// Moves the field of a goal to the front, if there is one.
 pub(crate) fn to_front<A: Allocator + Copy>(kept: &mut VecDeque<Compass<A>, A>, goal: u32)
     requires { deque_len kept.old ≤ deque_capacity kept.old }
     ensures among { All (Contains kept.old.items) kept.new.items }

@@ -12,9 +12,9 @@ use fleet_grid::{Dir, Ways};
 use std::alloc::{AllocError, Allocator};
 use std::mem;
 
-/// Looks in one direction from a place where the ways in `further` lead one further. The place there, if such a way leads to
-/// it, gets the way back. It is written at the end of the next front each time, and counted if it had no way yet: so nothing is
-/// hard to foretell.
+/// Looks in one direction from a place; `further` has its ways that lead one step further. If this way does, the place
+/// that it leads to gets the way back. That place is always written at the end of the next front, and counted only if
+/// it had no way before, so that the processor has no branch to predict.
 #[inline(always)]
 fn look(
     ways: &mut [u8],

@@ -25,8 +25,8 @@ fn field_of<A: Allocator + Copy, B: Allocator + Copy>(
     Field::from(alloc, grid, goal)
 }
 
-/// The fields of several goals, floor cells: for each goal in turn the one that `Field::from` makes. Large work is
-/// done by several threads, and so are many goals, whatever the map.
+/// The fields of several goals, which are floor cells: for each goal in turn, the one that `Field::from` makes. Much
+/// work is done by several threads, and so are many goals, whatever the map.
 pub fn fields<A: Allocator + Copy + Send + Sync, B: Allocator + Copy + Send + Sync>(
     rt: &(impl Threads + Sync),
     alloc: A,

@@ -1,4 +1,4 @@
-//! Fields that nobody holds any more, kept for the next who asks.
+//! Fields that are not held any more, kept for the next hold.
 
 ghost use Rattle.std.specs.Prelude.{◌≡◌, ◌⊎◌, ◌↔◌, ℕ, ◌<◌, ◌≤◌, [], ◌∷◌, length, slice_index, take, IfSome, IfOk, OnOk, OnErr, IsTrue};
 ghost use Rattle.std.specs.List.{All, Contains};
@@ -18,8 +18,8 @@ use std::collections::VecDeque;
 use std::marker::Model;
 use std::thread::Threads;
 
-/// Fields of one map that nobody holds, the last used first, up to a number of bytes; the longest unused goes first.
-/// Contracts see the kept fields, and the bytes.
+/// Fields of one map that are not held, the most recently used first, up to a number of bytes; the one unused longest
+/// is dropped first. Contracts see the kept fields, and the bytes.
 #[derive(Drop)]
 pub struct Shelf<A: Allocator + Copy = Global> {
     kept: VecDeque<Compass<A>, A>,
@@ -34,7 +34,7 @@ impl<A: Allocator + Copy> Model for Shelf<A> {
     ghost view = { λ s. record { kept = s.kept.items; bytes = s.bytes } };
 }
 
-/// How many fields of this many cells have place in this many bytes: a field has a byte a cell.
+/// How many fields of this many cells fit into this many bytes: a field has one byte for each cell.
 fn places(bytes: usize, cells: usize) -> usize
     ensures { result ≡ places bytes cells }
 {
@@ -54,7 +54,8 @@ impl<A: Allocator + Copy> Shelf<A> {
         }
     }
 
-    /// From now on this many bytes of fields are kept. What is over that goes at once, the longest unused first.
+    /// From now on at most this many bytes of fields are kept. Fields that are over this are dropped at once, those
+    /// unused longest first.
     pub fn keep(&mut self, bytes: usize)
         ensures { self.new ≡ record { kept = take (places bytes (cells_kept self.old.kept)) self.old.kept; bytes = bytes } }
     {
@@ -63,7 +64,7 @@ impl<A: Allocator + Copy> Shelf<A> {
         self.bytes = bytes;
     }
 
-    /// How many cells the last field has, as each has; none where nothing is kept.
+    /// How many cells the last field has, as each has; `None` if nothing is kept.
     fn cells(&self) -> usize
         ensures { result ≡ cells_kept self.now.kept }
     {
@@ -73,7 +74,8 @@ impl<A: Allocator + Copy> Shelf<A> {
         }
     }
 
-    /// Keeps a field that nobody holds any more. Takes no memory: where no place is left, the longest unused goes.
+    /// Keeps a field that is not held any more. Allocates nothing: if there is no place, the field unused longest is
+    /// dropped.
     pub(crate) fn put(&mut self, field: Compass<A>)
         ensures { All (Contains (field ∷ self.old.kept)) self.new.kept }
     {
@@ -84,7 +86,7 @@ impl<A: Allocator + Copy> Shelf<A> {
         }
     }
 
-    /// The kept field of a goal, which is not kept any more.
+    /// Removes the kept field of a goal and returns it.
     pub fn take(&mut self, goal: u32) -> Option<Compass<A>>
         ensures goal { IfSome result (λ field. field.goal ≡ goal) }
         ensures kept { IfSome result (λ field. Contains self.old.kept field) }
@@ -116,8 +118,8 @@ impl<A: Allocator + Copy> Shelf<A> {
         Compass::from(*self.kept.allocator(), grid, goal)
     }
 
-    /// The field of a goal, a floor cell: the kept one, or a new one. This many fields are out then, and can come back. What
-    /// is kept goes before out of memory is returned.
+    /// The field of a goal, which is a floor cell: the kept one, or a new one. This many fields are then in use and may
+    /// come back. All kept fields are dropped before out of memory is returned.
     pub(crate) fn field<B: Allocator + Copy>(
         &mut self,
         grid: &Grid<B>,
@@ -143,7 +145,7 @@ impl<A: Allocator + Copy> Shelf<A> {
     }
 }
 
-/// Of the first `count` goals, those that have a kept field, and those that have not, each of these once.
+/// Of the first `count` goals: those that have a kept field, and those that have none, each of the latter once.
 fn sorted<A: Allocator + Copy>(
     alloc: A,
     kept: &VecDeque<Compass<A>, A>,
@@ -165,9 +167,10 @@ fn sorted<A: Allocator + Copy>(
 }
 
 impl<A: Allocator + Copy + Send + Sync> Shelf<A> {
-    /// Searches fields of goals, floor cells, before anybody holds them, and tells whether each goal has a kept field
-    /// then: so it is where all have place in the bytes. Of the first goals, as many as have place, those that are not kept are
-    /// searched together; the longest unused of other goals make way. Where memory is refused, all stays as it was.
+    /// Searches the fields of goals, which are floor cells, before they are held. Returns whether each goal then has a
+    /// kept field; this is so if all fit into the bytes. Of the first goals, as many as fit, those without a kept field
+    /// are searched together; the fields of other goals that were unused longest are dropped. If memory runs out,
+    /// nothing changes.
     pub fn search_ahead<B: Allocator + Copy + Send + Sync>(
         &mut self,
         rt: &(impl Threads + Sync),

@@ -25,7 +25,7 @@ pub struct Held<F> {
     pub(crate) uses: u32,
 }
 
-/// Fields of one map, each under a key for as long as its goal is held. Contracts see what stands at each key.
+/// Fields of one map, each under a key as long as its goal is held. Contracts see the field at each key.
 #[derive(Drop)]
 pub struct FieldStore<A: Allocator + Copy = Global> {
     alloc: A,
@@ -122,7 +122,7 @@ impl<A: Allocator + Copy> FieldStore<A> {
         self.release_to(&mut Shelf::new(self.alloc, 0), key);
     }
 
-    /// Gives one hold of a key back. With the last one the field goes to those that are kept.
+    /// Gives one hold of a key back. When the last hold is given back, the field goes to the shelf.
     pub fn release_to(&mut self, shelf: &mut Shelf<A>, key: usize)
         requires { IsSome (shown self.old key) }
         ensures released { IsRelease self.old self.new key }
@@ -139,7 +139,7 @@ impl<A: Allocator + Copy> FieldStore<A> {
         }
     }
 
-    /// The cell's distance to the goal of the key; none where no walk leads there.
+    /// The cell's distance to the goal of the key; `None` if no walk leads there.
     pub fn at(&self, key: usize, cell: u32) -> Option<u32>
         requires { IsSome (shown self.now key) }
         ensures { (held : HeldView Aim) → shown self.now key ≡ Some held → result ≡ slice_index_or held.field.away cell None }
@@ -165,8 +165,9 @@ impl<A: Allocator + Copy> FieldStore<A> {
 }
 
 impl<A: Allocator + Copy + Send + Sync> FieldStore<A> {
-    /// Holds the fields of several goals, floor cells, and gives their keys in turn. Fields that the store has not are
-    /// searched together, side by side. Each goal is held fewer than 2^32 times at once, these holds counted.
+    /// Holds the fields of several goals, which are floor cells, and returns their keys in turn. Fields that the store
+    /// does not have are searched together, in parallel. Each goal may be held fewer than 2^32 times at once, with
+    /// these holds.
     pub fn hold_all<B: Allocator + Copy + Send + Sync>(
         &mut self,
         rt: &(impl Threads + Sync),

@@ -7,7 +7,7 @@ use rayon::prelude::*;
 use std::alloc::{AllocError, Allocator};
 use std::thread::Threads;
 
-/// From this many cells to search on, threads gain more than they cost.
+/// From this many cells to search on, threads save more time than they cost.
 const LARGE: u64 = 1_048_576;
 
 /// From this many goals on, threads search them whatever the map.

@@ -78,7 +78,7 @@ impl<A: Allocator + Copy> Cells<A> {
         self.width
     }
 
-    /// How many cells there are: height times width.
+    /// The number of cells: height times width.
     pub(crate) fn count(&self) -> u32
         ensures value { result ≡ length self.now.letters }
         ensures form { HasForm self.now }
@@ -93,7 +93,7 @@ impl<A: Allocator + Copy> Cells<A> {
         self.letters.as_slice()
     }
 
-    /// Whether the cell is floor. No number past the last cell is.
+    /// Whether the cell is floor. A number beyond the last cell is not.
     pub(crate) fn is_floor(&self, cell: u32) -> bool
         ensures { result ≡ is_floor self.now cell }
     {
@@ -126,7 +126,7 @@ impl<A: Allocator + Copy> Cells<A> {
         }
     }
 
-    /// The floor cell next to a cell in a direction; none where either of the two is not floor.
+    /// The floor cell next to a cell in a direction; `None` if either of the two is not floor.
     pub(crate) fn neighbour(&self, cell: u32, dir: Dir) -> Option<u32>
         ensures { MatchOption result ((b : ℕ) → IsNeighbourIn self.now dir cell b → ⊥) (λ b. IsNeighbourIn self.now dir cell b) }
     {

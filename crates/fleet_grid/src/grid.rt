@@ -1,4 +1,4 @@
-//! A map's floor, with what the crates above ask of it.
+//! A map's floor, with the facts about it that the crates above need.
 
 ghost use Rattle.std.specs.Prelude.{◌≡◌, ℕ, ◌*◌, ◌<◌, ◌≤◌, ◌↔◌, length, IfOk, IsTrue, MatchOption};
 ghost use Rattle.fleet_grid.specs.Floor.{floor_of, HasForm, IsFloor, IsNeighbour, IsNeighbourIn};
@@ -80,7 +80,7 @@ impl<A: Allocator + Copy> Grid<A> {
         self.cells.width()
     }
 
-    /// How many cells there are: height times width.
+    /// The number of cells: height times width.
     pub fn cell_count(&self) -> u32
         ensures value { result ≡ length self.now.letters }
         ensures form { HasForm self.now }
@@ -88,14 +88,14 @@ impl<A: Allocator + Copy> Grid<A> {
         self.cells.count()
     }
 
-    /// Whether the cell is floor. No number past the last cell is.
+    /// Whether the cell is floor. A number beyond the last cell is not.
     pub fn is_floor(&self, cell: u32) -> bool
         ensures { IsTrue result ↔ IsFloor self.now cell }
     {
         self.cells.is_floor(cell)
     }
 
-    /// The floor cell next to a cell in a direction; none where either of the two is not floor.
+    /// The floor cell next to a cell in a direction; `None` if either of the two is not floor.
     pub fn neighbour(&self, cell: u32, dir: Dir) -> Option<u32>
         ensures { MatchOption result ((b : ℕ) → IsNeighbourIn self.now dir cell b → ⊥) (λ b. IsNeighbourIn self.now dir cell b) }
     {
@@ -110,7 +110,8 @@ impl<A: Allocator + Copy> Grid<A> {
         (self.stride, self.blank.as_slice())
     }
 
-    /// The ways from each cell to its floor neighbours, a byte a cell: bit `dir.number()` stands for the way in that direction.
+    /// The ways from each cell to its floor neighbours, with one byte for each cell: bit `dir.number()` stands for the
+    /// way in that direction.
     pub fn ways(&self) -> &[u8]
         ensures ways { AreWays self.now result.now }
         ensures form { HasForm self.now }
@@ -127,14 +128,14 @@ impl<A: Allocator + Copy> Grid<A> {
         is_same_part(&self.cells, self.parts.as_slice(), a, b)
     }
 
-    /// How many floor cells there are.
+    /// The number of floor cells.
     pub fn floor_count(&self) -> u32
         ensures { result ≡ floor_count self.now }
     {
         self.floor_count
     }
 
-    /// How many edges there are: pairs of floor cells that share a side.
+    /// The number of edges: pairs of floor cells that share a side.
     pub fn edge_count(&self) -> u32
         ensures { result ≡ edge_count self.now }
     {

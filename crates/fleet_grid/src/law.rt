@@ -1,4 +1,4 @@
-//! Laws of the floor graph, for the proofs of the crates above. No call does anything.
+//! Laws of the floor graph, for the proofs of the crates above. The functions do nothing.
 
 ghost use Rattle.std.specs.Prelude.{◌≡◌, ℕ, ◌+◌, ◌<◌, ◌≤◌, ◌↔◌, ◌⊎◌, true, List, length, Some, None};
 ghost use Rattle.fleet_grid.specs.Floor.{Floor, HasForm, IsFloor, IsNeighbour, IsNeighbourIn};
@@ -19,7 +19,7 @@ pub fn edges_are_counted_once()
     ensures south { (m : Floor) (cell : ℕ) → (has_south m cell ≡ true) ↔ IsNeighbourIn m South cell (cell + m.width) }
 {}
 
-/// Walks join and turn round.
+/// Two walks that meet make one walk, and a walk can be walked in reverse.
 pub fn walks_join_and_turn()
     ensures same { (m : Floor) (a : ℕ) → AreJoined (IsNeighbour m) a a }
     ensures on { (m : Floor) (a b c : ℕ) → AreJoined (IsNeighbour m) a b → AreJoined (IsNeighbour m) b c → AreJoined (IsNeighbour m) a c }

@@ -1,5 +1,5 @@
-//! The floor of a map as a graph: cells, neighbours, parts, and the words for walks, distances, bridges, placements and
-//! conflict-free steps in which the crates above speak.
+//! The floor of a map as a graph: cells, neighbours and parts; and the definitions of walks, distances, bridges,
+//! placements and conflict-free steps that all crates above use.
 #![tactic(auto)]
 
 mod cells;

@@ -12,7 +12,8 @@ use std::alloc::{AllocError, Allocator};
 /// The label of a cell that has none.
 const BARE: u32 = u32::MAX;
 
-/// Labels the floor cell next to the one that the queue holds at `head`, unless it has its label, and puts it after the queue.
+/// Labels the floor cell next to the one at `head` of the queue, unless it has its label already, and adds it to the
+/// queue.
 fn visit<A: Allocator + Copy>(
     cells: &Cells<A>,
     labels: &mut [u32],
@@ -115,7 +116,7 @@ fn label_all<A: Allocator + Copy>(
     Ok(())
 }
 
-/// A label for each floor cell, by which parts are told apart.
+/// A label for each floor cell; two cells are in one part if they have the same label.
 pub(crate) fn parts_of<A: Allocator + Copy>(
     alloc: A,
     cells: &Cells<A>,

@@ -107,7 +107,7 @@ fn next_column(width: u32, cell: u32, column: u32) -> u32
     if column + 1 < width { column + 1 } else { 0 }
 }
 
-/// The ways from each cell, a byte a cell. No cell costs a division: the column is counted.
+/// The ways from each cell, with one byte for each cell. No cell needs a division: the column is counted.
 pub(crate) fn ways_of<A: Allocator + Copy>(
     alloc: A,
     cells: &Cells<A>,

@@ -18,7 +18,7 @@ struct StampClosure {
     ghost lawful: { (view : _) (stamp : ℕ) → stamp < 2 ^ 32 → Arrival.post run view stamp → IsStamp law stamp },
 }
 
-/// What gives each arrival of a robot its stamp, with its law: a closure, or one fixed stamp.
+/// Gives each arrival of a robot its stamp, within a law: by a closure, or one fixed stamp.
 #[derive(Drop)]
 pub struct ArrivalHook {
     /// The bounds of the stamps.
@@ -29,7 +29,7 @@ pub struct ArrivalHook {
 }
 
 impl ArrivalHook {
-    /// Keeps a closure that may be called on every view, and whose answers lie in the law.
+    /// Keeps a closure that may be called on every view, and whose results are within the law.
     pub fn new(law: StampLaw, run: Box<dyn Fn(ArrivalView) -> u32 + Send>) -> ArrivalHook
         requires fits { IsStampLaw law }
         requires callable { Arrival.IsAlwaysCallable run }
@@ -40,7 +40,7 @@ impl ArrivalHook {
         ArrivalHook { law, closure }
     }
 
-    /// Gives each arrival this stamp. It takes no memory.
+    /// Gives each arrival this stamp. It allocates nothing.
     pub fn fixed(stamp: u32) -> ArrivalHook
         ensures { result.law ≡ exact_stamp stamp }
     {
@@ -51,7 +51,7 @@ impl ArrivalHook {
         ArrivalHook { law, closure: None }
     }
 
-    /// The law within which the stamps lie.
+    /// The law within which the stamps are.
     pub fn law(&self) -> StampLaw
         ensures value { result ≡ self.now.law }
         ensures fits { IsStampLaw result }

@@ -1,4 +1,4 @@
-//! What answers once, when a robot has done its last errand: a closure, or a fixed answer.
+//! What is called once, when a robot has done its last errand: a closure, or a fixed answer.
 
 ghost use Rattle.std.specs.Prelude.{◌≡◌, ℕ, ◌<◌, ◌^◌};
 ghost use Rattle.std.specs.Option.{ForSome};
@@ -18,7 +18,7 @@ struct LastClosure {
     ghost lawful: { (view : _) (stamp : ℕ) → stamp < 2 ^ 32 → Last.post run view stamp → IsStamp law stamp },
 }
 
-/// What gives a robot's farewell its answer, with its law: a closure, whose one call spends it, or a fixed answer.
+/// Gives a robot's farewell its stamp, within a law: by a closure, which is consumed by its one call, or a fixed stamp.
 #[derive(Drop)]
 pub struct Farewell {
     /// The bounds of the answer.
@@ -29,7 +29,7 @@ pub struct Farewell {
 }
 
 impl Farewell {
-    /// Keeps a closure that may be called on every view, and whose answer lies in the law.
+    /// Keeps a closure that may be called on every view, and whose results are within the law.
     pub fn new(law: StampLaw, run: Box<dyn FnOnce(FarewellView) -> u32 + Send>) -> Farewell
         requires fits { IsStampLaw law }
         requires callable { Last.IsAlwaysCallable run }
@@ -40,7 +40,7 @@ impl Farewell {
         Farewell { law, closure }
     }
 
-    /// Gives the farewell this answer. It takes no memory.
+    /// Gives the farewell this answer. It allocates nothing.
     pub fn fixed(answer: u32) -> Farewell
         ensures { result.law ≡ exact_stamp answer }
     {
@@ -51,7 +51,7 @@ impl Farewell {
         Farewell { law, closure: None }
     }
 
-    /// The law within which the answer lies.
+    /// The law within which the stamp is.
     pub fn law(&self) -> StampLaw
         ensures value { result ≡ self.now.law }
         ensures fits { IsStampLaw result }
@@ -59,7 +59,7 @@ impl Farewell {
         self.law
     }
 
-    /// The answer, which is its last.
+    /// The stamp of the farewell. Consumes the hook.
     pub fn call(self, view: FarewellView) -> u32
         ensures { IsStamp self.law result }
     {

@@ -16,7 +16,7 @@ pub struct Hooks<A: Allocator + Copy = Global> {
 }
 
 impl<A: Allocator + Copy> Hooks<A> {
-    /// The closures of no robot. It takes no memory.
+    /// Empty lists of closures, for no robots. Allocates nothing.
     pub fn new(alloc: A) -> Hooks<A>
         ensures ties { result.ties.items ≡ [] }
         ensures arrivals { result.arrivals.items ≡ [] }
@@ -29,7 +29,7 @@ impl<A: Allocator + Copy> Hooks<A> {
         }
     }
 
-    /// Adds the closures of one more robot, each after its list. Where memory is refused all lists are left as they were.
+    /// Adds the closures of one more robot at the end of each list. If memory runs out, no list changes.
     pub fn push(
         &mut self,
         tie: TieHook,
@@ -51,7 +51,7 @@ impl<A: Allocator + Copy> Hooks<A> {
         Ok(())
     }
 
-    /// Has room in each list for the closures of one more robot.
+    /// Reserves memory in each list for the closures of one more robot.
     fn reserve_one(&mut self) -> Result<(), AllocError>
         requires { 0 ≤ vec_len self.old.ties }
         ensures ties { self.new.ties.items ≡ self.old.ties.items }
@@ -66,7 +66,7 @@ impl<A: Allocator + Copy> Hooks<A> {
         self.farewells.reserve(1)
     }
 
-    /// Keeps the first entries of each list, and all where there are fewer.
+    /// Keeps the first n entries of each list, or all if there are fewer.
     pub fn cut(self, robots: usize) -> Hooks<A>
         ensures ties { result.ties.items ≡ take robots self.ties.items }
         ensures arrivals { result.arrivals.items ≡ take robots self.arrivals.items }

@@ -1,5 +1,5 @@
-//! Closures that a fleet keeps, each with the law within which its answers lie. Only `Hooks::push` takes memory, and no
-//! function here makes a closure: that is for a program, or a test.
+//! The closures of a fleet, each with the law within which its results are. Only `Hooks::push` allocates. No function
+//! here makes a closure: a program or a test does.
 #![tactic(auto)]
 
 mod arrival;

@@ -18,8 +18,8 @@ struct RankClosure {
     ghost lawful: { (view : _) (rank : ℕ) → rank < 2 ^ 8 → Tie.post run view rank → IsRank law view.dir rank },
 }
 
-/// What ranks a floor neighbour of a robot's cell, with its law: a closure, or one fixed rank a direction. Of two neighbours that are equally near to
-/// the robot's goal the robot tries the one of less rank first.
+/// Ranks a floor neighbour of a robot's cell, within a law: by a closure, or one fixed rank for each direction. Of two
+/// neighbours that are equally near to the robot's goal, the robot tries the one with the lower rank first.
 #[derive(Drop)]
 pub struct TieHook {
     /// The bounds of the ranks.
@@ -30,7 +30,7 @@ pub struct TieHook {
 }
 
 impl TieHook {
-    /// Keeps a closure that may be called on every view, and whose answers lie in the law.
+    /// Keeps a closure that may be called on every view, and whose results are within the law.
     pub fn new(law: TieLaw, run: Box<dyn Fn(TieView) -> u8 + Send>) -> TieHook
         requires fits { IsTieLaw law }
         requires callable { Tie.IsAlwaysCallable run }
@@ -41,7 +41,7 @@ impl TieHook {
         TieHook { law, closure }
     }
 
-    /// Ranks by the direction alone: `ranks` are those of north, east, south and west. It takes no memory.
+    /// Ranks by the direction alone: `ranks` are those of north, east, south and west. It allocates nothing.
     pub fn fixed(ranks: [u8; 4]) -> TieHook
         ensures { result.law ≡ exact_law ranks }
     {
@@ -52,7 +52,7 @@ impl TieHook {
         TieHook { law, closure: None }
     }
 
-    /// The law within which the ranks lie.
+    /// The law within which the ranks are.
     pub fn law(&self) -> TieLaw
         ensures value { result ≡ self.now.law }
         ensures fits { IsTieLaw result }

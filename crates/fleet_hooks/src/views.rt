@@ -1,4 +1,4 @@
-//! What the closures are asked about.
+//! The arguments that the closures get.
 
 use fleet_grid::Dir;
 

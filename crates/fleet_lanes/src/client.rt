@@ -9,7 +9,7 @@ use rtrb::{Consumer, Producer, PushError};
 use std::alloc::{Allocator, Global};
 use std::marker::Model;
 
-/// A client: it sends orders and collects notices, each by one step on a ring.
+/// A client: it sends orders and collects notices; each call does one step on a ring.
 #[derive(Drop)]
 pub struct Client<A: Allocator = Global> {
     number: u32,
@@ -84,8 +84,8 @@ impl<A: Allocator> Client<A> {
 
     /// Sends an order, and returns its number in the lane, from 1. The last number is kept for Close.
     ///
-    /// Refused in this order: `Closed` after Close was sent; `NumbersSpent` where no number is left for it; `LaneFull` where the
-    /// ring has no free slot. Nothing has changed then, and the last two hand the order back.
+    /// Refused in this order: `Closed` after `Close` was sent; `NumbersSpent` if no number is left for the order;
+    /// `LaneFull` if the ring has no free slot. A refused call changes nothing, and the last two return the order.
     pub fn post(&mut self, order: Order) -> Result<u64, PostFault>
         ensures ok { IfOk result (λ number. (number ≡ length self.old.sent + 1)
             × (self.new ≡ record self.old { sent = self.old.sent ++ order ∷ []; free = self.new.free })
@@ -127,7 +127,7 @@ impl<A: Allocator> Client<A> {
         self.post(Order::Close)
     }
 
-    /// The oldest notice that is found on the outlet, which is taken off it. `None` where none is found.
+    /// Removes the oldest notice from the outlet and returns it; `None` if none is found there.
     pub fn collect(&mut self) -> Option<Notice>
         ensures some { IfSome result (λ notice. (self.new
             ≡ record self.old { collected = self.old.collected ++ notice ∷ []; known = self.new.known })
@@ -138,7 +138,7 @@ impl<A: Allocator> Client<A> {
         self.notices.pop().ok()
     }
 
-    /// The oldest notice, which is known to be on the outlet.
+    /// Removes and returns the oldest notice, which must be known to be on the outlet.
     pub fn collect_known(&mut self) -> Notice
         requires { 0 < length self.old.known }
         ensures collected { self.new
@@ -176,7 +176,7 @@ impl<A: Allocator> Client<A> {
         self.closed
     }
 
-    /// Looks at both rings with their other ends at hand.
+    /// Looks at both rings while the hall's ends of them are available too.
     pub(crate) fn beside(
         &mut self,
         orders: &mut Consumer<Order, A>,

@@ -3,7 +3,7 @@
 use fleet_book::Order;
 use thiserror::Error;
 
-/// Why an order was not sent. All but the first hand the order back.
+/// Why an order was not sent. All variants except the first return the order.
 #[derive(Clone, Copy, Debug, PartialEq, Eq, Error)]
 pub enum PostFault {
     /// Close was sent before.
@@ -12,7 +12,7 @@ pub enum PostFault {
     /// No free slot was found in the lane.
     #[error("the lane is full")]
     LaneFull(Order),
-    /// All numbers but the last were sent, and the last is kept for Close.
+    /// All numbers except the last were sent, and the last is reserved for `Close`.
     #[error("all order numbers but the last were sent")]
     NumbersSpent(Order),
 }

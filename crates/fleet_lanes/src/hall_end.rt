@@ -47,7 +47,7 @@ impl<A: Allocator> HallEnd<A> {
         HallEnd { orders, notices }
     }
 
-    /// The next order that is found in the lane, which stays there: the next `take` hands it out.
+    /// The next order in the lane, if one is found. It stays there, and the next `take` returns it.
     pub fn peek(&mut self) -> Option<Order>
         ensures some { IfSome result (λ order. IsPrefix (order ∷ []) self.new.known) }
         ensures none { IfNone result (self.new ≡ self.old) }
@@ -94,7 +94,7 @@ impl<A: Allocator> HallEnd<A> {
         self.orders.cached_slots()
     }
 
-    /// Gives a notice to the outlet, or hands it back where no free slot was found.
+    /// Puts a notice on the outlet, or returns it if no free slot is found.
     pub fn give(&mut self, notice: Notice) -> Result<(), Notice>
         ensures ok { OnOk result ((self.new
             ≡ record self.old { given = self.old.given ++ notice ∷ []; free = self.new.free })
@@ -108,8 +108,8 @@ impl<A: Allocator> HallEnd<A> {
         }
     }
 
-    /// Looks at both rings with all four ends in one thread: what was taken and what is in the lane is all that was
-    /// sent, and what was collected and what is on the outlet is all that was given.
+    /// Looks at both rings when the client and the hall end are in one thread. It then knows that everything sent was
+    /// taken or is in the lane, and that everything given was collected or is on the outlet.
     pub fn beside(&mut self, client: &mut Client<A>)
         requires { client.old.lane ≡ self.old.lane }
         ensures orders { self.new.taken ++ self.new.known ≡ client.new.sent }

@@ -9,8 +9,8 @@ use fleet_book::Limits;
 use rtrb::RingBuffer;
 use std::alloc::{AllocError, Allocator};
 
-/// The client of this number and its hall end: the two ends of two new rings, with `lane` slots for orders and `outlet` slots
-/// for notices. `AllocError` where memory was refused.
+/// The client with this number and its hall end: the two ends of two new rings, with `lane` slots for orders and
+/// `outlet` slots for notices. `AllocError` if memory runs out.
 pub fn lane_pair<A: Allocator + Copy>(
     alloc: A,
     client: u32,

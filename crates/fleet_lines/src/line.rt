@@ -26,7 +26,7 @@ impl From<AllocError> for LineFault {
     }
 }
 
-/// What an error of a reader says.
+/// The fault that an error of a reader means.
 fn fault_of(error: &Error) -> LineFault {
     if error.kind() == ErrorKind::OutOfMemory {
         LineFault::NoMemory
@@ -35,11 +35,11 @@ fn fault_of(error: &Error) -> LineFault {
     }
 }
 
-/// Reads the next line, up to its line feed or the end, and keeps its first `most` bytes without the line feed: the others
-/// are read over. Returns whether there was a line.
+/// Reads the next line, up to its line feed or the end, and keeps its first `most` bytes without the line feed; the
+/// other bytes are skipped. Returns whether there was a line.
 ///
-/// A line of more than `most - 1` bytes is told from a shorter one by its length. Memory is asked for what is kept alone.
-/// After a fault the line has some part of what was read, and the reader has lost it.
+/// If `line` has `most` bytes afterwards, the line may have been longer. Memory is taken only for what is kept. After a
+/// fault `line` has some part of what was read, and the reader no longer has it.
 pub fn read_line<R: BufRead, A: Allocator + Copy>(
     reader: &mut R,
     most: usize,

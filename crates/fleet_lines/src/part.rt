@@ -1,4 +1,4 @@
-//! The part of a line that a reader has at hand.
+//! The part of a line that is in the reader's buffer.
 
 ghost use Rattle.std.specs.Prelude.{◌≡◌, ◌≢◌, ◌-◌, ◌≤◌, ◌<◌, ◌++◌, ℕ, List, All, true, length, take, IfOk, vec_len};
 ghost use Rattle.std.specs.Option.{OnSome};

@@ -27,9 +27,9 @@ pub struct MapText<A: Allocator + Copy = Global> {
     pub cells: Vec<u8, A>,
 }
 
-/// The map that the bytes are, or what is wrong with them first. The text is a `.map` file of the
-/// MovingAI benchmarks, in the form that `IsMapText` has: `type` and a word, `height` and `width` in
-/// either order, `map`, and the rows. It allocates once, at most 1,024 times 1,024 bytes.
+/// Reads the bytes as a map, or returns their first fault. The text is a `.map` file of the MovingAI benchmarks, in the
+/// form that `IsMapText` defines: `type` and a word, `height` and `width` in either order, `map`, and the rows. It
+/// allocates once, at most 1,024 times 1,024 bytes.
 pub fn read_map<A: Allocator + Copy>(alloc: A, bytes: &[u8]) -> Result<MapText<A>, MapFault>
     // What is read has the shape of a map, with these cells.
     ensures found { IfOk result (λ map. IsMapText bytes.now (view map)) }

@@ -1,4 +1,4 @@
-//! What each robot sees from its cell, gathered in one pass before the planning.
+//! What each robot sees from its cell, collected in one pass before the planning.
 
 ghost use Rattle.std.specs.Prelude.{◌≡◌, ℕ, ◌<◌, ◌≤◌, length, slice_index};
 ghost use Rattle.fleet_grid.specs.Floor.{IsFloor};
@@ -83,8 +83,8 @@ fn asked<G: Goals, A: Allocator + Copy>(grid: &Grid<A>, goals: &G, robot: u32, o
     goals.ways(grid, robot, own)
 }
 
-/// Writes down which ways lead each robot nearer to its goal. The robots' fields lie far apart in memory: asked one right
-/// after another, many of them are fetched at once.
+/// Writes which ways lead each robot nearer to its goal. The robots' fields are far apart in memory; reading them
+/// directly one after the other lets the processor fetch many of them at once.
 fn ask<G: Goals, A: Allocator + Copy>(
     grid: &Grid<A>,
     from: &[u32],

@@ -7,7 +7,7 @@ use crate::seats::Seats;
 use crate::table::Table;
 use std::alloc::{AllocError, Allocator, Global};
 
-/// The cell that each robot has decided on, and who stands on each cell and has reserved it.
+/// The cell that each robot has decided on, and for each cell the robot on it and the robot that has reserved it.
 #[derive(Drop)]
 pub(crate) struct Board<A: Allocator + Copy = Global> {
     pub(crate) target: Table<A>,
@@ -55,7 +55,7 @@ impl<A: Allocator + Copy> Board<A> {
         self.reserve(other, cell);
     }
 
-    /// Takes a robot that has decided, and its cell, off the board, and tells the cell.
+    /// Takes a robot that has decided, and its cell, off the board, and returns the cell.
     pub(crate) fn release(&mut self, robot: u32) -> u32
         requires known { robot < length self.old.target }
         requires decided { table self.old.target robot ≢ None }

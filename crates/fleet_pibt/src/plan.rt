@@ -25,8 +25,8 @@ fn meets<S: Sight, A: Allocator + Copy>(scene: &S, board: &Board<A>, robot: u32,
     }
 }
 
-/// Lets the robot reserve the cell, and plans the robot there at once. If that one cannot move away, the reservation is
-/// given up.
+/// Lets the robot reserve the cell, and plans the robot on that cell at once. If the latter cannot move away, the
+/// reservation is given up.
 #[cycle(plan)]
 fn attempt<S: Sight, A: Allocator + Copy>(
     scene: &S,
@@ -63,7 +63,7 @@ fn attempt<S: Sight, A: Allocator + Copy>(
     false // The robot tries its next cell.
 }
 
-/// Lets the robot try its cells in order, until it has one. A robot that gets none stays, which its caller writes down.
+/// Lets the robot try its cells in order, until it gets one. A robot that gets none stays; its caller writes this down.
 #[cycle(plan)]
 fn plan<S: Sight, A: Allocator + Copy>(scene: &S, board: &mut Board<A>, robot: u32) -> bool
     requires whole { S.is_whole scene.now }

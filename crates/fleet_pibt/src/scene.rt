@@ -1,4 +1,4 @@
-//! The sight of a step over a map, a placement, goals and tie closures.
+//! The sight of a step, made from a map, a placement, goals and tie closures.
 
 ghost use Rattle.std.specs.Prelude.{◌≡◌, ℕ, ◌+◌, ◌<◌, cond, length, map, slice_get, slice_index, Some};
 ghost use Rattle.fleet_grid.specs.Floor.{IsNeighbourIn};

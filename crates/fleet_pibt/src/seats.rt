@@ -24,7 +24,7 @@ impl Seat {
     };
 }
 
-/// The robot that is written so; none where nobody is written.
+/// The robot that is written so; `None` if nobody is written.
 fn robot_in(entry: u16) -> Option<u32>
     ensures { result ≡ short_entry entry }
 {
@@ -35,8 +35,8 @@ fn robot_in(entry: u16) -> Option<u32>
     }
 }
 
-/// A list of cells, most of which have nobody. Who stands on a cell is next to who has reserved it, each in two bytes: a
-/// step asks for both, and fetches one line of memory for the two.
+/// A list of cells, most of which have no robot. For each cell the robot on it and the robot that has reserved it are
+/// next to each other, in two bytes each: a step needs both, and gets them from one line of memory.
 #[derive(Drop)]
 pub(crate) struct Seats<A: Allocator + Copy = Global> {
     entries: Vec<Seat, A>,
@@ -62,7 +62,7 @@ impl<A: Allocator + Copy> Seats<A> {
         })
     }
 
-    /// How many cells there are.
+    /// The number of cells.
     pub(crate) fn len(&self) -> usize
         ensures { result ≡ length self.now.standing }
     {

@@ -1,4 +1,4 @@
-//! What the plan of one step sees, without the map, the goals and the closures behind it.
+//! What the plan of one step sees, without the map, the goals and the closures from which this is made.
 
 ghost use Rattle.std.specs.Prelude.{◌≡◌, ℕ, ◌<◌};
 ghost use Rattle.fleet_pibt.specs.inside.Setting.{Setting, cell_of, robots, IsScene, IsChoices};

@@ -29,8 +29,8 @@ use fleet_hooks::TieHook;
 use std::alloc::{AllocError, Allocator, Global};
 use std::marker::Model;
 
-/// The tables of a step, made once for a number of cells and robots. All but the queue and what the robots saw are empty
-/// between two steps.
+/// The tables of a step, made once for a number of cells and robots. Between two steps all are empty except the queue
+/// and what the robots saw.
 #[derive(Drop)]
 pub struct Stepper<A: Allocator + Copy = Global> {
     board: Board<A>,
@@ -74,9 +74,9 @@ impl<A: Allocator + Copy> Stepper<A> {
         })
     }
 
-    /// Writes to `to` where each robot goes from its cell in `from`. The robots are planned in their order of priority, and
-    /// one that wants another's cell hands its priority on (PIBT). `tick` is the tick that is being made, which the tie
-    /// closures are told. Takes no memory.
+    /// Writes to `to` where each robot goes from its cell in `from`. The robots are planned in their order of priority,
+    /// and one that wants another's cell hands its priority on (PIBT). `tick` is the tick that is being made, which the
+    /// tie closures are told. Allocates nothing.
     pub fn step<G: Goals>(
         &mut self,
         grid: &Grid<A>,

@@ -9,7 +9,7 @@ use std::marker::Model;
 /// What is written for no number.
 const NOTHING: u32 = u32::MAX;
 
-/// A list of numbers or nothing, each in four bytes.
+/// A list whose entries are numbers or empty, in four bytes each.
 #[derive(Drop)]
 pub(crate) struct Table<A: Allocator + Copy = Global> {
     entries: Vec<u32, A>,
@@ -34,7 +34,7 @@ impl<A: Allocator + Copy> Table<A> {
         })
     }
 
-    /// How many entries there are.
+    /// The number of entries.
     pub(crate) fn len(&self) -> usize
         ensures { result ≡ length self.now }
     {

@@ -10,11 +10,12 @@ use crate::board::Board;
 use crate::seats::Seats;
 use std::alloc::Allocator;
 
-/// A table of more entries does not lie near the processor as a whole.
+/// A table with more entries does not fit into the processor's cache.
 const NEAR: usize = 262144;
 
-/// Writes that nobody stands on the cells north and south of the robots, while nobody stands anywhere. It changes nothing:
-/// the processor fetches all these entries of a large table at once, and not one after another when the robots are planned.
+/// Writes that no robot is on the cells north and south of the robots, before any robot is entered. This changes
+/// nothing, but the processor fetches all these entries of a large table at once, and not one after another when the
+/// robots are planned.
 pub(crate) fn fetch<A: Allocator + Copy>(arounds: &[Around], seats: &mut Seats<A>)
     requires inside { HasSides arounds.now (length seats.old.standing) }
     requires empty { IsEmpty seats.old.standing }

@@ -1,4 +1,4 @@
-//! Goals that are to come.
+//! Goals of the next errands.
 
 ghost use Rattle.std.specs.Prelude.{ℕ, ◌<◌, length, slice_index, IfSome, IfOk};
 ghost use Rattle.fleet_grid.specs.Floor.{IsFloor};
@@ -19,8 +19,8 @@ fn is_front<A: Allocator + Copy>(queues: &[ErrandQueue<A>], cell: u32) -> bool {
     false
 }
 
-/// The cell of the errand after a queue's front, where no robot aims at it. It is floor as each errand's is, which is
-/// asked anew in place of a look into the history.
+/// The cell of the errand after a queue's front, if it is no robot's goal. Each errand's cell is floor; this is tested
+/// again here, so that no history is needed.
 fn goal_ahead<A: Allocator + Copy>(
     grid: &Grid<A>,
     queues: &[ErrandQueue<A>],

@@ -51,7 +51,7 @@ fn no_keys<A: Allocator + Copy>(
 }
 
 impl<A: Allocator + Copy> Aims<A> {
-    /// This many robots, 512 at most, without a goal.
+    /// This many robots (at most 512), without goals.
     pub fn new(alloc: A, robots: usize) -> Result<Aims<A>, AllocError>
         requires { robots ≤ 512 }
         ensures none { IfOk result (λ aims. aims ≡ replicate robots None) }
@@ -64,8 +64,8 @@ impl<A: Allocator + Copy> Aims<A> {
         Ok(Aims { store, keys, fresh })
     }
 
-    /// From now on the robot aims at the goal, a floor cell, in place of what it aimed at. All aims are on one map, and
-    /// what nobody aims at any more goes to what is kept of it.
+    /// Gives the robot a goal, which is a floor cell, in place of the goal that it had. All goals are on one map, and
+    /// fields that no robot needs any more go to the shelf.
     pub fn aim<B: Allocator + Copy>(
         &mut self,
         shelf: &mut Shelf<A>,
@@ -90,9 +90,9 @@ impl<A: Allocator + Copy> Aims<A> {
         self.turn(shelf, grid, &[turn])
     }
 
-    /// From now on the robots of these turns aim at their goals, floor cells, or at nothing; of two turns of one robot the
-    /// later one holds. There are at most as many turns as robots. Distances to new goals are searched one after another,
-    /// where they are not kept. No list is allocated.
+    /// Gives the robots of these changes their new goals, which are floor cells, or no goal. If two changes are for one
+    /// robot, the later one counts. There are at most as many changes as robots. Distances to new goals that are not
+    /// kept are searched one after another. It allocates no list.
     pub fn turn<B: Allocator + Copy>(
         &mut self,
         shelf: &mut Shelf<A>,

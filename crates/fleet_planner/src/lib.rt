@@ -1,5 +1,5 @@
-//! What a fleet goes by between two entries of its history: what each robot aims at, with the distances, the eldest robot, and
-//! the step of the next tick. Robots with one goal share its distances.
+//! Plans the ticks of a fleet: each robot's goal with its distances, the eldest robot, and the step of the next tick.
+//! Robots with the same goal share its distances.
 #![tactic(auto)]
 
 mod ahead;

@@ -12,7 +12,7 @@ use fleet_hooks::TieHook;
 use fleet_pibt::Stepper;
 use std::alloc::{AllocError, Allocator};
 
-/// What stands when a tick is made, robot by robot.
+/// The state before a tick, robot by robot.
 #[derive(Clone, Copy, Debug)]
 pub struct TickInput<'a> {
     /// The robots' cells.

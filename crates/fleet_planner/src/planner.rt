@@ -1,4 +1,4 @@
-//! What the robots go by from tick to tick: their goals, and the step by priority inheritance with backtracking.
+//! What the robots need from tick to tick: their goals, and the step by priority inheritance with backtracking.
 
 ghost use Rattle.std.specs.Prelude.{◌≡◌, ◌<◌, ◌≤◌, ◌^◌, ◌↔◌, ℕ, IsTrue, None, slice_get, length, map, vec_capacity, IfOk, OnOk, OnErr};
 ghost use Rattle.fleet_field.specs.Store.{Keeps};
@@ -112,8 +112,8 @@ impl<A: Allocator + Copy> Planner<A> {
         plan(alloc, grid, input, &self.aims, &mut self.stepper, ties)
     }
 
-    /// Aims the robot of an accepted order at its cell, if the errand is the robot's first. The state is that before the
-    /// order is entered.
+    /// Gives the robot of an accepted order its cell as the goal, if the errand is the robot's first. `state` is the
+    /// state before the order is entered.
     pub fn begin(
         &mut self,
         grid: &Grid<A>,
@@ -135,8 +135,8 @@ impl<A: Allocator + Copy> Planner<A> {
         }
     }
 
-    /// Aims the robots at the goals that they have after a tick to these cells: those that land turn, the others keep
-    /// theirs. The state is that before the tick is entered. No list is allocated.
+    /// Gives the robots the goals that they have after a tick to these cells: robots that arrive get a new goal, the
+    /// others keep theirs. `state` is the state before the tick is entered. It allocates no list.
     pub fn turn(
         &mut self,
         grid: &Grid<A>,
@@ -158,7 +158,7 @@ impl<A: Allocator + Copy> Planner<A> {
 }
 
 impl<A: Allocator + Copy + Send + Sync> Planner<A> {
-    /// Searches the fields of the robots' next goals side by side, as many as have place among those that are kept.
+    /// Searches the fields of the robots' next goals side by side, as many as fit among those that are kept.
     pub fn search_ahead(
         &mut self,
         rt: &(impl Threads + Sync),
@@ -178,7 +178,7 @@ impl<A: Allocator + Copy + Send + Sync> Planner<A> {
     }
 }
 
-/// Searches the fields of the robots' next goals side by side, and answers whether all have place on the shelf.
+/// Searches the fields of the robots' next goals side by side, and answers whether all fit on the shelf.
 fn search_goals<A: Allocator + Copy + Send + Sync>(
     rt: &(impl Threads + Sync),
     alloc: A,
@@ -194,7 +194,7 @@ fn search_goals<A: Allocator + Copy + Send + Sync>(
     shelf.search_ahead(rt, grid, &goals)
 }
 
-/// The turns that a tick to these cells brings, by rising robot, in place of what the list held.
+/// The turns that a tick to these cells brings, sorted by robot, in place of what the list held.
 fn put_turns<A: Allocator + Copy>(state: &FleetState<A>, to: &[u32], turns: &mut Vec<GoalChange, A>)
     requires same { length to.now ≡ robot_count state.now }
     requires few { length to.now ≤ 512 }
@@ -236,7 +236,7 @@ fn first_goal<A: Allocator + Copy>(
     }
 }
 
-/// The robot's goal once it has finished its front errand.
+/// The robot's goal after it has finished its front errand.
 fn goal_after<A: Allocator + Copy>(state: &FleetState<A>, robot: u32) -> Option<u32>
     requires { robot < robot_count state.now }
     ensures { result ≡ cell_of (slice_get (queue_at state.now.queues robot).items 1) }

@@ -1,4 +1,4 @@
-//! Turning robots to other goals.
+//! Gives robots other goals.
 
 ghost use Rattle.std.specs.Prelude.{◌≡◌, ℕ, ◌+◌, ◌≤◌, [], List, Option, length, map, vec_capacity, OnOk, OnErr};
 ghost use Rattle.fleet_field.specs.Store.{Serves, Keeps};
@@ -12,7 +12,7 @@ use fleet_field::{FieldStore, Shelf};
 use fleet_grid::Grid;
 use std::alloc::{AllocError, Allocator};
 
-/// A robot, and the goal that it turns to, or none.
+/// A robot with its new goal, or none.
 #[derive(Clone, Copy, Debug, PartialEq, Eq)]
 pub struct GoalChange {
     /// The robot, from 0.
@@ -21,8 +21,8 @@ pub struct GoalChange {
     pub goal: Option<u32>,
 }
 
-/// Holds the field of each goal that is turned to, and puts the keys into `fresh`, one for each turn. Where a hold is
-/// refused, what was held before it lies there.
+/// Holds the field of each new goal, and puts the keys into `fresh`, one for each change. If a hold fails, the keys
+/// held before it are in `fresh`.
 fn hold_goals<A: Allocator + Copy, B: Allocator + Copy>(
     shelf: &mut Shelf<A>,
     grid: &Grid<B>,
@@ -54,7 +54,7 @@ fn hold_goals<A: Allocator + Copy, B: Allocator + Copy>(
     Ok(())
 }
 
-/// Deals each turn's robot its new key, and leaves the one that it had in its place.
+/// Gives each change's robot its new key, and puts the key that it had in its place.
 fn deal(keys: &mut [Option<usize>], fresh: &mut [Option<usize>], turns: &[GoalChange])
     requires count { length fresh.old ≡ length turns.now }
     requires known { AreKnownTurns (length keys.old) turns.now }
@@ -91,8 +91,8 @@ fn give_back<A: Allocator + Copy>(
     fresh.clear();
 }
 
-/// Makes the turns. New goals are held before anything is given back, so that a refusal leaves all aims as they were.
-/// Between calls `fresh` is empty.
+/// Makes the changes. New goals are held before any key is given back, so that all goals stay as they were if memory
+/// runs out. Between calls `fresh` is empty.
 pub(crate) fn turn_to<A: Allocator + Copy, B: Allocator + Copy>(
     shelf: &mut Shelf<A>,
     grid: &Grid<B>,

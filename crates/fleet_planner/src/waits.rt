@@ -25,7 +25,7 @@ fn longer(waits: &[Option<u64>], found: Option<u32>, robot: u32) -> Option<u32>
     }
 }
 
-/// The robot that has waited longest, and of several that have the one of least number; none where no robot waits.
+/// The robot that has waited longest, and of several that have the one of least number; `None` if no robot waits.
 pub fn eldest(waits: &[Option<u64>]) -> Option<u32>
     requires { length waits.now ≤ 512 }
     ensures { MatchOption result ((r : ℕ) → wait_of waits.now r ≡ None) (λ e. IsEldest waits.now e) }

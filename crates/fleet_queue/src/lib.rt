@@ -1,4 +1,4 @@
-//! The errands that wait for one robot: a bounded list, whose room is made once.
+//! The errands that wait for one robot: a bounded list, whose memory is taken once.
 #![tactic(auto)]
 
 mod errand;

@@ -9,8 +9,7 @@ use circular_buffer::HeapCircularBuffer;
 use std::alloc::{AllocError, Allocator, Global};
 use std::marker::Model;
 
-/// The unfinished errands of one robot. The front is the one that the robot is on its way to. Only `new` takes
-/// memory.
+/// The unfinished errands of one robot. The front is the one that the robot is on its way to. Only `new` allocates.
 #[derive(Drop)]
 pub struct ErrandQueue<A: Allocator = Global> {
     errands: HeapCircularBuffer<Errand, A>,
@@ -73,7 +72,7 @@ impl<A: Allocator> ErrandQueue<A> {
         self.errands.get(place).copied()
     }
 
-    /// Lets the errand join the end, or hands it back where the queue is full.
+    /// Adds the errand at the end, or returns it if the queue is full.
     pub fn try_push(&mut self, errand: Errand) -> Result<(), Errand>
         ensures room { IsOk result ↔ (length self.old.items < self.old.capacity) }
         ensures ok { OnOk result (self.new ≡ record self.old { items = self.old.items ++ errand ∷ [] }) }
@@ -82,7 +81,7 @@ impl<A: Allocator> ErrandQueue<A> {
         self.errands.try_push_back(errand)
     }
 
-    /// Takes the front out.
+    /// Removes the front errand and returns it.
     pub fn pop(&mut self) -> Option<Errand>
         ensures front { result ≡ slice_get self.old.items 0 }
         ensures rest { self.new ≡ record self.old { items = drop 1 self.old.items } }
@@ -90,7 +89,7 @@ impl<A: Allocator> ErrandQueue<A> {
         self.errands.pop_front()
     }
 
-    /// Whether the client's errand of this number is in the queue.
+    /// Whether the client's errand with this number is in the queue.
     pub fn holds(&self, client: u32, number: u64) -> bool
         ensures { result ≡ list_any (is_of client number) self.now.items }
     {
@@ -99,7 +98,7 @@ impl<A: Allocator> ErrandQueue<A> {
             .any(|errand| is_of(client, number, errand))
     }
 
-    /// Removes the client's first errand of this number after the front, and answers whether there was one.
+    /// Removes the client's first errand with this number after the front, and answers whether there was one.
     pub fn withdraw(&mut self, client: u32, number: u64) -> bool
         ensures found { result ≡ list_any (is_of client number) (drop 1 self.old.items) }
         ensures rest { self.new
@@ -114,7 +113,7 @@ impl<A: Allocator> ErrandQueue<A> {
     }
 }
 
-/// Moves the client's first errand of this number after the front to the end, and answers whether there is one.
+/// Moves the client's first errand with this number after the front to the end, and answers whether there is one.
 fn move_to_end(errands: &mut [Errand], client: u32, number: u64) -> bool
     ensures found { result ≡ list_any (is_of client number) (drop 1 errands.old) }
     ensures moved { result ≡ true
@@ -134,7 +133,7 @@ fn move_to_end(errands: &mut [Errand], client: u32, number: u64) -> bool
     true
 }
 
-/// The place of the client's first errand of this number.
+/// The place of the client's first errand with this number.
 fn place_of(errands: &[Errand], client: u32, number: u64) -> Option<usize>
     ensures { result ≡ position (is_of client number) errands.now }
 {
@@ -143,7 +142,7 @@ fn place_of(errands: &[Errand], client: u32, number: u64) -> Option<usize>
         .position(|errand| is_of(client, number, errand))
 }
 
-/// Whether it is the client's errand of this number.
+/// Whether it is the client's errand with this number.
 fn is_of(client: u32, number: u64, errand: &Errand) -> bool
     ensures { result ≡ is_of client number errand.now }
 {

@@ -13,7 +13,7 @@ fn is_script(line: &[u8]) -> bool
     line == b"script".as_slice()
 }
 
-/// The map and the script of a bundle, or the number of the line after its last where none is `script`.
+/// The map and the script of a bundle; if no line is `script`, the number of the line after the last one.
 pub fn split_bundle(bytes: &[u8]) -> Result<(&[u8], &[u8]), u32>
     requires { length bytes.now ≤ 16777216 }
     ensures found { IfOk result (λ x. IsBundle bytes.now x.0.now x.1.now) }

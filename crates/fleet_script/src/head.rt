@@ -64,7 +64,7 @@ pub(crate) fn limit_name(key: &[u8]) -> Option<LimitName>
     }
 }
 
-/// Which closures rank the cells, as the words say: whether the southern ones.
+/// Which closures rank the cells, by the words of a line: `true` for the southern ones.
 pub(crate) fn is_south(words: &[u8]) -> Option<bool>
     ensures { result ≡ ties_in (words_of words.now) }
 {
@@ -91,7 +91,7 @@ pub(crate) fn turn_count(words: &[u8]) -> Option<u32>
     }
 }
 
-/// Takes what a header line says, where none said it before.
+/// Takes what a header line says, unless an earlier line said it.
 pub(crate) fn set_once<T: Drop>(place: &mut Option<T>, said: Option<T>) -> Option<()>
     ensures set { option_map (λ done. place.new) result ≡ option_map Some (if_new place.old said) }
     ensures kept { result ≡ None → place.new ≡ place.old }

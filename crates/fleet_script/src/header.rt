@@ -12,7 +12,7 @@ use crate::numbers::{one_small_number, small_number};
 use fleet_map::text::first_word;
 use std::alloc::{AllocError, Allocator, Global};
 
-/// What header lines said so far: `None` where no line said it.
+/// What header lines said so far: `None` if no line said it.
 #[derive(Drop)]
 pub struct Head<A: Allocator + Copy = Global> {
     /// The start cells of robots 0, 1, ..
@@ -26,7 +26,7 @@ pub struct Head<A: Allocator + Copy = Global> {
     pub limits: GivenLimits,
 }
 
-/// The numbers that the words are, where there are 1 to `most` of them.
+/// The numbers that the words say, if there are 1 to `most` of them.
 fn cells<A: Allocator + Copy>(
     alloc: A,
     most: usize,
@@ -54,7 +54,7 @@ fn cells<A: Allocator + Copy>(
 }
 
 impl<A: Allocator + Copy> Head<A> {
-    /// A head of no lines. It takes no memory.
+    /// A head of no lines. It allocates nothing.
     pub fn new() -> Head<A>
         ensures { headed result [] [] ≡ blank_draft }
     {

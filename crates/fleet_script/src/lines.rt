@@ -72,7 +72,7 @@ fn order(word: &[u8], words: &[u8]) -> Option<Order>
     Some(Order::Go { robot, cell })
 }
 
-/// The withdrawal of the errand that the word numbers.
+/// The withdrawal of the errand with the number that the word says.
 fn withdrawal(word: &[u8]) -> Option<Order>
     ensures { result ≡ withdrawal_in word.now }
 {

@@ -7,7 +7,7 @@ ghost use Rattle.fleet_script.specs.Numbers.{number_in, one_in, most32};
 
 use fleet_map::text::first_word;
 
-/// The number that a word of digits is, or 2^64 where it is more.
+/// The number that a word of digits says, or 2^64 if that is greater.
 fn wide_number(word: &[u8]) -> Option<u128>
     ensures { result ≡ option_map (λ n. min n (2 ^ 64)) (number_of word.now) }
 {
@@ -24,7 +24,7 @@ fn wide_number(word: &[u8]) -> Option<u128>
     Some(number)
 }
 
-/// The number that a word of at most 20 digits is, where it is at most `most`.
+/// The number that a word of at most 20 digits says, if it is at most `most`.
 pub(crate) fn number_of_word(word: &[u8], most: u64) -> Option<u64>
     ensures { result ≡ number_in most word.now }
 {
@@ -57,7 +57,7 @@ pub(crate) fn small_number(word: &[u8]) -> Option<u32>
     Some(number as u32)
 }
 
-/// The one number of 32 bits that the words are.
+/// The number of 32 bits that the text says, if the text is exactly one word.
 pub(crate) fn one_small_number(words: &[u8]) -> Option<u32>
     ensures { result ≡ one_in most32 (words_of words.now) }
 {

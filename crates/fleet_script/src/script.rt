@@ -42,10 +42,10 @@ pub struct Script<A: Allocator + Copy = Global> {
 /// Why a text is no script.
 #[derive(Clone, Copy, Debug, PartialEq, Eq, Error)]
 pub enum ScriptFault {
-    /// The first line that may not stand where it does, from 1; the one after the last where `robots` is missing.
+    /// The first line that is not allowed where it is, counted from 1; if `robots` is missing, the line after the last.
     #[error("line {0} may not stand where it does")]
     Line(u32),
-    /// Memory ran out, which says nothing of the text.
+    /// Memory ran out; this says nothing about the text.
     #[error("out of memory")]
     NoMemory,
 }
@@ -145,7 +145,7 @@ impl<A: Allocator + Copy> Draft<A> {
     }
 }
 
-/// The script of a draft whose lines are all read, the next of which would have this number.
+/// The script of a draft whose lines are all read; this is the number of the line after the last.
 fn finished<A: Allocator + Copy>(draft: Draft<A>, number: u32) -> Result<Script<A>, ScriptFault>
     ensures { Gives plan result (or_line number (option_map (plan_from (shown draft)) (shown draft).starts)) }
 {

@@ -1,4 +1,4 @@
-//! What a session forgets. No call does anything.
+//! The law about what a session forgets. The function does nothing.
 
 ghost use Rattle.std.specs.Prelude.{◌≡◌, ℕ, List};
 ghost use Rattle.fleet_grid.specs.Floor.{Floor};
@@ -10,8 +10,8 @@ ghost use Rattle.fleet_world.specs.declared.reply.Reply.{Reply};
 ghost use Rattle.fleet_world.specs.Run.{State, Run, opened_state};
 ghost use Rattle.fleet_session.specs.Talk.{Talk, TalkRun, forget, opened_talk};
 
-/// A session forgets nothing that a reply shows: whatever it replies within its first chapter, a run replies that keeps all
-/// that was ever sent and given, from the same opening to the same world.
+/// A session forgets nothing that a reply shows: within its first chapter it gives the same replies as a run, which
+/// keeps everything that was ever sent and given, from the same opening to the same world.
 pub fn sessions_forget_nothing<A>()
     ensures { (m : Floor) (starts : List ℕ) (clients : ℕ) (limits : Limits) (laws : HookLaws) (events : List Event) (replies : List Reply) (t : Talk A) →
         CanOpen m starts clients limits laws → AreOrderly laws → TalkRun (opened_talk m starts clients limits laws) events replies t →

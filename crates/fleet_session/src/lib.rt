@@ -1,5 +1,5 @@
-//! A world with the lanes and outlets of its clients, event by event, in bounded memory: of what was sent and given it keeps
-//! what waits, and nothing that is over.
+//! A world with the lanes and outlets of its clients, event by event, in bounded memory: of the orders sent and the
+//! notices given it keeps only those that still wait.
 #![tactic(auto)]
 
 mod law;

@@ -1,4 +1,4 @@
-//! A world and what waits of its clients.
+//! A world, and the orders and notices of its clients that wait.
 
 ghost use Rattle.std.specs.Prelude.{◌≡◌, ◌≤◌, ◌<◌, ◌^◌, ◌+◌, ◌↔◌, IfOk, OnOk, OnErr, Err, IsTrue, replicate, length, vec_len};
 ghost use Rattle.fleet_history.specs.History.{clients as client_count, history_of};
@@ -56,7 +56,7 @@ impl<A: Allocator + Copy> Session<A> {
         }
     }
 
-    /// Whether the chapter has room for no entry.
+    /// Whether the chapter has no room for another entry.
     pub fn is_full(&self) -> bool
         ensures { IsTrue result ↔ HasNoEntries self.now.world.core }
     {
@@ -92,7 +92,7 @@ impl<A: Allocator + Copy> Session<A> {
     }
 }
 
-/// Lets a world go. By its own end: that is proved in its crate, and a drop would be anew here, for each type that lies in it.
+/// Ends a world by its own call: the drop is then proved in the world's crate, and not again here for each type in it.
 fn let_go<A: Allocator + Copy>(world: World<A>) {
     let _left = world.finish();
 }

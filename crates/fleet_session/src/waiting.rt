@@ -1,4 +1,4 @@
-//! What waits of one client.
+//! The orders and notices of one client that wait.
 
 ghost use Rattle.std.specs.Prelude.{◌≡◌, [], ◌∷◌, ◌++◌, length, slice_get, drop, OnOk, OnErr, MatchOption, Some};
 ghost use Rattle.fleet_session.specs.Talk.{none_waiting, with_order, with_notice, without_order, without_notice};
@@ -25,7 +25,7 @@ impl<A: Allocator + Copy> Model for Waiting<A> {
 }
 
 impl<A: Allocator + Copy> Waiting<A> {
-    /// Nothing waits. It takes no memory.
+    /// Nothing waits. It allocates nothing.
     pub fn new(alloc: A) -> Waiting<A>
         ensures { result ≡ none_waiting }
     {

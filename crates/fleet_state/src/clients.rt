@@ -22,7 +22,7 @@ pub struct Tally {
     pub noticed: u64,
 }
 
-/// The clients, by number. Only `open` and `states` take memory.
+/// The clients, by number. Only `open` and `states` allocate.
 #[derive(Drop)]
 pub(crate) struct Clients<A: Allocator + Copy = Global> {
     book: Book<A>,
@@ -40,7 +40,7 @@ impl<A: Allocator + Copy> Model for Clients<A> {
     ghost invariant = { λ x. length x.book.accounts ≡ length x.tallies.items };
 }
 
-/// What each client's orders and notices come to.
+/// The counts of each client's orders and notices.
 fn tallies_of<A: Allocator + Copy>(
     alloc: A,
     clients: &[ClientState],
@@ -83,7 +83,7 @@ impl<A: Allocator + Copy> Clients<A> {
         })
     }
 
-    /// How many clients there are.
+    /// The number of clients.
     pub(crate) fn len(&self) -> usize
         ensures { result ≡ length self.now.tallies }
     {
@@ -172,7 +172,7 @@ impl<A: Allocator + Copy> Clients<A> {
     }
 }
 
-/// The accounts of the clients, who are owed the errands of the robots.
+/// The accounts of the clients; the robots' errands are their unfinished ones.
 fn accounts_of<A: Allocator + Copy>(
     alloc: A,
     clients: &[ClientState],

@@ -1,4 +1,4 @@
-//! Whose arrivals and whose farewells a step brings.
+//! The arrivals and the farewells that a step brings.
 
 ghost use Rattle.std.specs.Prelude.{◌≡◌, ◌<◌, ◌++◌, List, length, map, slice_get, IfOk, OnOk};
 ghost use Rattle.fleet_history.specs.History.{after};

@@ -51,7 +51,8 @@ impl<A: Allocator + Copy> FleetState<A> {
         })
     }
 
-    /// The opening that follows the chapter with this opening. The state stays that of the history that goes on with it.
+    /// The opening of the next chapter, made from the opening of the current one. The state stays the same, and is that
+    /// of the history that goes on.
     pub fn next_opening(&self, alloc: A, opening: &Opening<A>) -> Result<Opening<A>, AllocError>
         requires { length opening.now.robots ≡ robot_count self.now }
         ensures next { IfOk result (λ next. Of self.now (λ h. h.opening ≡ opening.now → next ≡ next_opening h)) }

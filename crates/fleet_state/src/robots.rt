@@ -16,13 +16,13 @@ use fleet_queue::{Errand, ErrandQueue};
 use std::alloc::{AllocError, Allocator, Global};
 use std::marker::Model;
 
-/// The robots, by number. Only `open` takes memory.
+/// The robots, by number. Only `open` allocates.
 #[derive(Drop)]
 pub(crate) struct Robots<A: Allocator + Copy = Global> {
     cells: Vec<u32, A>,
     queues: Vec<ErrandQueue<A>, A>,
-    /// By robot: the cell of its first errand, and any where it has none. Each queue lies in memory of its own, so this
-    /// flat list spares a tick the look at the queues of all robots that can't land.
+    /// By robot: the cell of its first errand; any cell if it has none. Each queue has memory of its own. With this
+    /// flat list a tick need not look at the queues of robots that cannot arrive.
     fronts: Vec<u32, A>,
     waits: Vec<Option<u64>, A>,
 }
@@ -81,14 +81,14 @@ impl<A: Allocator + Copy> Robots<A> {
         })
     }
 
-    /// How many robots there are.
+    /// The number of robots.
     pub(crate) fn len(&self) -> usize
         ensures { result ≡ length self.now.queues }
     {
         self.queues.len()
     }
 
-    /// Where the robots stand.
+    /// The robots' cells.
     pub(crate) fn cells(&self) -> &[u32]
         ensures { result.now ≡ self.now.cells }
     {
@@ -133,7 +133,7 @@ impl<A: Allocator + Copy> Robots<A> {
         self.waits[robot]
     }
 
-    /// Where the client's errand of this number stands.
+    /// Where the client's errand with this number stands.
     pub(crate) fn place_of(&self, client: u32, number: u64) -> Place
         ensures { IsPlaceAmong self.now.queues client number result }
     {
@@ -146,7 +146,7 @@ impl<A: Allocator + Copy> Robots<A> {
         Place::Absent
     }
 
-    /// Whether the robot may land on the cell. Of one that may not, nobody needs to look at the queue.
+    /// Whether the robot may arrive on the cell. If not, its queue need not be looked at.
     fn may_land(&self, robot: usize, cell: u32) -> bool
         requires { robot < length self.now.queues }
         ensures { result ≡ false → landing cell (queue_at self.now.queues robot).items ≡ None }
@@ -196,8 +196,8 @@ impl<A: Allocator + Copy> Robots<A> {
         landed
     }
 
-    /// Lets an accepted errand join its robot's queue, where it may be the first and begin to wait, and a withdrawn one
-    /// leave its queue. Other verdicts change nothing.
+    /// Adds an accepted errand to its robot's queue, where it may be the first and begin to wait; or removes a
+    /// withdrawn one. Other verdicts change nothing.
     pub(crate) fn take(&mut self, client: u32, order: Order, verdict: Verdict)
         requires { HasPlace self.old.queues order verdict }
         ensures { AreTaken client order verdict self.old self.new }
@@ -235,7 +235,7 @@ impl<A: Allocator + Copy> Robots<A> {
         self.waits[robot] = Some(self.waits[robot].unwrap_or(0));
     }
 
-    /// Takes the client's errand of this number out, wherever it stands after a front.
+    /// Takes the client's errand with this number out, wherever it stands after a front.
     fn withdraw(&mut self, client: u32, number: u64)
         ensures cells { self.new.cells ≡ self.old.cells }
         ensures count { length self.new.queues ≡ length self.old.queues }

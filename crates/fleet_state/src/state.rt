@@ -36,7 +36,7 @@ impl<A: Allocator + Copy> Model for FleetState<A> {
 }
 
 impl<A: Allocator + Copy> FleetState<A> {
-    /// Where the robots stand.
+    /// The robots' cells.
     pub fn place(&self) -> &[u32]
         ensures cells { result.now ≡ self.now.cells }
         ensures of { Of self.now (λ h. result.now ≡ place h) }
@@ -52,7 +52,7 @@ impl<A: Allocator + Copy> FleetState<A> {
         self.tick
     }
 
-    /// How many robots there are.
+    /// The number of robots.
     pub fn robots(&self) -> usize
         ensures count { result ≡ robot_count self.now }
         ensures of { Of self.now (λ h. result ≡ robots h) }
@@ -60,7 +60,7 @@ impl<A: Allocator + Copy> FleetState<A> {
         self.robots.len()
     }
 
-    /// How many clients there are.
+    /// The number of clients.
     pub fn clients(&self) -> usize
         ensures count { result ≡ client_count self.now }
         ensures of { Of self.now (λ h. result ≡ clients h) }

@@ -13,7 +13,7 @@ use fleet_grid::Grid;
 use std::alloc::Allocator;
 
 impl<A: Allocator + Copy> FleetState<A> {
-    /// What is so of an order of the client.
+    /// The facts about an order of the client.
     pub fn facts(&self, grid: &Grid<A>, client: u32, order: Order) -> Facts
         requires { IsPlacement grid.now self.now.cells }
         ensures { (h : History A) → IsStateOf grid.now h self.now → AreFacts grid.now h client order result }
@@ -43,8 +43,8 @@ impl<A: Allocator + Copy> FleetState<A> {
         facts
     }
 
-    /// The verdict on an order of the client. Where it accepts an errand, the robot's queue has room, unless it has less
-    /// memory than the robot may have errands.
+    /// The verdict on an order of the client. If it accepts an errand, the robot's queue has room for it, unless the
+    /// queue has memory for fewer errands than the limit allows.
     pub fn judge(&self, grid: &Grid<A>, client: u32, order: Order) -> Verdict
         requires client { client < client_count self.now }
         requires placed { IsPlacement grid.now self.now.cells }

@@ -7,19 +7,19 @@ ghost use Rattle.fleet_trace.specs.declared.fault.JudgeFault.TheVariants as judg
 use std::alloc::{AllocError, AllocFailed};
 use thiserror::Error;
 
-/// Why bytes tell no trace.
+/// Why bytes are not a trace.
 #[derive(Clone, Copy, Debug, PartialEq, Eq, Error)]
 pub enum TraceFault {
     /// They are not UTF-8, or not JSON, or nest deeper than 127.
     #[error("not UTF-8, or not JSON, or nested deeper than 127")]
     NotJson,
-    /// The number under `version` is that of no known version.
+    /// The number under `version` is not that of a known version.
     #[error("no known version")]
     Version,
-    /// The value is no object with an integer under `version`, or has not the form of its version.
+    /// The value is not an object with an integer under `version`, or is not in the form of its version.
     #[error("not in the form of its version")]
     Shape,
-    /// There is no memory.
+    /// Memory ran out.
     #[error("out of memory")]
     NoMemory,
 }
@@ -48,7 +48,7 @@ pub enum JudgeFault {
     /// tried before 6 and 7. At 0 the opening breaks rule 1.
     #[error("entry {at} breaks rule {rule}")]
     Illegal { at: u64, rule: u8 },
-    /// There is no memory.
+    /// Memory ran out.
     #[error("out of memory")]
     NoMemory,
 }

@@ -29,7 +29,7 @@ use std::alloc::{AllocError, Allocator};
 use takes::broken_take;
 use ticks::{broken_shown, is_step};
 
-/// The first rule that an entry after the history of the state breaks.
+/// The first rule that an entry breaks, where the state is that of the history before it.
 fn broken_rule<A: Allocator + Copy>(
     alloc: A,
     grid: &Grid<A>,
@@ -62,7 +62,7 @@ fn broken_rule<A: Allocator + Copy>(
     }
 }
 
-/// Judges entries after an opening, of which the state is.
+/// Judges the entries after an opening; the state is that at the opening.
 fn judge_entries<A: Allocator + Copy>(
     alloc: A,
     grid: &Grid<A>,
@@ -110,7 +110,7 @@ fn judge_behind<A: Allocator + Copy>(
     judge_entries(alloc, grid, opening, entries, &mut state)
 }
 
-/// Judges entries after an opening that is in order, by way of its calm one.
+/// Judges the entries after an opening that is in order, by the opening with its clock and waits set to 0.
 fn judge_calmly<A: Allocator + Copy>(
     alloc: A,
     grid: &Grid<A>,

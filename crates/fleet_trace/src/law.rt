@@ -14,12 +14,12 @@ use crate::write::write_trace;
 use fleet_history::Chapter;
 use std::alloc::Global;
 
-/// The text of a trace tells that trace, where each number fits its type.
+/// The text of a trace reads as that trace, if each number fits its type.
 pub fn trace_reads_back()
     ensures { (t : Trace Global) → TraceFits t → option_and_then trace_in (read (trace_text t)) ≡ Some t }
 {}
 
-/// A chapter by way of its text: the same chapter again. The only error is out of memory.
+/// Writes a chapter as text and reads it back: the result is the same chapter. The only error is out of memory.
 pub fn write_and_read(alloc: Global, chapter: &Chapter) -> Result<Chapter, TraceFault>
     ensures same { IfOk result (λ again. trace_of again ≡ trace_of chapter.now) }
     ensures fault { IfErr result (λ fault. fault ≡ TraceFault.NoMemory) }

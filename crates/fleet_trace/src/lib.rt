@@ -1,4 +1,4 @@
-//! Traces: every chapter can be written down as text, read back, and judged by its history alone.
+//! Traces: every chapter can be written as text, read back, and judged by its history.
 #![tactic(auto)]
 
 mod fault;

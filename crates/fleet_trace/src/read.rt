@@ -79,7 +79,7 @@ fn chapter_of(alloc: Global, version: Version, value: &Value) -> Result<Chapter,
     chapter_from(alloc, version, number, opening, entries)
 }
 
-/// The chapter that a trace tells, in either version of the form. White space and the order of keys are free.
+/// The chapter that a trace describes, in either version of the form. White space and the order of keys are free.
 pub fn read_trace(alloc: Global, bytes: &[u8]) -> Result<Chapter, TraceFault>
     ensures found { IfOk result (λ chapter. Tells bytes.now (trace_of chapter)) }
     ensures fault { IfErr result (λ fault. IsTraceFault bytes.now fault) }

@@ -15,7 +15,7 @@ pub(crate) struct ClientLists<A: Allocator + Copy> {
     taken: usize,
     given: Vec<Notice, A>,
     collected: usize,
-    /// Empty, with room for what was given and not collected, so that the end of a run takes no memory.
+    /// Empty, with memory for what was given and not collected, so that the end of a run allocates nothing.
     rest: Vec<Notice, A>,
 }
 

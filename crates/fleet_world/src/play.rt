@@ -38,11 +38,12 @@ pub struct Played<A: Allocator + Copy = Global> {
     pub replies: Vec<Reply, A>,
 }
 
-/// The pure core over any list of events, from the opening of a world; lanes and outlets are lists, bounded by `lane` and
-/// `outlet`. A refused event changes nothing and is answered in the replies; only out of memory ends the run, at the index
-/// of its event. What was sent, taken, given and collected is told by this chapter alone (`rings`), and as in any (`each_ring`).
-/// `end_of` reckons what was sent and taken from the history: the clause `run` ties these to the events. Each call meets the
-/// condition, without which no call may hand closures out to another crate.
+/// Plays any list of events from the opening of a world; lanes and outlets are lists, bounded by `lane` and `outlet`. A
+/// refused event changes nothing, and its reply says so; only out of memory ends the run, at the index of its event.
+/// The clause `rings` says that what was sent, taken, given and collected agrees with this chapter alone; `each_ring`
+/// says so for any chapter. `end_of` computes what was sent and taken from the history, and the clause `run` ties these
+/// to the events. Each call meets the `requires`; it is needed because no call may hand closures to another crate
+/// without it.
 pub fn run<A: Allocator + Copy, R: Alloc<A = A>>(
     rt: &R,
     grid: Grid<A>,

@@ -1,4 +1,4 @@
-//! What two ways of judging a trace say together.
+//! The common result of two ways of judging a trace.
 
 ghost use Rattle.std.specs.Prelude.{◌≡◌, ◌↔◌, ℕ, None, Some};
 ghost use Rattle.golden_compare.specs.declared.answer.Answer.TheVariants.{Legal, Broken};
@@ -24,7 +24,7 @@ pub enum Answer {
 }
 
 impl Answer {
-    /// What two ways say together. Each names the first entry that breaks a rule, and the rule; none where all is legal.
+    /// What two ways say together. Each names the first entry that breaks a rule, and the rule; `None` if all is legal.
     pub fn of_both(said: Option<(u64, u8)>, told: Option<(u64, u8)>) -> Answer
         ensures legal { (result ≡ Legal) ↔ ((said ≡ None) × (told ≡ None)) }
         ensures broken { (at rule : ℕ) → (result ≡ Broken at rule) ↔

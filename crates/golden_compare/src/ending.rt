@@ -1,4 +1,4 @@
-//! What a run came to.
+//! The result of a run.
 
 ghost use Rattle.std.specs.Prelude.{◌≡◌, ◌↔◌, IsTrue, string_bytes};
 

@@ -1,5 +1,5 @@
-//! What the golden programs compare: whether two outcomes are alike, and how a wait compares with its bound. The programs
-//! are large and these are small, so each of them is tried by its edits here.
+//! What the golden programs compare: whether two outcomes are the same, and how a wait compares with its bound. Those
+//! programs are large; these functions are small, so that edits of them are tried here.
 #![tactic(auto)]
 
 mod answer;

@@ -1,4 +1,4 @@
-//! What came out of the program `errands`.
+//! The result of the program `errands`.
 
 ghost use Rattle.std.specs.Prelude.{◌≡◌, ◌↔◌, IsTrue, [], codes};
 

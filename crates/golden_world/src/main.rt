@@ -1,5 +1,5 @@
 //! `golden_world` plays rows through worlds and prints the results, in three parts: what each call of `World` answers
-//! and what the world shows after it, what a run shows its closures, and what each call answers where memory is refused.
+//! and what the world shows after it, what a run shows its closures, and what each call answers if memory runs out.
 #![tactic(auto)]
 
 mod answers;

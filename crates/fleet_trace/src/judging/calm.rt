@@ -1,5 +1,5 @@
-//! An opening without a past, with which the judge begins: whether entries are legal does not depend on the clock and
-//! the waits, and from 0 they fit their types whatever a trace says.
+//! An opening with clock and waits set to 0, with which the judge begins. Whether entries are legal does not depend on
+//! the clock and the waits, and counted from 0 they fit their types, whatever a trace says.
 
 ghost use Rattle.std.specs.Prelude.{◌≡◌, IfOk, map};
 ghost use Rattle.fleet_trace.specs.inside.Calm.{first_wait, calm_robot, calm};
@@ -44,7 +44,7 @@ fn calm_robots<A: Allocator + Copy>(
     Ok(calm)
 }
 
-/// The opening with the clock at 0, where whoever has an errand has just begun to wait.
+/// The opening with the clock at 0, where each robot with an errand has just begun to wait.
 pub(crate) fn calm_opening<A: Allocator + Copy>(
     alloc: A,
     opening: &Opening<A>,

@@ -35,7 +35,7 @@ fn owed_of<A: Allocator + Copy>(robots: &[RobotState<A>], client: u32) -> u64
     owed
 }
 
-/// The greatest count that a client may have: sums of two such counts fit their type.
+/// The greatest count that a client may have, so that the sum of two such counts fits its type.
 const MOST: u64 = 1 << 57;
 
 /// Whether what is known of a client with this many unfinished errands is in order.

@@ -1,4 +1,4 @@
-//! Whether the errands of an opening have different names.
+//! Whether no two errands of an opening have the same client and number.
 
 ghost use Rattle.std.specs.Prelude.{◌≡◌, ◌↔◌, ◌<◌, ◌+◌, ◌^◌, IsTrue, IfOk, MatchBool, length};
 ghost use Rattle.std.specs.Ordering.{nat_cmp};

@@ -13,7 +13,7 @@ use fleet_hooks::StampLaw;
 use fleet_queue::Errand;
 use std::alloc::{AllocError, Allocator};
 
-/// Where the robots stand.
+/// The robots' cells.
 fn cells_of<A: Allocator + Copy>(
     alloc: A,
     robots: &[RobotState<A>],

@@ -12,7 +12,7 @@ fn send<A: Allocator + Copy>(world: &mut World<A>, robot: u32, cell: u32) {
     }
 }
 
-/// Hands out what the only client is told next.
+/// Gives the only client its next notice.
 fn hand_out<A: Allocator + Copy>(world: &mut World<A>) {
     if world.clients() > 0 {
         mem::drop(world.give(0));

@@ -101,7 +101,7 @@ pub(crate) fn tell_busy(
     writeln!(told, "greatest wait: {kept} {bound}, {arrivals} arrivals")
 }
 
-/// Where the robots stand and how long they have waited, a robot a word.
+/// The robots' cells and how long they have waited, a robot a word.
 fn tell_robots<A: Allocator + Copy>(told: &mut String, world: &World<A>) -> Result<(), AllocError> {
     for robot in 0..512u32 {
         if robot as usize >= world.robots() {

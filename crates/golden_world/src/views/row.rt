@@ -16,7 +16,7 @@ pub(crate) struct Row {
     pub(crate) limits: Limits,
     pub(crate) events: &'static [Event],
     pub(crate) shown: &'static [Shown],
-    /// Where the robots stand at the end.
+    /// The robots' cells at the end.
     pub(crate) end: &'static [u32],
 }
 
