@@ -12,3 +12,4 @@ pub mod Calmed
 pub mod Rooms
 pub mod Shutting
 pub mod Robots
+pub mod Placed
