@@ -176,7 +176,7 @@ module _ {A : Type 0} {m : Floor} {h : History A} {s : State A} (k : IsStateOf m
   dues-owed {arrived} {farewells} fits c l =
       omega (arith, dues_of-are arrived c fits.shows, owed-after_tick h c to arrived farewells fits.shows, ap (λ (a : Account). a.owed) (account-of k c (omega (arith, account-count k))))
 
-  pub told-small : length h.entries < 2 ^ 32 → (c : ℕ) → c < length s.counts.accounts → (tally_at s.tallies c).noticed + (account_of s.counts c).owed < 2 ^ 64
+  pub told-small : length h.entries < 2 ^ 63 → (c : ℕ) → c < length s.counts.accounts → (tally_at s.tallies c).noticed + (account_of s.counts c).owed < 2 ^ 64
   told-small few c l =
       let known : c < clients h = omega (arith, account-count k) in
       let counts = legal-counts m h c k.legal known in

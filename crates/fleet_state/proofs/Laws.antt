@@ -1,5 +1,5 @@
 -- What holds of each legal history: its numbers may still grow, and room is left for what it accepts.
-use Rattle.std.proofs.Common.{◌≡◌, ℕ, ◌^◌, ◌<◌, ◌≤◌, length, map, cond, Bool, true, false, sym, ◌∙◌, subst, arith, inl, inr, get_or}
+use Rattle.std.proofs.Common.{◌+◌, ◌≡◌, ℕ, ◌^◌, ◌<◌, ◌≤◌, length, map, cond, Bool, true, false, sym, ◌∙◌, subst, arith, inl, inr, get_or}
 use Rattle.std.specs.Prelude.{slice_index_or}
 use Rattle.std.proofs.lemmas.List.{length-map, get_or-map, get_or_past}
 use Rattle.std.proofs.lemmas.List.Sums.{count_by-le-length}
@@ -76,8 +76,8 @@ no_accepted_withdraw s f n k e = go s.closed f.place e
 
 -- ---- numbers that may still grow
 
-pub taken-small : {A : Type 0} (m : Floor) (h : History A) (c : ℕ) → IsLegal m h → c < clients h → length h.entries < 2 ^ 32 → taken_count h c < 2 ^ 58
+pub taken-small : {A : Type 0} (m : Floor) (h : History A) (c : ℕ) → IsLegal m h → c < clients h → length h.entries < 2 ^ 63 → taken_count h c < 2 ^ 63 + 2 ^ 58
 taken-small m h c legal l few = omega (arith, few, ((legal-opening m h legal).clients c l).small, count_by-le-length (is_take_of c) h.entries)
 
-pub noticed-small : {A : Type 0} (m : Floor) (h : History A) (c : ℕ) → IsLegal m h → c < clients h → length h.entries < 2 ^ 32 → noticed_count h c < 2 ^ 60
+pub noticed-small : {A : Type 0} (m : Floor) (h : History A) (c : ℕ) → IsLegal m h → c < clients h → length h.entries < 2 ^ 63 → noticed_count h c < 2 ^ 63 + 2 ^ 59
 noticed-small m h c legal l few = let k = legal-counts m h c legal l in omega (arith, taken-small m h c legal l few, k.not_early, k.within_life, (legal-opening m h legal).life.1)

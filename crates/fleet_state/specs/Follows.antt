@@ -22,7 +22,7 @@ pub record MayFollow {A : Type 0} (s : State A) (e : Entry A) : Type 0 where
   pub is : IsStateOf floor history s
   pub fits : Fits floor history e
   pub early : clock history < 2 ^ 63
-  pub few : length history.entries < 2 ^ 32
+  pub few : length history.entries < 2 ^ 63
 
 -- the tick to these cells, whatever its stamps
 abbrev pub FollowsTick : {A : Type 0} → State A → List ℕ → State A → Type 0

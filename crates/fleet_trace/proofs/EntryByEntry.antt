@@ -115,7 +115,7 @@ module _ {A : Type 0} (m : Floor) (h : History A) where
       breaks = judged (upto i) of_robots;
     }
 
-    pub may_follow : JudgedBy m h.opening.robots s e None → h.opening.tick < 2 ^ 62 → length h.entries < 2 ^ 32 → MayFollow s e
+    pub may_follow : JudgedBy m h.opening.robots s e None → h.opening.tick ≡ 0 → length h.entries < 2 ^ 63 → MayFollow s e
     may_follow judged early few = record {
       floor = m;
       history = upto i;

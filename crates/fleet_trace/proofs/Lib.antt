@@ -12,3 +12,4 @@ pub mod CalmOpening
 pub mod Rooms
 pub mod ShutRules
 pub mod Robots
+pub mod Placed

@@ -11,10 +11,11 @@ mod stamps;
 mod takes;
 mod ticks;
 
-ghost use Rattle.std.specs.Prelude.{◌≡◌, ◌^◌, ◌<◌, ℕ, IfOk, IfErr, OnOk, length};
+ghost use Rattle.std.specs.Prelude.{◌≡◌, ◌^◌, ◌<◌, ℕ, IfOk, IfErr, OnOk, length, slice_index};
 ghost use Rattle.fleet_history.specs.History.{History, history_of, start, with_entries};
 ghost use Rattle.fleet_history.specs.Legal.{IsInOrder, IsLegal};
 ghost use Rattle.fleet_state.specs.State.{IsStateOf};
+ghost use Rattle.fleet_trace.specs.Rooms.{room_for};
 ghost use Rattle.fleet_trace.specs.Judged.{IsOf, JudgedBy, IsEntryFault, IsJudgeFault};
 
 use crate::fault::JudgeFault;
@@ -23,7 +24,7 @@ use fleet_grid::Grid;
 use fleet_history::{Chapter, Entry, Opening, RobotState};
 use fleet_state::FleetState;
 use opening::is_in_order;
-use rooms::{has_place, rooms_of};
+use rooms::rooms_of;
 use shuts::broken_shut;
 use std::alloc::{AllocError, Allocator};
 use takes::broken_take;
@@ -71,8 +72,9 @@ fn judge_entries<A: Allocator + Copy>(
     state: &mut FleetState<A>,
 ) -> Result<(), JudgeFault>
     requires opened { IsStateOf grid.now (start opening.now) state.old }
-    requires early { opening.now.tick < 2 ^ 62 }
-    requires few { length entries.now < 2 ^ 32 }
+    requires early { opening.now.tick ≡ 0 }
+    requires few { length entries.now < 2 ^ 63 }
+    requires rooms { (r : ℕ) → r < length opening.now.robots → slice_index state.old.rooms r ≡ room_for opening.now entries.now r }
     ensures ok { OnOk result (IsLegal grid.now (with_entries (start opening.now) entries.now)) }
     ensures fault { IfErr result (λ fault. IsEntryFault grid.now (with_entries (start opening.now) entries.now) fault) }
 {
@@ -82,10 +84,6 @@ fn judge_entries<A: Allocator + Copy>(
         if let Some(rule) = broken_rule(alloc, grid, robots, state, entry)? {
             let at = at as u64 + 1;
             return Err(JudgeFault::Illegal { at, rule });
-        }
-        // `rooms_of` gave each queue room for all that the entries accept, so no call ends here; it is not proved.
-        if !has_place(state, entry) {
-            return Err(JudgeFault::NoMemory);
         }
         state.enter(entry);
     }
@@ -100,8 +98,8 @@ fn judge_behind<A: Allocator + Copy>(
     entries: &[Entry<A>],
 ) -> Result<(), JudgeFault>
     requires order { IsInOrder grid.now opening.now }
-    requires early { opening.now.tick < 2 ^ 62 }
-    requires few { length entries.now < 2 ^ 32 }
+    requires early { opening.now.tick ≡ 0 }
+    requires few { length entries.now < 2 ^ 63 }
     ensures ok { OnOk result (IsLegal grid.now (with_entries (start opening.now) entries.now)) }
     ensures fault { IfErr result (λ fault. IsEntryFault grid.now (with_entries (start opening.now) entries.now) fault) }
 {
@@ -118,7 +116,7 @@ fn judge_calmly<A: Allocator + Copy>(
     entries: &[Entry<A>],
 ) -> Result<(), JudgeFault>
     requires order { IsInOrder grid.now opening.now }
-    requires few { length entries.now < 2 ^ 32 }
+    requires few { length entries.now < 2 ^ 63 }
     ensures ok { OnOk result (IsLegal grid.now (with_entries (start opening.now) entries.now)) }
     ensures fault { IfErr result (λ fault. IsJudgeFault grid.now (with_entries (start opening.now) entries.now) fault) }
 {
@@ -139,10 +137,6 @@ pub fn judge<A: Allocator + Copy>(
     let entries = chapter.entries.as_slice();
     if !is_in_order(alloc, grid, &chapter.opening)? {
         return Err(JudgeFault::Illegal { at: 0, rule: 1 });
-    }
-    // What a state counts is known to have room for fewer entries alone. No trace that the program reads has that many.
-    if entries.len() >= 1 << 32 {
-        return Err(JudgeFault::NoMemory);
     }
     judge_calmly(alloc, grid, &chapter.opening, entries)
 }

@@ -7,6 +7,8 @@
 mod fleet;
 mod later;
 mod opening;
+#[cfg(test)]
+mod planted;
 mod rules;
 mod site;
 mod take;

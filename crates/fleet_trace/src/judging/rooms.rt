@@ -1,12 +1,10 @@
 //! For how many errands the queues of a trace need memory.
 
-ghost use Rattle.std.specs.Prelude.{◌≡◌, ◌≤◌, ◌<◌, ◌+◌, ◌==◌, ℕ, All, IfOk, if◌then◌else◌, length, map, min, slice_index, true, false};
-ghost use Rattle.fleet_state.specs.Follows.{IsPlaced};
+ghost use Rattle.std.specs.Prelude.{◌≡◌, ◌≤◌, ◌<◌, ◌+◌, ◌==◌, ℕ, All, IfOk, if◌then◌else◌, length, map, min, slice_index};
 ghost use Rattle.fleet_trace.specs.inside.Rooms.{robot_joined, room_for};
 
 use fleet_book::{Order, Verdict};
 use fleet_history::{Entry, Opening, RobotState};
-use fleet_state::FleetState;
 use std::alloc::{AllocError, Allocator};
 
 /// How many errands each robot has, at most as many as it may have.
@@ -69,19 +67,4 @@ pub(crate) fn rooms_of<A: Allocator + Copy>(
         }
     }
     Ok(rooms)
-}
-
-/// Whether an errand that the entry accepts finds room.
-pub(crate) fn has_place<A: Allocator + Copy>(state: &FleetState<A>, entry: &Entry<A>) -> bool
-    ensures placed { result ≡ true → IsPlaced state.now.queues entry.now }
-    ensures full { result ≡ false → IsPlaced state.now.queues entry.now → ⊥ }
-{
-    match entry {
-        Entry::Take {
-            client: _,
-            order,
-            verdict: Verdict::Accepted(_),
-        } => state.has_room(*order),
-        _ => true,
-    }
 }

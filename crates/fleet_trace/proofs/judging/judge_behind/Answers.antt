@@ -1,3 +1,4 @@
+use Rattle.std.proofs.Common.{◌∙◌, ℕ, List, ap, slice_index}
 use Rattle.fleet_trace.proofs.Rooms.{rooms-have}
 use Rattle.fleet_trace.proofs.judging.judge_behind.Goals as goal
 
@@ -13,3 +14,6 @@ open_within-requires-clause-rooms g c =
 
 pub judge_entries-requires-clause-opened : goal.judge_entries-requires-clause-opened
 judge_entries-requires-clause-opened g c = c.in_ok-state.ensures.of c.args.grid.now c.requires.order
+
+pub judge_entries-requires-clause-rooms : goal.judge_entries-requires-clause-rooms
+judge_entries-requires-clause-rooms g c = λ r l. ap (λ (xs : List ℕ). slice_index xs r) c.in_ok-state.ensures.rooms ∙ c.in_ok-rooms.ensures.each r l

@@ -1,4 +1,6 @@
-use Rattle.std.proofs.Common.{sym, subst, List, Option}
+use Rattle.std.proofs.Common.{◌≡◌, ◌<◌, ℕ, length, slice_index, sym, subst, List, Option}
+use Rattle.fleet_trace.specs.Rooms.{room_for}
+use Rattle.fleet_trace.proofs.Placed.{placed}
 use Rattle.fleet_history.specs.declared.history.RobotState.{RobotState}
 use Rattle.fleet_history.specs.History.{start, with_entries}
 use Rattle.fleet_trace.specs.Judged.{JudgedBy}
@@ -12,7 +14,7 @@ returns-in-Some-clause-fault g c =
     let e = c.index-entries-at.result in
     let s = c.loop-at.state in
     let judged = subst (λ (o : Option _). JudgedBy m h.opening.robots s e o) c.in-Some.is (subst (λ (xs : List (RobotState _)). JudgedBy m xs s e c.in_ok-rule.field-0) c.as_slice-robots.ensures c.in_ok-rule.ensures) in
-    (illegal_at m h c.loop-at.at e s c.loop-at.invariant c.loop-at-test.true (sym c.index-entries-at.is) c.in-Some.rule judged)
+    (illegal_at m h c.loop-at.at e s c.loop-at.invariant.0 c.loop-at-test.true (sym c.index-entries-at.is) c.in-Some.rule judged)
 
 pub enter-requires-clause-may : goal.enter-requires-clause-may
 enter-requires-clause-may g c =
@@ -21,7 +23,7 @@ enter-requires-clause-may g c =
     let e = c.index-entries-at.result in
     let s = c.loop-at.state in
     let judged = subst (λ (o : Option _). JudgedBy m h.opening.robots s e o) c.in_default.is (subst (λ (xs : List (RobotState _)). JudgedBy m xs s e c.in_ok-rule.field-0) c.as_slice-robots.ensures c.in_ok-rule.ensures) in
-    may_follow m h c.loop-at.at e s c.loop-at.invariant c.loop-at-test.true (sym c.index-entries-at.is) judged c.requires.early c.requires.few
+    may_follow m h c.loop-at.at e s c.loop-at.invariant.0 c.loop-at-test.true (sym c.index-entries-at.is) judged c.requires.early c.requires.few
 
 pub loop-at-preserved : goal.loop-at-preserved
 loop-at-preserved g c =
@@ -30,8 +32,17 @@ loop-at-preserved g c =
     let e = c.index-entries-at.result in
     let s = c.loop-at.state in
     let judged = subst (λ (o : Option _). JudgedBy m h.opening.robots s e o) c.in_default.is (subst (λ (xs : List (RobotState _)). JudgedBy m xs s e c.in_ok-rule.field-0) c.as_slice-robots.ensures c.in_ok-rule.ensures) in
-    goes_on m h c.loop-at.at e s c.loop-at.invariant c.loop-at-test.true (sym c.index-entries-at.is) c.enter.new.self judged c.enter.ensures.follows
+    (goes_on m h c.loop-at.at e s c.loop-at.invariant.0 c.loop-at-test.true (sym c.index-entries-at.is) c.enter.new.self judged c.enter.ensures.follows, subst (λ (xs : List ℕ). (r : ℕ) → r < length c.args.opening.now.robots → slice_index xs r ≡ room_for c.args.opening.now c.args.entries.now r) (sym c.enter.ensures.rooms) c.loop-at.invariant.1)
 
 pub returns-clause-ok : goal.returns-clause-ok
 returns-clause-ok g c =
-    judged_all c.args.grid.now (with_entries (start c.args.opening.now) c.args.entries.now) c.loop-at.at c.loop-at.state c.loop-at.invariant c.loop-at-test.false
+    judged_all c.args.grid.now (with_entries (start c.args.opening.now) c.args.entries.now) c.loop-at.at c.loop-at.state c.loop-at.invariant.0 c.loop-at-test.false
+
+pub enter-requires-clause-place : goal.enter-requires-clause-place
+enter-requires-clause-place g c =
+    let m = c.args.grid.now in
+    let h = with_entries (start c.args.opening.now) c.args.entries.now in
+    let e = c.index-entries-at.result in
+    let s = c.loop-at.state in
+    let judged = subst (λ (o : Option _). JudgedBy m h.opening.robots s e o) c.in_default.is (subst (λ (xs : List (RobotState _)). JudgedBy m xs s e c.in_ok-rule.field-0) c.as_slice-robots.ensures c.in_ok-rule.ensures) in
+    placed m h c.loop-at.at s c.loop-at.invariant.0 c.loop-at.invariant.1 c.loop-at-test.true e (sym c.index-entries-at.is) judged
