@@ -25,7 +25,7 @@ use Rattle.fleet_state.specs.Robots.{HasPlace, queue_at}
 use Rattle.fleet_state.specs.Follows.{IsPlaced}
 use Rattle.fleet_state.proofs.Parts.{queue-of}
 use Rattle.fleet_trace.specs.Judged.{JudgedBy}
-use Rattle.fleet_trace.specs.Rooms.{is_for, room_for}
+use Rattle.fleet_trace.specs.inside.Rooms.{is_for, room_for}
 use Rattle.fleet_trace.proofs.EntryByEntry.{upto}
 
 -- ---- how many errands join a queue

@@ -15,7 +15,7 @@ ghost use Rattle.std.specs.Prelude.{◌≡◌, ◌^◌, ◌<◌, ℕ, IfOk, IfEr
 ghost use Rattle.fleet_history.specs.History.{History, history_of, start, with_entries};
 ghost use Rattle.fleet_history.specs.Legal.{IsInOrder, IsLegal};
 ghost use Rattle.fleet_state.specs.State.{IsStateOf};
-ghost use Rattle.fleet_trace.specs.Rooms.{room_for};
+ghost use Rattle.fleet_trace.specs.inside.Rooms.{room_for};
 ghost use Rattle.fleet_trace.specs.Judged.{IsOf, JudgedBy, IsEntryFault, IsJudgeFault};
 
 use crate::fault::JudgeFault;

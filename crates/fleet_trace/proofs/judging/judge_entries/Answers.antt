@@ -1,5 +1,5 @@
 use Rattle.std.proofs.Common.{◌≡◌, ◌<◌, ℕ, length, slice_index, sym, subst, List, Option}
-use Rattle.fleet_trace.specs.Rooms.{room_for}
+use Rattle.fleet_trace.specs.inside.Rooms.{room_for}
 use Rattle.fleet_trace.proofs.Placed.{placed}
 use Rattle.fleet_history.specs.declared.history.RobotState.{RobotState}
 use Rattle.fleet_history.specs.History.{start, with_entries}
