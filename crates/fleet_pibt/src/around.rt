@@ -52,11 +52,10 @@ fn spot<A: Allocator + Copy>(grid: &Grid<A>, exits: Ways, own: u32, dir: Dir) ->
     requires exits { AreOpen grid.now own exits.byte }
     ensures { IsSpot grid.now own dir result }
 {
-    if exits.has(dir) {
-        dir.across(grid.width(), own)
-    } else {
-        own
+    if !exits.has(dir) {
+        return own;
     }
+    dir.across(grid.width(), own)
 }
 
 /// What a robot sees from the floor cell `own` with these exits, where the ways in `nearer` lead nearer to its goal.

@@ -13,15 +13,15 @@ landings-requires g c =
 pub returns-in_err-to-clause-step : goal.returns-in_err-to-clause-step
 returns-in_err-to-clause-step g c = IfOk-from_err c.from_residual.result _ c.from_residual.ensures.0
 
-pub returns-in_err-landings-clause-step : goal.returns-in_err-landings-clause-step
-returns-in_err-landings-clause-step g c = IfOk-from_err c.from_residual-in_err-landings.result _ c.from_residual-in_err-landings.ensures.0
+pub returns-in_err-arrived-clause-step : goal.returns-in_err-arrived-clause-step
+returns-in_err-arrived-clause-step g c = IfOk-from_err c.from_residual-in_err-arrived.result _ c.from_residual-in_err-arrived.ensures.0
 
 pub returns-clause-step : goal.returns-clause-step
 returns-clause-step g c = record {
   conflict_free = c.in_ok-to.ensures.conflict_free;
   planned = c.in_ok-to.ensures.planned;
-  arrived = λ m h is. c.in_ok-landings.ensures.arrived m h is ∙ ap (due h) c.as_slice.ensures.value;
+  arrived = λ m h is. c.in_ok-arrived.ensures.arrived m h is ∙ ap (due h) c.as_slice.ensures.value;
   leaving = λ stamped others m h is shows.
-      c.in_ok-landings.ensures.leaving stamped others m h is (shows ∙ ap (due h) (sym c.as_slice.ensures.value))
+      c.in_ok-arrived.ensures.leaving stamped others m h is (shows ∙ ap (due h) (sym c.as_slice.ensures.value))
       ∙ ap (λ (to : List ℕ). leaving h (after h (entry.Tick to stamped others))) c.as_slice.ensures.value;
 }

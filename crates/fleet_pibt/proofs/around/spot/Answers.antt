@@ -5,13 +5,13 @@ use Rattle.fleet_grid.proofs.Forms.{floor_inside, few_cells}
 use Rattle.fleet_pibt.proofs.Spots.{spot_shut, spot_open}
 use Rattle.fleet_pibt.proofs.around.spot.Goals as goal
 
-pub returns-then-has : goal.returns-then-has
-returns-then-has g c =
-    spot_open c.args.grid.now c.args.own c.args.exits.byte c.across.result c.args.dir c.requires.exits (c.has.ensures.0 c.if-has.true)
+pub returns : goal.returns
+returns g c =
+    spot_open c.args.grid.now c.args.own c.args.exits.byte c.across.result c.args.dir c.requires.exits (c.has.ensures.0 c.if-not-has.false)
     (c.across.ensures ∙ ap (λ (width : _). cell_across width c.args.own c.args.dir) c.width.ensures.value)
 
-pub returns-else-has : goal.returns-else-has
-returns-else-has g c = spot_shut c.args.grid.now c.args.own c.args.exits.byte c.args.dir c.requires.exits (λ way. cc (c.has.ensures.1 way, c.if-has.false))
+pub returns-then-not-has : goal.returns-then-not-has
+returns-then-not-has g c = spot_shut c.args.grid.now c.args.own c.args.exits.byte c.args.dir c.requires.exits (λ way. cc (c.has.ensures.1 way, c.if-not-has.true))
 
 pub across-requires-clause-slim : goal.across-requires-clause-slim
 across-requires-clause-slim g c = omega (arith, c.width.ensures.value, c.width.ensures.form.slim)
