@@ -8,6 +8,7 @@ use crate::said::fail;
 use crate::talk::{TalkTexts, complain, complaint_of, grounds};
 use errands_text::{Complaint, write_whole};
 use fleet_live::{LiveEnds, LiveSettings, read_period};
+use fleet_map::text::number_up_to;
 use fleet_script::Head;
 use fleet_talk::{MOST_ROBOTS, Shelf};
 use fleet_words::Live;
@@ -23,6 +24,7 @@ enum BadWord {
     Robots,
     Clients,
     Period,
+    Tickers,
     Pipes,
     NoMemory,
 }
@@ -77,8 +79,17 @@ fn settings_of(live: &Live) -> Result<LiveSettings, BadWord> {
             None => return Err(BadWord::Period),
         },
     };
+    let tickers = match &live.tickers {
+        None => 1,
+        Some(word) => match number_up_to(word.as_bytes(), 2) {
+            Some(2) => 2,
+            Some(1) => 1,
+            _ => return Err(BadWord::Tickers),
+        },
+    };
     Ok(LiveSettings {
         period,
+        tickers,
         watch: live.watch,
     })
 }
@@ -89,6 +100,7 @@ fn complain_of_word<E: Write>(word: BadWord, error: &mut E) -> u8 {
         BadWord::Robots => "error: invalid value for '--robots <CELLS>'\n",
         BadWord::Clients => "error: invalid value for '--clients <N>'\n",
         BadWord::Period => "error: invalid value for '--period <TIME>'\n",
+        BadWord::Tickers => "error: invalid value for '--tickers <N>'\n",
         BadWord::Pipes => "error: more '--client <IN,OUT>' than clients\n",
         BadWord::NoMemory => return fail(InputFault::NoMemory, error),
     };
@@ -99,13 +111,13 @@ fn complain_of_word<E: Write>(word: BadWord, error: &mut E) -> u8 {
 /// Keeps a fleet on the map in real time, or on demand. The result is the status: 0 good, 2 a word is wrong, 3 a line could not be read,
 /// or an answer or a chapter not written, 4 the map, 5 the script or the opening is refused, 7 out of memory, 8 a limit was met.
 pub fn run_live<
-    R: Alloc<A = Global> + Clock + Threads + Wait + Copy + Send + Drop + 'static,
+    R: Alloc<A = Global> + Clock + Threads + Sync + Wait + Copy + Send + Drop + 'static,
     I: Read + Send + Drop + 'static,
     W: Write + Send + Drop + 'static,
     P: Read + Send + Drop + 'static,
     Q: Write + Send + Drop + 'static,
     E: Write + Send + Drop + 'static,
-    S: Shelf + Drop,
+    S: Shelf + Send + Drop,
     F: Write,
 >(rt: &R, texts: TalkTexts<'_>, live: &Live, ends: LiveEnds<I, W, P, Q, E, S>, error: &mut F) -> u8
     requires { length texts.script.now ≤ 16777216 }

@@ -1,4 +1,6 @@
 pub mod Demand
+pub mod Ended
 pub mod Page
 pub mod Period
+pub mod Posted
 pub mod Said

@@ -21,10 +21,9 @@ impl Tally {
         latest: 0,
     };
 
-    /// Counts a turn that took this many orders.
-    pub(crate) fn count(&mut self, orders: u32) {
+    /// Counts a tick.
+    pub(crate) fn count_tick(&mut self) {
         self.ticks = self.ticks.saturating_add(1);
-        self.count_orders(orders);
     }
 
     /// Counts orders.

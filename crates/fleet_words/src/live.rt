@@ -25,6 +25,8 @@ pub struct Live {
     pub clients: Option<String>,
     /// The time between two turns.
     pub period: Option<String>,
+    /// The number of tickers.
+    pub tickers: Option<String>,
     /// The folder for the traces of chapters.
     pub traces: Option<String>,
     /// The pipes of clients 0, 1, ..: where their lines come from, a comma, and where what they are told goes.
@@ -82,6 +84,13 @@ fn with_options<'a>(alloc: Global, command: Command<'a>) -> Result<Command<'a>, 
         "The time between two turns, as 20ms; without it a turn is made by `tick`",
     );
     let command = with_argument(command, period)?;
+    let tickers = option(
+        alloc,
+        "tickers",
+        "N",
+        "1 or 2 tickers, 1 if not given: with 2, turns go on while a full chapter is written",
+    );
+    let command = with_argument(command, tickers)?;
     with_argument(command, pipes_option(alloc))
 }
 
@@ -113,6 +122,7 @@ pub(crate) fn live_in(alloc: Global, matches: &ArgMatches<'_>) -> Result<Live, A
     let robots = some_word_for(alloc, matches, "robots")?;
     let clients = some_word_for(alloc, matches, "clients")?;
     let period = some_word_for(alloc, matches, "period")?;
+    let tickers = some_word_for(alloc, matches, "tickers")?;
     let traces = some_word_for(alloc, matches, "traces")?;
     let pipes = some_words_for(alloc, matches, "client")?;
     Ok(Live {
@@ -121,6 +131,7 @@ pub(crate) fn live_in(alloc: Global, matches: &ArgMatches<'_>) -> Result<Live, A
         robots,
         clients,
         period,
+        tickers,
         traces,
         pipes,
         watch: has_flag(matches, "watch"),
