@@ -1,6 +1,7 @@
 //! The word `live`.
 
-ghost use Rattle.std.specs.Prelude.{◌≡◌, ◌≤◌, ◌==◌, if◌then◌else◌, IfOk, length, map};
+ghost use Rattle.std.specs.Prelude.{◌≡◌, ◌≤◌, ◌<◌, ◌⊎◌, ◌==◌, ℕ, Some, if◌then◌else◌, IfOk, IfSome, IfNone, length, map};
+ghost use Rattle.fleet_map.specs.Text.{number_of};
 
 use crate::input::InputFault;
 use crate::live_closures::keep_with_closures;
@@ -70,6 +71,19 @@ fn add_words(alloc: Global, head: &mut Head, live: &Live) -> Result<(), BadWord>
     Ok(())
 }
 
+/// How many tickers a word asks for: one or two.
+fn tickers_in(word: &[u8]) -> Option<u32>
+    ensures some { IfSome result (λ n. (1 ≤ n) × (n ≤ 2) × (number_of word.now ≡ Some n)) }
+    ensures none { IfNone result ((n : ℕ) → number_of word.now ≡ Some n → (n ≡ 0) ⊎ (2 < n)) }
+{
+    let number = number_up_to(word, 3)?;
+    if number == 1 || number == 2 {
+        Some(number as u32)
+    } else {
+        None
+    }
+}
+
 /// How the fleet is kept.
 fn settings_of(live: &Live) -> Result<LiveSettings, BadWord> {
     let period = match &live.period {
@@ -81,10 +95,9 @@ fn settings_of(live: &Live) -> Result<LiveSettings, BadWord> {
     };
     let tickers = match &live.tickers {
         None => 1,
-        Some(word) => match number_up_to(word.as_bytes(), 2) {
-            Some(2) => 2,
-            Some(1) => 1,
-            _ => return Err(BadWord::Tickers),
+        Some(word) => match tickers_in(word.as_bytes()) {
+            Some(tickers) => tickers,
+            None => return Err(BadWord::Tickers),
         },
     };
     Ok(LiveSettings {

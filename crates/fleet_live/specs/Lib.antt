@@ -1,3 +1,4 @@
+pub mod Counts
 pub mod Demand
 pub mod Ended
 pub mod Page

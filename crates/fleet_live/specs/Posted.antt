@@ -1,5 +1,6 @@
 -- What the post of a client comes to.
-use Rattle.std.specs.Prelude.{◌≡◌, ◌+◌, ◌↔◌, ℕ, [], ◌∷◌, ◌++◌, true, Result, Err, IfOk, IfErr, length}
+use Rattle.std.specs.Prelude.{◌≡◌, ◌+◌, ◌==◌, ◌↔◌, ℕ, List, [], ◌∷◌, ◌++◌, true, Some, Result, Err, IfOk, IfErr, length, slice_get, slice_set}
+use Rattle.std.specs.List.{position}
 use Rattle.fleet_book.specs.declared.order.Order.{Order}
 use Rattle.fleet_lanes.specs.Ends.{ClientView, has_close}
 use Rattle.fleet_lanes.specs.Posts.{AreSpent, HandsBack}
@@ -13,3 +14,13 @@ pub record IsPosted {A : Type 0} (order : Order) (old : ClientView A) (posted : 
   pub spent : (posted ≡ Err (post_fault.NumbersSpent order)) ↔ AreSpent old order
   pub full : posted ≡ Err (post_fault.LaneFull order) → old.free ≡ 0
   pub refused : IfErr posted (λ fault. HandsBack order fault × (new ≡ old))
+
+-- the first of these clients that has this number posts the order, and no other does anything
+pub record PostsOne {A : Type 0} (client : ℕ) (order : Order) (before after : List (ClientView A)) (posted : Result ℕ PostFault) : Type 0 where
+  pub place : ℕ
+  pub first : position (λ c. c.number == client) before ≡ Some place
+  pub old : ClientView A
+  pub found : slice_get before place ≡ Some old
+  pub new : ClientView A
+  pub others : after ≡ slice_set before place new
+  pub post : IsPosted order old posted new

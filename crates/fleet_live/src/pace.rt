@@ -2,7 +2,7 @@
 
 ghost use Rattle.std.specs.Prelude.{◌<◌, ◌^◌};
 
-use crate::bell::{Bell, Stop};
+use crate::bell::{Call, Stop};
 use crate::keeper::{Keeper, Turned};
 use crate::period::next_due;
 use crate::stage::{Round, Work, keep_all, keep_pages};
@@ -94,8 +94,8 @@ fn say_counts<R: Alloc<A = Global> + Wait>(
     Ok(())
 }
 
-/// Does what is to be done at once, one call of each conversation at most: so none of them holds up the turns, and turns that
-/// are all late hold up none of them.
+/// Does what is to be done at once: grants one wish of each conversation at most, and judges once what was posted. So none of them holds up
+/// the turns, and turns that are all late hold up none of them.
 fn heed_some<N: OfficeName<Global>, R: Alloc<A = Global> + Wait, S: Shelf>(
     rt: &R,
     keeper: &Keeper<'_, N, S>,
@@ -104,7 +104,14 @@ fn heed_some<N: OfficeName<Global>, R: Alloc<A = Global> + Wait, S: Shelf>(
 ) -> Result<(), Stop> {
     for _ in 0..=keeper.stage.conversations.len() {
         let call = keeper.stage.bell.poll(rt);
+        let is_last = match call {
+            Call::Nothing | Call::Settle | Call::Tell => true,
+            Call::Grant(_) | Call::Stop(_) => false,
+        };
         keeper.heed(rt, round, work, call)?;
+        if is_last {
+            break;
+        }
     }
     Ok(())
 }

@@ -1,9 +1,9 @@
 //! What clients post and are told.
 
-ghost use Rattle.std.specs.Prelude.{◌≡◌, ◌≤◌, ◌+◌, ◌==◌, [], Ok, None, Some, true, false, length, slice_index, slice_set, OnOk, IfNone, IfSome};
+ghost use Rattle.std.specs.Prelude.{◌≡◌, ◌≤◌, ◌+◌, ◌==◌, [], Ok, None, true, false, length, OnOk, IfNone, IfSome};
 ghost use Rattle.std.specs.List.{position};
 ghost use Rattle.fleet_live.specs.Page.{IsTold};
-ghost use Rattle.fleet_live.specs.Posted.{IsPosted};
+ghost use Rattle.fleet_live.specs.Posted.{PostsOne};
 
 use crate::page::Page;
 use crate::said::notice_text;
@@ -29,10 +29,7 @@ pub(crate) fn post_in<N: OfficeName<Global>>(
     order: Order,
 ) -> Option<Result<u64, PostFault>>
     ensures stranger { IfNone result ((guests.new ≡ guests.old) × (position (λ g. g.number == client) guests.old ≡ None)) }
-    ensures own { IfSome result (λ posted. (at : ℕ) × (position (λ g. g.number == client) guests.old ≡ Some at)
-        × IsPosted order (slice_index guests.old at) posted (slice_index guests.new at)) }
-    ensures others { IfSome result (λ posted. (at : ℕ) × (position (λ g. g.number == client) guests.old ≡ Some at)
-        × (guests.new ≡ slice_set guests.old at (slice_index guests.new at))) }
+    ensures own { IfSome result (PostsOne client order guests.old guests.new) }
 {
     let at = place_of(guests, client)?;
     Some(guests[at].post(order))
