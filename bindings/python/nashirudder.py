@@ -102,16 +102,30 @@ class Chapter:
     entries: int
 
 
-class Errand:
-    """A robot is to come to a cell, as a client asked."""
+class _Order:
+    """What both kinds of errands are: an order of a client, its verdict, and its arrival."""
 
-    def __init__(self, fleet: "Fleet", client: int, robot: int, cell: int) -> None:
-        self._fleet = fleet
+    def __init__(self, client: int, robot: int, cell: int) -> None:
         self._verdict: Optional[List[str]] = None
         self._arrival: Optional[Arrival] = None
         self.client = client
         self.robot = robot
         self.cell = cell
+
+    def _number(self) -> int:
+        """The number that its verdict says. Raises Refused with the verdict's name where it was refused."""
+        assert self._verdict is not None
+        if self._verdict[0] == "accepted":
+            return int(self._verdict[1])
+        raise _refusal(self._verdict)
+
+
+class Errand(_Order):
+    """A robot is to come to a cell, as a client asked."""
+
+    def __init__(self, fleet: "Fleet", client: int, robot: int, cell: int) -> None:
+        super().__init__(client, robot, cell)
+        self._fleet = fleet
 
     def accepted(self) -> int:
         """The errand's number among its client's accepted ones, from 1.
@@ -122,9 +136,7 @@ class Errand:
             self._fleet._take(self.client)
         if self._verdict is None:
             raise Waiting("the mailbox has no room yet")
-        if self._verdict[0] == "accepted":
-            return int(self._verdict[1])
-        raise _refusal(self._verdict)
+        return self._number()
 
     def arrived(self) -> Optional[Arrival]:
         """The arrival, or None where the robot is still on its way. Raises as `accepted` does."""
@@ -151,7 +163,88 @@ def _look_in(words: Sequence[str]) -> Look:
     )
 
 
-class Fleet:
+class _Program:
+    """The program `fleet`, spoken to over two pipes: what both kinds of fleets share."""
+
+    def __init__(self, words: Sequence[str]) -> None:
+        self._complaints = tempfile.TemporaryFile()
+        self._process = subprocess.Popen(
+            words, stdin=subprocess.PIPE, stdout=subprocess.PIPE, stderr=self._complaints
+        )
+        self.status: Optional[int] = None
+        """The exit status, once the fleet is closed: 0, or 8 where a limit was met."""
+
+    def _send(self, text: str) -> None:
+        """Writes lines. Raises Ended where nobody reads them."""
+        if self._process.stdin is None or self._process.stdin.closed:
+            raise Ended(self.status, "the fleet is closed")
+        try:
+            self._process.stdin.write(text.encode())
+            self._process.stdin.flush()
+        except (BrokenPipeError, ConnectionError, ValueError):
+            raise self._ended() from None
+
+    def _ended(self) -> FleetError:
+        """What there is to raise where the program ended."""
+        if self._complaints.closed:
+            return Ended(self.status, "the fleet is closed")
+        self.status = self._process.wait()
+        self._complaints.seek(0)
+        complaint = self._complaints.read().decode(errors="replace").strip()
+        words = complaint.split()
+        if words[:2] == ["fleet:", "opening"]:
+            return _refusal(words)
+        return Ended(self.status, complaint)
+
+    def _hear_last(self) -> None:
+        """Hears what the program says once its input has ended."""
+        assert self._process.stdout is not None
+        self._process.stdout.read()
+
+    def _end(self) -> None:
+        """Lets the program end."""
+        if self._process.stdin is not None:
+            try:
+                self._process.stdin.close()
+            except BrokenPipeError:
+                pass
+        self._hear_last()
+        if self._process.stdout is not None:
+            self._process.stdout.close()
+        self.status = self._process.wait()
+        self._complaints.close()
+
+    def _reply(self, command: str) -> List[str]:
+        """Sends a command that is answered by one line, and returns its words."""
+        raise NotImplementedError
+
+    def look(self) -> Look:
+        """How the fleet stands. It changes nothing."""
+        return _look_in(self._reply("look"))
+
+    def chapter(self) -> Chapter:
+        """Hands out the present chapter and begins the next. Raises Refused with "book-spent" where it is the last."""
+        words = self._reply("chapter")
+        if words[0] == "chapter-refused":
+            raise _refusal(words)
+        return Chapter(int(words[1]), int(words[3]))
+
+    def close(self) -> None:
+        """Ends the program, which keeps the last chapter if `traces` was given."""
+        if not self._complaints.closed:
+            self._end()
+
+    def __exit__(self, *_: object) -> None:
+        self.close()
+
+
+def _head(robots: Sequence[int], clients: int, ties: str, limits: Dict[str, int]) -> List[str]:
+    """The header lines of a fleet."""
+    head = ["robots " + " ".join(str(int(cell)) for cell in robots), f"clients {int(clients)}", f"ties {ties}"]
+    return head + [f"{name} {int(number)}" for name, number in limits.items()]
+
+
+class Fleet(_Program):
     """A fleet on a map.
 
     `robots` are the start cells, 1 to 512. `ties` is "plain" or "south". `limits` are the numbers of a script's head by name, as
@@ -178,11 +271,7 @@ class Fleet:
             words.append("--roll")
         if traces is not None:
             words += ["--traces", str(traces)]
-        words.append(str(map))
-        self._complaints = tempfile.TemporaryFile()
-        self._process = subprocess.Popen(
-            words, stdin=subprocess.PIPE, stdout=subprocess.PIPE, stderr=self._complaints
-        )
+        super().__init__(words + [str(map)])
         self._asked = 0
         self._lanes: Dict[int, Deque[Optional[Errand]]] = {}
         self._errands: Dict[Tuple[int, int], Errand] = {}
@@ -190,12 +279,8 @@ class Fleet:
         self._arrivals: List[Arrival] = []
         self._farewells: List[Farewell] = []
         self._cells: List[int] = []
-        self.status: Optional[int] = None
-        """The exit status, once the fleet is closed: 0, or 8 where a limit was met."""
-        head = ["robots " + " ".join(str(int(cell)) for cell in robots), f"clients {int(clients)}", f"ties {ties}"]
-        head += [f"{name} {int(number)}" for name, number in limits.items()]
         try:
-            self._ask(*head)
+            self._ask(*_head(robots, clients, ties, limits))
             self._cells = self.look().cells
         except BaseException:
             self._end()
@@ -205,14 +290,8 @@ class Fleet:
 
     def _ask(self, *commands: str) -> List[List[List[str]]]:
         """Sends commands in one write, and returns for each the lines of its answer, as words."""
-        if self._process.stdin is None or self._process.stdin.closed:
-            raise Ended(self.status, "the fleet is closed")
         first = self._asked
-        try:
-            self._process.stdin.write("".join(command + "\n" for command in commands).encode())
-            self._process.stdin.flush()
-        except (BrokenPipeError, ConnectionError):
-            raise self._ended() from None
+        self._send("".join(command + "\n" for command in commands))
         self._asked += len(commands)
         answers: List[List[List[str]]] = []
         for at, command in enumerate(commands):
@@ -236,28 +315,8 @@ class Fleet:
                 return lines
             lines.append(words)
 
-    def _ended(self) -> FleetError:
-        """What there is to raise where the program ended."""
-        self.status = self._process.wait()
-        self._complaints.seek(0)
-        complaint = self._complaints.read().decode(errors="replace").strip()
-        words = complaint.split()
-        if words[:2] == ["fleet:", "opening"]:
-            return _refusal(words)
-        return Ended(self.status, complaint)
-
-    def _end(self) -> None:
-        """Lets the program end."""
-        if self._process.stdin is not None:
-            try:
-                self._process.stdin.close()
-            except BrokenPipeError:
-                pass
-        if self._process.stdout is not None:
-            self._process.stdout.read()
-            self._process.stdout.close()
-        self.status = self._process.wait()
-        self._complaints.close()
+    def _reply(self, command: str) -> List[str]:
+        return self._ask(command)[0][0]
 
     # ---- orders
 
@@ -381,41 +440,16 @@ class Fleet:
         """Where the robots stand, by number."""
         return list(self._cells)
 
-    def look(self) -> Look:
-        """How the fleet stands. It changes nothing."""
-        return _look_in(self._ask("look")[0][0])
-
-    def chapter(self) -> Chapter:
-        """Hands out the present chapter and begins the next. Raises Refused with "book-spent" where it is the last."""
-        words = self._ask("chapter")[0][0]
-        if words[0] == "chapter-refused":
-            raise _refusal(words)
-        return Chapter(int(words[1]), int(words[3]))
-
-    # ---- the end
-
-    def close(self) -> None:
-        """Ends the program, which keeps the last chapter if `traces` was given."""
-        if self._process.stdout is not None and not self._process.stdout.closed:
-            self._end()
-
     def __enter__(self) -> "Fleet":
         return self
 
-    def __exit__(self, *_: object) -> None:
-        self.close()
 
-
-class LiveErrand:
+class LiveErrand(_Order):
     """A robot of a fleet in real time is to come to a cell, as a client asked."""
 
     def __init__(self, fleet: "LiveFleet", client: int, robot: int, cell: int) -> None:
+        super().__init__(client, robot, cell)
         self._fleet = fleet
-        self._verdict: Optional[List[str]] = None
-        self._arrival: Optional[Arrival] = None
-        self.client = client
-        self.robot = robot
-        self.cell = cell
 
     def accepted(self, timeout: Optional[float] = None) -> int:
         """The errand's number among its client's accepted ones, from 1. Waits for the verdict, so many seconds at most.
@@ -423,10 +457,7 @@ class LiveErrand:
         Raises Refused with the verdict's name where it was refused, Waiting where the time went by, and Ended where the fleet did.
         """
         self._fleet._wait(lambda: self._verdict is not None, timeout)
-        assert self._verdict is not None
-        if self._verdict[0] == "accepted":
-            return int(self._verdict[1])
-        raise _refusal(self._verdict)
+        return self._number()
 
     def arrived(self, timeout: Optional[float] = None) -> Arrival:
         """The arrival. Waits for it, so many seconds at most. Raises as `accepted` does."""
@@ -436,10 +467,11 @@ class LiveErrand:
         return self._arrival
 
 
-class LiveFleet:
+class LiveFleet(_Program):
     """A fleet that moves by itself, a turn every `period_ms` milliseconds; without it, a turn for each `tick`.
 
-    `on_tick` is called with the number of each tick and the robots' cells, in a thread of its own. The other words are those of `Fleet`.
+    With two `tickers` turns go on while a full chapter is written. `on_tick` is called with the number of each tick and the robots' cells, in
+    a thread of its own. The other words are those of `Fleet`.
     Each method may be called from any thread.
 
     Raises Refused with the name of the opening's refusal, as "start" or "shared", and Ended where the map cannot be read.
@@ -452,29 +484,24 @@ class LiveFleet:
         clients: int = 1,
         *,
         period_ms: Optional[float] = None,
+        tickers: int = 1,
         on_tick: Optional[Callable[[int, List[int]], None]] = None,
         ties: str = "plain",
         traces: Union[str, "PathLike[str]", None] = None,
         program: str = "fleet",
         **limits: int,
     ) -> None:
-        head = ["robots " + " ".join(str(int(cell)) for cell in robots), f"clients {int(clients)}", f"ties {ties}"]
-        head += [f"{name} {int(number)}" for name, number in limits.items()]
         self._head = tempfile.NamedTemporaryFile("w", suffix=".script")
-        self._head.write("".join(line + "\n" for line in head))
+        self._head.write("".join(line + "\n" for line in _head(robots, clients, ties, limits)))
         self._head.flush()
         words = [program, "live"]
         if period_ms is not None:
-            words += ["--period", f"{round(period_ms * 1000)}us"]
+            words += ["--period", f"{round(period_ms * 1000)}us", "--tickers", str(int(tickers))]
         if on_tick is not None:
             words.append("--watch")
         if traces is not None:
             words += ["--traces", str(traces)]
-        words += [str(map), self._head.name]
-        self._complaints = tempfile.TemporaryFile()
-        self._process = subprocess.Popen(
-            words, stdin=subprocess.PIPE, stdout=subprocess.PIPE, stderr=self._complaints
-        )
+        super().__init__(words + [str(map), self._head.name])
         self._on_tick = on_tick
         self._marks = 0
         self._answers: Dict[int, List[str]] = {}
@@ -484,8 +511,6 @@ class LiveFleet:
         self._over = False
         self._changed = threading.Condition()
         self._sending = threading.Lock()
-        self.status: Optional[int] = None
-        """The exit status, once the fleet is closed: 0, or 8 where a limit was met."""
         self._reader = threading.Thread(target=self._read, daemon=True)
         self._reader.start()
         try:
@@ -551,13 +576,8 @@ class LiveFleet:
             mark = self._marks
             if errand is not None:
                 self._posting[mark] = errand
-        try:
-            with self._sending:
-                assert self._process.stdin is not None
-                self._process.stdin.write(f"@{mark} {command}\n".encode())
-                self._process.stdin.flush()
-        except (BrokenPipeError, ConnectionError, ValueError):
-            raise self._ended() from None
+        with self._sending:
+            self._send(f"@{mark} {command}\n")
         self._wait(lambda: mark in self._answers, None)
         with self._changed:
             words = self._answers.pop(mark)
@@ -565,30 +585,11 @@ class LiveFleet:
             raise ValueError(f"no line of the protocol: {command!r}")
         return words
 
-    def _ended(self) -> FleetError:
-        """What there is to raise where the program ended."""
-        if self._complaints.closed:
-            return Ended(self.status, "the fleet is closed")
-        self.status = self._process.wait()
-        self._complaints.seek(0)
-        complaint = self._complaints.read().decode(errors="replace").strip()
-        words = complaint.split()
-        if words[:2] == ["fleet:", "opening"]:
-            return _refusal(words)
-        return Ended(self.status, complaint)
+    def _reply(self, command: str) -> List[str]:
+        return self._ask(command)
 
-    def _end(self) -> None:
-        """Lets the program end."""
-        if self._process.stdin is not None:
-            try:
-                self._process.stdin.close()
-            except BrokenPipeError:
-                pass
+    def _hear_last(self) -> None:
         self._reader.join()
-        if self._process.stdout is not None:
-            self._process.stdout.close()
-        self.status = self._process.wait()
-        self._complaints.close()
         self._head.close()
 
     # ---- orders
@@ -634,26 +635,5 @@ class LiveFleet:
             raise _refusal(words)
         return [int(word) for word in words[2:]]
 
-    def look(self) -> Look:
-        """How the fleet stands. It changes nothing."""
-        return _look_in(self._ask("look"))
-
-    def chapter(self) -> Chapter:
-        """Hands out the present chapter and begins the next. Raises Refused with "book-spent" where it is the last."""
-        words = self._ask("chapter")
-        if words[0] == "chapter-refused":
-            raise _refusal(words)
-        return Chapter(int(words[1]), int(words[3]))
-
-    # ---- the end
-
-    def close(self) -> None:
-        """Ends the program, which keeps the last chapter if `traces` was given."""
-        if not self._complaints.closed:
-            self._end()
-
     def __enter__(self) -> "LiveFleet":
         return self
-
-    def __exit__(self, *_: object) -> None:
-        self.close()

@@ -15,6 +15,8 @@ from nashirudder import Ended, LiveFleet, Refused, Waiting  # noqa: E402
 
 PROGRAM = os.environ.get("FLEET", "fleet")
 
+PICTURE = os.path.join(os.path.dirname(os.path.abspath(__file__)), "..", "..", "..", "tools", "live", "picture")
+
 RING = "type octile\nheight 3\nwidth 3\nmap\n...\n.@.\n...\n"
 
 
@@ -57,6 +59,34 @@ class LiveTest(unittest.TestCase):
             self.assertEqual(fleet.shut(0).robot, 0)
             self.assertEqual(fleet.chapter().entries, 4)
 
+    def test_a_verdict_waits_for_no_turn(self):
+        for words in ({}, {"period_ms": 3600000}):
+            with self.fleet([0, 8], **words) as fleet:
+                self.assertEqual(fleet.go(0, 2).accepted(10), 1)
+                with self.assertRaises(Refused):
+                    fleet.go(0, 4).accepted(10)
+                self.assertEqual((fleet.look().tick, fleet.look().entries), (0, 2))
+
+    def test_two_tickers(self):
+        ticks = []
+        with self.fleet([0, 8], period_ms=1, tickers=2, traces=self.folder.name, chapter=20, on_tick=lambda tick, _: ticks.append(tick)) as fleet:
+            for cell in (1, 2, 5, 3) * 5:
+                fleet.go(0, cell).arrived(10)
+        self.assertEqual(ticks, list(range(1, len(ticks) + 1)))
+        names = [f"chapter-{number}.json" for number in range(len(ticks) // 20)]
+        for name in names:
+            with open(os.path.join(self.folder.name, name)) as file:
+                self.assertEqual(len(json.load(file)["entries"]), 20)
+        self.assertEqual([name for name in os.listdir(self.folder.name) if name.endswith(".part")], [])
+
+    def test_a_picture(self):
+        page = os.path.join(self.folder.name, "fleet.html")
+        done = subprocess.run([PICTURE, self.map, page], input=b"tick 7: 2 8\nended 7\n", capture_output=True)
+        self.assertEqual((done.returncode, done.stdout), (0, b"ended 7\n"))
+        with open(page) as file:
+            text = file.read()
+        self.assertEqual((text.count("<circle"), "tick 7" in text, 'cx="2.5" cy="0.5"' in text), (2, True, True))
+
     def test_refusals(self):
         with self.assertRaises(Refused) as caught:
             self.fleet([0, 4])
@@ -73,7 +103,8 @@ class LiveTest(unittest.TestCase):
             fleet.look()
 
     def test_words(self):
-        for words in (["--robots", "0;8"], ["--robots", "0", "--period", "0ms"], ["--robots", "0", "--period", "20"], ["--robots", "0", "--clients", "x"]):
+        for words in (["--robots", "0;8"], ["--robots", "0", "--period", "0ms"], ["--robots", "0", "--period", "20"], ["--robots", "0", "--clients", "x"], ["--robots", "0", "--tickers", "3"],
+                      ["--robots", "0", "--tickers", "0"]):
             status, output, complaint = self.run_lines("", *words)
             self.assertEqual((status, output), (2, ""))
             self.assertTrue(complaint.startswith("error: "))

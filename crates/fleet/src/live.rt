@@ -49,6 +49,7 @@ pub(crate) fn hold_live<
         + Alloc<A = Global>
         + Clock
         + Threads
+        + Sync
         + Wait
         + Copy
         + Send

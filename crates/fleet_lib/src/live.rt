@@ -1,6 +1,7 @@
 //! The word `live`.
 
-ghost use Rattle.std.specs.Prelude.{◌≡◌, ◌≤◌, ◌==◌, if◌then◌else◌, IfOk, length, map};
+ghost use Rattle.std.specs.Prelude.{◌≡◌, ◌≤◌, ◌<◌, ◌⊎◌, ◌==◌, ℕ, Some, if◌then◌else◌, IfOk, IfSome, IfNone, length, map};
+ghost use Rattle.fleet_map.specs.Text.{number_of};
 
 use crate::input::InputFault;
 use crate::live_closures::keep_with_closures;
@@ -8,6 +9,7 @@ use crate::said::fail;
 use crate::talk::{TalkTexts, complain, complaint_of, grounds};
 use errands_text::{Complaint, write_whole};
 use fleet_live::{LiveEnds, LiveSettings, read_period};
+use fleet_map::text::number_up_to;
 use fleet_script::Head;
 use fleet_talk::{MOST_ROBOTS, Shelf};
 use fleet_words::Live;
@@ -23,6 +25,7 @@ enum BadWord {
     Robots,
     Clients,
     Period,
+    Tickers,
     Pipes,
     NoMemory,
 }
@@ -68,6 +71,19 @@ fn add_words(alloc: Global, head: &mut Head, live: &Live) -> Result<(), BadWord>
     Ok(())
 }
 
+/// How many tickers a word asks for: one or two.
+fn tickers_in(word: &[u8]) -> Option<u32>
+    ensures some { IfSome result (λ n. (1 ≤ n) × (n ≤ 2) × (number_of word.now ≡ Some n)) }
+    ensures none { IfNone result ((n : ℕ) → number_of word.now ≡ Some n → (n ≡ 0) ⊎ (2 < n)) }
+{
+    let number = number_up_to(word, 3)?;
+    if number == 1 || number == 2 {
+        Some(number as u32)
+    } else {
+        None
+    }
+}
+
 /// How the fleet is kept.
 fn settings_of(live: &Live) -> Result<LiveSettings, BadWord> {
     let period = match &live.period {
@@ -77,8 +93,16 @@ fn settings_of(live: &Live) -> Result<LiveSettings, BadWord> {
             None => return Err(BadWord::Period),
         },
     };
+    let tickers = match &live.tickers {
+        None => 1,
+        Some(word) => match tickers_in(word.as_bytes()) {
+            Some(tickers) => tickers,
+            None => return Err(BadWord::Tickers),
+        },
+    };
     Ok(LiveSettings {
         period,
+        tickers,
         watch: live.watch,
     })
 }
@@ -89,6 +113,7 @@ fn complain_of_word<E: Write>(word: BadWord, error: &mut E) -> u8 {
         BadWord::Robots => "error: invalid value for '--robots <CELLS>'\n",
         BadWord::Clients => "error: invalid value for '--clients <N>'\n",
         BadWord::Period => "error: invalid value for '--period <TIME>'\n",
+        BadWord::Tickers => "error: invalid value for '--tickers <N>'\n",
         BadWord::Pipes => "error: more '--client <IN,OUT>' than clients\n",
         BadWord::NoMemory => return fail(InputFault::NoMemory, error),
     };
@@ -99,13 +124,13 @@ fn complain_of_word<E: Write>(word: BadWord, error: &mut E) -> u8 {
 /// Keeps a fleet on the map in real time, or on demand. The result is the status: 0 good, 2 a word is wrong, 3 a line could not be read,
 /// or an answer or a chapter not written, 4 the map, 5 the script or the opening is refused, 7 out of memory, 8 a limit was met.
 pub fn run_live<
-    R: Alloc<A = Global> + Clock + Threads + Wait + Copy + Send + Drop + 'static,
+    R: Alloc<A = Global> + Clock + Threads + Sync + Wait + Copy + Send + Drop + 'static,
     I: Read + Send + Drop + 'static,
     W: Write + Send + Drop + 'static,
     P: Read + Send + Drop + 'static,
     Q: Write + Send + Drop + 'static,
     E: Write + Send + Drop + 'static,
-    S: Shelf + Drop,
+    S: Shelf + Send + Drop,
     F: Write,
 >(rt: &R, texts: TalkTexts<'_>, live: &Live, ends: LiveEnds<I, W, P, Q, E, S>, error: &mut F) -> u8
     requires { length texts.script.now ≤ 16777216 }

@@ -22,13 +22,13 @@ use std::time::Clock;
 
 /// Keeps a fleet with the closures of `errands run`, for as many robots as it may have.
 pub(crate) fn keep_with_closures<
-    R: Alloc<A = Global> + Clock + Threads + Wait + Copy + Send + Drop + 'static,
+    R: Alloc<A = Global> + Clock + Threads + Sync + Wait + Copy + Send + Drop + 'static,
     I: Read + Send + Drop + 'static,
     W: Write + Send + Drop + 'static,
     P: Read + Send + Drop + 'static,
     Q: Write + Send + Drop + 'static,
     E: Write + Send + Drop + 'static,
-    S: Shelf + Drop,
+    S: Shelf + Send + Drop,
 >(
     rt: &R,
     grid: Grid,

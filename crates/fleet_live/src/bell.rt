@@ -43,6 +43,8 @@ pub(crate) enum Call {
     Nothing,
     Stop(Stop),
     Grant(Wish),
+    /// Judge what was posted.
+    Settle,
     Tell,
 }
 
@@ -51,13 +53,14 @@ pub(crate) enum Call {
 struct Asks {
     wishes: VecDeque<Wish>,
     stop: Option<Stop>,
+    settle: bool,
     tell: bool,
 }
 
 impl Asks {
     /// Whether nothing is asked.
     fn is_quiet(&self) -> bool {
-        self.stop.is_none() && self.wishes.is_empty() && !self.tell
+        self.stop.is_none() && self.wishes.is_empty() && !self.settle && !self.tell
     }
 
     /// What is to be done next.
@@ -67,6 +70,10 @@ impl Asks {
         }
         if let Some(wish) = self.wishes.pop_front() {
             return Call::Grant(wish);
+        }
+        if self.settle {
+            self.settle = false;
+            return Call::Settle;
         }
         if self.tell {
             self.tell = false;
@@ -89,6 +96,7 @@ impl Bell {
             asks: Mutex::new(Asks {
                 wishes: VecDeque::new(alloc),
                 stop: None,
+                settle: false,
                 tell: false,
             }),
             rung: Condvar::new(),
@@ -106,6 +114,15 @@ impl Bell {
         mem::drop(held);
         self.rung.notify_all();
         done
+    }
+
+    /// Asks to judge what was posted.
+    pub(crate) fn ask_to_settle<R: Wait>(&self, rt: &R) {
+        let mut held = self.asks.lock(rt);
+        let asks = &mut *held;
+        asks.settle = true;
+        mem::drop(held);
+        self.rung.notify_all();
     }
 
     /// Asks to tell what was kept back.
@@ -126,6 +143,12 @@ impl Bell {
         }
         mem::drop(held);
         self.rung.notify_all();
+    }
+
+    /// Why the fleet is to stop, if it is.
+    pub(crate) fn stop<R: Wait>(&self, rt: &R) -> Option<Stop> {
+        let held = self.asks.lock(rt);
+        held.stop
     }
 
     /// What is to be done now.

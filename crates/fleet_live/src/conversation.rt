@@ -44,7 +44,8 @@ impl<N: OfficeName<Global>> Conversation<N> {
         }
     }
 
-    /// Posts an order and answers. No verdict stands before that answer, since both are said while the guests are held.
+    /// Posts an order and answers, and returns whether it was posted. No verdict stands before that answer, since both are said while
+    /// the guests are held.
     pub(crate) fn post<R: Wait>(
         &self,
         rt: &R,
@@ -52,16 +53,20 @@ impl<N: OfficeName<Global>> Conversation<N> {
         mark: Option<&[u8]>,
         client: u32,
         order: Order,
-    ) -> Result<(), AllocError> {
+    ) -> Result<bool, AllocError> {
         let mut held = self.guests.lock(rt);
         let guests = &mut *held;
-        let text = match post_in(guests, client, order) {
+        let posted = post_in(guests, client, order);
+        let text = match posted {
             Some(posted) => post_text(alloc, client, posted)?,
             None => format!(in alloc; "no-client {client}\n")?,
         };
-        let said = self.voice.say(rt, mark, text.as_str());
+        self.voice.say(rt, mark, text.as_str())?;
         mem::drop(held);
-        said
+        match posted {
+            Some(Ok(_number)) => Ok(true),
+            _ => Ok(false),
+        }
     }
 
     /// Tells what the clients find while there is room, and returns whether that was all.

@@ -15,6 +15,8 @@ pub(crate) enum Wanted {
     Look,
     Chapter,
     Tick(u32),
+    /// To judge what was posted; it has no answer of its own.
+    Settle,
 }
 
 /// What a line asks.

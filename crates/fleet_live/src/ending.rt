@@ -5,12 +5,12 @@ ghost use Rattle.fleet_office.specs.Views.{AreOn, cores};
 
 use crate::bell::Stop;
 use crate::conversation::Conversation;
-use crate::keeper::{Work, turn_page};
 use crate::said::notice_text;
 use crate::voice::Voice;
 use fleet_book::Notice;
+use fleet_core::ChapterFault;
 use fleet_lanes::Client;
-use fleet_office::{ConcludeFault, Final, Guest, Home, Office, OfficeName, clients_of};
+use fleet_office::{ConcludeFault, Final, Guest, Home, Office, OfficeName, Ticker, clients_of};
 use fleet_talk::Shelf;
 use std::alloc::{Alloc, AllocError, Global};
 use std::mem;
@@ -50,6 +50,19 @@ fn clients_home<N: OfficeName<Global>, R: Alloc<A = Global> + Wait>(
     }
 }
 
+/// Hands out the chapter and keeps it. The error where it is the last is that a limit was met.
+fn turn_page<N: OfficeName<Global>, R: Wait, S: Shelf>(
+    rt: &R,
+    office: &Office<N>,
+    shelf: &mut S,
+) -> Result<(), Stop> {
+    match office.next_chapter(rt) {
+        Ok(chapter) => Ok(shelf.keep(&chapter)?),
+        Err(ChapterFault::BookSpent) => Err(Stop::Limit),
+        Err(ChapterFault::NoMemory) => Err(Stop::NoMemory),
+    }
+}
+
 /// Concludes the office, in further chapters where orders are left that have no room in this one.
 fn conclude<N: OfficeName<Global>, R: Alloc<A = Global> + Wait, S: Shelf>(
     rt: &R,
@@ -69,11 +82,7 @@ fn conclude<N: OfficeName<Global>, R: Alloc<A = Global> + Wait, S: Shelf>(
             Ok(end) => return Ok(end),
             Err((ConcludeFault::ChapterFull, back)) => {
                 match turn_page(rt, &back.office, shelf) {
-                    Ok(Some(_chapter)) => home = back,
-                    Ok(None) => {
-                        mem::drop(back);
-                        return Err(Stop::Limit);
-                    }
+                    Ok(()) => home = back,
                     Err(stop) => {
                         mem::drop(back);
                         return Err(stop);
@@ -134,21 +143,10 @@ pub(crate) fn finish<N: OfficeName<Global>, R: Alloc<A = Global> + Wait, S: Shel
     rt: &R,
     office: Office<N>,
     conversations: &[Arc<Conversation<N>>],
-    work: Work<N, S>,
+    tickers: Vec<Ticker<N>>,
+    shelf: S,
 ) -> Result<(), Stop> {
-    let alloc = rt.alloc();
-    let Work {
-        ticker,
-        shelf,
-        tally: _,
-        limited: _,
-    } = work;
     let mut shelf = shelf;
-    let mut tickers = Vec::new(alloc);
-    if tickers.push(ticker).is_err() {
-        mem::drop(office);
-        return Err(Stop::NoMemory);
-    }
     let clients = match clients_home(rt, conversations) {
         Ok(clients) => clients,
         Err(AllocError) => {

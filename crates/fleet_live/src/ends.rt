@@ -5,6 +5,8 @@
 pub struct LiveSettings {
     /// The microseconds between two turns; without it a turn is made where a line asks for one.
     pub period: Option<u32>,
+    /// How many tickers keep the fleet in turn where there is a period: with two, one keeps it while the other keeps a chapter.
+    pub tickers: u32,
     /// Whether the first conversation watches from the start.
     pub watch: bool,
 }

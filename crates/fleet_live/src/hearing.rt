@@ -3,6 +3,7 @@
 use crate::bell::{Bell, Stop, Wish};
 use crate::conversation::Conversation;
 use crate::demand::{Demand, Wanted, demand_of};
+use fleet_book::Order;
 use fleet_lines::{LineFault, read_line};
 use fleet_office::OfficeName;
 use fleet_talk::{Line, MOST_LINE, line_of};
@@ -18,6 +19,8 @@ const PIECE: usize = 65_536;
 struct Hearing<'a, N: OfficeName<Global>> {
     here: &'a Conversation<N>,
     bell: &'a Bell,
+    /// Whether turns come by themselves.
+    paced: bool,
     /// How many wishes it had.
     wishes: u64,
 }
@@ -49,14 +52,32 @@ impl<N: OfficeName<Global>> Hearing<'_, N> {
         Ok(())
     }
 
+    /// Posts an order, and asks for its verdict. On demand the next line is read after that.
+    fn post<R: Wait>(
+        &mut self,
+        rt: &R,
+        alloc: Global,
+        mark: Option<&[u8]>,
+        client: u32,
+        order: Order,
+    ) -> Result<(), AllocError> {
+        if !self.here.post(rt, alloc, mark, client, order)? {
+            return Ok(());
+        }
+        if self.paced {
+            self.bell.ask_to_settle(rt);
+            Ok(())
+        } else {
+            self.ask(rt, alloc, None, Wanted::Settle)
+        }
+    }
+
     /// Does what a line asks, and returns whether it ends the conversation.
     fn obey<R: Wait>(&mut self, rt: &R, alloc: Global, line: Line<'_>) -> Result<bool, AllocError> {
         match demand_of(self.here.rights, line) {
             Demand::Nothing => {}
             Demand::Quit => return Ok(true),
-            Demand::Post(client, order) => {
-                self.here.post(rt, alloc, line.mark, client, order)?;
-            }
+            Demand::Post(client, order) => self.post(rt, alloc, line.mark, client, order)?,
             Demand::Ask(wanted) => self.ask(rt, alloc, line.mark, wanted)?,
             Demand::Watch(on) => {
                 self.here.watch(on);
@@ -102,11 +123,13 @@ pub(crate) fn hear<N: OfficeName<Global>, R: Wait, I: Read + Drop>(
     alloc: Global,
     here: &Conversation<N>,
     bell: &Bell,
+    paced: bool,
     input: I,
 ) {
     let mut hearing = Hearing {
         here,
         bell,
+        paced,
         wishes: 0,
     };
     let stop = match BufReader::with_capacity(alloc, PIECE, input) {

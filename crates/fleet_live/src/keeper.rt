@@ -1,27 +1,18 @@
-//! The keeper: makes turns, and grants what conversations wish.
+//! The keeper: the ticker that makes turns and tells clients what became of their orders.
 
-use crate::bell::{Call, Stop, Wish};
+use crate::bell::{Call, Stop};
 use crate::conversation::Conversation;
-use crate::demand::Wanted;
-use crate::said::{look_text, shut_text, tick_text};
-use crate::tally::Tally;
-use fleet_core::{ChapterFault, ShutFault};
-use fleet_office::{Office, OfficeName, Ticker, TurnCause};
-use fleet_talk::{Shelf, ShelfFault};
+use crate::said::tick_text;
+use crate::stage::{Round, Stage, Work, keep_pages};
+use fleet_core::ChapterFault;
+use fleet_office::{Office, OfficeName, TurnCause};
+use fleet_talk::Shelf;
 use std::alloc::{Alloc, AllocError, Global};
-use std::sync::{Arc, Wait};
+use std::mem;
+use std::sync::Wait;
 
 /// How many chapters one turn may need at most: each has room for an order of each client.
 const MOST_CHAPTERS: u32 = 65_536;
-
-impl From<ShelfFault> for Stop {
-    fn from(fault: ShelfFault) -> Stop {
-        match fault {
-            ShelfFault::File => Stop::Shelf,
-            ShelfFault::NoMemory => Stop::NoMemory,
-        }
-    }
-}
 
 /// What a turn came to.
 #[derive(Clone, Copy, Debug, PartialEq, Eq)]
@@ -33,47 +24,19 @@ pub(crate) enum Turned {
     ChapterFull,
 }
 
-/// Hands out the chapter and keeps it. Returns its number and how many entries it has, and nothing where it is the last.
-pub(crate) fn turn_page<N: OfficeName<Global>, R: Wait, S: Shelf>(
-    rt: &R,
-    office: &Office<N>,
-    shelf: &mut S,
-) -> Result<Option<(u32, usize)>, Stop> {
-    match office.next_chapter(rt) {
-        Ok(chapter) => {
-            shelf.keep(&chapter)?;
-            Ok(Some((chapter.number, chapter.entries.len())))
-        }
-        Err(ChapterFault::BookSpent) => Ok(None),
-        Err(ChapterFault::NoMemory) => Err(Stop::NoMemory),
-    }
-}
-
-/// What the keeper sees of the fleet.
+/// The ticker that keeps the fleet, with the office and what it shares with the other.
 #[derive(Drop)]
-pub(crate) struct Keeper<'a, N: OfficeName<Global>> {
+pub(crate) struct Keeper<'a, N: OfficeName<Global>, S> {
     pub(crate) office: &'a Office<N>,
-    pub(crate) conversations: &'a [Arc<Conversation<N>>],
-    /// Whether turns come by themselves.
-    pub(crate) paced: bool,
+    pub(crate) stage: &'a Stage<N, S>,
 }
 
-/// What the keeper works with.
-#[derive(Drop)]
-pub(crate) struct Work<N: OfficeName<Global>, S> {
-    pub(crate) ticker: Ticker<N>,
-    pub(crate) shelf: S,
-    pub(crate) tally: Tally,
-    /// Whether a limit was met.
-    pub(crate) limited: bool,
-}
-
-impl<N: OfficeName<Global>> Keeper<'_, N> {
+impl<N: OfficeName<Global>, S: Shelf> Keeper<'_, N, S> {
     /// Tells each client what it finds. On demand the first conversation is told all, however long its reader takes.
-    fn tell_all<R: Alloc<A = Global> + Wait>(&self, rt: &R) -> Result<(), AllocError> {
-        for one in self.conversations {
+    pub(crate) fn tell_all<R: Alloc<A = Global> + Wait>(&self, rt: &R) -> Result<(), AllocError> {
+        for one in &self.stage.conversations {
             let told = one.tell(rt, rt.alloc())?;
-            if !told && !self.paced && one.rights.rules {
+            if !told && !self.stage.paced && one.rights.rules {
                 self.tell_whole(rt, one)?;
             }
         }
@@ -95,17 +58,16 @@ impl<N: OfficeName<Global>> Keeper<'_, N> {
         unreachable!()
     }
 
-    /// Says the tick line in the conversations that watch.
+    /// Says the line of the last tick in the conversations that watch.
     fn show_tick<R: Alloc<A = Global> + Wait>(
         &self,
         rt: &R,
-        ticker: &Ticker<N>,
+        work: &Work<N>,
     ) -> Result<(), AllocError> {
-        for one in self.conversations {
+        for one in &self.stage.conversations {
             if one.is_watching() {
-                let look = self.office.look(rt, ticker)?;
-                let text = tick_text(rt.alloc(), &look)?;
-                if !self.paced {
+                let text = tick_text(rt.alloc(), &work.made)?;
+                if !self.stage.paced {
                     one.voice.wait_for_room(rt);
                 }
                 one.voice.say_if_room(rt, text.as_str())?;
@@ -114,25 +76,43 @@ impl<N: OfficeName<Global>> Keeper<'_, N> {
         Ok(())
     }
 
+    /// Hands out the chapter where it is full, and returns whether there is room for an entry now.
+    pub(crate) fn turn_page<R: Wait>(&self, rt: &R, work: &mut Work<N>) -> Result<bool, Stop> {
+        match self.office.turn_page(rt, self.stage.chapter) {
+            // The other ticker handed it out.
+            Ok(None) => Ok(true),
+            Ok(Some(page)) => match work.pages.push(page) {
+                Ok(()) => Ok(true),
+                Err(refused) => {
+                    mem::drop(refused);
+                    Err(Stop::NoMemory)
+                }
+            },
+            Err(ChapterFault::BookSpent) => Ok(false),
+            Err(ChapterFault::NoMemory) => Err(Stop::NoMemory),
+        }
+    }
+
     /// Makes a turn, in the next chapter where this one is full.
-    fn make_turn<R: Alloc<A = Global> + Wait, S: Shelf>(
+    fn make_turn<R: Alloc<A = Global> + Wait>(
         &self,
         rt: &R,
-        work: &mut Work<N, S>,
+        round: &mut Round,
+        work: &mut Work<N>,
     ) -> Result<Turned, Stop> {
         for _ in 0..MOST_CHAPTERS {
-            match self.office.turn(rt, &mut work.ticker) {
+            match self.office.turn_into(rt, &mut work.ticker, &mut work.made) {
                 Ok(report) => {
-                    work.tally.count(report.taken);
+                    round.count_turn(&report);
                     return Ok(Turned::Made);
                 }
                 Err(fault) => {
-                    work.tally.count_orders(fault.report.taken);
+                    round.count_orders(fault.report.taken);
                     match fault.cause {
                         TurnCause::ClockSpent => return Ok(Turned::ClockSpent),
                         TurnCause::NoMemory => return Err(Stop::NoMemory),
                         TurnCause::ChapterFull => {
-                            if turn_page(rt, self.office, &mut work.shelf)?.is_none() {
+                            if !self.turn_page(rt, work)? {
                                 return Ok(Turned::ChapterFull);
                             }
                         }
@@ -144,128 +124,63 @@ impl<N: OfficeName<Global>> Keeper<'_, N> {
     }
 
     /// Makes a turn and tells each client its notices; `shown` says whether those that watch see it.
-    pub(crate) fn turn<R: Alloc<A = Global> + Wait, S: Shelf>(
+    pub(crate) fn turn<R: Alloc<A = Global> + Wait>(
         &self,
         rt: &R,
-        work: &mut Work<N, S>,
+        round: &mut Round,
+        work: &mut Work<N>,
         shown: bool,
     ) -> Result<Turned, Stop> {
-        let turned = self.make_turn(rt, work)?;
+        let turned = self.make_turn(rt, round, work)?;
         self.tell_all(rt)?;
         if turned != Turned::Made {
-            work.limited = true;
+            round.limited = true;
         } else if shown {
-            self.show_tick(rt, &work.ticker)?;
+            self.show_tick(rt, work)?;
+        }
+        if !self.stage.paced {
+            keep_pages(rt, &self.stage.shelf, &mut work.pages)?;
         }
         Ok(turned)
     }
 
-    /// Makes this many turns. The result is the answer's line.
-    fn tick_line<R: Alloc<A = Global> + Wait, S: Shelf>(
+    /// Judges what was posted, in the next chapter where this one is full, and tells each client. Where the last chapter is full an
+    /// order waits in its lane, as at a turn.
+    pub(crate) fn settle<R: Alloc<A = Global> + Wait>(
         &self,
         rt: &R,
-        work: &mut Work<N, S>,
-        times: u32,
-    ) -> Result<String, Stop> {
-        let alloc = rt.alloc();
-        for round in 0..times {
-            match self.turn(rt, work, round + 1 < times)? {
-                Turned::Made => {}
-                Turned::ClockSpent => {
-                    return Ok(String::from_str(alloc, "tick-refused 1 clock-spent\n")?);
-                }
-                Turned::ChapterFull => {
-                    return Ok(String::from_str(alloc, "tick-refused 2 chapter-full\n")?);
-                }
-            }
-        }
-        let look = self.office.look(rt, &work.ticker)?;
-        Ok(tick_text(alloc, &look)?)
-    }
-
-    /// The line of a chapter that is handed out.
-    fn chapter_line<R: Alloc<A = Global> + Wait, S: Shelf>(
-        &self,
-        rt: &R,
-        work: &mut Work<N, S>,
-    ) -> Result<String, Stop> {
-        let alloc = rt.alloc();
-        match turn_page(rt, self.office, &mut work.shelf)? {
-            Some((number, entries)) => {
-                Ok(format!(in alloc; "chapter {number} entries {entries}\n")?)
-            }
-            None => Ok(String::from_str(alloc, "chapter-refused 1 book-spent\n")?),
-        }
-    }
-
-    /// What a wish is answered.
-    fn answer<R: Alloc<A = Global> + Wait, S: Shelf>(
-        &self,
-        rt: &R,
-        work: &mut Work<N, S>,
-        wanted: Wanted,
-    ) -> Result<String, Stop> {
-        let alloc = rt.alloc();
-        match wanted {
-            Wanted::Shut(robot) => self.shut_line(rt, work, robot),
-            Wanted::Look => {
-                let look = self.office.look(rt, &work.ticker)?;
-                Ok(look_text(alloc, &look)?)
-            }
-            Wanted::Chapter => self.chapter_line(rt, work),
-            Wanted::Tick(times) => self.tick_line(rt, work, times),
-        }
-    }
-
-    /// Shuts a robot, in the next chapter where this one is full. The result is the answer's line.
-    fn shut_line<R: Alloc<A = Global> + Wait, S: Shelf>(
-        &self,
-        rt: &R,
-        work: &mut Work<N, S>,
-        robot: u32,
-    ) -> Result<String, Stop> {
-        let mut done = self.office.shut(rt, robot);
-        if done == Err(ShutFault::ChapterFull)
-            && turn_page(rt, self.office, &mut work.shelf)?.is_some()
-        {
-            done = self.office.shut(rt, robot);
-        }
-        work.limited |= done == Err(ShutFault::ChapterFull);
-        Ok(shut_text(rt.alloc(), robot, done)?)
-    }
-
-    /// Grants a wish.
-    fn grant<R: Alloc<A = Global> + Wait, S: Shelf>(
-        &self,
-        rt: &R,
-        work: &mut Work<N, S>,
-        wish: Wish,
+        round: &mut Round,
+        work: &mut Work<N>,
     ) -> Result<(), Stop> {
-        let Wish {
-            place,
-            mark,
-            wanted,
-        } = wish;
-        let text = self.answer(rt, work, wanted)?;
-        let Some(one) = self.conversations.get(place) else {
-            return Ok(());
-        };
-        match &mark {
-            Some(mark) => one.voice.say(rt, Some(mark.as_slice()), text.as_str())?,
-            None => one.voice.say(rt, None, text.as_str())?,
+        for _ in 0..MOST_CHAPTERS {
+            match self.office.settle(rt) {
+                Ok(report) => {
+                    round.count_orders(report.taken);
+                    break;
+                }
+                Err(fault) => {
+                    round.count_orders(fault.report.taken);
+                    if fault.cause != TurnCause::ChapterFull {
+                        return Err(Stop::NoMemory);
+                    }
+                    if !self.turn_page(rt, work)? {
+                        break;
+                    }
+                }
+            }
         }
-        one.note_grant(rt);
-        Ok(())
+        Ok(self.tell_all(rt)?)
     }
 
     /// Does what is to be done. The error is why the fleet stops.
-    pub(crate) fn heed<R: Alloc<A = Global> + Wait, S: Shelf>(
+    pub(crate) fn heed<R: Alloc<A = Global> + Wait>(
         &self,
         rt: &R,
-        work: &mut Work<N, S>,
+        round: &mut Round,
+        work: &mut Work<N>,
         call: Call,
     ) -> Result<(), Stop> {
-        if let Some(first) = self.conversations.first() {
+        if let Some(first) = self.stage.conversations.first() {
             if first.voice.is_gone(rt) {
                 return Err(Stop::Output);
             }
@@ -273,7 +188,8 @@ impl<N: OfficeName<Global>> Keeper<'_, N> {
         match call {
             Call::Nothing => Ok(()),
             Call::Stop(stop) => Err(stop),
-            Call::Grant(wish) => self.grant(rt, work, wish),
+            Call::Grant(wish) => self.grant(rt, round, work, wish),
+            Call::Settle => self.settle(rt, round, work),
             Call::Tell => Ok(self.tell_all(rt)?),
         }
     }

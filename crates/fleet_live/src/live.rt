@@ -1,24 +1,24 @@
 //! A fleet in real time, as a whole.
 
-ghost use Rattle.std.specs.Prelude.{◌≡◌, ◌≢◌, ◌≤◌, vec_len};
-ghost use Rattle.fleet_office.specs.Views.{AreOn, IsNamed, cores};
+ghost use Rattle.std.specs.Prelude.{◌≡◌, ◌≤◌, ◌↔◌, ◌⊎◌, Err, IfErr, length, vec_len};
+ghost use Rattle.errands_answer.specs.Kit.{kit_laws};
+ghost use Rattle.fleet_core.specs.Hooks.{laws_of};
+ghost use Rattle.fleet_core.specs.OpeningFaults.{IsRefused, IsNamed as IsNamedFault};
+ghost use Rattle.fleet_office.specs.Views.{IsNamed};
+ghost use Rattle.fleet_talk.specs.Heading.{drafted};
+ghost use Rattle.fleet_live.specs.Ended.{IsEnded, IsRefusedFleet, ended_by, unopened};
 
-use crate::bell::{Bell, Stop};
+use crate::bell::Stop;
 use crate::conversation::Conversation;
-use crate::conversations::{conversations_of, new_voice};
 use crate::ending::finish;
-use crate::ends::{LiveEnds, LiveSettings, Pipes};
-use crate::keeper::{Keeper, Work};
-use crate::pace::{keep_on_demand, keep_pace};
-use crate::tally::Tally;
-use crate::threads::{start_reader, start_writer};
-use crate::voice::Voice;
+use crate::ends::{LiveEnds, LiveSettings};
+use crate::serving::{Left, Site, serve};
+use crate::stage::Stage;
+use fleet_book::Limits;
 use fleet_core::OpenFault;
 use fleet_grid::Grid;
 use fleet_hooks::Hooks;
-use fleet_lanes::Client;
-use fleet_office::{Desk, Office, OfficeName, Ticker};
-use fleet_script::Head;
+use fleet_office::{Desk, Office, OfficeName};
 use fleet_talk::{Ground, Shelf, TALK_LIMITS, TalkFault};
 use std::alloc::{Alloc, AllocError, Global};
 use std::io::{Read, Write};
@@ -33,8 +33,7 @@ const MOST_LOOKS: u32 = 200;
 
 /// Why the fleet was not opened.
 fn unopened(fault: OpenFault) -> TalkFault
-    ensures memory { (fault ≡ OpenFault.NoMemory) → result ≡ TalkFault.NoMemory }
-    ensures named { (fault ≢ OpenFault.NoMemory) → result ≡ TalkFault.Opening fault }
+    ensures { result ≡ unopened fault }
 {
     match fault {
         OpenFault::NoMemory => TalkFault::NoMemory,
@@ -46,109 +45,35 @@ fn unopened(fault: OpenFault) -> TalkFault
 #[derive(Drop)]
 struct Opening {
     desk: Desk,
+    limits: Limits,
     grid: Grid,
     starts: Vec<u32>,
     hooks: Hooks,
 }
 
-/// What the clients' threads and the keeper leave.
-#[derive(Drop)]
-struct Left<N: OfficeName<Global>, S> {
-    conversations: Vec<Arc<Conversation<N>>>,
-    work: Work<N, S>,
-    writer: JoinHandle<()>,
-    counts: Arc<Voice>,
-    stop: Stop,
-}
-
-/// Starts the threads of the clients that have pipes.
-fn start_pipes<
-    N: OfficeName<Global> + Send + Sync + 'static,
-    R: Alloc<A = Global> + Threads + Wait + Copy + Send + Drop + 'static,
-    P: Read + Send + Drop + 'static,
-    Q: Write + Send + Drop + 'static,
->(
-    rt: &R,
-    conversations: &[Arc<Conversation<N>>],
-    bell: &Arc<Bell>,
-    pipes: Vec<Pipes<P, Q>>,
-) -> Result<(), AllocError> {
-    let mut place = 1usize;
-    for Pipes { input, output } in pipes {
-        if let Some(one) = conversations.get(place) {
-            let _writer = start_writer(rt, &one.voice, bell, output)?;
-            start_reader(rt, one, bell, input)?;
+impl Opening {
+    /// These parts.
+    fn of(desk: Desk, limits: Limits, grid: Grid, starts: Vec<u32>, hooks: Hooks) -> Opening
+        requires { 0 ≤ vec_len hooks.ties }
+        ensures { result ≡ record { desk = desk; limits = limits; grid = grid; starts = starts; hooks = hooks } }
+    {
+        Opening {
+            desk,
+            limits,
+            grid,
+            starts,
+            hooks,
         }
-        place = place.saturating_add(1);
     }
-    Ok(())
-}
 
-/// Lets the clients talk and makes turns, until the fleet is to stop.
-fn serve<
-    N: OfficeName<Global> + Send + Sync + 'static,
-    R: Alloc<A = Global> + Clock + Threads + Wait + Copy + Send + Drop + 'static,
-    I: Read + Send + Drop + 'static,
-    W: Write + Send + Drop + 'static,
-    P: Read + Send + Drop + 'static,
-    Q: Write + Send + Drop + 'static,
-    E: Write + Send + Drop + 'static,
-    S: Shelf + Drop,
->(
-    rt: &R,
-    office: &Office<N>,
-    clients: Vec<Client>,
-    ticker: Ticker<N>,
-    settings: LiveSettings,
-    ends: LiveEnds<I, W, P, Q, E, S>,
-) -> Result<Left<N, S>, AllocError>
-    requires { AreOn N.rings (cores clients.items) }
-{
-    let alloc = rt.alloc();
-    let LiveEnds {
-        input,
-        output,
-        pipes,
-        counts,
-        shelf,
-    } = ends;
-    let paced = settings.period.is_some();
-    let conversations = conversations_of(alloc, clients, pipes.len(), paced)?;
-    let Some(first) = conversations.first() else {
-        return Err(AllocError);
-    };
-    let bell = match Arc::new(alloc, Bell::new(alloc)) {
-        Ok(bell) => bell,
-        Err(_) => return Err(AllocError),
-    };
-    let tally = new_voice(alloc)?;
-    first.watch(settings.watch);
-    let writer = start_writer(rt, &first.voice, &bell, output)?;
-    let _scribe = start_writer(rt, &tally, &bell, counts)?;
-    start_pipes(rt, &conversations, &bell, pipes)?;
-    start_reader(rt, first, &bell, input)?;
-    let mut work = Work {
-        ticker,
-        shelf,
-        tally: Tally::NONE,
-        limited: false,
-    };
-    let keeper = Keeper {
-        office,
-        conversations: conversations.as_slice(),
-        paced,
-    };
-    let stop = match settings.period {
-        Some(period) => keep_pace(rt, &keeper, (&bell, &tally), &mut work, period),
-        None => keep_on_demand(rt, &keeper, &bell, &mut work),
-    };
-    Ok(Left {
-        conversations,
-        work,
-        writer,
-        counts: tally,
-        stop,
-    })
+    /// What is known of the fleet besides who talks to it.
+    fn site(&self, settings: LiveSettings) -> Site {
+        Site {
+            settings,
+            cells: self.grid.cell_count(),
+            chapter: self.limits.chapter,
+        }
+    }
 }
 
 /// Waits until the first conversation's reader took all, and a second at most for the others.
@@ -170,7 +95,9 @@ fn wait_for_readers<N: OfficeName<Global>, R: Clock + Threads + Wait>(
 }
 
 /// How a fleet ended that stopped for this reason.
-fn ended(stop: Stop, limited: bool) -> Result<bool, TalkFault> {
+fn ended(stop: Stop, limited: bool) -> Result<bool, TalkFault>
+    ensures { result ≡ ended_by stop limited }
+{
     match stop {
         Stop::Quit => Ok(limited),
         Stop::Limit => Ok(true),
@@ -181,16 +108,50 @@ fn ended(stop: Stop, limited: bool) -> Result<bool, TalkFault> {
     }
 }
 
+/// Ends the fleet that its threads left. Returns whether a limit was met.
+fn end_fleet<N: OfficeName<Global>, R: Alloc<A = Global> + Clock + Threads + Wait, S: Shelf + Drop>(
+    rt: &R,
+    office: Office<N>,
+    left: Left<N, S>,
+) -> Result<bool, TalkFault>
+    ensures { IfErr result IsEnded }
+{
+    let Left {
+        stage,
+        tickers,
+        writer,
+        stop,
+    } = left;
+    let Stage {
+        conversations,
+        bell: _,
+        counts,
+        paced: _,
+        chapter: _,
+        searches: _,
+        round,
+        shelf,
+    } = stage;
+    let limited = round.into_inner().limited;
+    let finished = finish(rt, office, &conversations, tickers, shelf.into_inner());
+    counts.end(rt);
+    wait_for_readers(rt, &conversations, writer);
+    match (stop, finished) {
+        (Stop::Quit | Stop::Limit, Err(stop)) => ended(stop, limited),
+        (stop, _) => ended(stop, limited),
+    }
+}
+
 /// Keeps the fleet of an office that was opened, to its end.
 fn keep_fleet<
     N: OfficeName<Global> + Send + Sync + 'static,
-    R: Alloc<A = Global> + Clock + Threads + Wait + Copy + Send + Drop + 'static,
+    R: Alloc<A = Global> + Clock + Threads + Sync + Wait + Copy + Send + Drop + 'static,
     I: Read + Send + Drop + 'static,
     W: Write + Send + Drop + 'static,
     P: Read + Send + Drop + 'static,
     Q: Write + Send + Drop + 'static,
     E: Write + Send + Drop + 'static,
-    S: Shelf + Drop,
+    S: Shelf + Send + Drop,
 >(
     rt: &R,
     opening: Opening,
@@ -198,9 +159,13 @@ fn keep_fleet<
     ends: LiveEnds<I, W, P, Q, E, S>,
 ) -> Result<bool, TalkFault>
     requires { IsNamed opening.desk N.name N.parts N.rings }
+    ensures { (why : _) → IsNamedFault why → ((result ≡ Err (TalkFault.Opening why))
+        ↔ IsRefused opening.grid opening.starts.items (length opening.desk.clients) opening.desk.limits (laws_of opening.hooks) why) }
 {
+    let site = opening.site(settings);
     let Opening {
         desk,
+        limits: _,
         grid,
         starts,
         hooks,
@@ -209,24 +174,8 @@ fn keep_fleet<
         Ok(opened) => opened,
         Err(fault) => return Err(unopened(fault)),
     };
-    match serve(rt, &office, clients, ticker, settings, ends) {
-        Ok(left) => {
-            let Left {
-                conversations,
-                work,
-                writer,
-                counts,
-                stop,
-            } = left;
-            let limited = work.limited;
-            let finished = finish(rt, office, &conversations, work);
-            counts.end(rt);
-            wait_for_readers(rt, &conversations, writer);
-            match (stop, finished) {
-                (Stop::Quit | Stop::Limit, Err(stop)) => ended(stop, limited),
-                (stop, _) => ended(stop, limited),
-            }
-        }
+    match serve(rt, &office, clients, ticker, site, ends) {
+        Ok(left) => end_fleet(rt, office, left),
         Err(AllocError) => {
             mem::drop(office);
             Err(TalkFault::NoMemory)
@@ -238,13 +187,13 @@ fn keep_fleet<
 /// threads of its own, and makes turns at their deadlines, or where a line asks for them. It ends where the first conversation does.
 /// Each chapter goes to the shelf when it is handed out, and the last at the end. Returns whether a limit was met.
 pub fn keep_live<
-    R: Alloc<A = Global> + Clock + Threads + Wait + Copy + Send + Drop + 'static,
+    R: Alloc<A = Global> + Clock + Threads + Sync + Wait + Copy + Send + Drop + 'static,
     I: Read + Send + Drop + 'static,
     W: Write + Send + Drop + 'static,
     P: Read + Send + Drop + 'static,
     Q: Write + Send + Drop + 'static,
     E: Write + Send + Drop + 'static,
-    S: Shelf + Drop,
+    S: Shelf + Send + Drop,
 >(
     rt: &R,
     ground: Ground,
@@ -253,29 +202,18 @@ pub fn keep_live<
 ) -> Result<bool, TalkFault>
     // Of each call: only a call with a condition may hand on closures.
     requires { 0 ≤ vec_len ground.kit.plain.ties }
+    ensures refused { (why : _) → result ≡ Err (TalkFault.Opening why) → IsRefusedFleet (kit_laws ground.kit) ground.grid (drafted ground.head) why }
+    ensures opened { (why : _) → IsRefusedFleet (kit_laws ground.kit) ground.grid (drafted ground.head) why
+        → (result ≡ Err (TalkFault.Opening why)) ⊎ (result ≡ Err TalkFault.NoMemory) }
 {
     let alloc = rt.alloc();
     let Ground { grid, kit, head } = ground;
-    let Head {
-        starts,
-        clients,
-        south,
-        turns: _,
-        limits,
-    } = head;
-    let starts = match starts {
-        Some(starts) => starts,
-        None => Vec::new(alloc),
-    };
-    let hooks = kit.choose(south.unwrap_or(false)).cut(starts.len());
-    match Desk::new(alloc, clients.unwrap_or(1), limits.limits_over(TALK_LIMITS)) {
+    let starts = head.starts.unwrap_or(Vec::new(alloc));
+    let hooks = kit.choose(head.south.unwrap_or(false)).cut(starts.len());
+    let limits = head.limits.limits_over(TALK_LIMITS);
+    match Desk::new(alloc, head.clients.unwrap_or(1), limits) {
         Ok(desk) => {
-            let opening = Opening {
-                desk,
-                grid,
-                starts,
-                hooks,
-            };
+            let opening = Opening::of(desk, limits, grid, starts, hooks);
             keep_fleet::<Brand, R, I, W, P, Q, E, S>(rt, opening, settings, ends)
         }
         Err(fault) => {

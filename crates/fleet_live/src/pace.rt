@@ -2,15 +2,18 @@
 
 ghost use Rattle.std.specs.Prelude.{◌<◌, ◌^◌};
 
-use crate::bell::{Bell, Stop};
-use crate::keeper::{Keeper, Turned, Work};
+use crate::bell::{Call, Stop};
+use crate::keeper::{Keeper, Turned};
 use crate::period::next_due;
+use crate::stage::{Round, Work, keep_all, keep_pages};
 use crate::tally::Tally;
 use crate::voice::Voice;
 use fleet_office::OfficeName;
 use fleet_talk::Shelf;
 use std::alloc::{Alloc, Global};
+use std::mem;
 use std::sync::Wait;
+use std::thread::Threads;
 use std::time::{Clock, Duration, Instant};
 
 /// The microseconds that are told apart at most: 63,000 years.
@@ -48,29 +51,28 @@ fn micros_since<R: Clock>(rt: &R, start: Instant) -> Result<u64, Stop> {
     }
 }
 
-/// Makes turns as they are asked for, until the fleet is to stop. The result is why.
-pub(crate) fn keep_on_demand<N: OfficeName<Global>, R: Alloc<A = Global> + Wait, S: Shelf>(
-    rt: &R,
-    keeper: &Keeper<'_, N>,
-    bell: &Bell,
-    work: &mut Work<N, S>,
-) -> Stop {
-    for _ in rt.forever() {
-        let call = bell.wait(rt);
-        if let Err(stop) = keeper.heed(rt, work, call) {
-            return stop;
-        }
-    }
-    unreachable!()
-}
-
 /// The deadlines of the turns, in microseconds since the start, and when the next line of counts is due.
 #[derive(Clone, Copy)]
-struct Deadlines {
+pub(crate) struct Deadlines {
     start: Instant,
     period: u32,
     turn: u64,
     line: u64,
+}
+
+impl Deadlines {
+    /// The deadlines from now on, a period apart.
+    pub(crate) fn new<R: Clock>(rt: &R, period: u32) -> Option<Deadlines> {
+        match Instant::now(rt) {
+            Ok(start) => Some(Deadlines {
+                start,
+                period,
+                turn: u64::from(period),
+                line: MINUTE,
+            }),
+            Err(_) => None,
+        }
+    }
 }
 
 /// Says the counts of the time since the last line, where a minute went by.
@@ -78,7 +80,7 @@ fn say_counts<R: Alloc<A = Global> + Wait>(
     rt: &R,
     deadlines: &mut Deadlines,
     tally: &mut Tally,
-    notes: &Voice,
+    counts: &Voice,
     now: u64,
 ) -> Result<(), Stop> {
     if now < deadlines.line {
@@ -86,71 +88,130 @@ fn say_counts<R: Alloc<A = Global> + Wait>(
     }
     let seconds = 60 + (now - deadlines.line) / 1_000_000;
     let line = tally.line(rt.alloc(), seconds)?;
-    notes.say_if_room(rt, line.as_str())?;
+    counts.say_if_room(rt, line.as_str())?;
     *tally = Tally::NONE;
     deadlines.line = now.saturating_add(MINUTE);
     Ok(())
 }
 
-/// Does what is to be done at once, one call of each conversation at most: so none of them holds up the turns, and turns that
-/// are all late hold up none of them.
-fn heed_some<N: OfficeName<Global>, R: Alloc<A = Global> + Clock + Wait, S: Shelf>(
+/// Does what is to be done at once: grants one wish of each conversation at most, and judges once what was posted. So none of them holds up
+/// the turns, and turns that are all late hold up none of them.
+fn heed_some<N: OfficeName<Global>, R: Alloc<A = Global> + Wait, S: Shelf>(
     rt: &R,
-    keeper: &Keeper<'_, N>,
-    bell: &Bell,
-    work: &mut Work<N, S>,
+    keeper: &Keeper<'_, N, S>,
+    round: &mut Round,
+    work: &mut Work<N>,
 ) -> Result<(), Stop> {
-    for _ in 0..=keeper.conversations.len() {
-        keeper.heed(rt, work, bell.poll(rt))?;
+    for _ in 0..=keeper.stage.conversations.len() {
+        let call = keeper.stage.bell.poll(rt);
+        let is_last = match call {
+            Call::Nothing | Call::Settle | Call::Tell => true,
+            Call::Grant(_) | Call::Stop(_) => false,
+        };
+        keeper.heed(rt, round, work, call)?;
+        if is_last {
+            break;
+        }
     }
     Ok(())
 }
 
-/// Makes a turn where it is due, and waits for the next deadline or for something that is to be done.
-fn step<N: OfficeName<Global>, R: Alloc<A = Global> + Clock + Wait, S: Shelf>(
+/// Makes a turn that is due, says the counts, and does what is to be done at once. The result has the next deadlines.
+fn turn_now<N: OfficeName<Global>, R: Alloc<A = Global> + Clock + Wait, S: Shelf>(
     rt: &R,
-    keeper: &Keeper<'_, N>,
-    voices: (&Bell, &Voice),
-    work: &mut Work<N, S>,
-    deadlines: &mut Deadlines,
+    keeper: &Keeper<'_, N, S>,
+    round: &mut Round,
+    work: &mut Work<N>,
+    deadlines: Deadlines,
+    now: u64,
 ) -> Result<(), Stop> {
-    let (bell, notes) = voices;
-    let now = micros_since(rt, deadlines.start)?;
-    if now < deadlines.turn {
-        let call = bell.wait_for(rt, Duration::from_micros(deadlines.turn - now));
-        return keeper.heed(rt, work, call);
-    }
+    let mut deadlines = deadlines;
     let period = length_of(deadlines.period);
-    work.tally.note_lateness(now - deadlines.turn, period);
-    if keeper.turn(rt, work, true)? != Turned::Made {
+    round
+        .tally
+        .note_lateness(now.saturating_sub(deadlines.turn), period);
+    if keeper.turn(rt, round, work, true)? != Turned::Made {
         return Err(Stop::Limit);
     }
     let now = micros_since(rt, deadlines.start)?;
     deadlines.turn = next_due(told_apart(deadlines.turn), period, told_apart(now));
-    say_counts(rt, deadlines, &mut work.tally, notes, now)?;
-    heed_some(rt, keeper, bell, work)
+    say_counts(
+        rt,
+        &mut deadlines,
+        &mut round.tally,
+        &keeper.stage.counts,
+        now,
+    )?;
+    round.deadlines = Some(deadlines);
+    heed_some(rt, keeper, round, work)
 }
 
-/// Makes turns at their deadlines, until the fleet is to stop. The result is why.
-pub(crate) fn keep_pace<N: OfficeName<Global>, R: Alloc<A = Global> + Clock + Wait, S: Shelf>(
+/// Makes a turn where it is due. Else searches ahead where that is to be done, or waits for the deadline or for something that is to
+/// be done. Without deadlines it waits for that alone.
+fn step<N: OfficeName<Global>, R: Alloc<A = Global> + Clock + Threads + Sync + Wait, S: Shelf>(
     rt: &R,
-    keeper: &Keeper<'_, N>,
-    voices: (&Bell, &Voice),
-    work: &mut Work<N, S>,
-    period: u32,
-) -> Stop {
-    let Ok(start) = Instant::now(rt) else {
-        return Stop::Input;
+    keeper: &Keeper<'_, N, S>,
+    round: &mut Round,
+    work: &mut Work<N>,
+) -> Result<(), Stop> {
+    let Some(deadlines) = round.deadlines else {
+        let call = keeper.stage.bell.wait(rt);
+        return keeper.heed(rt, round, work, call);
     };
-    let mut deadlines = Deadlines {
-        start,
-        period,
-        turn: u64::from(period),
-        line: MINUTE,
-    };
+    let now = micros_since(rt, deadlines.start)?;
+    if now >= deadlines.turn {
+        return turn_now(rt, keeper, round, work, deadlines, now);
+    }
+    if round.search && keeper.stage.searches {
+        round.search = false;
+        // Out of memory, a later turn searches what it needs.
+        let _searched = keeper.office.search_ahead(rt);
+        return Ok(());
+    }
+    let time = Duration::from_micros(deadlines.turn - now);
+    let call = keeper.stage.bell.wait_for(rt, time);
+    keeper.heed(rt, round, work, call)
+}
+
+/// Keeps the fleet until a chapter is handed out, lets the other ticker keep it, and keeps that chapter.
+fn keep_for_a_chapter<
+    N: OfficeName<Global>,
+    R: Alloc<A = Global> + Clock + Threads + Sync + Wait,
+    S: Shelf,
+>(rt: &R, keeper: &Keeper<'_, N, S>, work: &mut Work<N>) -> Result<(), Stop> {
+    let mut held = keeper.stage.round.lock(rt);
+    let round = &mut *held;
+    if let Some(stop) = keeper.stage.bell.stop(rt) {
+        return Err(stop);
+    }
     for _ in rt.forever() {
-        if let Err(stop) = step(rt, keeper, voices, work, &mut deadlines) {
-            return stop;
+        step(rt, keeper, round, work)?;
+        if !work.pages.is_empty() {
+            break;
+        }
+    }
+    let mut shelf = keeper.stage.shelf.lock(rt);
+    mem::drop(held);
+    keep_all(&mut *shelf, &mut work.pages)
+}
+
+/// Keeps the fleet, in turn with the other ticker if there is one, until the fleet is to stop. The result is why, or why a chapter that
+/// was handed out could not be kept.
+pub(crate) fn keep_on<
+    N: OfficeName<Global>,
+    R: Alloc<A = Global> + Clock + Threads + Sync + Wait,
+    S: Shelf,
+>(rt: &R, keeper: &Keeper<'_, N, S>, work: &mut Work<N>) -> Stop {
+    for _ in rt.forever() {
+        if let Err(stop) = keep_for_a_chapter(rt, keeper, work) {
+            keeper.stage.bell.ask_to_stop(rt, stop);
+            if stop == Stop::Shelf {
+                return stop;
+            }
+            return match keep_pages(rt, &keeper.stage.shelf, &mut work.pages) {
+                Ok(()) => stop,
+                Err(unkept) => unkept,
+            };
         }
     }
     unreachable!()

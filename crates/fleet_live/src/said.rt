@@ -8,7 +8,7 @@ use fleet_book::{Event, Notice};
 use fleet_core::ShutFault;
 use fleet_history::Entry;
 use fleet_lanes::PostFault;
-use fleet_office::Look;
+use fleet_office::{Look, TickRecord};
 use fleet_talk::{write_cells, write_eldest, write_within};
 use fleet_world::Reply;
 use std::alloc::{AllocError, Global};
@@ -73,13 +73,13 @@ pub(crate) fn notice_text(alloc: Global, client: u32, notice: Notice) -> Result<
 }
 
 /// The line of a tick: where the robots stand after it.
-pub(crate) fn tick_text(alloc: Global, look: &Look) -> Result<String, AllocError>
-    ensures { IfOk result (λ text. string_bytes text ≡ tick_line look.now.tick look.now.placement.items) }
+pub(crate) fn tick_text(alloc: Global, made: &TickRecord) -> Result<String, AllocError>
+    ensures { IfOk result (λ text. string_bytes text ≡ tick_line made.now.tick made.now.placement) }
 {
     let mut text = String::new(alloc);
-    let tick = look.tick;
+    let tick = made.tick();
     write!(text, "tick {tick}:")?;
-    write_cells(&mut text, &look.placement)?;
+    write_cells(&mut text, made.placement())?;
     text.push_str("\n")?;
     Ok(text)
 }

@@ -1,16 +1,19 @@
 //! What the keeper counts, for a line each minute.
 
+ghost use Rattle.std.specs.Prelude.{◌≡◌, ◌+◌, ◌<◌, ◌≤◌, ◌^◌, max, IfOk, string_bytes};
+ghost use Rattle.fleet_live.specs.Counts.{counts_line};
+
 use std::alloc::{AllocError, Global};
 
 /// What happened since the last line.
 #[derive(Clone, Copy, Debug, PartialEq, Eq)]
 pub(crate) struct Tally {
-    ticks: u64,
-    orders: u64,
+    pub(crate) ticks: u64,
+    pub(crate) orders: u64,
     /// How many turns began after the deadline that follows theirs.
-    late: u64,
+    pub(crate) late: u64,
     /// How many microseconds after its deadline a turn began at most.
-    latest: u64,
+    pub(crate) latest: u64,
 }
 
 impl Tally {
@@ -21,19 +24,27 @@ impl Tally {
         latest: 0,
     };
 
-    /// Counts a turn that took this many orders.
-    pub(crate) fn count(&mut self, orders: u32) {
+    /// Counts a tick.
+    pub(crate) fn count_tick(&mut self)
+        ensures { self.old.ticks + 1 < 2 ^ 64 → self.new ≡ record self.old { ticks = self.old.ticks + 1 } }
+    {
         self.ticks = self.ticks.saturating_add(1);
-        self.count_orders(orders);
     }
 
     /// Counts orders.
-    pub(crate) fn count_orders(&mut self, orders: u32) {
+    pub(crate) fn count_orders(&mut self, orders: u32)
+        ensures { self.old.orders + orders < 2 ^ 64 → self.new ≡ record self.old { orders = self.old.orders + orders } }
+    {
         self.orders = self.orders.saturating_add(u64::from(orders));
     }
 
     /// Notes how many microseconds after its deadline a turn begins.
-    pub(crate) fn note_lateness(&mut self, micros: u64, period: u64) {
+    pub(crate) fn note_lateness(&mut self, micros: u64, period: u64)
+        ensures late { period ≤ micros → self.old.late + 1 < 2 ^ 64 → self.new.late ≡ self.old.late + 1 }
+        ensures early { micros < period → self.new.late ≡ self.old.late }
+        ensures latest { self.new.latest ≡ max self.old.latest micros }
+        ensures others { self.new ≡ record self.old { late = self.new.late; latest = self.new.latest } }
+    {
         if micros >= period {
             self.late = self.late.saturating_add(1);
         }
@@ -41,7 +52,9 @@ impl Tally {
     }
 
     /// The line of the counts, over this many seconds.
-    pub(crate) fn line(&self, alloc: Global, seconds: u64) -> Result<String, AllocError> {
+    pub(crate) fn line(&self, alloc: Global, seconds: u64) -> Result<String, AllocError>
+        ensures { IfOk result (λ text. string_bytes text ≡ counts_line seconds self.now) }
+    {
         let (ticks, orders) = (self.ticks, self.orders);
         let (late, latest) = (self.late, self.latest);
         format!(in alloc;

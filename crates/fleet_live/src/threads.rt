@@ -33,10 +33,16 @@ pub(crate) fn start_reader<
     N: OfficeName<Global> + Send + Sync + 'static,
     R: Alloc<A = Global> + Threads + Wait + Copy + Send + Drop + 'static,
     I: Read + Send + Drop + 'static,
->(rt: &R, here: &Arc<Conversation<N>>, bell: &Arc<Bell>, input: I) -> Result<(), AllocError> {
+>(
+    rt: &R,
+    here: &Arc<Conversation<N>>,
+    bell: &Arc<Bell>,
+    paced: bool,
+    input: I,
+) -> Result<(), AllocError> {
     let alloc = rt.alloc();
     let (here, bell, own) = (Arc::try_clone(here)?, Arc::try_clone(bell)?, *rt);
-    match thread::spawn(rt, move || hear(&own, alloc, &here, &bell, input)) {
+    match thread::spawn(rt, move || hear(&own, alloc, &here, &bell, paced, input)) {
         Ok(_reader) => Ok(()),
         Err(_) => Err(AllocError),
     }

@@ -1,8 +1,9 @@
 //! What clients post and are told.
 
-ghost use Rattle.std.specs.Prelude.{◌≡◌, ◌==◌, OnOk, IfNone};
+ghost use Rattle.std.specs.Prelude.{◌≡◌, ◌≤◌, ◌+◌, ◌==◌, [], Ok, None, true, false, length, OnOk, IfNone, IfSome};
 ghost use Rattle.std.specs.List.{position};
 ghost use Rattle.fleet_live.specs.Page.{IsTold};
+ghost use Rattle.fleet_live.specs.Posted.{PostsOne};
 
 use crate::page::Page;
 use crate::said::notice_text;
@@ -21,26 +22,28 @@ fn place_of<N: OfficeName<Global>>(guests: &[Guest<N>], client: u32) -> Option<u
     guests.iter().position(|guest| guest.number() == client)
 }
 
-/// Posts an order of this client. `None` where it is none of these.
+/// Posts an order of this client. `None` where it is none of these; no other client posts.
 pub(crate) fn post_in<N: OfficeName<Global>>(
     guests: &mut [Guest<N>],
     client: u32,
     order: Order,
 ) -> Option<Result<u64, PostFault>>
-    ensures stranger { IfNone result (guests.new ≡ guests.old) }
+    ensures stranger { IfNone result ((guests.new ≡ guests.old) × (position (λ g. g.number == client) guests.old ≡ None)) }
+    ensures own { IfSome result (PostsOne client order guests.old guests.new) }
 {
     let at = place_of(guests, client)?;
     Some(guests[at].post(order))
 }
 
 /// Tells the next notice that a client finds, and returns whether there was one.
-
 fn tell_next<N: OfficeName<Global>>(
     alloc: Global,
     guest: &mut Guest<N>,
     page: &mut Page,
 ) -> Result<bool, AllocError>
-    ensures { OnOk result (IsTold guest.old guest.new page.old page.new) }
+    ensures told { OnOk result (IsTold guest.old guest.new page.old page.new) }
+    ensures one { (result ≡ Ok true) → length page.old.text.items + 1 ≤ length page.new.text.items }
+    ensures all { (result ≡ Ok false) → guest.new.known ≡ [] }
 {
     match guest.collect() {
         Some(notice) => {
@@ -58,7 +61,9 @@ pub(crate) fn tell<N: OfficeName<Global>>(
     guest: &mut Guest<N>,
     page: &mut Page,
 ) -> Result<bool, AllocError>
-    ensures { OnOk result (IsTold guest.old guest.new page.old page.new) }
+    ensures told { OnOk result (IsTold guest.old guest.new page.old page.new) }
+    ensures all { (result ≡ Ok true) → guest.new.known ≡ [] }
+    ensures full { (result ≡ Ok false) → 65536 ≤ length page.new.text.items }
 {
     for _ in 0..HANDFUL {
         if page.is_full() {

@@ -67,8 +67,11 @@ impl Voice {
         for guest in guests {
             all &= tell(alloc, guest, page)?;
         }
+        let is_empty = page.text.is_empty();
         mem::drop(held);
-        self.filled.notify_all();
+        if !is_empty {
+            self.filled.notify_all();
+        }
         Ok(all)
     }
 
@@ -130,7 +133,7 @@ impl Voice {
             if text.is_empty() || !write_whole(output, &text) {
                 break;
             }
-            // What was kept back for want of room can be told now.
+            // What was kept back, since there was no room, can be told now.
             if text.len() >= crate::page::MOST_TEXT {
                 bell.ask_to_tell(rt);
             }

@@ -81,6 +81,7 @@ pub record IsLive (rows : List Row) (live : LiveJob) : Type 0 where
   pub robots : first_of (codes "robots") rows ≡ option_map (λ s. string_bytes s) live.robots
   pub clients : first_of (codes "clients") rows ≡ option_map (λ s. string_bytes s) live.clients
   pub period : first_of (codes "period") rows ≡ option_map (λ s. string_bytes s) live.period
+  pub tickers : first_of (codes "tickers") rows ≡ option_map (λ s. string_bytes s) live.tickers
   pub traces : first_of (codes "traces") rows ≡ option_map (λ s. string_bytes s) live.traces
   pub pipes : or_none (all_of (codes "client") rows) ≡ map (λ s. string_bytes s) live.pipes.items
   pub watch : live.watch ≡ has_flag (codes "watch") rows

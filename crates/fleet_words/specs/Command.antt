@@ -56,10 +56,16 @@ option_rule name = record (new_rule name) { long = Some name; value_names = 1 }
 abbrev pub pipes_rule : Rule
 pipes_rule = record (new_rule (codes "client")) { long = Some (codes "client"); value_names = 1; action = Some Append }
 
-abbrev pub with_live_options : App → App
-with_live_options app = with_rule (with_rule (with_rule (with_rule app (option_rule (codes "robots"))) (option_rule (codes "clients"))) (option_rule (codes "period"))) pipes_rule
+abbrev pub with_start_options : App → App
+with_start_options app = with_rule (with_rule app (option_rule (codes "robots"))) (option_rule (codes "clients"))
 
--- live [--robots CELLS] [--clients N] [--period TIME] [--client IN,OUT].. [--watch] [--traces DIR] MAP [SCRIPT]
+abbrev pub with_pace_options : App → App
+with_pace_options app = with_rule (with_rule app (option_rule (codes "period"))) (option_rule (codes "tickers"))
+
+abbrev pub with_live_options : App → App
+with_live_options app = with_rule (with_pace_options (with_start_options app)) pipes_rule
+
+-- live [--robots CELLS] [--clients N] [--period TIME] [--tickers N] [--client IN,OUT].. [--watch] [--traces DIR] MAP [SCRIPT]
 abbrev pub live_app : App
 live_app = with_rule (with_rule (with_rule (with_rule (with_live_options (new_app (codes "live"))) (flag_rule (codes "watch"))) traces_rule) (file_rule (codes "MAP"))) (new_rule (codes "SCRIPT"))
 

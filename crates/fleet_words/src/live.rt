@@ -3,7 +3,7 @@
 ghost use Rattle.std.specs.Prelude.{◌≡◌, false, codes, IfOk};
 ghost use Rattle.clap.specs.declared.builder.command.Command.TheViews.{out-Command as fields_of};
 ghost use Rattle.clap.specs.Words.{app_of, rule_of, found_of, rows_of};
-ghost use Rattle.fleet_words.specs.Command.{option_rule, pipes_rule, with_live_options, live_app};
+ghost use Rattle.fleet_words.specs.Command.{option_rule, pipes_rule, with_start_options, with_pace_options, with_live_options, live_app};
 ghost use Rattle.fleet_words.specs.Asked.{IsLive};
 
 use crate::arguments::{
@@ -25,6 +25,8 @@ pub struct Live {
     pub clients: Option<String>,
     /// The time between two turns.
     pub period: Option<String>,
+    /// The number of tickers.
+    pub tickers: Option<String>,
     /// The folder for the traces of chapters.
     pub traces: Option<String>,
     /// The pipes of clients 0, 1, ..: the pipe from which their lines come, a comma, and the pipe for what is printed
@@ -57,9 +59,9 @@ fn pipes_option<'a>(alloc: Global) -> Arg<'a>
         .help("The named pipes of the next client, from 0: its lines, and what it is told")
 }
 
-/// The options for the fleet's opening, and for when it makes turns.
-fn with_options<'a>(alloc: Global, command: Command<'a>) -> Result<Command<'a>, AllocError>
-    ensures app { IfOk result (λ c. app_of c ≡ with_live_options (app_of command.entry)) }
+/// The options that say what the fleet begins with.
+fn with_start<'a>(alloc: Global, command: Command<'a>) -> Result<Command<'a>, AllocError>
+    ensures app { IfOk result (λ c. app_of c ≡ with_start_options (app_of command.entry)) }
     ensures own { IfOk result (λ c. (fields_of c).has_globals ≡ (fields_of command.entry).has_globals) }
 {
     let robots = option(
@@ -75,7 +77,14 @@ fn with_options<'a>(alloc: Global, command: Command<'a>) -> Result<Command<'a>, 
         "N",
         "The number of clients, 1 if not given",
     );
-    let command = with_argument(command, clients)?;
+    with_argument(command, clients)
+}
+
+/// The options that say when the fleet makes turns.
+fn with_pace<'a>(alloc: Global, command: Command<'a>) -> Result<Command<'a>, AllocError>
+    ensures app { IfOk result (λ c. app_of c ≡ with_pace_options (app_of command.entry)) }
+    ensures own { IfOk result (λ c. (fields_of c).has_globals ≡ (fields_of command.entry).has_globals) }
+{
     let period = option(
         alloc,
         "period",
@@ -83,6 +92,22 @@ fn with_options<'a>(alloc: Global, command: Command<'a>) -> Result<Command<'a>, 
         "The time between two turns, as 20ms; without it a turn is made by `tick`",
     );
     let command = with_argument(command, period)?;
+    let tickers = option(
+        alloc,
+        "tickers",
+        "N",
+        "1 or 2 tickers, 1 if not given: with 2, turns go on while a full chapter is written",
+    );
+    with_argument(command, tickers)
+}
+
+/// The options of a fleet in real time.
+fn with_options<'a>(alloc: Global, command: Command<'a>) -> Result<Command<'a>, AllocError>
+    ensures app { IfOk result (λ c. app_of c ≡ with_live_options (app_of command.entry)) }
+    ensures own { IfOk result (λ c. (fields_of c).has_globals ≡ (fields_of command.entry).has_globals) }
+{
+    let command = with_start(alloc, command)?;
+    let command = with_pace(alloc, command)?;
     with_argument(command, pipes_option(alloc))
 }
 
@@ -114,6 +139,7 @@ pub(crate) fn live_in(alloc: Global, matches: &ArgMatches<'_>) -> Result<Live, A
     let robots = some_word_for(alloc, matches, "robots")?;
     let clients = some_word_for(alloc, matches, "clients")?;
     let period = some_word_for(alloc, matches, "period")?;
+    let tickers = some_word_for(alloc, matches, "tickers")?;
     let traces = some_word_for(alloc, matches, "traces")?;
     let pipes = some_words_for(alloc, matches, "client")?;
     Ok(Live {
@@ -122,6 +148,7 @@ pub(crate) fn live_in(alloc: Global, matches: &ArgMatches<'_>) -> Result<Live, A
         robots,
         clients,
         period,
+        tickers,
         traces,
         pipes,
         watch: has_flag(matches, "watch"),

@@ -1,5 +1,5 @@
 //! `golden_live` keeps a fleet on a ring of eight cells on demand, as `fleet live` does: the lines of its conversation are stored in
-//! `stdin`, and what it says in `stdout`. Verdicts and cells are those of the independent model of `errands`.
+//! `stdin`, and what it says in `stdout`, which `tools/live/model.py` prints.
 #![tactic(auto)]
 
 use fleet_lib::{Chapter, Live, LiveEnds, Shelf, ShelfFault, TalkTexts, run_live};
@@ -9,7 +9,7 @@ use std::process::ExitCode;
 
 const MAP: &[u8] = b"type octile\nheight 3\nwidth 3\nmap\n...\n.@.\n...\n";
 
-const HEAD: &[u8] = b"lane 2\nchapter 6\n";
+const HEAD: &[u8] = b"lane 2\nmailbox 3\nchapter 6\n";
 
 /// A shelf that keeps no chapter.
 #[derive(Drop)]
@@ -29,6 +29,7 @@ fn words(alloc: Global) -> Result<Live, AllocError> {
         robots: Some(String::from_str(alloc, "0,8")?),
         clients: Some(String::from_str(alloc, "2")?),
         period: None,
+        tickers: None,
         traces: None,
         pipes: Vec::new(alloc),
         watch: false,

@@ -55,6 +55,30 @@ impl Outcome {
     }
 }
 
+/// The ends of a conversation by these streams, whose lines are these.
+fn ends_of(
+    alloc: Global,
+    streams: Streams,
+    lines: &[u8],
+) -> Result<Ends<Source<'_>, Sink, Tray>, AllocError> {
+    let source = Source {
+        bytes: lines,
+        step: streams.step,
+        good_reads: streams.good_reads,
+    };
+    let Ok(input) = BufReader::new(alloc, source) else {
+        return Err(AllocError);
+    };
+    Ok(Ends {
+        input,
+        output: Sink::new(alloc, streams.output),
+        shelf: Tray {
+            taken: 0,
+            room: streams.chapters,
+        },
+    })
+}
+
 /// What a case comes to by these streams, whose lines are these.
 pub(crate) fn outcome_of<R: Alloc<A = Global>>(
     rt: &R,
@@ -67,22 +91,7 @@ pub(crate) fn outcome_of<R: Alloc<A = Global>>(
     if script.len() > 16_777_216 {
         return Err(AllocError);
     }
-    let source = Source {
-        bytes: lines,
-        step: streams.step,
-        good_reads: streams.good_reads,
-    };
-    let Ok(input) = BufReader::new(alloc, source) else {
-        return Err(AllocError);
-    };
-    let mut ends = Ends {
-        input,
-        output: Sink::new(alloc, streams.output),
-        shelf: Tray {
-            taken: 0,
-            room: streams.chapters,
-        },
-    };
+    let mut ends = ends_of(alloc, streams, lines)?;
     let texts = TalkTexts {
         map: case.map,
         script: &script,

@@ -1,0 +1,124 @@
+//! What the keeper answers to what conversations wish.
+
+use crate::bell::{Stop, Wish};
+use crate::demand::Wanted;
+use crate::keeper::{Keeper, Turned};
+use crate::said::{look_text, shut_text, tick_text};
+use crate::stage::{Round, Work, keep_pages};
+use fleet_core::{ChapterFault, ShutFault};
+use fleet_office::OfficeName;
+use fleet_talk::Shelf;
+use std::alloc::{Alloc, Global};
+use std::sync::Wait;
+
+impl<N: OfficeName<Global>, S: Shelf> Keeper<'_, N, S> {
+    /// Makes this many turns, at least one. The result is the answer's line.
+    fn tick_line<R: Alloc<A = Global> + Wait>(
+        &self,
+        rt: &R,
+        round: &mut Round,
+        work: &mut Work<N>,
+        times: u32,
+    ) -> Result<String, Stop> {
+        let alloc = rt.alloc();
+        for time in 0..times {
+            match self.turn(rt, round, work, time + 1 < times)? {
+                Turned::Made => {}
+                Turned::ClockSpent => {
+                    return Ok(String::from_str(alloc, "tick-refused 1 clock-spent\n")?);
+                }
+                Turned::ChapterFull => {
+                    return Ok(String::from_str(alloc, "tick-refused 2 chapter-full\n")?);
+                }
+            }
+        }
+        Ok(tick_text(alloc, &work.made)?)
+    }
+
+    /// Hands out the chapter and keeps it. The result is the answer's line.
+    fn chapter_line<R: Alloc<A = Global> + Wait>(
+        &self,
+        rt: &R,
+        work: &mut Work<N>,
+    ) -> Result<String, Stop> {
+        let alloc = rt.alloc();
+        let page = match self.office.next_chapter(rt) {
+            Ok(page) => page,
+            Err(ChapterFault::BookSpent) => {
+                return Ok(String::from_str(alloc, "chapter-refused 1 book-spent\n")?);
+            }
+            Err(ChapterFault::NoMemory) => return Err(Stop::NoMemory),
+        };
+        let (number, entries) = (page.number, page.entries.len());
+        if work.pages.push(page).is_err() {
+            return Err(Stop::NoMemory);
+        }
+        keep_pages(rt, &self.stage.shelf, &mut work.pages)?;
+        Ok(format!(in alloc; "chapter {number} entries {entries}\n")?)
+    }
+
+    /// Shuts a robot, in the next chapter where this one is full. The result is the answer's line.
+    fn shut_line<R: Alloc<A = Global> + Wait>(
+        &self,
+        rt: &R,
+        round: &mut Round,
+        work: &mut Work<N>,
+        robot: u32,
+    ) -> Result<String, Stop> {
+        let mut done = self.office.shut(rt, robot);
+        if done == Err(ShutFault::ChapterFull) && self.turn_page(rt, work)? {
+            done = self.office.shut(rt, robot);
+        }
+        round.limited |= done == Err(ShutFault::ChapterFull);
+        Ok(shut_text(rt.alloc(), robot, done)?)
+    }
+
+    /// What a wish is answered.
+    fn answer<R: Alloc<A = Global> + Wait>(
+        &self,
+        rt: &R,
+        round: &mut Round,
+        work: &mut Work<N>,
+        wanted: Wanted,
+    ) -> Result<String, Stop> {
+        let alloc = rt.alloc();
+        match wanted {
+            Wanted::Shut(robot) => self.shut_line(rt, round, work, robot),
+            Wanted::Look => {
+                let look = self.office.look(rt, &work.ticker)?;
+                Ok(look_text(alloc, &look)?)
+            }
+            Wanted::Chapter => self.chapter_line(rt, work),
+            Wanted::Tick(times) => self.tick_line(rt, round, work, times),
+            Wanted::Settle => {
+                self.settle(rt, round, work)?;
+                Ok(String::new(alloc))
+            }
+        }
+    }
+
+    /// Grants a wish.
+    pub(crate) fn grant<R: Alloc<A = Global> + Wait>(
+        &self,
+        rt: &R,
+        round: &mut Round,
+        work: &mut Work<N>,
+        wish: Wish,
+    ) -> Result<(), Stop> {
+        let Wish {
+            place,
+            mark,
+            wanted,
+        } = wish;
+        let text = self.answer(rt, round, work, wanted)?;
+        let Some(one) = self.stage.conversations.get(place) else {
+            return Ok(());
+        };
+        match &mark {
+            Some(mark) => one.voice.say(rt, Some(mark.as_slice()), text.as_str())?,
+            None => one.voice.say(rt, None, text.as_str())?,
+        }
+        one.note_grant(rt);
+        Ok(())
+    }
+}

@@ -1,0 +1,175 @@
+//! How a fleet in real time is served: its conversations' threads, and its tickers.
+
+ghost use Rattle.fleet_office.specs.Views.{AreOn, cores};
+
+use crate::bell::{Bell, Stop};
+use crate::conversation::Conversation;
+use crate::conversations::{conversations_of, new_voice};
+use crate::ends::{LiveEnds, LiveSettings, Pipes};
+use crate::pace::Deadlines;
+use crate::stage::{Round, Stage};
+use crate::threads::{start_reader, start_writer};
+use crate::tickers::work_all;
+use fleet_lanes::Client;
+use fleet_office::{Office, OfficeName, Ticker};
+use fleet_talk::Shelf;
+use std::alloc::{Alloc, AllocError, Global};
+use std::io::{Read, Write};
+use std::sync::{Arc, Mutex, Wait};
+use std::thread::{JoinHandle, Threads};
+use std::time::Clock;
+
+/// From this many cells on fields are searched between turns: a turn does few others sooner than it would find them.
+const LARGE: u32 = 65_536;
+
+/// What clients' threads and tickers leave.
+#[derive(Drop)]
+pub(crate) struct Left<N: OfficeName<Global>, S> {
+    pub(crate) stage: Stage<N, S>,
+    pub(crate) tickers: Vec<Ticker<N>>,
+    /// The first conversation's writer.
+    pub(crate) writer: JoinHandle<()>,
+    pub(crate) stop: Stop,
+}
+
+/// What a fleet is, besides who talks to it.
+#[derive(Clone, Copy)]
+pub(crate) struct Site {
+    pub(crate) settings: LiveSettings,
+    pub(crate) cells: u32,
+    /// How many entries a full chapter has.
+    pub(crate) chapter: u32,
+}
+
+/// A shared bell.
+fn new_bell(alloc: Global) -> Result<Arc<Bell>, AllocError> {
+    match Arc::new(alloc, Bell::new(alloc)) {
+        Ok(bell) => Ok(bell),
+        Err(_) => Err(AllocError),
+    }
+}
+
+/// What the tickers share, before the first thread.
+fn stage_of<N: OfficeName<Global>, R: Alloc<A = Global> + Clock, S: Drop>(
+    rt: &R,
+    clients: Vec<Client>,
+    pipes: usize,
+    site: Site,
+    shelf: S,
+) -> Result<Stage<N, S>, AllocError>
+    requires { AreOn N.rings (cores clients.items) }
+{
+    let alloc = rt.alloc();
+    let paced = site.settings.period.is_some();
+    let deadlines = match site.settings.period {
+        Some(period) => Deadlines::new(rt, period),
+        None => None,
+    };
+    let conversations = conversations_of(alloc, clients, pipes, paced)?;
+    let bell = new_bell(alloc)?;
+    let counts = new_voice(alloc)?;
+    Ok(Stage {
+        conversations,
+        bell,
+        counts,
+        paced,
+        chapter: site.chapter,
+        searches: paced && site.cells >= LARGE,
+        round: Mutex::new(Round::new(deadlines)),
+        shelf: Mutex::new(shelf),
+    })
+}
+
+/// Starts the threads of the clients that have pipes.
+fn start_pipes<
+    N: OfficeName<Global> + Send + Sync + 'static,
+    R: Alloc<A = Global> + Threads + Wait + Copy + Send + Drop + 'static,
+    P: Read + Send + Drop + 'static,
+    Q: Write + Send + Drop + 'static,
+>(
+    rt: &R,
+    conversations: &[Arc<Conversation<N>>],
+    bell: &Arc<Bell>,
+    paced: bool,
+    pipes: Vec<Pipes<P, Q>>,
+) -> Result<(), AllocError> {
+    let mut place = 1usize;
+    for Pipes { input, output } in pipes {
+        if let Some(one) = conversations.get(place) {
+            let _writer = start_writer(rt, &one.voice, bell, output)?;
+            start_reader(rt, one, bell, paced, input)?;
+        }
+        place = place.saturating_add(1);
+    }
+    Ok(())
+}
+
+/// Starts the threads of all conversations, and that which writes the counts. Returns that which writes the first conversation's output.
+fn start_all<
+    N: OfficeName<Global> + Send + Sync + 'static,
+    R: Alloc<A = Global> + Threads + Wait + Copy + Send + Drop + 'static,
+    I: Read + Send + Drop + 'static,
+    W: Write + Send + Drop + 'static,
+    P: Read + Send + Drop + 'static,
+    Q: Write + Send + Drop + 'static,
+    E: Write + Send + Drop + 'static,
+    S,
+>(
+    rt: &R,
+    stage: &Stage<N, S>,
+    watch: bool,
+    (input, output): (I, W),
+    pipes: Vec<Pipes<P, Q>>,
+    counts: E,
+) -> Result<JoinHandle<()>, AllocError> {
+    let (bell, paced) = (&stage.bell, stage.paced);
+    let Some(first) = stage.conversations.first() else {
+        return Err(AllocError);
+    };
+    first.watch(watch);
+    let writer = start_writer(rt, &first.voice, bell, output)?;
+    let _scribe = start_writer(rt, &stage.counts, bell, counts)?;
+    start_pipes(rt, &stage.conversations, bell, paced, pipes)?;
+    start_reader(rt, first, bell, paced, input)?;
+    Ok(writer)
+}
+
+/// Lets the clients talk and makes turns, until the fleet is to stop.
+pub(crate) fn serve<
+    N: OfficeName<Global> + Send + Sync + 'static,
+    R: Alloc<A = Global> + Clock + Threads + Sync + Wait + Copy + Send + Drop + 'static,
+    I: Read + Send + Drop + 'static,
+    W: Write + Send + Drop + 'static,
+    P: Read + Send + Drop + 'static,
+    Q: Write + Send + Drop + 'static,
+    E: Write + Send + Drop + 'static,
+    S: Shelf + Send + Drop,
+>(
+    rt: &R,
+    office: &Office<N>,
+    clients: Vec<Client>,
+    ticker: Ticker<N>,
+    site: Site,
+    ends: LiveEnds<I, W, P, Q, E, S>,
+) -> Result<Left<N, S>, AllocError>
+    requires { AreOn N.rings (cores clients.items) }
+{
+    let LiveEnds {
+        input,
+        output,
+        pipes,
+        counts,
+        shelf,
+    } = ends;
+    let LiveSettings { watch, tickers, .. } = site.settings;
+    let stage = stage_of(rt, clients, pipes.len(), site, shelf)?;
+    let writer = start_all(rt, &stage, watch, (input, output), pipes, counts)?;
+    let two = stage.paced && tickers > 1;
+    let (tickers, stop) = work_all(rt, office, &stage, ticker, two)?;
+    Ok(Left {
+        stage,
+        tickers,
+        writer,
+        stop,
+    })
+}

@@ -1,0 +1,109 @@
+//! The tickers of a fleet in real time, each in a thread of its own.
+
+use crate::bell::Stop;
+use crate::keeper::Keeper;
+use crate::pace::keep_on;
+use crate::stage::{Stage, Work};
+use fleet_office::{Office, OfficeName, Ticker, side_by_side};
+use fleet_talk::Shelf;
+use std::alloc::{Alloc, AllocError, Global};
+use std::sync::Wait;
+use std::thread::Threads;
+use std::time::Clock;
+
+/// A ticker whose work is done, and why it stopped.
+#[derive(Drop)]
+struct Done<N: OfficeName<Global>> {
+    ticker: Ticker<N>,
+    stop: Stop,
+}
+
+/// One ticker's work: it keeps the fleet until that is to stop.
+fn work_on<N: OfficeName<Global>, R: Alloc<A = Global> + Clock + Threads + Sync + Wait, S: Shelf>(
+    rt: &R,
+    office: &Office<N>,
+    stage: &Stage<N, S>,
+    work: Work<N>,
+) -> Done<N> {
+    let mut work = work;
+    let stop = keep_on(rt, &Keeper { office, stage }, &mut work);
+    let Work {
+        ticker,
+        made: _,
+        pages: _,
+    } = work;
+    Done { ticker, stop }
+}
+
+/// The work of two tickers, side by side.
+fn work_both<
+    N: OfficeName<Global> + Send + Sync,
+    R: Alloc<A = Global> + Clock + Threads + Sync + Wait,
+    S: Shelf + Send,
+>(
+    rt: &R,
+    office: &Office<N>,
+    stage: &Stage<N, S>,
+    first: Work<N>,
+    second: Work<N>,
+) -> (Done<N>, Done<N>) {
+    side_by_side(
+        rt,
+        office,
+        first,
+        second,
+        &|office: &Office<N>, work: Work<N>| work_on(rt, office, stage, work),
+    )
+}
+
+/// Why two tickers stopped. The one that was told to stop by the other says less.
+fn why(first: Stop, second: Stop) -> Stop {
+    match first {
+        Stop::Quit | Stop::Limit => second,
+        _ => first,
+    }
+}
+
+/// The tickers that came home, and why they stopped.
+fn home_of<N: OfficeName<Global>>(
+    alloc: Global,
+    first: Done<N>,
+    second: Option<Done<N>>,
+) -> Result<(Vec<Ticker<N>>, Stop), AllocError> {
+    let mut tickers = Vec::new(alloc);
+    let Done { ticker, mut stop } = first;
+    if tickers.push(ticker).is_err() {
+        return Err(AllocError);
+    }
+    if let Some(second) = second {
+        stop = why(stop, second.stop);
+        if tickers.push(second.ticker).is_err() {
+            return Err(AllocError);
+        }
+    }
+    Ok((tickers, stop))
+}
+
+/// Lets one ticker keep the fleet, or two in turn, until the fleet is to stop. Returns the tickers, and why it stops.
+pub(crate) fn work_all<
+    N: OfficeName<Global> + Send + Sync,
+    R: Alloc<A = Global> + Clock + Threads + Sync + Wait,
+    S: Shelf + Send,
+>(
+    rt: &R,
+    office: &Office<N>,
+    stage: &Stage<N, S>,
+    ticker: Ticker<N>,
+    two: bool,
+) -> Result<(Vec<Ticker<N>>, Stop), AllocError> {
+    let alloc = rt.alloc();
+    let mut first = ticker;
+    let other = if two { first.split() } else { None };
+    let first = Work::new(alloc, first)?;
+    let Some(second) = other else {
+        return home_of(alloc, work_on(rt, office, stage, first), None);
+    };
+    let second = Work::new(alloc, second)?;
+    let (first, second) = work_both(rt, office, stage, first, second);
+    home_of(alloc, first, Some(second))
+}
