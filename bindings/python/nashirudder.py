@@ -35,12 +35,14 @@ class FleetError(Exception):
 
 
 class Refused(FleetError):
-    """The fleet refused. `name` says why, as `no-cell` or `too-late`; `code` is the number that stands before it, 0 where there is none."""
+    """The fleet refused. `name` says why, as `no-cell` or `too-late`; `code` is its number, 0 if it has none; `numbers` are what it
+    names (a line, robots), if it names something."""
 
-    def __init__(self, name: str, code: int = 0) -> None:
+    def __init__(self, name: str, code: int = 0, numbers: Tuple[int, ...] = ()) -> None:
         super().__init__(name)
         self.name = name
         self.code = code
+        self.numbers = numbers
 
 
 class Waiting(FleetError):

@@ -1,4 +1,5 @@
-"""Nashirudder in this process, by ctypes over the shared library that tools/build_c makes. Python 3.9 or later, no other package.
+"""Nashirudder in this process, by ctypes over the shared library that tools/build_c makes. It needs Python 3.9 or later, and nashirudder.py
+next to it, but no other package.
 
     from nashirudder_c import Fleet
 
@@ -24,6 +25,8 @@ import pathlib
 from collections import deque
 from dataclasses import dataclass
 from typing import Deque, Dict, List, Optional, Sequence, Set, Tuple, Union
+
+from nashirudder import Arrival, Chapter, Errand, Farewell, FleetError, Look, Refused, Waiting
 
 __all__ = ["Arrival", "Chapter", "Errand", "Farewell", "Fleet", "FleetError", "Handle", "Judgement", "Look", "Notice", "Refused", "Report",
            "Waiting", "check_step", "first_bridge", "distances", "CODES", "VERDICTS"]
@@ -78,24 +81,6 @@ class _Note(ctypes.Structure):
 
 class _Edge(ctypes.Structure):
     _fields_ = [("lower", ctypes.c_uint32), ("upper", ctypes.c_uint32)]
-
-
-class FleetError(Exception):
-    """What every exception of this module is, but MemoryError."""
-
-
-class Refused(FleetError):
-    """The library refused a call: `name` is the word for the reason, `code` its number, `numbers` what it names (a line, robots)."""
-
-    def __init__(self, code: int, numbers: Tuple[int, int] = (0, 0), name: Optional[str] = None):
-        self.code = code
-        self.name = name or CODES.get(code, "unknown")
-        self.numbers = numbers
-        super().__init__(self.name)
-
-
-class Waiting(FleetError):
-    """The order was not judged yet: its client's mailbox has no room until errands are done."""
 
 
 @dataclass(frozen=True)
@@ -175,7 +160,7 @@ def _check(code: int, fault: Optional[_Fault] = None) -> None:
     if code == NO_MEMORY:
         raise MemoryError("nashirudder: memory was refused")
     if code != DONE:
-        raise Refused(code, (fault.first, fault.second) if fault is not None and fault.code == code else (0, 0))
+        raise Refused(CODES.get(code, "unknown"), code, (fault.first, fault.second) if fault is not None and fault.code == code else ())
 
 
 def _bytes(map: Union[str, bytes]) -> bytes:
@@ -373,84 +358,17 @@ def distances(map: Union[str, bytes], goal: int, cells: int) -> List[Optional[in
 # ---- the names of nashirudder.py
 
 
-@dataclass(frozen=True)
-class Arrival:
-    """A robot arrived at the cell of an errand, in this tick."""
-
-    robot: int
-    client: int
-    number: int
-    cell: int
-    tick: int
-    stamp: int
-
-
-@dataclass(frozen=True)
-class Farewell:
-    """A robot that is shut has no errand left."""
-
-    robot: int
-    stamp: int
-
-
-@dataclass(frozen=True)
-class Look:
-    """How the fleet stands. `eldest` is the robot that has waited longest, None where no robot has an errand. `within` is the number of
-    ticks within which all errands are done if none is added, None on a map with a bridge."""
-
-    tick: int
-    chapter: int
-    entries: int
-    eldest: Optional[int]
-    within: Optional[int]
-    cells: List[int]
-
-    @property
-    def idle(self) -> bool:
-        """Whether no robot has an errand."""
-        return self.eldest is None
-
-
-@dataclass(frozen=True)
-class Chapter:
-    """A chapter that was handed out: its number from 0, and how many entries it has."""
-
-    number: int
-    entries: int
-
-
-class Errand:
-    """A robot is to come to a cell, as a client asked."""
-
-    def __init__(self, fleet: "Fleet", client: int, robot: int, cell: int) -> None:
-        self._fleet = fleet
-        self._judged: Optional[Judgement] = None
-        self._arrival: Optional[Arrival] = None
-        self.client = client
-        self.robot = robot
-        self.cell = cell
-
-    def accepted(self) -> int:
-        """The errand's number among its client's accepted ones, from 1.
-
-        Raises Refused with the verdict's name where it was refused, and Waiting where it was not judged yet.
-        """
-        if self._judged is None:
-            self._fleet._take(self.client)
-        if self._judged is None:
-            raise Waiting("the mailbox has no room yet")
-        if self._judged.number is None:
-            raise _refusal(self._judged)
-        return self._judged.number
-
-    def arrived(self) -> Optional[Arrival]:
-        """The arrival, or None where the robot is still on its way. Raises as `accepted` does."""
-        self.accepted()
-        return self._arrival
+def _verdict_words(judged: Judgement) -> List[str]:
+    """A verdict as the words that `Errand` keeps."""
+    if judged.verdict == "accepted":
+        return ["accepted", str(judged.number)]
+    code = next(code for code, name in VERDICTS.items() if name == judged.verdict)
+    return ["refused", str(code), judged.verdict]
 
 
 def _refusal(judged: Judgement) -> Refused:
-    return Refused(list(VERDICTS.values()).index(judged.verdict) + 1, name=judged.verdict)
+    _, code, name = _verdict_words(judged)
+    return Refused(name, int(code))
 
 
 class Fleet:
@@ -522,16 +440,16 @@ class Fleet:
             lane.popleft()
             self._collect(client)
             if errand is not None:
-                errand._judged = judged
+                errand._verdict = _verdict_words(judged)
                 if judged.number is not None:
                     self._errands[client, judged.number] = errand
         return judged
 
     def _post(self, client: int, kind: str, first: int = 0, second: int = 0, errand: Optional[Errand] = None) -> Optional[Judgement]:
         if client not in self._lanes:
-            raise Refused(4)
+            raise Refused("no-client", 4)
         if len(self._lanes[client]) >= self._lane:
-            raise Refused(0, name="lane-full")
+            raise Refused("lane-full")
         self._lanes[client].append((kind, first, second, errand))
         return self._take(client)
 

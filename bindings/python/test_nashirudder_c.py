@@ -12,7 +12,7 @@ ROW = "type octile\nheight 1\nwidth 3\nmap\n...\n"
 
 
 class Calls(unittest.TestCase):
-    def refused(self, name, call, numbers=(0, 0)):
+    def refused(self, name, call, numbers=()):
         with self.assertRaises(Refused) as caught:
             call()
         self.assertEqual((caught.exception.name, caught.exception.numbers), (name, numbers))
