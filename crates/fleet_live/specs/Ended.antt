@@ -1,24 +1,11 @@
 -- How a fleet in real time is opened, and how it ends.
-use Rattle.std.specs.Prelude.{◌≡◌, ℕ, Bool, true, List, [], Result, Ok, Err, unwrap_or}
-use Rattle.errands_answer.specs.Kit.{KitLaws}
-use Rattle.fleet_grid.specs.Floor.{Floor}
-use Rattle.fleet_core.specs.OpeningFaults.{IsRefused}
+use Rattle.std.specs.Prelude.{Bool, true, Result, Ok, Err}
 use Rattle.fleet_core.specs.declared.faults.OpenFault.{OpenFault}
 use Rattle.fleet_core.specs.declared.faults.OpenFault.TheVariants as fault
-use Rattle.fleet_script.specs.Script.{Draft}
 use Rattle.fleet_live.specs.declared.bell.Stop.{Stop}
 use Rattle.fleet_live.specs.declared.bell.Stop.TheVariants.{Quit, Limit, Input, Output, Shelf, NoMemory}
-use Rattle.fleet_talk.specs.Conversation.{clients_in, laws_in, limits_in}
 use Rattle.fleet_talk.specs.declared.fault.TalkFault.{TalkFault}
 use Rattle.fleet_talk.specs.declared.fault.TalkFault.TheVariants as talk
-
--- the start cells that a head names, none where it names none
-abbrev pub starts_in : Draft → List ℕ
-starts_in d = unwrap_or d.starts []
-
--- a fleet of this head on this map is refused for this reason, by a kit of closures with these laws
-abbrev pub IsRefusedFleet : KitLaws → Floor → Draft → OpenFault → Type 0
-IsRefusedFleet kit floor d why = IsRefused floor (starts_in d) (clients_in d) (limits_in d) (laws_in kit d (starts_in d)) why
 
 -- why a fleet was not opened
 abbrev pub unopened : OpenFault → TalkFault

