@@ -12,7 +12,8 @@ pub(crate) struct TraceFolder<'a, R> {
     pub(crate) name: Option<&'a str>,
 }
 
-/// Writes a file under this name, and then gives it the other: so that a file of that name is always whole.
+/// Writes a file under this name, and then renames it to the other name, so that a file with the other name is always
+/// whole.
 fn write_beside<R: Files + Alloc<A = Global>>(
     rt: &R,
     beside: &str,

@@ -6,15 +6,15 @@ use std::alloc::{Alloc, Global};
 use std::fs::Files;
 use std::io::Write;
 
-/// What there is to say to the files, which are opened and read in their order.
+/// The answer to the files, which are opened and read in their order.
 fn answer_files<R: Files + Alloc<A = Global>>(rt: &R, check: &Check) -> Result<Said, InputFault> {
     let map = file_bytes(rt, check.map.as_str(), MOST_MAP_BYTES)?;
     let plan = file_bytes(rt, check.plan.as_str(), MOST_PLAN_BYTES)?;
     Ok(answer_check(rt.alloc(), &map, &plan)?)
 }
 
-/// Judges the plan. The result is the status: 0 the plan is valid, 3 a file failed, 4 the map is refused, 6 the plan
-/// cannot be read or is not valid, 7 memory ran out.
+/// Judges the plan. Returns the status: 0 the plan is valid, 3 a file failed, 4 the map is refused, 6 the plan cannot
+/// be read or is not valid, 7 memory ran out.
 pub(crate) fn run_check<R: Files + Alloc<A = Global>, W: Write, E: Write>(
     rt: &R,
     check: &Check,

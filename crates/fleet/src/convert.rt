@@ -8,7 +8,7 @@ use std::alloc::{Alloc, Global};
 use std::fs::Files;
 use std::io::Write;
 
-/// What there is to say to the files, which are opened and read in their order.
+/// The answer to the files, which are opened and read in their order.
 fn answer_files<R: Files + Alloc<A = Global>>(
     rt: &R,
     form: Form,
@@ -19,8 +19,8 @@ fn answer_files<R: Files + Alloc<A = Global>>(
     Ok(answer_convert(rt.alloc(), form, &map, &trace)?)
 }
 
-/// Writes the trace as a plan. The result is the status: 0 good, 2 no such form, 3 a file failed, 4 the map is refused, 6 the trace cannot be read
-/// or is not legal, 7 memory ran out.
+/// Writes the trace as a plan. Returns the status: 0 good, 2 no such form, 3 a file failed, 4 the map is refused, 6 the
+/// trace cannot be read or is not legal, 7 memory ran out.
 pub(crate) fn run_convert<R: Files + Alloc<A = Global>, W: Write, E: Write>(
     rt: &R,
     convert: &Convert,

@@ -10,7 +10,7 @@ use std::io::ErrorKind;
 /// The greatest length of a map, in bytes.
 pub(crate) const MOST_MAP_BYTES: usize = 16_777_216;
 
-/// All that a file has, which is at most `most` bytes.
+/// Everything that a file has, at most `most` bytes.
 pub(crate) fn file_bytes<R: Files + Alloc<A = Global>>(
     rt: &R,
     name: &str,

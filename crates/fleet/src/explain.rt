@@ -9,7 +9,7 @@ use std::alloc::{Alloc, Global};
 use std::fs::Files;
 use std::io::Write;
 
-/// Whether the text is to be a trace: it begins with `{`, after white space.
+/// Whether the text is taken for a trace: its first byte after white space is `{`.
 fn is_trace(text: &[u8]) -> bool {
     for byte in text {
         if !matches!(*byte, b' ' | b'\t' | b'\n' | b'\r') {
@@ -19,7 +19,7 @@ fn is_trace(text: &[u8]) -> bool {
     false
 }
 
-/// What there is to say to the files, which are opened and read in their order.
+/// The answer to the files, which are opened and read in their order.
 fn answer_files<R: Files + Alloc<A = Global>>(
     rt: &R,
     explain: &Explain,
@@ -38,8 +38,8 @@ fn answer_files<R: Files + Alloc<A = Global>>(
     Ok(answer_explain_script(rt.alloc(), &map, &other)?)
 }
 
-/// Says what is wrong with the files. The result is the status: 0 nothing, 3 a file failed, 4 the map, 5 the script or 6 the trace
-/// is refused, 7 memory ran out.
+/// Says what is wrong with the files. Returns the status: 0 nothing, 3 a file failed, 4 the map, 5 the script or 6 the
+/// trace is refused, 7 memory ran out.
 pub(crate) fn run_explain<R: Files + Alloc<A = Global>, W: Write, E: Write>(
     rt: &R,
     explain: &Explain,

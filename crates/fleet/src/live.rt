@@ -10,7 +10,7 @@ use std::sync::Wait;
 use std::thread::Threads;
 use std::time::Clock;
 
-/// Opens a named pipe in both directions: so it waits for no client, and clients may come and go.
+/// Opens a named pipe for reading and writing. So this does not wait for a client, and clients may come and go.
 fn open_pipe<R: Files<File = File>>(rt: &R, name: &str) -> Option<File> {
     match OpenOptions::new().read(true).write(true).open(rt, name) {
         Ok(file) => Some(file),
@@ -18,7 +18,7 @@ fn open_pipe<R: Files<File = File>>(rt: &R, name: &str) -> Option<File> {
     }
 }
 
-/// The pipes that a word names, with a comma between them. `None` where there is no comma, or one cannot be opened.
+/// The pipes that a word names, with a comma between them. `None` if there is no comma, or one cannot be opened.
 fn pipes_named<R: Files<File = File>>(rt: &R, word: &str) -> Option<Pipes<File, File>> {
     let (input, output) = word.split_once(',')?;
     let input = open_pipe(rt, input)?;
@@ -43,7 +43,7 @@ fn pipes_of<R: Files<File = File> + Alloc<A = Global>>(
     Ok(all)
 }
 
-/// Keeps a fleet in real time, or on demand. The result is the status, as of `run_live`, or 3 where a file failed.
+/// Keeps a fleet in real time, or on demand. Returns the status, as of `run_live`, or 3 where a file failed.
 pub(crate) fn hold_live<
     R: Files<File = File>
         + Alloc<A = Global>

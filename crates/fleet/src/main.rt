@@ -30,7 +30,7 @@ fn words_given(rt: &(impl Env + Alloc<A = Global>)) -> io::Result<Vec<String>> {
     Ok(env::args(rt)?.collect(rt.alloc())?)
 }
 
-/// Says that the words could not be read: memory ran out, or one is no text. The result is the status.
+/// Says that the words could not be read: memory ran out, or one is no text. Returns the status.
 fn fail_words<E: Write>(fault: &io::Error, error: &mut E) -> u8 {
     if fault.kind() == ErrorKind::OutOfMemory {
         return fail(InputFault::NoMemory, error);

@@ -9,7 +9,7 @@ use std::alloc::{Alloc, Global};
 use std::fs::Files;
 use std::io::{BufReader, Read, Write};
 
-/// The bytes that are read at most at once.
+/// The greatest number of bytes that are read at once.
 const PIECE: usize = 65_536;
 
 /// The header lines of the file that is named, and none where no file is.
@@ -25,7 +25,7 @@ fn script_bytes<R: Files + Alloc<A = Global>>(
     }
 }
 
-/// What the files have that are named, the map first.
+/// The contents of the named files, the map first.
 pub(crate) fn texts_of<R: Files + Alloc<A = Global>>(
     rt: &R,
     map: &str,
@@ -41,7 +41,7 @@ pub(crate) fn texts_of<R: Files + Alloc<A = Global>>(
     Ok((map, script))
 }
 
-/// Holds a conversation. The result is the status, as of `run_talk`, or 3 where a file failed.
+/// Holds a conversation. Returns the status, as of `run_talk`, or 3 where a file failed.
 pub(crate) fn hold_talk<R: Files + Alloc<A = Global>, I: Read + Drop, W: Write + Drop, E: Write>(
     rt: &R,
     talk: &Talk,

@@ -6,7 +6,7 @@ use std::alloc::{Alloc, Global};
 use std::fs::Files;
 use std::io::Write;
 
-/// What there is to say to the files, which are opened and read in their order.
+/// The answer to the files, which are opened and read in their order.
 fn answer_files<R: Files + Alloc<A = Global>>(rt: &R, view: &View) -> Result<Said, InputFault> {
     let map = file_bytes(rt, view.map.as_str(), MOST_MAP_BYTES)?;
     let mut traces = Vec::new(rt.alloc());
@@ -19,7 +19,7 @@ fn answer_files<R: Files + Alloc<A = Global>>(rt: &R, view: &View) -> Result<Sai
     Ok(answer_view(rt.alloc(), view.shown, &map, &traces)?)
 }
 
-/// Shows the traces. The result is the status: 0 good, 3 a file failed, 4 the map or 6 a trace is refused, 7 memory ran out.
+/// Shows the traces. Returns the status: 0 good, 3 a file failed, 4 the map or 6 a trace is refused, 7 memory ran out.
 pub(crate) fn run_view<R: Files + Alloc<A = Global>, W: Write, E: Write>(
     rt: &R,
     view: &View,

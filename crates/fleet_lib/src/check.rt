@@ -27,7 +27,7 @@ impl fmt::Display for InvalidText {
     }
 }
 
-/// What is said on the output, with a status.
+/// An answer with this output and this status.
 pub(crate) fn printed(alloc: Global, text: &str, status: u8) -> Result<Said, AllocError>
     ensures { IfOk result (λ s. said_of s ≡ good text.now status) }
 {
@@ -38,7 +38,7 @@ pub(crate) fn printed(alloc: Global, text: &str, status: u8) -> Result<Said, All
     })
 }
 
-/// What is said of the answer to a map and a plan.
+/// The program's answer, made from the result for a map and a plan.
 fn said_of_answer(alloc: Global, answer: PlanAnswer) -> Result<Said, AllocError>
     ensures { IfOk result (λ s. said_of s ≡ outcome_of answer) }
 {
@@ -73,7 +73,7 @@ fn said_of_answer(alloc: Global, answer: PlanAnswer) -> Result<Said, AllocError>
     }
 }
 
-/// What the program has to say to a map and a plan: what `check_texts` answers, as text.
+/// The answer to a map and a plan: what `check_texts` answers, as text.
 pub fn answer_check(alloc: Global, map: &[u8], plan: &[u8]) -> Result<Said, AllocError>
     requires { length plan.now ≤ 16777216 }
     ensures { IfOk result (λ s. IsCheckOutcome map.now plan.now (said_of s)) }

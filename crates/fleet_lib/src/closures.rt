@@ -1,5 +1,5 @@
-//! The closures of a fleet that is talked to. No function may hand out a boxed closure that it made, so they are made where the
-//! conversation is held.
+//! The closures of a fleet that is talked to. A function cannot return a boxed closure that it made, so they are made
+//! where the conversation is held.
 
 ghost use Rattle.std.specs.Prelude.{◌≡◌, ◌<◌, IfOk};
 ghost use Rattle.std.specs.Box.{box_value};

@@ -56,7 +56,7 @@ fn status_of(fault: ConvertFault) -> u8
     }
 }
 
-/// What is said where there is no plan.
+/// The answer if there is no plan.
 fn faulty(alloc: Global, fault: ConvertFault) -> Result<Said, AllocError>
     ensures { IfOk result (λ s. said_of s ≡ faulty fault) }
 {
@@ -68,7 +68,7 @@ fn faulty(alloc: Global, fault: ConvertFault) -> Result<Said, AllocError>
     })
 }
 
-/// What the program has to say to a map and a trace on it: the plan that `convert` makes of them.
+/// The answer to a map and a trace on it: the plan that `convert` makes of them.
 pub fn answer_convert(
     alloc: Global,
     form: Form,

@@ -24,7 +24,7 @@ fn status_of(explanation: Explanation) -> u8
     }
 }
 
-/// What is said of an explanation: its sentence.
+/// The answer for an explanation: its sentence.
 fn said_of_explanation(alloc: Global, explanation: Explanation) -> Result<Said, AllocError>
     ensures { IfOk result (λ s. said_of s ≡ outcome_of explanation) }
 {
@@ -32,7 +32,7 @@ fn said_of_explanation(alloc: Global, explanation: Explanation) -> Result<Said, 
     printed(alloc, &text, status_of(explanation))
 }
 
-/// What the program has to say of a map: the sentence of `explain_map`.
+/// The answer to a map: the sentence of `explain_map`.
 pub fn answer_explain_map(alloc: Global, map: &[u8]) -> Result<Said, AllocError>
     ensures { IfOk result (λ s. IsMapSaid map.now (said_of s)) }
 {
@@ -40,7 +40,7 @@ pub fn answer_explain_map(alloc: Global, map: &[u8]) -> Result<Said, AllocError>
     said_of_explanation(alloc, explanation)
 }
 
-/// What the program has to say of a map and a script: the sentence of `explain_script`.
+/// The answer to a map and a script: the sentence of `explain_script`.
 pub fn answer_explain_script(alloc: Global, map: &[u8], script: &[u8]) -> Result<Said, AllocError>
     requires { length script.now ≤ 16777216 }
     ensures { IfOk result (λ s. IsScriptSaid map.now script.now (said_of s)) }
@@ -49,7 +49,7 @@ pub fn answer_explain_script(alloc: Global, map: &[u8], script: &[u8]) -> Result
     said_of_explanation(alloc, explanation)
 }
 
-/// What the program has to say of a map and a trace: the sentence of `explain_trace`.
+/// The answer to a map and a trace: the sentence of `explain_trace`.
 pub fn answer_explain_trace(alloc: Global, map: &[u8], trace: &[u8]) -> Result<Said, AllocError>
     ensures { IfOk result (λ s. IsTraceSaid map.now trace.now (said_of s)) }
 {

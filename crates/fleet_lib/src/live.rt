@@ -19,7 +19,7 @@ use std::sync::Wait;
 use std::thread::Threads;
 use std::time::Clock;
 
-/// A word that says nothing.
+/// The option whose value cannot be read, or out of memory.
 #[derive(Clone, Copy, Debug, PartialEq, Eq)]
 enum BadWord {
     Robots,
@@ -107,7 +107,7 @@ fn settings_of(live: &Live) -> Result<LiveSettings, BadWord> {
     })
 }
 
-/// Says which word is wrong. The result is the status.
+/// Prints which option is wrong. Returns the status.
 fn complain_of_word<E: Write>(word: BadWord, error: &mut E) -> u8 {
     let text = match word {
         BadWord::Robots => "error: invalid value for '--robots <CELLS>'\n",
@@ -121,8 +121,9 @@ fn complain_of_word<E: Write>(word: BadWord, error: &mut E) -> u8 {
     2
 }
 
-/// Keeps a fleet on the map in real time, or on demand. The result is the status: 0 good, 2 a word is wrong, 3 a line could not be read,
-/// or an answer or a chapter not written, 4 the map, 5 the script or the opening is refused, 7 out of memory, 8 a limit was met.
+/// Keeps a fleet on the map in real time, or on demand. Returns the status: 0 good, 2 a word is wrong, 3 a line could
+/// not be read, or an answer or a chapter not written, 4 the map, 5 the script or the opening is refused, 7 out of
+/// memory, 8 a limit was met.
 pub fn run_live<
     R: Alloc<A = Global> + Clock + Threads + Sync + Wait + Copy + Send + Drop + 'static,
     I: Read + Send + Drop + 'static,

@@ -1,5 +1,5 @@
-//! The closures of a fleet in real time. They are those of a conversation, and are made once more: no function may hand out a boxed
-//! closure that it made, and no trait's method may call what starts threads.
+//! The closures of a fleet in real time. They are the same as those of a conversation, made a second time: a function
+//! cannot return a boxed closure that it made, and a method of a trait cannot call what starts threads.
 
 ghost use Rattle.std.specs.Prelude.{◌≡◌, ◌<◌};
 ghost use Rattle.fleet_hooks.specs.Law.{IsRank};

@@ -15,7 +15,7 @@ pub struct Said {
     pub complaint: String,
 }
 
-/// Says on the error writer that a file or memory failed. The result is the status.
+/// Prints on the error writer that a file or memory failed. Returns the status.
 pub fn fail<E: Write>(fault: InputFault, error: &mut E) -> u8
     ensures { Failed fault (E.contents error.old) (E.contents error.new) result }
 {
@@ -31,7 +31,7 @@ pub fn fail<E: Write>(fault: InputFault, error: &mut E) -> u8
     }
 }
 
-/// Writes what there is to say. The result is the status: 3 where the output was not taken whole.
+/// Writes the answer. Returns the status: 3 if the output was not written completely.
 pub fn tell<W: Write, E: Write>(said: &Said, output: &mut W, error: &mut E) -> u8
     ensures { IsTold (said_of said.now) (W.contents output.old) (W.contents output.new) (E.contents error.old) (E.contents error.new) result }
 {

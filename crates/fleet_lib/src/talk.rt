@@ -20,7 +20,7 @@ pub struct TalkTexts<'a> {
     pub script: &'a [u8],
 }
 
-/// Says on the error writer what is wrong. The result is the status.
+/// Prints on the error writer what is wrong. Returns the status.
 pub(crate) fn complain<E: Write>(alloc: Global, complaint: Complaint, error: &mut E) -> u8 {
     match format!(in alloc; "fleet: {complaint}\n") {
         Ok(line) => {
@@ -31,7 +31,7 @@ pub(crate) fn complain<E: Write>(alloc: Global, complaint: Complaint, error: &mu
     }
 }
 
-/// What is wrong where a conversation broke off.
+/// The complaint about a conversation that broke off.
 pub(crate) fn complaint_of(fault: TalkFault) -> Complaint {
     match fault {
         TalkFault::Input | TalkFault::Output | TalkFault::Shelf => Complaint::File,
@@ -60,8 +60,8 @@ pub(crate) fn grounds(alloc: Global, texts: TalkTexts<'_>) -> Result<(Grid, Head
     }
 }
 
-/// Holds a conversation on the map. The result is the status: 0 good, 3 a line could not be read, or an answer or a chapter not
-/// written, 4 the map, 5 the script or the opening is refused, 7 out of memory, 8 a limit was met.
+/// Holds a conversation on the map. Returns the status: 0 good, 3 a line could not be read, or an answer or a chapter
+/// not written, 4 the map, 5 the script or the opening is refused, 7 out of memory, 8 a limit was met.
 pub fn run_talk<R: Alloc<A = Global>, I: Read, W: Write, S: Shelf, E: Write>(
     rt: &R,
     texts: TalkTexts<'_>,

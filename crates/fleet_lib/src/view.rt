@@ -49,7 +49,7 @@ fn status_of(fault: ViewFault) -> u8
     }
 }
 
-/// What is said where nothing is shown.
+/// The answer if nothing can be shown.
 fn faulty(alloc: Global, fault: ViewFault) -> Result<Said, AllocError>
     ensures { IfOk result (λ s. said_of s ≡ faulty fault) }
 {
@@ -97,7 +97,7 @@ fn shown_text(
     }
 }
 
-/// What the program has to say to a map and to traces on it.
+/// The answer to a map and to traces on it.
 pub fn answer_view(
     alloc: Global,
     shown: Shown,

@@ -1,4 +1,4 @@
-//! What conversations ask of the keeper.
+//! Requests of conversations to the keeper.
 
 use crate::demand::Wanted;
 use std::alloc::{AllocError, Global};
@@ -29,7 +29,7 @@ impl From<AllocError> for Stop {
     }
 }
 
-/// What a conversation wants, and under which mark the answer stands.
+/// A request of a conversation, and the mark of its answer.
 #[derive(Drop)]
 pub(crate) struct Wish {
     pub(crate) place: usize,
@@ -48,7 +48,7 @@ pub(crate) enum Call {
     Tell,
 }
 
-/// What is asked and not done yet.
+/// Requests that are not done yet.
 #[derive(Drop)]
 struct Asks {
     wishes: VecDeque<Wish>,

@@ -1,4 +1,4 @@
-//! A conversation: the clients that it speaks for, and what is said in it.
+//! A conversation: the clients for which it speaks, and the text that is printed in it.
 
 use crate::demand::Rights;
 use crate::said::post_text;
@@ -18,11 +18,11 @@ pub(crate) struct Conversation<N: OfficeName<Global>> {
     pub(crate) rights: Rights,
     pub(crate) voice: Arc<Voice>,
     guests: Mutex<Vec<Guest<N>>>,
-    /// How many wishes the keeper granted.
+    /// How many requests the keeper has answered.
     granted: Mutex<u64>,
-    /// Rung where the keeper granted one.
+    /// Signalled when the keeper has answered one.
     answered: Condvar,
-    /// 1 where tick lines are said.
+    /// 1 if tick lines are printed.
     watching: AtomicU64,
 }
 
@@ -69,7 +69,7 @@ impl<N: OfficeName<Global>> Conversation<N> {
         }
     }
 
-    /// Tells what the clients find while there is room, and returns whether that was all.
+    /// Prints the notices that the clients find while there is room. Returns whether those were all.
     pub(crate) fn tell<R: Wait>(&self, rt: &R, alloc: Global) -> Result<bool, AllocError> {
         let mut held = self.guests.lock(rt);
         let guests = &mut *held;

@@ -10,7 +10,7 @@ use fleet_office::{Guest, OfficeName, guests_of};
 use std::alloc::{AllocError, Global};
 use std::sync::Arc;
 
-/// A shared voice.
+/// A voice that threads share.
 pub(crate) fn new_voice(alloc: Global) -> Result<Arc<Voice>, AllocError> {
     match Arc::new(alloc, Voice::new(alloc)) {
         Ok(voice) => Ok(voice),

@@ -32,7 +32,7 @@ pub(crate) enum Demand {
     Bad,
 }
 
-/// What a conversation may ask.
+/// What a conversation may ask for.
 #[derive(Clone, Copy, Debug, PartialEq, Eq)]
 pub(crate) struct Rights {
     /// Whether it shuts robots, hands out chapters, watches, and ends the fleet.
@@ -41,7 +41,7 @@ pub(crate) struct Rights {
     pub(crate) ticks: bool,
 }
 
-/// A demand where it is granted.
+/// A demand, if the conversation may make it.
 fn where_granted(granted: bool, demand: Demand) -> Demand
     ensures { result ≡ where_granted granted demand }
 {

@@ -1,4 +1,4 @@
-//! The end: guests come home, the office is concluded, and what was not collected is told.
+//! The end: guests are returned, the office is concluded, and notices that were not collected are printed.
 
 ghost use Rattle.std.specs.Prelude.{◌≡◌, IfOk};
 ghost use Rattle.fleet_office.specs.Views.{AreOn, cores};
@@ -16,7 +16,7 @@ use std::alloc::{Alloc, AllocError, Global};
 use std::mem;
 use std::sync::{Arc, Wait};
 
-/// How many chapters the orders that are left may need at most: each has room for one.
+/// The greatest number of chapters that the orders left may need: each chapter has room for one order.
 const MOST_CHAPTERS: u32 = 65_536;
 
 /// Adds guests to the others.

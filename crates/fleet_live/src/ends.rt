@@ -1,9 +1,9 @@
-//! Where a fleet's lines come from and where what it says goes.
+//! Where a fleet's lines come from, and where its output goes.
 
 /// How a fleet is kept.
 #[derive(Clone, Copy, Debug, PartialEq, Eq)]
 pub struct LiveSettings {
-    /// The microseconds between two turns; without it a turn is made where a line asks for one.
+    /// The microseconds between two turns; `None` if turns are made only when a line asks for one.
     pub period: Option<u32>,
     /// How many tickers keep the fleet in turn where there is a period: with two, one keeps it while the other keeps a chapter.
     pub tickers: u32,
@@ -11,7 +11,7 @@ pub struct LiveSettings {
     pub watch: bool,
 }
 
-/// The pipes of a client of its own.
+/// The pipes of a client that has its own.
 #[derive(Drop)]
 pub struct Pipes<P, Q> {
     pub input: P,

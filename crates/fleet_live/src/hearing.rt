@@ -1,4 +1,4 @@
-//! What the thread does that reads a conversation's lines.
+//! The thread that reads a conversation's lines.
 
 use crate::bell::{Bell, Stop, Wish};
 use crate::conversation::Conversation;

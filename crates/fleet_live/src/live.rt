@@ -25,7 +25,7 @@ use std::sync::{Arc, Wait};
 use std::thread::{self, JoinHandle, Threads};
 use std::time::{Clock, Duration};
 
-/// How often it is looked whether a pipe's reader took all, 5 milliseconds apart.
+/// How often it is checked, every 5 milliseconds, whether a pipe's reader has taken everything.
 const MOST_LOOKS: u32 = 200;
 
 /// Why the fleet was not opened.

@@ -16,13 +16,13 @@ use std::sync::Wait;
 use std::thread::Threads;
 use std::time::{Clock, Duration, Instant};
 
-/// The microseconds that are told apart at most: 63,000 years.
+/// The greatest number of microseconds that can be counted: 63,000 years.
 const MOST_MICROS: u64 = 2_000_000_000_000_000_000;
 
 /// The microseconds of a minute.
 const MINUTE: u64 = 60_000_000;
 
-/// As many microseconds as are told apart.
+/// A duration in microseconds, at most the greatest number that can be counted.
 fn told_apart(micros: u64) -> u64
     ensures { result < 2 ^ 62 }
 {

@@ -58,8 +58,8 @@ pub fn read_period(word: &[u8]) -> Option<u32>
     timed(unit, number)
 }
 
-/// The deadline after the one at `due`: the first of those that follow it by whole periods and is later than `now`. So a late turn
-/// does not push the next, and deadlines that went by are left out.
+/// The deadline after the one at `due`: the first that comes a whole number of periods after it and is later than
+/// `now`. So a late turn does not delay the next one, and deadlines that have passed are left out.
 pub(crate) fn next_due(due: u64, period: u64, now: u64) -> u64
     requires { (0 < period) × (period < 2 ^ 32) × (due < 2 ^ 62) × (now < 2 ^ 62) }
     ensures later { now < result }

@@ -12,7 +12,7 @@ use fleet_lanes::PostFault;
 use fleet_office::{Guest, OfficeName};
 use std::alloc::{AllocError, Global};
 
-/// How many notices of a client are told in one go at most: more than an outlet holds.
+/// The greatest number of notices that are printed for a client at once: more than an outlet has room for.
 const HANDFUL: u32 = 65_537;
 
 /// The place of the guest of this number.

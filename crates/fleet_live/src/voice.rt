@@ -1,4 +1,4 @@
-//! What is said in a conversation, shared by those that say it and the thread that writes it.
+//! The text of a conversation, shared by the threads that add to it and the thread that writes it.
 
 use crate::bell::Bell;
 use crate::page::Page;
@@ -14,9 +14,9 @@ use std::sync::{Condvar, Mutex, Wait};
 #[derive(Drop)]
 pub(crate) struct Voice {
     page: Mutex<Page>,
-    /// Rung where something waits to be written, or nothing follows.
+    /// Signalled when there is something to write, or when nothing will follow.
     filled: Condvar,
-    /// Rung where all that waited is being written, or cannot be.
+    /// Signalled when everything that waited is being written, or cannot be written.
     drained: Condvar,
 }
 
@@ -98,7 +98,7 @@ impl Voice {
         mem::drop(held);
     }
 
-    /// Waits for something to write, and swaps it for the empty text. Nothing where nothing follows.
+    /// Waits for something to write, and takes it. `None` if nothing will follow.
     fn take<R: Wait>(&self, rt: &R, text: &mut Vec<u8>) {
         let mut held = self.filled.wait_while(rt, self.page.lock(rt), |page| {
             !page.ended && page.text.is_empty()

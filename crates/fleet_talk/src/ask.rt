@@ -13,7 +13,7 @@ use crate::ground::MOST_LINE;
 use fleet_map::text::{first_word, is_blank_byte};
 use fleet_script::{EventLine, Repeat, event_line};
 
-/// What a line asks, its mark apart.
+/// What a line asks for, without its mark.
 #[derive(Clone, Copy)]
 pub enum Asked {
     /// It is blank, or a comment.
@@ -22,7 +22,7 @@ pub enum Asked {
     Chapter,
     Look,
     Quit,
-    /// A header line, or none.
+    /// A header line, or no line of a conversation.
     Other,
     /// It is longer than a line may be.
     Long,
@@ -123,7 +123,8 @@ fn asked_of(bytes: &[u8], told: &[u8]) -> Asked
     }
 }
 
-/// The line of this number, by its first bytes: one more than a line may have, where it is longer.
+/// The line with this number, from its first bytes. If the line is too long, these are one byte more than a line may
+/// have.
 pub fn line_of(number: u64, bytes: &[u8]) -> Line<'_>
     ensures { line_shown result ≡ line_in number bytes.now }
 {

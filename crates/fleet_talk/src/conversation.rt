@@ -63,7 +63,7 @@ fn open(alloc: Global, grid: Grid, kit: HookKit, head: Head) -> Result<Session, 
     )
 }
 
-/// Why a conversation breaks off whose fleet is not opened.
+/// Why a conversation breaks off when its fleet cannot be opened.
 fn opening_fault(fault: OpenFault) -> TalkFault
     ensures { result ≡ talk_fault fault }
 {
@@ -101,7 +101,7 @@ fn end<W: Write>(
     Ok(pen.limited)
 }
 
-/// Holds a conversation, and leaves what was said last to be written.
+/// Holds a conversation; the last answers are left for the caller to write.
 fn hold<R: Alloc<A = Global>, I: Read, W: Write, S: Shelf>(
     rt: &R,
     ground: Ground,

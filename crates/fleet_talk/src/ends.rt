@@ -9,7 +9,7 @@ use std::io::BufReader;
 pub struct Settings {
     /// Whether the answer to line N ends with a line `. N`.
     pub marks: bool,
-    /// Whether a full chapter is handed out unasked, before an event that would find it full.
+    /// Whether a full chapter is handed out unasked, before an event that would be refused because of it.
     pub roll: bool,
 }
 
@@ -32,7 +32,7 @@ impl From<AllocError> for ShelfFault {
     }
 }
 
-/// Where the chapters go that a conversation hands out.
+/// Where a conversation's chapters go.
 pub trait Shelf {
     /// Keeps a chapter.
     fn keep(&mut self, chapter: &Chapter) -> Result<(), ShelfFault>;

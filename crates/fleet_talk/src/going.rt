@@ -85,7 +85,7 @@ fn answer<R: Alloc<A = Global>, I, W: Write, S: Shelf>(
     Ok(pen.say_end(rt.alloc(), line)?)
 }
 
-/// Answers the line at hand, which has this number, and all that follow.
+/// Answers the line that was just read, which has this number, and all lines that follow.
 pub(crate) fn go_on<R: Alloc<A = Global>, I: Read, W: Write, S: Shelf>(
     rt: &R,
     session: &mut Session,

@@ -12,7 +12,7 @@ pub const MOST_LINE: usize = 8192;
 /// How many robots a conversation's fleet has at most.
 pub const MOST_ROBOTS: usize = 512;
 
-/// What a conversation takes where its head says nothing: a fleet that is talked to may go on for years.
+/// The limits of a conversation whose head does not name them: a fleet that is talked to may go on for years.
 pub const TALK_LIMITS: Limits = Limits {
     lane: 64,
     outlet: 64,

@@ -42,7 +42,7 @@ fn add_line(alloc: Global, head: &mut Head, line: &[u8]) -> Result<bool, AllocEr
     }
 }
 
-/// Adds a line of the head, and returns whether it may stand there.
+/// Adds a line of the head, and returns whether it is allowed there.
 fn hear_line(alloc: Global, head: &mut Head, line: Line<'_>) -> Result<bool, AllocError>
     ensures { IfOk result (λ taken. IsTaken taken (with_head_line (drafted head.old) (line_shown line.entry) line.entry.asked) (drafted head.old) (drafted head.new)) }
 {
@@ -53,7 +53,7 @@ fn hear_line(alloc: Global, head: &mut Head, line: Line<'_>) -> Result<bool, All
     }
 }
 
-/// Says whether a line may stand in the head, and that it was answered.
+/// Answers whether a line is allowed in the head, and marks it as answered.
 fn say_header(alloc: Global, line: Line<'_>, is_good: bool, pen: &mut Pen) -> Result<(), AllocError>
     ensures ok { OnOk result (IsAdded pen.old pen.new (all_of (header_texts pen.old.settings (line_shown line.entry) is_good))) }
     ensures err { OnErr result (IsPartly pen.old pen.new (header_texts pen.old.settings (line_shown line.entry) is_good)) }
@@ -96,8 +96,8 @@ fn answer_header(
     Ok(After::More)
 }
 
-/// Hears the header lines, up to the first line that asks something of the fleet. The result is its number, and none where
-/// the conversation is over.
+/// Reads the header lines, up to the first line that asks something of the fleet. Returns the number of that line;
+/// `None` if the conversation is over.
 pub(crate) fn hear_head<I: Read, W: Write, S>(
     alloc: Global,
     ends: &mut Ends<I, W, S>,
@@ -125,8 +125,8 @@ pub(crate) fn hear_head<I: Read, W: Write, S>(
     Err(TalkFault::Input)
 }
 
-/// The head that a file gives: header lines, blank lines and comments. The fault is the first line that is none of these or
-/// says what one before said, from 1.
+/// The head that a file gives: header lines, blank lines and comments. The fault is the first line, counted from 1,
+/// that is none of these or repeats a keyword.
 pub fn read_head(alloc: Global, bytes: &[u8]) -> Result<Head, ScriptFault>
     requires { length bytes.now ≤ 16777216 }
 {

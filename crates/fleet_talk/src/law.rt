@@ -1,4 +1,4 @@
-//! What a conversation is. No call does anything.
+//! Laws of conversations. The functions do nothing.
 
 ghost use Rattle.std.specs.Prelude.{◌≡◌, ℕ, false, List, map, None, Ok, IfSome};
 ghost use Rattle.std.specs.declared.alloc.Global.{Global};
@@ -18,8 +18,8 @@ ghost use Rattle.fleet_talk.specs.Acts.{Talks};
 ghost use Rattle.fleet_talk.specs.Conversation.{IsConversation, NamesLimits, head_in, plain_terms};
 ghost use Rattle.fleet_talk.specs.Heard.{AreShort};
 
-/// A conversation in which no chapter is handed out is a run: what is said of events, from the opening on, is what `errands run`
-/// prints of a run of the same events from the same opening, which ends in the same world.
+/// A conversation in which no chapter is handed out is a run: from the opening on, it prints what `errands run` prints
+/// for the same events from the same opening, and ends in the same world.
 pub fn a_conversation_is_a_run<A>()
     ensures { (m : Floor) (starts : List ℕ) (clients : ℕ) (limits : Limits) (laws : HookLaws) (events : List Event) (text : List ℕ) (t : Talk A) →
         CanOpen m starts clients limits laws → AreOrderly laws → Talks false (opened_talk m starts clients limits laws) (map (play None) events) text t →
@@ -27,10 +27,11 @@ pub fn a_conversation_is_a_run<A>()
         × (text ≡ run_text events replies last.world.history.entries) }
 {}
 
-/// A script in form, held as a conversation, is a run: all that is written of it is what `errands run` prints of a run of its events.
+/// A correct script, sent as a conversation, is a run: everything that is written is what `errands run` prints for its
+/// events.
 ///
-/// No line is longer than a line may be; the head names the four limits for which a conversation takes others; no marks are asked
-/// for, and no chapter is handed out unasked.
+/// Conditions: no line is too long; the head names the four limits whose defaults differ in a conversation; no marks
+/// are asked for, and no chapter is handed out unasked.
 pub fn a_script_is_a_run()
     ensures { (kit : KitLaws) (m : Floor) (bytes text : List ℕ) (plan : Plan) →
         script_of bytes ≡ Ok plan → AreShort bytes → IfSome (head_in (plain_terms kit m) bytes).opening (λ o. NamesLimits o.head) → IsConversation (plain_terms kit m) bytes text →

@@ -8,7 +8,7 @@ use fleet_core::World;
 use std::alloc::{AllocError, Global};
 use std::fmt::Write;
 
-/// Who is eldest, or that the fleet is idle.
+/// The eldest robot, or `idle`.
 pub fn write_eldest(text: &mut String, eldest: Option<u32>) -> Result<(), AllocError>
     ensures { OnOk result (string_bytes text.new ≡ string_bytes text.old ++ eldest_text eldest) }
 {
@@ -48,8 +48,8 @@ fn write_standing(text: &mut String, world: &World) -> Result<(), AllocError>
     write!(text, "look tick {tick} chapter {number} entries {entries}")
 }
 
-/// The line of a look: the ticks made, the chapter's number and how many entries it has, `idle` or the robot that has waited
-/// longest, within how many ticks all is done where the map has no bridge, and the robots' cells.
+/// The line of a look: the ticks made; the chapter's number and how many entries it has; `idle` or the robot that has
+/// waited longest; on a map without bridges, after how many ticks the fleet is idle; and the robots' cells.
 pub(crate) fn look_line(alloc: Global, world: &World) -> Result<String, AllocError>
     ensures { IfOk result (λ text. IsLook world.now.core (string_bytes text)) }
 {

@@ -1,4 +1,4 @@
-//! What is said and not written yet.
+//! Answers that are not written yet.
 
 ghost use Rattle.std.specs.Prelude.{◌≡◌, ◌++◌, [], ◌∷◌, IsTrue, OnOk, OnErr, string_bytes, take};
 ghost use Rattle.errands_text.specs.Transfer.{AppendsPrefix};
@@ -12,7 +12,7 @@ use errands_text::write_whole;
 use std::alloc::{AllocError, Global};
 use std::io::Write;
 
-/// The text that waits at most while there is more to be answered.
+/// How much text may wait while there are more lines to answer.
 const MOST_TEXT: usize = 65_536;
 
 /// The answers that were said and not written yet.
@@ -36,7 +36,7 @@ impl Pen {
         }
     }
 
-    /// Says a text, under this mark: all of it, or nothing.
+    /// Adds a text with this mark: all of it, or nothing.
     pub(crate) fn say(
         &mut self,
         alloc: Global,
@@ -56,7 +56,7 @@ impl Pen {
         }
     }
 
-    /// Says that the line is none.
+    /// Adds the answer `bad-line`.
     pub(crate) fn say_bad(&mut self, alloc: Global, line: Line<'_>) -> Result<(), AllocError>
         ensures ok { OnOk result (IsAdded self.old self.new (bad_said line.entry)) }
         ensures err { OnErr result (IsKept self.old self.new) }
@@ -66,7 +66,7 @@ impl Pen {
         self.say(alloc, line.mark, text.as_str())
     }
 
-    /// Says that the line was answered, if that is to be said.
+    /// Adds the line that says that a line was answered, if such lines are asked for.
     pub(crate) fn say_end(&mut self, alloc: Global, line: Line<'_>) -> Result<(), AllocError>
         ensures ok { OnOk result (IsAdded self.old self.new (end_said self.old.settings line.entry)) }
         ensures err { OnErr result (IsKept self.old self.new) }
@@ -87,13 +87,13 @@ impl Pen {
         self.out.truncate(said);
     }
 
-    /// Whether so much waits that it is to be written.
+    /// Whether so much text waits that it should be written.
     pub(crate) fn is_full(&self) -> bool {
         self.out.len() >= MOST_TEXT
     }
 
-    /// Writes all that was said, and returns whether it was taken. Nothing waits then: what a writer took in part is not said
-    /// again.
+    /// Writes all answers, and returns whether the writer took them. After that none waits: a text that a writer took
+    /// in part is not written again.
     pub(crate) fn write_out<W: Write>(&mut self, output: &mut W) -> bool
         ensures prefix { AppendsPrefix (W.contents output.old) (W.contents output.new) self.old.out.items }
         ensures whole { IsTrue result → Says (W.contents output.old) (W.contents output.new) self.old.out.items self.new.out.items [] }

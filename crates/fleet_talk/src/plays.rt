@@ -63,7 +63,7 @@ fn keep<S: Shelf>(
     Ok(pen.say(alloc, mark, text.as_str())?)
 }
 
-/// Hands out the present chapter and begins the next, or says that it is the last.
+/// Returns the current chapter and begins the next, or says that it is the last.
 pub(crate) fn next_chapter<S: Shelf>(
     alloc: Global,
     session: &mut Session,
@@ -83,7 +83,7 @@ pub(crate) fn next_chapter<S: Shelf>(
     }
 }
 
-/// Hands out the chapter if it is full, the event asks for room, and another is left.
+/// Hands out the chapter if it is full, the event needs room for an entry, and another chapter may begin.
 fn roll<S: Shelf>(
     alloc: Global,
     session: &mut Session,
@@ -151,7 +151,8 @@ fn play_in_room<R: Alloc<A = Global>, S: Shelf>(
     Ok(play(rt, session, pen, mark, event)?)
 }
 
-/// Does one event, in the next chapter if the present one is full and may be handed out unasked. Where it fails nothing is said.
+/// Does one event, in the next chapter if the current one is full and may be handed out unasked. If it fails, nothing
+/// is answered.
 fn play_on<R: Alloc<A = Global>, S: Shelf>(
     rt: &R,
     session: &mut Session,

@@ -34,7 +34,7 @@ pub(crate) fn write_if_full<W: Write>(pen: &mut Pen, output: &mut W) -> Result<(
     write_now(pen, output)
 }
 
-/// Writes what was said where no whole line is at hand, or much waits.
+/// Writes the answers if no whole line is in the reader's buffer, or if much text waits.
 pub(crate) fn write_if_due<I: Read, W: Write, S>(
     ends: &mut Ends<I, W, S>,
     pen: &mut Pen,

@@ -56,7 +56,7 @@ fn length_of_options(text: &[u8]) -> usize {
     text.len().saturating_sub(rest.len())
 }
 
-/// Whether one of the options is this.
+/// Whether the options contain this one.
 fn has_option(options: &[u8], wanted: &[u8]) -> bool {
     let mut rest = options;
     for _line in 0..options.len() {

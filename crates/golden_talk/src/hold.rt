@@ -1,4 +1,4 @@
-//! A conversation by streams that may fail.
+//! Holds a conversation with readers and writers that may fail.
 
 use crate::case::{Case, script_of};
 use crate::sink::{Room, Sink};
