@@ -2,3 +2,6 @@ mod Written
 mod Among
 mod Answered
 mod Stepped
+mod Fronts
+mod Arrivals
+mod Shown

@@ -14,7 +14,7 @@ use Rattle.fleet_history.proofs.Legal.{legal-placement}
 use Rattle.fleet_trace.specs.Judged.{Breaks, IsFirstIllegal}
 use Rattle.fleet_check.specs.Fault.{IsFirstFault}
 use Rattle.fleet_explain.specs.declared.detail.Detail.{Detail}
-use Rattle.fleet_explain.specs.declared.detail.Detail.TheVariants.{Nothing, Step}
+use Rattle.fleet_explain.specs.declared.detail.Detail.TheVariants.{Nothing, Step, Missing, Extra}
 use Rattle.fleet_explain.specs.Details.{before, IsStepDetail, IsDetail}
 
 take_front : {X : Type 0} (xs ys all : List X) (n : ℕ) → all ≡ xs ++ ys → n ≡ length xs → take n all ≡ xs
@@ -83,4 +83,6 @@ module _ {A : Type 0} (m : Floor) (h : History A) (at rule : ℕ) (is : rule ≡
       absurd (t.conflict (subst (λ (p : List ℕ). IsConflictFree m (place (before h (at - 1))) p) one free))
   told e to arrived farewells taken there tick same first (Step fault) step =
       let here : slice_get h.entries (at - 1) ≡ Some (Tick to arrived farewells) = there ∙ ap (λ (x : Entry A). Some x) tick in
-      (to, arrived, farewells, here, subst (λ (p : List ℕ). IsFirstFault m (place (before h (at - 1))) p fault) same step)
+      (is, (to, arrived, farewells, here, subst (λ (p : List ℕ). IsFirstFault m (place (before h (at - 1))) p fault) same step))
+  told e to arrived farewells taken there tick same first (Missing d) none = absurd none
+  told e to arrived farewells taken there tick same first (Extra d) none = absurd none

@@ -3,13 +3,14 @@ use Rattle.std.proofs.Common.{◌≡◌, ℕ, List, ◌++◌, codes, decimal, en
 use Rattle.std.proofs.lemmas.List.{append_assoc}
 use Rattle.fleet_check.specs.declared.fault.StepFault.{StepFault}
 use Rattle.fleet_check.specs.declared.fault.StepFault.TheVariants as step
+use Rattle.fleet_explain.specs.declared.arrival.ArrivalName.{ArrivalName}
 use Rattle.fleet_explain.specs.declared.limits.LimitFault.{LimitFault}
 use Rattle.fleet_explain.specs.declared.opening.StartFault.{StartFault}
 use Rattle.fleet_explain.specs.declared.opening.StartFault.TheVariants as start
 use Rattle.fleet_explain.specs.declared.explanation.Explanation.{Explanation}
 use Rattle.fleet_explain.specs.declared.explanation.Explanation.TheVariants as explanation
 use Rattle.fleet_explain.specs.Limits.{least_of, most_of, name_of}
-use Rattle.fleet_explain.specs.Sentences.{cell_text, limit_text, start_text, step_text, sentence}
+use Rattle.fleet_explain.specs.Sentences.{cell_text, limit_text, start_text, step_text, arrival_text, sentence}
 
 five : (a b c d e : List ℕ) → a ++ (b ++ (c ++ (d ++ e))) ≡ a ++ b ++ c ++ d ++ e
 five a b c d e = simp append_assoc
@@ -51,3 +52,6 @@ pub swap_written : (f : StepFault) (i j : ℕ) → f ≡ step.Swap i j → codes
 swap_written f i j is =
     subst (λ (x : StepFault). codes "robots " ++ (decimal i ++ (codes " and " ++ (decimal j ++ codes " exchange their cells"))) ≡ step_text x) (sym is)
     (five (codes "robots ") (decimal i) (codes " and ") (decimal j) (codes " exchange their cells"))
+
+pub arrival_written : (d : ArrivalName) → codes "robot " ++ (decimal d.robot ++ (codes "'s with errand " ++ (decimal d.number ++ (codes " of client " ++ decimal d.client)))) ≡ arrival_text d
+arrival_written d = six (codes "robot ") (decimal d.robot) (codes "'s with errand ") (decimal d.number) (codes " of client ") (decimal d.client)

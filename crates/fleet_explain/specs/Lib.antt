@@ -3,6 +3,7 @@ pub mod Lines
 pub mod Limits
 pub mod Starts
 pub mod Entries
+pub mod Dues
 pub mod Details
 pub mod Explained
 pub mod Sentences

@@ -6,6 +6,7 @@ use Rattle.fleet_trace.specs.declared.fault.TraceFault.{TraceFault}
 use Rattle.fleet_trace.specs.declared.fault.TraceFault.TheVariants as trace
 use Rattle.fleet_check.specs.declared.fault.StepFault.{StepFault}
 use Rattle.fleet_check.specs.declared.fault.StepFault.TheVariants as step
+use Rattle.fleet_explain.specs.declared.arrival.ArrivalName.{ArrivalName}
 use Rattle.fleet_explain.specs.declared.detail.Detail.{Detail}
 use Rattle.fleet_explain.specs.declared.detail.Detail.TheVariants as detail
 use Rattle.fleet_explain.specs.declared.entry.EntryKind.{EntryKind}
@@ -80,9 +81,15 @@ step_text step.NoMemory = codes "out of memory"
 step_text (step.Vertex i j) = codes "robots " ++ decimal i ++ codes " and " ++ decimal j ++ codes " come to one cell"
 step_text (step.Swap i j) = codes "robots " ++ decimal i ++ codes " and " ++ decimal j ++ codes " exchange their cells"
 
+-- a robot's arrival
+abbrev pub arrival_text : ArrivalName → List ℕ
+arrival_text d = codes "robot " ++ decimal d.robot ++ codes "'s with errand " ++ decimal d.number ++ codes " of client " ++ decimal d.client
+
 abbrev pub detail_text : Detail → List ℕ
 detail_text detail.Nothing = []
 detail_text (detail.Step fault) = codes ": " ++ step_text fault
+detail_text (detail.Missing d) = codes ": " ++ arrival_text d ++ codes " is due, and not shown"
+detail_text (detail.Extra d) = codes ": " ++ arrival_text d ++ codes " is shown, and not due"
 
 abbrev pub sentence : Explanation → List ℕ
 sentence explanation.Fine = codes "all in order"

@@ -4,11 +4,13 @@ ghost use Rattle.std.specs.Prelude.{◌≡◌, ◌≤◌, length, map, take, IfO
 ghost use Rattle.fleet_grid.specs.Step.{IsPlacement};
 ghost use Rattle.fleet_history.specs.History.{history_of, place, place_after};
 ghost use Rattle.fleet_trace.specs.Judged.{IsFirstIllegal};
-ghost use Rattle.fleet_explain.specs.Details.{before, IsStepDetail, IsDetail};
+ghost use Rattle.fleet_explain.specs.Details.{before, IsStepDetail, IsArrivalDetail, IsDetail};
 
+use crate::arrival::{ArrivalName, first_extra, first_missing};
+use crate::front::withdrawn;
 use fleet_check::{StepFault, check_step};
 use fleet_grid::Grid;
-use fleet_history::{Chapter, Entry, RobotState};
+use fleet_history::{Arrival, Chapter, Entry, RobotState};
 use std::alloc::{AllocError, Global};
 
 /// What more there is to say of an entry that breaks a rule.
@@ -18,6 +20,10 @@ pub enum Detail {
     Nothing,
     /// The first fault of its step.
     Step(StepFault),
+    /// The arrival is due, and the tick does not show it.
+    Missing(ArrivalName),
+    /// The tick shows the arrival, and it is not due.
+    Extra(ArrivalName),
 }
 
 /// Where the robots stand at the opening.
@@ -61,6 +67,56 @@ fn step_detail(
     }
 }
 
+/// What is wrong with the arrivals that a tick to these cells shows, after this many entries of the chapter.
+fn arrival_detail(
+    alloc: Global,
+    chapter: &Chapter,
+    entries: usize,
+    to: &[u32],
+    arrived: &[Arrival],
+) -> Result<Detail, AllocError>
+    requires inside { entries ≤ length chapter.now.entries.items }
+    requires few { length chapter.now.opening.robots ≤ 512 }
+    ensures { IfOk result (λ detail. IsArrivalDetail (before (history_of chapter.now) entries) to.now arrived.now detail) }
+{
+    let (opening, before) = (&chapter.opening, &chapter.entries[..entries]);
+    let withdrawn = withdrawn(alloc, before)?;
+    if let Some(name) = first_missing(alloc, opening, before, &withdrawn, to, arrived)? {
+        return Ok(Detail::Missing(name));
+    }
+    match first_extra(alloc, opening, before, &withdrawn, to, arrived)? {
+        Some(name) => Ok(Detail::Extra(name)),
+        None => Ok(Detail::Nothing),
+    }
+}
+
+/// What is wrong with the step of the tick that breaks the fourth rule.
+fn step_at(alloc: Global, grid: &Grid, chapter: &Chapter, at: u64) -> Result<Detail, AllocError>
+    requires { IsFirstIllegal grid.now (history_of chapter.now) at 4 }
+    ensures { IfOk result (λ detail. IsDetail grid.now (history_of chapter.now) at 4 detail) }
+{
+    let entries = at as usize - 1;
+    match &chapter.entries[entries] {
+        Entry::Tick { to, .. } => step_detail(alloc, grid, chapter, entries, to.as_slice()),
+        _ => Ok(Detail::Nothing),
+    }
+}
+
+/// What is wrong with the arrivals of the tick that breaks the fifth rule.
+fn arrivals_at(alloc: Global, grid: &Grid, chapter: &Chapter, at: u64) -> Result<Detail, AllocError>
+    requires { IsFirstIllegal grid.now (history_of chapter.now) at 5 }
+    ensures { IfOk result (λ detail. IsDetail grid.now (history_of chapter.now) at 5 detail) }
+{
+    let entries = at as usize - 1;
+    match &chapter.entries[entries] {
+        Entry::Tick { to, arrived, .. } => {
+            let (to, arrived) = (to.as_slice(), arrived.as_slice());
+            arrival_detail(alloc, chapter, entries, to, arrived)
+        }
+        _ => Ok(Detail::Nothing),
+    }
+}
+
 /// What more there is to say of the first entry that breaks a rule.
 pub(crate) fn detail_of(
     alloc: Global,
@@ -72,12 +128,9 @@ pub(crate) fn detail_of(
     requires { IsFirstIllegal grid.now (history_of chapter.now) at rule }
     ensures { IfOk result (λ detail. IsDetail grid.now (history_of chapter.now) at rule detail) }
 {
-    if rule != 4 {
-        return Ok(Detail::Nothing);
-    }
-    let entries = at as usize - 1;
-    match &chapter.entries[entries] {
-        Entry::Tick { to, .. } => step_detail(alloc, grid, chapter, entries, to.as_slice()),
+    match rule {
+        4 => step_at(alloc, grid, chapter, at),
+        5 => arrivals_at(alloc, grid, chapter, at),
         _ => Ok(Detail::Nothing),
     }
 }

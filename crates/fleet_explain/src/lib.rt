@@ -1,15 +1,18 @@
 //! What is wrong with a map, a script or a trace, in sentences.
 #![tactic(auto)]
 
+mod arrival;
 mod detail;
 mod entry;
 mod explanation;
+mod front;
 mod keyword;
 mod limits;
 mod line;
 mod opening;
 mod text;
 
+pub use arrival::ArrivalName;
 pub use detail::Detail;
 pub use entry::EntryKind;
 pub use explanation::{Explanation, explain_map, explain_script, explain_trace};

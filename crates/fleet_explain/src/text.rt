@@ -1,8 +1,9 @@
 //! Explanations as sentences.
 
 ghost use Rattle.std.specs.Prelude.{◌≡◌, Some};
-ghost use Rattle.fleet_explain.specs.Sentences.{line_text, map_text, cell_text, limit_text, start_text, trace_text, kind_text, rule_text, step_text, detail_text, sentence};
+ghost use Rattle.fleet_explain.specs.Sentences.{line_text, map_text, cell_text, limit_text, start_text, trace_text, kind_text, rule_text, step_text, arrival_text, detail_text, sentence};
 
+use crate::arrival::ArrivalName;
 use crate::detail::Detail;
 use crate::entry::EntryKind;
 use crate::explanation::Explanation;
@@ -191,6 +192,15 @@ impl fmt::Display for StepText {
     }
 }
 
+impl fmt::Display for ArrivalName {
+    ghost output = { λ d. Some (arrival_text d) };
+
+    fn fmt<W: fmt::Write>(&self, f: &mut fmt::Formatter<W>) -> fmt::Result {
+        let (robot, client, number) = (self.robot, self.client, self.number);
+        write!(f, "robot {robot}'s with errand {number} of client {client}")
+    }
+}
+
 impl fmt::Display for Detail {
     ghost output = { λ d. Some (detail_text d) };
 
@@ -201,6 +211,8 @@ impl fmt::Display for Detail {
                 let step = StepText(fault);
                 write!(f, ": {step}")
             }
+            Detail::Missing(name) => write!(f, ": {name} is due, and not shown"),
+            Detail::Extra(name) => write!(f, ": {name} is shown, and not due"),
         }
     }
 }

@@ -1,6 +1,6 @@
 -- A refusal of one call is that of the call around it.
 use Rattle.std.proofs.Common.{◌≡◌, ◌↔◌, ap, sym, ◌∙◌}
-use Rattle.std.specs.Prelude.{Ok, Err, Result, IfOk, IfErr}
+use Rattle.std.specs.Prelude.{Ok, Err, Result, IfOk, IfErr, OnOk}
 
 abbrev err_of : (X : Type 0) {E : Type 0} → E → Result X E
 err_of X e = Err e
@@ -38,6 +38,11 @@ some-kind L P w (Err e) l h = tt
 pub some-outcome : {W X E : Type 0} {R : X → Type 0} (P : W → X → Type 0) (w : W) (r : Result X E) → ((x : X) → R x → P w x) → IfOk r R → IfOk r (λ x. (v : W) × P v x)
 some-outcome P w (Ok x) says h = (w, says x h)
 some-outcome P w (Err e) says h = tt
+
+-- what stands at a success, and what follows from it
+pub ok-kind : {X E P Q : Type 0} (r : Result X E) → (P → Q) → OnOk r P → OnOk r Q
+ok-kind (Ok x) more h = more h
+ok-kind (Err e) more h = tt
 
 -- what a call does between two worlds of a kind, it does between some of that kind
 pub some-step : {W X E : Type 0} (L : W → Type 0) (P : W → X → W → Type 0) (h g : W) (r : Result X E) → L h → IfOk r (λ x. P h x g) → IfOk r (λ x. (v u : W) × L v × P v x u)

@@ -12,7 +12,7 @@ ghost use Rattle.fleet_bound.specs.Bound.{WaitsAreBounded};
 ghost use Rattle.fleet_hooks.specs.declared.law.TieLaw.{TieLaw};
 ghost use Rattle.fleet_core.specs.Hooks.{laws_of};
 ghost use Rattle.fleet_core.specs.OpeningFaults.{IsRefused, IsNamed as IsNamedFault};
-ghost use Rattle.fleet_office.specs.Views.{IsNamed, AreOn, cores};
+ghost use Rattle.fleet_office.specs.Views.{IsNamed, AreOn, AreDistinct, cores};
 ghost use Rattle.fleet_office.specs.Hall.{HallView, IsLawful, Turns, StopsTurn};
 ghost use Rattle.fleet_office.specs.Chapters.{IsChapterOf};
 ghost use Rattle.fleet_office.specs.Concluded.{AreTold, HasAll, IsLast, IsUnconcluded};
@@ -104,6 +104,7 @@ impl<N: OfficeName<A>, A: Allocator + Copy> Office<N, A> {
         ensures told { IfOk result (λ f. AreTold f.chapter.number (history_of f.chapter) clients.items f.rest.items) }
         ensures tick { IfOk result (λ f. (f.tick ≡ clock (history_of f.chapter)) × (f.tick ≡ sum_by (λ t. t.count) tickers.items)) }
         ensures all { OnOk result (HasAll (length N.rings) clients.items) }
+        ensures distinct { OnOk result (AreDistinct (cores clients.items)) }
         ensures err { IfErr result (λ e. (h : HallView A) × IsLawful N.rings h.world h.ends h.total
             × IsUnconcluded (length N.rings) h clients.items tickers.items e.0) }
         ensures back { IfErr result (λ e. (cores e.1.clients.items ≡ cores clients.items) × (e.1.tickers.items ≡ tickers.items)) }

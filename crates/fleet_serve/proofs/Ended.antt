@@ -1,5 +1,5 @@
 -- What the history of a concluded office says of the clients that ran their lines.
-use Rattle.std.proofs.Common.{◌≡◌, ◌∙◌, ℕ, ◌<◌, List, ◌++◌, length, Some, Result, Ok, Err, sym, subst}
+use Rattle.std.proofs.Common.{◌≡◌, ◌∙◌, ℕ, ◌<◌, List, ◌++◌, length, Some, Result, Ok, Err, refl, sym, ap, subst, arith}
 use Rattle.std.specs.Prelude.{Vec, slice_get, IfOk}
 use Rattle.std.specs.declared.alloc.Global.{Global}
 use Rattle.fleet_grid.specs.Floor.{Floor, IsNeighbour}
@@ -14,9 +14,13 @@ use Rattle.fleet_hooks.specs.declared.law.TieLaw.{TieLaw}
 use Rattle.fleet_planner.specs.Planned.{IsPlanned, IsAdvancingTick}
 use Rattle.fleet_bound.specs.Bound.{WaitsAreBounded}
 use Rattle.fleet_lanes.specs.Ends.{ClientView}
+use Rattle.fleet_lanes.specs.Names.{LaneName}
 use Rattle.fleet_office.specs.Concluded.{AreTold, HasAll}
-use Rattle.fleet_serve.specs.Posted.{posts, until_close, IsSubsequence, AllHaveRun, TakesPosted, TakesAll, AreLastNotices}
+use Rattle.fleet_office.specs.Views.{AreOn, AreDistinct, core, cores}
+use Rattle.fleet_office.proofs.Places.{map_at, within, there_is}
+use Rattle.fleet_serve.specs.Posted.{posts, until_close, IsSubsequence, FullPosts, ComeTo, AllHaveRun, AreFullCounted, TakesPosted, TakesAll, AreLastNotices}
 use Rattle.fleet_serve.specs.inside.Ends.{IsEnd}
+use Rattle.fleet_serve.proofs.Counts.{none-met}
 
 module _ {A : Type 0} (h : History A) (number count : ℕ) (cs : List (ClientView A)) (rests : List (Vec Notice A))
     (first : number ≡ 0) (told : AreTold number h cs rests) (all : HasAll count cs) where
@@ -31,30 +35,63 @@ module _ {A : Type 0} (h : History A) (number count : ℕ) (cs : List (ClientVie
     takes-posted = λ c l.
         let a = all c l in
         let t = told a.0 a.1 a.2 in
+        let r = there_is ran.counts a.0 (omega (arith, within cs a.0 a.1 a.2, ran.count)) in
         subst (λ n. IsSubsequence (orders h n) (posts n events)) a.3
-        (subst (λ os. IsSubsequence os (posts a.1.number events)) (sym (t.2.orders first)) (ran a.0 a.1 a.2).part)
+        (subst (λ os. IsSubsequence os (posts a.1.number events)) (sym (t.2.orders first)) (ran.each a.0 a.1 r.0 a.2 r.1).1.part)
 
     pub takes-all : full ≡ 0 → length events < most → TakesAll h events count
     takes-all none room = λ c l.
         let a = all c l in
         let t = told a.0 a.1 a.2 in
-        subst (λ n. orders h n ≡ until_close (posts n events)) a.3 (t.2.orders first ∙ (ran a.0 a.1 a.2).whole none room)
+        let r = there_is ran.counts a.0 (omega (arith, within cs a.0 a.1 a.2, ran.count)) in
+        subst (λ n. orders h n ≡ until_close (posts n events)) a.3
+        (t.2.orders first ∙ (ran.each a.0 a.1 r.0 a.2 r.1).1.whole (none-met ran.counts full a.0 r.0 ran.sum none r.1) room)
+
+    -- the count of a place is that of its client
+    client_of : (k : ℕ) (y : FullPosts) → slice_get ran.counts k ≡ Some y → (x : ClientView A) × (slice_get cs k ≡ Some x) × (y.client ≡ x.number)
+    client_of k y at =
+        let x = there_is cs k (omega (arith, within ran.counts k y at, ran.count)) in
+        (x.0, x.1, (ran.each k x.0 y x.1 at).0)
+
+    pub full-counted : (rings : List (LaneName A)) → length rings ≡ count → AreOn rings (cores cs) → AreDistinct (cores cs) → AreFullCounted h events most count full
+    full-counted rings many on distinct = record {
+      counts = ran.counts;
+      each = λ k y at.
+          let x = client_of k y at in
+          let run = (ran.each k x.0 y x.1 at).1 in
+          let t = told k x.0 x.1 in (
+            omega (arith, x.2, within rings x.0.number x.0.lane (on k (core x.0) (map_at core cs k x.0 x.1)), many),
+            subst (λ n. ComeTo most (posts n events) (orders h n) y.count) (sym x.2)
+                (subst (λ os. ComeTo most (posts x.0.number events) os y.count) (sym (t.2.orders first)) run.come),
+          );
+      all = λ c l.
+          let a = all c l in
+          let y = there_is ran.counts a.0 (omega (arith, within cs a.0 a.1 a.2, ran.count)) in
+          (a.0, y.0, y.1, (ran.each a.0 a.1 y.0 a.2 y.1).0 ∙ a.3);
+      once = λ i j y z at there same.
+          let a = client_of i y at in
+          let b = client_of j z there in
+          distinct i j (core a.0) (core b.0) (map_at core cs i a.0 a.1) (map_at core cs j b.0 b.1) (sym a.2 ∙ same ∙ b.2);
+      sum = ran.sum;
+    }
 
 -- a serve that came to its end
-pub is-end : (m : Floor) (h : History Global) (number ticks count : ℕ) (cs : List (ClientView Global)) (rests : List (Vec Notice Global)) → number ≡ 0 → AreTold number h cs rests → HasAll count cs
+pub is-end : (m : Floor) (h : History Global) (number ticks : ℕ) (rings : List (LaneName Global)) (cs : List (ClientView Global)) (rests : List (Vec Notice Global)) → number ≡ 0 → AreTold number h cs rests → HasAll (length rings) cs
+    → AreOn rings (cores cs) → AreDistinct (cores cs)
     → (events : List Event) (most full : ℕ) → AllHaveRun events most cs full → IsLegal m h → ((ties : List TieLaw) × EachTick (IsPlanned m ties) h) → (IsBridgeless (IsNeighbour m) → EachTick (IsAdvancingTick m) h)
     → (IsBridgeless (IsNeighbour m) → WaitsAreBounded m h) → ticks ≡ clock h
-    → IsEnd events most count full m h number ticks rests
-is-end m h number ticks count cs rests first told all events most full ran legal planned advancing bounded tick = record {
+    → IsEnd events most (length rings) full m h number ticks rests
+is-end m h number ticks rings cs rests first told all on distinct events most full ran legal planned advancing bounded tick = record {
   first = first;
   legal = legal;
   planned = planned;
   advancing = advancing;
   bounded = bounded;
   tick = tick;
-  posted = takes-posted h number count cs rests first told all events most full ran;
-  all = takes-all h number count cs rests first told all events most full ran;
-  rest = last-notices h number count cs rests first told all;
+  posted = takes-posted h number (length rings) cs rests first told all events most full ran;
+  all = takes-all h number (length rings) cs rests first told all events most full ran;
+  counted = full-counted h number (length rings) cs rests first told all events most full ran rings refl on distinct;
+  rest = last-notices h number (length rings) cs rests first told all;
 }
 
 -- what follows of what came

@@ -1,5 +1,6 @@
 pub mod Sequences
 pub mod Runs
 pub mod Clients
+pub mod Counts
 pub mod Ended
 pub mod Faults

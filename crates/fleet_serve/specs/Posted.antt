@@ -1,6 +1,6 @@
 -- What the lines of a script post for a client, and what the office takes of it.
-use Rattle.std.specs.Prelude.{ℕ, Bool, ◌≡◌, ◌<◌, ◌≤◌, List, [], ◌∷◌, ◌==◌, if◌then◌else◌, length, Some, slice_get, slice_index_or, Vec}
-use Rattle.std.specs.List.{flat_map}
+use Rattle.std.specs.Prelude.{ℕ, Bool, false, ◌≡◌, ◌≢◌, ◌<◌, ◌≤◌, ◌+◌, ◌-◌, ◌^◌, List, [], ◌∷◌, ◌++◌, ◌==◌, if◌then◌else◌, length, min, Some, slice_get, slice_index_or, Vec}
+use Rattle.std.specs.List.{flat_map, sum_by}
 use Rattle.fleet_book.specs.declared.order.Order.{Order}
 use Rattle.fleet_book.specs.declared.notice.Notice.{Notice}
 use Rattle.fleet_book.specs.declared.event.Event.{Event}
@@ -9,7 +9,7 @@ use Rattle.fleet_history.specs.History.{History}
 use Rattle.fleet_history.specs.Laws.{orders}
 use Rattle.fleet_history.specs.Notices.{notices}
 use Rattle.fleet_history.specs.Rings.{IsEndOf}
-use Rattle.fleet_lanes.specs.Ends.{ClientView, is_close}
+use Rattle.fleet_lanes.specs.Ends.{ClientView, is_close, has_close}
 
 -- ---- what a script posts
 
@@ -58,6 +58,34 @@ pub record IsSubsequence {X : Type 0} (xs ys : List X) : Type 0 where
   pub count : length keeps ≡ length ys
   pub same : kept keeps ys ≡ xs
 
+-- ---- what the posts come to
+
+-- a client that sent these orders, and may send this many, has a number for the order: it did not close, and the last number is
+-- for Close
+pub record MaySend (most : ℕ) (sent : List Order) (order : Order) : Type 0 where
+  pub still : has_close sent ≡ false
+  pub numbered : is_close order ≡ false → length sent + 1 ≢ most
+
+-- what the posts of a client that may send this many orders come to, one after another: the orders that it sent, and how many
+-- posts met a full lane. What it may not send is neither sent nor counted
+pub data ComeTo (most : ℕ) : List Order → List Order → ℕ → Type 0 where
+  begun : ComeTo most [] [] 0
+  sends : (posted sent : List Order) (full : ℕ) (order : Order) → ComeTo most posted sent full → MaySend most sent order →
+      ComeTo most (posted ++ order ∷ []) (sent ++ order ∷ []) full
+  meets_full : (posted sent : List Order) (full : ℕ) (order : Order) → ComeTo most posted sent full → MaySend most sent order →
+      ComeTo most (posted ++ order ∷ []) sent (full + 1)
+  may_not : (posted sent : List Order) (full : ℕ) (order : Order) → ComeTo most posted sent full → (MaySend most sent order → ⊥) →
+      ComeTo most (posted ++ order ∷ []) sent full
+
+-- a client, and how many of its posts met a full lane
+pub record FullPosts : Type 0 where
+  pub client : ℕ
+  pub count : ℕ
+
+-- the number of all posts that met a full lane, at most 2^32 - 1
+abbrev pub IsSum : ℕ → List FullPosts → Type 0
+IsSum lane_full counts = lane_full ≡ min (sum_by (λ x. x.count) counts) (2 ^ 32 - 1)
+
 -- ---- what is taken
 
 -- the orders of each client's takes are posts of its lines, in their order
@@ -67,6 +95,14 @@ TakesPosted h events clients = (c : ℕ) → c < clients → IsSubsequence (orde
 -- they are all of them, up to its first Close
 abbrev pub TakesAll : {A : Type 0} → History A → List Event → ℕ → Type 0
 TakesAll h events clients = (c : ℕ) → c < clients → orders h c ≡ until_close (posts c events)
+
+-- the posts that met a full lane are counted: of each client once those among its posts, whose others came to its takes
+pub record AreFullCounted {A : Type 0} (h : History A) (events : List Event) (most clients lane_full : ℕ) : Type 0 where
+  pub counts : List FullPosts
+  pub each : (k : ℕ) (x : FullPosts) → slice_get counts k ≡ Some x → (x.client < clients) × ComeTo most (posts x.client events) (orders h x.client) x.count
+  pub all : (c : ℕ) → c < clients → (k : ℕ) × (x : FullPosts) × (slice_get counts k ≡ Some x) × (x.client ≡ c)
+  pub once : (i j : ℕ) (x y : FullPosts) → slice_get counts i ≡ Some x → slice_get counts j ≡ Some y → x.client ≡ y.client → i ≡ j
+  pub sum : IsSum lane_full counts
 
 -- the rest of each client is the end of what it was told
 abbrev pub AreLastNotices : {A : Type 0} → History A → List (Vec Notice A) → ℕ → Type 0
@@ -87,16 +123,27 @@ pub record IsNew {A : Type 0} (client : ClientView A) (most : ℕ) : Type 0 wher
 abbrev pub AreNew : {A : Type 0} → ℕ → List (ClientView A) → Type 0
 AreNew {A} most cs = (k : ℕ) (x : ClientView A) → slice_get cs k ≡ Some x → IsNew x most
 
--- the client, which may send this many orders, has run its lines among these events: it sent posts of its lines, and where
--- none met a full lane and it has numbers for all, all of them up to its first Close
-pub record HasRun {A : Type 0} (events : List Event) (most : ℕ) (client : ClientView A) (lane_full : ℕ) : Type 0 where
+-- the client, which may send this many orders, has run its lines among these events: what it sent, and how many posts met a full
+-- lane, is what its posts come to; where none did and it has numbers for all, it sent all of them up to its first Close
+pub record HasRun {A : Type 0} (events : List Event) (most : ℕ) (client : ClientView A) (full : ℕ) : Type 0 where
   pub part : IsSubsequence client.sent (posts client.number events)
   pub few : length client.sent ≤ length events
   pub orders : client.orders ≡ most
-  pub whole : lane_full ≡ 0 → length events < most → client.sent ≡ until_close (posts client.number events)
+  pub whole : full ≡ 0 → length events < most → client.sent ≡ until_close (posts client.number events)
+  pub come : ComeTo most (posts client.number events) client.sent full
 
-abbrev pub AllHaveRun : {A : Type 0} → List Event → ℕ → List (ClientView A) → ℕ → Type 0
-AllHaveRun {A} events most cs lane_full = (k : ℕ) (x : ClientView A) → slice_get cs k ≡ Some x → HasRun events most x lane_full
+-- and this is that number, at most 2^32 - 1
+pub record HasCounted {A : Type 0} (events : List Event) (most : ℕ) (client : ClientView A) (lane_full : ℕ) : Type 0 where
+  pub full : ℕ
+  pub run : HasRun events most client full
+  pub counted : lane_full ≡ min full (2 ^ 32 - 1)
+
+-- the clients have run their lines, and so many posts met a full lane
+pub record AllHaveRun {A : Type 0} (events : List Event) (most : ℕ) (cs : List (ClientView A)) (lane_full : ℕ) : Type 0 where
+  pub counts : List FullPosts
+  pub count : length counts ≡ length cs
+  pub each : (k : ℕ) (x : ClientView A) (y : FullPosts) → slice_get cs k ≡ Some x → slice_get counts k ≡ Some y → (y.client ≡ x.number) × HasRun events most x y.count
+  pub sum : IsSum lane_full counts
 
 -- the client is the same but for what it collected and knows of its outlet
 pub record KeepsSent {A : Type 0} (old new : ClientView A) : Type 0 where

@@ -2,7 +2,7 @@
 
 ghost use Rattle.std.specs.Prelude.{◌≡◌, [], IfOk};
 ghost use Rattle.fleet_office.specs.Views.{AreOn, cores};
-ghost use Rattle.fleet_serve.specs.Posted.{HasRun, AllHaveRun, KeepsSent};
+ghost use Rattle.fleet_serve.specs.Posted.{HasCounted, AllHaveRun, KeepsSent};
 
 use crate::names::ScriptName;
 use fleet_lanes::Client;
@@ -22,13 +22,13 @@ pub struct ServedClient<N: ScriptName> {
 
 impl<N: ScriptName> Model for ServedClient<N> {
     ghost use Rattle.std.specs.declared.alloc.Global.{Global};
-    ghost use Rattle.fleet_serve.specs.Posted.{ServedClientView, HasRun};
+    ghost use Rattle.fleet_serve.specs.Posted.{ServedClientView, HasCounted};
 
     ghost Value = { ServedClientView Global };
 
     ghost view = { λ r. record { client = r.guest; lane_full = r.lane_full } };
 
-    ghost invariant = { λ r. HasRun N.events N.orders r.guest r.lane_full };
+    ghost invariant = { λ r. HasCounted N.events N.orders r.guest r.lane_full };
 }
 
 /// Collects until nothing is found.
@@ -45,7 +45,7 @@ fn collect_all<N: ScriptName>(guest: &mut Guest<N>)
 impl<N: ScriptName> ServedClient<N> {
     /// A client that has run its lines, and how many of its posts met a full lane.
     pub fn new(guest: Guest<N>, lane_full: u32) -> ServedClient<N>
-        requires { HasRun N.events N.orders guest lane_full }
+        requires { HasCounted N.events N.orders guest lane_full }
         ensures { result ≡ record { client = guest; lane_full = lane_full } }
     {
         ServedClient { guest, lane_full }
@@ -69,7 +69,7 @@ impl<N: ScriptName> ServedClient<N> {
     /// The client, which has run its lines.
     pub fn into_guest(self) -> Guest<N>
         ensures same { result ≡ self.client }
-        ensures ran { HasRun N.events N.orders result self.lane_full }
+        ensures ran { HasCounted N.events N.orders result self.lane_full }
     {
         self.guest
     }

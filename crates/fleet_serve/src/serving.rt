@@ -16,7 +16,7 @@ ghost use Rattle.fleet_office.specs.Views.{AreOn, IsNamed, cores};
 ghost use Rattle.fleet_office.specs.declared.report.TurnCause.{TurnCause};
 ghost use Rattle.fleet_serve.specs.inside.Faults.{IsLater, fault_of};
 ghost use Rattle.fleet_serve.specs.inside.Ends.{IsEnd};
-ghost use Rattle.fleet_serve.specs.Posted.{IsLine, AreNew, AllHaveRun, TakesPosted, TakesAll, AreLastNotices};
+ghost use Rattle.fleet_serve.specs.Posted.{IsLine, AreNew, AllHaveRun, TakesPosted, TakesAll, AreFullCounted, AreLastNotices};
 
 use crate::draining::make_last_turns;
 use crate::gate::Gate;
@@ -265,6 +265,7 @@ pub fn serve<R: Alloc<A = Global> + Threads + Sync + Wait, G: Gate + Sync>(
     ensures posted { IfOk result (λ s. TakesPosted (history_of s.last.chapter) script.now.events.items script.now.clients) }
     ensures all { IfOk result (λ s. s.lane_full ≡ 0 → length script.now.events.items < script.now.limits.orders →
         TakesAll (history_of s.last.chapter) script.now.events.items script.now.clients) }
+    ensures counted { IfOk result (λ s. AreFullCounted (history_of s.last.chapter) script.now.events.items script.now.limits.orders script.now.clients s.lane_full) }
     ensures rest { IfOk result (λ s. AreLastNotices (history_of s.last.chapter) s.last.rest.items script.now.clients) }
 {
     match Desk::new(rt.alloc(), script.clients, script.limits) {

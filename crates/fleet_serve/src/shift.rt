@@ -2,7 +2,7 @@
 
 ghost use Rattle.std.specs.Prelude.{◌≡◌, ◌++◌, ◌∷◌, [], List};
 ghost use Rattle.fleet_book.specs.declared.event.Event.{Event};
-ghost use Rattle.fleet_serve.specs.Posted.{HasRun};
+ghost use Rattle.fleet_serve.specs.Posted.{HasCounted};
 
 use crate::gate::Gate;
 use crate::names::ScriptName;
@@ -38,7 +38,7 @@ fn run_line<N: ScriptName, G: Gate>(
     gate: &G,
     lane_full: u32,
 ) -> u32
-    ensures { (events : List Event) → HasRun events N.orders guest.old lane_full → HasRun (events ++ event ∷ []) N.orders guest.new result }
+    ensures { (events : List Event) → HasCounted events N.orders guest.old lane_full → HasCounted (events ++ event ∷ []) N.orders guest.new result }
 {
     match event {
         Event::Post(client, order) if client == guest.number() => {

@@ -52,12 +52,39 @@ fn maps_are_explained(rt: HostRuntime) {
 const TRACE: &str =
     r#"{"chapter":0,"entries":[["tick",[1,7],[],[]],["tick",[4,6],[],[]]],"opening":{"clients":[[0,0,0,false]],"life":1000000,"queue":16,"robots":[[0,false,null,[],[0,0],[0,0]],[8,false,null,[],[0,0],[0,0]]],"tick":0},"version":2}"#;
 
+/// Robot 0 comes to its goal, and the tick shows no arrival.
+const MISSING: &str =
+    r#"{"chapter":0,"entries":[["take",0,["go",0,1],["accepted",1]],["tick",[1,8],[],[]]],"opening":{"clients":[[0,0,0,false]],"life":1000000,"queue":16,"robots":[[0,false,null,[],[0,0],[0,0]],[8,false,null,[],[0,0],[0,0]]],"tick":0},"version":2}"#;
+
+/// Robot 0 had its arrival at tick 1, and a second is shown.
+const EXTRA: &str =
+    r#"{"chapter":0,"entries":[["take",0,["go",0,1],["accepted",1]],["tick",[1,8],[[0,0,1,0]],[]],["tick",[1,8],[[0,0,1,0]],[]]],"opening":{"clients":[[0,0,0,false]],"life":1000000,"queue":16,"robots":[[0,false,null,[],[0,0],[0,0]],[8,false,null,[],[0,0],[0,0]]],"tick":0},"version":2}"#;
+
+/// Traces, and what is wrong with each.
+const TRACES: [(&str, &str); 3] = [
+    (
+        TRACE,
+        "the trace: entry 2, a tick: the step has a conflict, or leaves the floor: robot 0 comes to no floor",
+    ),
+    (
+        MISSING,
+        "the trace: entry 2, a tick: the arrivals are not those that are due: robot 0's with errand 1 of client 0 is due, and not shown",
+    ),
+    (
+        EXTRA,
+        "the trace: entry 3, a tick: the arrivals are not those that are due: robot 0's with errand 1 of client 0 is shown, and not due",
+    ),
+];
+
 #[test]
-fn steps_of_traces_are_explained(rt: HostRuntime) {
+fn entries_of_traces_are_explained(rt: HostRuntime) {
     let alloc = rt.alloc();
-    let explanation = explain_trace(alloc, MAP.as_bytes(), TRACE.as_bytes()).expect(&rt, "memory");
-    let sentence = format!(in alloc; "{explanation}").expect(&rt, "memory");
-    let expected =
-        "the trace: entry 2, a tick: the step has a conflict, or leaves the floor: robot 0 comes to no floor";
-    assert_eq!(rt; sentence.as_str(), expected);
+    for at in 0..TRACES.len() {
+        let (trace, expected) = TRACES[at];
+        let explanation = explain_trace(alloc, MAP.as_bytes(), trace.as_bytes()).expect(
+            &rt, "memory",
+        );
+        let sentence = format!(in alloc; "{explanation}").expect(&rt, "memory");
+        assert_eq!(rt; sentence.as_str(), expected, "at {at}");
+    }
 }

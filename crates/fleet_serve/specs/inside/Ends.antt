@@ -11,7 +11,7 @@ use Rattle.fleet_history.specs.Laws.{EachTick}
 use Rattle.fleet_hooks.specs.declared.law.TieLaw.{TieLaw}
 use Rattle.fleet_planner.specs.Planned.{IsPlanned, IsAdvancingTick}
 use Rattle.fleet_bound.specs.Bound.{WaitsAreBounded}
-use Rattle.fleet_serve.specs.Posted.{TakesPosted, TakesAll, AreLastNotices}
+use Rattle.fleet_serve.specs.Posted.{TakesPosted, TakesAll, AreFullCounted, AreLastNotices}
 
 -- the end of a serve of these events by this many clients, each of which may send this many orders: the map, the history and the
 -- number of its chapter, its ticks, and what is left of each client's notices
@@ -25,4 +25,5 @@ pub record IsEnd (events : List Event) (most clients lane_full : ℕ) (m : Floor
   pub tick : ticks ≡ clock h
   pub posted : TakesPosted h events clients
   pub all : lane_full ≡ 0 → length events < most → TakesAll h events clients
+  pub counted : AreFullCounted h events most clients lane_full
   pub rest : AreLastNotices h rests clients

@@ -41,6 +41,9 @@ returns-in-Ok-clause-posted g c = on_ok c.serve_at.result c.serve_at.ensures.end
 pub returns-in-Ok-clause-all : goal.returns-in-Ok-clause-all
 returns-in-Ok-clause-all g c = on_ok c.serve_at.result c.serve_at.ensures.ended (λ s e. e.all)
 
+pub returns-in-Ok-clause-counted : goal.returns-in-Ok-clause-counted
+returns-in-Ok-clause-counted g c = on_ok c.serve_at.result c.serve_at.ensures.ended (λ s e. e.counted)
+
 pub returns-in-Ok-clause-rest : goal.returns-in-Ok-clause-rest
 returns-in-Ok-clause-rest g c = on_ok c.serve_at.result c.serve_at.ensures.ended (λ s e. e.rest)
 
@@ -67,6 +70,9 @@ returns-in-Err-Limits-clause-posted g c = tt
 
 pub returns-in-Err-Limits-clause-all : goal.returns-in-Err-Limits-clause-all
 returns-in-Err-Limits-clause-all g c = tt
+
+pub returns-in-Err-Limits-clause-counted : goal.returns-in-Err-Limits-clause-counted
+returns-in-Err-Limits-clause-counted g c = tt
 
 pub returns-in-Err-Limits-clause-rest : goal.returns-in-Err-Limits-clause-rest
 returns-in-Err-Limits-clause-rest g c = tt

@@ -5,7 +5,7 @@ use Rattle.fleet_planner.specs.Planned.{IsPlanned}
 use Rattle.fleet_office.specs.Hall.{IsLawful}
 use Rattle.fleet_office.specs.Views.{cores}
 use Rattle.fleet_office.specs.Concluded.{IsLast, IsUnconcluded}
-use Rattle.fleet_office.proofs.Over.{some-kind, some-outcome, some-fault}
+use Rattle.fleet_office.proofs.Over.{some-kind, some-outcome, some-fault, ok-kind}
 use Rattle.fleet_office.proofs.office.Office+N+A.conclude.Goals as goal
 
 pub returns : goal.returns
@@ -24,6 +24,7 @@ returns g c =
       told = e.told;
       tick = e.tick;
       all = e.all;
+      distinct = ok-kind r (λ home. home.distinct) e.home;
       err = some-fault (λ h. IsLawful rings h.world h.ends h.total) (λ h e. IsUnconcluded (length rings) h c.args.clients.items c.args.tickers.items e.0) hall r lawful e.err;
       back = e.back;
       on = e.on;

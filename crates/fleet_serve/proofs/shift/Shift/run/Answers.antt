@@ -1,9 +1,9 @@
 use Rattle.std.proofs.Common.{take}
-use Rattle.fleet_serve.proofs.Runs.{run-none, run-next, run-all}
+use Rattle.fleet_serve.proofs.Runs.{counted-none, run-next, run-all}
 use Rattle.fleet_serve.proofs.shift.Shift.run.Goals as goal
 
 pub loop-at-init : goal.loop-at-init
-loop-at-init g c = run-none g.N.ScriptName.orders c.into_guest-guest.result record { sent = c.into_guest-guest.ensures.fresh; orders = c.into_guest-guest.ensures.orders }
+loop-at-init g c = counted-none g.N.ScriptName.orders c.into_guest-guest.result record { sent = c.into_guest-guest.ensures.fresh; orders = c.into_guest-guest.ensures.orders }
 
 pub loop-at-preserved : goal.loop-at-preserved
 loop-at-preserved g c =
