@@ -1,4 +1,4 @@
-//! What the program has to say to the texts that it read.
+//! The answer to the texts that it read.
 
 ghost use Rattle.std.specs.Prelude.{◌≡◌, ◌≤◌, ◌++◌, ℕ, List, Ok, length, IfOk, codes, string_bytes};
 ghost use Rattle.std.specs.List.{list_any};
@@ -46,7 +46,7 @@ fn meets_limit(replies: &[Reply]) -> bool
     replies.iter().any(|reply| is_limit(*reply))
 }
 
-/// The complaint of a world that is not opened for this reason. Out of memory is none.
+/// The complaint about a world that was not opened for this reason; an error for out of memory.
 fn opening_complaint(fault: OpenFault) -> Result<Complaint, AllocError>
     ensures named { IfOk result (λ c. IsNamed fault) }
     ensures value { IfOk result (λ c. c ≡ Complaint.Opening fault) }
@@ -66,7 +66,7 @@ pub fn trace_line(alloc: Global, chapter: &Chapter) -> Result<String, AllocError
     Ok(text)
 }
 
-/// What is written of a run: its trace, or its lines.
+/// The output of a run: its trace, or its lines.
 fn output_of(
     alloc: Global,
     trace: bool,
@@ -88,7 +88,7 @@ fn output_of(
     )
 }
 
-/// What is said of a run or a serve with this output, in which a limit was met or none was.
+/// The answer for a run or a serve with this output, with the status for whether a limit was met.
 pub fn ended(alloc: Global, met: bool, output: String) -> Result<Said, AllocError>
     ensures { IfOk result (λ s. said s ≡ limited met (string_bytes output)) }
 {
@@ -106,7 +106,7 @@ pub fn ended(alloc: Global, met: bool, output: String) -> Result<Said, AllocErro
     })
 }
 
-/// What is said of a run that was made.
+/// The answer for a run that was made.
 fn played_text(
     alloc: Global,
     trace: bool,
@@ -120,7 +120,7 @@ fn played_text(
     ended(alloc, meets_limit(played.replies.as_slice()), output)
 }
 
-/// What is said of a run that was made, whose world is then let go.
+/// The answer for a run that was made; drops its world.
 fn ended_text(
     alloc: Global,
     trace: bool,
@@ -135,7 +135,7 @@ fn ended_text(
     told
 }
 
-/// What is said where no run was made.
+/// The answer if no run was made.
 fn unplayed(alloc: Global, fault: RunFault) -> Result<Said, AllocError>
     ensures { IfOk result (λ s. IsUnplayed fault (said s)) }
 {
@@ -173,7 +173,7 @@ fn run_script<R: Alloc<A = Global>>(
     }
 }
 
-/// What the program has to say to a script on a map that was read.
+/// The answer to a script on a map that was read.
 fn answer_script<R: Alloc<A = Global>>(
     rt: &R,
     map: MapText,
@@ -192,7 +192,7 @@ fn answer_script<R: Alloc<A = Global>>(
     }
 }
 
-/// What the program has to say to a map and a script.
+/// The answer to a map and a script.
 pub fn answer_parts<R: Alloc<A = Global>>(
     rt: &R,
     map: &[u8],
@@ -212,7 +212,7 @@ pub fn answer_parts<R: Alloc<A = Global>>(
     }
 }
 
-/// What the program has to say to a bundle.
+/// The answer to a bundle.
 pub fn answer_bundle<R: Alloc<A = Global>>(
     rt: &R,
     bytes: &[u8],
@@ -227,7 +227,7 @@ pub fn answer_bundle<R: Alloc<A = Global>>(
     }
 }
 
-/// What the program has to say of a map that was read.
+/// The answer to a map that was read.
 fn describe_map(alloc: Global, map: MapText) -> Result<Said, AllocError>
     requires { HasSides (view map) }
     ensures { IfOk result (λ s. IsDescribed (floor_of_map (view map)) (said s)) }
@@ -240,7 +240,7 @@ fn describe_map(alloc: Global, map: MapText) -> Result<Said, AllocError>
     })
 }
 
-/// What the program has to say to a map alone.
+/// The answer to a map alone.
 pub fn answer_map(alloc: Global, bytes: &[u8]) -> Result<Said, AllocError>
     ensures { IfOk result (λ s. IsMapOutcome bytes.now (said s)) }
 {

@@ -1,4 +1,4 @@
-//! What the program has to say to a map and a trace.
+//! The answer to a map and a trace.
 
 ghost use Rattle.std.specs.Prelude.{◌≡◌, IfOk, codes};
 ghost use Rattle.fleet_map.specs.Form.{HasSides};
@@ -16,7 +16,7 @@ use fleet_map::{MapText, read_map};
 use fleet_trace::{JudgeFault, TraceFault, judge, read_trace};
 use std::alloc::{AllocError, Global};
 
-/// The complaint of a file that has no trace for this reason. Out of memory is none.
+/// The complaint about a file that has no trace for this reason; an error for out of memory.
 fn trace_complaint(fault: TraceFault) -> Result<Complaint, AllocError>
     ensures named { IfOk result (λ c. IsTraceNamed fault) }
     ensures value { IfOk result (λ c. c ≡ Complaint.Trace fault) }
@@ -27,7 +27,7 @@ fn trace_complaint(fault: TraceFault) -> Result<Complaint, AllocError>
     Ok(Complaint::Trace(fault))
 }
 
-/// What is said of a trace whose entry `at` is the first that breaks a rule.
+/// The answer for a trace whose entry `at` is the first that breaks a rule.
 fn illegal(alloc: Global, at: u64, rule: u8) -> Result<Said, AllocError>
     ensures { IfOk result (λ s. said s ≡ illegal_at at rule) }
 {
@@ -38,7 +38,7 @@ fn illegal(alloc: Global, at: u64, rule: u8) -> Result<Said, AllocError>
     })
 }
 
-/// What is said of a legal trace.
+/// The answer for a legal trace.
 fn legal(alloc: Global) -> Result<Said, AllocError>
     ensures { IfOk result (λ s. said s ≡ good (codes "legal\n")) }
 {
@@ -61,7 +61,7 @@ fn judge_chapter(alloc: Global, map: MapText, chapter: &Chapter) -> Result<Said,
     }
 }
 
-/// What the program has to say to a map and a trace.
+/// The answer to a map and a trace.
 pub fn answer_trace(alloc: Global, map: &[u8], trace: &[u8]) -> Result<Said, AllocError>
     ensures { IfOk result (λ s. IsJudgeOutcome map.now trace.now (said s)) }
 {

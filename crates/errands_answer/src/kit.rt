@@ -7,7 +7,7 @@ ghost use Rattle.errands_answer.specs.Kit.{kit_laws};
 use fleet_hooks::Hooks;
 use std::alloc::{Allocator, Global};
 
-/// The closures of either choice, 16 of each kind in the program.
+/// The closures of both choices; the program has 16 of each kind.
 #[derive(Drop)]
 pub struct HookKit<A: Allocator + Copy = Global> {
     /// Every rank, stamp and farewell is 0.

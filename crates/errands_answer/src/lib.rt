@@ -1,4 +1,4 @@
-//! What there is to say to the text of a map, of a bundle, of a script or of a trace on a map.
+//! Answers to the text of a map, of a bundle, of a script, or of a trace on a map.
 #![tactic(auto)]
 
 mod answer;

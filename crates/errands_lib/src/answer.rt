@@ -1,4 +1,4 @@
-//! What the program has to say to the texts that it read.
+//! The answer to the texts that it read.
 
 ghost use Rattle.std.specs.Prelude.{◌≡◌, ◌≤◌, false, length, IfOk};
 ghost use Rattle.errands_words.specs.Asked.{is_serve};
@@ -11,8 +11,7 @@ use errands_text::Said;
 use errands_words::Job;
 use std::alloc::{Alloc, AllocError, Global};
 
-/// What the program has to say to the texts of a job that is not to serve, the second of which counts only where the job
-/// names two files.
+/// The answer to the texts of a job that is not a serve. The second text counts only if the job names two files.
 pub(crate) fn answer<R: Alloc<A = Global>>(
     rt: &R,
     job: &Job,

@@ -1,4 +1,5 @@
-//! The program's own closures. No function may hand out a boxed closure that it made, so they are made where the job is done.
+//! The program's own closures. A function cannot return a boxed closure that it made, so they are made where the job is
+//! done.
 
 ghost use Rattle.std.specs.Prelude.{◌≡◌, ◌<◌, is_some, IfOk, IfSome, OnErr};
 ghost use Rattle.std.specs.Box.{box_value};
@@ -21,7 +22,7 @@ use std::io::{Read, Write};
 use std::sync::Wait;
 use std::thread::Threads;
 
-/// How many robots there are closures for.
+/// The number of robots for which there are closures.
 const ROBOTS: usize = 16;
 
 const NOUGHT: StampLaw = StampLaw { low: 0, high: 0 };
@@ -38,7 +39,7 @@ const SOUTH_FIRST: TieLaw = TieLaw {
     high: [9, 9, 0, 9],
 };
 
-/// A box for each of these.
+/// A box for each of these closures.
 fn boxes_of<T: Drop, S: Drop, F: Drop>(
     alloc: Global,
     tie: T,
@@ -117,7 +118,7 @@ fn run_with_closures<R: Alloc<A = Global> + Threads + Sync + Wait, I: Read, W: W
     Ok(run_program(rt, job, map, other, output, error, kit))
 }
 
-/// Does the job with the program's closures. The result is the status, 7 where they could not be made.
+/// Does the job with the program's closures. Returns the status, 7 where they could not be made.
 pub fn run_with_kit<R: Alloc<A = Global> + Threads + Sync + Wait, I: Read, W: Write, E: Write>(
     rt: &R,
     job: &Job,

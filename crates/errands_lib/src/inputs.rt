@@ -7,15 +7,15 @@ ghost use Rattle.errands_lib.specs.Inputs.{OpensBoth};
 use errands_text::InputFault;
 use std::io::Read;
 
-/// The program's ends that it reads from. `errands` has the files and the standard input of its process; a test has its own.
+/// What the program reads from. `errands` has the files and the standard input of its process; a test has its own.
 pub trait Inputs {
     type File: Read + Drop;
 
     type Input: Read + Drop;
 
-    /// What was asked for the file of this name gave what was found.
+    /// Says what opening the file with this name gave.
     ghost opens: { Self → List ℕ → Result Self.File InputFault → Self → Type 0 };
-    /// Standard input was taken.
+    /// Says that standard input was taken.
     ghost reads: { Self → Self.Input → Self → Type 0 };
 
     /// Opens the file of this name. `NoMemory` where memory ran out, `File` where it cannot be opened for any other reason.

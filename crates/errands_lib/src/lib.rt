@@ -1,5 +1,5 @@
-//! What the program `errands` does, over any readers and writers: what it says to the files of a job, with its own closures,
-//! and its status.
+//! Does what the program `errands` does, with any readers and writers: the answers to the files of a job, with the
+//! program's own closures, and its status.
 #![tactic(auto)]
 
 mod answer;

@@ -1,4 +1,4 @@
-//! The program over any readers and writers.
+//! The program, with any readers and writers.
 
 ghost use Rattle.std.specs.Prelude.{◌≡◌, ◌≤◌, false, true, IfOk, IfSome, is_some, vec_len};
 ghost use Rattle.errands_words.specs.Asked.{is_serve};
@@ -19,7 +19,7 @@ use std::io::{Read, Write};
 use std::sync::Wait;
 use std::thread::Threads;
 
-/// Says on the error writer that a file or memory failed. The result is the status.
+/// Prints on the error writer that a file or memory failed. Returns the status.
 pub fn fail<E: Write>(fault: InputFault, error: &mut E) -> u8
     ensures { Failed fault (E.contents error.old) (E.contents error.new) result }
 {
@@ -27,7 +27,7 @@ pub fn fail<E: Write>(fault: InputFault, error: &mut E) -> u8
     Complaint::from(fault).status()
 }
 
-/// Writes what there is to say. The result is the status.
+/// Writes what there is to say. Returns the status.
 fn tell<W: Write, E: Write>(said: &Said, output: &mut W, error: &mut E) -> u8
     ensures { IsTold (said_of said.now) (W.contents output.old) (W.contents output.new) (E.contents error.old) (E.contents error.new) result }
 {
@@ -38,7 +38,7 @@ fn tell<W: Write, E: Write>(said: &Said, output: &mut W, error: &mut E) -> u8
     said.status
 }
 
-/// What a job's files have, which are read in their order.
+/// The contents of a job's files, which are read in their order.
 fn read_files<I: Read>(
     alloc: Global,
     map: &mut I,
@@ -54,7 +54,7 @@ fn read_files<I: Read>(
     Ok((first, second))
 }
 
-/// What there is to say to the files of a job that is not to serve, which are read in their order.
+/// The answer to the files of a job that is not to serve, which are read in their order.
 fn answer_files<R: Alloc<A = Global>, I: Read>(
     rt: &R,
     job: &Job,
@@ -75,7 +75,7 @@ fn answer_files<R: Alloc<A = Global>, I: Read>(
     }
 }
 
-/// What there is to say to the map and the script that are to be served, which are read in this order.
+/// The answer to the map and the script that are to be served, which are read in this order.
 fn answer_served<R: Alloc<A = Global> + Threads + Sync + Wait, I: Read>(
     rt: &R,
     job: &Job,
@@ -96,7 +96,7 @@ fn answer_served<R: Alloc<A = Global> + Threads + Sync + Wait, I: Read>(
     }
 }
 
-/// Does a job that is not to serve, and waits for nobody. The result is the status, as for `run_program`.
+/// Does a job that is not a serve, and waits for no thread. Returns the status, as `run_program` does.
 pub fn run_plain<R: Alloc<A = Global>, I: Read, W: Write, E: Write>(
     rt: &R,
     job: &Job,
@@ -117,9 +117,9 @@ pub fn run_plain<R: Alloc<A = Global>, I: Read, W: Write, E: Write>(
     }
 }
 
-/// Does the job and writes what there is to say. The result is the status: 0 good, 3 a file failed, 4 the map, 5 the
-/// script or the opening or 6 the trace is refused, 6 too where the trace is illegal, 7 memory ran out or a thread could not
-/// be started, 8 a limit was met. To serve waits for the threads that it starts.
+/// Does the job and writes the answer. Returns the status: 0 all went well; 3 a file failed; 4 the map, 5 the script or
+/// the opening, or 6 the trace is refused; 6 also if the trace is illegal; 7 memory ran out, or a thread could not be
+/// started; 8 a limit was met. A serve waits for the threads that it starts.
 pub fn run_program<R: Alloc<A = Global> + Threads + Sync + Wait, I: Read, W: Write, E: Write>(
     rt: &R,
     job: &Job,

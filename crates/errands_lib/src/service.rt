@@ -1,4 +1,4 @@
-//! What the program has to say to a map and a script that is to be served.
+//! The answer to a map and a script that is to be served.
 
 ghost use Rattle.std.specs.Prelude.{◌≡◌, ◌≤◌, ◌<◌, ◌^◌, ◌++◌, true, length, List, ℕ, Ok, nat_lt, IfOk, OnOk, codes};
 ghost use Rattle.std.specs.List.{All};
@@ -29,7 +29,7 @@ use std::alloc::{Alloc, AllocError, Global};
 use std::sync::Wait;
 use std::thread::Threads;
 
-/// A gate that holds nobody.
+/// A gate that delays no line.
 #[derive(Clone, Copy)]
 struct OpenGate;
 
@@ -60,7 +60,7 @@ fn judge_served(alloc: Global, grid: &Grid, chapter: &Chapter) -> Result<(), All
     }
 }
 
-/// What is said of a serve that came to an end: its trace, which is judged on the map first.
+/// The answer for a serve that ended: its trace, which is first judged on the map.
 fn served_text(alloc: Global, grid: &Grid, served: &Served) -> Result<Said, AllocError>
     ensures legal { IfOk result (λ s. IsLegal grid.now (history_of served.now.last.chapter)) }
     ensures said { IfOk result (λ s. said s ≡ limited (nat_lt 0 served.now.lane_full) (trace_text (trace_of served.now.last.chapter) ++ codes "\n")) }
@@ -71,7 +71,7 @@ fn served_text(alloc: Global, grid: &Grid, served: &Served) -> Result<Said, Allo
     ended(alloc, served.lane_full > 0, output)
 }
 
-/// What is said of a serve that came to no end for this reason.
+/// The answer for a serve that failed for this reason.
 fn unserved_text(alloc: Global, fault: ServeFault) -> Result<Said, AllocError>
     ensures { IfOk result (λ s. IsUnserved fault (said s)) }
 {
@@ -158,7 +158,7 @@ fn serve_script<R: Alloc<A = Global> + Threads + Sync + Wait>(
     faulty(rt.alloc(), Complaint::Script(script.lines[at]))
 }
 
-/// What the program has to say to a script that is to be served on a map that was read.
+/// The answer to a script that is to be served on a map that was read.
 fn answer_script<R: Alloc<A = Global> + Threads + Sync + Wait>(
     rt: &R,
     map: MapText,
@@ -181,7 +181,7 @@ fn answer_script<R: Alloc<A = Global> + Threads + Sync + Wait>(
     }
 }
 
-/// What the program has to say to a map and a script that is to be served.
+/// The answer to a map and a script that is to be served.
 fn answer_serve<R: Alloc<A = Global> + Threads + Sync + Wait>(
     rt: &R,
     map: &[u8],
@@ -200,7 +200,7 @@ fn answer_serve<R: Alloc<A = Global> + Threads + Sync + Wait>(
     }
 }
 
-/// What the program has to say to the texts of a job that is to serve.
+/// The answer to the texts of a job that is to serve.
 pub(crate) fn answer_job<R: Alloc<A = Global> + Threads + Sync + Wait>(
     rt: &R,
     job: &Job,

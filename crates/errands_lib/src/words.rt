@@ -1,4 +1,4 @@
-//! What the program does with its words.
+//! What the program does with its arguments.
 
 ghost use Rattle.std.specs.Prelude.{◌≡◌, IfSome, is_some, map, string_bytes};
 ghost use Rattle.errands_text.specs.Transfer.{bytes_of};
@@ -19,7 +19,7 @@ use std::thread::Threads;
 /// The status of words that name no job.
 const BAD_WORDS: u8 = 2;
 
-/// Says on the error writer why words name no job. The result is the status: 2, or 7 where memory ran out.
+/// Prints on the error writer why words name no job. Returns the status: 2, or 7 where memory ran out.
 pub fn refuse_words<E: Write>(fault: &WordFault, error: &mut E) -> u8
     ensures { Refuses fault.now (E.contents error.old) (E.contents error.new) result }
 {
@@ -32,7 +32,7 @@ pub fn refuse_words<E: Write>(fault: &WordFault, error: &mut E) -> u8
     }
 }
 
-/// `run_with_kit`, with one lifetime for both files: a file that is not there has that of the other.
+/// `run_with_kit`, with one lifetime for both files: a missing file gets the lifetime of the other.
 fn run_on<'a, R: Alloc<A = Global> + Threads + Sync + Wait, I: Read, W: Write, E: Write>(
     rt: &R,
     job: &Job,
@@ -48,7 +48,7 @@ fn run_on<'a, R: Alloc<A = Global> + Threads + Sync + Wait, I: Read, W: Write, E
     run_with_kit(rt, job, file, other, output, error)
 }
 
-/// Opens what a job names and does the job. The result is the status.
+/// Opens what a job names and does the job. Returns the status.
 fn run_job<R: Alloc<A = Global> + Threads + Sync + Wait, I: Inputs, W: Write, E: Write>(
     rt: &R,
     job: &Job,
@@ -74,12 +74,12 @@ fn run_job<R: Alloc<A = Global> + Threads + Sync + Wait, I: Inputs, W: Write, E:
     }
 }
 
-/// Does what the words say, of which the first is the program's name, and writes what there is to say. The result is the
+/// Does what the words say, of which the first is the program's name, and writes what there is to say. Returns the
 /// status.
 ///
-/// Words that name no job, a request for help among them, end with status 2 and `clap`'s text on the error writer; nothing is
-/// opened. Files are opened in their order, the second only where the first could be, and before either is read; one that
-/// cannot be is status 3. What comes then is `run_program`'s.
+/// Arguments that name no job, such as a request for help, end with status 2 and `clap`'s text on the error writer; no
+/// file is opened. Files are opened in their order, the second only if the first could be opened, and both before
+/// either is read. If a file cannot be opened, the status is 3. Everything after that is as in `run_program`.
 pub fn run_words<R: Alloc<A = Global> + Threads + Sync + Wait, I: Inputs, W: Write, E: Write>(
     rt: &R,
     words: &[String],

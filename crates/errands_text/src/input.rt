@@ -52,7 +52,7 @@ pub fn read_whole<A: Allocator + Copy, R: Read>(
     Err(InputFault::File)
 }
 
-/// All that a second reader has, which is at most 16,777,216 bytes, and nothing where there is none.
+/// Everything that a second reader has, at most 16,777,216 bytes; nothing if there is none.
 pub fn read_other<A: Allocator + Copy, R: Read>(
     alloc: A,
     reader: Option<&mut R>,

@@ -1,4 +1,4 @@
-//! What a run, a map and a refusal read as, in text; and whole reads and writes of any readers and writers.
+//! Formats runs, maps and refusals as text; reads and writes whole texts, with any readers and writers.
 #![tactic(auto)]
 
 mod input;

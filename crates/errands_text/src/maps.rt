@@ -23,7 +23,7 @@ impl fmt::Display for BridgeText {
     }
 }
 
-/// What there is to print of a map: its sides, how many floor cells and edges it has, and its first bridge.
+/// What is printed about a map: its sides, the numbers of its floor cells and edges, and its first bridge.
 #[derive(Clone, Copy)]
 struct MapLines {
     height: u32,

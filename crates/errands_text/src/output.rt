@@ -1,4 +1,4 @@
-//! A text onto a writer.
+//! Writes a text.
 
 ghost use Rattle.std.specs.Prelude.{◌≡◌, ◌≤◌, ◌<◌, ◌++◌, length, IsTrue};
 ghost use Rattle.std.specs.Io.KnownBytes.{Appends};

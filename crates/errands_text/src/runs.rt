@@ -31,7 +31,7 @@ fn write_parting<A: Allocator + Copy>(
     }
 }
 
-/// A line of a word, which ends with its blank, and a number.
+/// A line of a word, which ends with its blank, and of a number.
 fn write_numbered<A: Allocator + Copy>(
     out: &mut String<A>,
     word: &str,

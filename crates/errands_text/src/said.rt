@@ -1,4 +1,4 @@
-//! What the program has to say, and how it names what is wrong.
+//! Answers of the program, and how it names faults.
 
 ghost use Rattle.std.specs.Prelude.{◌≡◌, ◌++◌, Some, IfOk, string_bytes};
 ghost use Rattle.errands_text.specs.Complaint.{complaint_of, complaint_text, complaint_line, status_of};
@@ -13,13 +13,13 @@ use fleet_world::OpenFault;
 use std::alloc::{AllocError, Global};
 use std::fmt;
 
-/// What is wrong, as the error writer is told.
+/// A fault, as the error writer names it.
 #[derive(Clone, Copy, Debug, PartialEq, Eq)]
 pub enum Complaint {
     /// A file could not be opened, read or written, or is too long.
     File,
     Map(MapFault),
-    /// The script's line that may not stand, from 1.
+    /// The first line of the script that is not allowed where it is, counted from 1.
     Script(u32),
     Opening(OpenFault),
     Trace(TraceFault),
@@ -98,7 +98,7 @@ pub fn line_of(alloc: Global, complaint: Complaint) -> Result<String, AllocError
     format!(in alloc; "errands: {complaint}\n")
 }
 
-/// The line that the error writer is told where a file or memory failed. It takes no memory.
+/// The line that the error writer is told where a file or memory failed. It allocates nothing.
 pub fn failure_line(fault: InputFault) -> &'static str
     ensures { result.now ≡ complaint_line (complaint_of fault) }
 {
@@ -108,7 +108,7 @@ pub fn failure_line(fault: InputFault) -> &'static str
     }
 }
 
-/// What is said where there is nothing but a complaint.
+/// An answer that has only a complaint.
 pub fn faulty(alloc: Global, complaint: Complaint) -> Result<Said, AllocError>
     ensures { IfOk result (λ s. said s ≡ fault complaint) }
 {

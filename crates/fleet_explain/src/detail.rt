@@ -1,4 +1,4 @@
-//! What more there is to say of an entry that breaks a rule.
+//! Details about an entry that breaks a rule.
 
 ghost use Rattle.std.specs.Prelude.{◌≡◌, ◌≤◌, length, map, take, IfOk};
 ghost use Rattle.fleet_grid.specs.Step.{IsPlacement};
@@ -13,7 +13,7 @@ use fleet_grid::Grid;
 use fleet_history::{Arrival, Chapter, Entry, RobotState};
 use std::alloc::{AllocError, Global};
 
-/// What more there is to say of an entry that breaks a rule.
+/// Details about an entry that breaks a rule.
 #[derive(Clone, Copy, Debug, PartialEq, Eq)]
 pub enum Detail {
     /// Nothing.
@@ -26,14 +26,14 @@ pub enum Detail {
     Extra(ArrivalName),
 }
 
-/// Where the robots stand at the opening.
+/// The robots' cells at the opening.
 fn opened_cells(alloc: Global, robots: &[RobotState]) -> Result<Vec<u32>, AllocError>
     ensures { IfOk result (λ cells. cells.items ≡ map (λ x. x.cell) robots.now) }
 {
     robots.iter().map(|robot| robot.cell).collect(alloc)
 }
 
-/// Where robots that stand on these cells stand after the entries.
+/// The cells, after the entries, of robots that were on these cells.
 fn place_after<'a>(cells: &'a [u32], entries: &'a [Entry]) -> &'a [u32]
     ensures { result.now ≡ place_after cells.now entries.now }
 {

@@ -1,4 +1,4 @@
-//! What stands at a place of a trace.
+//! What is at a place of a trace.
 
 ghost use Rattle.std.specs.Prelude.{◌≡◌};
 ghost use Rattle.fleet_explain.specs.Entries.{kind_of, kind_at};
@@ -29,7 +29,7 @@ fn kind_of(entry: &Entry) -> EntryKind
     }
 }
 
-/// What stands at this place, from 1; at 0 the opening.
+/// What is at this place, counted from 1; at 0 the opening.
 pub(crate) fn kind_at(entries: &[Entry], at: u64) -> EntryKind
     ensures { result ≡ kind_at entries.now at }
 {

@@ -22,15 +22,15 @@ use std::alloc::{AllocError, Global};
 pub enum Explanation {
     /// Nothing.
     Fine,
-    /// The bytes are no map, for another reason than a letter.
+    /// The bytes are not a map, and the reason is not a wrong letter.
     Map(MapFault),
-    /// The byte in this row and column of the map is no letter of a map. Both count from 0.
+    /// The byte in this row and column of the map is not a letter of a map. Both count from 0.
     Letter {
         row: u32,
         column: u32,
         letter: u8,
     },
-    /// The line of the script, from 1, may not stand where it does.
+    /// The line of the script, from 1, is not allowed where it is.
     Script {
         line: u32,
         fault: LineFault,
@@ -101,8 +101,8 @@ fn start_explanation(
     }
 }
 
-/// What is wrong with a map, else with a script on it: whether it can be read, and whether its fleet can begin on the map. The events
-/// are not made. The only error is out of memory.
+/// What is wrong with a map or with a script on it: first whether the map can be read, then the script, then whether
+/// its fleet can be opened on the map. The events are not run. The only error is out of memory.
 pub fn explain_script(alloc: Global, map: &[u8], script: &[u8]) -> Result<Explanation, AllocError>
     requires { length script.now ≤ 16777216 }
     ensures { IfOk result (λ e. IsScriptExplained map.now script.now e) }
@@ -147,8 +147,8 @@ fn chapter_explanation(
     }
 }
 
-/// What is wrong with a map, else with a trace on it: whether it can be read, and whether it is legal on the map. The only error is
-/// out of memory.
+/// What is wrong with a map or with a trace on it: first whether the map can be read, then the trace, then whether it
+/// is legal on the map. The only error is out of memory.
 pub fn explain_trace(alloc: Global, map: &[u8], trace: &[u8]) -> Result<Explanation, AllocError>
     ensures { IfOk result (λ e. IsTraceExplained map.now trace.now e) }
 {

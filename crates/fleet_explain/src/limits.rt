@@ -73,7 +73,7 @@ impl LimitKind {
         }
     }
 
-    /// What a script gives it.
+    /// The value that a script gives it.
     fn value(self, limits: &Limits, clients: u32) -> u64
         ensures { result ≡ value_of limits.now clients self }
     {

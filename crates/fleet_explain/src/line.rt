@@ -10,18 +10,18 @@ use fleet_map::text::{first_line, first_word};
 use fleet_script::{EventLine, event_line};
 use std::alloc::{AllocError, Global};
 
-/// What is wrong with the first line of a script that may not stand where it does.
+/// What is wrong with the first line of a script that is not allowed where it is.
 #[derive(Clone, Copy, Debug, PartialEq, Eq)]
 pub enum LineFault {
     /// The text ends without a line `robots`.
     NoRobots,
-    /// No line begins with its first word.
+    /// Its first word begins no kind of line.
     Unknown,
     /// It is a header line after an event line.
     Late,
     /// It is the second line of its kind.
     Twice,
-    /// What comes after its first word is not what this wants.
+    /// The words after the first are not those that it needs.
     Form(Keyword),
 }
 

@@ -61,9 +61,9 @@ impl<N: OfficeName<A>, A: Allocator + Copy + Send + Sync> Hall<N, A> {
 }
 
 impl<N: OfficeName<A>, A: Allocator + Copy + Send + Sync> Office<N, A> {
-    /// Searches the fields of the robots' next errands side by side, in as many threads as there are processors, and keeps as
-    /// many as have place: a later turn takes them from there. They show in nothing but the time and the memory that a turn
-    /// needs. `AllocError` where memory was refused; nothing has changed then.
+    /// Searches the fields of the robots' next errands side by side, in as many threads as there are processors, and
+    /// keeps as many as fit: a later turn takes them from there. They show in nothing but the time and the memory that
+    /// a turn needs. `AllocError` if memory runs out; nothing has changed then.
     ///
     /// A ticker calls it after a turn, while there is time until the next: it holds the lock meanwhile. Clients wait for no lock.
     pub fn search_ahead<R: Threads + Sync + Wait>(&self, rt: &R) -> Result<(), AllocError>

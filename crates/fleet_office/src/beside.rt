@@ -3,10 +3,11 @@
 use crate::office::OfficeOf;
 use std::thread::{Threads, join};
 
-/// Calls `work` in two threads at one office, with `first` in the one and `second` in the other (two tickers, say), and returns
-/// both results. Where no thread can be started, the caller's does both.
+/// Calls `work` in two threads at one office, with the argument `first` in one thread and `second` in the other (two
+/// tickers, for example), and returns both results. If no thread can be started, the caller's thread does both.
 ///
-/// It is generic in the office's parts, since the check finds of each part that it may cross threads, and of the whole not.
+/// It is generic in the office's parts, since `rt` can check for each part that it may cross threads, but not for the
+/// whole.
 pub fn side_by_side<
     X: Send,
     Y: Send,

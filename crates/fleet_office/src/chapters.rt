@@ -21,7 +21,7 @@ use std::alloc::Allocator;
 use std::sync::Wait;
 
 impl<N: OfficeName<A>, A: Allocator + Copy> HallState<N, A> {
-    /// Hands the chapter out and begins the next, whose opening is the state now. Rings and mailboxes stay.
+    /// Returns the current chapter and begins the next, whose opening is the current state. Rings and mailboxes stay.
     pub fn next_chapter(&mut self) -> Result<Chapter<A>, ChapterFault>
         ensures book_spent { (result ≡ Err ChapterFault.BookSpent) ↔ (self.old.world.number + 1 ≡ self.old.world.limits.chapters) }
         ensures history { IfOk result (λ chapter. history_of chapter ≡ self.old.world.history) }
@@ -39,7 +39,8 @@ impl<N: OfficeName<A>, A: Allocator + Copy> HallState<N, A> {
         handed
     }
 
-    /// Hands the chapter out and begins the next where it has at least this many entries. `None` where it has fewer: it stays.
+    /// Returns the current chapter and begins the next, if the chapter has at least this many entries. `None` if it has
+    /// fewer; nothing changes then.
     pub fn turn_page(&mut self, least: u32) -> Result<Option<Chapter<A>>, ChapterFault>
         ensures few { (result ≡ Ok None) ↔ (length self.old.world.history.entries < least) }
         ensures book_spent { (result ≡ Err ChapterFault.BookSpent) ↔
@@ -58,7 +59,7 @@ impl<N: OfficeName<A>, A: Allocator + Copy> HallState<N, A> {
 }
 
 impl<N: OfficeName<A>, A: Allocator + Copy> Hall<N, A> {
-    /// Hands the chapter out and begins the next, whose opening is the state now. Rings and mailboxes stay.
+    /// Returns the current chapter and begins the next, whose opening is the current state. Rings and mailboxes stay.
     ///
     /// Refused in this order: this is the last of the chapters, out of memory.
     pub fn next_chapter(&mut self) -> Result<Chapter<A>, ChapterFault>
@@ -76,9 +77,10 @@ impl<N: OfficeName<A>, A: Allocator + Copy> Hall<N, A> {
         self.state.next_chapter()
     }
 
-    /// Hands the chapter out and begins the next where it has at least this many entries. `None` where it has fewer: it stays.
+    /// Returns the current chapter and begins the next, if the chapter has at least this many entries. `None` if it has
+    /// fewer; nothing changes then.
     ///
-    /// Refused, where it has as many, as `next_chapter` is.
+    /// If it has that many, refused as `next_chapter` is.
     pub fn turn_page(&mut self, least: u32) -> Result<Option<Chapter<A>>, ChapterFault>
         requires { 0 ≤ self.old.state.total }
         ensures few { (result ≡ Ok None) ↔ (length self.old.state.world.history.entries < least) }
@@ -92,10 +94,11 @@ impl<N: OfficeName<A>, A: Allocator + Copy> Hall<N, A> {
 }
 
 impl<N: OfficeName<A>, A: Allocator + Copy> Office<N, A> {
-    /// Hands the chapter out and begins the next, as `next_chapter` does, where it has at least this many entries. `None` where it
-    /// has fewer: it stays. Of several tickers that find a chapter full, so one alone turns the page.
+    /// Returns the current chapter and begins the next, as `next_chapter` does, if the chapter has at least this many
+    /// entries. `None` if it has fewer; nothing changes then. So of several tickers that find a chapter full only one
+    /// begins the next.
     ///
-    /// Refused, where it has as many, as `next_chapter` is. Nothing has changed then.
+    /// If it has that many, refused as `next_chapter` is; a refused call changes nothing.
     pub fn turn_page<R: Wait>(&self, rt: &R, least: u32) -> Result<Option<Chapter<A>>, ChapterFault>
         requires { least < 2 ^ 32 }
         ensures few { (result ≡ Ok None) → (h : HallView A) × IsLawful N.rings h.world h.ends h.total × (length h.world.history.entries < least) }

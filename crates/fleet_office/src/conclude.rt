@@ -30,7 +30,7 @@ use std::alloc::{Allocator, Global};
 use std::sync::Mutex;
 use thiserror::Error;
 
-/// Why an office is not concluded; the first that stands is answered.
+/// Why an office is not concluded; the first reason that holds is returned.
 #[derive(Clone, Copy, Debug, PartialEq, Eq, Error)]
 pub enum ConcludeFault {
     /// The client was not handed in.
@@ -45,12 +45,12 @@ pub enum ConcludeFault {
     /// The chapter has all the entries that it may have, and an order is left in a lane.
     #[error("the chapter is full, and an order is left in a lane")]
     ChapterFull,
-    /// Memory was refused.
+    /// Memory ran out.
     #[error("out of memory")]
     NoMemory,
 }
 
-/// What comes back for a further call.
+/// What is returned, for another call.
 #[derive(Drop)]
 pub struct Home<N: OfficeName<A>, A: Allocator + Copy = Global> {
     pub office: Office<N, A>,
@@ -73,7 +73,7 @@ pub struct Final<A: Allocator + Copy = Global> {
 }
 
 impl<N: OfficeName<A>, A: Allocator + Copy> HallState<N, A> {
-    /// Whether all clients came home, and the tickers that made all ticks.
+    /// Whether all clients are here, and tickers that together made all ticks.
     fn see_home(
         &mut self,
         clients: &[Client<A>],
@@ -98,7 +98,8 @@ impl<N: OfficeName<A>, A: Allocator + Copy> HallState<N, A> {
         Ok(())
     }
 
-    /// Takes every order that is left in the lanes, and makes room for what the clients had not collected.
+    /// Takes every order that is left in the lanes, and reserves memory for the notices that the clients had not
+    /// collected.
     fn wind_down(
         &mut self,
         alloc: A,

@@ -12,7 +12,7 @@ use std::alloc::{AllocError, Allocator, Global};
 use std::marker::Model;
 use std::sync::ledger::Blank;
 
-/// New lanes and a new ledger, which have no name yet.
+/// New lanes and a new ledger, which do not belong to a named office yet.
 #[derive(Drop)]
 pub struct Desk<A: Allocator + Copy = Global> {
     pub(crate) limits: Limits,
@@ -51,7 +51,7 @@ impl<A: Allocator + Copy> Desk<A> {
         }
     }
 
-    /// The lanes and the ledger, of limits that are in range.
+    /// The lanes and the ledger, for limits that are in range.
     fn make(alloc: A, count: u32, limits: Limits) -> Result<Desk<A>, AllocError>
         requires { AreInRange count limits }
         ensures ok { IfOk result (λ d. (length d.clients ≡ count) × (d.limits ≡ limits) × (d.parts ≡ 65536)

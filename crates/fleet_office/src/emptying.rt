@@ -75,7 +75,7 @@ impl<N: OfficeName<A>, A: Allocator + Copy> HallState<N, A> {
         Ok(())
     }
 
-    /// Takes every order that is left in the lane of the client of this number.
+    /// Takes every order that is left in the lane of the client with this number.
     fn drain_number(&mut self, clients: &mut [Client<A>], number: u32) -> Result<(), TakeFault>
         requires on { AreOn N.rings (cores clients.old) }
         requires distinct { AreDistinct (cores clients.old) }

@@ -1,4 +1,4 @@
-//! A client that its office knows again, whatever thread it went through.
+//! A client whose type ties it to its office, so that it may go through threads and be returned.
 
 ghost use Rattle.std.specs.Prelude.{◌≡◌, ◌+◌, ◌<◌, ◌≤◌, ◌↔◌, ◌⊎◌, ◌++◌, ◌∷◌, [], true, length, Some, slice_get, Err, IfOk, IfErr, IfSome, IfNone, IsSome};
 ghost use mathlib.Core.List.{IsPrefix};
@@ -12,8 +12,8 @@ use fleet_lanes::{Client, PostFault};
 use std::alloc::{AllocError, Allocator, Global};
 use std::marker::{Model, PhantomData};
 
-/// A client of the office of this name, and seen as that client. Its type says that it is on the office's rings, so it may go
-/// through a thread and come home.
+/// A client of the office with this name; contracts see it as that client. Its type says that it is on the office's
+/// rings, so that it may move to a thread and be returned to the office.
 #[derive(Drop)]
 pub struct Guest<N: OfficeName<A>, A: Allocator + Copy = Global> {
     client: Client<A>,
@@ -56,7 +56,7 @@ impl<N: OfficeName<A>, A: Allocator + Copy> Guest<N, A> {
         self.client.post(order)
     }
 
-    /// Sends Close, as the client does.
+    /// Sends `Close`, the client's last order.
     pub fn close(&mut self) -> Result<u64, PostFault>
         ensures ok { IfOk result (λ number. (number ≡ length self.old.sent + 1)
             × (self.new ≡ record self.old { sent = self.old.sent ++ Order.Close ∷ []; free = self.new.free })
@@ -69,7 +69,7 @@ impl<N: OfficeName<A>, A: Allocator + Copy> Guest<N, A> {
         self.client.close()
     }
 
-    /// The oldest notice that is found on the outlet.
+    /// Removes the oldest notice from the outlet and returns it, if one is found.
     pub fn collect(&mut self) -> Option<Notice>
         ensures some { IfSome result (λ notice. (self.new
             ≡ record self.old { collected = self.old.collected ++ notice ∷ []; known = self.new.known })
@@ -110,7 +110,7 @@ impl<N: OfficeName<A>, A: Allocator + Copy> Guest<N, A> {
     }
 }
 
-/// The clients of an office as its guests, each in its place.
+/// The clients of an office as its guests, in the same order.
 ///
 /// Out of memory, it hands the clients back as they were, so that the call can be made again.
 pub fn guests_of<N: OfficeName<A>, A: Allocator + Copy>(
@@ -132,7 +132,7 @@ pub fn guests_of<N: OfficeName<A>, A: Allocator + Copy>(
     Ok(guests)
 }
 
-/// The clients that these guests are, as their office knows them, each in its place.
+/// The clients of these guests, in the same order.
 ///
 /// Out of memory, it hands the guests back as they were, so that the call can be made again.
 pub fn clients_of<N: OfficeName<A>, A: Allocator + Copy>(

@@ -1,4 +1,4 @@
-//! The lock's value.
+//! What an office keeps under its lock.
 
 ghost use Rattle.std.specs.Prelude.{◌≡◌, ◌+◌, ◌<◌, ◌≤◌, ◌^◌, ◌↔◌, true, false, ℕ, length, Err, IfOk, IfErr, IfSome, OnOk, OnErr};
 ghost use Rattle.fleet_history.specs.History.{clock, robots, is_shut};
@@ -20,18 +20,19 @@ use fleet_hooks::Hooks;
 use fleet_lanes::Client;
 use std::alloc::{Alloc, Allocator, Global};
 
-/// The lock's value in two parts, so that each may be shown to cross threads by itself.
+/// What an office keeps under its lock, in two parts, so that each can be shown to cross threads by itself.
 #[derive(Drop)]
 pub struct HallOf<X, Y> {
     pub state: X,
     pub(crate) robots: Y,
 }
 
-/// The lock's value: the world, the hall's ends of the rings and the book of the ticks, with the robots' closures.
+/// What an office keeps under its lock: the world, the hall's ends of the rings, the count of the ticks, and the
+/// robots' closures.
 pub type Hall<N, A = Global> = HallOf<HallState<N, A>, RobotHooks<A>>;
 
 impl<N: OfficeName<A>, A: Allocator + Copy> Hall<N, A> {
-    /// Takes one order out of the client's lane into the world, and returns its verdict. `None` where none is found.
+    /// Takes one order out of the client's lane into the world, and returns its verdict. `None` if none is found.
     ///
     /// Refused in this order: `MailboxFull`, `ChapterFull`, `NoMemory`. The order stays in the lane then.
     pub fn take_one(&mut self, client: u32) -> Result<Option<Verdict>, TakeFault>

@@ -1,4 +1,4 @@
-//! What lies under the lock besides the closures.
+//! What an office keeps under its lock, without the closures.
 
 ghost use Rattle.std.specs.Prelude.{◌≡◌, ◌+◌, ◌<◌, ◌≤◌, ◌^◌, ◌↔◌, true, false, ℕ, length, Some, None, Err, IfOk, IfErr, IfSome, OnOk, OnErr, slice_get};
 ghost use Rattle.fleet_history.specs.History.{clock, place, robots, is_shut, history_of};
@@ -46,7 +46,7 @@ impl<N: OfficeName<A>, A: Allocator + Copy> Model for HallState<N, A> {
 }
 
 impl<N: OfficeName<A>, A: Allocator + Copy> HallState<N, A> {
-    /// The rest over new lanes.
+    /// A hall without closures, over new lanes.
     pub(crate) fn new(core: Core<A>, ends: Vec<HallEnd<A>, A>, book: Book<N>) -> HallState<N, A>
         requires { IsLawful N.rings core ends.items book.total }
         ensures { result ≡ record { world = core; ends = ends.items; total = book.total } }
@@ -108,14 +108,14 @@ impl<N: OfficeName<A>, A: Allocator + Copy> HallState<N, A> {
         count
     }
 
-    /// All notices that were ever given are few enough to be counted.
+    /// The number of all notices that were ever given is small enough to be counted.
     fn is_countable(&self)
         ensures { given_count self.now ≤ 2 ^ 63 }
     {
         let _ = self.core.chapter();
     }
 
-    /// How many clients there are.
+    /// The number of clients.
     pub fn clients(&self) -> u32
         ensures count { result ≡ length self.now.ends }
         ensures few { result ≤ 64 }
@@ -189,7 +189,7 @@ impl<N: OfficeName<A>, A: Allocator + Copy> HallState<N, A> {
         self.core.shut_by(by, robot)
     }
 
-    /// How many rings' names there are.
+    /// The number of rings' names.
     pub(crate) fn ring_count(&self) -> u32
         ensures { result ≡ length N.rings }
     {
@@ -208,7 +208,7 @@ impl<N: OfficeName<A>, A: Allocator + Copy> HallState<N, A> {
         ticks_of_all(&mut self.book, tickers.as_mut_slice(), clock)
     }
 
-    /// Where the robots stand, by number.
+    /// The robots' cells, by number.
     pub fn placement(&self) -> &[u32]
         ensures { result.now ≡ place self.now.world.history }
     {

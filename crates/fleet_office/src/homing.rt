@@ -1,4 +1,4 @@
-//! Which clients came home.
+//! Which clients were returned.
 
 ghost use Rattle.std.specs.Prelude.{◌≡◌, ◌≢◌, ◌<◌, ◌≤◌, ℕ, length, Some, IfSome, IfNone, slice_get};
 ghost use Rattle.fleet_lanes.specs.Ends.{ClientView};

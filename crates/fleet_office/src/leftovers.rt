@@ -40,7 +40,7 @@ fn move_mailbox<A: Allocator + Copy>(core: &mut Core<A>, number: u32, out: &mut 
     }
 }
 
-/// All that the client had not collected goes into the room at its number.
+/// Moves every notice that the client had not collected to the list at its number.
 fn move_all<A: Allocator + Copy>(
     core: &mut Core<A>,
     client: &mut Client<A>,
@@ -77,7 +77,7 @@ pub(crate) fn fill<A: Allocator + Copy>(
 }
 
 impl<N: OfficeName<A>, A: Allocator + Copy> HallState<N, A> {
-    /// How many notices the client of this number had not collected.
+    /// How many notices the client with this number had not collected.
     fn uncollected(&self, clients: &[Client<A>], number: u32) -> Result<usize, AllocError>
         requires known { number < length N.rings }
         requires distinct { AreDistinct (cores clients.now) }
@@ -93,7 +93,7 @@ impl<N: OfficeName<A>, A: Allocator + Copy> HallState<N, A> {
         Ok(count)
     }
 
-    /// An empty list with room for what the client of this number had not collected.
+    /// An empty list with room for what the client with this number had not collected.
     fn room_of(
         &self,
         alloc: A,

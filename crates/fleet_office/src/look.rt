@@ -21,22 +21,23 @@ use std::alloc::{AllocError, Allocator, Global};
 pub struct Look<A: Allocator + Copy = Global> {
     /// The ticks made so far.
     pub tick: u64,
-    /// Where the robots stand, by number.
+    /// The robots' cells, by number.
     pub placement: Vec<u32, A>,
     /// The robot that has waited longest, where one has an errand.
     pub eldest: Option<u32>,
-    /// Whether nobody has an errand.
+    /// Whether no robot has an errand.
     pub idle: bool,
     /// The chapter's number.
     pub chapter: u32,
     /// How many entries the chapter has.
     pub entries: u32,
-    /// Within how many ticks nobody has an errand any more, where no order is taken meanwhile. `None` on a map with a bridge.
+    /// The number of ticks after which no robot has an errand, if no order is taken meanwhile. `None` on a map with a
+    /// bridge.
     pub idle_within: Option<u64>,
 }
 
 impl<N: OfficeName<A>, A: Allocator + Copy> HallState<N, A> {
-    /// What there is to see.
+    /// The current state, as a look shows it.
     pub fn look(&self, alloc: A) -> Result<Look<A>, AllocError>
         ensures tick { IfOk result (λ l. l.tick ≡ clock self.now.world.history) }
         ensures placement { IfOk result (λ l. l.placement.items ≡ place self.now.world.history) }
@@ -65,7 +66,7 @@ impl<N: OfficeName<A>, A: Allocator + Copy> HallState<N, A> {
         })
     }
 
-    /// What there is to see, of no fewer ticks than were seen before.
+    /// The current state, with a clock that is not below an earlier one.
     pub(crate) fn look_from(&self, alloc: A, seen: u64) -> Result<Look<A>, AllocError>
         ensures tick { IfOk result (λ look. seen ≤ look.tick) }
         ensures shown { IfOk result (Shows self.now.world) }

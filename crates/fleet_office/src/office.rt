@@ -80,13 +80,14 @@ impl<N: OfficeName<A>, A: Allocator + Copy> Office<N, A> {
         OfficeOf { hall }
     }
 
-    /// The office's end: takes every order that is left in the lanes, and hands out the map, the chapter and what the
-    /// clients had not collected. It makes no tick. Waits for nobody.
+    /// Ends the office: takes every order that is left in the lanes, and returns the map, the chapter and the notices
+    /// that the clients had not collected. It makes no tick, and waits for no thread.
     ///
-    /// Refused in this order: `Missing`, a client that is not handed in; `Twice`, a client that is handed in twice; `Tickers`,
-    /// the ticks of tickers that are not handed in (one that made no tick may stay away), never where all parts of the ledger
-    /// are there; `ChapterFull`, where an order is left in a lane; `NoMemory`. After the last two the takes made stand, and mailboxes may be wider: by no more than their notices,
-    /// their client's unfinished errands and two for each order that was left. No notice is lost: all comes back for a further
+    /// Refused in this order: `Missing`, a client was not passed; `Twice`, a client was passed twice; `Tickers`, the
+    /// number of ticks of tickers that were not passed (a ticker that made no tick need not be passed), which does not
+    /// occur if all parts of the ledger are there; `ChapterFull`, an order is left in a lane; `NoMemory`. After the
+    /// last two the takes that were made remain, and mailboxes may be wider: by at most their notices, their client's
+    /// unfinished errands, and two for each order that was left. No notice is lost: everything is returned for another
     /// call.
     pub fn conclude(
         self,
@@ -116,8 +117,8 @@ impl<N: OfficeName<A>, A: Allocator + Copy> Office<N, A> {
         hall.conclude(alloc, clients, tickers)
     }
 
-    /// Shuts a robot, in the world as it stands when the lock is held: it takes no further errands. Returns the stamp of its
-    /// farewell where it has no errand left, so that the farewell was made at once; else `None`, and a later tick makes it.
+    /// Shuts a robot, in the world as it is when the lock is held: the robot accepts no further errands. Returns the
+    /// stamp of its farewell if it has no errand left; otherwise `None`, and a later tick makes the farewell.
     ///
     /// Refused in this order: `NoRobot`, `Already`, `ChapterFull`, `NoMemory`. Nothing has changed then.
     pub fn shut<R: Wait>(&self, rt: &R, robot: u32) -> Result<Option<u32>, ShutFault>
@@ -130,7 +131,7 @@ impl<N: OfficeName<A>, A: Allocator + Copy> Office<N, A> {
         hall.shut(robot)
     }
 
-    /// Hands the chapter out and begins the next, whose opening is the state now.
+    /// Returns the current chapter and begins the next, whose opening is the current state.
     ///
     /// Refused in this order: `BookSpent` in the last of the chapters, `NoMemory`. Nothing has changed then.
     pub fn next_chapter<R: Wait>(&self, rt: &R) -> Result<Chapter<A>, ChapterFault>
@@ -145,7 +146,8 @@ impl<N: OfficeName<A>, A: Allocator + Copy> Office<N, A> {
         hall.next_chapter()
     }
 
-    /// What the office shows: no fewer ticks than the ticker made. `AllocError` where memory was refused.
+    /// Returns the current state of the office. Its clock is not below the number of ticks that the ticker made.
+    /// `AllocError` if memory runs out.
     pub fn look<R: Alloc<A = A> + Wait>(
         &self,
         rt: &R,
@@ -162,13 +164,13 @@ impl<N: OfficeName<A>, A: Allocator + Copy> Office<N, A> {
 }
 
 impl<N: OfficeName<A>, A: Allocator + Copy> Office<N, A> {
-    /// A turn, of the hall as it stands when the lock is held: gives each client's notices, takes at most `lane` orders of each
-    /// client, by number, makes one tick, and gives again. A closure that it calls must not call this office: it would wait for
-    /// ever.
+    /// Makes a turn, of the hall as it is when the lock is held: gives each client's notices, takes at most `lane`
+    /// orders of each client, by number, makes one tick, and gives again. A closure that it calls must not call this
+    /// office: it would wait for ever.
     ///
-    /// Refused for the first of these that is met: in the takes `ChapterFull`, where an order has no room, and `NoMemory`; at the
-    /// tick `ClockSpent`, `ChapterFull`, `NoMemory`. What was given and taken before stands, and the fault's report says how
-    /// much; the ticker has not changed.
+    /// Refused for the first of these that occurs: in the takes `ChapterFull`, if an order has no room, and `NoMemory`;
+    /// at the tick `ClockSpent`, `ChapterFull`, `NoMemory`. What was given and taken before remains, and the report in
+    /// the fault says how much; the ticker does not change.
     pub fn turn<R: Alloc<A = A> + Wait>(
         &self,
         rt: &R,
@@ -186,7 +188,7 @@ impl<N: OfficeName<A>, A: Allocator + Copy> Office<N, A> {
     }
 }
 
-/// A turn of a hall that is under its lock: what is known of it when the lock is given back.
+/// Makes a turn of the hall, which is locked, and returns what is known of the hall when the lock is given back.
 fn turn_held<N: OfficeName<A>, A: Allocator + Copy, R: Alloc<A = A>>(
     hall: &mut Hall<N, A>,
     rt: &R,

@@ -46,8 +46,8 @@ impl<N: OfficeName<A>, A: Allocator + Copy> Hall<N, A> {
 }
 
 impl<N: OfficeName<A>, A: Allocator + Copy> Office<N, A> {
-    /// A turn without its tick: gives each client's notices, takes at most `lane` orders of each client, by number, and gives
-    /// again. So an order has its verdict before the next tick. The report counts no arrival and has no tick.
+    /// A turn without its tick: gives each client's notices, takes at most `lane` orders of each client, by number, and
+    /// gives again. So an order has its verdict before the next tick. The report counts no arrivals and has no tick.
     ///
     /// Refused as the takes of a turn are, for the first of these that is met: `ChapterFull`, where an order has no room, and
     /// `NoMemory`. What was given and taken before stands, and the fault's report says how much.

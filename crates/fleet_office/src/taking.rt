@@ -12,7 +12,7 @@ use fleet_core::{Core, TakeFault};
 use fleet_lanes::HallEnd;
 use std::alloc::{AllocError, Allocator};
 
-/// One order out of the lane into the world. `None` where none is found.
+/// One order out of the lane into the world. `None` if none is found.
 pub(crate) fn take_from<A: Allocator + Copy>(
     core: &mut Core<A>,
     end: &mut HallEnd<A>,
@@ -32,7 +32,7 @@ pub(crate) fn take_from<A: Allocator + Copy>(
     Ok(Some(verdict))
 }
 
-/// Room in the client's mailbox for one order more; where there is none, for all that are left.
+/// Reserves room in the client's mailbox for one more order; if there is none, for all orders that are left.
 fn make_room<A: Allocator + Copy>(
     core: &mut Core<A>,
     client: u32,

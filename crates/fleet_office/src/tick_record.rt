@@ -22,8 +22,8 @@ use std::sync::Wait;
 /// No office has more robots.
 const MOST_ROBOTS: usize = 512;
 
-/// What the last tick did that was written into it: where the robots went, who arrived and who said farewell. It has room for any
-/// tick of any office, so that a turn that writes into it fails for nothing more than other turns do.
+/// What the last tick that was written into it did: where the robots went, which arrived and which said farewell. It
+/// has room for any tick of any office, so that writing into it never fails.
 #[derive(Drop)]
 pub struct TickRecord<A: Allocator + Copy = Global> {
     tick: u64,
@@ -63,21 +63,21 @@ impl<A: Allocator + Copy> TickRecord<A> {
         self.tick
     }
 
-    /// Where the robots stand after it, by number.
+    /// The robots' cells after it, by number.
     pub fn placement(&self) -> &[u32]
         ensures { result.now ≡ self.now.placement }
     {
         self.placement.as_slice()
     }
 
-    /// Who arrived in it, by rising robot.
+    /// Who arrived in it, sorted by robot.
     pub fn arrived(&self) -> &[Arrival]
         ensures { result.now ≡ self.now.arrived }
     {
         self.arrived.as_slice()
     }
 
-    /// Who said farewell in it, by rising robot.
+    /// Who said farewell in it, sorted by robot.
     pub fn farewells(&self) -> &[Bye]
         ensures { result.now ≡ self.now.farewells }
     {
@@ -161,8 +161,8 @@ impl<N: OfficeName<A>, A: Allocator + Copy> Hall<N, A> {
 }
 
 impl<N: OfficeName<A>, A: Allocator + Copy> Office<N, A> {
-    /// A turn, as `turn` makes it, whose tick is written into the record before the lock is given back: with several tickers too
-    /// it is this turn's own tick. Refused as `turn` is; the record has not changed then.
+    /// Makes a turn, as `turn` does, and writes its tick into the record before the lock is given back. So with several
+    /// tickers too it is the tick of this turn. Refused as `turn` is; the record then does not change.
     pub fn turn_into<R: Alloc<A = A> + Wait>(
         &self,
         rt: &R,

@@ -45,7 +45,7 @@ fn turn<N: ScriptName, R: Alloc<A = Global> + Wait>(
     Ok(report)
 }
 
-/// Turns until one takes nothing and holds nobody, which empties the lanes.
+/// Makes turns until one takes no order and holds no client; then the lanes are empty.
 fn drain<N: ScriptName, R: Alloc<A = Global> + Wait>(
     rt: &R,
     office: &Office<N>,
@@ -63,7 +63,7 @@ fn drain<N: ScriptName, R: Alloc<A = Global> + Wait>(
     Err(ServeFault::Drain)
 }
 
-/// On a bridgeless map, turns until nobody has an errand: as many as that may take at most.
+/// On a bridgeless map, makes turns until no robot has an errand: at most as many turns as `idle_within` allows.
 fn idle<N: ScriptName, R: Alloc<A = Global> + Wait>(
     rt: &R,
     office: &Office<N>,
@@ -84,7 +84,7 @@ fn idle<N: ScriptName, R: Alloc<A = Global> + Wait>(
     Ok(())
 }
 
-/// If no ticker stopped early: turns until the lanes are empty, and nobody has an errand on a bridgeless map.
+/// If no ticker stopped early: turns until the lanes are empty, and no robot has an errand on a bridgeless map.
 pub(crate) fn make_last_turns<N: ScriptName, R: Alloc<A = Global> + Wait>(
     rt: &R,
     office: &Office<N>,

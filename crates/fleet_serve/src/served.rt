@@ -5,18 +5,18 @@ use fleet_office::Final;
 use std::alloc::AllocError;
 use thiserror::Error;
 
-/// What a serve came to: how the office ended, and how many posts met a full lane.
+/// The result of a serve: how the office ended, and how many posts met a full lane.
 #[derive(Drop)]
 pub struct Served {
     pub last: Final,
     pub lane_full: u32,
 }
 
-/// Why a serve came to no end.
+/// Why a serve failed.
 ///
-/// The opening comes first. When all threads have ended, `NoThread` comes before a ticker's fault, and the first ticker's
-/// before the second's; then a fault of a further turn, `Drain` among them, and at last one of the conclusion. `NoMemory`
-/// stands where it is met, at the opening too.
+/// A fault of the opening comes first. When all threads have ended, `NoThread` comes before a ticker's fault, and the
+/// first ticker's fault before the second's; then comes a fault of a further turn, such as `Drain`, and at last a fault
+/// of the conclusion. `NoMemory` is returned when it occurs, at the opening too.
 #[derive(Clone, Copy, Debug, PartialEq, Eq, Error)]
 pub enum ServeFault {
     /// The office was not opened, for a reason other than out of memory.
@@ -31,7 +31,7 @@ pub enum ServeFault {
     /// The lanes were not emptied within 1,000,000 further turns.
     #[error("the lanes were not emptied within 1,000,000 further turns")]
     Drain,
-    /// Memory was refused.
+    /// Memory ran out.
     #[error("out of memory")]
     NoMemory,
     /// A client's thread could not be started. The others have ended.

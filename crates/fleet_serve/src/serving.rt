@@ -86,7 +86,7 @@ fn first_cause(first: Option<TurnCause>, second: Option<TurnCause>) -> Option<Tu
     }
 }
 
-/// What comes home after the last turn.
+/// What is returned after the last turn.
 fn parts_of<N: ScriptName>(
     alloc: Global,
     ran: Vec<ServedClient<N>>,
@@ -236,13 +236,13 @@ fn serve_at<
     }
 }
 
-/// Serves a script: a thread for each client runs its lines in order, and two threads with a ticker each make `turns` turns
-/// each. Then one ticker makes turns until the lanes are empty and, on a bridgeless map, until nobody has an errand, while
-/// all clients collect; and the office is concluded.
+/// Serves a script: a thread for each client runs its lines in order, and two threads with a ticker each make `turns`
+/// turns each. Then one ticker makes turns until the lanes are empty and, on a bridgeless map, until no robot has an
+/// errand, while all clients collect; and the office is concluded.
 ///
-/// A post that meets a full lane is counted in `lane_full` and not tried again; one of a client that closed, or that spent its
-/// numbers, sends nothing and is not counted. `ServeFault` says which fault comes before which. What the clients collect is
-/// dropped.
+/// A post that meets a full lane is counted in `lane_full` and not tried again. A post of a client that is closed, or
+/// that has no number left, sends nothing and is not counted. `ServeFault` says which fault comes first. The notices
+/// that the clients collect are dropped.
 pub fn serve<R: Alloc<A = Global> + Threads + Sync + Wait, G: Gate + Sync>(
     rt: &R,
     grid: Grid,

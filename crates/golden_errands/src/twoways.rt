@@ -18,7 +18,7 @@ use std::sync::Wait;
 use std::thread::Threads;
 use trial::try_seed;
 
-/// How many worlds there are.
+/// The number of worlds.
 const WORLDS: u64 = 300;
 
 /// Whether both ways give one answer on each seed, and notes how often to which.

@@ -55,7 +55,7 @@ impl Robot {
         Ok(())
     }
 
-    /// Drops the client's errand of this number.
+    /// Drops the client's errand with this number.
     fn withdraw(&mut self, client: u32, number: u64) {
         self.errands.retain(|errand| errand.client != client || errand.number != number);
     }
@@ -102,12 +102,12 @@ impl Fleet {
         })
     }
 
-    /// The robot of this number.
+    /// The robot with this number.
     pub(crate) fn robot(&self, robot: u32) -> Option<&Robot> {
         self.robots.get(robot as usize)
     }
 
-    /// Tells a client once more.
+    /// Counts one more notice of a client.
     fn tell(&mut self, client: u32) {
         if let Some(state) = self.clients.get_mut(client as usize) {
             state.noticed = state.noticed.saturating_add(1);

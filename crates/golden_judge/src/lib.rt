@@ -1,7 +1,7 @@
 //! Another judge of chapters: a reading of the rules of its own, which shares no code with fleet_trace's judge nor with what judges orders.
 //!
-//! It is for programs that compare what both say. Its calls are safe and end; what they answer is in no clause, since a clause would be
-//! by the definitions that the judge is proved by.
+//! It is for programs that compare both judges. Its calls are safe and end. No clause says what they return: a clause
+//! would use the definitions in the contract of fleet_trace's judge.
 #![tactic(auto)]
 
 mod fleet;

@@ -60,7 +60,8 @@ fn are_dues(fleet: &Fleet, to: &[u32], arrived: &[Arrival]) -> bool {
     shown.next().is_none()
 }
 
-/// Whether a tick takes leave of each robot that is shut and whose last errand is done, in their order, and of no other.
+/// Whether a tick shows a farewell of each robot that is shut and whose last errand is done, in the order of the
+/// robots, and no others.
 fn are_leaving(fleet: &Fleet, to: &[u32], farewells: &[Bye]) -> bool {
     let mut left = farewells.iter();
     let mut number = 0u32;

@@ -3,7 +3,7 @@
 use fleet_map::MapText;
 use std::alloc::{AllocError, Global};
 
-/// A map's letters, and for each cell the least cell that walks from it lead to.
+/// A map's letters, and for each cell the lowest cell that can be reached from it.
 #[derive(Drop)]
 pub struct Site {
     width: u32,
@@ -31,7 +31,7 @@ impl Site {
         Ok(site)
     }
 
-    /// Each floor cell takes over what its lower floor neighbours have, and they what it has.
+    /// Each floor cell and its neighbours to the east and to the south get the lower of their two labels.
     fn join(&mut self) {
         let mut cell = 0u32;
         for _letter in 0..self.letters.len() {

@@ -27,7 +27,7 @@ fn go(site: &Site, fleet: &Fleet, state: &ClientState, robot: u32, cell: u32) ->
     }
 }
 
-/// Where in the robot's queue the client's errand of this number is.
+/// Where in the robot's queue the client's errand with this number is.
 fn place_in(robot: &Robot, client: u32, number: u64) -> Option<usize> {
     robot.errands.iter().position(|errand| errand.client == client && errand.number == number)
 }

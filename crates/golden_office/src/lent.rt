@@ -1,5 +1,5 @@
-//! A client that is lent to a thread which nobody joins: it lies with its kind under a lock that the thread shares. It posts from
-//! there and comes home all the same. It prints one line.
+//! A client that is lent to a thread which nobody joins, under a lock that the thread shares. It posts from there and
+//! is returned at the end. The part prints one line.
 
 mod opening;
 mod play;

@@ -1,6 +1,6 @@
-//! The results of an office's calls in the worked cases, a line for each call: the call, its result, and where it may change an
-//! office what a look shows then. After them cases in which each allocation of a call is refused in turn and the call made
-//! again: whether all went on as without it.
+//! The results of an office's calls in test cases worked out by hand, with a line for each call: the call, its result,
+//! and, if the call may change the office, what a look shows afterwards. Then test cases in which each allocation of a
+//! call is refused in turn and the call is made again, and whether everything went on as without the refusal.
 
 mod calls;
 mod case;

@@ -1,5 +1,5 @@
-//! Clients that work without the office's lock: while a turn stands in a robot's closure, clients post and collect, and another
-//! ticker's turn waits. The closure goes on when they are done. It prints a line a case.
+//! Clients that work without the office's lock: while a turn stands in a robot's closure, clients post and collect, and
+//! another ticker's turn waits. The closure goes on when they are done. It prints a line for each case.
 
 mod opening;
 mod play;

@@ -56,7 +56,7 @@ impl<'a> Case<'a> {
         }
     }
 
-    /// The words between blanks that are text.
+    /// The words of a line, separated by blanks; only those that are UTF-8 text.
     fn add_words(&mut self, alloc: Global, text: &[u8]) -> Result<(), AllocError> {
         for word in text.split(|byte| *byte == b' ') {
             if word.is_empty() {

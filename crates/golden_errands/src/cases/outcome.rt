@@ -1,4 +1,4 @@
-//! What came out of a case.
+//! The result of a case.
 
 use super::case::Case;
 use errands_lib::{InputFault, Inputs, run_words};

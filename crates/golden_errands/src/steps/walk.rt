@@ -16,7 +16,7 @@ pub(crate) enum Finding {
     Misplaced { step: u32 },
 }
 
-/// Where the robots stand at the opening.
+/// The robots' cells at the opening.
 fn cells_of(alloc: Global, chapter: &Chapter) -> Result<Vec<u32>, AllocError> {
     let robots = chapter.opening.robots.as_slice();
     robots.iter().map(|robot| robot.cell).collect(alloc)

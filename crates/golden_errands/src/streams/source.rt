@@ -2,7 +2,8 @@
 
 use std::io::{self, ErrorKind, Read};
 
-/// Reads a text and then this many line feeds, this many bytes at each read. It fails when this many reads were made.
+/// Reads a text and then a number of line feeds, with a number of bytes at each read. Fails after a given number of
+/// reads.
 #[derive(Clone, Copy)]
 pub(crate) struct Source<'a> {
     pub(crate) bytes: &'a [u8],

@@ -10,7 +10,7 @@ use golden_compare::Answer;
 use golden_judge::{Site, first_fault};
 use std::alloc::{AllocError, Global};
 
-/// The entry that the judge names first, and the rule that it breaks; none where all is legal.
+/// The entry that the judge names first, and the rule that it breaks; `None` if all is legal.
 fn broken_by(said: Result<(), JudgeFault>) -> Result<Option<(u64, u8)>, AllocError>
     ensures legal { result ≡ Ok None → said ≡ Ok tt }
     ensures broken { (at rule : ℕ) → result ≡ Ok (Some (at, rule)) → said ≡ Err (Illegal at rule) }

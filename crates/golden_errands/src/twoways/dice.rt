@@ -1,4 +1,4 @@
-//! The numbers that a trial throws: those of a seed, whose bounds may be 0.
+//! The random numbers of a trial: those of a seed, with bounds that may be 0.
 
 use bench_ground::Random;
 

@@ -1,4 +1,4 @@
-//! The case's opening: one robot, one client, and the names of the office.
+//! The opening of the test case: one robot, one client, and the type that names the office.
 
 use crate::floor::grid_of;
 use crate::lent::play::{Outcome, PlayFault, play};
@@ -22,7 +22,7 @@ fn site_of(alloc: Global) -> Result<(Desk, Grid, Vec<u32>), OpenFault> {
     Ok((Desk::new(alloc, 1, Limits::DEFAULT)?, grid, starts))
 }
 
-/// What came out of the case whose robot has these closures.
+/// The result of the case whose robot has these closures.
 fn play_with<R: Alloc<A = Global> + Threads + Sync + Wait + Copy + Send + Drop + 'static>(
     rt: &R,
     hooks: Hooks,
@@ -36,7 +36,7 @@ fn play_with<R: Alloc<A = Global> + Threads + Sync + Wait + Copy + Send + Drop +
     }
 }
 
-/// What came out of the case, or out of memory for the closures. They return 0.
+/// The result of the case, or out of memory for the closures. They return 0.
 fn play_hooked<R: Alloc<A = Global> + Threads + Sync + Wait + Copy + Send + Drop + 'static>(
     rt: &R,
 ) -> Result<Result<Outcome, PlayFault>, AllocError> {
@@ -49,7 +49,7 @@ fn play_hooked<R: Alloc<A = Global> + Threads + Sync + Wait + Copy + Send + Drop
     Ok(play_with(rt, hooks))
 }
 
-/// What came out of the case.
+/// The result of the case.
 pub(crate) fn played<R: Alloc<A = Global> + Threads + Sync + Wait + Copy + Send + Drop + 'static>(
     rt: &R,
 ) -> Result<Outcome, PlayFault> {

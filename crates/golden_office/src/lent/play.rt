@@ -16,7 +16,7 @@ use std::sync::atomic::Ordering;
 use std::sync::{Arc, Wait};
 use std::thread::Threads;
 
-/// What came out of the case.
+/// The result of the case.
 #[derive(Clone, Copy)]
 pub(crate) struct Outcome {
     /// Orders that the lane took from the thread.

@@ -8,7 +8,7 @@ use std::sync::atomic::{AtomicU64, Ordering};
 use std::sync::{Arc, Mutex, Wait};
 use std::thread::{self, Threads};
 
-/// The case makes no more notices.
+/// The greatest number of notices in the test case.
 const MOST_NOTICES: u32 = 10;
 
 /// The guests of an office under a lock, and how many of their orders the lanes took.
@@ -19,7 +19,7 @@ pub(crate) struct Lent<N: OfficeName<Global>> {
 }
 
 impl<N: OfficeName<Global>> Lent<N> {
-    /// Nobody has posted.
+    /// At the start: no order was posted.
     pub(crate) fn new(guests: Vec<Guest<N>>) -> Lent<N> {
         Lent {
             guests: Mutex::new(guests),

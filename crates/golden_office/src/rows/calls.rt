@@ -1,4 +1,4 @@
-//! Calls on an office, each made again where memory was refused.
+//! Calls on an office, each made again if memory runs out.
 
 use crate::rows::case::Step;
 use crate::rows::live::{tell_ahead, tell_page, tell_settle, tell_turn_into};
@@ -35,7 +35,7 @@ fn sum(first: TurnReport, second: TurnReport) -> TurnReport {
     }
 }
 
-/// A turn, and where memory was refused of two as one.
+/// A turn; if memory ran out, two turns, whose reports are added.
 fn turned<N: OfficeName<A>, A: Allocator + Copy, R: Alloc<A = A> + Wait>(
     rt: &R,
     office: &Office<N, A>,

@@ -1,4 +1,4 @@
-//! The calls of an office that lives on, each made again where memory was refused.
+//! The calls of an office that lives on, each made again if memory runs out.
 
 use crate::rows::calls::{both, tell_chapter};
 use fleet_core::ChapterFault;
@@ -8,7 +8,7 @@ use std::fmt::Write;
 use std::sync::Wait;
 use std::thread::Threads;
 
-/// Prints the result of a turn without its tick, and where memory was refused of two as one.
+/// Prints the result of a turn without its tick; if memory ran out, of two, whose reports are added.
 pub(crate) fn tell_settle<N: OfficeName<A>, A: Allocator + Copy, R: Wait>(
     rt: &R,
     office: &Office<N, A>,
@@ -26,7 +26,7 @@ pub(crate) fn tell_settle<N: OfficeName<A>, A: Allocator + Copy, R: Wait>(
     write!(told, "{settled:?}")
 }
 
-/// A turn that is written into the record, and where memory was refused of two as one.
+/// A turn that is written into the record; if memory ran out, two turns, whose reports are added.
 fn turned_into<N: OfficeName<A>, A: Allocator + Copy, R: Alloc<A = A> + Wait>(
     rt: &R,
     office: &Office<N, A>,

@@ -3,10 +3,10 @@
 use std::alloc::{AllocError, Allocator};
 use std::sync::atomic::{AtomicU64, Ordering};
 
-/// With this many allocations before the next refused one no case meets it.
+/// So many allocations before the refused one that no test case meets it.
 const FAR: u64 = 1 << 62;
 
-/// Passes each call on to `inner`, but for the one allocation that comes after this many others.
+/// Passes each call on to `inner`, except the one allocation that comes after this many others.
 pub(crate) struct Meter<B: Allocator> {
     inner: B,
     left: AtomicU64,
@@ -52,7 +52,7 @@ impl<B: Allocator> Drop for Meter<B> {
     }
 }
 
-/// Whether none is left before the one to refuse. It counts down, past 0 too.
+/// Whether this is the allocation to refuse. Counts down at each call, past 0 too.
 fn is_refused(left: &AtomicU64) -> bool {
     left.fetch_sub(1, Ordering::SeqCst) == 0
 }

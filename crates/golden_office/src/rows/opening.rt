@@ -1,4 +1,4 @@
-//! A case's opening: its floor, its robots with their closures, and the names of its office.
+//! The opening of a test case: its floor, its robots with their closures, and the type that names its office.
 
 ghost use Rattle.std.specs.Prelude.{◌≡◌};
 
@@ -96,7 +96,7 @@ fn opened_play<'a, R: Alloc<A = Global> + Threads + Sync + Wait>(
     play_with(rt, hooks, case, plan, told)
 }
 
-/// Plays a case, and where memory was refused to its opening, once more.
+/// Plays a case; if memory runs out at its opening, plays it once more.
 pub(crate) fn perform<R: Alloc<A = Global> + Threads + Sync + Wait>(
     rt: &R,
     case: &Case<'_>,

@@ -99,7 +99,7 @@ fn put_back<T: Drop, A: Allocator + Copy>(
     Ok(())
 }
 
-/// Concludes, and once more with what came home where memory was refused.
+/// Concludes, and once more with what came home if memory runs out.
 fn conclude_home<N: OfficeName<A>, A: Allocator + Copy>(
     alloc: A,
     home: Home<N, A>,

@@ -172,7 +172,7 @@ const TWO_CHAPTERS: Case<'static> = Case {
     ..TWO_CELLS
 };
 
-/// Two robots on a ring of eight cells, until nobody has an errand.
+/// Two robots on a ring of eight cells, until no robot has an errand.
 const RING_OF_EIGHT: Case<'static> = Case {
     name: "ring_of_eight",
     sides: (3, 3),

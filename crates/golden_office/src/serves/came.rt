@@ -1,4 +1,4 @@
-//! What a serve came to.
+//! The result of a serve.
 
 use crate::serves::yard::{FLOOR, Yard};
 use fleet_book::{Event, Notice, Verdict};
@@ -9,7 +9,7 @@ use fleet_serve::Served;
 use fleet_trace::{JudgeFault, TraceFault, judge, read_trace, write_trace};
 use std::alloc::{AllocError, Global};
 
-/// What a serve came to.
+/// The result of a serve.
 #[derive(Clone, Copy)]
 pub(crate) struct Came {
     /// The script's clients and lines, and those lines that are posts.

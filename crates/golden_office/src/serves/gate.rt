@@ -26,7 +26,7 @@ pub(crate) struct Flags {
     third: AtomicU64,
     /// Whether a tie closure was called.
     called: AtomicU64,
-    /// Those who were let go by no flag.
+    /// The number of threads that went on because no flag came.
     missed: AtomicU64,
 }
 

@@ -111,7 +111,7 @@ fn script_of(alloc: Global, text: &[u8]) -> Result<Script, PlayFault> {
     }
 }
 
-/// What comes of a script on a yard.
+/// The result of a script on a yard.
 fn came_of<R: Alloc<A = Global> + Threads + Sync + Wait>(
     rt: &R,
     yard: &Yard,
@@ -131,7 +131,7 @@ fn came_of<R: Alloc<A = Global> + Threads + Sync + Wait>(
     }
 }
 
-/// What comes of the script that the text is, on a yard.
+/// The result of the script that the text is, on a yard.
 pub(crate) fn play<R: Alloc<A = Global> + Threads + Sync + Wait>(
     rt: &R,
     yard: &Yard,

@@ -125,7 +125,7 @@ const THREE_TURNS: Row = Row {
     facts: &[Fact::Takes, Fact::Ticks, Fact::Legal],
 };
 
-/// The further turns end as soon as nobody has an errand: a walk of four steps is done within six ticks.
+/// The further turns end as soon as no robot has an errand: a walk of four steps is done within six ticks.
 const IDLE_IN_TIME: Row = Row {
     name: "idle_in_time",
     yard: RING,

@@ -1,4 +1,4 @@
-//! A case's opening: one robot whose closure waits, and the names of the office.
+//! The opening of a test case: one robot whose closure waits, and the type that names the office.
 
 ghost use Rattle.std.specs.Prelude.{◌≡◌};
 
@@ -34,7 +34,7 @@ fn site_of(alloc: Global, clients: u32) -> Result<(Desk, Grid, Vec<u32>), OpenFa
     Ok((Desk::new(alloc, clients, Limits::DEFAULT)?, grid, starts))
 }
 
-/// What came out of a case whose robot has these closures.
+/// The result of a case whose robot has these closures.
 fn play_with<R: Alloc<A = Global> + Threads + Sync + Wait>(
     rt: &R,
     case: &Case,
@@ -50,7 +50,7 @@ fn play_with<R: Alloc<A = Global> + Threads + Sync + Wait>(
     }
 }
 
-/// What came out of a case, or no memory to open it. The robot's closure waits for the clients at its first call, and the
+/// The result of a case, or no memory to open it. The robot's closure waits for the clients at its first call, and the
 /// closures return 0.
 fn play_hooked<R: Alloc<A = Global> + Threads + Sync + Wait>(
     rt: &R,
@@ -71,7 +71,7 @@ fn play_hooked<R: Alloc<A = Global> + Threads + Sync + Wait>(
     Ok(play_with(rt, case, hooks, shared.as_ref()))
 }
 
-/// What came out of a case, or no memory for what its threads share.
+/// The result of a case, or no memory for what its threads share.
 fn play_shared<R: Alloc<A = Global> + Threads + Sync + Wait>(
     rt: &R,
     case: &Case,
@@ -81,7 +81,7 @@ fn play_shared<R: Alloc<A = Global> + Threads + Sync + Wait>(
     play_hooked(rt, case, &shared)
 }
 
-/// What came out of a case.
+/// The result of a case.
 pub(crate) fn played<R: Alloc<A = Global> + Threads + Sync + Wait>(
     rt: &R,
     case: &Case,

@@ -16,7 +16,7 @@ use std::sync::Wait;
 use std::sync::atomic::Ordering;
 use std::thread::Threads;
 
-/// What came out of a case.
+/// The result of a case.
 #[derive(Clone, Copy)]
 pub(crate) struct Outcome {
     /// Whether the closure saw the clients' flag.

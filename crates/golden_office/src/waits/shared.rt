@@ -9,13 +9,13 @@ const BEGUN: u64 = 1;
 /// The closure has seen the clients' flag.
 const SEEN: u64 = 2;
 
-/// The closure has looked for the clients' flag as often as it may.
+/// The closure has looked for the clients' flag the greatest number of times, and has given up.
 const MISSED: u64 = 3;
 
 /// What the closure, the clients and the tickers share.
 #[derive(Drop)]
 pub(crate) struct Shared {
-    /// How many clients there are, how often each posts at most, and how many turns the other ticker makes.
+    /// The number of clients, how often each posts at most, and how many turns the other ticker makes.
     pub(crate) clients: u64,
     pub(crate) posts: u64,
     pub(crate) turns: u64,
