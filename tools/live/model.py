@@ -142,7 +142,7 @@ class Live:
         if kind == "nothing":
             return True
         if kind == "look":
-            self.say(mark, look_line(self.world))
+            self.say(mark, talk.look_line(self.world))
         elif kind == "chapter":
             told = f"chapter {self.world.number} entries {len(self.world.entries)}"
             try:
@@ -187,15 +187,6 @@ class Live:
                     self.say(None, line)
         self.say(None, f"ended {self.world.ticks}")
         return True
-
-
-def look_line(w):
-    eldest, within = w.eldest(), w.idle_within()
-    state = "idle" if eldest is None else f"busy eldest {eldest}"
-    told = f"look tick {w.ticks} chapter {w.number} entries {len(w.entries)} {state}"
-    if within is not None:
-        told += f" within {within}"
-    return told + " at " + " ".join(map(str, w.place))
 
 
 def live(text, script, lines, watch=False):

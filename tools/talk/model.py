@@ -19,6 +19,16 @@ DEFAULTS = {"life": 2 ** 40, "orders": 2 ** 62, "clock": 2 ** 48, "chapters": mo
 HEADERS = {"robots", "clients", "ties", "turns"} | set(model.LIMIT_DEFAULTS)
 
 
+def look_line(w):
+    """The line of a look at a world."""
+    eldest, within = w.eldest(), w.idle_within()
+    state = "idle" if eldest is None else f"busy eldest {eldest}"
+    told = f"look tick {w.ticks} chapter {w.number} entries {len(w.entries)} {state}"
+    if within is not None:
+        told += f" within {within}"
+    return told + " at " + " ".join(map(str, w.place))
+
+
 class Head:
     def __init__(self):
         self.seen, self.starts, self.clients, self.south = set(), None, 1, False
@@ -113,15 +123,6 @@ class Talk:
         self.limited |= model.limit_met([reply])
         self.say(mark, model.event_lines(event, reply, w.entries[before] if len(w.entries) > before else None))
 
-    def look(self):
-        w = self.world
-        eldest, within = w.eldest(), w.idle_within()
-        state = "idle" if eldest is None else f"busy eldest {eldest}"
-        told = f"look tick {w.ticks} chapter {w.number} entries {len(w.entries)} {state}"
-        if within is not None:
-            told += f" within {within}"
-        return told + " at " + " ".join(map(str, w.place))
-
     def line(self, number, raw):
         """Whether the conversation goes on."""
         kind, what, mark = kind_of(raw)
@@ -140,7 +141,7 @@ class Talk:
             for event in what:
                 self.event(mark, event)
         elif kind == "look":
-            self.say(mark, [self.look()])
+            self.say(mark, [look_line(self.world)])
         elif kind == "chapter":
             try:
                 self.say(mark, [self.turn()])

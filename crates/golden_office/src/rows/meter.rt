@@ -3,7 +3,7 @@
 use std::alloc::{AllocError, Allocator};
 use std::sync::atomic::{AtomicU64, Ordering};
 
-/// So many allocations before the refused one that no test case meets it.
+/// More allocations before the refused one than any test case makes.
 const FAR: u64 = 1 << 62;
 
 /// Passes each call on to `inner`, except the one allocation that comes after this many others.
