@@ -1,8 +1,7 @@
 //! The word `live`.
 
-use crate::chapters::TraceFolder;
 use crate::talk::texts_of;
-use fleet_lib::{InputFault, Live, LiveEnds, Pipes, TalkTexts, fail, run_live};
+use fleet_lib::{InputFault, Live, LiveEnds, Pipes, Shelf, TalkTexts, fail, run_live};
 use std::alloc::{Alloc, Global};
 use std::fs::{File, Files, OpenOptions};
 use std::io::{Read, Write};
@@ -58,7 +57,8 @@ pub(crate) fn hold_live<
     I: Read + Send + Drop + 'static,
     W: Write + Send + Drop + 'static,
     E: Write + Copy + Send + Drop + 'static,
->(rt: &R, live: &Live, input: I, output: W, error: &mut E) -> u8 {
+    S: Shelf + Send + Drop,
+>(rt: &R, live: &Live, (input, output): (I, W), error: &mut E, shelf: S) -> u8 {
     let (map, script) = match texts_of(rt, live.map.as_str(), &live.script) {
         Ok(texts) => texts,
         Err(fault) => return fail(fault, error),
@@ -67,16 +67,12 @@ pub(crate) fn hold_live<
         Ok(pipes) => pipes,
         Err(fault) => return fail(fault, error),
     };
-    let name = match &live.traces {
-        Some(name) => Some(name.as_str()),
-        None => None,
-    };
     let ends = LiveEnds {
         input,
         output,
         pipes,
         counts: *error,
-        shelf: TraceFolder { rt, name },
+        shelf,
     };
     let texts = TalkTexts {
         map: &map,

@@ -13,6 +13,7 @@ mod live;
 mod talk;
 mod view;
 
+use chapters::TraceFolder;
 use check::run_check;
 use convert::run_convert;
 use explain::run_explain;
@@ -67,7 +68,12 @@ fn main(rt: HostRuntime) -> ExitCode {
         Ok(Job::Talk(talk)) => hold_talk(&rt, &talk, rt.stdin(), output, &mut error),
         Ok(Job::Convert(convert)) => run_convert(&rt, &convert, &mut output, &mut error),
         Ok(Job::Explain(explain)) => run_explain(&rt, &explain, &mut output, &mut error),
-        Ok(Job::Live(live)) => hold_live(&rt, &live, rt.stdin(), output, &mut error),
+        Ok(Job::Live(live)) => {
+            // Made here, where it is known of the runtime that threads may share it.
+            let name = live.traces.as_deref();
+            let shelf = TraceFolder { rt: &rt, name };
+            hold_live(&rt, &live, (rt.stdin(), output), &mut error, shelf)
+        }
         Err(status) => status,
     };
     ExitCode::from(status)
