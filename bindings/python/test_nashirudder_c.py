@@ -34,7 +34,7 @@ class Calls(unittest.TestCase):
     def test_opening(self):
         self.refused("map-header", lambda: Handle("", robots=[0]), (1, 0))
         self.refused("map-cell", lambda: Handle(ROW.replace("...", "..x"), robots=[0]), (0, 2))
-        self.refused("robot-count", lambda: Handle(ROW, robots=[]))
+        self.refused("robot-count", lambda: Handle(ROW, robots=[]), (0, 0))
         self.refused("start-blocked", lambda: Handle(RING, robots=[0, 5]), (1, 0))
         self.refused("start-shared", lambda: Handle(RING, robots=[3, 0, 3]), (0, 2))
         self.refused("bad-setup", lambda: Handle(ROW, robots=[0], queue=0))
@@ -96,7 +96,7 @@ class Calls(unittest.TestCase):
         self.refused("vertex-conflict", lambda: check_step(RING, [1, 3], [2, 2]), (0, 1))
         self.refused("not-adjacent", lambda: check_step(RING, [3, 0], [7, 2]), (1, 0))
         self.refused("off-floor", lambda: check_step(RING, [4, 0], [5, 0]), (0, 0))
-        self.refused("to-length", lambda: check_step(RING, [0, 1], [0]))
+        self.refused("to-length", lambda: check_step(RING, [0, 1], [0]), (0, 0))
         self.refused("from-blocked", lambda: check_step(RING, [0, 5], [0, 1]), (1, 0))
         self.refused("from-shared", lambda: check_step(RING, [0, 0], [0, 1]), (0, 1))
         self.refused("too-many", lambda: check_step(ROW, [0, 1, 2, 0], [0, 1, 2, 0]))
