@@ -37,7 +37,7 @@ class Calls(unittest.TestCase):
         self.refused("robot-count", lambda: Handle(ROW, robots=[]), (0, 0))
         self.refused("start-blocked", lambda: Handle(RING, robots=[0, 5]), (1, 0))
         self.refused("start-shared", lambda: Handle(RING, robots=[3, 0, 3]), (0, 2))
-        self.refused("bad-setup", lambda: Handle(ROW, robots=[0], queue=0))
+        self.refused("bad-setup", lambda: Handle(ROW, robots=[0], queue=0), (0, 0))
         with self.assertRaises(TypeError):
             Handle(ROW, robots=[0], speed=2)
 
@@ -99,7 +99,7 @@ class Calls(unittest.TestCase):
         self.refused("to-length", lambda: check_step(RING, [0, 1], [0]), (0, 0))
         self.refused("from-blocked", lambda: check_step(RING, [0, 5], [0, 1]), (1, 0))
         self.refused("from-shared", lambda: check_step(RING, [0, 0], [0, 1]), (0, 1))
-        self.refused("too-many", lambda: check_step(ROW, [0, 1, 2, 0], [0, 1, 2, 0]))
+        self.refused("too-many", lambda: check_step(ROW, [0, 1, 2, 0], [0, 1, 2, 0]), (0, 0))
 
 
 class Fleets(unittest.TestCase):
