@@ -12,3 +12,4 @@ pub mod Shortest
 pub mod Colours
 pub mod Columns
 pub mod Opens
+pub mod Same

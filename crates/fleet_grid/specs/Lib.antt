@@ -6,4 +6,5 @@ pub mod Counts
 pub mod Step
 pub mod Padded
 pub mod Ways
+pub mod Turns
 pub mod inside

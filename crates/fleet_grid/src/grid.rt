@@ -6,12 +6,14 @@ ghost use Rattle.fleet_grid.specs.Padded.{IsPadded};
 ghost use Rattle.fleet_grid.specs.Ways.{AreWays};
 ghost use Rattle.fleet_grid.specs.Walk.{AreJoined};
 ghost use Rattle.fleet_grid.specs.Counts.{floor_count, edge_count};
+ghost use Rattle.fleet_grid.specs.Turns.{IsRagged};
 
 use crate::cells::Cells;
 use crate::counts::{edge_count_of, floor_count_of};
 use crate::dir::Dir;
 use crate::padded::{blank_of, stride_of};
 use crate::parts::{is_same_part, parts_of};
+use crate::turns;
 use crate::ways::ways_of;
 use fleet_map::MapText;
 use std::alloc::{AllocError, Allocator, Global};
@@ -26,6 +28,7 @@ pub struct Grid<A: Allocator + Copy = Global> {
     ways: Vec<u8, A>,
     parts: Vec<u32, A>,
     floor_count: u32,
+    is_ragged: bool,
 }
 
 impl<A: Allocator + Copy> Model for Grid<A> {
@@ -36,7 +39,7 @@ impl<A: Allocator + Copy> Model for Grid<A> {
 
     ghost view = { λ g. g.cells };
 
-    ghost invariant = { λ g. IsKept g.cells g.stride g.blank.items g.ways.items g.parts.items g.floor_count };
+    ghost invariant = { λ g. IsKept g.cells g.stride g.blank.items g.ways.items g.parts.items g.floor_count g.is_ragged };
 }
 
 impl<A: Allocator + Copy> Grid<A> {
@@ -54,6 +57,7 @@ impl<A: Allocator + Copy> Grid<A> {
         let ways = ways_of(alloc, &cells)?;
         let parts = parts_of(alloc, &cells)?;
         let floor_count = floor_count_of(&cells);
+        let is_ragged = turns::is_ragged(&cells, &ways, floor_count);
         Ok(Grid {
             cells,
             stride,
@@ -61,6 +65,7 @@ impl<A: Allocator + Copy> Grid<A> {
             ways,
             parts,
             floor_count,
+            is_ragged,
         })
     }
 
@@ -133,6 +138,14 @@ impl<A: Allocator + Copy> Grid<A> {
         ensures { result ≡ floor_count self.now }
     {
         self.floor_count
+    }
+
+    /// Whether the ways change in more than 11 of 20 floor cells, from one to the next. On such a map no processor can
+    /// predict which ways a search finds open.
+    pub fn is_ragged(&self) -> bool
+        ensures { IsTrue result ↔ IsRagged self.now }
+    {
+        self.is_ragged
     }
 
     /// The number of edges: pairs of floor cells that share a side.

@@ -11,6 +11,7 @@ mod letters;
 mod padded;
 mod parts;
 mod placement;
+mod turns;
 mod ways;
 
 pub use dir::Dir;
