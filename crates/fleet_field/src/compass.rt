@@ -109,7 +109,7 @@ impl<A: Allocator + Copy> Compass<A> {
         let (stride, _blank) = grid.padded();
         let start = columns.place(stride, goal) as u32;
         let free = free_ways(alloc, height, columns.width, stride, grid.ways())?;
-        let bytes = search(alloc, free, stride as usize, start)?;
+        let bytes = search(alloc, free, stride as usize, start, grid.is_ragged())?;
         let ways = ways_of_cells(alloc, height, columns.width, stride, &bytes)?;
         Ok(Compass {
             height,

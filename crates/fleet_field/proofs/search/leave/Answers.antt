@@ -1,9 +1,9 @@
 use Rattle.std.proofs.Common.{take, refl, ◌∙◌, arith}
 use Rattle.fleet_field.proofs.Levels.{leaves_none, leaves_on, spreads}
-use Rattle.fleet_field.proofs.search.spread.Goals as goal
+use Rattle.fleet_field.proofs.search.leave.Goals as goal
 
 pub loop-place-init : goal.loop-place-init
-loop-place-init c = record {
+loop-place-init g c = record {
   len = refl;
   kept = refl;
   most = omega arith;
@@ -11,7 +11,7 @@ loop-place-init c = record {
 }
 
 pub loop-place-preserved : goal.loop-place-preserved
-loop-place-preserved c = record {
+loop-place-preserved g c = record {
   len = c.around-count.ensures.len ∙ c.loop-place.invariant.len;
   kept = c.around-count.ensures.kept ∙ c.loop-place.invariant.kept;
   most = omega (arith, c.around-count.ensures.most, c.loop-place.invariant.most);
@@ -22,7 +22,7 @@ loop-place-preserved c = record {
 }
 
 pub returns-clause-spread : goal.returns-clause-spread
-returns-clause-spread c shade level dist small s m =
+returns-clause-spread g c shade level dist small s m =
     let l = c.loop-place.invariant.so_far shade level dist small s m in (
       l.0,
       spreads shade c.args.stride level dist c.args.now.now l.0 (take c.loop-place.count c.loop-place.next) c.loop-place.ways c.requires.step small s l.1.extends l.1.marks

@@ -1,10 +1,10 @@
 use Rattle.std.proofs.Common.{◌≡◌, ℕ, ◌+◌, ◌*◌, ◌<◌, ◌≤◌, List, length, take}
 use Rattle.fleet_field.specs.inside.Search.{Search}
 use Rattle.fleet_field.specs.inside.Bytes.{Marks, Leaves}
-use Rattle.fleet_field.proofs.search.spread.Given as goal
+use Rattle.fleet_field.proofs.search.leave.Given as goal
 
 abbrev pub invariant-loop-place : goal.invariant-loop-place
-invariant-loop-place l = record {
+invariant-loop-place g l = record {
   len : length l.ways ≡ length l.fn.ways;
   kept : length l.next ≡ length l.fn.next;
   most : l.count ≤ 4 * l.place-index;
