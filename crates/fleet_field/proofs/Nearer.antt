@@ -6,6 +6,7 @@ use Rattle.std.proofs.lemmas.List.{get_or_past}
 use Rattle.std.proofs.lemmas.List.FromFn.{get_or-map-range_with_len, length-map-range_with_len}
 use Rattle.fleet_grid.specs.declared.dir.Dir.{Dir}
 use Rattle.fleet_grid.specs.declared.dir.Dir.TheVariants.{North, East, South, West}
+use Rattle.fleet_grid.specs.Direction.{dir_number}
 use Rattle.fleet_grid.specs.Floor.{Floor, HasForm, IsFloor, IsBeside, IsNeighbour, IsNeighbourIn}
 use Rattle.fleet_grid.specs.Walk.{Walks, IsDistance, AreApart}
 use Rattle.fleet_grid.specs.Ways.{IsWay, IsLess, AreNearer}
@@ -18,8 +19,9 @@ use Rattle.fleet_field.specs.Field.{IsField, aim_of}
 use Rattle.fleet_field.specs.inside.Search.{SameWalls, AreLevels}
 use Rattle.fleet_field.specs.inside.Bytes.{low, IsSearched}
 use Rattle.fleet_field.specs.Kept.{aways, IsLaidOut}
-use Rattle.fleet_field.specs.Compass.{next_cell, steps_down, aways_down, AreWaysAt, IsRight, IsCompass}
+use Rattle.fleet_field.specs.Compass.{next_cell, steps_down, aways_down, IsNear, AreWaysAt, IsRight, IsCompass}
 use Rattle.fleet_field.proofs.Transfer as transfer
+use Rattle.fleet_field.proofs.Halves.{low_bit, few_ways}
 use Rattle.fleet_field.proofs.Marks.{some_is, none_is, less_parts, less_by, around_inside, is_right}
 use Rattle.fleet_field.proofs.Descent.{step_found, step_stuck, step_on}
 
@@ -228,12 +230,21 @@ searched_out m h w s goal start blank bytes eh ew form p at es r =
     let same : length bytes ≡ length r.dist = r.len ∙ sym r.walls.len in
     record { wide = l.wide; apart = l.apart; few = l.few; small = (let x = l.small in omega (arith, x, same)); size = same ∙ l.size }
 
+-- a byte has the ways of its low half
+whole_ways : (dist : List ℕ) (s at byte : ℕ) → AreWaysAt dist s at (low byte) → AreWaysAt dist s at byte
+whole_ways dist s at byte are = record {
+  north = subst (λ (b : ℕ). (b ≡ 1) ↔ IsNear dist at (at - s)) (low_bit byte 0 (omega arith)) are.north;
+  east = subst (λ (b : ℕ). (b ≡ 1) ↔ IsNear dist at (at + 1)) (low_bit byte 1 (omega arith)) are.east;
+  south = subst (λ (b : ℕ). (b ≡ 1) ↔ IsNear dist at (at + s)) (low_bit byte 2 (omega arith)) are.south;
+  west = subst (λ (b : ℕ). (b ≡ 1) ↔ IsNear dist at (at - 1)) (low_bit byte 3 (omega arith)) are.west;
+}
+
 pub compass_by : (m : Floor) (h w s goal start : ℕ) (blank bytes ways : List ℕ) → h ≡ m.height → w ≡ m.width → HasForm m → IsPadded m s blank → IsFloor m goal → start ≡ place w s goal → IsSearched blank s start bytes
-    → length ways ≡ h * w → ((c : ℕ) → c < h * w → slice_index ways c ≡ low (slice_index bytes (place w s c))) → IsCompass h w goal ways × IsField m goal (aim_of goal (aways_down h w goal ways))
+    → length ways ≡ h * w → ((c : ℕ) → c < h * w → slice_index ways c ≡ slice_index bytes (place w s c)) → IsCompass h w goal ways × IsField m goal (aim_of goal (aways_down h w goal ways))
 compass_by m h w s goal start blank bytes ways eh ew form p at es r len each =
     let l = (transfer.made m h w s goal start blank r.dist eh ew form p at r.walls es r.levels).0 in
     compass_of m h w s goal start blank r.dist ways eh ew form p at r.walls es r.levels len
-    (λ c below. subst (AreWaysAt r.dist s (place w s c)) (sym (each c below)) (r.each (place w s c) (let i = around_inside h w s r.dist l c below in omega (arith, i.1))))
+    (λ c below. subst (AreWaysAt r.dist s (place w s c)) (sym (each c below)) (whole_ways r.dist s (place w s c) (slice_index bytes (place w s c)) (r.each (place w s c) (let i = around_inside h w s r.dist l c below in omega (arith, i.1)))))
 
 pub down_in : (h w goal c : ℕ) (ways : List ℕ) → c < h * w → get_or (aways_down h w goal ways) c None ≡ steps_down w ways goal (h * w) 0 c
 down_in h w goal c ways below = get_or-map-range_with_len (λ i. steps_down w ways goal (h * w) 0 i) 0 (h * w) c c None below (omega arith)
@@ -241,13 +252,13 @@ down_in h w goal c ways below = get_or-map-range_with_len (λ i. steps_down w wa
 pub down_out : (h w goal c : ℕ) (ways : List ℕ) → h * w ≤ c → get_or (aways_down h w goal ways) c None ≡ None
 down_out h w goal c ways past = get_or_past (aways_down h w goal ways) c None (omega (arith, past, length-map-range_with_len (λ i. steps_down w ways goal (h * w) 0 i) 0 (h * w)))
 
-pub are_nearer : (m : Floor) (h w goal : ℕ) (ways : List ℕ) → IsCompass h w goal ways → m.width ≡ w → (cell : ℕ) → AreNearer m (λ c. get_or (aways_down h w goal ways) c None) cell (slice_index ways cell)
+pub are_nearer : (m : Floor) (h w goal : ℕ) (ways : List ℕ) → IsCompass h w goal ways → m.width ≡ w → (cell : ℕ) → AreNearer m (λ c. get_or (aways_down h w goal ways) c None) cell (low (slice_index ways cell))
 are_nearer m h w goal ways is ew cell dir n near =
     let beside : IsBeside w dir cell n = subst (λ (x : ℕ). IsBeside x dir cell n) ew near.beside in (
       λ way. (
-          let t = is.right.leads cell dir way in
+          let t = is.right.leads cell dir (sym (low_bit (slice_index ways cell) (dir_number dir) (few_ways dir)) ∙ way) in
           subst (λ (x : ℕ). IsLess (get_or (aways_down h w goal ways) x None) (get_or (aways_down h w goal ways) cell None)) (beside_once w dir cell t.0 n t.1 beside) t.2),
-      λ less. is.right.all cell dir n beside less,
+      λ less. low_bit (slice_index ways cell) (dir_number dir) (few_ways dir) ∙ is.right.all cell dir n beside less,
     )
 
 -- whether one is less than another tells whether the neighbour in a direction is nearer

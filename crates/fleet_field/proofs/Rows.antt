@@ -1,8 +1,9 @@
 -- The ways of the cells, row by row: into the places' bytes, and out of them.
-use Rattle.std.proofs.Common.{◌≡◌, ℕ, ◌+◌, ◌-◌, ◌*◌, ◌<◌, inl, inr, List, length, set, slice_index, refl, ap, ◌∙◌, arith, sym}
+use Rattle.std.proofs.Common.{◌≡◌, ℕ, ◌+◌, ◌-◌, ◌*◌, ◌<◌, ◌≤◌, inl, inr, List, length, set, slice_index, refl, ap, ◌∙◌, arith, sym}
 use Rattle.std.proofs.lemmas.Bool.{cases_lt}
 use Rattle.std.proofs.lemmas.List.{length-set}
-use Rattle.std.proofs.lemmas.Nat.{div-mul-add, mod-mul-add}
+use Rattle.std.proofs.lemmas.Nat.{div-mul-add, mod-mul-add, mul-le}
+use Rattle.std.specs.List.{CopiedTo, SameBelow, SameFrom}
 use Rattle.fleet_grid.specs.Padded.{place}
 use Rattle.fleet_field.specs.inside.Bytes.{low, high, HaveNone, HasRow}
 use Rattle.fleet_grid.proofs.Places.{place_inside}
@@ -31,21 +32,33 @@ row_more half bytes p f n xs ys x h inside last = record {
 place_at : (w s q r : ℕ) → r < w → place w s (q * w + r) ≡ (q + 1) * s + r
 place_at w s q r h = rw (div-mul-add q w r h, mod-mul-add q w r h) refl
 
--- with one row more each cell's ways are there
-pub rows_more : (w s q : ℕ) (bytes xs ys : List ℕ) → ((c : ℕ) → c < q * w → slice_index xs c ≡ low (slice_index bytes (place w s c))) → HasRow low bytes ((q + 1) * s) (q * w) w xs ys →
-    (c : ℕ) → c < (q + 1) * w → slice_index ys c ≡ low (slice_index bytes (place w s c))
-rows_more w s q bytes xs ys each h c below = elim (cases_lt c (q * w)) [
-  | inl before ↦ h.kept c before ∙ each c before
-  | inr past ↦ (
-      let more : (q + 1) * w ≡ q * w + w = omega arith in
-      let k = c - q * w in
-      let is : c ≡ q * w + k = omega (arith, past) in
-      let small : k < w = omega (arith, below, more, past) in
-      let at : place w s c ≡ (q + 1) * s + k = ap (place w s) is ∙ place_at w s q k small in
-      ap (slice_index ys) is ∙ (h.each k small ∙ ap (λ (v : ℕ). low (slice_index bytes v)) (sym at)))
-]
+-- with one row more each cell's byte is moved, and what comes after is as it was
+pub packed_more : (w s q n : ℕ) (bytes xs ys : List ℕ) → w < s → n ≡ w → ((c : ℕ) → c < q * w → slice_index xs c ≡ slice_index bytes (place w s c)) → SameFrom bytes xs (q * w)
+    → CopiedTo xs ys ((q + 1) * s) (q * w) n × SameBelow xs ys (q * w) × SameFrom xs ys (q * w + n)
+    → ((c : ℕ) → c < (q + 1) * w → slice_index ys c ≡ slice_index bytes (place w s c)) × SameFrom bytes ys ((q + 1) * w)
+packed_more w s q n bytes xs ys apart wide each rest moved = (
+  λ c below. elim (cases_lt c (q * w)) [
+    | inl before ↦ moved.1 c 0 before ∙ each c before
+    | inr past ↦ (
+        let k = c - q * w in
+        let is : c ≡ q * w + k = omega (arith, past) in
+        let small : k < w = omega (arith, below, more, past) in
+        let at : place w s c ≡ (q + 1) * s + k = ap (place w s) is ∙ place_at w s q k small in
+        moved.0 c 0 past (omega (arith, below, more, wide)) ∙ (rest ((q + 1) * s + k) 0 (omega (arith, high_enough, longer)) ∙ ap (slice_index bytes) (sym at)))
+  ],
+  λ k d past. moved.2 k d (omega (arith, past, more, wide)) ∙ rest k d (omega (arith, past, more)),
+)
+  where
+    more : (q + 1) * w ≡ q * w + w
+    more = omega arith
 
--- and with one row more each place of a cell has them
+    longer : (q + 1) * s ≡ q * s + s
+    longer = omega arith
+
+    high_enough : q * w ≤ q * s
+    high_enough = mul-le q w q s (omega arith) (omega (arith, apart))
+
+-- with one row more each place of a cell has its ways
 pub rows_laid : (w s q : ℕ) (ways xs ys : List ℕ) → 0 < w → w < s → ((c : ℕ) → c < q * w → slice_index xs (place w s c) ≡ high (slice_index ways c)) → HasRow high ways (q * w) ((q + 1) * s) w xs ys →
     (c : ℕ) → c < (q + 1) * w → slice_index ys (place w s c) ≡ high (slice_index ways c)
 rows_laid w s q ways xs ys wide apart each h c below = elim (cases_lt c (q * w)) [

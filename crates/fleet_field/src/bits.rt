@@ -1,9 +1,9 @@
-//! The bytes of a map's places before a search, and the ways of its cells after it.
+//! The bytes of a map's places before a search, and those of its cells after it.
 
 ghost use Rattle.std.specs.Prelude.{◌≡◌, ℕ, ◌+◌, ◌*◌, ◌<◌, ◌≤◌, length, slice_index, IfOk};
 ghost use Rattle.fleet_grid.specs.Padded.{place};
 ghost use Rattle.fleet_field.specs.Kept.{IsLaidOut};
-ghost use Rattle.fleet_field.specs.inside.Bytes.{low, high, AreFree, HaveNone, HasRow};
+ghost use Rattle.fleet_field.specs.inside.Bytes.{high, AreFree, HaveNone, HasRow};
 
 use std::alloc::{AllocError, Allocator};
 
@@ -35,9 +35,10 @@ fn lay_rows(bytes: &mut [u8], height: usize, width: usize, stride: usize, ways: 
     }
 }
 
-/// The bytes of the places before a search: a cell's byte has the ways to open places; every other byte has none.
+/// The bytes of the places before a search, in the memory of a list that is no longer needed: a cell's byte has the ways to
+/// open places; every other byte has none.
 pub(crate) fn free_ways<A: Allocator + Copy>(
-    alloc: A,
+    spare: Vec<u8, A>,
     height: u32,
     width: u32,
     stride: u32,
@@ -51,51 +52,30 @@ pub(crate) fn free_ways<A: Allocator + Copy>(
     ensures { IfOk result (λ bytes. AreFree height width stride ways.now bytes.items) }
 {
     let (rows, columns, step) = (height as usize, width as usize, stride as usize);
-    let mut bytes = Vec::new(alloc);
+    let mut bytes = spare;
+    bytes.clear();
     bytes.resize((rows + 2) * step, 0)?;
     lay_rows(bytes.as_mut_slice(), rows, columns, step, ways);
     Ok(bytes)
 }
 
-/// Writes the low halves of this many bytes from `start` on, from the entry `first` on.
-fn write_row(ways: &mut [u8], bytes: &[u8], start: usize, first: usize, width: usize)
-    requires small { length bytes.now < 1073741824 }
-    requires inside { start + width ≤ length bytes.now }
-    requires room { first + width ≤ length ways.old }
-    ensures { HasRow low bytes.now start first width ways.old ways.new }
-{
-    for column in 0..width {
-        ways[first + column] = bytes[start + column] & 15;
-    }
-}
-
-/// Writes the low half of each cell's byte, row by row.
-fn write_rows(ways: &mut [u8], height: usize, width: usize, stride: usize, bytes: &[u8])
-    requires laid_out { IsLaidOut height width stride bytes.now }
-    requires room { length ways.old ≡ height * width }
-    ensures len { length ways.new ≡ length ways.old }
-    ensures each { (cell : ℕ) → cell < height * width → slice_index ways.new cell ≡ low (slice_index bytes.now (place width stride cell)) }
-{
-    for row in 0..height {
-        write_row(ways, bytes, (row + 1) * stride, row * width, width);
-    }
-}
-
-/// The low half of each cell's byte, row by row.
-pub(crate) fn ways_of_cells<A: Allocator + Copy>(
-    alloc: A,
+/// Moves each row's bytes forward in the list, so that each cell's byte is where the cell's number says.
+pub(crate) fn pack<A: Allocator + Copy>(
+    bytes: Vec<u8, A>,
     height: u32,
     width: u32,
     stride: u32,
-    bytes: &[u8],
-) -> Result<Vec<u8, A>, AllocError>
-    requires { IsLaidOut height width stride bytes.now }
-    ensures len { IfOk result (λ ways. length ways.items ≡ height * width) }
-    ensures each { IfOk result (λ ways. (cell : ℕ) → cell < height * width → slice_index ways.items cell ≡ low (slice_index bytes.now (place width stride cell))) }
+) -> Vec<u8, A>
+    requires { IsLaidOut height width stride bytes.items }
+    ensures len { length result.items ≡ height * width }
+    ensures each { (cell : ℕ) → cell < height * width → slice_index result.items cell ≡ slice_index bytes.items (place width stride cell) }
 {
-    let (rows, columns) = (height as usize, width as usize);
-    let mut ways = Vec::new(alloc);
-    ways.resize(rows * columns, 0)?;
-    write_rows(ways.as_mut_slice(), rows, columns, stride as usize, bytes);
-    Ok(ways)
+    let (rows, columns, step) = (height as usize, width as usize, stride as usize);
+    let mut cells = bytes;
+    for row in 0..rows {
+        let start = (row + 1) * step;
+        cells.copy_within(start..start + columns, row * columns);
+    }
+    cells.truncate(rows * columns);
+    cells
 }

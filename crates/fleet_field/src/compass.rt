@@ -6,8 +6,9 @@ ghost use Rattle.fleet_grid.specs.Floor.{IsFloor, IsNeighbourIn};
 ghost use Rattle.fleet_grid.specs.Ways.{AreNearer, IsLess};
 ghost use Rattle.fleet_field.specs.Field.{IsField};
 ghost use Rattle.fleet_field.specs.Compass.{next_cell, steps_down};
+ghost use Rattle.fleet_field.specs.inside.Bytes.{low};
 
-use crate::bits::{free_ways, ways_of_cells};
+use crate::bits::{free_ways, pack};
 use crate::columns::Columns;
 use crate::search::search;
 use crate::ways::is_less;
@@ -15,7 +16,7 @@ use fleet_grid::{Dir, Grid, Ways};
 use std::alloc::{AllocError, Allocator, Global};
 use std::marker::Model;
 
-/// The ways of a map's cells that lead nearer to a goal. Contracts see the goal and the distances, cell by cell.
+/// The ways of a map's cells that lead nearer to a goal, in the low halves of their bytes. Contracts see the goal and the distances, cell by cell.
 #[derive(Drop)]
 pub struct Compass<A: Allocator + Copy = Global> {
     height: u32,
@@ -56,13 +57,13 @@ fn next_cell(width: u32, ways: Ways, cell: u32) -> Option<u32>
     None
 }
 
-/// The ways of a cell; past the last cell there are none.
+/// The ways of a cell that lead nearer; past the last cell there are none.
 fn ways_in(ways: &[u8], cell: u32) -> Ways
-    ensures { result.byte ≡ slice_index ways.now cell }
+    ensures { result.byte ≡ low (slice_index ways.now cell) }
 {
     if (cell as usize) < ways.len() {
         Ways {
-            byte: ways[cell as usize],
+            byte: ways[cell as usize] & 15,
         }
     } else {
         Ways::NONE
@@ -104,18 +105,42 @@ impl<A: Allocator + Copy> Compass<A> {
         requires { IsFloor grid.now goal }
         ensures { IfOk result (λ compass. IsField grid.now goal compass) }
     {
+        Compass::over(Vec::new(alloc), grid, goal)
+    }
+
+    /// Searches the map anew, in the memory of a compass that is no longer needed.
+    pub(crate) fn from_spare<B: Allocator + Copy>(
+        spare: Compass<A>,
+        grid: &Grid<B>,
+        goal: u32,
+    ) -> Result<Compass<A>, AllocError>
+        requires { IsFloor grid.now goal }
+        ensures { IfOk result (λ compass. IsField grid.now goal compass) }
+    {
+        Compass::over(spare.ways, grid, goal)
+    }
+
+    /// Searches the map in the memory of a list that is no longer needed.
+    fn over<B: Allocator + Copy>(
+        spare: Vec<u8, A>,
+        grid: &Grid<B>,
+        goal: u32,
+    ) -> Result<Compass<A>, AllocError>
+        requires { IsFloor grid.now goal }
+        ensures { IfOk result (λ compass. IsField grid.now goal compass) }
+    {
+        let alloc = *spare.allocator();
         let height = grid.height();
         let columns = Columns::new(grid.width());
         let (stride, _blank) = grid.padded();
         let start = columns.place(stride, goal) as u32;
-        let free = free_ways(alloc, height, columns.width, stride, grid.ways())?;
+        let free = free_ways(spare, height, columns.width, stride, grid.ways())?;
         let bytes = search(alloc, free, stride as usize, start, grid.is_ragged())?;
-        let ways = ways_of_cells(alloc, height, columns.width, stride, &bytes)?;
         Ok(Compass {
             height,
             width: columns.width,
             goal,
-            ways,
+            ways: pack(bytes, height, columns.width, stride),
         })
     }
 

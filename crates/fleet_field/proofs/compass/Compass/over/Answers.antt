@@ -3,7 +3,7 @@ use Rattle.fleet_field.proofs.Sides.{is_slim, is_within, is_wide, is_low, has_st
 use Rattle.fleet_field.proofs.Unsearched.{ready_by}
 use Rattle.fleet_field.proofs.Nearer.{searched_out, compass_by}
 use Rattle.std.proofs.lemmas.Result.{IfOk-from_err}
-use Rattle.fleet_field.proofs.compass.Compass.from.Goals as goal
+use Rattle.fleet_field.proofs.compass.Compass.over.Goals as goal
 
 pub new-columns-requires-clause-wide : goal.new-columns-requires-clause-wide
 new-columns-requires-clause-wide g c = is_wide c.args.grid.now c.width.result c.args.goal c.width.ensures.value c.width.ensures.form c.requires
@@ -45,31 +45,31 @@ search-requires-clause-ready g c = (
       c.height-height.ensures.value (c.new-columns.ensures ∙ c.width.ensures.value) c.height-height.ensures.form c.padded-stride.ensures.padded c.ways.ensures.ways c.in_ok-free.ensures c.requires c.place-start.ensures,
 )
 
-pub ways_of_cells-requires : goal.ways_of_cells-requires
-ways_of_cells-requires g c =
+pub pack-requires : goal.pack-requires
+pack-requires g c =
     let blank = c.padded-stride.result.1.now in
     let ready = ready_by c.args.grid.now c.height-height.result c.new-columns.result.width c.padded-stride.result.0 c.args.goal c.place-start.result blank c.ways.result.now c.in_ok-free.free.items
     c.height-height.ensures.value (c.new-columns.ensures ∙ c.width.ensures.value) c.height-height.ensures.form c.padded-stride.ensures.padded c.ways.ensures.ways c.in_ok-free.ensures c.requires c.place-start.ensures in
-    rw c.deref.ensures.value (searched_out c.args.grid.now c.height-height.result c.new-columns.result.width c.padded-stride.result.0 c.args.goal c.place-start.result blank c.in_ok-bytes.bytes.items
-    c.height-height.ensures.value (c.new-columns.ensures ∙ c.width.ensures.value) c.height-height.ensures.form c.padded-stride.ensures.padded c.requires c.place-start.ensures (c.in_ok-bytes.ensures blank ready))
+    searched_out c.args.grid.now c.height-height.result c.new-columns.result.width c.padded-stride.result.0 c.args.goal c.place-start.result blank c.in_ok-bytes.bytes.items
+    c.height-height.ensures.value (c.new-columns.ensures ∙ c.width.ensures.value) c.height-height.ensures.form c.padded-stride.ensures.padded c.requires c.place-start.ensures (c.in_ok-bytes.ensures blank ready)
 
 pub invariant_of-result : goal.invariant_of-result
 invariant_of-result g c =
     let blank = c.padded-stride.result.1.now in
     let ready = ready_by c.args.grid.now c.height-height.result c.new-columns.result.width c.padded-stride.result.0 c.args.goal c.place-start.result blank c.ways.result.now c.in_ok-free.free.items
     c.height-height.ensures.value (c.new-columns.ensures ∙ c.width.ensures.value) c.height-height.ensures.form c.padded-stride.ensures.padded c.ways.ensures.ways c.in_ok-free.ensures c.requires c.place-start.ensures in
-    (compass_by c.args.grid.now c.height-height.result c.new-columns.result.width c.padded-stride.result.0 c.args.goal c.place-start.result blank c.in_ok-bytes.bytes.items c.in_ok-ways.ways.items
+    (compass_by c.args.grid.now c.height-height.result c.new-columns.result.width c.padded-stride.result.0 c.args.goal c.place-start.result blank c.in_ok-bytes.bytes.items c.pack.result.items
     c.height-height.ensures.value (c.new-columns.ensures ∙ c.width.ensures.value) c.height-height.ensures.form c.padded-stride.ensures.padded c.requires c.place-start.ensures (c.in_ok-bytes.ensures blank ready)
-    c.in_ok-ways.ensures.len (rw c.deref.ensures.value at c.in_ok-ways.ensures.each)).0
+    c.pack.ensures.len c.pack.ensures.each).0
 
 pub returns : goal.returns
 returns g c =
     let blank = c.padded-stride.result.1.now in
     let ready = ready_by c.args.grid.now c.height-height.result c.new-columns.result.width c.padded-stride.result.0 c.args.goal c.place-start.result blank c.ways.result.now c.in_ok-free.free.items
     c.height-height.ensures.value (c.new-columns.ensures ∙ c.width.ensures.value) c.height-height.ensures.form c.padded-stride.ensures.padded c.ways.ensures.ways c.in_ok-free.ensures c.requires c.place-start.ensures in
-    (compass_by c.args.grid.now c.height-height.result c.new-columns.result.width c.padded-stride.result.0 c.args.goal c.place-start.result blank c.in_ok-bytes.bytes.items c.in_ok-ways.ways.items
+    (compass_by c.args.grid.now c.height-height.result c.new-columns.result.width c.padded-stride.result.0 c.args.goal c.place-start.result blank c.in_ok-bytes.bytes.items c.pack.result.items
     c.height-height.ensures.value (c.new-columns.ensures ∙ c.width.ensures.value) c.height-height.ensures.form c.padded-stride.ensures.padded c.requires c.place-start.ensures (c.in_ok-bytes.ensures blank ready)
-    c.in_ok-ways.ensures.len (rw c.deref.ensures.value at c.in_ok-ways.ensures.each)).1
+    c.pack.ensures.len c.pack.ensures.each).1
 
 pub overflow_cast-start : goal.overflow_cast-start
 overflow_cast-start g c =
@@ -86,6 +86,3 @@ returns-in_err-free g c = IfOk-from_err c.from_residual.result _ c.from_residual
 
 pub returns-in_err-bytes : goal.returns-in_err-bytes
 returns-in_err-bytes g c = IfOk-from_err c.from_residual-in_err-bytes.result _ c.from_residual-in_err-bytes.ensures.0
-
-pub returns-in_err-ways : goal.returns-in_err-ways
-returns-in_err-ways g c = IfOk-from_err c.from_residual-in_err-ways.result _ c.from_residual-in_err-ways.ensures.0
