@@ -23,3 +23,5 @@ pub mod Levels
 pub mod Shades
 pub mod Unsearched
 pub mod Fronted
+pub mod Queued
+pub mod Beside

@@ -4,3 +4,4 @@ pub mod Bytes
 pub mod Uses
 pub mod Work
 pub mod Sorted
+pub mod Queue

@@ -10,62 +10,34 @@ ghost use Rattle.std.specs.List.{Contains};
 ghost use Rattle.fleet_field.specs.declared.store.Held.{Held as HeldView};
 
 use crate::compass::Compass;
+use crate::keyed::Keyed;
+use crate::queue::place_among;
 use crate::store::Held;
-use slab::Slab;
 use std::alloc::{AllocError, Allocator};
 
-/// The key that shows the field of a goal.
-pub(crate) fn key_of<A: Allocator + Copy>(
-    held: &Slab<Held<Compass<A>>, A>,
-    goal: u32,
-) -> Option<usize>
-    ensures { MatchOption result ((key : ℕ) → (at : HeldView Aim) → get held.now key ≡ Some at → at.field.goal ≡ goal → ⊥) (λ key. (at : HeldView Aim) × (get held.now key ≡ Some at) × (at.field.goal ≡ goal)) }
-{
-    for key in 0..held.capacity() {
-        if let Some(at) = held.get(key) {
-            if at.field.goal() == goal {
-                return Some(key);
-            }
-        }
-    }
-    None
-}
-
 /// Counts one use more of the field at a key.
-pub(crate) fn use_again<A: Allocator + Copy>(held: &mut Slab<Held<Compass<A>>, A>, key: usize)
+pub(crate) fn use_again<A: Allocator + Copy>(held: &mut Keyed<A>, key: usize)
     requires held { IsSome (get held.old key) }
     requires fewer { (at : HeldView Aim) → get held.old key ≡ Some at → at.uses + 1 < 2 ^ 32 }
     ensures more { (at : HeldView Aim) → get held.old key ≡ Some at → get held.new key ≡ Some record at { uses = at.uses + 1 } }
     ensures others { (other : ℕ) → other ≢ key → get held.new other ≡ get held.old other }
 {
-    let Held { field, uses } = held.remove(key);
-    let _same = held.insert_reserved(Held {
-        field,
-        uses: uses + 1,
-    });
+    let uses = held[key].uses;
+    held.set_uses(key, uses + 1);
 }
 
 /// Whether the goal is one of these.
 pub(crate) fn is_one_of(goals: &[u32], goal: u32) -> bool
     ensures { result ≡ true → IsOneOf goals.now goal }
 {
-    for at in 0..goals.len() {
-        if goals[at] == goal {
-            return true;
-        }
-    }
-    false
+    place_among(goals, goal).is_some()
 }
 
 /// Whether the goal needs a field: no key has it, and it is not among the missing goals yet.
-fn is_missing<A: Allocator + Copy>(
-    held: &Slab<Held<Compass<A>>, A>,
-    missing: &[u32],
-    goal: u32,
-) -> bool
+fn is_missing<A: Allocator + Copy>(held: &Keyed<A>, missing: &[u32], goal: u32) -> bool
     ensures { result ≡ false → HasGoal held.now.slots goal ⊎ IsOneOf missing.now goal }
 {
-    match key_of(held, goal) {
+    match held.key_of(goal) {
         Some(_) => false,
         None => !is_one_of(missing, goal),
     }
@@ -74,7 +46,7 @@ fn is_missing<A: Allocator + Copy>(
 /// The goals that no key shows, each once.
 pub(crate) fn missing_of<A: Allocator + Copy>(
     alloc: A,
-    held: &Slab<Held<Compass<A>>, A>,
+    held: &Keyed<A>,
     goals: &[u32],
 ) -> Result<Vec<u32, A>, AllocError>
     ensures each { IfOk result (λ missing. (i : ℕ) → i < length goals.now → HasGoal held.now.slots (slice_index goals.now i) ⊎ IsOneOf missing.items (slice_index goals.now i)) }
@@ -90,7 +62,7 @@ pub(crate) fn missing_of<A: Allocator + Copy>(
 }
 
 /// Adds a field without a hold, unless there is one for its goal.
-fn put<A: Allocator + Copy>(held: &mut Slab<Held<Compass<A>>, A>, field: Compass<A>)
+fn put<A: Allocator + Copy>(held: &mut Keyed<A>, field: Compass<A>)
     requires room { HasRoomFor held.old 1 }
     requires once { IsOnce held.old.slots }
     ensures filled { IsFilled (field ∷ []) held.old.slots held.new.slots }
@@ -98,7 +70,7 @@ fn put<A: Allocator + Copy>(held: &mut Slab<Held<Compass<A>>, A>, field: Compass
     ensures len { slab_len held.new ≤ slab_len held.old + 1 }
     ensures capacity { held.new.capacity ≡ held.old.capacity }
 {
-    match key_of(held, field.goal()) {
+    match held.key_of(field.goal()) {
         Some(_) => {}
         None => {
             let _key = held.insert_reserved(Held { field, uses: 0 });
@@ -107,10 +79,7 @@ fn put<A: Allocator + Copy>(held: &mut Slab<Held<Compass<A>>, A>, field: Compass
 }
 
 /// Puts fields in without a use, but for those whose goals are there.
-fn put_all<A: Allocator + Copy>(
-    held: &mut Slab<Held<Compass<A>>, A>,
-    mut fields: Vec<Compass<A>, A>,
-)
+fn put_all<A: Allocator + Copy>(held: &mut Keyed<A>, mut fields: Vec<Compass<A>, A>)
     requires room { HasRoomFor held.old (vec_len fields) }
     requires once { IsOnce held.old.slots }
     ensures filled { IsFilled fields.items held.old.slots held.new.slots }
@@ -122,14 +91,14 @@ fn put_all<A: Allocator + Copy>(
 }
 
 /// Counts one use more of the goal's field, and gives its key.
-fn use_goal<A: Allocator + Copy>(held: &mut Slab<Held<Compass<A>>, A>, goal: u32) -> usize
+fn use_goal<A: Allocator + Copy>(held: &mut Keyed<A>, goal: u32) -> usize
     requires once { IsOnce held.old.slots }
     requires there { HasGoal held.old.slots goal }
     requires fewer { HasUsesLeft held.old.slots goal 1 }
     ensures used { IsUsedOnce goal held.old.slots held.new.slots }
     ensures shows { (at : HeldView Aim) × (get held.new result ≡ Some at) × (at.field.goal ≡ goal) }
 {
-    match key_of(held, goal) {
+    match held.key_of(goal) {
         Some(key) => {
             use_again(held, key);
             key
@@ -139,11 +108,7 @@ fn use_goal<A: Allocator + Copy>(held: &mut Slab<Held<Compass<A>>, A>, goal: u32
 }
 
 /// Counts one use more for each goal, and appends the keys.
-fn use_all<A: Allocator + Copy>(
-    held: &mut Slab<Held<Compass<A>>, A>,
-    goals: &[u32],
-    keys: &mut Vec<usize, A>,
-)
+fn use_all<A: Allocator + Copy>(held: &mut Keyed<A>, goals: &[u32], keys: &mut Vec<usize, A>)
     requires once { IsOnce held.old.slots }
     requires there { (i : ℕ) → i < length goals.now → HasGoal held.old.slots (slice_index goals.now i) }
     requires fewer { HaveUsesLeft held.old.slots goals.now }
@@ -161,7 +126,7 @@ fn use_all<A: Allocator + Copy>(
 /// out, nothing changes.
 pub(crate) fn hold_with<A: Allocator + Copy>(
     alloc: A,
-    held: &mut Slab<Held<Compass<A>>, A>,
+    held: &mut Keyed<A>,
     fields: Vec<Compass<A>, A>,
     goals: &[u32],
 ) -> Result<Vec<usize, A>, AllocError>

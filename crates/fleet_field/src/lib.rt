@@ -10,6 +10,8 @@ mod flood;
 mod fronts;
 mod holds;
 mod kept;
+mod keyed;
+mod queue;
 mod search;
 mod several;
 mod shelf;

@@ -11,10 +11,10 @@ ghost use Rattle.fleet_field.specs.inside.Sorted.{AreSorted};
 use crate::compass::Compass;
 use crate::compasses::compasses;
 use crate::holds::is_one_of;
-use crate::kept::{all_to_front, has_all, place_of, put_first, take_field};
+use crate::kept::{all_to_front, has_all, put_first, take_field};
+use crate::queue::Queue;
 use fleet_grid::Grid;
 use std::alloc::{AllocError, Allocator, Global};
-use std::collections::VecDeque;
 use std::marker::Model;
 use std::thread::Threads;
 
@@ -22,7 +22,7 @@ use std::thread::Threads;
 /// is dropped first. Contracts see the kept fields, and the bytes.
 #[derive(Drop)]
 pub struct Shelf<A: Allocator + Copy = Global> {
-    kept: VecDeque<Compass<A>, A>,
+    kept: Queue<A>,
     bytes: usize,
 }
 
@@ -49,7 +49,7 @@ impl<A: Allocator + Copy> Shelf<A> {
         ensures keeps { (m : Floor) → Keeps m result }
     {
         Shelf {
-            kept: VecDeque::new(alloc),
+            kept: Queue::new(alloc),
             bytes,
         }
     }
@@ -68,10 +68,7 @@ impl<A: Allocator + Copy> Shelf<A> {
     fn cells(&self) -> usize
         ensures { result ≡ cells_kept self.now.kept }
     {
-        match self.kept.front() {
-            Some(field) => field.cells(),
-            None => 0,
-        }
+        self.kept.cells()
     }
 
     /// Keeps a field that is not held any more. Allocates nothing: if there is no place, the field unused longest is
@@ -79,7 +76,7 @@ impl<A: Allocator + Copy> Shelf<A> {
     pub(crate) fn put(&mut self, field: Compass<A>)
         ensures { All (Contains (field ∷ self.old.kept)) self.new.kept }
     {
-        let places = places(self.bytes, field.cells()).min(self.kept.capacity());
+        let places = places(self.bytes, field.cells()).min(self.kept.room());
         self.kept.truncate(places.saturating_sub(1));
         if places > 0 {
             self.kept.push_front_reserved(field);
@@ -115,7 +112,7 @@ impl<A: Allocator + Copy> Shelf<A> {
         ensures same { self.new ≡ self.old }
     {
         self.reserve(grid.cell_count() as usize, out)?;
-        Compass::from(*self.kept.allocator(), grid, goal)
+        Compass::from(self.kept.allocator(), grid, goal)
     }
 
     /// The field of a goal, which is a floor cell: the kept one, or a new one. This many fields are then in use and may
@@ -137,10 +134,10 @@ impl<A: Allocator + Copy> Shelf<A> {
         if let Ok(made) = self.search(grid, goal, out) {
             return Ok(made);
         }
-        if self.kept.is_empty() {
+        if self.kept.len() == 0 {
             return Err(AllocError);
         }
-        self.kept.clear();
+        self.kept.truncate(0);
         self.search(grid, goal, out)
     }
 }
@@ -148,7 +145,7 @@ impl<A: Allocator + Copy> Shelf<A> {
 /// Of the first `count` goals: those that have a kept field, and those that have none, each of the latter once.
 fn sorted<A: Allocator + Copy>(
     alloc: A,
-    kept: &VecDeque<Compass<A>, A>,
+    kept: &Queue<A>,
     goals: &[u32],
     first: usize,
 ) -> Result<(Vec<u32, A>, Vec<u32, A>), AllocError>
@@ -157,7 +154,7 @@ fn sorted<A: Allocator + Copy>(
 {
     let (mut found, mut missing) = (Vec::new(alloc), Vec::new(alloc));
     for at in 0..first {
-        if place_of(kept, goals[at]).is_some() {
+        if kept.place_of(goals[at]).is_some() {
             found.push(goals[at])?;
         } else if !is_one_of(&missing, goals[at]) {
             missing.push(goals[at])?;
@@ -186,7 +183,7 @@ impl<A: Allocator + Copy + Send + Sync> Shelf<A> {
         ensures bytes { self.new.bytes ≡ self.old.bytes }
         ensures refused { OnErr result (self.new ≡ self.old) }
     {
-        let alloc = *self.kept.allocator();
+        let alloc = self.kept.allocator();
         let place = places(self.bytes, grid.cell_count() as usize);
         let first = place.min(goals.len());
         let lists = sorted(alloc, &self.kept, goals, first)?;

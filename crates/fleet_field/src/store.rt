@@ -10,10 +10,10 @@ ghost use Rattle.fleet_field.specs.declared.store.Held.{Held as HeldView};
 
 use crate::compass::Compass;
 use crate::compasses::compasses;
-use crate::holds::{hold_with, key_of, missing_of, use_again};
+use crate::holds::{hold_with, missing_of, use_again};
+use crate::keyed::Keyed;
 use crate::shelf::Shelf;
 use fleet_grid::{Grid, Ways};
-use slab::Slab;
 use std::alloc::{AllocError, Allocator, Global};
 use std::marker::Model;
 use std::thread::Threads;
@@ -29,7 +29,7 @@ pub struct Held<F> {
 #[derive(Drop)]
 pub struct FieldStore<A: Allocator + Copy = Global> {
     alloc: A,
-    held: Slab<Held<Compass<A>>, A>,
+    held: Keyed<A>,
 }
 
 impl<A: Allocator + Copy> Model for FieldStore<A> {
@@ -51,8 +51,10 @@ impl<A: Allocator + Copy> FieldStore<A> {
     pub fn new(alloc: A) -> Result<FieldStore<A>, AllocError>
         ensures { IfOk result (λ store. store ≡ []) }
     {
-        let held = Slab::with_capacity(alloc, 0)?;
-        Ok(FieldStore { alloc, held })
+        Ok(FieldStore {
+            alloc,
+            held: Keyed::new(alloc),
+        })
     }
 
     /// Holds the field of a goal, a floor cell: the one that the store has, or a new one. A store serves one map, and a
@@ -88,7 +90,7 @@ impl<A: Allocator + Copy> FieldStore<A> {
         ensures keeps { Keeps grid.now shelf.new }
         ensures refused { OnErr result (self.new ≡ self.old) }
     {
-        if let Some(key) = key_of(&self.held, goal) {
+        if let Some(key) = self.held.key_of(goal) {
             use_again(&mut self.held, key);
             return Ok(key);
         }
@@ -101,7 +103,7 @@ impl<A: Allocator + Copy> FieldStore<A> {
     pub fn can_hold(&self, goal: u32) -> bool
         ensures { IsTrue result ↔ HasUsesLeft self.now goal 1 }
     {
-        match key_of(&self.held, goal) {
+        match self.held.key_of(goal) {
             Some(key) => self.held[key].uses < u32::MAX,
             None => true,
         }
@@ -128,14 +130,11 @@ impl<A: Allocator + Copy> FieldStore<A> {
         ensures released { IsRelease self.old self.new key }
         ensures keeps { (m : Floor) → Serves m self.old → Keeps m shelf.old → Keeps m shelf.new }
     {
-        let Held { field, uses } = self.held.remove(key);
+        let uses = self.held[key].uses;
         if uses > 1 {
-            let _same = self.held.insert_reserved(Held {
-                field,
-                uses: uses - 1,
-            });
+            self.held.set_uses(key, uses - 1);
         } else {
-            shelf.put(field);
+            shelf.put(self.held.remove(key).field);
         }
     }
 

@@ -1,5 +1,5 @@
 -- How several goals come to be held: first each has a field, perhaps without a use, and then the uses are counted.
-use Rattle.std.specs.Prelude.{◌≡◌, ℕ, ◌+◌, ◌<◌, ◌==◌, cond, List, Option, Some, None, length, slice_index}
+use Rattle.std.specs.Prelude.{◌≡◌, ℕ, ◌+◌, ◌<◌, ◌==◌, cond, nat_le, List, Option, Some, None, length, slice_index}
 use Rattle.std.specs.List.{Contains}
 use Rattle.fleet_field.specs.Field.{Aim}
 use Rattle.fleet_field.specs.Store.{shown, IsOnce}
@@ -47,3 +47,11 @@ pub record AreUsed (fields : List Aim) (goals : List ℕ) (old new : List (Optio
   pub filled : IsFilled fields old all
   pub used : IsUsed goals all new
   pub shown : AreShown goals new keys
+
+-- the goal of each key that shows a field stands at the key's place
+abbrev pub AreGoalsOf : List (Option (Held Aim)) → List ℕ → Type 0
+AreGoalsOf store goals = (key : ℕ) (at : Held Aim) → shown store key ≡ Some at → (key < length goals) × (slice_index goals key ≡ at.field.goal)
+
+-- the capacity of a slab, where a list of this many goals has a place for each of its keys
+abbrev pub covered : ℕ → ℕ → ℕ
+covered capacity goals = cond (nat_le capacity goals) capacity 0

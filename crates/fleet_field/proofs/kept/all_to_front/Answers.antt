@@ -12,11 +12,11 @@ loop-goal-init g c = record {
   within = λ i less. absurd (omega (arith, less));
   all = c.requires.all;
   len = refl;
-  capacity = refl;
+  room = refl;
 }
 
 pub to_front-requires : goal.to_front-requires
-to_front-requires g c = omega (arith, c.loop-goal.invariant.len, c.loop-goal.invariant.capacity, c.requires.room)
+to_front-requires g c = omega (arith, c.loop-goal.invariant.len, c.loop-goal.invariant.room, c.requires.room)
 
 pub loop-goal-preserved : goal.loop-goal-preserved
 loop-goal-preserved g c =
@@ -28,7 +28,7 @@ loop-goal-preserved g c =
       within = within_next c.args.goals.now n c.loop-goal.kept.items c.to_front.new.kept.items e.within (e.first (i.all n (omega (arith, c.loop-goal-test.true)))) i.within;
       all = λ j less. kept_through c.loop-goal.kept.items c.to_front.new.kept.items (slice_index c.args.goals.now j) e.within (i.all j less);
       len = e.len ∙ i.len;
-      capacity = e.capacity ∙ i.capacity;
+      room = e.room ∙ i.room;
     }
 
 pub returns-clause-within : goal.returns-clause-within

@@ -1,6 +1,5 @@
-use Rattle.std.proofs.Common.{◌≡◌, ℕ, ◌<◌, slice_index, take}
+use Rattle.std.proofs.Common.{◌≡◌, ℕ, ◌<◌, length, slice_index, take}
 use Rattle.std.specs.List.{All, Contains}
-use Rattle.std.specs.VecDeque.{deque_len, deque_capacity}
 use Rattle.fleet_field.specs.Shelf.{HasKept, AreKept}
 use Rattle.fleet_field.proofs.kept.all_to_front.Given as goal
 
@@ -9,6 +8,6 @@ invariant-loop-goal g l = record {
   among : All (Contains l.fn.kept.items) l.kept.items;
   within : (i : ℕ) → i < l.goal-index → HasKept (take l.goal-index l.kept.items) (slice_index l.goals i);
   all : AreKept l.goals l.kept.items;
-  len : deque_len l.kept ≡ deque_len l.fn.kept;
-  capacity : deque_capacity l.kept ≡ deque_capacity l.fn.kept;
+  len : length l.kept.items ≡ length l.fn.kept.items;
+  room : l.kept.room ≡ l.fn.kept.room;
 }

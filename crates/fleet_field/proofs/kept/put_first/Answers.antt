@@ -37,7 +37,7 @@ loop-field-preserved g c =
     let here : Contains c.loop-field.fields.items field = subst (λ (xs : List Aim). Contains xs field) (sym e) (Contains-push left field) in
     let P = λ (f : Aim). Contains c.args.fields.items f ⊎ Contains c.args.kept.now.items f in
     record {
-      room = omega (arith, i.room, c.in-Some.ensures.cases, c.push_front_reserved.ensures.len, c.push_front_reserved.ensures.capacity);
+      room = omega (arith, i.room, c.in-Some.ensures.cases, c.push_front_reserved.ensures.len, c.push_front_reserved.ensures.room);
       among = subst (λ (xs : List Aim). All P xs) (sym items) (All-cons P field c.loop-field.kept.items (inl (i.subset field here)) i.among);
       subset = λ f r. i.subset f (subst (λ (xs : List Aim). Contains xs f) (sym e) (Contains-append_left left (field ∷ []) f r));
       fewer = omega (arith, i.fewer, c.in-Some.ensures.cases);

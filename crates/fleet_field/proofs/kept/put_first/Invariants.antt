@@ -1,13 +1,12 @@
-use Rattle.std.proofs.Common.{◌≡◌, ℕ, ◌+◌, ◌≤◌, ◌⊎◌, take, vec_len}
+use Rattle.std.proofs.Common.{◌≡◌, ℕ, ◌+◌, ◌≤◌, ◌⊎◌, length, take, vec_len}
 use Rattle.std.specs.List.{All, Contains}
-use Rattle.std.specs.VecDeque.{deque_len, deque_capacity}
 use Rattle.fleet_field.specs.Field.{Aim}
 use Rattle.fleet_field.specs.Shelf.{HasKept}
 use Rattle.fleet_field.proofs.kept.put_first.Given as goal
 
 abbrev pub invariant-loop-field : goal.invariant-loop-field
 invariant-loop-field g l = record {
-  room : deque_len l.kept + vec_len l.fields ≤ deque_capacity l.kept;
+  room : length l.kept.items + vec_len l.fields ≤ l.kept.room;
   among : All (λ (f : Aim). Contains l.fn.fields.items f ⊎ Contains l.fn.kept.items f) l.kept.items;
   subset : (f : Aim) → Contains l.fields.items f → Contains l.fn.fields.items f;
   fewer : vec_len l.fields ≤ vec_len l.fn.fields;

@@ -6,7 +6,7 @@ use Rattle.fleet_field.proofs.Fronted.{front_within, front_first, same_within, n
 use Rattle.fleet_field.proofs.kept.to_front.Goals as goal
 
 pub push_front_reserved-requires : goal.push_front_reserved-requires
-push_front_reserved-requires g c = omega (arith, c.in-Some.ensures.len, c.take_field.ensures.capacity, c.requires)
+push_front_reserved-requires g c = omega (arith, c.in-Some.ensures.len, c.take_field.ensures.room, c.requires)
 
 pub returns-in-Some-clause-among : goal.returns-in-Some-clause-among
 returns-in-Some-clause-among g c =

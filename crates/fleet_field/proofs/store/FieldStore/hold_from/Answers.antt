@@ -20,14 +20,14 @@ returns-in-Some-clause-serves g c =
 
 pub invariant_of-self-2 : goal.invariant_of-self-2
 invariant_of-self-2 g c =
-    let same : c.reserve.new.self.slots ≡ c.self.inside.held.slots = ap (λ s. s.slots) c.reserve.ensures.rest_kept in
+    let same : c.reserve.new.self.slots ≡ c.self.inside.held.slots = c.reserve.ensures.slots in
     let others : (other : ℕ) → other ≢ c.insert_reserved.result → shown c.insert_reserved.new.self.slots other ≡ shown c.self.inside.held.slots other = λ other ne. c.insert_reserved.ensures.updates.others other ne ∙ ap (λ s. shown s other) same in
     once_new c.self.inside.held.slots c.insert_reserved.new.self.slots c.insert_reserved.result others c.self.invariant (record { field = c.in_ok-field.field; uses = 1 }) c.insert_reserved.ensures.updates.changed
     (λ k at e same. c.in_default.ensures k at e (same ∙ c.in_ok-field.ensures.field.goal))
 
 pub returns-clause-held : goal.returns-clause-held
 returns-clause-held g c =
-    let same : c.reserve.new.self.slots ≡ c.self.inside.held.slots = ap (λ s. s.slots) c.reserve.ensures.rest_kept in
+    let same : c.reserve.new.self.slots ≡ c.self.inside.held.slots = c.reserve.ensures.slots in
     let others : (other : ℕ) → other ≢ c.insert_reserved.result → shown c.insert_reserved.new.self.slots other ≡ shown c.self.inside.held.slots other = λ other ne. c.insert_reserved.ensures.updates.others other ne ∙ ap (λ s. shown s other) same in
     subst (λ (s : List (Option (Held Aim))). IsHold c.args.grid.now c.args.goal s c.insert_reserved.new.self.slots c.insert_reserved.result) c.self.view_is
     (hold_new c.self.inside.held.slots c.insert_reserved.new.self.slots c.insert_reserved.result others c.args.grid.now c.args.goal c.in_default.ensures (sym (ap (λ s. shown s c.insert_reserved.result) same) ∙ c.insert_reserved.ensures.was_vacant)
@@ -35,7 +35,7 @@ returns-clause-held g c =
 
 pub returns-clause-serves : goal.returns-clause-serves
 returns-clause-serves g c =
-    let same : c.reserve.new.self.slots ≡ c.self.inside.held.slots = ap (λ s. s.slots) c.reserve.ensures.rest_kept in
+    let same : c.reserve.new.self.slots ≡ c.self.inside.held.slots = c.reserve.ensures.slots in
     let others : (other : ℕ) → other ≢ c.insert_reserved.result → shown c.insert_reserved.new.self.slots other ≡ shown c.self.inside.held.slots other = λ other ne. c.insert_reserved.ensures.updates.others other ne ∙ ap (λ s. shown s other) same in
     serves_by c.self.inside.held.slots c.insert_reserved.new.self.slots c.insert_reserved.result others c.args.grid.now (subst (Serves c.args.grid.now) (sym c.self.view_is) c.requires.serves)
     (record { field = c.in_ok-field.field; uses = 1 }) c.insert_reserved.ensures.updates.changed (subst (λ (x : ℕ). IsField c.args.grid.now x c.in_ok-field.field) (sym c.in_ok-field.ensures.field.goal) c.in_ok-field.ensures.field)
@@ -60,17 +60,17 @@ pub returns-in-Some-clause-refused : goal.returns-in-Some-clause-refused
 returns-in-Some-clause-refused g c = tt
 
 pub invariant_of-self-in_err-reserve : goal.invariant_of-self-in_err-reserve
-invariant_of-self-in_err-reserve g c = subst IsOnce (sym (ap (λ s. s.slots) c.reserve.ensures.rest_kept)) c.self.invariant
+invariant_of-self-in_err-reserve g c = subst IsOnce (sym c.reserve.ensures.slots) c.self.invariant
 
 pub returns-in_err-reserve-clause-serves : goal.returns-in_err-reserve-clause-serves
-returns-in_err-reserve-clause-serves g c = subst (Serves c.args.grid.now) (sym (ap (λ s. s.slots) c.reserve.ensures.rest_kept ∙ c.self.view_is)) c.requires.serves
+returns-in_err-reserve-clause-serves g c = subst (Serves c.args.grid.now) (sym (c.reserve.ensures.slots ∙ c.self.view_is)) c.requires.serves
 
 pub returns-in_err-reserve-clause-keeps : goal.returns-in_err-reserve-clause-keeps
 returns-in_err-reserve-clause-keeps g c = c.requires.keeps
 
 pub returns-in_err-reserve-clause-refused : goal.returns-in_err-reserve-clause-refused
 returns-in_err-reserve-clause-refused g c =
-    on_err (c.reserve.new.self.slots ≡ c.args.self.now) c.from_residual.result (ap (λ s. s.slots) c.reserve.ensures.rest_kept ∙ c.self.view_is)
+    on_err (c.reserve.new.self.slots ≡ c.args.self.now) c.from_residual.result (c.reserve.ensures.slots ∙ c.self.view_is)
 
 pub field-requires-clause-floor : goal.field-requires-clause-floor
 field-requires-clause-floor g c = c.requires.floor
@@ -79,17 +79,17 @@ pub field-requires-clause-keeps : goal.field-requires-clause-keeps
 field-requires-clause-keeps g c = c.requires.keeps
 
 pub invariant_of-self-in_err-field : goal.invariant_of-self-in_err-field
-invariant_of-self-in_err-field g c = subst IsOnce (sym (ap (λ s. s.slots) c.reserve.ensures.rest_kept)) c.self.invariant
+invariant_of-self-in_err-field g c = subst IsOnce (sym c.reserve.ensures.slots) c.self.invariant
 
 pub returns-in_err-field-clause-serves : goal.returns-in_err-field-clause-serves
-returns-in_err-field-clause-serves g c = subst (Serves c.args.grid.now) (sym (ap (λ s. s.slots) c.reserve.ensures.rest_kept ∙ c.self.view_is)) c.requires.serves
+returns-in_err-field-clause-serves g c = subst (Serves c.args.grid.now) (sym (c.reserve.ensures.slots ∙ c.self.view_is)) c.requires.serves
 
 pub returns-in_err-field-clause-keeps : goal.returns-in_err-field-clause-keeps
 returns-in_err-field-clause-keeps g c = c.field.ensures.keeps
 
 pub returns-in_err-field-clause-refused : goal.returns-in_err-field-clause-refused
 returns-in_err-field-clause-refused g c =
-    on_err (c.reserve.new.self.slots ≡ c.args.self.now) c.from_residual-in_err-field.result (ap (λ s. s.slots) c.reserve.ensures.rest_kept ∙ c.self.view_is)
+    on_err (c.reserve.new.self.slots ≡ c.args.self.now) c.from_residual-in_err-field.result (c.reserve.ensures.slots ∙ c.self.view_is)
 
 pub insert_reserved-requires : goal.insert_reserved-requires
 insert_reserved-requires g c = c.in_ok-reserve.ensures.room
