@@ -24,5 +24,7 @@ pub limit-above : {A : Type 0} (m : Floor) (h : History A) (told : Option ℕ) �
     (IsSome told → WaitsAreBounded m h) → IfSome told (λ most. (r w : ℕ) → r < robots h → wait h r ≡ Some w → w < most)
 limit-above m h None is bounded = search
 limit-above m h (Some most) is bounded = λ r w few waits.
-    let far = mul-le (robots h) (reach m) (robots h) (max 1 (floor_count m - 1)) (omega arith) (reach-few m) in
-    omega (arith, bounded search r w few waits, far, is)
+    let some : IsSome (Some most) = search in
+    let near : w < wait_bound m h = bounded some r w few waits in
+    let far : wait_bound m h ≤ robots h * max 1 (floor_count m - 1) = mul-le (robots h) (reach m) (robots h) (max 1 (floor_count m - 1)) (omega arith) (reach-few m) in
+    omega (arith, near, far, is)

@@ -8,8 +8,8 @@ use Rattle.fleet_bound.proofs.Limits.{limit-exact, limit-above}
 use Rattle.fleet_bound.proofs.TickCounts.{within-told}
 use Rattle.fleet_state.proofs.Parts.{robots-few}
 use Rattle.fleet_core.proofs.WaitBound.{waits-kept}
-use Rattle.fleet_core.proofs.longest.Core.wait_limit.Goals as goal
-use Rattle.fleet_core.proofs.longest.Core.wait_limit.Goals.{After-idle_within}
+use Rattle.fleet_core.proofs.kernel.Core.wait_limit.Goals as goal
+use Rattle.fleet_core.proofs.kernel.Core.wait_limit.Goals.{After-idle_within}
 
 robots_is : (g : _) (c : After-idle_within g) → c.robots.result ≡ robots (history_of c.self.inside.chapter)
 robots_is g c = c.robots.ensures.of c.self.inside.grid (history_of c.self.inside.chapter) c.self.invariant.is
@@ -33,5 +33,5 @@ returns-clause-above g c = rw (← c.self.view_is)
     (let h = history_of c.self.inside.chapter in
     let told = within-told (IsBridgeless (IsNeighbour c.self.inside.grid)) c.self.inside.planner.bridgeless 1 c.robots.result (floor_count c.self.inside.grid) c.idle_within.result c.self.invariant.aimed.bridge (told_is g c) in
     limit-above c.self.inside.grid h c.idle_within.result
-        (limit-exact c.self.inside.planner.bridgeless c.robots.result (robots h) (floor_count c.self.inside.grid) c.idle_within.result (robots_is g c) (told_is g c))
-        (λ some. waits-kept c.self.invariant (told.0 some)))
+    (limit-exact c.self.inside.planner.bridgeless c.robots.result (robots h) (floor_count c.self.inside.grid) c.idle_within.result (robots_is g c) (told_is g c))
+    (λ some. waits-kept c.self.invariant (told.0 some)))
