@@ -16,3 +16,4 @@ pub mod Errands
 pub mod Longest
 pub mod Queues
 pub mod TickCounts
+pub mod Limits

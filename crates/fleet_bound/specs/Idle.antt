@@ -20,3 +20,7 @@ idle_ticks longest robots floor_count = longest * robots * max 1 (floor_count - 
 abbrev pub idle_within : Bool → (longest robots floor_count : ℕ) → Option ℕ
 idle_within bridgeless longest robots floor_count =
     if bridgeless then Some (idle_ticks longest robots floor_count) else None
+
+-- a number of ticks that no wait reaches: those for one errand of each robot
+abbrev pub wait_limit : (robots floor_count : ℕ) → ℕ
+wait_limit robots floor_count = robots * max 1 (floor_count - 1)

@@ -1,18 +1,26 @@
 -- A core's history keeps the bound on waits.
-use Rattle.std.proofs.Common.{◌≡◌, ℕ, ◌<◌, List, Option, Some, None, refl, sym, ◌∙◌}
-use Rattle.std.specs.Prelude.{IfSome}
+use Rattle.std.proofs.Common.{arith, ◌≡◌, ℕ, ◌<◌, List, Option, Some, None, refl, sym, subst, ◌∙◌}
+use Rattle.std.proofs.lemmas.List.{length-map}
+use Rattle.std.proofs.lemmas.List.FromFn.{length-range_with_len}
+use Rattle.std.specs.Prelude.{IfSome, MatchOption, length}
+use Rattle.std.specs.List.{range_with_len}
 use Rattle.fleet_grid.specs.Floor.{Floor, IsNeighbour}
 use Rattle.fleet_grid.specs.Walk.{IsBridgeless}
 use Rattle.fleet_hooks.specs.declared.law.TieLaw.{TieLaw}
 use Rattle.fleet_book.specs.declared.limits.Limits.{Limits}
 use Rattle.fleet_history.specs.declared.history.Opening.{Opening}
-use Rattle.fleet_history.specs.History.{History, start}
+use Rattle.fleet_history.specs.History.{History, start, robots}
+use Rattle.fleet_history.specs.Waits.{wait}
 use Rattle.fleet_history.proofs.Legal.{legal-opening}
 use Rattle.fleet_history.proofs.Withdrawals.{unfinished-start}
 use Rattle.fleet_bound.specs.Bound.{KeepsBound, WaitsAreBounded}
 use Rattle.fleet_bound.proofs.BoundLaws.{bound-empty, bound-legal, bound-short}
 use Rattle.fleet_state.specs.State.{State}
-use Rattle.fleet_planner.specs.Aimed.{Planner}
+use Rattle.fleet_pibt.specs.Eldest.{IsEldest}
+use Rattle.fleet_pibt.specs.Order.{wait_of}
+use Rattle.fleet_planner.proofs.Lists.{item_of}
+use Rattle.fleet_planner.specs.Aimed.{Planner, IsIdle}
+use Rattle.fleet_planner.specs.Planned.{waits}
 use Rattle.fleet_core.specs.Core.{opening_of}
 use Rattle.fleet_core.specs.Hooks.{HookLaws, AreOrderly}
 use Rattle.fleet_core.specs.inside.Kept.{IsKept}
@@ -40,3 +48,15 @@ module _ {A : Type 0} {m : Floor} {limits : Limits} {ties : List TieLaw} {number
 pub if-below : (o : Option ℕ) (n : ℕ) → ((w : ℕ) → o ≡ Some w → w < n) → IfSome o (λ w. w < n)
 if-below None n each = search
 if-below (Some w) n each = each w refl
+
+-- the robots of a list of waits are all
+pub eldest-known : {A : Type 0} (h : History A) (e : ℕ) → IsEldest (waits h) e → e < robots h
+eldest-known h e x = omega (arith, x.known, length-map (range_with_len 0 (robots h)) (wait h), length-range_with_len 0 (robots h))
+
+-- the wait of the eldest
+pub eldest-waits : {A : Type 0} (h : History A) (e : ℕ) (o : Option ℕ) → IsEldest (waits h) e → o ≡ wait h e →
+    MatchOption o (IsIdle h) (λ w. (r : ℕ) × IsEldest (waits h) r × (wait h r ≡ Some w))
+eldest-waits h e o x is =
+    let same : wait_of (waits h) e ≡ wait h e = item_of (wait h) (robots h) e (eldest-known h e x) in
+    let age : wait h e ≡ Some x.age = sym same ∙ x.waits in
+    subst (λ p. MatchOption p (IsIdle h) (λ w. (r : ℕ) × IsEldest (waits h) r × (wait h r ≡ Some w))) (sym (is ∙ age)) (e, x, age)

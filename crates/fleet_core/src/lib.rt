@@ -9,6 +9,7 @@ mod faults;
 mod gifts;
 mod hook_laws;
 mod kernel;
+mod longest;
 mod mailbox;
 mod opening;
 mod robot_hooks;

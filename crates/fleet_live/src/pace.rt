@@ -7,7 +7,6 @@ use crate::keeper::{Keeper, Turned};
 use crate::period::next_due;
 use crate::stage::{Round, Work, keep_all, keep_pages};
 use crate::tally::Tally;
-use crate::voice::Voice;
 use fleet_office::OfficeName;
 use fleet_talk::Shelf;
 use std::alloc::{Alloc, Global};
@@ -75,20 +74,21 @@ impl Deadlines {
     }
 }
 
-/// Says the counts of the time since the last line, where a minute went by.
-fn say_counts<R: Alloc<A = Global> + Wait>(
+/// Says the counts of the time since the last line, where a minute went by, and how long robots wait.
+fn say_counts<N: OfficeName<Global>, R: Alloc<A = Global> + Wait, S: Shelf>(
     rt: &R,
+    keeper: &Keeper<'_, N, S>,
     deadlines: &mut Deadlines,
     tally: &mut Tally,
-    counts: &Voice,
     now: u64,
 ) -> Result<(), Stop> {
     if now < deadlines.line {
         return Ok(());
     }
     let seconds = 60 + (now - deadlines.line) / 1_000_000;
-    let line = tally.line(rt.alloc(), seconds)?;
-    counts.say_if_room(rt, line.as_str())?;
+    let waits = keeper.office.waits(rt);
+    let line = tally.line(rt.alloc(), seconds, waits)?;
+    keeper.stage.counts.say_if_room(rt, line.as_str())?;
     *tally = Tally::NONE;
     deadlines.line = now.saturating_add(MINUTE);
     Ok(())
@@ -135,13 +135,7 @@ fn turn_now<N: OfficeName<Global>, R: Alloc<A = Global> + Clock + Wait, S: Shelf
     }
     let now = micros_since(rt, deadlines.start)?;
     deadlines.turn = next_due(told_apart(deadlines.turn), period, told_apart(now));
-    say_counts(
-        rt,
-        &mut deadlines,
-        &mut round.tally,
-        &keeper.stage.counts,
-        now,
-    )?;
+    say_counts(rt, keeper, &mut deadlines, &mut round.tally, now)?;
     round.deadlines = Some(deadlines);
     heed_some(rt, keeper, round, work)
 }

@@ -3,6 +3,7 @@
 ghost use Rattle.std.specs.Prelude.{◌≡◌, ◌+◌, ◌<◌, ◌≤◌, ◌^◌, max, IfOk, string_bytes};
 ghost use Rattle.fleet_live.specs.Counts.{counts_line};
 
+use fleet_office::WaitReport;
 use std::alloc::{AllocError, Global};
 
 /// What happened since the last line.
@@ -51,14 +52,25 @@ impl Tally {
         self.latest = self.latest.max(micros);
     }
 
-    /// The line of the counts, over this many seconds.
-    pub(crate) fn line(&self, alloc: Global, seconds: u64) -> Result<String, AllocError>
-        ensures { IfOk result (λ text. string_bytes text ≡ counts_line seconds self.now) }
+    /// The line of the counts, over this many seconds, with how long robots wait at their end.
+    pub(crate) fn line(
+        &self,
+        alloc: Global,
+        seconds: u64,
+        waits: WaitReport,
+    ) -> Result<String, AllocError>
+        ensures { IfOk result (λ text. string_bytes text ≡ counts_line seconds self.now waits) }
     {
         let (ticks, orders) = (self.ticks, self.orders);
         let (late, latest) = (self.late, self.latest);
-        format!(in alloc;
-            "seconds {seconds} ticks {ticks} orders {orders} late {late} latest {latest}us\n"
-        )
+        let wait = waits.longest.unwrap_or(0);
+        match waits.limit {
+            Some(limit) => format!(in alloc;
+                "seconds {seconds} ticks {ticks} orders {orders} late {late} latest {latest}us wait {wait} below {limit}\n"
+            ),
+            None => format!(in alloc;
+                "seconds {seconds} ticks {ticks} orders {orders} late {late} latest {latest}us wait {wait}\n"
+            ),
+        }
     }
 }

@@ -1,7 +1,7 @@
 -- What a look and a turn show of an office.
-use Rattle.std.specs.Prelude.{◌≡◌, ◌↔◌, List, [], ◌∷◌, ◌++◌, length, IfSome, IsSome, IsTrue, MatchOption}
+use Rattle.std.specs.Prelude.{◌≡◌, ◌↔◌, ◌<◌, ℕ, List, [], ◌∷◌, ◌++◌, length, Some, IfSome, IsSome, IsTrue, MatchOption}
 use Rattle.fleet_bound.specs.Arriving.{IsIdleWithin}
-use Rattle.fleet_bound.specs.Idle.{idle_ticks, longest_after}
+use Rattle.fleet_bound.specs.Idle.{idle_ticks, longest_after, wait_limit}
 use Rattle.fleet_grid.specs.Counts.{floor_count}
 use Rattle.fleet_grid.specs.Floor.{IsNeighbour}
 use Rattle.fleet_grid.specs.Walk.{IsBridgeless}
@@ -9,11 +9,13 @@ use Rattle.fleet_history.specs.declared.history.Entry.{Entry}
 use Rattle.fleet_history.specs.declared.history.Entry.TheVariants as entry
 use Rattle.fleet_history.specs.History.{clock, place, robots}
 use Rattle.fleet_history.specs.Legal.{IsLegal}
+use Rattle.fleet_history.specs.Waits.{wait}
 use Rattle.fleet_pibt.specs.Eldest.{IsEldest}
 use Rattle.fleet_planner.specs.Planned.{waits}
 use Rattle.fleet_planner.specs.Aimed.{IsIdle}
 use Rattle.fleet_core.specs.Core.{World}
 use Rattle.fleet_office.specs.declared.look.Look.{Look}
+use Rattle.fleet_office.specs.declared.waits.WaitReport.{WaitReport}
 use Rattle.fleet_office.specs.Views.{TickView}
 
 -- the look shows this world
@@ -36,3 +38,13 @@ pub record IsLastTick {A : Type 0} (w : World A) (t : TickView) : Type 0 where
   pub last : w.history.entries ≡ before ++ entry.Tick t.placement t.arrived t.farewells ∷ []
   pub tick : t.tick ≡ clock w.history
   pub placement : t.placement ≡ place w.history
+
+-- the report shows how long the robots of this world wait
+pub record ShowsWaits {A : Type 0} (w : World A) (report : WaitReport) : Type 0 where
+  pub legal : IsLegal w.floor w.history
+  pub longest : MatchOption report.longest (IsIdle w.history) (λ ticks. (r : ℕ) × IsEldest (waits w.history) r × (wait w.history r ≡ Some ticks))
+  -- the limit is there exactly where the map has no bridge
+  pub told : IsSome report.limit ↔ IsBridgeless (IsNeighbour w.floor)
+  pub exact : IfSome report.limit (λ most. most ≡ wait_limit (robots w.history) (floor_count w.floor))
+  -- no wait reaches it
+  pub above : IfSome report.limit (λ most. (r ticks : ℕ) → r < robots w.history → wait w.history r ≡ Some ticks → ticks < most)

@@ -21,6 +21,7 @@ mod settle;
 mod taking;
 mod tick_record;
 mod ticker;
+mod waits;
 
 pub use crate::beside::side_by_side;
 pub use crate::conclude::{ConcludeFault, Final, Home};
@@ -34,3 +35,4 @@ pub use crate::office::{Office, OfficeOf};
 pub use crate::report::{TurnCause, TurnFault, TurnReport};
 pub use crate::tick_record::TickRecord;
 pub use crate::ticker::Ticker;
+pub use crate::waits::WaitReport;

@@ -102,6 +102,16 @@ pub(crate) fn tell_look<N: OfficeName<A>, A: Allocator + Copy, R: Alloc<A = A> +
     tell_seen(&look, told)
 }
 
+/// Prints how long the robots wait, and the limit of all waits.
+fn tell_waits<N: OfficeName<A>, A: Allocator + Copy, R: Wait>(
+    rt: &R,
+    office: &Office<N, A>,
+    told: &mut String,
+) -> Result<(), AllocError> {
+    let waits = office.waits(rt);
+    write!(told, "longest {:?} limit {:?}", waits.longest, waits.limit)
+}
+
 /// Prints the result of a shut of this robot.
 fn tell_shut<N: OfficeName<A>, A: Allocator + Copy, R: Wait>(
     rt: &R,
@@ -220,6 +230,7 @@ pub(crate) fn tell_answer<
         Step::TurnInto(ticker) => tell_turn_into(rt, office, tickers, ticker, told),
         Step::Settle => tell_settle(rt, office, told),
         Step::Look(ticker) => tell_look(rt, office, tickers, ticker, told),
+        Step::Waits => tell_waits(rt, office, told),
         Step::Split(ticker) => tell_split(tickers, ticker, told),
         Step::Shut(robot) => tell_shut(rt, office, robot, told),
         Step::NextChapter => tell_next(rt, office, told),

@@ -19,6 +19,8 @@ pub(crate) enum Step {
     Settle,
     /// A look with this ticker.
     Look(usize),
+    /// How long the robots wait.
+    Waits,
     /// A ticker gives one part to a new one.
     Split(usize),
     /// A robot takes no further errands.

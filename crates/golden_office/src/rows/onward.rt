@@ -2,7 +2,7 @@
 
 use crate::rows::case::{Case, Step};
 use crate::rows::table::{TO_0, TO_1, TO_2, TWO_CELLS};
-use fleet_book::Limits;
+use fleet_book::{Limits, Order};
 
 /// A verdict comes before the tick, and the arrival with it.
 pub(crate) const SETTLE: Case<'static> = Case {
@@ -112,4 +112,32 @@ pub(crate) const SEARCHED_AHEAD: Case<'static> = Case {
         Step::Turn(0),
     ],
     ..THREE_CELLS
+};
+
+/// Two robots change sides on a square of four cells, which has no bridge: no wait reaches two robots times three edges.
+pub(crate) const LONGEST_WAIT: Case<'static> = Case {
+    name: "office_longest_wait",
+    sides: (2, 2),
+    letters: b"....",
+    starts: &[0, 3],
+    steps: &[
+        Step::Waits,
+        Step::Post(0, Order::Go { robot: 0, cell: 3 }),
+        Step::Settle,
+        Step::Waits,
+        Step::Turn(0),
+        Step::Post(0, Order::Go { robot: 1, cell: 0 }),
+        Step::Settle,
+        Step::Waits,
+        Step::Turn(0),
+        Step::Waits,
+    ],
+    ..TWO_CELLS
+};
+
+/// Two cells are a bridge, so there is no limit.
+pub(crate) const LONGEST_WAIT_ON_A_BRIDGE: Case<'static> = Case {
+    name: "office_longest_wait_on_a_bridge",
+    steps: &[Step::Post(0, TO_1), Step::Settle, Step::Waits],
+    ..TWO_CELLS
 };

@@ -5,7 +5,10 @@ use crate::rows::faults::{
     CLOCK_FIRST, FULL_CHAPTER, FULL_TURN, IDLE_TICKER, MISSING_CLIENT, NEXT_CHAPTER, SECOND_CLIENT,
     SMALL_MAILBOX, SMALL_OUTLET, SPENT_CLOCK, TWO_TICKERS, WIDER_MAILBOX,
 };
-use crate::rows::onward::{SEARCHED_AHEAD, SETTLE, SETTLE_FULL_CHAPTER, SETTLE_HELD, TURN_INTO};
+use crate::rows::onward::{
+    LONGEST_WAIT, LONGEST_WAIT_ON_A_BRIDGE, SEARCHED_AHEAD, SETTLE, SETTLE_FULL_CHAPTER,
+    SETTLE_HELD, TURN_INTO,
+};
 use fleet_book::{Limits, Order};
 
 /// Robot 0 to cell 0.
@@ -195,7 +198,7 @@ const RING_OF_EIGHT: Case<'static> = Case {
 };
 
 /// The cases, in their order.
-const ROWS: [Case<'static>; 26] = [
+const ROWS: [Case<'static>; 28] = [
     BACK_PRESSURE,
     BACK_PRESSURE_IN_HALL,
     LANE_OF_TWO,
@@ -220,6 +223,8 @@ const ROWS: [Case<'static>; 26] = [
     SETTLE_FULL_CHAPTER,
     SETTLE_HELD,
     TURN_INTO,
+    LONGEST_WAIT,
+    LONGEST_WAIT_ON_A_BRIDGE,
     SEARCHED_AHEAD,
     THOUSAND_ROUNDS,
 ];
