@@ -130,8 +130,9 @@ module _ {A : Type 0} (m : Floor) (h : History A) where
         let more : take i h.entries ++ e ∷ [] ≡ take (i + 1) h.entries = sym (take_more h.entries i e less ∙ ap (λ (x : Entry A). take i h.entries ++ x ∷ []) is) in
         subst (λ (es : List (Entry A)). IsStateOf m (with_entries h es) t) more (follows m (upto i) k (judged (upto i) of_robots))
 
-  pub judged_all : (i : ℕ) (s : State A) → IsStateOf m (upto i) s → length h.entries ≤ i → IsLegal m h
-  judged_all i s k le = subst (λ (es : List (Entry A)). IsLegal m (with_entries h es)) (take_whole h.entries i le) k.legal
+  -- the state after all entries
+  pub all_entered : (i : ℕ) (s : State A) → IsStateOf m (upto i) s → length h.entries ≤ i → IsStateOf m h s
+  all_entered i s k le = subst (λ (es : List (Entry A)). IsStateOf m (with_entries h es) s) (take_whole h.entries i le) k
 
 -- a legal trace is refused for lack of memory alone
 pub only_memory : {A : Type 0} (m : Floor) (h : History A) (fault : JudgeFault) → IsJudgeFault m h fault → IsLegal m h → fault ≡ NoMemory

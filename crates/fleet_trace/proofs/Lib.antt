@@ -9,6 +9,7 @@ pub mod OpeningOrder
 pub mod EntryByEntry
 pub mod LikeOpenings
 pub mod CalmOpening
+pub mod CalmDues
 pub mod Rooms
 pub mod ShutRules
 pub mod Robots

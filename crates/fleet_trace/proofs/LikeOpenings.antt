@@ -46,10 +46,10 @@ module _ {A : Type 0} (m : Floor) (o p : Opening A) (k : AreAlike o p) (es : Lis
   shut-same : (r : ℕ) → is_shut (behind p es) r ≡ is_shut (behind o es) r
   shut-same r = rw (k.shut) refl
 
-  due-same : (to : List ℕ) → due (behind p es) to ≡ due (behind o es) to
+  pub due-same : (to : List ℕ) → due (behind p es) to ≡ due (behind o es) to
   due-same to = rw (k.count, k.errands) refl
 
-  leaving-same : (to : List ℕ) (arrived : List Arrival) (farewells : List Bye) → leaving (behind p es) (after (behind p es) (Tick to arrived farewells)) ≡ leaving (behind o es) (after (behind o es) (Tick to arrived farewells))
+  pub leaving-same : (to : List ℕ) (arrived : List Arrival) (farewells : List Bye) → leaving (behind p es) (after (behind p es) (Tick to arrived farewells)) ≡ leaving (behind o es) (after (behind o es) (Tick to arrived farewells))
   leaving-same to arrived farewells = rw (k.count, k.shut, k.errands) refl
 
   standing-same : (c : ℕ) (order : Order) → standing (behind p es) c order ≡ standing (behind o es) c order
@@ -73,7 +73,7 @@ module _ {A : Type 0} (m : Floor) (o p : Opening A) (k : AreAlike o p) (es : Lis
   facts c Close f h = h
   facts c (Withdraw n) f h = place-of c n f.place h
 
-  verdict : (c : ℕ) (order : Order) (v : Verdict) → IsVerdict m (behind o es) c order v → IsVerdict m (behind p es) c order v
+  pub verdict : (c : ℕ) (order : Order) (v : Verdict) → IsVerdict m (behind o es) c order v → IsVerdict m (behind p es) c order v
   verdict c order v h = record {
     facts = h.facts;
     are_facts = facts c order h.facts h.are_facts;

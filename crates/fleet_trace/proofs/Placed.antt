@@ -1,6 +1,6 @@
 -- An errand that an entry accepts finds the room that was made for it.
-use Rattle.std.proofs.Common.{◌≡◌, ◌≢◌, ◌∙◌, ℕ, ◌+◌, ◌<◌, ◌≤◌, Bool, true, false, Option, None, List, [], ◌∷◌, ◌++◌, length, take, drop, filter, not, get_or, refl, sym, ap, subst, arith}
-use Rattle.std.specs.Prelude.{count_by, min, slice_index, ◌==◌, if◌then◌else◌}
+use Rattle.std.proofs.Common.{◌≡◌, ◌≢◌, ◌∙◌, ℕ, ◌+◌, ◌<◌, ◌≤◌, Bool, true, false, None, List, [], ◌∷◌, length, not, get_or, refl, sym, ap, subst, arith}
+use Rattle.std.specs.Prelude.{count_by, slice_index, ◌==◌, if◌then◌else◌}
 use Rattle.std.specs.List.{flat_map}
 use Rattle.std.proofs.lemmas.List.{length-append, length-drop}
 use Rattle.std.proofs.lemmas.Bool.{eq-eqb}
@@ -8,7 +8,6 @@ use Rattle.std.proofs.lemmas.List.Concat.{flat_map-cons}
 use Rattle.std.proofs.lemmas.List.Sums.{count_by-le-length, count_by_more_yes, length-filter, sum_by-take-le}
 use Rattle.fleet_queue.specs.declared.errand.Errand.{Errand}
 use Rattle.fleet_queue.specs.Queue.{Queue}
-use Rattle.fleet_book.specs.declared.order.Order.{Order}
 use Rattle.fleet_book.specs.declared.order.Order.TheVariants.{Go, Close, Withdraw}
 use Rattle.fleet_book.specs.declared.verdict.Verdict.{Verdict}
 use Rattle.fleet_book.specs.declared.verdict.Verdict.TheVariants as verdict
@@ -21,7 +20,7 @@ use Rattle.fleet_history.proofs.Legal.{accepted-robot, accepted-rule}
 use Rattle.fleet_history.proofs.InOrder.{legal-room}
 use Rattle.fleet_history.proofs.Sums.{count_cons}
 use Rattle.fleet_state.specs.State.{State, IsStateOf}
-use Rattle.fleet_state.specs.Robots.{HasPlace, queue_at}
+use Rattle.fleet_state.specs.Robots.{HasPlace}
 use Rattle.fleet_state.specs.Follows.{IsPlaced}
 use Rattle.fleet_state.proofs.Parts.{queue-of}
 use Rattle.fleet_trace.specs.Judged.{JudgedBy}

@@ -1,5 +1,5 @@
 -- The first entry of a trace that breaks a rule, and the first rule that it breaks.
-use Rattle.std.specs.Prelude.{⊤, ℕ, ◌≡◌, ◌<◌, ◌+◌, ◌⊎◌, List, ◌∷◌, ◌++◌, Option, false, is_some, map, length, All, MatchOption}
+use Rattle.std.specs.Prelude.{⊤, ℕ, ◌≡◌, ◌<◌, ◌+◌, ◌⊎◌, List, ◌∷◌, ◌++◌, Option, false, is_some, map, length, take, All, MatchOption}
 use Rattle.fleet_grid.specs.Floor.{Floor}
 use Rattle.fleet_grid.specs.Step.{IsConflictFree}
 use Rattle.fleet_hooks.specs.Law.{IsStamp}
@@ -17,6 +17,10 @@ use Rattle.fleet_history.specs.Verdicts.{IsVerdict}
 use Rattle.fleet_state.specs.State.{State, IsStateOf}
 use Rattle.fleet_trace.specs.declared.fault.JudgeFault.{JudgeFault}
 use Rattle.fleet_trace.specs.declared.fault.JudgeFault.TheVariants.{Illegal, NoMemory}
+
+-- the history with its first n entries alone
+abbrev pub before : {A : Type 0} → History A → ℕ → History A
+before h n = with_entries h (take n h.entries)
 
 -- the first rule that a take breaks: 2 its client is in range, 3 its verdict is that of the verdict rule
 abbrev pub TakeBreaks : {A : Type 0} → Floor → History A → ℕ → Order → Verdict → ℕ → Type 0

@@ -2,6 +2,7 @@
 
 mod calm;
 mod clients;
+mod due;
 mod names;
 mod opening;
 mod robots;
@@ -20,6 +21,7 @@ ghost use Rattle.fleet_trace.specs.Judged.{IsOf, JudgedBy, IsEntryFault, IsJudge
 
 use crate::fault::JudgeFault;
 use calm::calm_opening;
+pub use due::{landings_after, verdict_after};
 use fleet_grid::Grid;
 use fleet_history::{Chapter, Entry, Opening, RobotState};
 use fleet_state::FleetState;
@@ -63,7 +65,7 @@ fn broken_rule<A: Allocator + Copy>(
     }
 }
 
-/// Judges the entries after an opening; the state is that at the opening.
+/// Judges the entries after an opening, and enters those that are legal; the state is that at the opening.
 fn judge_entries<A: Allocator + Copy>(
     alloc: A,
     grid: &Grid<A>,
@@ -75,7 +77,7 @@ fn judge_entries<A: Allocator + Copy>(
     requires early { opening.now.tick ≡ 0 }
     requires few { length entries.now < 2 ^ 63 }
     requires rooms { (r : ℕ) → r < length opening.now.robots → slice_index state.old.rooms r ≡ room_for opening.now entries.now r }
-    ensures ok { OnOk result (IsLegal grid.now (with_entries (start opening.now) entries.now)) }
+    ensures state { OnOk result (IsStateOf grid.now (with_entries (start opening.now) entries.now) state.new) }
     ensures fault { IfErr result (λ fault. IsEntryFault grid.now (with_entries (start opening.now) entries.now) fault) }
 {
     let robots = opening.robots.as_slice();
@@ -88,6 +90,25 @@ fn judge_entries<A: Allocator + Copy>(
         state.enter(entry);
     }
     Ok(())
+}
+
+/// The state after the entries that follow an opening that is in order, if they are legal.
+fn state_behind<A: Allocator + Copy>(
+    alloc: A,
+    grid: &Grid<A>,
+    opening: &Opening<A>,
+    entries: &[Entry<A>],
+) -> Result<FleetState<A>, JudgeFault>
+    requires order { IsInOrder grid.now opening.now }
+    requires early { opening.now.tick ≡ 0 }
+    requires few { length entries.now < 2 ^ 63 }
+    ensures state { IfOk result (λ s. IsStateOf grid.now (with_entries (start opening.now) entries.now) s) }
+    ensures fault { IfErr result (λ fault. IsEntryFault grid.now (with_entries (start opening.now) entries.now) fault) }
+{
+    let rooms = rooms_of(alloc, opening, entries)?;
+    let mut state = FleetState::open_within(alloc, opening, rooms)?;
+    judge_entries(alloc, grid, opening, entries, &mut state)?;
+    Ok(state)
 }
 
 /// Judges entries after an opening that is in order.
@@ -103,9 +124,8 @@ fn judge_behind<A: Allocator + Copy>(
     ensures ok { OnOk result (IsLegal grid.now (with_entries (start opening.now) entries.now)) }
     ensures fault { IfErr result (λ fault. IsEntryFault grid.now (with_entries (start opening.now) entries.now) fault) }
 {
-    let rooms = rooms_of(alloc, opening, entries)?;
-    let mut state = FleetState::open_within(alloc, opening, rooms)?;
-    judge_entries(alloc, grid, opening, entries, &mut state)
+    let _state = state_behind(alloc, grid, opening, entries)?;
+    Ok(())
 }
 
 /// Judges the entries after an opening that is in order, by the opening with its clock and waits set to 0.

@@ -9,7 +9,7 @@ mod version;
 mod write;
 
 pub use fault::{JudgeFault, TraceFault};
-pub use judging::judge;
+pub use judging::{judge, landings_after, verdict_after};
 pub use law::{trace_reads_back, write_and_read};
 pub use read::read_trace;
 pub use version::Version;

@@ -4,7 +4,7 @@ use Rattle.fleet_trace.proofs.Placed.{placed}
 use Rattle.fleet_history.specs.declared.history.RobotState.{RobotState}
 use Rattle.fleet_history.specs.History.{start, with_entries}
 use Rattle.fleet_trace.specs.Judged.{JudgedBy}
-use Rattle.fleet_trace.proofs.EntryByEntry.{illegal_at, may_follow, goes_on, judged_all}
+use Rattle.fleet_trace.proofs.EntryByEntry.{illegal_at, may_follow, goes_on, all_entered}
 use Rattle.fleet_trace.proofs.judging.judge_entries.Goals as goal
 
 pub returns-in-Some-clause-fault : goal.returns-in-Some-clause-fault
@@ -34,9 +34,9 @@ loop-at-preserved g c =
     let judged = subst (λ (o : Option _). JudgedBy m h.opening.robots s e o) c.in_default.is (subst (λ (xs : List (RobotState _)). JudgedBy m xs s e c.in_ok-rule.field-0) c.as_slice-robots.ensures c.in_ok-rule.ensures) in
     (goes_on m h c.loop-at.at e s c.loop-at.invariant.0 c.loop-at-test.true (sym c.index-entries-at.is) c.enter.new.self judged c.enter.ensures.follows, subst (λ (xs : List ℕ). (r : ℕ) → r < length c.args.opening.now.robots → slice_index xs r ≡ room_for c.args.opening.now c.args.entries.now r) (sym c.enter.ensures.rooms) c.loop-at.invariant.1)
 
-pub returns-clause-ok : goal.returns-clause-ok
-returns-clause-ok g c =
-    judged_all c.args.grid.now (with_entries (start c.args.opening.now) c.args.entries.now) c.loop-at.at c.loop-at.state c.loop-at.invariant.0 c.loop-at-test.false
+pub returns-clause-state : goal.returns-clause-state
+returns-clause-state g c =
+    all_entered c.args.grid.now (with_entries (start c.args.opening.now) c.args.entries.now) c.loop-at.at c.loop-at.state c.loop-at.invariant.0 c.loop-at-test.false
 
 pub enter-requires-clause-place : goal.enter-requires-clause-place
 enter-requires-clause-place g c =

@@ -1,4 +1,4 @@
-use Rattle.std.proofs.Common.{◌≡◌, ◌∙◌, List, map, ap, sym, refl, inl, inr}
+use Rattle.std.proofs.Common.{◌∙◌, List, map, ap, sym, refl, inl, inr}
 use Rattle.fleet_history.specs.declared.history.Arrival.{Arrival}
 use Rattle.fleet_history.specs.declared.history.Bye.{Bye}
 use Rattle.fleet_history.specs.Legal.{due_of}
