@@ -3,9 +3,8 @@ use Rattle.std.proofs.Common.{◌≡◌, ℕ, ◌+◌, ◌-◌, ◌*◌, ◌<◌
 use Rattle.std.proofs.lemmas.Bool.{cases_lt}
 use Rattle.std.proofs.lemmas.List.{length-set}
 use Rattle.std.proofs.lemmas.Nat.{div-mul-add, mod-mul-add, mul-le}
-use Rattle.std.specs.List.{CopiedTo, SameBelow, SameFrom}
 use Rattle.fleet_grid.specs.Padded.{place}
-use Rattle.fleet_field.specs.inside.Bytes.{low, high, HaveNone, HasRow}
+use Rattle.fleet_field.specs.inside.Bytes.{low, high, HaveNone, HasRow, IsMoved}
 use Rattle.fleet_grid.proofs.Places.{place_inside}
 use Rattle.fleet_field.proofs.Visit.{read}
 
@@ -32,31 +31,37 @@ row_more half bytes p f n xs ys x h inside last = record {
 place_at : (w s q r : ℕ) → r < w → place w s (q * w + r) ≡ (q + 1) * s + r
 place_at w s q r h = rw (div-mul-add q w r h, mod-mul-add q w r h) refl
 
--- with one row more each cell's byte is moved, and what comes after is as it was
-pub packed_more : (w s q n : ℕ) (bytes xs ys : List ℕ) → w < s → n ≡ w → ((c : ℕ) → c < q * w → slice_index xs c ≡ slice_index bytes (place w s c)) → SameFrom bytes xs (q * w)
-    → CopiedTo xs ys ((q + 1) * s) (q * w) n × SameBelow xs ys (q * w) × SameFrom xs ys (q * w + n)
-    → ((c : ℕ) → c < (q + 1) * w → slice_index ys c ≡ slice_index bytes (place w s c)) × SameFrom bytes ys ((q + 1) * w)
-packed_more w s q n bytes xs ys apart wide each rest moved = (
-  λ c below. elim (cases_lt c (q * w)) [
-    | inl before ↦ moved.1 c 0 before ∙ each c before
+-- the cells of this many rows have their bytes, and the bytes after them are as they were
+pub record ArePacked (w s q : ℕ) (bytes xs : List ℕ) : Type 0 where
+  pub len : length xs ≡ length bytes
+  pub each : (c : ℕ) → c < q * w → slice_index xs c ≡ slice_index bytes (place w s c)
+  pub rest : (k : ℕ) → q * w ≤ k → slice_index xs k ≡ slice_index bytes k
+
+-- a row begins after the cells of the rows before it
+pub row_after : (w s q : ℕ) → w < s → q * w + w ≤ (q + 1) * s
+row_after w s q apart =
+    let low_enough : q * w ≤ q * s = mul-le q w q s (omega arith) (omega (arith, apart)) in
+    let longer : (q + 1) * s ≡ q * s + s = omega arith in
+    omega (arith, low_enough, longer, apart)
+
+pub packed_more : (w s q : ℕ) (bytes xs ys : List ℕ) → w < s → ArePacked w s q bytes xs → IsMoved ((q + 1) * s) (q * w) w xs ys → ArePacked w s (q + 1) bytes ys
+packed_more w s q bytes xs ys apart p m = record {
+  len = m.len ∙ p.len;
+  each = λ c below. elim (cases_lt c (q * w)) [
+    | inl before ↦ m.below c before ∙ p.each c before
     | inr past ↦ (
         let k = c - q * w in
         let is : c ≡ q * w + k = omega (arith, past) in
         let small : k < w = omega (arith, below, more, past) in
         let at : place w s c ≡ (q + 1) * s + k = ap (place w s) is ∙ place_at w s q k small in
-        moved.0 c 0 past (omega (arith, below, more, wide)) ∙ (rest ((q + 1) * s + k) 0 (omega (arith, high_enough, longer)) ∙ ap (slice_index bytes) (sym at)))
-  ],
-  λ k d past. moved.2 k d (omega (arith, past, more, wide)) ∙ rest k d (omega (arith, past, more)),
-)
+        let after = row_after w s q apart in
+        ap (slice_index ys) is ∙ (m.moved k small ∙ (p.rest ((q + 1) * s + k) (omega (arith, after)) ∙ ap (slice_index bytes) (sym at))))
+  ];
+  rest = λ k past. m.rest k (omega (arith, past, more)) ∙ p.rest k (omega (arith, past, more));
+}
   where
     more : (q + 1) * w ≡ q * w + w
     more = omega arith
-
-    longer : (q + 1) * s ≡ q * s + s
-    longer = omega arith
-
-    high_enough : q * w ≤ q * s
-    high_enough = mul-le q w q s (omega arith) (omega (arith, apart))
 
 -- with one row more each place of a cell has its ways
 pub rows_laid : (w s q : ℕ) (ways xs ys : List ℕ) → 0 < w → w < s → ((c : ℕ) → c < q * w → slice_index xs (place w s c) ≡ high (slice_index ways c)) → HasRow high ways (q * w) ((q + 1) * s) w xs ys →

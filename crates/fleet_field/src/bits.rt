@@ -1,9 +1,9 @@
 //! The bytes of a map's places before a search, and those of its cells after it.
 
-ghost use Rattle.std.specs.Prelude.{◌≡◌, ℕ, ◌+◌, ◌*◌, ◌<◌, ◌≤◌, length, slice_index, IfOk};
+ghost use Rattle.std.specs.Prelude.{◌≡◌, ℕ, ◌+◌, ◌*◌, ◌<◌, ◌≤◌, ◌++◌, length, slice_index, IfOk};
 ghost use Rattle.fleet_grid.specs.Padded.{place};
 ghost use Rattle.fleet_field.specs.Kept.{IsLaidOut};
-ghost use Rattle.fleet_field.specs.inside.Bytes.{high, AreFree, HaveNone, HasRow};
+ghost use Rattle.fleet_field.specs.inside.Bytes.{high, AreFree, HaveNone, HasRow, IsMoved};
 
 use std::alloc::{AllocError, Allocator};
 
@@ -59,7 +59,40 @@ pub(crate) fn free_ways<A: Allocator + Copy>(
     Ok(bytes)
 }
 
+/// Copies the first bytes of `after` to the entries of `before` from `first` on. The two are parts of one list, so that the row
+/// is copied as a whole, and not byte by byte.
+fn copy_row(before: &mut [u8], after: &[u8], first: usize, width: usize)
+    requires small { length before.old < 1073741824 }
+    requires room { first + width ≤ length before.old }
+    requires inside { width ≤ length after.now }
+    ensures { IsMoved (length before.old) first width (before.old ++ after.now) (before.new ++ after.now) }
+{
+    before[first..first + width].copy_from_slice(&after[..width]);
+}
+
+/// Moves this many bytes from `start` on forward, to the entries from `first` on.
+fn pack_row(bytes: &mut [u8], start: usize, first: usize, width: usize)
+    requires small { length bytes.old < 1073741824 }
+    requires forward { first + width ≤ start }
+    requires inside { start + width ≤ length bytes.old }
+    ensures { IsMoved start first width bytes.old bytes.new }
+{
+    let (before, after) = bytes.split_at_mut(start);
+    copy_row(before, after, first, width);
+}
+
 /// Moves each row's bytes forward in the list, so that each cell's byte is where the cell's number says.
+fn pack_rows(bytes: &mut [u8], height: usize, width: usize, stride: usize)
+    requires { IsLaidOut height width stride bytes.old }
+    ensures len { length bytes.new ≡ length bytes.old }
+    ensures each { (cell : ℕ) → cell < height * width → slice_index bytes.new cell ≡ slice_index bytes.old (place width stride cell) }
+{
+    for row in 0..height {
+        pack_row(bytes, (row + 1) * stride, row * width, width);
+    }
+}
+
+/// The bytes of the cells, in the memory of those of the places.
 pub(crate) fn pack<A: Allocator + Copy>(
     bytes: Vec<u8, A>,
     height: u32,
@@ -70,12 +103,9 @@ pub(crate) fn pack<A: Allocator + Copy>(
     ensures len { length result.items ≡ height * width }
     ensures each { (cell : ℕ) → cell < height * width → slice_index result.items cell ≡ slice_index bytes.items (place width stride cell) }
 {
-    let (rows, columns, step) = (height as usize, width as usize, stride as usize);
+    let (rows, columns) = (height as usize, width as usize);
     let mut cells = bytes;
-    for row in 0..rows {
-        let start = (row + 1) * step;
-        cells.copy_within(start..start + columns, row * columns);
-    }
+    pack_rows(cells.as_mut_slice(), rows, columns, stride as usize);
     cells.truncate(rows * columns);
     cells
 }

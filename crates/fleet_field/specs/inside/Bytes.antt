@@ -152,3 +152,10 @@ pub record HasRow (half : ℕ → ℕ) (bytes : List ℕ) (start first count : �
   pub len : length after ≡ length before
   pub kept : (cell : ℕ) → cell < first → slice_index after cell ≡ slice_index before cell
   pub each : (k : ℕ) → k < count → slice_index after (first + k) ≡ half (slice_index bytes (start + k))
+
+-- this many bytes from a place on stand from another place on as well, and the others are as they were
+pub record IsMoved (start first count : ℕ) (before after : List ℕ) : Type 0 where
+  pub len : length after ≡ length before
+  pub below : (k : ℕ) → k < first → slice_index after k ≡ slice_index before k
+  pub moved : (k : ℕ) → k < count → slice_index after (first + k) ≡ slice_index before (start + k)
+  pub rest : (k : ℕ) → first + count ≤ k → slice_index after k ≡ slice_index before k
