@@ -1,5 +1,5 @@
 -- A map has one table of ways, and so one count of turns.
-use Rattle.std.proofs.Common.{◌≡◌, ℕ, ◌+◌, ◌*◌, ◌<◌, ◌↔◌, ◌⊎◌, inl, inr, zero, suc, List, length, slice_index, sym, ap, ◌∙◌, arith}
+use Rattle.std.proofs.Common.{◌≡◌, ℕ, ◌*◌, ◌<◌, ◌↔◌, inl, inr, zero, suc, List, length, slice_index, sym, ap, ◌∙◌, arith}
 use Rattle.std.specs.Int.{bit_at}
 use Rattle.std.proofs.lemmas.Nat.Bits.{same_from_bits_below, bit_at-lt}
 use Rattle.std.proofs.lemmas.Bool.{cases_eq}
@@ -10,7 +10,7 @@ use Rattle.fleet_grid.specs.Direction.{dir_number}
 use Rattle.fleet_grid.specs.Floor.{Floor}
 use Rattle.fleet_grid.specs.Counts.{floor_count}
 use Rattle.fleet_grid.specs.Turns.{turns_after, IsRagged}
-use Rattle.fleet_grid.specs.Ways.{IsWay, AreOpen, AreWays}
+use Rattle.fleet_grid.specs.Ways.{AreOpen, AreWays}
 
 -- two bits of which each is set where the other is
 one_bit : (a b : ℕ) → a < 2 → b < 2 → (a ≡ 1 → b ≡ 1) → (b ≡ 1 → a ≡ 1) → a ≡ b

@@ -1,4 +1,4 @@
-use Rattle.std.proofs.Common.{◌≡◌, ◌≤◌, ◌+◌, ◌*◌, ◌<◌, ℕ, subst, sym, arith}
+use Rattle.std.proofs.Common.{◌≡◌, ◌*◌, ◌<◌, ℕ, subst, sym, arith}
 use Rattle.fleet_field.proofs.Rows.{row_after, packed_more}
 use Rattle.fleet_field.proofs.bits.pack_rows.Goals as goal
 

@@ -1,5 +1,5 @@
 -- What a look in one direction writes, where it does not find a new place.
-use Rattle.std.proofs.Common.{◌≡◌, ◌+◌, ◌*◌, ◌%◌, ◌^◌, ◌<◌, ◌↔◌, ℕ, Bool, true, false, List, length, take, get_or, slice_index, slice_set, IsTrue, nat_eq, inl, inr, refl, sym, ap, ◌∙◌, arith}
+use Rattle.std.proofs.Common.{◌≡◌, ◌+◌, ◌*◌, ◌%◌, ◌^◌, ◌↔◌, ℕ, Bool, true, false, List, take, slice_index, slice_set, IsTrue, nat_eq, inl, inr, refl, sym, ap, ◌∙◌, arith}
 use Rattle.std.specs.Prelude.{◌&&◌}
 use Rattle.std.specs.Int.{from_bool}
 use Rattle.std.specs.Int.Bits.{bit_and, bit_or, or_zero_r}
