@@ -1,6 +1,6 @@
 -- The entry whose farewells break the sixth rule.
-use Rattle.std.proofs.Common.{◌≡◌, ◌∙◌, ℕ, ◌<◌, ◌-◌, Bool, true, false, inl, inr, List, [], ◌∷◌, length, Option, Some, None, refl, sym, ap, subst, arith, ◌==◌}
-use Rattle.std.specs.Prelude.{slice_get, map, is_some, ◌||◌, if◌then◌else◌, MatchOption}
+use Rattle.std.proofs.Common.{◌≡◌, ◌∙◌, ℕ, ◌-◌, Bool, true, false, inl, inr, List, [], ◌∷◌, length, Option, Some, None, refl, sym, ap, subst, arith, ◌==◌}
+use Rattle.std.specs.Prelude.{slice_get, map, ◌||◌, if◌then◌else◌, MatchOption}
 use Rattle.std.specs.List.{list_any}
 use Rattle.std.proofs.lemmas.Bool.{eq-eqb, eqb-true}
 use Rattle.fleet_grid.specs.Floor.{Floor}
@@ -11,8 +11,8 @@ use Rattle.fleet_history.specs.declared.history.Arrival.{Arrival}
 use Rattle.fleet_history.specs.declared.history.Bye.{Bye}
 use Rattle.fleet_history.specs.declared.history.Entry.{Entry}
 use Rattle.fleet_history.specs.declared.history.Entry.TheVariants.{Take, Tick, Shut}
-use Rattle.fleet_history.specs.History.{History, after, robots, place, unfinished}
-use Rattle.fleet_history.specs.Legal.{IsLegal, due_of, due, leaving, is_none_left, robot_if}
+use Rattle.fleet_history.specs.History.{History, robots, place, unfinished}
+use Rattle.fleet_history.specs.Legal.{IsLegal, is_none_left, robot_if}
 use Rattle.fleet_history.proofs.Legal.{length-place}
 use Rattle.fleet_trace.specs.Judged.{before, ShowsDue, ShowsFarewell, Breaks, IsFirstIllegal}
 use Rattle.fleet_explain.specs.declared.detail.Detail.{Detail}

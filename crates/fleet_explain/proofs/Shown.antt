@@ -1,14 +1,12 @@
 -- The tick whose arrivals break the fifth rule.
-use Rattle.std.proofs.Common.{◌≡◌, ℕ, ◌+◌, ◌-◌, ◌≤◌, inl, inr, List, ◌∷◌, ◌++◌, length, Option, Some, refl, sym, arith}
+use Rattle.std.proofs.Common.{◌≡◌, ℕ, ◌+◌, ◌-◌, ◌≤◌, inl, inr, List, ◌∷◌, length, Some, refl, arith}
 use Rattle.std.specs.Prelude.{slice_get}
 use Rattle.std.proofs.lemmas.List.{length-append}
 use Rattle.fleet_grid.specs.Floor.{Floor}
 use Rattle.fleet_history.specs.declared.history.Arrival.{Arrival}
 use Rattle.fleet_history.specs.declared.history.Bye.{Bye}
-use Rattle.fleet_history.specs.declared.history.Entry.{Entry}
-use Rattle.fleet_history.specs.declared.history.Entry.TheVariants.{Take, Tick, Shut}
+use Rattle.fleet_history.specs.declared.history.Entry.TheVariants.{Tick}
 use Rattle.fleet_history.specs.History.{History, with_entries}
-use Rattle.fleet_history.specs.Legal.{IsLegal}
 use Rattle.fleet_history.proofs.Legal.{legal-opening}
 use Rattle.fleet_trace.specs.Judged.{before, IsFirstIllegal}
 use Rattle.fleet_explain.specs.declared.detail.Detail.{Detail}

@@ -14,7 +14,7 @@ use crate::verdict::VerdictText;
 use fleet_check::StepFault;
 use fleet_map::MapFault;
 use fleet_trace::TraceFault;
-use std::fmt;
+use std::fmt::{self, Display};
 
 impl fmt::Display for LineFault {
     ghost output = { λ f. Some (line_text f) };
@@ -264,10 +264,7 @@ impl fmt::Display for Explanation {
                 )
             }
             Explanation::Script { line, fault } => write!(f, "the script: line {line}: {fault}"),
-            Explanation::Unserved { line, clients } => fmt::Display::fmt(
-                &UnservedText(line, clients),
-                f,
-            ),
+            Explanation::Unserved { line, clients } => UnservedText(line, clients).fmt(f),
             Explanation::Start { fault, width } => {
                 let start = StartText(width, fault);
                 write!(f, "the script: {start}")

@@ -1,5 +1,5 @@
 -- The robots of the farewells.
-use Rattle.std.proofs.Common.{◌≡◌, ◌∙◌, sym, ◌==◌}
+use Rattle.std.proofs.Common.{◌∙◌, sym, ◌==◌}
 use Rattle.fleet_history.specs.declared.history.Bye.{Bye}
 use Rattle.fleet_explain.proofs.Farewells.{any_map}
 use Rattle.fleet_explain.proofs.farewell.is_among.Goals as goal
