@@ -1,9 +1,8 @@
 -- A robot's front, by the errands that were withdrawn.
-use Rattle.std.proofs.Common.{◌≡◌, ◌∙◌, ℕ, Bool, true, false, List, [], ◌∷◌, ◌++◌, refl, sym, ap, not, filter}
+use Rattle.std.proofs.Common.{◌≡◌, ◌∙◌, ℕ, Bool, true, false, List, [], ◌∷◌, refl, ap, not, filter}
 use Rattle.std.specs.Prelude.{◌||◌, length, drop, slice_get}
 use Rattle.std.specs.List.{list_any, flat_map}
 use Rattle.fleet_queue.specs.declared.errand.Errand.{Errand}
-use Rattle.fleet_book.specs.declared.order.Order.{Order}
 use Rattle.fleet_book.specs.declared.order.Order.TheVariants as order
 use Rattle.fleet_book.specs.declared.verdict.Verdict.{Verdict}
 use Rattle.fleet_book.specs.declared.verdict.Verdict.TheVariants as verdict

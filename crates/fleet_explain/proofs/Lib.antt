@@ -1,7 +1,11 @@
 mod Written
 mod Among
 mod Answered
+mod AtEntry
+mod Verdicts
+mod Farewells
 mod Stepped
 mod Fronts
 mod Arrivals
 mod Shown
+mod Places

@@ -1,19 +1,17 @@
 -- The tick whose arrivals break the fifth rule.
-use Rattle.std.proofs.Common.{◌≡◌, ℕ, ◌+◌, ◌-◌, ◌≤◌, inl, inr, List, ◌∷◌, ◌++◌, length, Option, Some, refl, sym, arith}
+use Rattle.std.proofs.Common.{◌≡◌, ℕ, ◌+◌, ◌-◌, ◌≤◌, inl, inr, List, ◌∷◌, length, Some, refl, arith}
 use Rattle.std.specs.Prelude.{slice_get}
 use Rattle.std.proofs.lemmas.List.{length-append}
 use Rattle.fleet_grid.specs.Floor.{Floor}
 use Rattle.fleet_history.specs.declared.history.Arrival.{Arrival}
 use Rattle.fleet_history.specs.declared.history.Bye.{Bye}
-use Rattle.fleet_history.specs.declared.history.Entry.{Entry}
-use Rattle.fleet_history.specs.declared.history.Entry.TheVariants.{Take, Tick, Shut}
+use Rattle.fleet_history.specs.declared.history.Entry.TheVariants.{Tick}
 use Rattle.fleet_history.specs.History.{History, with_entries}
-use Rattle.fleet_history.specs.Legal.{IsLegal}
 use Rattle.fleet_history.proofs.Legal.{legal-opening}
-use Rattle.fleet_trace.specs.Judged.{IsFirstIllegal}
+use Rattle.fleet_trace.specs.Judged.{before, IsFirstIllegal}
 use Rattle.fleet_explain.specs.declared.detail.Detail.{Detail}
-use Rattle.fleet_explain.specs.declared.detail.Detail.TheVariants.{Nothing, Step, Missing, Extra}
-use Rattle.fleet_explain.specs.Details.{before, IsArrivalDetail, IsDetail}
+use Rattle.fleet_explain.specs.declared.detail.Detail.TheVariants.{Nothing, Due, Step, Missing, Extra, MissingFarewell, ExtraFarewell}
+use Rattle.fleet_explain.specs.Details.{IsArrivalDetail, IsDetail}
 
 -- there is such an entry, of a fleet whose opening is in order
 pub record IsEntryAt {A : Type 0} (h : History A) (at : ℕ) : Type 0 where
@@ -34,7 +32,10 @@ module _ {A : Type 0} (m : Floor) (h : History A) (at : ℕ) where
 
   pub arrivals_told : (to : List ℕ) (arrived : List Arrival) (farewells : List Bye) → slice_get h.entries (at - 1) ≡ Some (Tick to arrived farewells) → (d : Detail)
       → IsArrivalDetail (before h (at - 1)) to arrived d → IsDetail m h at 5 d
-  arrivals_told to arrived farewells there Nothing is = λ four. omega (arith, four)
+  arrivals_told to arrived farewells there Nothing is = ((λ bad. omega (arith, bad)), (λ bad. omega (arith, bad)), λ bad. absurd (omega (arith, bad)))
+  arrivals_told to arrived farewells there (Due v) is = absurd is
   arrivals_told to arrived farewells there (Step fault) is = absurd is
+  arrivals_told to arrived farewells there (MissingFarewell r) is = absurd is
+  arrivals_told to arrived farewells there (ExtraFarewell r) is = absurd is
   arrivals_told to arrived farewells there (Missing d) is = (refl, (to, arrived, farewells, there, is))
   arrivals_told to arrived farewells there (Extra d) is = (refl, (to, arrived, farewells, there, is))

@@ -1,7 +1,7 @@
 -- The tick whose step breaks the fourth rule.
-use Rattle.std.proofs.Common.{◌≡◌, ℕ, ◌+◌, ◌-◌, ◌≤◌, inl, inr, List, [], ◌∷◌, ◌++◌, length, take, Option, Some, None, refl, sym, ap, subst, ◌∙◌, arith}
+use Rattle.std.proofs.Common.{◌≡◌, ℕ, ◌+◌, ◌-◌, ◌≤◌, inl, inr, List, [], ◌∷◌, ◌++◌, length, take, Option, Some, None, sym, ap, subst, ◌∙◌, arith}
 use Rattle.std.specs.Prelude.{slice_get}
-use Rattle.std.proofs.lemmas.List.{take_all, take-append-le, length-append}
+use Rattle.std.proofs.lemmas.List.{length-append}
 use Rattle.fleet_grid.specs.Floor.{Floor}
 use Rattle.fleet_grid.specs.Step.{IsPlacement, IsConflictFree}
 use Rattle.fleet_history.specs.declared.history.Arrival.{Arrival}
@@ -11,21 +11,12 @@ use Rattle.fleet_history.specs.declared.history.Entry.TheVariants.{Take, Tick, S
 use Rattle.fleet_history.specs.History.{History, with_entries, place}
 use Rattle.fleet_history.specs.Legal.{IsLegal}
 use Rattle.fleet_history.proofs.Legal.{legal-placement}
-use Rattle.fleet_trace.specs.Judged.{Breaks, IsFirstIllegal}
+use Rattle.fleet_trace.specs.Judged.{before, Breaks, IsFirstIllegal}
 use Rattle.fleet_check.specs.Fault.{IsFirstFault}
 use Rattle.fleet_explain.specs.declared.detail.Detail.{Detail}
-use Rattle.fleet_explain.specs.declared.detail.Detail.TheVariants.{Nothing, Step, Missing, Extra}
-use Rattle.fleet_explain.specs.Details.{before, IsStepDetail, IsDetail}
-
-take_front : {X : Type 0} (xs ys all : List X) (n : ℕ) → all ≡ xs ++ ys → n ≡ length xs → take n all ≡ xs
-take_front xs ys all n is e = rw is (take-append-le n xs ys (omega (arith, e)) ∙ take_all n xs (omega (arith, e)))
-
-get_front : {X : Type 0} (xs : List X) (x : X) (ys : List X) → slice_get (xs ++ x ∷ ys) (length xs) ≡ Some x
-get_front [] x ys = refl
-get_front (z ∷ xs) x ys = get_front xs x ys
-
-get_at : {X : Type 0} (xs : List X) (x : X) (ys all : List X) (n : ℕ) → all ≡ xs ++ x ∷ ys → n ≡ length xs → slice_get all n ≡ Some x
-get_at xs x ys all n is e = rw (is, e) (get_front xs x ys)
+use Rattle.fleet_explain.specs.declared.detail.Detail.TheVariants.{Nothing, Due, Step, Missing, Extra, MissingFarewell, ExtraFarewell}
+use Rattle.fleet_explain.proofs.AtEntry.{take_front, get_at}
+use Rattle.fleet_explain.specs.Details.{IsStepDetail, IsDetail}
 
 -- the entry is a tick, and its step has a conflict
 pub record IsTickAt {A : Type 0} (m : Floor) (h : History A) (at : ℕ) : Type 0 where
@@ -84,5 +75,8 @@ module _ {A : Type 0} (m : Floor) (h : History A) (at rule : ℕ) (is : rule ≡
   told e to arrived farewells taken there tick same first (Step fault) step =
       let here : slice_get h.entries (at - 1) ≡ Some (Tick to arrived farewells) = there ∙ ap (λ (x : Entry A). Some x) tick in
       (is, (to, arrived, farewells, here, subst (λ (p : List ℕ). IsFirstFault m (place (before h (at - 1))) p fault) same step))
+  told e to arrived farewells taken there tick same first (Due v) none = absurd none
+  told e to arrived farewells taken there tick same first (MissingFarewell r) none = absurd none
+  told e to arrived farewells taken there tick same first (ExtraFarewell r) none = absurd none
   told e to arrived farewells taken there tick same first (Missing d) none = absurd none
   told e to arrived farewells taken there tick same first (Extra d) none = absurd none

@@ -1,33 +1,35 @@
 -- What more there is to say of an entry that breaks a rule.
-use Rattle.std.specs.Prelude.{◌≡◌, ◌≢◌, ℕ, ◌-◌, List, Some, take, slice_get}
+use Rattle.std.specs.Prelude.{◌≡◌, ◌≢◌, ℕ, ◌-◌, ◌==◌, Bool, true, false, if◌then◌else◌, List, [], ◌∷◌, Option, Some, None, map, slice_get}
+use Rattle.std.specs.List.{list_any}
 use Rattle.fleet_grid.specs.Floor.{Floor}
 use Rattle.fleet_grid.specs.Step.{IsConflictFree}
 use Rattle.fleet_check.specs.Fault.{IsFirstFault}
 use Rattle.fleet_history.specs.declared.history.Arrival.{Arrival}
 use Rattle.fleet_history.specs.declared.history.Bye.{Bye}
-use Rattle.fleet_history.specs.declared.history.Entry.TheVariants.{Tick}
-use Rattle.fleet_history.specs.History.{History, with_entries, place}
+use Rattle.fleet_history.specs.declared.history.Entry.{Entry}
+use Rattle.fleet_history.specs.declared.history.Entry.TheVariants.{Take, Tick, Shut}
+use Rattle.fleet_history.specs.History.{History, after, place, unfinished}
+use Rattle.fleet_history.specs.Legal.{is_none_left, robot_if, leaving}
+use Rattle.fleet_history.specs.Verdicts.{IsVerdict}
+use Rattle.fleet_book.specs.declared.order.Order.{Order}
+use Rattle.fleet_book.specs.declared.verdict.Verdict.{Verdict}
+use Rattle.fleet_trace.specs.Judged.{before, ShowsDue}
 use Rattle.fleet_explain.specs.declared.detail.Detail.{Detail}
-use Rattle.fleet_explain.specs.declared.detail.Detail.TheVariants.{Nothing, Step, Missing, Extra}
+use Rattle.fleet_explain.specs.declared.detail.Detail.TheVariants.{Nothing, Due, Step, Missing, Extra, MissingFarewell, ExtraFarewell}
 use Rattle.fleet_explain.specs.Dues.{IsMissing, IsExtra}
-
--- the history with its first n entries alone
-abbrev pub before : {A : Type 0} → History A → ℕ → History A
-before h n = with_entries h (take n h.entries)
 
 -- of a step from cells to cells
 abbrev pub IsStepDetail : Floor → List ℕ → List ℕ → Detail → Type 0
 IsStepDetail m from to Nothing = IsConflictFree m from to
 IsStepDetail m from to (Step fault) = IsFirstFault m from to fault
-IsStepDetail m from to (Missing d) = ⊥
-IsStepDetail m from to (Extra d) = ⊥
+IsStepDetail m from to _ = ⊥
 
 -- of the arrivals that a tick to these cells shows after the history
 abbrev pub IsArrivalDetail : {A : Type 0} → History A → List ℕ → List Arrival → Detail → Type 0
 IsArrivalDetail h to arrived Nothing = Unit {0}
-IsArrivalDetail h to arrived (Step fault) = ⊥
 IsArrivalDetail h to arrived (Missing d) = IsMissing h to arrived d
 IsArrivalDetail h to arrived (Extra d) = IsExtra h to arrived d
+IsArrivalDetail h to arrived _ = ⊥
 
 -- the entry at this place, from 1, is a tick, whose step from where the robots stood has this first fault
 abbrev pub IsStepAt : {A : Type 0} → Floor → History A → ℕ → Detail → Type 0
@@ -41,10 +43,81 @@ IsArrivalAt h at detail =
     (to : List ℕ) × (arrived : List Arrival) × (farewells : List Bye) × (slice_get h.entries (at - 1) ≡ Some (Tick to arrived farewells))
     × IsArrivalDetail (before h (at - 1)) to arrived detail
 
--- where the fourth rule is broken, by the step, its first fault is named; where the fifth is, by the arrivals, one that is missing
--- or too many. Nothing is said where a tick shows the arrivals that are due, but in another order or more than once
+-- ---- farewells
+
+-- the robots whose farewells an entry shows, and those whose farewells are due of it
+abbrev pub farewells_shown : {A : Type 0} → Entry A → List ℕ
+farewells_shown (Take client order verdict) = []
+farewells_shown (Tick to arrived farewells) = map (λ b. b.robot) farewells
+farewells_shown (Shut robot None) = []
+farewells_shown (Shut robot (Some stamp)) = robot ∷ []
+
+abbrev pub farewells_due : {A : Type 0} → History A → Entry A → List ℕ
+farewells_due h (Take client order verdict) = []
+farewells_due h (Tick to arrived farewells) = leaving h (after h (Tick to arrived farewells))
+farewells_due h (Shut robot farewell) = robot_if (is_none_left (unfinished h robot)) robot
+
+abbrev pub is_among : List ℕ → ℕ → Bool
+is_among robots r = list_any (λ q. q == r) robots
+
+-- the robot is one of the first list, and none of the second
+pub record IsOnlyIn (robots others : List ℕ) (r : ℕ) : Type 0 where
+  pub there : is_among robots r ≡ true
+  pub missing : is_among others r ≡ false
+
+abbrev pub HasNoOther : List ℕ → List ℕ → Type 0
+HasNoOther robots others = (r : ℕ) → is_among robots r ≡ true → is_among others r ≡ true
+
+-- the first of the first list that is none of the second
+abbrev pub first_only : List ℕ → List ℕ → Option ℕ
+first_only [] others = None
+first_only (r ∷ robots) others = if is_among others r then first_only robots others else Some r
+
+-- of the robots whose farewells are due, and of those whose farewells are shown
+abbrev pub IsFarewellDetail : List ℕ → List ℕ → Detail → Type 0
+IsFarewellDetail due shown Nothing = HasNoOther due shown × HasNoOther shown due
+IsFarewellDetail due shown (MissingFarewell r) = IsOnlyIn due shown r
+IsFarewellDetail due shown (ExtraFarewell r) = IsOnlyIn shown due r
+IsFarewellDetail due shown _ = ⊥
+
+-- of the farewells that a tick to these cells shows after the history, whatever arrivals it shows, if they are those that are due
+abbrev pub IsTickDetail : {A : Type 0} → History A → List ℕ → List Bye → Detail → Type 0
+IsTickDetail h to farewells detail =
+    (arrived : List Arrival) → ShowsDue h to arrived → IsFarewellDetail (leaving h (after h (Tick to arrived farewells))) (map (λ b. b.robot) farewells) detail
+
+-- of the farewell that a shut shows, where the sixth rule is broken
+abbrev pub shut_detail : ℕ → Option ℕ → Detail
+shut_detail robot None = MissingFarewell robot
+shut_detail robot (Some stamp) = ExtraFarewell robot
+
+-- this is said of the farewells of the entry at this place, from 1
+abbrev pub IsFarewellAt : {A : Type 0} → History A → ℕ → Detail → Type 0
+IsFarewellAt {A} h at detail =
+    (e : Entry A) × (slice_get h.entries (at - 1) ≡ Some e) × IsFarewellDetail (farewells_due (before h (at - 1)) e) (farewells_shown e) detail
+
+-- ---- a verdict
+
+-- of a client's order after the history
+abbrev pub IsVerdictDetail : {A : Type 0} → Floor → History A → ℕ → Order → Detail → Type 0
+IsVerdictDetail m h client order (Due verdict) = IsVerdict m h client order verdict
+IsVerdictDetail m h client order _ = ⊥
+
+-- the entry at this place, from 1, is a take, and this is said of its order
+abbrev pub IsVerdictAt : {A : Type 0} → Floor → History A → ℕ → Detail → Type 0
+IsVerdictAt m h at detail =
+    (client : ℕ) × (order : Order) × (shown : Verdict) × (slice_get h.entries (at - 1) ≡ Some (Take client order shown))
+    × IsVerdictDetail m (before h (at - 1)) client order detail
+
+-- ---- an entry
+
+-- where the third rule is broken, the verdict that was due is named; where the fourth is, the first fault of the step; where the fifth
+-- or the sixth is, an arrival or a farewell that is missing or too many. Nothing is said where a tick shows those that are due, but in
+-- another order or more than once
 abbrev pub IsDetail : {A : Type 0} → Floor → History A → ℕ → ℕ → Detail → Type 0
-IsDetail m h at rule Nothing = rule ≢ 4
+IsDetail m h at rule Nothing = (rule ≢ 3) × (rule ≢ 4) × (rule ≡ 6 → IsFarewellAt h at Nothing)
+IsDetail m h at rule (Due verdict) = (rule ≡ 3) × IsVerdictAt m h at (Due verdict)
 IsDetail m h at rule (Step fault) = (rule ≡ 4) × IsStepAt m h at (Step fault)
 IsDetail m h at rule (Missing d) = (rule ≡ 5) × IsArrivalAt h at (Missing d)
 IsDetail m h at rule (Extra d) = (rule ≡ 5) × IsArrivalAt h at (Extra d)
+IsDetail m h at rule (MissingFarewell r) = (rule ≡ 6) × IsFarewellAt h at (MissingFarewell r)
+IsDetail m h at rule (ExtraFarewell r) = (rule ≡ 6) × IsFarewellAt h at (ExtraFarewell r)

@@ -1,6 +1,6 @@
 -- What is due of the robots at a tick, by the entries before it.
-use Rattle.std.specs.Prelude.{ℕ, Bool, true, false, ◌≡◌, ◌≢◌, ◌<◌, ◌++◌, ◌&&◌, ◌==◌, List, [], ◌∷◌, Option, Some, None, length}
-use Rattle.std.specs.List.{list_any, flat_map}
+use Rattle.std.specs.Prelude.{ℕ, Bool, true, false, ◌≡◌, ◌≢◌, ◌<◌, ◌&&◌, ◌==◌, List, [], ◌∷◌, Option, Some, None}
+use Rattle.std.specs.List.{list_any}
 use Rattle.fleet_queue.specs.declared.errand.Errand.{Errand}
 use Rattle.fleet_queue.specs.Queue.{is_of}
 use Rattle.fleet_book.specs.declared.order.Order.{Order}
@@ -11,7 +11,7 @@ use Rattle.fleet_history.specs.declared.history.Entry.{Entry}
 use Rattle.fleet_history.specs.declared.history.Entry.TheVariants as entry
 use Rattle.fleet_history.specs.declared.history.Arrival.{Arrival}
 use Rattle.fleet_history.specs.History.{History, front, robots}
-use Rattle.fleet_history.specs.Legal.{Due, due_of, due_at}
+use Rattle.fleet_history.specs.Legal.{Due, due_at}
 use Rattle.fleet_explain.specs.declared.front.Withdrawal.{Withdrawal}
 use Rattle.fleet_explain.specs.declared.arrival.ArrivalName.{ArrivalName}
 

@@ -1,11 +1,10 @@
 -- What is wrong with a map, a script or a trace.
-use Rattle.std.specs.Prelude.{◌≡◌, ℕ, List, Ok, Err}
+use Rattle.std.specs.Prelude.{◌≡◌, ℕ, List, Some, None, Ok, Err}
 use Rattle.std.specs.declared.alloc.Global.{Global}
 use Rattle.fleet_map.specs.Text.{lines_of}
 use Rattle.fleet_map.specs.Grammar.{Map, map_of}
 use Rattle.fleet_map.specs.declared.fault.MapFault.TheVariants.{Cell}
 use Rattle.fleet_grid.specs.Floor.{Floor, floor_of}
-use Rattle.fleet_book.specs.declared.limits.Limits.{Limits}
 use Rattle.fleet_history.specs.History.{History}
 use Rattle.fleet_history.specs.Legal.{IsLegal}
 use Rattle.fleet_script.specs.Script.{Plan, script_of}
@@ -17,6 +16,7 @@ use Rattle.fleet_explain.specs.declared.explanation.Explanation.{Explanation}
 use Rattle.fleet_explain.specs.declared.explanation.Explanation.TheVariants as explanation
 use Rattle.fleet_explain.specs.Lines.{fault_at, letter_in}
 use Rattle.fleet_explain.specs.Starts.{AlwaysOpens, IsStartFault}
+use Rattle.fleet_explain.specs.Served.{first_unserved}
 use Rattle.fleet_explain.specs.Entries.{kind_at}
 use Rattle.fleet_explain.specs.Details.{IsDetail}
 
@@ -38,16 +38,21 @@ pub data IsMapExplained (map : List ℕ) (e : Explanation) : Type 0 where
 
 -- ---- a script on a map
 
--- on the map, a fleet with these starts, clients and limits
-abbrev pub IsScriptOn : Map → List ℕ → ℕ → Limits → Explanation → Type 0
-IsScriptOn m starts clients limits (explanation.Start fault width) = IsStartFault (floor_of_map m) starts clients limits fault × (width ≡ m.width)
-IsScriptOn m starts clients limits explanation.Fine = AlwaysOpens (floor_of_map m) starts clients limits
-IsScriptOn m starts clients limits _ = ⊥
+-- whether a serve takes the lines of a script
+abbrev pub IsServedAs : Plan → Explanation → Type 0
+IsServedAs plan explanation.Fine = first_unserved plan.clients plan.events plan.lines ≡ None
+IsServedAs plan (explanation.Unserved line clients) = (first_unserved plan.clients plan.events plan.lines ≡ Some line) × (clients ≡ plan.clients)
+IsServedAs plan _ = ⊥
+
+-- on the map, the fleet of a script
+abbrev pub IsScriptOn : Map → Plan → Explanation → Type 0
+IsScriptOn m plan (explanation.Start fault width) = IsStartFault (floor_of_map m) plan.starts plan.clients plan.limits fault × (width ≡ m.width)
+IsScriptOn m plan e = AlwaysOpens (floor_of_map m) plan.starts plan.clients plan.limits × IsServedAs plan e
 
 pub data IsScriptExplained (map script : List ℕ) (e : Explanation) : Type 0 where
   no_floor : IsNoMap map e → IsScriptExplained map script e
   no_script : (m : Map) (line : ℕ) → map_of map ≡ Ok m → script_of script ≡ Err line → e ≡ explanation.Script line (fault_at (lines_of script) line) → IsScriptExplained map script e
-  on_floor : (m : Map) (plan : Plan) → map_of map ≡ Ok m → script_of script ≡ Ok plan → IsScriptOn m plan.starts plan.clients plan.limits e → IsScriptExplained map script e
+  on_floor : (m : Map) (plan : Plan) → map_of map ≡ Ok m → script_of script ≡ Ok plan → IsScriptOn m plan e → IsScriptExplained map script e
 
 -- ---- a trace on a map
 

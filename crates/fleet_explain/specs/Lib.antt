@@ -2,8 +2,10 @@ pub mod Keywords
 pub mod Lines
 pub mod Limits
 pub mod Starts
+pub mod Served
 pub mod Entries
 pub mod Dues
 pub mod Details
 pub mod Explained
 pub mod Sentences
+pub mod Places

@@ -1,5 +1,8 @@
 -- Explanations as sentences.
-use Rattle.std.specs.Prelude.{ℕ, ◌/◌, ◌%◌, List, [], ◌++◌, max, codes, decimal, encode_utf8, ◌==◌, if◌then◌else◌}
+use Rattle.std.specs.Prelude.{ℕ, ◌/◌, ◌%◌, List, [], ◌++◌, Option, Some, None, max, codes, decimal, encode_utf8, ◌==◌, if◌then◌else◌}
+use Rattle.fleet_book.specs.declared.verdict.Verdict.{Verdict}
+use Rattle.fleet_book.specs.declared.verdict.Verdict.TheVariants as verdict
+use Rattle.fleet_book.specs.Refusals.{refusal_code, verdict_name}
 use Rattle.fleet_map.specs.declared.fault.MapFault.{MapFault}
 use Rattle.fleet_map.specs.declared.fault.MapFault.TheVariants as map
 use Rattle.fleet_trace.specs.declared.fault.TraceFault.{TraceFault}
@@ -85,17 +88,38 @@ step_text (step.Swap i j) = codes "robots " ++ decimal i ++ codes " and " ++ dec
 abbrev pub arrival_text : ArrivalName → List ℕ
 arrival_text d = codes "robot " ++ decimal d.robot ++ codes "'s with errand " ++ decimal d.number ++ codes " of client " ++ decimal d.client
 
+-- a verdict that was carried out
+abbrev pub done_text : Verdict → List ℕ
+done_text (verdict.Accepted number) = codes "accepted " ++ decimal number
+done_text v = verdict_name v
+
+-- a verdict, by the number of the refusal if it is one
+abbrev pub answer_text : Option ℕ → Verdict → List ℕ
+answer_text (Some code) v = codes "refused " ++ decimal code ++ codes " " ++ verdict_name v
+answer_text None v = done_text v
+
+abbrev pub verdict_text : Verdict → List ℕ
+verdict_text v = answer_text (refusal_code v) v
+
 abbrev pub detail_text : Detail → List ℕ
 detail_text detail.Nothing = []
+detail_text (detail.Due v) = codes ": `" ++ verdict_text v ++ codes "` is due"
 detail_text (detail.Step fault) = codes ": " ++ step_text fault
 detail_text (detail.Missing d) = codes ": " ++ arrival_text d ++ codes " is due, and not shown"
 detail_text (detail.Extra d) = codes ": " ++ arrival_text d ++ codes " is shown, and not due"
+detail_text (detail.MissingFarewell robot) = codes ": robot " ++ decimal robot ++ codes "'s is due, and not shown"
+detail_text (detail.ExtraFarewell robot) = codes ": robot " ++ decimal robot ++ codes "'s is shown, and not due"
+
+-- a line that a serve of this many clients does not take
+abbrev pub unserved_text : ℕ → ℕ → List ℕ
+unserved_text n clients = codes "all in order for `run`; `serve` does not take line " ++ decimal n ++ codes ", which is no post or collect of a client below " ++ decimal clients
 
 abbrev pub sentence : Explanation → List ℕ
 sentence explanation.Fine = codes "all in order"
 sentence (explanation.Map f) = codes "the map: " ++ map_text f
 sentence (explanation.Letter row column letter) = codes "the map: row " ++ decimal row ++ codes ", column " ++ decimal column ++ codes " has `" ++ encode_utf8 letter ++ codes "`, which is no letter of a map"
 sentence (explanation.Script n f) = codes "the script: line " ++ decimal n ++ codes ": " ++ line_text f
+sentence (explanation.Unserved n clients) = unserved_text n clients
 sentence (explanation.Start f width) = codes "the script: " ++ start_text width f
 sentence (explanation.Trace f) = codes "the trace: " ++ trace_text f
 sentence (explanation.Illegal at rule kind detail) = codes "the trace: entry " ++ decimal at ++ codes ", " ++ kind_text kind ++ codes ": " ++ rule_text rule ++ detail_text detail

@@ -1,16 +1,21 @@
 //! Details about an entry that breaks a rule.
 
-ghost use Rattle.std.specs.Prelude.{◌≡◌, ◌≤◌, length, map, take, IfOk};
+ghost use Rattle.std.specs.Prelude.{◌≡◌, ◌<◌, ◌≤◌, length, map, IfOk};
 ghost use Rattle.fleet_grid.specs.Step.{IsPlacement};
-ghost use Rattle.fleet_history.specs.History.{history_of, place, place_after};
+ghost use Rattle.fleet_history.specs.History.{history_of, clients, place, place_after};
+ghost use Rattle.fleet_history.specs.Legal.{IsLegal};
 ghost use Rattle.fleet_trace.specs.Judged.{IsFirstIllegal};
-ghost use Rattle.fleet_explain.specs.Details.{before, IsStepDetail, IsArrivalDetail, IsDetail};
+ghost use Rattle.fleet_trace.specs.Judged.{before};
+ghost use Rattle.fleet_explain.specs.Details.{IsVerdictDetail, IsStepDetail, IsArrivalDetail, IsDetail};
 
 use crate::arrival::{ArrivalName, first_extra, first_missing};
+use crate::farewell::farewells_at;
 use crate::front::withdrawn;
+use fleet_book::{Order, Verdict};
 use fleet_check::{StepFault, check_step};
 use fleet_grid::Grid;
 use fleet_history::{Arrival, Chapter, Entry, RobotState};
+use fleet_trace::verdict_after;
 use std::alloc::{AllocError, Global};
 
 /// Details about an entry that breaks a rule.
@@ -18,12 +23,18 @@ use std::alloc::{AllocError, Global};
 pub enum Detail {
     /// Nothing.
     Nothing,
+    /// The verdict that its order gets.
+    Due(Verdict),
     /// The first fault of its step.
     Step(StepFault),
     /// The arrival is due, and the tick does not show it.
     Missing(ArrivalName),
     /// The tick shows the arrival, and it is not due.
     Extra(ArrivalName),
+    /// The farewell of this robot is due, and the entry does not show it.
+    MissingFarewell(u32),
+    /// The entry shows the farewell of this robot, and it is not due.
+    ExtraFarewell(u32),
 }
 
 /// The robots' cells at the opening.
@@ -90,6 +101,38 @@ fn arrival_detail(
     }
 }
 
+/// The verdict that an order of the client gets after this many entries of the chapter.
+fn due_verdict(
+    alloc: Global,
+    grid: &Grid,
+    chapter: &Chapter,
+    entries: usize,
+    client: u32,
+    order: Order,
+) -> Result<Detail, AllocError>
+    requires inside { entries ≤ length chapter.now.entries.items }
+    requires legal { IsLegal grid.now (before (history_of chapter.now) entries) }
+    requires client { client < clients (history_of chapter.now) }
+    ensures { IfOk result (λ detail. IsVerdictDetail grid.now (before (history_of chapter.now) entries) client order detail) }
+{
+    let due = verdict_after(alloc, grid, chapter, entries, client, order)?;
+    Ok(Detail::Due(due))
+}
+
+/// The verdict that was due at the take that breaks the third rule.
+fn verdict_at(alloc: Global, grid: &Grid, chapter: &Chapter, at: u64) -> Result<Detail, AllocError>
+    requires { IsFirstIllegal grid.now (history_of chapter.now) at 3 }
+    ensures { IfOk result (λ detail. IsDetail grid.now (history_of chapter.now) at 3 detail) }
+{
+    let entries = at as usize - 1;
+    match &chapter.entries[entries] {
+        Entry::Take { client, order, .. } => {
+            due_verdict(alloc, grid, chapter, entries, *client, *order)
+        }
+        Entry::Tick { .. } | Entry::Shut { .. } => Ok(Detail::Nothing),
+    }
+}
+
 /// What is wrong with the step of the tick that breaks the fourth rule.
 fn step_at(alloc: Global, grid: &Grid, chapter: &Chapter, at: u64) -> Result<Detail, AllocError>
     requires { IsFirstIllegal grid.now (history_of chapter.now) at 4 }
@@ -129,8 +172,10 @@ pub(crate) fn detail_of(
     ensures { IfOk result (λ detail. IsDetail grid.now (history_of chapter.now) at rule detail) }
 {
     match rule {
+        3 => verdict_at(alloc, grid, chapter, at),
         4 => step_at(alloc, grid, chapter, at),
         5 => arrivals_at(alloc, grid, chapter, at),
+        6 => farewells_at(alloc, grid, chapter, at),
         _ => Ok(Detail::Nothing),
     }
 }

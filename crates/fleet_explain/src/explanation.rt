@@ -4,12 +4,14 @@ ghost use Rattle.std.specs.Prelude.{◌≤◌, IfOk, length};
 ghost use Rattle.fleet_map.specs.Form.{HasSides};
 ghost use Rattle.fleet_map.specs.Grammar.{view, map_of, Fails};
 ghost use Rattle.fleet_history.specs.History.{history_of};
-ghost use Rattle.fleet_explain.specs.Explained.{IsNoMap, IsMapExplained, IsScriptExplained, IsScriptOn, IsTraceExplained, IsJudgedAs};
+ghost use Rattle.fleet_script.specs.Shown.{plan};
+ghost use Rattle.fleet_explain.specs.Explained.{IsNoMap, IsMapExplained, IsScriptExplained, IsScriptOn, IsServedAs, IsTraceExplained, IsJudgedAs};
 
 use crate::detail::{Detail, detail_of};
 use crate::entry::{EntryKind, kind_at};
 use crate::line::{LineFault, fault_at, letter_at};
 use crate::opening::{StartFault, start_fault};
+use crate::served::first_unserved;
 use fleet_grid::Grid;
 use fleet_history::Chapter;
 use fleet_map::{MapFault, MapText, read_map};
@@ -34,6 +36,12 @@ pub enum Explanation {
     Script {
         line: u32,
         fault: LineFault,
+    },
+    /// Nothing is wrong for a run, but a serve does not take this line of the script, from 1: it is no post or collect of one of this
+    /// many clients.
+    Unserved {
+        line: u32,
+        clients: u32,
     },
     /// The script's fleet cannot begin on the map, which has this width.
     Start {
@@ -84,6 +92,17 @@ pub fn explain_map(alloc: Global, map: &[u8]) -> Result<Explanation, AllocError>
     Ok(Explanation::Fine)
 }
 
+/// What a script whose fleet can begin has to say: whether a serve takes its lines.
+fn served_explanation(script: &Script) -> Explanation
+    ensures { IsServedAs (plan script.now) result }
+{
+    let clients = script.clients;
+    match first_unserved(clients, &script.events, &script.lines) {
+        Some(line) => Explanation::Unserved { line, clients },
+        None => Explanation::Fine,
+    }
+}
+
 /// Whether a script's fleet can begin on a map.
 fn start_explanation(
     alloc: Global,
@@ -91,18 +110,18 @@ fn start_explanation(
     script: &Script,
 ) -> Result<Explanation, AllocError>
     requires { HasSides (view map) }
-    ensures { IfOk result (λ e. IsScriptOn (view map) script.now.starts.items script.now.clients script.now.limits e) }
+    ensures { IfOk result (λ e. IsScriptOn (view map) (plan script.now) e) }
 {
     let width = map.width;
     let grid = Grid::new(map)?;
     match start_fault(&grid, &script.starts, script.clients, script.limits) {
         Some(fault) => Ok(Explanation::Start { fault, width }),
-        None => Ok(Explanation::Fine),
+        None => Ok(served_explanation(script)),
     }
 }
 
 /// What is wrong with a map or with a script on it: first whether the map can be read, then the script, then whether
-/// its fleet can be opened on the map. The events are not run. The only error is out of memory.
+/// its fleet can be opened on the map, then whether a serve takes its lines. The events are not run. The only error is out of memory.
 pub fn explain_script(alloc: Global, map: &[u8], script: &[u8]) -> Result<Explanation, AllocError>
     requires { length script.now ≤ 16777216 }
     ensures { IfOk result (λ e. IsScriptExplained map.now script.now e) }

@@ -1,7 +1,7 @@
 //! Explanations as sentences.
 
 ghost use Rattle.std.specs.Prelude.{◌≡◌, Some};
-ghost use Rattle.fleet_explain.specs.Sentences.{line_text, map_text, cell_text, limit_text, start_text, trace_text, kind_text, rule_text, step_text, arrival_text, detail_text, sentence};
+ghost use Rattle.fleet_explain.specs.Sentences.{line_text, map_text, cell_text, limit_text, start_text, trace_text, kind_text, rule_text, step_text, arrival_text, detail_text, unserved_text, sentence};
 
 use crate::arrival::ArrivalName;
 use crate::detail::Detail;
@@ -10,10 +10,11 @@ use crate::explanation::Explanation;
 use crate::limits::LimitFault;
 use crate::line::LineFault;
 use crate::opening::StartFault;
+use crate::verdict::VerdictText;
 use fleet_check::StepFault;
 use fleet_map::MapFault;
 use fleet_trace::TraceFault;
-use std::fmt;
+use std::fmt::{self, Display};
 
 impl fmt::Display for LineFault {
     ghost output = { λ f. Some (line_text f) };
@@ -207,13 +208,37 @@ impl fmt::Display for Detail {
     fn fmt<W: fmt::Write>(&self, f: &mut fmt::Formatter<W>) -> fmt::Result {
         match *self {
             Detail::Nothing => Ok(()),
+            Detail::Due(verdict) => {
+                let due = VerdictText(verdict);
+                write!(f, ": `{due}` is due")
+            }
             Detail::Step(fault) => {
                 let step = StepText(fault);
                 write!(f, ": {step}")
             }
             Detail::Missing(name) => write!(f, ": {name} is due, and not shown"),
             Detail::Extra(name) => write!(f, ": {name} is shown, and not due"),
+            Detail::MissingFarewell(robot) => {
+                write!(f, ": robot {robot}'s is due, and not shown")
+            }
+            Detail::ExtraFarewell(robot) => { write!(f, ": robot {robot}'s is shown, and not due") }
         }
+    }
+}
+
+/// A line that a serve of this many clients does not take.
+#[derive(Clone, Copy)]
+struct UnservedText(u32, u32);
+
+impl fmt::Display for UnservedText {
+    ghost output = { λ t. Some (unserved_text t.0 t.1) };
+
+    fn fmt<W: fmt::Write>(&self, f: &mut fmt::Formatter<W>) -> fmt::Result {
+        let (line, clients) = (self.0, self.1);
+        write!(
+            f,
+            "all in order for `run`; `serve` does not take line {line}, which is no post or collect of a client below {clients}"
+        )
     }
 }
 
@@ -239,6 +264,7 @@ impl fmt::Display for Explanation {
                 )
             }
             Explanation::Script { line, fault } => write!(f, "the script: line {line}: {fault}"),
+            Explanation::Unserved { line, clients } => UnservedText(line, clients).fmt(f),
             Explanation::Start { fault, width } => {
                 let start = StartText(width, fault);
                 write!(f, "the script: {start}")

@@ -10,6 +10,7 @@ use Rattle.fleet_lib.specs.Check.{good}
 -- the status of `errands`
 abbrev pub status_of : Explanation → ℕ
 status_of explanation.Fine = 0
+status_of (explanation.Unserved n clients) = 0
 status_of (explanation.Map f) = 4
 status_of (explanation.Letter row column letter) = 4
 status_of (explanation.Script n f) = 5

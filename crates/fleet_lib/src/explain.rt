@@ -17,7 +17,7 @@ fn status_of(explanation: Explanation) -> u8
     ensures { result ≡ status_of explanation }
 {
     match explanation {
-        Explanation::Fine => 0,
+        Explanation::Fine | Explanation::Unserved { .. } => 0,
         Explanation::Map(_) | Explanation::Letter { .. } => 4,
         Explanation::Script { .. } | Explanation::Start { .. } => 5,
         Explanation::Trace(_) | Explanation::Illegal { .. } => 6,

@@ -26,7 +26,19 @@ fn says(alloc: Global, script: &str, words: &str) -> bool {
 #[test]
 fn scripts_are_explained(rt: HostRuntime) {
     let alloc = rt.alloc();
-    assert!(rt; says(alloc, "robots 0 8\ntick\n", "all in order"));
+    let served = "robots 0 8\nclients 2\npost 1 go 0 1\ncollect 0\n";
+    assert_eq!(rt;
+        on_script(alloc, served).expect(&rt, "memory").as_str(),
+        "all in order"
+    );
+    assert!(rt;
+        says(
+            alloc,
+            "robots 0 8\npost 0 close\n\npost 1 close\n",
+            "all in order for `run`; `serve` does not take line 4, which is no post or collect of a client below 1"
+        )
+    );
+    assert!(rt; says(alloc, "robots 0 8\ntick\n", "does not take line 2"));
     assert!(rt; says(alloc, "robots 0 8\nteleport 3\n", "line 2"));
     assert!(rt; says(alloc, "clients 1\n", "robots"));
     assert!(rt;
@@ -48,43 +60,69 @@ fn maps_are_explained(rt: HostRuntime) {
     assert!(rt; sentence.contains("row 0, column 2"));
 }
 
-/// Robot 0 goes east, and then south onto the wall.
-const TRACE: &str =
-    r#"{"chapter":0,"entries":[["tick",[1,7],[],[]],["tick",[4,6],[],[]]],"opening":{"clients":[[0,0,0,false]],"life":1000000,"queue":16,"robots":[[0,false,null,[],[0,0],[0,0]],[8,false,null,[],[0,0],[0,0]]],"tick":0},"version":2}"#;
+/// What stands before and after the entries of a trace: one client, and robots on cells 0 and 8, without errands.
+const HEAD: &str = r#"{"chapter":0,"entries":["#;
 
-/// Robot 0 comes to its goal, and the tick shows no arrival.
-const MISSING: &str =
-    r#"{"chapter":0,"entries":[["take",0,["go",0,1],["accepted",1]],["tick",[1,8],[],[]]],"opening":{"clients":[[0,0,0,false]],"life":1000000,"queue":16,"robots":[[0,false,null,[],[0,0],[0,0]],[8,false,null,[],[0,0],[0,0]]],"tick":0},"version":2}"#;
+const OPENING: &str =
+    r#"],"opening":{"clients":[[0,0,0,false]],"life":1000000,"queue":16,"robots":[[0,false,null,[],[0,0],[0,0]],[8,false,null,[],[0,0],[0,0]]],"tick":18446744073709551615},"version":2}"#;
 
-/// Robot 0 had its arrival at tick 1, and a second is shown.
-const EXTRA: &str =
-    r#"{"chapter":0,"entries":[["take",0,["go",0,1],["accepted",1]],["tick",[1,8],[[0,0,1,0]],[]],["tick",[1,8],[[0,0,1,0]],[]]],"opening":{"clients":[[0,0,0,false]],"life":1000000,"queue":16,"robots":[[0,false,null,[],[0,0],[0,0]],[8,false,null,[],[0,0],[0,0]]],"tick":0},"version":2}"#;
-
-/// Traces, and what is wrong with each.
-const TRACES: [(&str, &str); 3] = [
+/// Entries of traces, and what is wrong with the trace of each.
+const TRACES: [(&str, &str); 10] = [
     (
-        TRACE,
+        r#"["tick",[1,7],[],[]],["tick",[4,6],[],[]]"#,
         "the trace: entry 2, a tick: the step has a conflict, or leaves the floor: robot 0 comes to no floor",
     ),
     (
-        MISSING,
+        r#"["take",0,["go",0,1],["accepted",1]],["tick",[1,8],[],[]]"#,
         "the trace: entry 2, a tick: the arrivals are not those that are due: robot 0's with errand 1 of client 0 is due, and not shown",
     ),
     (
-        EXTRA,
+        r#"["take",0,["go",0,1],["accepted",1]],["tick",[1,8],[[0,0,1,0]],[]],["tick",[1,8],[[0,0,1,0]],[]]"#,
         "the trace: entry 3, a tick: the arrivals are not those that are due: robot 0's with errand 1 of client 0 is shown, and not due",
     ),
+    (
+        r#"["take",0,["go",0,4],["accepted",1]]"#,
+        "the trace: entry 1, a take of client 0: the verdict is not the one that the order gets: `refused 5 blocked` is due",
+    ),
+    (
+        r#"["take",0,["go",0,1],["accepted",1]],["tick",[1,8],[[0,0,1,0]],[]],["take",0,["go",1,7],["accepted",1]]"#,
+        "the trace: entry 3, a take of client 0: the verdict is not the one that the order gets: `accepted 2` is due",
+    ),
+    (
+        r#"["take",0,["close"],["closed"]],["take",0,["close"],["closed"]]"#,
+        "the trace: entry 2, a take of client 0: the verdict is not the one that the order gets: `refused 1 client-closed` is due",
+    ),
+    (
+        r#"["take",0,["go",0,1],["accepted",1]],["shut",0],["tick",[1,8],[[0,0,1,0]],[]]"#,
+        "the trace: entry 3, a tick: the farewells are not those that are due: robot 0's is due, and not shown",
+    ),
+    (
+        r#"["take",0,["go",0,1],["accepted",1]],["tick",[1,8],[[0,0,1,0]],[[0,0]]]"#,
+        "the trace: entry 2, a tick: the farewells are not those that are due: robot 0's is shown, and not due",
+    ),
+    (
+        r#"["shut",1]"#,
+        "the trace: entry 1, a shut of robot 1: the farewells are not those that are due: robot 1's is due, and not shown",
+    ),
+    (
+        r#"["take",0,["go",0,1],["accepted",1]],["shut",0,0]"#,
+        "the trace: entry 2, a shut of robot 0: the farewells are not those that are due: robot 0's is shown, and not due",
+    ),
 ];
+
+/// The sentence about the trace with these entries.
+fn on_trace(alloc: Global, entries: &str) -> Result<String, AllocError> {
+    let trace = format!(in alloc; "{HEAD}{entries}{OPENING}")?;
+    let explanation = explain_trace(alloc, MAP.as_bytes(), trace.as_bytes())?;
+    format!(in alloc; "{explanation}")
+}
 
 #[test]
 fn entries_of_traces_are_explained(rt: HostRuntime) {
     let alloc = rt.alloc();
     for at in 0..TRACES.len() {
-        let (trace, expected) = TRACES[at];
-        let explanation = explain_trace(alloc, MAP.as_bytes(), trace.as_bytes()).expect(
-            &rt, "memory",
-        );
-        let sentence = format!(in alloc; "{explanation}").expect(&rt, "memory");
+        let (entries, expected) = TRACES[at];
+        let sentence = on_trace(alloc, entries).expect(&rt, "memory");
         assert_eq!(rt; sentence.as_str(), expected, "at {at}");
     }
 }

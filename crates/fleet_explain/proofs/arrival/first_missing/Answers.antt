@@ -1,5 +1,5 @@
 -- The arrival of a robot that is not shown.
-use Rattle.std.proofs.Common.{rules, ◌<◌, ◌∙◌, sym, arith}
+use Rattle.std.proofs.Common.{rules, ◌<◌, ◌∙◌, sym}
 use Rattle.fleet_history.specs.History.{start, with_entries, robots}
 use Rattle.fleet_explain.proofs.Arrivals.{missing}
 use Rattle.fleet_explain.proofs.arrival.first_missing.Goals as goal

@@ -1,4 +1,4 @@
-use Rattle.std.proofs.Common.{◌≡◌, ◌++◌, drop, length}
+use Rattle.std.proofs.Common.{◌≡◌, drop, length}
 use Rattle.std.specs.List.{flat_map}
 use Rattle.fleet_history.specs.History.{arrivals_by}
 use Rattle.fleet_explain.proofs.front.unfinished.Given as goal
