@@ -86,7 +86,7 @@ fn visit_both_over<A: Allocator + Copy>(
 fn held_again_without_memory(rt: HostRuntime) {
     let grid = ring(&rt, rt.alloc());
     let mut held = 0;
-    for before in 0..16 {
+    for before in 0..32 {
         let heap = Refusing::after(rt.alloc(), before);
         if let Some((away, is_kept)) = visit_both_over(&rt, &heap, &grid, 0) {
             assert!(rt; away == Some(4) && is_kept);
@@ -94,7 +94,7 @@ fn held_again_without_memory(rt: HostRuntime) {
         }
     }
     // Of the last one no allocation of the first visit was refused.
-    assert!(rt; held == 15);
+    assert!(rt; held == 31);
 }
 
 /// Whichever allocation of a search is refused, the search succeeds if a field was kept, which is then dropped.
@@ -102,7 +102,7 @@ fn held_again_without_memory(rt: HostRuntime) {
 fn kept_goes_before_want_of_memory(rt: HostRuntime) {
     let grid = ring(&rt, rt.alloc());
     let mut gone = 0;
-    for before in 0..16 {
+    for before in 0..32 {
         let heap = Refusing::after(rt.alloc(), before);
         if let Some((away, is_kept)) = visit_both_over(&rt, &heap, &grid, 2) {
             assert!(rt; away == Some(2));
