@@ -1,11 +1,11 @@
 -- What of a list is left on a shelf, and what is true of that.
-use Rattle.std.proofs.Common.{◌≡◌, ℕ, suc, List, ◌∷◌, take, drop, Option, Some, None, refl, sym, ap, subst, arith}
+use Rattle.std.proofs.Common.{◌≡◌, ℕ, suc, List, [], ◌∷◌, take, drop, Option, Some, None, refl, sym, ap, subst, arith}
 use Rattle.std.specs.Prelude.{OnSome, IfNone}
 use Rattle.std.specs.List.{All, Contains, remove}
 use Rattle.fleet_grid.specs.Floor.{Floor}
 use Rattle.fleet_field.specs.Field.{Aim, IsField}
 use Rattle.fleet_field.specs.Shelf.{Shelf}
-use Rattle.std.proofs.lemmas.List.Elements.{All-take, All-drop, All-append, All-cons, All-tail, All-weaker, All-contains, All-contains_itself}
+use Rattle.std.proofs.lemmas.List.Elements.{All-nil, All-take, All-drop, All-append, All-cons, All-tail, All-weaker, All-contains, All-contains_itself}
 
 module _ {X : Type 0} where
   pub among_taken : (n : ℕ) (xs : List X) → All (Contains xs) (take n xs)
@@ -31,6 +31,11 @@ module _ {X : Type 0} where
 pub keeps_put : (m : Floor) (field : Aim) (old new : List Aim) → All (Contains (field ∷ old)) new → IsField m field.goal field → All (λ (f : Aim). IsField m f.goal f) old → All (λ (f : Aim). IsField m f.goal f) new
 keeps_put m field old new among right keeps =
     all_among (λ (f : Aim). IsField m f.goal f) (field ∷ old) new among (All-cons (λ (f : Aim). IsField m f.goal f) field old right keeps)
+
+-- fields that are among none are of any map
+pub keeps_none : (m : Floor) (old new : List Aim) → All (Contains old) new → old ≡ [] → All (λ (f : Aim). IsField m f.goal f) new
+keeps_none m old new among empty =
+    all_among (λ (f : Aim). IsField m f.goal f) old new among (subst (All (λ (f : Aim). IsField m f.goal f)) (sym empty) (All-nil (λ (f : Aim). IsField m f.goal f)))
 
 -- a shelf of these fields
 abbrev pub shelf_of : List Aim → ℕ → Shelf

@@ -100,7 +100,19 @@ impl<A: Allocator + Copy> Shelf<A> {
         self.kept.reserve(left.min(more))
     }
 
-    /// Searches the field of a goal, and makes room for as many fields as can come back.
+    /// Takes out the field unused longest, if there is no place for another one: it would be dropped for the next that comes back.
+    fn spare(&mut self, cells: usize) -> Option<Compass<A>>
+        ensures { All (Contains self.old.kept) self.new.kept }
+    {
+        let len = self.kept.len();
+        if len == 0 || len < places(self.bytes, cells) {
+            return None;
+        }
+        Some(self.kept.remove(len - 1))
+    }
+
+    /// Searches the field of a goal, and makes room for as many fields as can come back. If there is no place for
+    /// another one, it is searched in the memory of the field unused longest.
     fn search<B: Allocator + Copy>(
         &mut self,
         grid: &Grid<B>,
@@ -109,10 +121,14 @@ impl<A: Allocator + Copy> Shelf<A> {
     ) -> Result<Compass<A>, AllocError>
         requires { IsFloor grid.now goal }
         ensures field { IfOk result (λ field. IsField grid.now goal field) }
-        ensures same { self.new ≡ self.old }
+        ensures others { All (Contains self.old.kept) self.new.kept }
     {
-        self.reserve(grid.cell_count() as usize, out)?;
-        Compass::from(self.kept.allocator(), grid, goal)
+        let cells = grid.cell_count() as usize;
+        self.reserve(cells, out)?;
+        match self.spare(cells) {
+            Some(spare) => Compass::from_spare(spare, grid, goal),
+            None => Compass::from(self.kept.allocator(), grid, goal),
+        }
     }
 
     /// The field of a goal, which is a floor cell: the kept one, or a new one. This many fields are then in use and may
