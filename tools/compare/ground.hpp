@@ -43,7 +43,7 @@ struct Measure {
     }
 };
 
-static void line(const char* kernel, const char* map, size_t fleet, u64 things, const Measure& m) {
+[[maybe_unused]] static void line(const char* kernel, const char* map, size_t fleet, u64 things, const Measure& m) {
     printf("%s map=%s fleet=%zu things=%llu repeats=%llu least_ns=%.2f mean_ns=%.2f\n", kernel, map, fleet,
            (unsigned long long)things, (unsigned long long)m.repeats, m.least / things, m.all / things / m.repeats);
     fflush(stdout);
@@ -51,10 +51,14 @@ static void line(const char* kernel, const char* map, size_t fleet, u64 things, 
 
 // ---- maps
 
+static u32 mixed(u32 row, u32 col) {
+    u32 sum = row * 2654435761u + col * 2246822519u;
+    return (sum ^ (sum >> 15)) * 3266489917u;
+}
+
 static bool joins_north(u32 row, u32 col) {
     if (row == 0 || row > 510) return false;
-    u32 mixed = row * 2654435761u + col * 2246822519u;
-    return col == 0 || (((mixed ^ (mixed >> 15)) * 3266489917u) >> 31) == 1;
+    return col == 0 || mixed(row, col) >> 31 == 1;
 }
 
 struct Map {
@@ -74,6 +78,7 @@ struct Map {
             if (row % 2 == 0 && col % 2 == 1) return col < 511 && !joins_north(row, col + 1);
             return false;
         }
+        if (!strcmp(name, "random")) return (mixed(row, col) >> 8) % 5 != 0;
         u32 ring = std::min(std::min(row, col), std::min(510 - row, 510 - col));
         bool turn = row == ring + 1 && col == ring;
         return (ring % 2 == 0) != turn;

@@ -2,6 +2,7 @@
 // bridges without recursion, PIBT's step (five distances read a robot, each tie closure asked once for each floor neighbour), and
 // long runs in which each robot always has two errands (the fields of stations are kept for ever). It prints the same lines.
 #include "ground.hpp"
+#include "stepper.hpp"
 
 // the fields of 48 goals, over lists that are new for each, or kept
 static Measure time_fields(const Map& map, u32 pad, bool kept, size_t& reached) {
@@ -119,122 +120,7 @@ static void measure_bridge(const Map& map) {
     line("bridge", map.name, 0, map.floor.size(), m);
 }
 
-// ---- a fleet and PIBT's step
-
-struct Fleet {
-    vector<u32> from, to, aims;
-    vector<u64> waits;
-};
-
-static Fleet fleet_of(const Map& map, const vector<u32>& cells, size_t robots, size_t fields, Random& random) {
-    Fleet f;
-    vector<u8> taken(map.floor.size());
-    for (size_t k = 0; k < robots * 16 && f.from.size() < robots; k++) {
-        u32 c = cells[random.below(cells.size())];
-        if (!taken[c]) {
-            taken[c] = 1;
-            f.from.push_back(c);
-        }
-    }
-    f.to.assign(f.from.size(), 0);
-    f.waits.assign(f.from.size(), 0);
-    for (size_t r = 0; r < f.from.size(); r++) f.aims.push_back(r % fields);
-    return f;
-}
-
-struct TieView {
-    u32 robot, cell, neighbour;
-    u8 dir;
-    u64 tick;
-};
-using Tie = u8 (*)(const TieView&);
-static u8 plain(const TieView&) { return 0; }
-
-struct Candidate {
-    u32 cost;
-    uint16_t rank;
-    u8 side;
-    u32 cell;
-    bool operator<(const Candidate& o) const {
-        if (cost != o.cost) return cost < o.cost;
-        if (rank != o.rank) return rank < o.rank;
-        return side < o.side;
-    }
-};
-
-struct Spot {
-    u32 cell, cost;
-};
-
-struct Stepper {
-    const Map& map;
-    const Grid& grid;
-    vector<u32> standing, holder, target, queue;
-    vector<std::array<Spot, 5>> arounds;
-    const vector<vector<u32>>* fields = nullptr;
-    const Fleet* fleet = nullptr;
-    const vector<Tie>* ties = nullptr;
-    u64 tick = 0;
-    static const u32 NONE = 4294967295u;
-    Stepper(const Map& map, const Grid& grid, size_t robots)
-        : map(map), grid(grid), standing(map.floor.size(), NONE), holder(map.floor.size(), NONE), target(robots, NONE),
-          queue(robots), arounds(robots) {}
-
-    bool attempt(u32 r, u32 cell) {
-        if (holder[cell] != NONE) return false;
-        u32 other = standing[cell];
-        if (other != NONE && target[other] == fleet->from[r]) return false;
-        target[r] = cell;
-        holder[cell] = r;
-        if (other == NONE || target[other] != NONE || plan(other)) return true;
-        target[r] = NONE;
-        target[other] = cell;
-        holder[cell] = other;
-        return false;
-    }
-
-    bool plan(u32 r) {
-        const auto& a = arounds[r];
-        Candidate list[5];
-        list[0] = {a[0].cost, 0, 4, a[0].cell};
-        for (u8 d = 0; d < 4; d++) {
-            const Spot& s = a[d + 1];
-            if (s.cell == a[0].cell)
-                list[d + 1] = {a[0].cost, 0, d, s.cell};
-            else
-                list[d + 1] = {s.cost, uint16_t((*ties)[r]({r, a[0].cell, s.cell, d, tick}) + 1), d, s.cell};
-        }
-        std::sort(list, list + 5);
-        for (const Candidate& c : list)
-            if (attempt(r, c.cell)) return true;
-        return false;
-    }
-
-    void step(Fleet& f, const vector<vector<u32>>& fs, const vector<Tie>& t, u64 now_tick) {
-        fleet = &f, fields = &fs, ties = &t, tick = now_tick;
-        size_t n = f.from.size();
-        u32 w = map.width, cells = map.floor.size();
-        for (u32 r = 0; r < n; r++) queue[r] = r;
-        std::sort(queue.begin(), queue.end(), [&](u32 a, u32 b) { return f.waits[a] != f.waits[b] ? f.waits[a] > f.waits[b] : a < b; });
-        for (u32 r = 0; r < n; r++) standing[f.from[r]] = r;
-        for (u32 r = 0; r < n; r++) {
-            u32 c = f.from[r], p = grid.place(c), s = grid.stride;
-            const u32* dist = fs[f.aims[r]].data();
-            auto spot = [&](bool there, u32 cell, u32 at) { return there && map.floor[cell] ? Spot{cell, dist[at]} : Spot{c, dist[p]}; };
-            arounds[r] = {Spot{c, dist[p]}, spot(c >= w, c - w, p - s), spot(c % w + 1 < w, c + 1, p + 1),
-                          spot(c + w < cells, c + w, p + s), spot(c % w != 0, c - 1, p - 1)};
-        }
-        for (u32 k = 0; k < n; k++)
-            if (target[queue[k]] == NONE) plan(queue[k]);
-        for (u32 r = 0; r < n; r++) standing[f.from[r]] = NONE;
-        for (u32 r = 0; r < n; r++) {
-            f.to[r] = target[r];
-            holder[target[r]] = NONE;
-            target[r] = NONE;
-        }
-        f.from.swap(f.to);
-    }
-};
+// ---- PIBT's step
 
 static void measure_step(const Map& map) {
     Grid g(map, pad_of(map));
@@ -267,6 +153,90 @@ static void measure_step(const Map& map) {
             m.with(now() - start);
         }
         line("step", map.name, f.from.size(), 20 * f.from.size(), m);
+    }
+}
+
+// ---- the check of a step, by a table with a robot for each cell that is kept from step to step
+
+struct Checker {
+    const Map& map;
+    vector<u32> seats;
+    explicit Checker(const Map& map) : map(map), seats(map.floor.size(), 0) {}
+    bool is_free(const vector<u32>& from, const vector<u32>& to) {
+        u32 n = from.size(), w = map.width, cells = map.floor.size();
+        if (to.size() != n) return false;
+        for (u32 r = 0; r < n; r++) {
+            u32 a = from[r], b = to[r], low = std::min(a, b), high = std::max(a, b);
+            if (b >= cells || !map.floor[b]) return false;
+            if (a != b && high - low != w && !(high - low == 1 && high % w != 0)) return false;
+            u32 other = seats[b];
+            if (other < r && to[other] == b) return false;
+            seats[b] = r;
+        }
+        for (u32 r = 0; r < n; r++) {
+            u32 other = seats[from[r]];
+            if (other < n && other != r && to[other] == from[r] && from[other] == to[r]) return false;
+        }
+        return true;
+    }
+};
+
+static void measure_check(const Map& map) {
+    Grid g(map, pad_of(map));
+    vector<u32> cells = part_of(map, g);
+    Random random{11};
+    vector<vector<u32>> fields;
+    for (int k = 0; k < 64; k++) fields.push_back(field(g, g.place(cells[random.below(cells.size())])));
+    vector<Tie> ties(512, plain);
+    for (size_t robots : {16, 128, 512}) {
+        Fleet f = fleet_of(map, cells, robots, fields.size(), random);
+        Stepper stepper(map, g, f.from.size());
+        stepper.step(f, fields, ties, 0);
+        Checker checker(map);
+        for (bool moves : {true, false}) {
+            Measure m;
+            u64 free = 0;
+            for (int k = 0; k < 200; k++) {
+                double start = now();
+                free += checker.is_free(f.to, moves ? f.from : f.to);
+                m.with(now() - start);
+            }
+            if (free != 200) printf("wrong\n");
+            line(moves ? "check" : "check_still", map.name, f.from.size(), f.from.size(), m);
+        }
+    }
+}
+
+// ---- from a map to the first tick: the fields of all goals, searched one after another and on four threads
+
+static void measure_open(const Map& map) {
+    Grid part_grid(map, pad_of(map));
+    vector<u32> cells = part_of(map, part_grid), goals;
+    Random thrown{13};
+    for (int k = 0; k < 512; k++) goals.push_back(cells[thrown.below(cells.size())]);
+    vector<Tie> ties(512, plain);
+    for (bool ahead : {false, true}) {
+        Random random{11};
+        Fleet f = fleet_of(map, cells, 512, 512, random);
+        Measure m;
+        double start = now();
+        Grid g(map, pad_of(map));
+        vector<vector<u32>> fields(goals.size());
+        auto search = [&](size_t first, size_t step) {
+            vector<u32> front, next;
+            for (size_t k = first; k < goals.size(); k += step) field_into(g, g.place(goals[k]), fields[k], front, next);
+        };
+        if (ahead) {
+            vector<std::thread> team;
+            for (size_t t = 0; t < 4; t++) team.emplace_back(search, t, 4);
+            for (auto& thread : team) thread.join();
+        } else {
+            search(0, 1);
+        }
+        Stepper stepper(map, g, f.from.size());
+        stepper.step(f, fields, ties, 0);
+        m.with(now() - start);
+        line(ahead ? "open_ahead" : "open", map.name, f.from.size(), f.from.size(), m);
     }
 }
 
@@ -345,12 +315,16 @@ static void measure_lifelong(const Map& map) {
 int main(int words, char** word) {
     if (words < 2) return 0;
     std::string kernel = word[1];
-    Map open("open", 1024, 1024), warehouse("warehouse", 164, 340), maze("maze", 512, 512), spiral("spiral", 511, 511);
+    Map open("open", 1024, 1024), warehouse("warehouse", 164, 340), maze("maze", 512, 512), spiral("spiral", 511, 511),
+        random("random", 512, 512);
     if (kernel == "field")
-        for (const Map* map : {&open, &warehouse, &maze, &spiral}) measure_field(*map);
+        for (const Map* map : {&open, &warehouse, &maze, &spiral, &random}) measure_field(*map);
     if (kernel == "fields") measure_fields(warehouse);
     if (kernel == "bridge")
-        for (const Map* map : {&open, &warehouse, &maze, &spiral}) measure_bridge(*map);
+        for (const Map* map : {&open, &warehouse, &maze, &spiral, &random}) measure_bridge(*map);
+    if (kernel == "check")
+        for (const Map* map : {&warehouse, &open}) measure_check(*map);
+    if (kernel == "open") measure_open(open);
     if (kernel == "step")
         for (const Map* map : {&warehouse, &open}) measure_step(*map);
     if (kernel == "lifelong")

@@ -1,11 +1,16 @@
 //! Measures the check of a step.
 
+ghost use Rattle.std.specs.Prelude.{◌≡◌, ◌<◌, ◌≤◌, length, vec_len};
 ghost use Rattle.fleet_grid.specs.Step.{IsPlacement};
+ghost use Rattle.bench_ground.specs.Fleet.{AreWithin, Serves};
 
-use crate::steps::FLEETS;
-use bench_ground::{Measure, Random, Site, print_measure};
+use crate::steps::{FIELDS, FLEETS, MOST};
+use bench_ground::{Fleet, Measure, Random, Site, print_measure};
 use fleet_check::check_step;
+use fleet_field::Compass;
 use fleet_grid::Grid;
+use fleet_hooks::{TieHook, TieLaw, TieView};
+use fleet_pibt::Stepper;
 use std::alloc::{Alloc, Global};
 use std::io;
 use std::time::{Clock, Instant};
@@ -19,28 +24,76 @@ pub(crate) fn measure_check<R: Alloc<A = Global> + Clock + Print>(
     map: &str,
     site: &Site,
 ) -> io::Result<()> {
+    let alloc = rt.alloc();
+    let mut ties = Vec::with_capacity(alloc, MOST)?;
+    for _ in 0..MOST {
+        ties.push(TieHook::new(TieLaw::ANY, Box::new(alloc, |_view: TieView| 0)?))?;
+    }
     let mut random = Random::from_seed(11);
+    let fields = site.fields(alloc, FIELDS, &mut random)?;
+    check_each(rt, map, site, &fields, &ties, &mut random)
+}
+
+/// The check of a step for each number of robots: the time for each robot.
+fn check_each<R: Alloc<A = Global> + Clock + Print>(
+    rt: &R,
+    map: &str,
+    site: &Site,
+    fields: &[Compass],
+    ties: &[TieHook],
+    random: &mut Random,
+) -> io::Result<()>
+    requires some { 0 < length fields.now }
+    requires serves { Serves site.now.grid site.now.home fields.now }
+    requires tied { length ties.now ≡ MOST }
+{
     for robots in FLEETS {
-        let starts = site.starts(rt.alloc(), robots, &mut random)?;
-        let found = time_checks(rt, &site.grid, &starts)?;
-        let count = starts.len();
-        print_measure(rt, "check", map, count, count as u64, found)?;
+        let starts = site.starts(rt.alloc(), robots.min(MOST), random)?;
+        check_fleet(rt, map, site, fields, starts, ties)?;
     }
     Ok(())
 }
 
-/// The check of a step in which all robots stay, several times.
+/// The check of a fleet's first step, in which nearly all robots move, and of one in which all stay.
+fn check_fleet<R: Alloc<A = Global> + Clock + Print>(
+    rt: &R,
+    map: &str,
+    site: &Site,
+    fields: &[Compass],
+    starts: Vec<u32>,
+    ties: &[TieHook],
+) -> io::Result<()>
+    requires some { 0 < length fields.now }
+    requires serves { Serves site.now.grid site.now.home fields.now }
+    requires tied { length ties.now ≡ MOST }
+    requires few { vec_len starts ≤ MOST }
+    requires placed { IsPlacement site.now.grid starts.items }
+    requires within { AreWithin site.now.grid site.now.home starts.items }
+{
+    let count = starts.len();
+    let ties = &ties[..count];
+    let mut fleet = Fleet::new(rt.alloc(), site, starts, fields.len())?;
+    let mut stepper = Stepper::new(rt.alloc(), site.grid.cell_count(), count as u32)?;
+    fleet.step(site, fields, &mut stepper, ties, 0);
+    let moved = time_checks(rt, &site.grid, &fleet.to, &fleet.from)?;
+    print_measure(rt, "check", map, count, count as u64, moved)?;
+    let stood = time_checks(rt, &site.grid, &fleet.to, &fleet.to)?;
+    print_measure(rt, "check_still", map, count, count as u64, stood)
+}
+
+/// The check of a step from these cells to those, several times.
 fn time_checks<R: Alloc<A = Global> + Clock>(
     rt: &R,
     grid: &Grid,
-    cells: &[u32],
+    from: &[u32],
+    to: &[u32],
 ) -> io::Result<Measure>
-    requires { IsPlacement grid.now cells.now }
+    requires { IsPlacement grid.now from.now }
 {
     let mut found = Measure::NONE;
     for _ in 0..REPEATS {
         let start = Instant::now(rt)?;
-        let _fault = check_step(rt.alloc(), grid, cells, cells);
+        let _fault = check_step(rt.alloc(), grid, from, to);
         found = found.with(start.elapsed(rt)?.as_nanos());
     }
     Ok(found)

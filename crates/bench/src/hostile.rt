@@ -6,6 +6,7 @@ use fleet_bridge::first_bridge;
 use fleet_grid::Grid;
 use fleet_map::read_map;
 use std::alloc::{Alloc, Global};
+use std::fs::Files;
 use std::io::{self, ErrorKind};
 use std::thread::Threads;
 use std::time::{Clock, Instant};
@@ -15,7 +16,7 @@ const TICKS: u32 = 4_096;
 
 /// Prints a line for each shape: the milliseconds in which its text was read, its grid described, and its world opened
 /// and run.
-pub(crate) fn measure_hostile<R: Alloc<A = Global> + Clock + Print + Threads + Sync>(
+pub(crate) fn measure_hostile<R: Alloc<A = Global> + Clock + Files + Print + Threads + Sync>(
     rt: &R,
     shapes: &[Shape],
 ) -> io::Result<()> {
@@ -27,7 +28,7 @@ pub(crate) fn measure_hostile<R: Alloc<A = Global> + Clock + Print + Threads + S
 }
 
 /// The line of a map's text.
-fn measure_text<R: Alloc<A = Global> + Clock + Print + Threads + Sync>(
+fn measure_text<R: Alloc<A = Global> + Clock + Files + Print + Threads + Sync>(
     rt: &R,
     name: &str,
     text: &[u8],
@@ -66,7 +67,7 @@ fn ends(grid: &Grid) -> Option<(u32, u32)> {
 
 /// The milliseconds in which a world with a robot on the first floor cell is opened, the robot sent to the last one, and
 /// ticks are made.
-fn time_run<R: Alloc<A = Global> + Clock + Print + Threads + Sync>(
+fn time_run<R: Alloc<A = Global> + Clock + Files + Print + Threads + Sync>(
     rt: &R,
     grid: Grid,
 ) -> io::Result<u128> {
@@ -82,7 +83,7 @@ fn time_run<R: Alloc<A = Global> + Clock + Print + Threads + Sync>(
 }
 
 /// Runs a robot from its start to the cell.
-fn run_through<R: Alloc<A = Global> + Clock + Print + Threads + Sync>(
+fn run_through<R: Alloc<A = Global> + Clock + Files + Print + Threads + Sync>(
     rt: &R,
     ground: Ground,
     cell: u32,

@@ -6,6 +6,7 @@ use crate::worlds::{LIMITS, MOST_ROBOTS, Task, Work, give_one, measure_fleets, o
 use bench_ground::{Kind, Random, Site};
 use fleet_world::{Notice, World};
 use std::alloc::{Alloc, Global};
+use std::fs::Files;
 use std::io;
 use std::thread::Threads;
 use std::time::{Clock, Instant};
@@ -59,7 +60,7 @@ impl Run {
 }
 
 /// Runs for each number of robots, with goals from all cells of the part, and from some stations in it.
-pub(crate) fn measure_lifelong<R: Alloc<A = Global> + Clock + Print + Threads + Sync>(
+pub(crate) fn measure_lifelong<R: Alloc<A = Global> + Clock + Files + Print + Threads + Sync>(
     rt: &R,
     kind: Kind,
     site: &Site,
@@ -70,7 +71,7 @@ pub(crate) fn measure_lifelong<R: Alloc<A = Global> + Clock + Print + Threads + 
 }
 
 /// A run for each number of robots.
-fn measure_run<R: Alloc<A = Global> + Clock + Print + Threads + Sync>(
+fn measure_run<R: Alloc<A = Global> + Clock + Files + Print + Threads + Sync>(
     rt: &R,
     kind: Kind,
     site: &Site,

@@ -4,16 +4,21 @@ use crate::bridges::measure_bridge;
 use crate::checks::measure_check;
 use crate::fields::{measure_field, measure_fields};
 use crate::lifelong::measure_lifelong;
+use crate::offices::measure_office;
+use crate::opens::measure_open;
 use crate::steps::measure_step;
 use crate::ticks::measure_tick;
+use crate::traces::measure_trace;
 use bench_ground::{Kernel, Kind, Site, grid_of};
 use std::alloc::{Alloc, Global};
+use std::fs::Files;
 use std::io;
+use std::sync::Wait;
 use std::thread::Threads;
 use std::time::Clock;
 
 /// Measures the kernel on each kind of map.
-pub(crate) fn measure_kinds<R: Alloc<A = Global> + Clock + Print + Threads + Sync>(
+pub(crate) fn measure_kinds<R: Alloc<A = Global> + Clock + Files + Print + Threads + Sync + Wait>(
     rt: &R,
     kernel: Kernel,
     kinds: &[Kind],
@@ -24,7 +29,7 @@ pub(crate) fn measure_kinds<R: Alloc<A = Global> + Clock + Print + Threads + Syn
     Ok(())
 }
 
-fn measure_kind<R: Alloc<A = Global> + Clock + Print + Threads + Sync>(
+fn measure_kind<R: Alloc<A = Global> + Clock + Files + Print + Threads + Sync + Wait>(
     rt: &R,
     kernel: Kernel,
     kind: Kind,
@@ -37,7 +42,7 @@ fn measure_kind<R: Alloc<A = Global> + Clock + Print + Threads + Sync>(
 }
 
 /// Measures the kernel on a site. Kernels that need no site (hostile shapes, counts of maps) do nothing here.
-fn measure_on<R: Alloc<A = Global> + Clock + Print + Threads + Sync>(
+fn measure_on<R: Alloc<A = Global> + Clock + Files + Print + Threads + Sync + Wait>(
     rt: &R,
     kernel: Kernel,
     kind: Kind,
@@ -51,6 +56,9 @@ fn measure_on<R: Alloc<A = Global> + Clock + Print + Threads + Sync>(
         Kernel::Step => measure_step(rt, kind.name(), site),
         Kernel::Tick => measure_tick(rt, kind, site),
         Kernel::Lifelong => measure_lifelong(rt, kind, site),
+        Kernel::Open => measure_open(rt, kind, site),
+        Kernel::Trace => measure_trace(rt, kind, site),
+        Kernel::Office => measure_office(rt, kind, site),
         Kernel::Hostile | Kernel::Maps => Ok(()),
     }
 }

@@ -16,10 +16,10 @@ use std::time::{Clock, Instant};
 pub const FLEETS: [usize; 3] = [16, 128, 512];
 
 /// No fleet has more.
-const MOST: usize = 512;
+pub const MOST: usize = 512;
 
 /// The number of fields from which robots take theirs.
-const FIELDS: usize = 64;
+pub const FIELDS: usize = 64;
 
 /// How many ticks are timed together, and how many times.
 const TICKS: u32 = 20;

@@ -6,6 +6,7 @@ use crate::worlds::{LIMITS, MOST_ROBOTS, Task, Work, give_one, measure_fleets, o
 use bench_ground::{Kind, Measure, Random, Site};
 use fleet_world::World;
 use std::alloc::{Alloc, Global};
+use std::fs::Files;
 use std::io;
 use std::thread::Threads;
 use std::time::{Clock, Instant};
@@ -17,7 +18,7 @@ const GOALS: usize = 64;
 const TICKS: u32 = 200;
 
 /// A tick for each number of robots: the time for each robot.
-pub(crate) fn measure_tick<R: Alloc<A = Global> + Clock + Print + Threads + Sync>(
+pub(crate) fn measure_tick<R: Alloc<A = Global> + Clock + Files + Print + Threads + Sync>(
     rt: &R,
     kind: Kind,
     site: &Site,

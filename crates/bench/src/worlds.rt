@@ -3,19 +3,22 @@
 ghost use Rattle.std.specs.Prelude.{◌<◌, length};
 
 use crate::lifelong::{print_run, time_run};
+use crate::opens::first_tick;
 use crate::steps::FLEETS;
 use crate::ticks::time_ticks;
-use bench_ground::{Kind, Random, Site, grid_of, print_measure};
+use crate::traces::time_trace;
+use bench_ground::{Kind, Measure, Random, Site, grid_of, print_measure};
 use fleet_grid::Grid;
 use fleet_hooks::{
     ArrivalHook, ArrivalView, Farewell, FarewellView, Hooks, StampLaw, TieHook, TieLaw, TieView,
 };
 use fleet_world::{Limits, Notice, Order, World};
 use std::alloc::{Alloc, Global};
+use std::fs::Files;
 use std::io::{self, ErrorKind};
 use std::mem;
 use std::thread::Threads;
-use std::time::Clock;
+use std::time::{Clock, Instant};
 
 /// The mailbox has room for the notices of two errands of each robot, and for those errands. The chapter has room for all ticks
 /// of several long runs.
@@ -40,6 +43,10 @@ pub enum Work {
     Run { name: &'static str, before: u32 },
     /// A number of ticks in which the first robot goes to the first goal. The caller measures the time.
     Way { ticks: u32 },
+    /// The time since the start, when the first tick was made; whether fields were searched ahead.
+    Open { ahead: bool, start: Instant },
+    /// The chapter of a long run.
+    Trace,
 }
 
 /// What is measured on a map with this name, and the goals of its robots.
@@ -58,7 +65,7 @@ pub(crate) struct Ground {
 }
 
 /// Measures a world for each number of robots.
-pub(crate) fn measure_fleets<R: Alloc<A = Global> + Clock + Print + Threads + Sync>(
+pub(crate) fn measure_fleets<R: Alloc<A = Global> + Clock + Files + Print + Threads + Sync>(
     rt: &R,
     kind: Kind,
     site: &Site,
@@ -79,7 +86,7 @@ pub(crate) fn measure_fleets<R: Alloc<A = Global> + Clock + Print + Threads + Sy
 
 /// Measures a world with one client and this many robots on the ground, which is taken out of the `Option`. The
 /// closures return 0.
-pub(crate) fn measure_world<R: Alloc<A = Global> + Clock + Print + Threads + Sync>(
+pub(crate) fn measure_world<R: Alloc<A = Global> + Clock + Files + Print + Threads + Sync>(
     rt: &R,
     task: Task<'_>,
     ground: &mut Option<Ground>,
@@ -100,7 +107,7 @@ pub(crate) fn measure_world<R: Alloc<A = Global> + Clock + Print + Threads + Syn
 }
 
 /// Measures a world with these closures.
-fn measure_hooked<R: Alloc<A = Global> + Clock + Print + Threads + Sync>(
+fn measure_hooked<R: Alloc<A = Global> + Clock + Files + Print + Threads + Sync>(
     rt: &R,
     task: Task<'_>,
     ground: &mut Option<Ground>,
@@ -128,7 +135,7 @@ fn measure_hooked<R: Alloc<A = Global> + Clock + Print + Threads + Sync>(
 }
 
 /// Measures a world, and prints the line.
-fn work_on<R: Alloc<A = Global> + Clock + Print + Threads + Sync>(
+fn work_on<R: Alloc<A = Global> + Clock + Files + Print + Threads + Sync>(
     rt: &R,
     task: Task<'_>,
     world: &mut World,
@@ -154,6 +161,16 @@ fn work_on<R: Alloc<A = Global> + Clock + Print + Threads + Sync>(
                 let _report = world.tick(rt);
             }
             Ok(())
+        }
+        Work::Open { ahead, start } => {
+            first_tick(rt, world, task.goals, ahead)?;
+            let found = Measure::NONE.with(start.elapsed(rt)?.as_nanos());
+            let name = if ahead { "open_ahead" } else { "open" };
+            print_measure(rt, name, task.map, count, count as u64, found)
+        }
+        Work::Trace => {
+            world.keep(KEPT);
+            time_trace(rt, task.map, world, task.goals, random)
         }
     }
 }

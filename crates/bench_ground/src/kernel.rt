@@ -20,6 +20,12 @@ pub enum Kernel {
     Tick,
     /// Long runs of a world: time for each tick and robot.
     Lifelong,
+    /// The first tick of a world whose robots all have a goal: time for each robot.
+    Open,
+    /// A chapter as text, and read back: time for each entry.
+    Trace,
+    /// An office with clients that always post: orders and turns a second.
+    Office,
     /// Whole maps of a hostile shape, in milliseconds.
     Hostile,
     /// The maps themselves, and the steps of a full one: nothing is timed.
@@ -39,6 +45,9 @@ impl Kernel {
             "step" => Some(Kernel::Step),
             "tick" => Some(Kernel::Tick),
             "lifelong" => Some(Kernel::Lifelong),
+            "open" => Some(Kernel::Open),
+            "trace" => Some(Kernel::Trace),
+            "office" => Some(Kernel::Office),
             "hostile" => Some(Kernel::Hostile),
             "maps" => Some(Kernel::Maps),
             _ => None,

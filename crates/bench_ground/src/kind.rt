@@ -20,11 +20,19 @@ pub enum Kind {
     Maze,
     /// One corridor that winds to the middle, 511 by 511.
     Spiral,
+    /// Floor with an obstacle on about a fifth of the cells, 512 by 512, like `random-512-512-20` of MovingAI.
+    Random,
 }
 
 impl Kind {
     /// All kinds.
-    pub const ALL: [Kind; 4] = [Kind::Open, Kind::Warehouse, Kind::Maze, Kind::Spiral];
+    pub const ALL: [Kind; 5] = [
+        Kind::Open,
+        Kind::Warehouse,
+        Kind::Maze,
+        Kind::Spiral,
+        Kind::Random,
+    ];
 
     /// Its name in a printed line.
     pub fn name(self) -> &'static str
@@ -35,6 +43,7 @@ impl Kind {
             Kind::Warehouse => "warehouse",
             Kind::Maze => "maze",
             Kind::Spiral => "spiral",
+            Kind::Random => "random",
         }
     }
 
@@ -47,6 +56,7 @@ impl Kind {
             Kind::Warehouse => 164,
             Kind::Maze => 512,
             Kind::Spiral => 511,
+            Kind::Random => 512,
         }
     }
 
@@ -59,6 +69,7 @@ impl Kind {
             Kind::Warehouse => 340,
             Kind::Maze => 512,
             Kind::Spiral => 511,
+            Kind::Random => 512,
         }
     }
 
@@ -72,6 +83,7 @@ impl Kind {
             Kind::Warehouse => !is_outer_wall(row, col) && !is_shelf(row, col),
             Kind::Maze => is_passage(row, col),
             Kind::Spiral => is_corridor(511, row, col),
+            Kind::Random => !is_obstacle(row, col),
         }
     }
 }
@@ -112,10 +124,20 @@ fn joins_north(row: u32, col: u32) -> bool {
     if row > 510 {
         return false;
     }
-    let mixed = row
+    col == 0 || mixed(row, col) >> 31 == 1
+}
+
+/// Whether a random map has an obstacle there: on one cell in five.
+fn is_obstacle(row: u32, col: u32) -> bool {
+    (mixed(row, col) >> 8) % 5 == 0
+}
+
+/// A number that looks random, the same for each row and column in each run.
+fn mixed(row: u32, col: u32) -> u32 {
+    let sum = row
         .wrapping_mul(2654435761)
         .wrapping_add(col.wrapping_mul(2246822519));
-    col == 0 || (mixed ^ (mixed >> 15)).wrapping_mul(3266489917) >> 31 == 1
+    (sum ^ (sum >> 15)).wrapping_mul(3266489917)
 }
 
 /// Whether the corridor of a spiral of this many rows and columns passes there. The corridor consists of rings. Each
