@@ -6,7 +6,7 @@ use Rattle.fleet_session.specs.Keeps.{talk}
 use Rattle.fleet_talk.specs.declared.fault.TalkFault.{TalkFault}
 use Rattle.fleet_talk.specs.Conversation.{ComesTo, Terms}
 use Rattle.fleet_talk.specs.Heading.{HearsAll, drafted}
-use Rattle.fleet_talk.proofs.Finishing.{come-head, come-refused, come-talk}
+use Rattle.fleet_talk.proofs.Finishing.{come-head, come-unopened, come-refused, come-talk}
 use Rattle.fleet_talk.proofs.conversation.hold.Goals as goal
 
 pub returns-in-Ok : goal.returns-in-Ok
@@ -23,6 +23,12 @@ returns-in-Ok-Some g c =
     (come-refused on (reader_remaining g.I.Read.remaining c.args.ends.now.input) (reader_remaining g.I.Read.remaining c.hear_head.new.ends.input) (g.W.Write.contents c.args.ends.now.output) (g.W.Write.contents c.hear_head.new.ends.output) (drafted c.hear_head.new.head) c.hear_head.new.bytes.items c.in-Ok-Some.first c.args.pen.now.out.items c.hear_head.new.pen.out.items c.in-Err-open.fault
     (subst (λ (at : Option ℕ). IfSome (reader_remaining g.I.Read.remaining c.args.ends.now.input) (λ xs. HearsAll c.args.pen.now.settings (drafted c.args.ground.head) xs (reader_remaining g.I.Read.remaining c.hear_head.new.ends.input) (drafted c.hear_head.new.head) c.hear_head.new.bytes.items at (g.W.Write.contents c.args.ends.now.output) (g.W.Write.contents c.hear_head.new.ends.output) c.args.pen.now.out.items c.hear_head.new.pen.out.items)) c.in-Ok-Some.field-0-is c.in-Ok-Some.ensures.all)
     (λ starts is named. (c.in-Err-open.ensures.refused starts is c.in-Err-open.fault named).0 refl))
+
+pub returns-in-Ok-None : goal.returns-in-Ok-None
+returns-in-Ok-None g c =
+    let on : Terms = record { kit = kit_laws c.args.ground.kit; floor = c.args.ground.grid; settings = c.args.pen.now.settings; head = drafted c.args.ground.head } in
+    come-unopened on (reader_remaining g.I.Read.remaining c.args.ends.now.input) (reader_remaining g.I.Read.remaining c.hear_head.new.ends.input) (g.W.Write.contents c.args.ends.now.output) (g.W.Write.contents c.hear_head.new.ends.output) (drafted c.hear_head.new.head) c.hear_head.new.bytes.items c.args.pen.now.out.items c.hear_head.new.pen.out.items
+    (subst (λ (at : Option ℕ). IfSome (reader_remaining g.I.Read.remaining c.args.ends.now.input) (λ xs. HearsAll c.args.pen.now.settings (drafted c.args.ground.head) xs (reader_remaining g.I.Read.remaining c.hear_head.new.ends.input) (drafted c.hear_head.new.head) c.hear_head.new.bytes.items at (g.W.Write.contents c.args.ends.now.output) (g.W.Write.contents c.hear_head.new.ends.output) c.args.pen.now.out.items c.hear_head.new.pen.out.items)) c.in-Ok-None.field-0-is c.in-Ok-None.ensures.all)
 
 pub returns : goal.returns
 returns g c =
