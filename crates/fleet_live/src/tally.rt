@@ -1,7 +1,7 @@
 //! What the keeper counts, for a line each minute.
 
 ghost use Rattle.std.specs.Prelude.{◌≡◌, ◌+◌, ◌<◌, ◌≤◌, ◌^◌, max, IfOk, string_bytes};
-ghost use Rattle.fleet_live.specs.Counts.{counts_line};
+ghost use Rattle.fleet_live.specs.Counts.{counts_line, counts_text, wait_text};
 
 use fleet_office::WaitReport;
 use std::alloc::{AllocError, Global};
@@ -15,6 +15,16 @@ pub(crate) struct Tally {
     pub(crate) late: u64,
     /// How many microseconds after its deadline a turn began at most.
     pub(crate) latest: u64,
+}
+
+/// The longest wait, and the limit of all waits, if there is one.
+fn wait_text(alloc: Global, wait: u64, limit: Option<u64>) -> Result<String, AllocError>
+    ensures { IfOk result (λ text. string_bytes text ≡ wait_text wait limit) }
+{
+    match limit {
+        Some(most) => format!(in alloc; " wait {wait} below {most}\n"),
+        None => format!(in alloc; " wait {wait}\n"),
+    }
 }
 
 impl Tally {
@@ -52,6 +62,17 @@ impl Tally {
         self.latest = self.latest.max(micros);
     }
 
+    /// The counts, over this many seconds.
+    fn text(&self, alloc: Global, seconds: u64) -> Result<String, AllocError>
+        ensures { IfOk result (λ text. string_bytes text ≡ counts_text seconds self.now) }
+    {
+        let (ticks, orders) = (self.ticks, self.orders);
+        let (late, latest) = (self.late, self.latest);
+        format!(in alloc;
+            "seconds {seconds} ticks {ticks} orders {orders} late {late} latest {latest}us"
+        )
+    }
+
     /// The line of the counts, over this many seconds, with how long robots wait at their end.
     pub(crate) fn line(
         &self,
@@ -61,16 +82,9 @@ impl Tally {
     ) -> Result<String, AllocError>
         ensures { IfOk result (λ text. string_bytes text ≡ counts_line seconds self.now waits) }
     {
-        let (ticks, orders) = (self.ticks, self.orders);
-        let (late, latest) = (self.late, self.latest);
-        let wait = waits.longest.unwrap_or(0);
-        match waits.limit {
-            Some(limit) => format!(in alloc;
-                "seconds {seconds} ticks {ticks} orders {orders} late {late} latest {latest}us wait {wait} below {limit}\n"
-            ),
-            None => format!(in alloc;
-                "seconds {seconds} ticks {ticks} orders {orders} late {late} latest {latest}us wait {wait}\n"
-            ),
-        }
+        let mut line = self.text(alloc, seconds)?;
+        let waits = wait_text(alloc, waits.longest.unwrap_or(0), waits.limit)?;
+        line.push_str(waits.as_str())?;
+        Ok(line)
     }
 }
