@@ -82,7 +82,7 @@ pub(crate) fn measure_load<
     )
 }
 
-/// How many there are in a second if there are so many in these nanoseconds.
+/// How many there are in a second, from the number in these nanoseconds.
 fn a_second(count: u64, nanos: u128) -> u128 {
     u128::from(count).saturating_mul(1_000_000_000) / nanos.max(1)
 }
