@@ -18,6 +18,10 @@ use std::time::{Clock, Instant};
 /// The number of stations between which robots travel.
 const STATIONS: usize = 64;
 
+/// How many runs of the same length go before the last of those whose memory is measured: enough that what they keep is far more
+/// than the memory that earlier runs gave back.
+const BEFORE: u32 = 15;
+
 /// A chapter for each number of robots: the time for each entry.
 pub(crate) fn measure_trace<R: Alloc<A = Global> + Clock + Files + Print + Threads + Sync>(
     rt: &R,
@@ -34,7 +38,7 @@ pub(crate) fn measure_trace<R: Alloc<A = Global> + Clock + Files + Print + Threa
     measure_fleets(rt, kind, site, task, &mut random)
 }
 
-/// The chapter of a long run. The memory is that of the run after one of the same length, in which fields were searched.
+/// The chapter of long runs. The memory is that of the runs after a first one, in which fields were searched.
 pub(crate) fn time_trace<R: Alloc<A = Global> + Clock + Files + Print + Threads + Sync>(
     rt: &R,
     map: &str,
@@ -48,7 +52,7 @@ pub(crate) fn time_trace<R: Alloc<A = Global> + Clock + Files + Print + Threads 
     let _warmed = time_run(rt, world, 0, goals, random)?;
     let (ticks, entries) = (world.clock(), world.chapter().entries.len());
     let before = resident(rt)?;
-    let _run = time_run(rt, world, 0, goals, random)?;
+    let _run = time_run(rt, world, BEFORE, goals, random)?;
     let grown = resident(rt)?.saturating_sub(before);
     let ticks = world.clock().saturating_sub(ticks).max(1);
     let entries = world.chapter().entries.len().saturating_sub(entries);

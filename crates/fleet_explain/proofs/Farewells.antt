@@ -17,51 +17,24 @@ use Rattle.fleet_history.proofs.Legal.{length-place}
 use Rattle.fleet_trace.specs.Judged.{before, ShowsDue, ShowsFarewell, Breaks, IsFirstIllegal}
 use Rattle.fleet_explain.specs.declared.detail.Detail.{Detail}
 use Rattle.fleet_explain.specs.declared.detail.Detail.TheVariants.{Nothing, Due, Step, Missing, Extra, MissingFarewell, ExtraFarewell}
-use Rattle.fleet_explain.specs.Details.{farewells_shown, farewells_due, is_among, first_only, HasNoOther, IsOnlyIn, IsFarewellDetail, IsTickDetail, shut_detail, IsDetail}
+use Rattle.fleet_explain.specs.Only.{first_only, HasNoOther, IsOnlyIn}
+use Rattle.fleet_explain.specs.Details.{same_robot, farewells_shown, farewells_due, IsFarewellDetail, IsTickDetail, shut_detail, IsDetail}
 use Rattle.fleet_explain.proofs.AtEntry.{the_same, entry_at}
+use Rattle.fleet_explain.proofs.Only.{only_read}
 
-pub any_map : {X Y : Type 0} (f : X → Y) (p : Y → Bool) (xs : List X) → list_any p (map f xs) ≡ list_any (λ x. p (f x)) xs
-any_map f p [] = refl
-any_map f p (x ∷ xs) = ap (λ (b : Bool). p (f x) || b) (any_map f p xs)
-
--- ---- a robot of one list that is none of another
-
-among_rest : (q : Bool) (rest : Bool) → rest ≡ true → (q || rest) ≡ true
-among_rest true rest is = refl
-among_rest false rest is = is
-
-only_first : (robots others : List ℕ) (r x : ℕ) → IsOnlyIn robots others x → IsOnlyIn (r ∷ robots) others x
-only_first robots others r x k = record { there = among_rest (r == x) (is_among robots x) k.there; missing = k.missing }
-
-none_by : (robots others : List ℕ) (r x : ℕ) → is_among others r ≡ true → HasNoOther robots others → (b : Bool) → (r == x) ≡ b → (b || is_among robots x) ≡ true → is_among others x ≡ true
-none_by robots others r x is none true same all = subst (λ n. is_among others n ≡ true) (eqb-true r x same) is
-none_by robots others r x is none false same all = none x all
-
-match_weaker : (o : Option ℕ) (P R : Type 0) (Q S : ℕ → Type 0) → (P → R) → ((x : ℕ) → Q x → S x) → MatchOption o P Q → MatchOption o R S
-match_weaker None P R Q S f g is = f is
-match_weaker (Some x) P R Q S f g is = g x is
-
-only_step : (robots others : List ℕ) (r : ℕ) → MatchOption (first_only robots others) (HasNoOther robots others) (IsOnlyIn robots others)
-    → (b : Bool) → is_among others r ≡ b → MatchOption (if b then first_only robots others else Some r) (HasNoOther (r ∷ robots) others) (IsOnlyIn (r ∷ robots) others)
-only_step robots others r rest true same =
-    match_weaker (first_only robots others) (HasNoOther robots others) (HasNoOther (r ∷ robots) others) (IsOnlyIn robots others) (IsOnlyIn (r ∷ robots) others)
-    (λ none. λ x there. none_by robots others r x same none (r == x) refl there) (λ x k. only_first robots others r x k) rest
-only_step robots others r rest false same = record { there = ap (λ (b : Bool). b || is_among robots r) (eq-eqb r r refl); missing = same }
-
-pub only_read : (robots others : List ℕ) → MatchOption (first_only robots others) (HasNoOther robots others) (IsOnlyIn robots others)
-only_read [] others = λ r there. cc
-only_read (r ∷ robots) others = only_step robots others r (only_read robots others) (is_among others r) refl
+pub robots_read : (robots others : List ℕ) → MatchOption (first_only same_robot robots others) (HasNoOther same_robot robots others) (IsOnlyIn same_robot robots others)
+robots_read = only_read same_robot (λ r. eq-eqb r r refl) eqb-true
 
 -- ---- a shut's farewell, by whether its robot has no errand left
 
 alone : (r : ℕ) → ((r == r) || false) ≡ true
 alone r = rw (eq-eqb r r refl) refl
 
-pub shut_missing : (b : Bool) (r : ℕ) → (false ≡ b → ⊥) → IsOnlyIn (robot_if b r) [] r
+pub shut_missing : (b : Bool) (r : ℕ) → (false ≡ b → ⊥) → IsOnlyIn same_robot (robot_if b r) [] r
 shut_missing false r bad = absurd (bad refl)
 shut_missing true r bad = record { there = alone r; missing = refl }
 
-pub shut_extra : (b : Bool) (r : ℕ) → (true ≡ b → ⊥) → IsOnlyIn (r ∷ []) (robot_if b r) r
+pub shut_extra : (b : Bool) (r : ℕ) → (true ≡ b → ⊥) → IsOnlyIn same_robot (r ∷ []) (robot_if b r) r
 shut_extra true r bad = absurd (bad refl)
 shut_extra false r bad = record { there = alone r; missing = refl }
 
@@ -108,7 +81,7 @@ module _ {A : Type 0} (m : Floor) (h : History A) (at : ℕ) (first : IsFirstIll
 
     -- what is said of its farewells is what there is to say
     pub farewell_told : (d : Detail) → IsFarewellDetail (farewells_due (before h (at - 1)) e) (farewells_shown e) d → IsDetail m h at 6 d
-    farewell_told Nothing told = ((λ bad. omega (arith, bad)), (λ bad. omega (arith, bad)), λ six. (e, there, told))
+    farewell_told Nothing told = ((λ bad. omega (arith, bad)), (λ bad. omega (arith, bad)), (λ bad. absurd (omega (arith, bad))), λ six. (e, there, told))
     farewell_told (Due v) told = absurd told
     farewell_told (Step fault) told = absurd told
     farewell_told (Missing d) told = absurd told
@@ -128,14 +101,14 @@ module _ {A : Type 0} (m : Floor) (h : History A) (at : ℕ) (first : IsFirstIll
     shut_missing_told robot is =
         let bad = shut_in m (before h (at - 1)) 6 refl robot None (breaks_at e (Shut robot None) there is) in
         farewell_told (MissingFarewell robot)
-        (subst (λ (x : Entry A). IsOnlyIn (farewells_due (before h (at - 1)) x) (farewells_shown x) robot) (sym is)
+        (subst (λ (x : Entry A). IsOnlyIn same_robot (farewells_due (before h (at - 1)) x) (farewells_shown x) robot) (sym is)
         (shut_missing (is_none_left (unfinished (before h (at - 1)) robot)) robot bad))
 
     shut_extra_told : (robot stamp : ℕ) → e ≡ Shut robot (Some stamp) → IsDetail m h at 6 (ExtraFarewell robot)
     shut_extra_told robot stamp is =
         let bad = shut_in m (before h (at - 1)) 6 refl robot (Some stamp) (breaks_at e (Shut robot (Some stamp)) there is) in
         farewell_told (ExtraFarewell robot)
-        (subst (λ (x : Entry A). IsOnlyIn (farewells_shown x) (farewells_due (before h (at - 1)) x) robot) (sym is)
+        (subst (λ (x : Entry A). IsOnlyIn same_robot (farewells_shown x) (farewells_due (before h (at - 1)) x) robot) (sym is)
         (shut_extra (is_none_left (unfinished (before h (at - 1)) robot)) robot bad))
 
     shut_by : (robot : ℕ) (farewell : Option ℕ) → e ≡ Shut robot farewell → IsDetail m h at 6 (shut_detail robot farewell)

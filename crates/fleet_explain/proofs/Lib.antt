@@ -3,9 +3,8 @@ mod Among
 mod Answered
 mod AtEntry
 mod Verdicts
+mod Only
 mod Farewells
 mod Stepped
-mod Fronts
 mod Arrivals
-mod Shown
 mod Places

@@ -1,6 +1,5 @@
 -- What more there is to say of an entry that breaks a rule.
-use Rattle.std.specs.Prelude.{◌≡◌, ◌≢◌, ℕ, ◌-◌, ◌==◌, Bool, true, false, if◌then◌else◌, List, [], ◌∷◌, Option, Some, None, map, slice_get}
-use Rattle.std.specs.List.{list_any}
+use Rattle.std.specs.Prelude.{◌≡◌, ◌≢◌, ℕ, ◌-◌, ◌==◌, ◌&&◌, Bool, List, [], ◌∷◌, Option, Some, None, map, slice_get}
 use Rattle.fleet_grid.specs.Floor.{Floor}
 use Rattle.fleet_grid.specs.Step.{IsConflictFree}
 use Rattle.fleet_check.specs.Fault.{IsFirstFault}
@@ -9,14 +8,15 @@ use Rattle.fleet_history.specs.declared.history.Bye.{Bye}
 use Rattle.fleet_history.specs.declared.history.Entry.{Entry}
 use Rattle.fleet_history.specs.declared.history.Entry.TheVariants.{Take, Tick, Shut}
 use Rattle.fleet_history.specs.History.{History, after, place, unfinished}
-use Rattle.fleet_history.specs.Legal.{is_none_left, robot_if, leaving}
+use Rattle.fleet_history.specs.Legal.{Due as Arriving, due_of, due, is_none_left, robot_if, leaving}
 use Rattle.fleet_history.specs.Verdicts.{IsVerdict}
 use Rattle.fleet_book.specs.declared.order.Order.{Order}
 use Rattle.fleet_book.specs.declared.verdict.Verdict.{Verdict}
 use Rattle.fleet_trace.specs.Judged.{before, ShowsDue}
 use Rattle.fleet_explain.specs.declared.detail.Detail.{Detail}
 use Rattle.fleet_explain.specs.declared.detail.Detail.TheVariants.{Nothing, Due, Step, Missing, Extra, MissingFarewell, ExtraFarewell}
-use Rattle.fleet_explain.specs.Dues.{IsMissing, IsExtra}
+use Rattle.fleet_explain.specs.declared.arrival.ArrivalName.{ArrivalName}
+use Rattle.fleet_explain.specs.Only.{HasNoOther, IsOnlyIn}
 
 -- of a step from cells to cells
 abbrev pub IsStepDetail : Floor → List ℕ → List ℕ → Detail → Type 0
@@ -24,24 +24,32 @@ IsStepDetail m from to Nothing = IsConflictFree m from to
 IsStepDetail m from to (Step fault) = IsFirstFault m from to fault
 IsStepDetail m from to _ = ⊥
 
--- of the arrivals that a tick to these cells shows after the history
-abbrev pub IsArrivalDetail : {A : Type 0} → History A → List ℕ → List Arrival → Detail → Type 0
-IsArrivalDetail h to arrived Nothing = Unit {0}
-IsArrivalDetail h to arrived (Missing d) = IsMissing h to arrived d
-IsArrivalDetail h to arrived (Extra d) = IsExtra h to arrived d
-IsArrivalDetail h to arrived _ = ⊥
-
 -- the entry at this place, from 1, is a tick, whose step from where the robots stood has this first fault
 abbrev pub IsStepAt : {A : Type 0} → Floor → History A → ℕ → Detail → Type 0
 IsStepAt m h at detail =
     (to : List ℕ) × (arrived : List Arrival) × (farewells : List Bye) × (slice_get h.entries (at - 1) ≡ Some (Tick to arrived farewells))
     × IsStepDetail m (place (before h (at - 1))) to detail
 
+-- ---- arrivals
+
+abbrev pub named : ArrivalName → Arriving
+named d = record { robot = d.robot; client = d.client; number = d.number }
+
+abbrev pub is_same : Arriving → Arriving → Bool
+is_same a b = (a.robot == b.robot) && (a.client == b.client) && (a.number == b.number)
+
+-- of the arrivals that are due, and of those that a tick shows
+abbrev pub IsArrivalDetail : List Arriving → List Arriving → Detail → Type 0
+IsArrivalDetail due shown Nothing = HasNoOther is_same due shown × HasNoOther is_same shown due
+IsArrivalDetail due shown (Missing d) = IsOnlyIn is_same due shown (named d)
+IsArrivalDetail due shown (Extra d) = IsOnlyIn is_same shown due (named d)
+IsArrivalDetail due shown _ = ⊥
+
 -- the entry at this place, from 1, is a tick, of whose arrivals this is said
 abbrev pub IsArrivalAt : {A : Type 0} → History A → ℕ → Detail → Type 0
 IsArrivalAt h at detail =
     (to : List ℕ) × (arrived : List Arrival) × (farewells : List Bye) × (slice_get h.entries (at - 1) ≡ Some (Tick to arrived farewells))
-    × IsArrivalDetail (before h (at - 1)) to arrived detail
+    × IsArrivalDetail (due (before h (at - 1)) to) (map due_of arrived) detail
 
 -- ---- farewells
 
@@ -57,27 +65,14 @@ farewells_due h (Take client order verdict) = []
 farewells_due h (Tick to arrived farewells) = leaving h (after h (Tick to arrived farewells))
 farewells_due h (Shut robot farewell) = robot_if (is_none_left (unfinished h robot)) robot
 
-abbrev pub is_among : List ℕ → ℕ → Bool
-is_among robots r = list_any (λ q. q == r) robots
-
--- the robot is one of the first list, and none of the second
-pub record IsOnlyIn (robots others : List ℕ) (r : ℕ) : Type 0 where
-  pub there : is_among robots r ≡ true
-  pub missing : is_among others r ≡ false
-
-abbrev pub HasNoOther : List ℕ → List ℕ → Type 0
-HasNoOther robots others = (r : ℕ) → is_among robots r ≡ true → is_among others r ≡ true
-
--- the first of the first list that is none of the second
-abbrev pub first_only : List ℕ → List ℕ → Option ℕ
-first_only [] others = None
-first_only (r ∷ robots) others = if is_among others r then first_only robots others else Some r
+abbrev pub same_robot : ℕ → ℕ → Bool
+same_robot q r = q == r
 
 -- of the robots whose farewells are due, and of those whose farewells are shown
 abbrev pub IsFarewellDetail : List ℕ → List ℕ → Detail → Type 0
-IsFarewellDetail due shown Nothing = HasNoOther due shown × HasNoOther shown due
-IsFarewellDetail due shown (MissingFarewell r) = IsOnlyIn due shown r
-IsFarewellDetail due shown (ExtraFarewell r) = IsOnlyIn shown due r
+IsFarewellDetail due shown Nothing = HasNoOther same_robot due shown × HasNoOther same_robot shown due
+IsFarewellDetail due shown (MissingFarewell r) = IsOnlyIn same_robot due shown r
+IsFarewellDetail due shown (ExtraFarewell r) = IsOnlyIn same_robot shown due r
 IsFarewellDetail due shown _ = ⊥
 
 -- of the farewells that a tick to these cells shows after the history, whatever arrivals it shows, if they are those that are due
@@ -114,7 +109,7 @@ IsVerdictAt m h at detail =
 -- or the sixth is, an arrival or a farewell that is missing or too many. Nothing is said where a tick shows those that are due, but in
 -- another order or more than once
 abbrev pub IsDetail : {A : Type 0} → Floor → History A → ℕ → ℕ → Detail → Type 0
-IsDetail m h at rule Nothing = (rule ≢ 3) × (rule ≢ 4) × (rule ≡ 6 → IsFarewellAt h at Nothing)
+IsDetail m h at rule Nothing = (rule ≢ 3) × (rule ≢ 4) × (rule ≡ 5 → IsArrivalAt h at Nothing) × (rule ≡ 6 → IsFarewellAt h at Nothing)
 IsDetail m h at rule (Due verdict) = (rule ≡ 3) × IsVerdictAt m h at (Due verdict)
 IsDetail m h at rule (Step fault) = (rule ≡ 4) × IsStepAt m h at (Step fault)
 IsDetail m h at rule (Missing d) = (rule ≡ 5) × IsArrivalAt h at (Missing d)

@@ -4,7 +4,7 @@ pub mod Limits
 pub mod Starts
 pub mod Served
 pub mod Entries
-pub mod Dues
+pub mod Only
 pub mod Details
 pub mod Explained
 pub mod Sentences

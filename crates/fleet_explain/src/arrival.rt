@@ -1,14 +1,18 @@
 //! Arrivals that a tick does not show, or shows and are not due.
 
-ghost use Rattle.std.specs.Prelude.{◌≡◌, ◌≢◌, ◌∷◌, ◌<◌, ◌≤◌, [], ℕ, Some, None, map, length, slice_index, All, IfOk, IfSome, IsTrue, ◌↔◌};
-ghost use Rattle.std.specs.List.{list_any, flat_map};
-ghost use Rattle.fleet_history.specs.History.{start, with_entries};
-ghost use Rattle.fleet_history.specs.Legal.{due_of, due_at};
-ghost use Rattle.fleet_explain.specs.Dues.{listed, withdrawn_by, named, shows, due_in, IsMissing, IsExtra};
+ghost use Rattle.std.specs.Prelude.{◌≡◌, ◌≤◌, ◌&&◌, ◌==◌, IfOk, MatchOption, length, map};
+ghost use Rattle.std.specs.List.{list_any};
+ghost use Rattle.std.specs.Option.{option_map};
+ghost use Rattle.fleet_history.specs.History.{history_of, robots};
+ghost use Rattle.fleet_history.specs.Legal.{IsLegal, due_of, due};
+ghost use Rattle.fleet_trace.specs.Judged.{before, IsFirstIllegal};
+ghost use Rattle.fleet_explain.specs.Only.{is_among, first_only, IsOnlyIn, HasNoOther};
+ghost use Rattle.fleet_explain.specs.Details.{named, is_same, IsArrivalDetail, IsDetail};
 
-use crate::front::{Withdrawal, front};
-use fleet_history::{Arrival, Entry, Opening};
-use fleet_queue::Errand;
+use crate::detail::Detail;
+use fleet_grid::Grid;
+use fleet_history::{Arrival, Chapter, Entry};
+use fleet_trace::landings_after;
 use std::alloc::{AllocError, Global};
 
 /// Whose arrival a tick shows, or has to show.
@@ -32,111 +36,91 @@ fn name_of(arrival: &Arrival) -> ArrivalName
     }
 }
 
-/// The arrival that is due of a robot with this front.
-fn due_at(to: &[u32], robot: u32, front: Option<Errand>) -> Option<ArrivalName>
-    ensures due { map named (listed result) ≡ due_at to.now robot front }
-    ensures robot { IfSome result (λ d. d.robot ≡ robot) }
+/// Whether one of the arrivals has this name.
+fn has_name(arrivals: &[Arrival], name: ArrivalName) -> bool
+    ensures { result ≡ list_any (λ a. is_same (due_of a) (named name)) arrivals.now }
 {
-    let Some(errand) = front else {
-        return None;
-    };
-    if errand.cell != to.get(robot as usize).copied().unwrap_or(0) {
-        return None;
-    }
-    Some(ArrivalName {
-        robot,
-        client: errand.client,
-        number: errand.number,
-    })
-}
-
-/// Whether the arrival is shown.
-fn is_shown(arrived: &[Arrival], name: ArrivalName) -> bool
-    ensures { result ≡ list_any (shows name) arrived.now }
-{
-    arrived.iter().any(|arrival| {
+    arrivals.iter().any(|arrival| {
         arrival.robot == name.robot
             && arrival.client == name.client
             && arrival.number == name.number
     })
 }
 
-/// The arrival that is due of a robot.
-fn due_of(
-    alloc: Global,
-    opening: &Opening,
-    entries: &[Entry],
-    withdrawn: &[Withdrawal],
-    to: &[u32],
-    robot: u32,
-) -> Result<Option<ArrivalName>, AllocError>
-    requires { withdrawn.now ≡ flat_map withdrawn_by entries.now }
-    ensures due { IfOk result (λ d. map named (listed d) ≡ due_in (with_entries (start opening.now) entries.now) to.now robot) }
-    ensures robot { IfOk result (λ found. IfSome found (λ d. d.robot ≡ robot)) }
+/// Whether the arrival is one of these.
+fn is_among(arrivals: &[Arrival], name: ArrivalName) -> bool
+    ensures { result ≡ is_among is_same (map due_of arrivals.now) (named name) }
 {
-    let front = front(alloc, opening, entries, withdrawn, robot)?;
-    Ok(due_at(to, robot, front))
+    has_name(arrivals, name)
 }
 
-/// Whether the arrival is due.
-fn is_due(
-    alloc: Global,
-    opening: &Opening,
-    entries: &[Entry],
-    withdrawn: &[Withdrawal],
-    to: &[u32],
-    name: ArrivalName,
-) -> Result<bool, AllocError>
-    requires { withdrawn.now ≡ flat_map withdrawn_by entries.now }
-    ensures { IfOk result (λ due. IsTrue due ↔ (due_in (with_entries (start opening.now) entries.now) to.now name.robot ≡ named name ∷ [])) }
+/// The first of these arrivals that is none of the others, by the lists of their names.
+fn find_only(arrivals: &[Arrival], others: &[Arrival]) -> Option<ArrivalName>
+    ensures { option_map named result ≡ first_only is_same (map due_of arrivals.now) (map due_of others.now) }
 {
-    match due_of(alloc, opening, entries, withdrawn, to, name.robot)? {
-        Some(due) => Ok(due == name),
-        None => Ok(false),
-    }
-}
-
-/// The first arrival that is shown and not due.
-pub(crate) fn first_extra(
-    alloc: Global,
-    opening: &Opening,
-    entries: &[Entry],
-    withdrawn: &[Withdrawal],
-    to: &[u32],
-    arrived: &[Arrival],
-) -> Result<Option<ArrivalName>, AllocError>
-    requires { withdrawn.now ≡ flat_map withdrawn_by entries.now }
-    ensures { IfOk result (λ found. IfSome found (IsExtra (with_entries (start opening.now) entries.now) to.now arrived.now)) }
-{
-    for arrival in arrived {
+    for arrival in arrivals {
         let name = name_of(arrival);
-        if !is_due(alloc, opening, entries, withdrawn, to, name)? {
-            return Ok(Some(name));
+        if !is_among(others, name) {
+            return Some(name);
         }
     }
-    Ok(None)
+    None
 }
 
-/// The first robot's arrival that is due and not shown.
-pub(crate) fn first_missing(
-    alloc: Global,
-    opening: &Opening,
-    entries: &[Entry],
-    withdrawn: &[Withdrawal],
-    to: &[u32],
-    arrived: &[Arrival],
-) -> Result<Option<ArrivalName>, AllocError>
-    requires few { length opening.now.robots ≤ 512 }
-    requires withdrawn { withdrawn.now ≡ flat_map withdrawn_by entries.now }
-    ensures { IfOk result (λ found. IfSome found (IsMissing (with_entries (start opening.now) entries.now) to.now arrived.now)) }
+/// One of these arrivals that is none of the others.
+fn first_only(arrivals: &[Arrival], others: &[Arrival]) -> Option<ArrivalName>
+    ensures { MatchOption result (HasNoOther is_same (map due_of arrivals.now) (map due_of others.now)) (λ d. IsOnlyIn is_same (map due_of arrivals.now) (map due_of others.now) (named d)) }
 {
-    for robot in 0..opening.robots.len() {
-        let due = due_of(alloc, opening, entries, withdrawn, to, robot as u32)?;
-        if let Some(name) = due {
-            if !is_shown(arrived, name) {
-                return Ok(Some(name));
-            }
-        }
+    find_only(arrivals, others)
+}
+
+/// What is wrong with the arrivals that a tick shows, where these are due.
+fn tick_arrivals(due: &[Arrival], shown: &[Arrival]) -> Detail
+    ensures { IsArrivalDetail (map due_of due.now) (map due_of shown.now) result }
+{
+    if let Some(name) = first_only(due, shown) {
+        return Detail::Missing(name);
     }
-    Ok(None)
+    match first_only(shown, due) {
+        Some(name) => Detail::Extra(name),
+        None => Detail::Nothing,
+    }
+}
+
+/// What is wrong with the arrivals that a tick to these cells shows, after this many entries of the chapter.
+fn arrival_detail(
+    alloc: Global,
+    grid: &Grid,
+    chapter: &Chapter,
+    entries: usize,
+    to: &[u32],
+    shown: &[Arrival],
+) -> Result<Detail, AllocError>
+    requires inside { entries ≤ length chapter.now.entries.items }
+    requires legal { IsLegal grid.now (before (history_of chapter.now) entries) }
+    requires robots { length to.now ≡ robots (history_of chapter.now) }
+    ensures { IfOk result (λ detail. IsArrivalDetail (due (before (history_of chapter.now) entries) to.now) (map due_of shown.now) detail) }
+{
+    let landings = landings_after(alloc, grid, chapter, entries, to)?;
+    Ok(tick_arrivals(&landings.arrived, shown))
+}
+
+/// What is wrong with the arrivals of the tick that breaks the fifth rule.
+pub(crate) fn arrivals_at(
+    alloc: Global,
+    grid: &Grid,
+    chapter: &Chapter,
+    at: u64,
+) -> Result<Detail, AllocError>
+    requires { IsFirstIllegal grid.now (history_of chapter.now) at 5 }
+    ensures { IfOk result (λ detail. IsDetail grid.now (history_of chapter.now) at 5 detail) }
+{
+    let entries = at as usize - 1;
+    match &chapter.entries[entries] {
+        Entry::Tick { to, arrived, .. } => {
+            let (to, arrived) = (to.as_slice(), arrived.as_slice());
+            arrival_detail(alloc, grid, chapter, entries, to, arrived)
+        }
+        Entry::Take { .. } | Entry::Shut { .. } => Ok(Detail::Nothing),
+    }
 }

@@ -6,15 +6,14 @@ ghost use Rattle.fleet_history.specs.History.{history_of, clients, place, place_
 ghost use Rattle.fleet_history.specs.Legal.{IsLegal};
 ghost use Rattle.fleet_trace.specs.Judged.{IsFirstIllegal};
 ghost use Rattle.fleet_trace.specs.Judged.{before};
-ghost use Rattle.fleet_explain.specs.Details.{IsVerdictDetail, IsStepDetail, IsArrivalDetail, IsDetail};
+ghost use Rattle.fleet_explain.specs.Details.{IsVerdictDetail, IsStepDetail, IsDetail};
 
-use crate::arrival::{ArrivalName, first_extra, first_missing};
+use crate::arrival::{ArrivalName, arrivals_at};
 use crate::farewell::farewells_at;
-use crate::front::withdrawn;
 use fleet_book::{Order, Verdict};
 use fleet_check::{StepFault, check_step};
 use fleet_grid::Grid;
-use fleet_history::{Arrival, Chapter, Entry, RobotState};
+use fleet_history::{Chapter, Entry, RobotState};
 use fleet_trace::verdict_after;
 use std::alloc::{AllocError, Global};
 
@@ -78,29 +77,6 @@ fn step_detail(
     }
 }
 
-/// What is wrong with the arrivals that a tick to these cells shows, after this many entries of the chapter.
-fn arrival_detail(
-    alloc: Global,
-    chapter: &Chapter,
-    entries: usize,
-    to: &[u32],
-    arrived: &[Arrival],
-) -> Result<Detail, AllocError>
-    requires inside { entries ≤ length chapter.now.entries.items }
-    requires few { length chapter.now.opening.robots ≤ 512 }
-    ensures { IfOk result (λ detail. IsArrivalDetail (before (history_of chapter.now) entries) to.now arrived.now detail) }
-{
-    let (opening, before) = (&chapter.opening, &chapter.entries[..entries]);
-    let withdrawn = withdrawn(alloc, before)?;
-    if let Some(name) = first_missing(alloc, opening, before, &withdrawn, to, arrived)? {
-        return Ok(Detail::Missing(name));
-    }
-    match first_extra(alloc, opening, before, &withdrawn, to, arrived)? {
-        Some(name) => Ok(Detail::Extra(name)),
-        None => Ok(Detail::Nothing),
-    }
-}
-
 /// The verdict that an order of the client gets after this many entries of the chapter.
 fn due_verdict(
     alloc: Global,
@@ -141,21 +117,6 @@ fn step_at(alloc: Global, grid: &Grid, chapter: &Chapter, at: u64) -> Result<Det
     let entries = at as usize - 1;
     match &chapter.entries[entries] {
         Entry::Tick { to, .. } => step_detail(alloc, grid, chapter, entries, to.as_slice()),
-        _ => Ok(Detail::Nothing),
-    }
-}
-
-/// What is wrong with the arrivals of the tick that breaks the fifth rule.
-fn arrivals_at(alloc: Global, grid: &Grid, chapter: &Chapter, at: u64) -> Result<Detail, AllocError>
-    requires { IsFirstIllegal grid.now (history_of chapter.now) at 5 }
-    ensures { IfOk result (λ detail. IsDetail grid.now (history_of chapter.now) at 5 detail) }
-{
-    let entries = at as usize - 1;
-    match &chapter.entries[entries] {
-        Entry::Tick { to, arrived, .. } => {
-            let (to, arrived) = (to.as_slice(), arrived.as_slice());
-            arrival_detail(alloc, chapter, entries, to, arrived)
-        }
         _ => Ok(Detail::Nothing),
     }
 }

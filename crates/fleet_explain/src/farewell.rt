@@ -5,7 +5,8 @@ ghost use Rattle.std.specs.List.{list_any};
 ghost use Rattle.fleet_history.specs.History.{history_of, robots};
 ghost use Rattle.fleet_history.specs.Legal.{IsLegal};
 ghost use Rattle.fleet_trace.specs.Judged.{before, IsFirstIllegal};
-ghost use Rattle.fleet_explain.specs.Details.{is_among, first_only, IsOnlyIn, HasNoOther, IsFarewellDetail, IsTickDetail, shut_detail, IsDetail};
+ghost use Rattle.fleet_explain.specs.Only.{is_among, first_only, IsOnlyIn, HasNoOther};
+ghost use Rattle.fleet_explain.specs.Details.{same_robot, IsFarewellDetail, IsTickDetail, shut_detail, IsDetail};
 
 use crate::detail::Detail;
 use fleet_grid::Grid;
@@ -22,14 +23,14 @@ fn has_bye(byes: &[Bye], robot: u32) -> bool
 
 /// Whether the robot is one of those that say farewell.
 fn is_among(byes: &[Bye], robot: u32) -> bool
-    ensures { result ≡ is_among (map (λ b. b.robot) byes.now) robot }
+    ensures { result ≡ is_among same_robot (map (λ b. b.robot) byes.now) robot }
 {
     has_bye(byes, robot)
 }
 
 /// The first robot of these farewells that has none of the others, by the lists of the robots.
 fn find_only(byes: &[Bye], others: &[Bye]) -> Option<u32>
-    ensures { result ≡ first_only (map (λ b. b.robot) byes.now) (map (λ b. b.robot) others.now) }
+    ensures { result ≡ first_only same_robot (map (λ b. b.robot) byes.now) (map (λ b. b.robot) others.now) }
 {
     for bye in byes {
         if !is_among(others, bye.robot) {
@@ -41,7 +42,7 @@ fn find_only(byes: &[Bye], others: &[Bye]) -> Option<u32>
 
 /// A robot of these farewells that has none of the others.
 fn first_only(byes: &[Bye], others: &[Bye]) -> Option<u32>
-    ensures { MatchOption result (HasNoOther (map (λ b. b.robot) byes.now) (map (λ b. b.robot) others.now)) (IsOnlyIn (map (λ b. b.robot) byes.now) (map (λ b. b.robot) others.now)) }
+    ensures { MatchOption result (HasNoOther same_robot (map (λ b. b.robot) byes.now) (map (λ b. b.robot) others.now)) (IsOnlyIn same_robot (map (λ b. b.robot) byes.now) (map (λ b. b.robot) others.now)) }
 {
     find_only(byes, others)
 }

@@ -6,7 +6,6 @@ mod detail;
 mod entry;
 mod explanation;
 mod farewell;
-mod front;
 mod keyword;
 mod law;
 mod limits;

@@ -1,7 +1,7 @@
 -- The robots of the farewells.
 use Rattle.std.proofs.Common.{◌∙◌, sym, ◌==◌}
 use Rattle.fleet_history.specs.declared.history.Bye.{Bye}
-use Rattle.fleet_explain.proofs.Farewells.{any_map}
+use Rattle.fleet_explain.proofs.Only.{any_map}
 use Rattle.fleet_explain.proofs.farewell.is_among.Goals as goal
 
 pub returns : goal.returns
