@@ -7,3 +7,5 @@ mod Solutions
 mod Answered
 mod Tellings
 pub mod Seated
+mod Judgings
+mod Lines
