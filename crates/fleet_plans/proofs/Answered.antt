@@ -43,10 +43,6 @@ json_is_judged m w h text goals places grid a wide tall read on_grid is =
     let P : ℕ → ℕ → Type 0 = λ x y. IsRunnersPlan x y text goals places in
     told_judged goals places (subst (λ (x : ℕ). P x m.height) wide (subst (λ (y : ℕ). P w y) tall read)) (subst (λ (f : Floor). IsJudged f goals places a) on_grid is)
 
-pub if_ok_then : {X E : Type 0} (r : Result X E) (P Q : X → Type 0) → ((x : X) → P x → Q x) → IfOk r P → IfOk r Q
-if_ok_then (Ok x) P Q step p = step x p
-if_ok_then (Err e) P Q step p = tt
-
 pub map_fails : {X : Type 0} (fault named : MapFault) (read : Result X MapFault) → Fails fault read → named ≡ fault → named ≢ map_fault.NoMemory → read ≡ Err named
 map_fails {X} fault named read fails same ne =
     let P : MapFault → Type 0 = λ f. Fails {Y = X} f read in

@@ -9,3 +9,4 @@ mod Tellings
 pub mod Seated
 mod Judgings
 mod Lines
+mod Givings

@@ -2,7 +2,8 @@
 use Rattle.std.proofs.Common.{refl}
 use Rattle.fleet_map.specs.Grammar.{view, map_of}
 use Rattle.fleet_plans.specs.Answer.{IsTextAnswer, IsPlanAnswer, no_map, on_map}
-use Rattle.fleet_plans.proofs.Answered.{map_fails, if_ok_then}
+use Rattle.fleet_plans.proofs.Answered.{map_fails}
+use Rattle.fleet_plans.proofs.Givings.{if_ok_then}
 use Rattle.fleet_plans.proofs.answer.check_texts.Goals as goal
 
 pub returns-in-Ok : goal.returns-in-Ok
