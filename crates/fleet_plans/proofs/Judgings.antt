@@ -60,14 +60,14 @@ module _ (m : Floor) (places : List (List ℕ)) (place : List ℕ) where
           ];
           last_one = sym (last_at (length (places ++ place ∷ []) - 1) ends);
           costs_by =
-            let along = costs_along places place (length places - 1) costs (omega (arith, some)) was.costs_by in
-            let noted_there : (r : ℕ) → r < length costs → IsNoted (place_at (places ++ place ∷ []) (length places - 1)) (place_at (places ++ place ∷ []) (length places)) (length places) r (slice_index costs r) (slice_index new r) =
-            λ r less.
-            subst (λ (q : List ℕ). IsNoted q (place_at (places ++ place ∷ []) (length places)) (length places) r (slice_index costs r) (slice_index new r)) (sym from_is)
-            (subst (λ (q : List ℕ). IsNoted last q (length places) r (slice_index costs r) (slice_index new r)) (sym to_is) (noted r less)) in
-            let now = costs_more (places ++ place ∷ []) (length places) costs new some along count noted_there in
-            let same : length places + 1 - 1 ≡ length (places ++ place ∷ []) - 1 = omega (arith, size) in
-            subst (λ (k : ℕ). AreCostsBy (places ++ place ∷ []) k new) same now;
+              let along = costs_along places place (length places - 1) costs (omega (arith, some)) was.costs_by in
+              let noted_there : (r : ℕ) → r < length costs → IsNoted (place_at (places ++ place ∷ []) (length places - 1)) (place_at (places ++ place ∷ []) (length places)) (length places) r (slice_index costs r) (slice_index new r) =
+              λ r less.
+              subst (λ (q : List ℕ). IsNoted q (place_at (places ++ place ∷ []) (length places)) (length places) r (slice_index costs r) (slice_index new r)) (sym from_is)
+              (subst (λ (q : List ℕ). IsNoted last q (length places) r (slice_index costs r) (slice_index new r)) (sym to_is) (noted r less)) in
+              let now = costs_more (places ++ place ∷ []) (length places) costs new some along count noted_there in
+              let same : length places + 1 - 1 ≡ length (places ++ place ∷ []) - 1 = omega (arith, size) in
+              subst (λ (k : ℕ). AreCostsBy (places ++ place ∷ []) k new) same now;
         }
 
     pub failed_now : (f : PlanFault) → f.time ≡ length places → IsFirstFault m last place f.fault → f.fault ≢ NoMemory → HasFailed m (places ++ place ∷ []) f
@@ -85,8 +85,8 @@ module _ (m : Floor) (places : List (List ℕ)) (place : List ℕ) where
               before = steps_along (length places - 1) (omega (arith, some)) was.steps;
               inside = omega (arith, some, size);
               first =
-                subst (λ (q : List ℕ). IsFirstFault m q (place_at (places ++ place ∷ []) (length places - 1 + 1)) f.fault) (sym from_is)
-                (subst (λ (q : List ℕ). IsFirstFault m last q f.fault) (sym (last_at (length places - 1 + 1) next)) first);
+                  subst (λ (q : List ℕ). IsFirstFault m q (place_at (places ++ place ∷ []) (length places - 1 + 1)) f.fault) (sym from_is)
+                  (subst (λ (q : List ℕ). IsFirstFault m last q f.fault) (sym (last_at (length places - 1 + 1) next)) first);
             },
           );
           named = named;
@@ -111,8 +111,8 @@ module _ (m : Floor) (places : List (List ℕ)) (place : List ℕ) where
                   before = steps_along p.0 inner step.before;
                   inside = omega (arith, step.inside, length_more places place);
                   first =
-                    subst (λ (q : List ℕ). IsFirstFault m q (place_at (places ++ place ∷ []) (p.0 + 1)) f.fault) (sym (same_at p.0 inner))
-                    (subst (λ (q : List ℕ). IsFirstFault m (place_at places p.0) q f.fault) (sym (same_at (p.0 + 1) step.inside)) step.first);
+                      subst (λ (q : List ℕ). IsFirstFault m q (place_at (places ++ place ∷ []) (p.0 + 1)) f.fault) (sym (same_at p.0 inner))
+                      (subst (λ (q : List ℕ). IsFirstFault m (place_at places p.0) q f.fault) (sym (same_at (p.0 + 1) step.inside)) step.first);
                 },
               )
         ];

@@ -65,7 +65,7 @@ costs_along places place n costs inner was =
                     p.0,
                     p.1,
                     subst (λ (q : List ℕ). slice_index q r ≢ slice_index (place_at (places ++ place ∷ []) p.0) r) (sym (same (p.0 + 1) early))
-                    (subst (λ (q : List ℕ). slice_index (place_at places (p.0 + 1)) r ≢ slice_index q r) (sym (same p.0 (omega (arith, early)))) p.2),
+                        (subst (λ (q : List ℕ). slice_index (place_at places (p.0 + 1)) r ≢ slice_index q r) (sym (same p.0 (omega (arith, early)))) p.2),
                   )
             ];
             rests = λ t from below.

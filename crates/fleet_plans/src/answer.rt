@@ -128,20 +128,33 @@ fn answer_json(
     }
 }
 
+/// The answer to a plan's text on the map of a new judge.
+fn answer_text(
+    alloc: Global,
+    sides: Sides,
+    text: &[u8],
+    judge: &mut PlanJudge,
+) -> Result<PlanAnswer, AllocError>
+    requires short { length text.now ≤ 16777216 }
+    requires fresh { HasJudged judge.old.floor [] judge.old }
+    ensures { (m : Map) → IsOf m sides.width sides.height judge.old.floor → IfOk result (λ answer. IsTextAnswer m text.now answer) }
+{
+    if is_json(text) {
+        answer_json(alloc, sides, text, judge)
+    } else {
+        answer_lines(alloc, sides, text, judge)
+    }
+}
+
 /// The answer to a plan's text on a map.
-fn answer_text(alloc: Global, map: MapText, text: &[u8]) -> Result<PlanAnswer, AllocError>
+fn answer_on(alloc: Global, map: MapText, text: &[u8]) -> Result<PlanAnswer, AllocError>
     requires sides { HasSides (view map) }
     requires short { length text.now ≤ 16777216 }
     ensures { IfOk result (λ answer. IsTextAnswer (view map) text.now answer) }
 {
     let sides = sides_of(&map);
     let grid = Grid::new(map)?;
-    let mut judge = PlanJudge::new(alloc, &grid);
-    if is_json(text) {
-        answer_json(alloc, sides, text, &mut judge)
-    } else {
-        answer_lines(alloc, sides, text, &mut judge)
-    }
+    answer_text(alloc, sides, text, &mut PlanJudge::new(alloc, &grid))
 }
 
 /// The fault of a map; an error for out of memory.
@@ -162,7 +175,7 @@ pub fn check_texts(alloc: Global, map: &[u8], text: &[u8]) -> Result<PlanAnswer,
     ensures { IfOk result (λ answer. IsPlanAnswer map.now text.now answer) }
 {
     match read_map(alloc, map) {
-        Ok(map) => answer_text(alloc, map, text),
+        Ok(map) => answer_on(alloc, map, text),
         Err(fault) => Ok(PlanAnswer::Map(map_fault(fault)?)),
     }
 }

@@ -137,8 +137,13 @@ impl<'a, A: Allocator + Copy, B: Allocator + Copy> PlanJudge<'a, A, B> {
         ensures kept { IfErr result (λ _. self.new ≡ self.old) }
     {
         let time = self.count as u32;
-        if let Some(fault) = step_fault(self.alloc, self.grid, &mut self.seats, &self.last, place)?
-        {
+        if let Some(fault) = step_fault(
+            self.alloc,
+            self.grid,
+            &mut self.seats,
+            &self.last,
+            place,
+        )? {
             self.fault = Some(PlanFault { time, fault });
             self.count += 1;
             return Ok(());

@@ -9,7 +9,7 @@ use Rattle.fleet_plans.proofs.answer.check_texts.Goals as goal
 pub returns-in-Ok : goal.returns-in-Ok
 returns-in-Ok c =
     let m = view c.in-Ok.map in
-    if_ok_then c.answer_text.result (IsTextAnswer m c.args.text.now) (IsPlanAnswer c.args.map.now c.args.text.now) (λ a is. on_map m c.in-Ok.ensures.exact is) c.answer_text.ensures
+    if_ok_then c.answer_on.result (IsTextAnswer m c.args.text.now) (IsPlanAnswer c.args.map.now c.args.text.now) (λ a is. on_map m c.in-Ok.ensures.exact is) c.answer_on.ensures
 
 pub returns-in_ok-map_fault-in-Err : goal.returns-in_ok-map_fault-in-Err
 returns-in_ok-map_fault-in-Err c =

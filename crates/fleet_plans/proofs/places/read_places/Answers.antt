@@ -24,8 +24,8 @@ loop-line-preserved g c =
     let head = shown c.args.head.now in
     record {
       read =
-        line_more w h head c.args.judge.now.floor c.loop-line.number (lines_of c.loop-line.rest.now) (places_of w h head [] c.args.number (lines_of c.args.text.now)) c.loop-line.judge c.loop-line.invariant.read
-        c.in-Some.line.now (lines_of c.in-Some.after.now) c.in-Some.ensures.cut c.add_step.new.judge c.in_ok-add_step.ensures.read;
+          line_more w h head c.args.judge.now.floor c.loop-line.number (lines_of c.loop-line.rest.now) (places_of w h head [] c.args.number (lines_of c.args.text.now)) c.loop-line.judge c.loop-line.invariant.read
+          c.in-Some.line.now (lines_of c.in-Some.after.now) c.in-Some.ensures.cut c.add_step.new.judge c.in_ok-add_step.ensures.read;
       room = omega (arith, c.loop-line.invariant.room, c.in-Some.ensures.shorter);
       count = omega (arith, c.loop-line.invariant.count, c.in_ok-add_step.ensures.count);
     }

@@ -8,7 +8,7 @@ use Rattle.fleet_plans.proofs.places.read_places.Given as goal
 abbrev pub invariant-loop-line : goal.invariant-loop-line
 invariant-loop-line g l = record {
   read : IsReadTo l.sides.width l.sides.height (shown l.head) l.fn.judge.floor l.number (lines_of l.rest)
-    (places_of l.sides.width l.sides.height (shown l.head) [] l.fn.number (lines_of l.text)) l.judge;
+      (places_of l.sides.width l.sides.height (shown l.head) [] l.fn.number (lines_of l.text)) l.judge;
   room : l.number + length l.rest ≤ l.fn.number + length l.text;
   count : l.judge.count + l.fn.number ≤ l.number;
 }

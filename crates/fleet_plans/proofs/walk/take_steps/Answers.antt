@@ -22,7 +22,7 @@ loop-time-init g c =
 pub loop-time-preserved : goal.loop-time-preserved
 loop-time-preserved g c = record {
   gone =
-    gone_on c.args.sides.width c.args.sides.height c.args.place.now (texts c.args.tracks.now) c.args.judge.now.floor c.loop-time.time c.loop-time.place c.move_all.new.place c.loop-time.judge c.take.new.self
-    c.loop-time.invariant.gone c.move_all.ensures c.in_ok-take.ensures.taken;
+      gone_on c.args.sides.width c.args.sides.height c.args.place.now (texts c.args.tracks.now) c.args.judge.now.floor c.loop-time.time c.loop-time.place c.move_all.new.place c.loop-time.judge c.take.new.self
+      c.loop-time.invariant.gone c.move_all.ensures c.in_ok-take.ensures.taken;
   robots = omega (arith, c.move_all.ensures.same_length, c.loop-time.invariant.robots);
 }

@@ -36,6 +36,6 @@ returns g c =
     let Walked : List (List ℕ) → Type 0 = λ places. AreWalked w h starts tracks places in
     if_ok_then c.take_steps.result (λ _. IsGiven c.take.new.self.floor Gone judge) (λ _. IsGiven m Walked judge)
     (λ _ given.
-        given_as m Gone Walked judge (λ places steps. walked w h starts tracks places n (subst (λ (s : List ℕ). AreSteps w h s tracks places n) is steps) all)
-        (subst (λ (f : Floor). IsGiven f Gone judge) same given))
+    given_as m Gone Walked judge (λ places steps. walked w h starts tracks places n (subst (λ (s : List ℕ). AreSteps w h s tracks places n) is steps) all)
+    (subst (λ (f : Floor). IsGiven f Gone judge) same given))
     c.take_steps.ensures
