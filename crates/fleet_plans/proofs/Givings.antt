@@ -1,5 +1,5 @@
 -- What holds of the placements that a judge was given.
-use Rattle.std.proofs.Common.{◌≡◌, ℕ, ◌≤◌, List, length, Result, Ok, Err, IfOk, refl, sym, subst}
+use Rattle.std.proofs.Common.{ℕ, List, Result, Ok, Err, IfOk, sym, subst}
 use Rattle.fleet_grid.specs.Floor.{Floor}
 use Rattle.fleet_plans.specs.Judge.{Judged, HasJudged}
 use Rattle.fleet_plans.specs.inside.Given.{IsGiven}

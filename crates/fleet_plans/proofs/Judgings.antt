@@ -1,5 +1,5 @@
 -- What a judge knows after one more placement.
-use Rattle.std.proofs.Common.{◌≡◌, ◌≢◌, ℕ, ◌+◌, ◌-◌, ◌<◌, ◌≤◌, inl, inr, List, [], ◌∷◌, ◌++◌, length, slice_index, Option, Some, None, refl, sym, subst, ◌∙◌, ap, arith}
+use Rattle.std.proofs.Common.{◌≡◌, ◌≢◌, ℕ, ◌+◌, ◌-◌, ◌<◌, ◌≤◌, inl, inr, List, [], ◌∷◌, ◌++◌, length, slice_index, Option, Some, None, refl, sym, subst, ◌∙◌, arith}
 use Rattle.std.proofs.lemmas.Bool.{cases_eq}
 use Rattle.std.proofs.lemmas.List.{get_or_append_left, get_or_push, length-append}
 use Rattle.fleet_grid.specs.Floor.{Floor}
@@ -7,7 +7,7 @@ use Rattle.fleet_grid.specs.Step.{IsPlacement, IsConflictFree}
 use Rattle.fleet_check.specs.Fault.{IsPlacementFault, IsFirstFault}
 use Rattle.fleet_check.specs.declared.fault.StepFault.TheVariants.{NoMemory}
 use Rattle.fleet_plans.specs.declared.judging.PlanFault.{PlanFault}
-use Rattle.fleet_plans.specs.Valid.{place_at, AreStepsFree, IsStepFault, IsPlanFault}
+use Rattle.fleet_plans.specs.Valid.{place_at, AreStepsFree}
 use Rattle.fleet_plans.specs.Costs.{AreCostsBy, IsNoted}
 use Rattle.fleet_plans.specs.Judge.{Judged, HasPassed, HasFailed, IsSoFar, HasJudged}
 use Rattle.fleet_plans.proofs.Moves.{costs_along, costs_more}

@@ -3,9 +3,7 @@ mod Moves
 pub mod Parts
 mod Cuts
 mod Walks
-mod Solutions
 mod Answered
-mod Tellings
 pub mod Seated
 mod Judgings
 mod Lines

@@ -1,11 +1,11 @@
 -- What a judge was given by the lines of a text.
-use Rattle.std.proofs.Common.{◌≡◌, ◌≢◌, ℕ, ◌+◌, ◌<◌, ◌≤◌, true, false, Bool, List, [], ◌∷◌, ◌++◌, length, Option, Some, None, Result, Ok, Err, ◌==◌, true≢false, refl, sym, subst, ◌∙◌, ap, arith}
+use Rattle.std.proofs.Common.{◌≡◌, ℕ, ◌+◌, ◌≤◌, true, false, List, [], ◌∷◌, ◌++◌, length, Option, Some, Result, Ok, Err, ◌==◌, true≢false, refl, sym, subst, ◌∙◌, ap, arith}
 use Rattle.std.specs.Option.{option_and_then}
 use Rattle.fleet_grid.specs.Floor.{Floor}
 use Rattle.fleet_plans.specs.declared.fault.PlanTextFault.{PlanTextFault}
 use Rattle.fleet_plans.specs.declared.fault.PlanTextFault.TheVariants.{Line, NoMemory}
 use Rattle.fleet_plans.specs.Head.{Head, split_once, or_line, and_then}
-use Rattle.fleet_plans.specs.Places.{place_in, begins, with_place, with_step, places_of}
+use Rattle.fleet_plans.specs.Places.{place_in, with_place, with_step, places_of}
 use Rattle.fleet_plans.specs.Shown.{FailsAt}
 use Rattle.fleet_plans.specs.Judge.{Judged, HasJudged}
 use Rattle.fleet_plans.specs.inside.Fits.{fits}

@@ -41,12 +41,6 @@ costs_more places time old new early was same noted = record {
       cost_more places time r early (slice_index old r) (slice_index new r) (was.cost r inner) (noted r inner);
 }
 
-pub costs_begin : (places : List (List ℕ)) (costs : List ℕ) → length costs ≡ length (place_at places 0) → ((r : ℕ) → slice_index costs r ≡ 0) → AreCostsBy places (1 - 1) costs
-costs_begin places costs each zeros = record {
-  each_one = each;
-  cost = λ r less. record { within = omega (arith, zeros r); moved = inl (zeros r); rests = λ t from below. absurd (omega (arith, below)) };
-}
-
 -- one more placement leaves the costs up to an earlier time
 pub costs_along : (places : List (List ℕ)) (place : List ℕ) (n : ℕ) (costs : List ℕ) → n < length places → AreCostsBy places n costs → AreCostsBy (places ++ place ∷ []) n costs
 costs_along places place n costs inner was =

@@ -1,6 +1,6 @@
 //! A judge of plans that is given one placement after the other.
 
-ghost use Rattle.std.specs.Prelude.{◌≡◌, ◌≢◌, ◌≤◌, ◌<◌, ◌+◌, ◌++◌, ◌∷◌, ◌^◌, ℕ, List, [], length, slice_index, None, MatchOption, OnOk, IfOk, IfErr};
+ghost use Rattle.std.specs.Prelude.{◌≡◌, ◌≢◌, ◌≤◌, ◌<◌, ◌+◌, ◌++◌, ◌∷◌, ◌^◌, ℕ, List, [], length, slice_index, None, MatchOption, OnOk, IfOk, IfErr, IsOk};
 ghost use Rattle.fleet_grid.specs.Floor.{Floor};
 ghost use Rattle.fleet_plans.specs.Valid.{IsValidPlan, IsPlanFault};
 ghost use Rattle.fleet_plans.specs.Report.{IsReportOf};
@@ -174,6 +174,7 @@ impl<'a, A: Allocator + Copy, B: Allocator + Copy> PlanJudge<'a, A, B> {
         ensures valid { (m : Floor) (places : List (List ℕ)) → HasJudged m places self.now → OnOk result (IsValidPlan m places) }
         ensures report { (m : Floor) (places : List (List ℕ)) → HasJudged m places self.now → IfOk result (λ report. IsReportOf (goals_in goals.entry) places report) }
         ensures fault { (m : Floor) (places : List (List ℕ)) → HasJudged m places self.now → IfErr result (λ f. IsPlanFault m places f.time f.fault) }
+        ensures lawful { (m : Floor) (places : List (List ℕ)) → HasJudged m places self.now → IsValidPlan m places → IsOk result }
         ensures named { (m : Floor) (places : List (List ℕ)) → HasJudged m places self.now → IfErr result (λ f. f.fault ≢ NoMemory) }
     {
         match self.fault {

@@ -1,5 +1,5 @@
 -- The judge took what a line says.
-use Rattle.std.proofs.Common.{◌≡◌, ℕ, ◌++◌, ◌∷◌, List, [], true, Some, sym, ap, ◌∙◌, subst}
+use Rattle.std.proofs.Common.{◌≡◌, ℕ, ◌++◌, ◌∷◌, List, [], true, sym, ◌∙◌, subst}
 use Rattle.fleet_plans.specs.Judge.{HasJudged}
 use Rattle.fleet_plans.specs.Shown.{shown}
 use Rattle.fleet_plans.specs.inside.Fits.{fits}

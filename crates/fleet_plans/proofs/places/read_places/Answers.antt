@@ -1,5 +1,5 @@
 -- What the judge was given by the lines that are read.
-use Rattle.std.proofs.Common.{◌≡◌, ◌≤◌, [], sym, ◌∙◌, arith}
+use Rattle.std.proofs.Common.{◌≤◌, [], sym, ◌∙◌, arith}
 use Rattle.std.proofs.lemmas.Result.{err_from_is_err_and}
 use Rattle.fleet_map.specs.Text.{lines_of}
 use Rattle.fleet_plans.specs.Places.{places_of}

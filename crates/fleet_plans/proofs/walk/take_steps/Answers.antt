@@ -1,7 +1,5 @@
 -- One more step is taken.
-use Rattle.std.proofs.Common.{◌≡◌, ℕ, ◌≤◌, ◌<◌, ◌^◌, List, [], ◌∷◌, ◌++◌, length, refl, sym, ap, subst, arith}
-use Rattle.fleet_plans.specs.Valid.{place_at}
-use Rattle.fleet_plans.specs.Tracks.{IsMoved}
+use Rattle.std.proofs.Common.{[], ◌∷◌, refl, arith}
 use Rattle.fleet_plans.specs.Shown.{texts}
 use Rattle.fleet_plans.proofs.Walks.{begun, gone_on}
 use Rattle.fleet_plans.proofs.walk.take_steps.Goals as goal

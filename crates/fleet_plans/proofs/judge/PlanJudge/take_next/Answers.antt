@@ -1,12 +1,12 @@
 -- One more placement, free of faults or not.
-use Rattle.std.proofs.Common.{◌≡◌, ◌≢◌, ◌≤◌, ℕ, ◌+◌, ◌++◌, ◌∷◌, List, [], Option, None, Some, refl, ap, ◌∙◌, sym, subst}
+use Rattle.std.proofs.Common.{◌≡◌, ◌≢◌, ◌≤◌, ℕ, ◌+◌, List, Option, None, Some, refl, ap, ◌∙◌, sym, subst}
 use Rattle.std.specs.Option.{MatchOption}
 use Rattle.fleet_grid.specs.Step.{IsConflictFree}
 use Rattle.fleet_check.specs.Fault.{IsFirstFault}
 use Rattle.fleet_check.specs.declared.fault.StepFault.{StepFault}
 use Rattle.fleet_check.specs.declared.fault.StepFault.TheVariants.{NoMemory}
 use Rattle.fleet_plans.specs.declared.judging.PlanFault.{PlanFault}
-use Rattle.fleet_plans.specs.Judge.{Judged, HasJudged}
+use Rattle.fleet_plans.specs.Judge.{Judged}
 use Rattle.fleet_plans.proofs.Judgings.{judged_at_fault, judged_free, known}
 use Rattle.fleet_plans.proofs.judge.PlanJudge.take_next.Goals as goal
 
