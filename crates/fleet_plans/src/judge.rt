@@ -1,6 +1,6 @@
 //! A judge of plans that is given one placement after the other.
 
-ghost use Rattle.std.specs.Prelude.{◌≡◌, ◌≢◌, ◌≤◌, ◌<◌, ◌+◌, ◌++◌, ◌∷◌, ◌^◌, ℕ, List, [], length, slice_index, None, MatchOption, OnOk, IfOk, IfErr, IsOk};
+ghost use Rattle.std.specs.Prelude.{◌≡◌, ◌≢◌, ◌≤◌, ◌<◌, ◌+◌, ◌++◌, ◌∷◌, ◌^◌, ℕ, List, [], length, slice_index, None, MatchOption, OnOk, IfOk, IfErr, IsOk, IsSome};
 ghost use Rattle.fleet_grid.specs.Floor.{Floor};
 ghost use Rattle.fleet_plans.specs.Valid.{IsValidPlan, IsPlanFault};
 ghost use Rattle.fleet_plans.specs.Report.{IsReportOf};
@@ -94,6 +94,8 @@ impl<'a, A: Allocator + Copy, B: Allocator + Copy> PlanJudge<'a, A, B> {
         ensures taken { (m : Floor) (places : List (List ℕ)) → HasJudged m places self.old → OnOk result (HasJudged m (places ++ place.now ∷ []) self.new) }
         ensures counted { OnOk result (self.new.count ≡ self.old.count + 1) }
         ensures kept { IfErr result (λ _. self.new ≡ self.old) }
+        // After the first fault no memory is asked for.
+        ensures faulty { IsSome self.old.fault → IsOk result }
     {
         if self.fault.is_some() {
             self.count += 1;
