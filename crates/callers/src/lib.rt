@@ -25,7 +25,7 @@ pub use lanes::send;
 pub use limits::with_queue;
 pub use maps::sides_of;
 pub use pages::page_of;
-pub use plans::is_valid;
+pub use plans::{is_still_valid, is_valid};
 pub use runs::history_after;
 pub use scripts::robots_in;
 pub use traces::is_legal;

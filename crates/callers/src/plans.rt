@@ -1,11 +1,12 @@
-//! A caller of `fleet_plans`.
+//! Callers of `fleet_plans`.
 
-ghost use Rattle.std.specs.Prelude.{◌≡◌, ◌≤◌, ℕ, List, Ok, IfOk, IsTrue, length};
+ghost use Rattle.std.specs.Prelude.{◌≡◌, ◌≤◌, ◌<◌, ◌^◌, ◌++◌, ◌∷◌, ℕ, List, [], Ok, OnOk, IfOk, IsTrue, length};
 ghost use Rattle.fleet_map.specs.Grammar.{Map, map_of};
-ghost use Rattle.fleet_grid.specs.Floor.{floor_of};
+ghost use Rattle.fleet_grid.specs.Floor.{Floor, floor_of};
+ghost use Rattle.fleet_plans.specs.Judge.{HasJudged};
 ghost use Rattle.fleet_plans.specs.Valid.{IsValidPlan};
 
-use fleet_plans::{PlanAnswer, check_texts};
+use fleet_plans::{PlanAnswer, PlanJudge, check_texts};
 use std::alloc::{AllocError, Global};
 
 /// Whether the text of another planner's plan is free of conflicts on a map.
@@ -17,5 +18,19 @@ pub fn is_valid(alloc: Global, map: &[u8], plan: &[u8]) -> Result<bool, AllocErr
         PlanAnswer::Valid(_report) => Ok(true),
         PlanAnswer::Map(_) | PlanAnswer::Text(_) => Ok(false),
         PlanAnswer::Json(_) | PlanAnswer::Invalid(_) => Ok(false),
+    }
+}
+
+/// Whether a planner's plan is still valid with the placement that it made for the next time.
+pub fn is_still_valid(judge: &mut PlanJudge, next: &[u32]) -> Result<bool, AllocError>
+    requires times { judge.old.count < 2 ^ 32 }
+    requires robots { length next.now < 2 ^ 32 }
+    ensures taken { (m : Floor) (places : List (List ℕ)) → HasJudged m places judge.old → OnOk result (HasJudged m (places ++ next.now ∷ []) judge.new) }
+    ensures valid { (m : Floor) (places : List (List ℕ)) → HasJudged m places judge.old → IfOk result (λ valid. IsTrue valid → IsValidPlan m (places ++ next.now ∷ [])) }
+{
+    judge.take(next)?;
+    match judge.fault() {
+        None => Ok(true),
+        Some(_fault) => Ok(false),
     }
 }

@@ -1,5 +1,5 @@
 -- What is said of a text that is no plan, and of one that is no map.
-use Rattle.std.proofs.Common.{◌≡◌, ◌≢◌, ℕ, List, ◌++◌, Option, Result, Ok, Err, IfOk, refl, subst, sym, ◌∙◌}
+use Rattle.std.proofs.Common.{◌≡◌, ◌≢◌, ℕ, List, ◌++◌, Option, Result, Err, refl, subst, sym, ◌∙◌}
 use Rattle.std.proofs.lemmas.List.{append_assoc}
 use Rattle.fleet_map.specs.declared.fault.MapFault.{MapFault}
 use Rattle.fleet_map.specs.declared.fault.MapFault.TheVariants as map_fault
@@ -42,10 +42,6 @@ pub json_is_judged : (m : Map) (w h : ℕ) (text : List ℕ) (goals : Option (Li
 json_is_judged m w h text goals places grid a wide tall read on_grid is =
     let P : ℕ → ℕ → Type 0 = λ x y. IsRunnersPlan x y text goals places in
     told_judged goals places (subst (λ (x : ℕ). P x m.height) wide (subst (λ (y : ℕ). P w y) tall read)) (subst (λ (f : Floor). IsJudged f goals places a) on_grid is)
-
-pub if_ok_then : {X E : Type 0} (r : Result X E) (P Q : X → Type 0) → ((x : X) → P x → Q x) → IfOk r P → IfOk r Q
-if_ok_then (Ok x) P Q step p = step x p
-if_ok_then (Err e) P Q step p = tt
 
 pub map_fails : {X : Type 0} (fault named : MapFault) (read : Result X MapFault) → Fails fault read → named ≡ fault → named ≢ map_fault.NoMemory → read ≡ Err named
 map_fails {X} fault named read fails same ne =

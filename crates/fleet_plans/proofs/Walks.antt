@@ -1,9 +1,12 @@
 -- Robots that move one after the other, and the longest of tracks.
-use Rattle.std.proofs.Common.{◌≡◌, ◌≢◌, ℕ, ◌+◌, ◌<◌, ◌≤◌, ◌⊎◌, inl, inr, List, [], ◌∷◌, ◌++◌, length, get_or, set, slice_index_or, sym, ap, ◌∙◌, subst, arith}
+use Rattle.std.proofs.Common.{◌≡◌, ◌≢◌, ℕ, ◌+◌, ◌<◌, ◌≤◌, ◌⊎◌, inl, inr, List, [], ◌∷◌, ◌++◌, length, get_or, set, slice_index_or, refl, sym, ap, ◌∙◌, subst, arith}
 use Rattle.std.proofs.lemmas.Bool.{cases_eq}
 use Rattle.std.proofs.lemmas.List.{get_or-set_same, get_or-set_other, get_or_append_left, get_or_push, length-append}
+use Rattle.fleet_grid.specs.Floor.{Floor}
 use Rattle.fleet_plans.specs.Valid.{place_at}
+use Rattle.fleet_plans.specs.Judge.{Judged, HasJudged}
 use Rattle.fleet_plans.specs.Tracks.{IsMoved, AreWalked}
+use Rattle.fleet_plans.specs.inside.Given.{IsGiven}
 use Rattle.fleet_plans.specs.inside.Walk.{IsLongest, AreSteps}
 
 -- one more item is written
@@ -66,6 +69,23 @@ module _ (w h : ℕ) (starts : List ℕ) (tracks places more : List (List ℕ)) 
           (subst (λ (q : List ℕ). IsMoved w h tracks t (place_at places t) q) (sym (old_at (t + 1) (omega (arith, less, other)))) (is.step t (omega (arith, less, other))))
     ];
   }
+
+-- the judge has the placement after one more step
+pub gone_on : (w h : ℕ) (starts : List ℕ) (tracks : List (List ℕ)) (m : Floor) (n : ℕ) (from to : List ℕ) (old new : Judged) → (was : IsGiven m (λ places. AreSteps w h starts tracks places n × (place_at places n ≡ from)) old)
+    → IsMoved w h tracks n from to → ((m : Floor) (places : List (List ℕ)) → HasJudged m places old → HasJudged m (places ++ to ∷ []) new)
+    → IsGiven m (λ places. AreSteps w h starts tracks places (n + 1) × (place_at places (n + 1) ≡ to)) new
+gone_on w h starts tracks m n from to old new was moves taken =
+    let places = was.places in
+    let there : IsMoved w h tracks n (place_at places n) to = subst (λ (q : List ℕ). IsMoved w h tracks n q to) (sym was.holds.1) moves in
+    record {
+      places = places ++ to ∷ [];
+      some = omega (arith, length-append places (to ∷ []));
+      holds = (
+        step_more w h starts tracks places (places ++ to ∷ []) to n was.holds.0 refl there,
+        new_at w h starts tracks places (places ++ to ∷ []) to n was.holds.0 refl,
+      );
+      given = taken m places was.given;
+    }
 
 -- all steps of the longest track are made
 pub walked : (w h : ℕ) (starts : List ℕ) (tracks places : List (List ℕ)) (n : ℕ) → AreSteps w h starts tracks places n → IsLongest tracks (length tracks) n → AreWalked w h starts tracks places

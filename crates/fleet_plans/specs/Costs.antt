@@ -12,6 +12,7 @@ IsMove places r t = slice_index (place_at places (t + 1)) r ≢ slice_index (pla
 
 -- the number of the last step, of the first n, in which the robot moves; 0 where it never does
 pub record IsCostBy (places : List (List ℕ)) (n r cost : ℕ) : Type 0 where
+  pub within : cost ≤ n
   pub moved : (cost ≡ 0) ⊎ ((t : ℕ) × (cost ≡ t + 1) × IsMove places r t)
   pub rests : (t : ℕ) → cost ≤ t → t < n → slice_index (place_at places (t + 1)) r ≡ slice_index (place_at places t) r
 

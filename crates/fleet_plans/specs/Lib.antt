@@ -1,4 +1,5 @@
 pub mod Valid
+pub mod Judge
 pub mod Costs
 pub mod Cells
 pub mod Head

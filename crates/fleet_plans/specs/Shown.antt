@@ -1,5 +1,6 @@
 -- Values of the program without where they lie in memory.
-use Rattle.std.specs.Prelude.{◌≡◌, ℕ, List, Result, Ok, Err, map}
+use Rattle.std.specs.Prelude.{◌≡◌, ℕ, List, Option, Result, Ok, Err, map}
+use Rattle.std.specs.Option.{option_map}
 use Rattle.std.specs.Borrow.{Bor}
 use Rattle.fleet_map.specs.Text.{lines_of}
 use Rattle.fleet_plans.specs.declared.fault.PlanTextFault.{PlanTextFault}
@@ -17,6 +18,10 @@ opened x = record { head = shown x.head; number = x.number; lines = lines_of x.r
 -- what the texts are
 abbrev pub texts : List (Bor (List ℕ)) → List (List ℕ)
 texts lines = map (λ x. x.now) lines
+
+-- the goals, where there are any
+abbrev pub goals_in : Option (Bor (List ℕ)) → Option (List ℕ)
+goals_in goals = option_map (λ x. x.now) goals
 
 abbrev pub FailsAt : {Y : Type 0} → PlanTextFault → Result Y ℕ → Type 0
 FailsAt NoMemory read = Unit {0}

@@ -1,4 +1,9 @@
 -- What only proofs and private functions use.
 pub mod Walk
 pub mod Few
+pub mod Fits
 pub mod Seats
+pub mod Kept
+pub mod Figures
+pub mod Given
+pub mod Answered

@@ -1,19 +1,24 @@
 //! The answer to the text of a map and of a plan.
 
-ghost use Rattle.std.specs.Prelude.{◌≡◌, ◌≢◌, ◌≤◌, ◌++◌, Some, codes, decimal, length, IfOk};
+ghost use Rattle.std.specs.Prelude.{◌≡◌, ◌≢◌, ◌≤◌, ℕ, List, [], Some, length, IfOk};
+ghost use Rattle.fleet_grid.specs.Floor.{Floor};
 ghost use Rattle.fleet_map.specs.Form.{HasSides};
-ghost use Rattle.fleet_map.specs.Grammar.{view};
-ghost use Rattle.fleet_plans.specs.Valid.{HasSize};
+ghost use Rattle.fleet_map.specs.Grammar.{Map, view};
+ghost use Rattle.fleet_plans.specs.Judge.{HasJudged};
+ghost use Rattle.fleet_plans.specs.Shown.{goals_in};
+ghost use Rattle.fleet_plans.specs.inside.Answered.{IsOf};
 ghost use Rattle.fleet_plans.specs.Answer.{IsJudged, IsLinesAnswer, IsJsonAnswer, IsTextAnswer, IsPlanAnswer, fault_text, goals_text, report_text};
 
 use crate::fault::PlanTextFault;
+use crate::judge::PlanJudge;
 use crate::judging::PlanFault;
-use crate::plan::{Plan, read_plan};
-use crate::report::{PlanReport, check_plan};
+use crate::plan::read_plan;
+use crate::report::PlanReport;
 use crate::runners::{RunnersFault, is_json, read_runners};
 use crate::sides::Sides;
 use fleet_check::StepFault;
 use fleet_grid::Grid;
+use fleet_history::Row;
 use fleet_map::{MapFault, MapText, read_map};
 use std::alloc::{AllocError, Allocator, Global};
 use std::fmt;
@@ -45,24 +50,27 @@ fn sides_of<A: Allocator + Copy>(map: &MapText<A>) -> Sides
     }
 }
 
-/// Judges a plan on a map.
-fn judge_on<A: Allocator + Copy>(
-    alloc: A,
-    grid: &Grid<A>,
-    plan: &Plan<A>,
-) -> Result<PlanAnswer, AllocError>
-    requires { HasSize plan.now.places }
-    ensures { IfOk result (λ answer. IsJudged grid.now plan.now.goals plan.now.places answer) }
+/// The goals, lent.
+fn lent<A: Allocator + Copy>(goals: &Option<Row<u32, A>>) -> Option<&[u32]>
+    ensures { goals_in result ≡ goals.now }
 {
-    match check_plan(alloc, grid, plan) {
-        Ok(report) => Ok(PlanAnswer::Valid(report)),
-        Err(
-            PlanFault {
-                fault: StepFault::NoMemory,
-                ..
-            },
-        ) => Err(AllocError),
-        Err(fault) => Ok(PlanAnswer::Invalid(fault)),
+    match goals {
+        Some(goals) => Some(goals.as_slice()),
+        None => None,
+    }
+}
+
+/// The verdict on the plan that a judge was given.
+fn answer_of<A: Allocator + Copy, B: Allocator + Copy>(
+    judge: &PlanJudge<A, B>,
+    goals: Option<&[u32]>,
+) -> PlanAnswer
+    requires { 1 ≤ judge.now.count }
+    ensures { (m : Floor) (places : List (List ℕ)) → HasJudged m places judge.now → IsJudged m (goals_in goals.entry) places result }
+{
+    match judge.verdict(goals) {
+        Ok(report) => PlanAnswer::Valid(report),
+        Err(fault) => PlanAnswer::Invalid(fault),
     }
 }
 
@@ -87,46 +95,66 @@ fn json_fault(fault: RunnersFault) -> Result<RunnersFault, AllocError>
     }
 }
 
-/// The answer to a plan's lines on a map.
-fn answer_lines(alloc: Global, map: MapText, text: &[u8]) -> Result<PlanAnswer, AllocError>
-    requires sides { HasSides (view map) }
+/// The answer to a plan's lines on the map of a new judge.
+fn answer_lines(
+    alloc: Global,
+    sides: Sides,
+    text: &[u8],
+    judge: &mut PlanJudge,
+) -> Result<PlanAnswer, AllocError>
     requires short { length text.now ≤ 16777216 }
-    ensures { IfOk result (λ answer. IsLinesAnswer (view map) text.now answer) }
+    requires fresh { HasJudged judge.old.floor [] judge.old }
+    ensures { (m : Map) → IsOf m sides.width sides.height judge.old.floor → IfOk result (λ answer. IsLinesAnswer m text.now answer) }
 {
-    match read_plan(alloc, sides_of(&map), text) {
-        Ok(plan) => {
-            let grid = Grid::new(map)?;
-            judge_on(alloc, &grid, &plan)
-        }
+    match read_plan(alloc, sides, text, judge) {
+        Ok(goals) => Ok(answer_of(judge, lent(&goals))),
         Err(fault) => Ok(PlanAnswer::Text(line_of(fault)?)),
     }
 }
 
-/// The answer to a plan in JSON on a map.
-fn answer_json(alloc: Global, map: MapText, text: &[u8]) -> Result<PlanAnswer, AllocError>
-    requires { HasSides (view map) }
-    ensures { IfOk result (λ answer. IsJsonAnswer (view map) text.now answer) }
+/// The answer to a plan in JSON on the map of a new judge.
+fn answer_json(
+    alloc: Global,
+    sides: Sides,
+    text: &[u8],
+    judge: &mut PlanJudge,
+) -> Result<PlanAnswer, AllocError>
+    requires fresh { HasJudged judge.old.floor [] judge.old }
+    ensures { (m : Map) → IsOf m sides.width sides.height judge.old.floor → IfOk result (λ answer. IsJsonAnswer m text.now answer) }
 {
-    match read_runners(alloc, sides_of(&map), text) {
-        Ok(plan) => {
-            let grid = Grid::new(map)?;
-            judge_on(alloc, &grid, &plan)
-        }
+    match read_runners(alloc, sides, text, judge) {
+        Ok(()) => Ok(answer_of(judge, None)),
         Err(fault) => Ok(PlanAnswer::Json(json_fault(fault)?)),
     }
 }
 
+/// The answer to a plan's text on the map of a new judge.
+fn answer_text(
+    alloc: Global,
+    sides: Sides,
+    text: &[u8],
+    judge: &mut PlanJudge,
+) -> Result<PlanAnswer, AllocError>
+    requires short { length text.now ≤ 16777216 }
+    requires fresh { HasJudged judge.old.floor [] judge.old }
+    ensures { (m : Map) → IsOf m sides.width sides.height judge.old.floor → IfOk result (λ answer. IsTextAnswer m text.now answer) }
+{
+    if is_json(text) {
+        answer_json(alloc, sides, text, judge)
+    } else {
+        answer_lines(alloc, sides, text, judge)
+    }
+}
+
 /// The answer to a plan's text on a map.
-fn answer_text(alloc: Global, map: MapText, text: &[u8]) -> Result<PlanAnswer, AllocError>
+fn answer_on(alloc: Global, map: MapText, text: &[u8]) -> Result<PlanAnswer, AllocError>
     requires sides { HasSides (view map) }
     requires short { length text.now ≤ 16777216 }
     ensures { IfOk result (λ answer. IsTextAnswer (view map) text.now answer) }
 {
-    if is_json(text) {
-        answer_json(alloc, map, text)
-    } else {
-        answer_lines(alloc, map, text)
-    }
+    let sides = sides_of(&map);
+    let grid = Grid::new(map)?;
+    answer_text(alloc, sides, text, &mut PlanJudge::new(alloc, &grid))
 }
 
 /// The fault of a map; an error for out of memory.
@@ -147,7 +175,7 @@ pub fn check_texts(alloc: Global, map: &[u8], text: &[u8]) -> Result<PlanAnswer,
     ensures { IfOk result (λ answer. IsPlanAnswer map.now text.now answer) }
 {
     match read_map(alloc, map) {
-        Ok(map) => answer_text(alloc, map, text),
+        Ok(map) => answer_on(alloc, map, text),
         Err(fault) => Ok(PlanAnswer::Map(map_fault(fault)?)),
     }
 }

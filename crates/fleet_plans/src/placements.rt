@@ -68,14 +68,6 @@ impl<A: Allocator + Copy> Placements<A> {
         }
     }
 
-    /// Reserves memory for a number of placements with a number of cells in all.
-    pub fn reserve(&mut self, places: usize, cells: usize) -> Result<(), AllocError>
-        ensures { self.new ≡ self.old }
-    {
-        self.cells.reserve(cells)?;
-        self.ends.reserve(places)
-    }
-
     /// Adds a placement at the end. If memory runs out, nothing changes.
     pub fn push(&mut self, place: &[u32]) -> Result<(), AllocError>
         ensures added { OnOk result (self.new ≡ self.old ++ place.now ∷ []) }

@@ -1,16 +1,19 @@
 //! The solution of a plan's text, with one line of cells for each time.
 
-ghost use Rattle.std.specs.Prelude.{◌≡◌, ◌≤◌, ◌+◌, ◌<◌, ◌^◌, [], length, IfOk, IfSome, Some, Ok, Err};
+ghost use Rattle.std.specs.Prelude.{◌≡◌, ◌≤◌, ◌+◌, ◌<◌, ◌^◌, ℕ, List, [], length, IfOk, IfErr, IfSome, Ok};
+ghost use Rattle.fleet_grid.specs.Floor.{Floor};
 ghost use Rattle.fleet_map.specs.Text.{lines_of, number_of};
 ghost use Rattle.fleet_plans.specs.Head.{split_once, or_line};
-ghost use Rattle.fleet_plans.specs.Places.{is_number, place_in, agrees, covers, begins, with_step, places_of};
-ghost use Rattle.fleet_plans.specs.Shown.{shown, Gives};
-ghost use Rattle.fleet_plans.specs.Valid.{place_at};
+ghost use Rattle.fleet_plans.specs.Places.{is_number, place_in, agrees, covers, with_step, places_of};
+ghost use Rattle.fleet_plans.specs.Judge.{HasJudged};
+ghost use Rattle.fleet_plans.specs.Shown.{shown, FailsAt};
+ghost use Rattle.fleet_plans.specs.inside.Given.{IsGiven, IsGivenAs};
+ghost use Rattle.fleet_plans.specs.inside.Fits.{fits};
 
 use crate::cells::cells_of;
 use crate::fault::PlanTextFault;
 use crate::head::{Head, split_once};
-use crate::placements::Placements;
+use crate::judge::PlanJudge;
 use crate::sides::Sides;
 use fleet_history::Row;
 use fleet_map::text::{first_line, number_up_to};
@@ -62,63 +65,65 @@ pub(crate) fn covers<A: Allocator + Copy>(goals: &Option<Row<u32, A>>, place: &[
     }
 }
 
-/// Whether a plan with this head may begin with these cells.
-fn begins<A: Allocator + Copy>(head: &Head<A>, place: &[u32]) -> bool
-    ensures { result ≡ begins (shown head.now) place.now }
+/// Whether a plan with this head may have these cells at a time. At time 0 they are its starts, and each robot has a
+/// goal, if the head names them.
+fn fits<A: Allocator + Copy>(head: &Head<A>, time: usize, place: &[u32]) -> bool
+    ensures { result ≡ fits (shown head.now) time place.now }
 {
-    agrees(&head.starts, place) && covers(&head.goals, place)
+    time > 0 || (agrees(&head.starts, place) && covers(&head.goals, place))
 }
 
-/// Adds one more line.
-fn add_step<A: Allocator + Copy>(
+/// Gives the judge the placement of one more line; this is the line's number.
+fn add_step<A: Allocator + Copy, B: Allocator + Copy>(
     alloc: A,
     sides: Sides,
     head: &Head<A>,
-    places: &mut Placements<A>,
     number: u32,
     line: &[u8],
+    judge: &mut PlanJudge<A, B>,
 ) -> Result<(), PlanTextFault>
-    ensures read { Gives (λ done. places.new) result (or_line number (with_step sides.width sides.height (shown head.now) places.old line.now)) }
-    ensures count { length places.new ≤ length places.old + 1 }
-    ensures few { length line.now ≤ 16777216 → length (place_at places.old 0) ≤ 16777216 → length (place_at places.new 0) ≤ 16777216 }
+    requires times { judge.old.count < 2 ^ 32 }
+    requires robots { length line.now < 2 ^ 32 }
+    ensures read { (m : Floor) (places : List (List ℕ)) → HasJudged m places judge.old → IfOk result (λ _. IsGivenAs m (with_step sides.width sides.height (shown head.now) places line.now) judge.new) }
+    ensures fault { (m : Floor) (places : List (List ℕ)) → HasJudged m places judge.old → IfErr result (λ fault. FailsAt fault (or_line number (with_step sides.width sides.height (shown head.now) places line.now))) }
+    ensures count { judge.new.count ≤ judge.old.count + 1 }
 {
     if line.is_empty() {
         return Ok(());
     }
-    let Some(place) = place_of(alloc, sides, places.len(), line)? else {
+    let time = judge.count();
+    let Some(place) = place_of(alloc, sides, time, line)? else {
         return Err(PlanTextFault::Line(number));
     };
-    if places.len() == 0 && !begins(head, place.as_slice()) {
+    if !fits(head, time, place.as_slice()) {
         return Err(PlanTextFault::Line(number));
     }
-    Ok(places.push(place.as_slice())?)
+    Ok(judge.take(place.as_slice())?)
 }
 
-/// The placements of a solution; this is the number of its first line.
-#[tactic(auto, unfolding(crate::specs::Places::places_of))]
-pub(crate) fn read_places<A: Allocator + Copy>(
+/// Gives the judge the placements of a solution; this is the number of its first line.
+pub(crate) fn read_places<A: Allocator + Copy, B: Allocator + Copy>(
     alloc: A,
     sides: Sides,
     head: &Head<A>,
     number: u32,
     text: &[u8],
-) -> Result<Placements<A>, PlanTextFault>
-    requires { number + length text.now < 2 ^ 32 }
-    ensures read { Gives (λ places. places) result (places_of sides.width sides.height (shown head.now) [] number (lines_of text.now)) }
-    ensures some { IfOk result (λ places. 1 ≤ length places) }
-    ensures times { IfOk result (λ places. length places ≤ length text.now) }
-    ensures few { length text.now ≤ 16777216 → IfOk result (λ places. length (place_at places 0) ≤ 16777216) }
+    judge: &mut PlanJudge<A, B>,
+) -> Result<(), PlanTextFault>
+    requires room { number + length text.now < 2 ^ 32 }
+    requires fresh { HasJudged judge.old.floor [] judge.old }
+    ensures read { IfOk result (λ _. IsGiven judge.old.floor (λ places. places_of sides.width sides.height (shown head.now) [] number (lines_of text.now) ≡ Ok places) judge.new) }
+    ensures fault { IfErr result (λ fault. FailsAt fault (places_of sides.width sides.height (shown head.now) [] number (lines_of text.now))) }
 {
-    let mut places = Placements::new(alloc);
     let mut number = number;
     let mut rest = text;
     while let Some((line, after)) = first_line(rest) {
-        add_step(alloc, sides, head, &mut places, number, line)?;
+        add_step(alloc, sides, head, number, line, judge)?;
         number += 1;
         rest = after;
     }
-    if places.len() == 0 {
+    if judge.count() == 0 {
         return Err(PlanTextFault::Line(number));
     }
-    Ok(places)
+    Ok(())
 }

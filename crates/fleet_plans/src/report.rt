@@ -1,18 +1,11 @@
 //! The report on a valid plan.
 
-ghost use Rattle.std.specs.Prelude.{◌≡◌, ◌≤◌, ◌<◌, ◌^◌, ◌-◌, ℕ, length, OnOk, IfOk, IfErr};
-ghost use Rattle.std.specs.Option.{option_map};
-ghost use Rattle.fleet_plans.specs.Valid.{place_at, HasSize, IsValidPlan, IsPlanFault};
-ghost use Rattle.fleet_plans.specs.Report.{IsReportOf, goals_reached};
+ghost use Rattle.std.specs.Prelude.{◌≡◌, ◌<◌, ◌^◌, length, option_map};
+ghost use Rattle.fleet_plans.specs.Report.{goals_reached};
+ghost use Rattle.fleet_plans.specs.Shown.{goals_in};
+ghost use Rattle.fleet_plans.specs.inside.Figures.{AreFigures};
 
-use crate::costs::{costs_of, makespan, on_goals, sum_of_costs};
-use crate::judging::{PlanFault, judge_plan};
-use crate::placements::Placements;
-use crate::plan::Plan;
-use fleet_check::StepFault;
-use fleet_grid::Grid;
-use fleet_history::Row;
-use std::alloc::{AllocError, Allocator};
+use crate::costs::{makespan, on_goals, sum_of_costs};
 
 /// The figures of a valid plan.
 #[derive(Clone, Copy, Debug, PartialEq, Eq)]
@@ -30,55 +23,33 @@ pub struct PlanReport {
 }
 
 /// How many robots of a plan end on their goals, if it names goals.
-fn goals_of<A: Allocator + Copy>(goals: &Option<Row<u32, A>>, last: &[u32]) -> Option<u32>
+fn goals_of(goals: Option<&[u32]>, last: &[u32]) -> Option<u32>
     requires { length last.now < 2 ^ 32 }
-    ensures { result ≡ option_map (λ goals. goals_reached goals last.now) goals.now }
+    ensures { result ≡ option_map (λ goals. goals_reached goals last.now) (goals_in goals.entry) }
 {
     match goals {
-        Some(goals) => Some(on_goals(goals.as_slice(), last) as u32),
+        Some(goals) => Some(on_goals(goals, last) as u32),
         None => None,
     }
 }
 
-/// The figures of a valid plan.
-fn report_of<A: Allocator + Copy, B: Allocator + Copy>(
-    alloc: A,
-    grid: &Grid<B>,
-    plan: &Plan<A>,
-) -> Result<PlanReport, AllocError>
-    requires size { HasSize plan.now.places }
-    requires valid { IsValidPlan grid.now plan.now.places }
-    ensures { IfOk result (λ report. IsReportOf plan.now.goals plan.now.places report) }
+/// The figures of a plan of this many steps, after which the robots are on the last cells, with their costs.
+pub(crate) fn report_of(
+    steps: usize,
+    goals: Option<&[u32]>,
+    last: &[u32],
+    costs: &[u32],
+) -> PlanReport
+    requires times { steps < 2 ^ 32 }
+    requires robots { length last.now < 2 ^ 32 }
+    requires each_one { length costs.now ≡ length last.now }
+    ensures { AreFigures steps (goals_in goals.entry) last.now costs.now result }
 {
-    let steps = plan.places.len() - 1;
-    let costs = costs_of(alloc, &plan.places)?;
-    Ok(PlanReport {
+    PlanReport {
         steps: steps as u32,
-        robots: plan.places.at(0).len() as u32,
-        sum_of_costs: sum_of_costs(&costs),
-        makespan: makespan(&costs),
-        on_goals: goals_of(&plan.goals, plan.places.at(steps)),
-    })
-}
-
-/// Judges a plan and reports its costs, as `judge_plan` and `costs_of` do.
-pub fn check_plan<A: Allocator + Copy, B: Allocator + Copy>(
-    alloc: A,
-    grid: &Grid<B>,
-    plan: &Plan<A>,
-) -> Result<PlanReport, PlanFault>
-    requires { HasSize plan.now.places }
-    ensures valid { OnOk result (IsValidPlan grid.now plan.now.places) }
-    ensures report { IfOk result (λ report. IsReportOf plan.now.goals plan.now.places report) }
-    ensures fault { IfErr result (λ f. IsPlanFault grid.now plan.now.places f.time f.fault) }
-    ensures lawful { IsValidPlan grid.now plan.now.places → IfErr result (λ f. f.fault ≡ StepFault.NoMemory) }
-{
-    judge_plan(alloc, grid, &plan.places)?;
-    match report_of(alloc, grid, plan) {
-        Ok(report) => Ok(report),
-        Err(_) => Err(PlanFault {
-            time: 0,
-            fault: StepFault::NoMemory,
-        }),
+        robots: last.len() as u32,
+        sum_of_costs: sum_of_costs(costs),
+        makespan: makespan(costs),
+        on_goals: goals_of(goals, last),
     }
 }

@@ -4,16 +4,17 @@ mod fault;
 mod paths;
 mod starts;
 
-ghost use Rattle.std.specs.Prelude.{◌≡◌, ◌≤◌, ◌<◌, ◌==◌, ◌||◌, ℕ, map, not, length, codes, IfOk, IfErr};
+ghost use Rattle.std.specs.Prelude.{◌≡◌, ◌≤◌, ◌<◌, ◌==◌, ◌||◌, ℕ, map, not, length, codes, [], None, IfOk, IfErr};
 ghost use Rattle.std.specs.List.{position};
 ghost use Rattle.serde_json.specs.Find.{get};
 ghost use Rattle.serde_json.specs.View.{view};
 ghost use Rattle.fleet_plans.specs.Runners.{is_mark, is_json, is_mapf, has_size, runners_of, IsToldAs, IsRunnersPlan, IsRunnersFault};
 ghost use Rattle.fleet_plans.specs.Shown.{texts};
 ghost use Rattle.fleet_plans.specs.Told.{IsToldFault};
-ghost use Rattle.fleet_plans.specs.Valid.{HasSize};
+ghost use Rattle.fleet_plans.specs.Judge.{HasJudged};
+ghost use Rattle.fleet_plans.specs.inside.Given.{IsGiven};
 
-use crate::plan::Plan;
+use crate::judge::PlanJudge;
 use crate::sides::Sides;
 use crate::walk::walk;
 pub use fault::{RunnersFault, RunnersKey};
@@ -21,7 +22,7 @@ use fleet_history::Row;
 use paths::read_paths;
 use serde_json::Value;
 use starts::read_starts;
-use std::alloc::{AllocError, Global};
+use std::alloc::{AllocError, Allocator, Global};
 
 /// Whether the byte is not white space of JSON.
 fn is_mark(byte: u8) -> bool
@@ -84,11 +85,16 @@ fn lent(alloc: Global, tracks: &[Row<u8>]) -> Result<Vec<&[u8]>, AllocError>
     Ok(lent)
 }
 
-/// The plan that a JSON value says.
-fn plan_of(alloc: Global, sides: Sides, value: &Value) -> Result<Plan, RunnersFault>
-    ensures found { IfOk result (λ plan. IsToldAs sides.width sides.height (runners_of sides.width sides.height (view value.now)) plan.goals plan.places) }
+/// Gives the judge the placements of the plan that a JSON value says.
+fn judge_value<B: Allocator + Copy>(
+    alloc: Global,
+    sides: Sides,
+    value: &Value,
+    judge: &mut PlanJudge<Global, B>,
+) -> Result<(), RunnersFault>
+    requires fresh { HasJudged judge.old.floor [] judge.old }
+    ensures read { IfOk result (λ _. IsGiven judge.old.floor (IsToldAs sides.width sides.height (runners_of sides.width sides.height (view value.now)) None) judge.new) }
     ensures fault { IfErr result (λ fault. IsToldFault fault (runners_of sides.width sides.height (view value.now))) }
-    ensures size { IfOk result (λ plan. HasSize plan.places) }
 {
     if !is_mapf(value) {
         return Err(RunnersFault::Key(RunnersKey::ActionModel));
@@ -99,24 +105,26 @@ fn plan_of(alloc: Global, sides: Sides, value: &Value) -> Result<Plan, RunnersFa
     }
     let tracks = read_paths(alloc, starts.len(), value)?;
     let lent = lent(alloc, &tracks)?;
-    let places = walk(alloc, sides, starts.as_slice(), &lent)?;
-    Ok(Plan {
-        goals: None,
-        places,
-    })
+    Ok(walk(alloc, sides, starts.as_slice(), &lent, judge)?)
 }
 
-/// Reads a plan in JSON, in the form of the League of Robot Runners, for robots that do not turn: `start` has each
-/// robot's row and column, and `actualPaths` its steps, as letters U, D, L, R, W separated by commas.
+/// Gives the judge the placements of a plan in JSON, in the form of the League of Robot Runners, for robots that do not
+/// turn: `start` has each robot's row and column, and `actualPaths` its steps, as letters U, D, L, R, W separated by
+/// commas. Such a plan names no goals.
 ///
 /// The fault is the first one, with the keys in the order of `RunnersKey`.
-pub fn read_runners(alloc: Global, sides: Sides, text: &[u8]) -> Result<Plan, RunnersFault>
-    ensures found { IfOk result (λ plan. IsRunnersPlan sides.width sides.height text.now plan.goals plan.places) }
+pub(crate) fn read_runners<B: Allocator + Copy>(
+    alloc: Global,
+    sides: Sides,
+    text: &[u8],
+    judge: &mut PlanJudge<Global, B>,
+) -> Result<(), RunnersFault>
+    requires fresh { HasJudged judge.old.floor [] judge.old }
+    ensures read { IfOk result (λ _. IsGiven judge.old.floor (IsRunnersPlan sides.width sides.height text.now None) judge.new) }
     ensures fault { IfErr result (λ fault. IsRunnersFault sides.width sides.height text.now fault) }
-    ensures size { IfOk result (λ plan. HasSize plan.places) }
 {
     match Value::from_slice(alloc, text) {
-        Ok(value) => plan_of(alloc, sides, &value),
+        Ok(value) => judge_value(alloc, sides, &value, judge),
         Err(error) => {
             if error.is_memory() {
                 Err(RunnersFault::NoMemory)

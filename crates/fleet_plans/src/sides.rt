@@ -8,9 +8,9 @@ pub(crate) const NO_CELL: u32 = u32::MAX;
 
 /// Height and width of a map.
 #[derive(Clone, Copy)]
-pub struct Sides {
-    pub width: u32,
-    pub height: u32,
+pub(crate) struct Sides {
+    pub(crate) width: u32,
+    pub(crate) height: u32,
     ghost few_columns: { width ≤ 1024 },
     ghost few_rows: { height ≤ 1024 },
 }

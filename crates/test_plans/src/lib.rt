@@ -6,4 +6,6 @@ mod conversions;
 #[cfg(test)]
 mod explanations;
 #[cfg(test)]
+mod judges;
+#[cfg(test)]
 mod verdicts;

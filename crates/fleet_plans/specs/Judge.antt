@@ -1,0 +1,42 @@
+-- What a judge of plans keeps of the placements that it was given.
+use Rattle.std.specs.Prelude.{◌≡◌, ◌≢◌, ℕ, ◌-◌, ◌<◌, List, length, Option, Some, None}
+use Rattle.fleet_grid.specs.Floor.{Floor}
+use Rattle.fleet_grid.specs.Step.{IsPlacement}
+use Rattle.fleet_check.specs.declared.fault.StepFault.TheVariants.{NoMemory}
+use Rattle.fleet_plans.specs.declared.judging.PlanFault.{PlanFault}
+use Rattle.fleet_plans.specs.Valid.{place_at, AreStepsFree, IsPlanFault}
+use Rattle.fleet_plans.specs.Costs.{AreCostsBy}
+
+pub record Judged : Type 0 where
+  -- the map
+  pub floor : Floor
+  -- the number of placements
+  pub count : ℕ
+  -- the last placement before a fault, and each robot's cost up to it
+  pub last : List ℕ
+  pub costs : List ℕ
+  -- the first fault
+  pub fault : Option PlanFault
+
+-- no placement is at fault, this is the last, and these are the costs
+pub record HasPassed (m : Floor) (places : List (List ℕ)) (last costs : List ℕ) : Type 0 where
+  pub starts : IsPlacement m (place_at places 0)
+  pub steps : AreStepsFree m places (length places - 1)
+  pub last_one : last ≡ place_at places (length places - 1)
+  pub costs_by : AreCostsBy places (length places - 1) costs
+
+-- this is the first fault
+pub record HasFailed (m : Floor) (places : List (List ℕ)) (f : PlanFault) : Type 0 where
+  pub inside : f.time < length places
+  pub first : IsPlanFault m places f.time f.fault
+  pub named : f.fault ≢ NoMemory
+
+abbrev pub IsSoFar : Floor → List (List ℕ) → List ℕ → List ℕ → Option PlanFault → Type 0
+IsSoFar m places last costs None = HasPassed m places last costs
+IsSoFar m places last costs (Some f) = HasFailed m places f
+
+-- the judge has been given exactly these placements, on this map
+pub record HasJudged (m : Floor) (places : List (List ℕ)) (judge : Judged) : Type 0 where
+  pub on : judge.floor ≡ m
+  pub count_is : judge.count ≡ length places
+  pub so_far : IsSoFar m places judge.last judge.costs judge.fault

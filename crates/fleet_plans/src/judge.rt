@@ -1,0 +1,192 @@
+//! A judge of plans that is given one placement after the other.
+
+ghost use Rattle.std.specs.Prelude.{◌≡◌, ◌≢◌, ◌≤◌, ◌<◌, ◌+◌, ◌++◌, ◌∷◌, ◌^◌, ℕ, List, [], length, slice_index, None, MatchOption, OnOk, IfOk, IfErr, IsOk, IsSome};
+ghost use Rattle.fleet_grid.specs.Floor.{Floor};
+ghost use Rattle.fleet_plans.specs.Valid.{IsValidPlan, IsPlanFault};
+ghost use Rattle.fleet_plans.specs.Report.{IsReportOf};
+ghost use Rattle.fleet_plans.specs.Costs.{IsNoted};
+ghost use Rattle.fleet_plans.specs.Judge.{HasJudged};
+ghost use Rattle.fleet_plans.specs.Shown.{goals_in};
+ghost use Rattle.fleet_check.specs.declared.fault.StepFault.TheVariants.{NoMemory};
+
+use crate::costs::{note_moves, zeros};
+use crate::judging::{PlanFault, first_fault, step_fault};
+use crate::report::{PlanReport, report_of};
+use fleet_grid::Grid;
+use std::alloc::{AllocError, Allocator, Global};
+use std::marker::Model;
+
+/// A judge of one plan. It is given the robots' cells at one time after the other, from time 0 on, and keeps only the
+/// last of these placements, each robot's cost, and the first fault. Contracts see what it keeps as a `Judged`, and
+/// `HasJudged m places judge` says that it was given exactly these placements on the map m.
+#[derive(Drop)]
+pub struct PlanJudge<'a, A: Allocator + Copy = Global, B: Allocator + Copy = Global> {
+    alloc: A,
+    grid: &'a Grid<B>,
+    /// For each cell, the robot that came to it last; empty if there was no memory for it.
+    seats: Vec<u32, A>,
+    count: usize,
+    last: Vec<u32, A>,
+    costs: Vec<u32, A>,
+    fault: Option<PlanFault>,
+}
+
+impl<'a, A: Allocator + Copy, B: Allocator + Copy> Model for PlanJudge<'a, A, B> {
+    ghost use Rattle.fleet_plans.specs.Judge.{Judged};
+    ghost use Rattle.fleet_plans.specs.inside.Kept.{IsKept};
+
+    ghost Value = { Judged };
+
+    ghost view = { λ j. record { floor = j.grid.now; count = j.count; last = j.last.items; costs = j.costs.items; fault = j.fault } };
+
+    ghost invariant = { λ j. IsKept j.grid.now j.count j.last.items j.costs.items };
+}
+
+/// A table with a robot for each cell; an empty one if memory runs out.
+fn seats_of<A: Allocator + Copy, B: Allocator + Copy>(alloc: A, grid: &Grid<B>) -> Vec<u32, A> {
+    match zeros(alloc, grid.cell_count() as usize) {
+        Ok(seats) => seats,
+        Err(AllocError) => Vec::new(alloc),
+    }
+}
+
+/// Writes the placement over the last one, and this time at the robots that moved to it.
+fn step<A: Allocator + Copy>(
+    last: &mut Vec<u32, A>,
+    costs: &mut Vec<u32, A>,
+    place: &[u32],
+    time: u32,
+)
+    requires same_length { length place.now ≡ length last.old.items }
+    requires each_one { length costs.old.items ≡ length last.old.items }
+    ensures last { last.new.items ≡ place.now }
+    ensures count { length costs.new.items ≡ length costs.old.items }
+    ensures costs { (r : ℕ) → r < length costs.old.items → IsNoted last.old.items place.now time r (slice_index costs.old.items r) (slice_index costs.new.items r) }
+{
+    note_moves(costs.as_mut_slice(), last.as_slice(), place, time);
+    last.as_mut_slice().copy_from_slice(place);
+}
+
+impl<'a, A: Allocator + Copy, B: Allocator + Copy> PlanJudge<'a, A, B> {
+    /// A judge that was given no placement yet. It takes memory for a table with a number for each cell of the map; if
+    /// there is not enough, it judges without the table, and each step takes longer.
+    pub fn new(alloc: A, grid: &'a Grid<B>) -> PlanJudge<'a, A, B>
+        ensures { HasJudged grid.now [] result }
+    {
+        PlanJudge {
+            alloc,
+            grid,
+            seats: seats_of(alloc, grid),
+            count: 0,
+            last: Vec::new(alloc),
+            costs: Vec::new(alloc),
+            fault: None,
+        }
+    }
+
+    /// Takes the robots' cells at the next time; item r is the cell of robot r. After the first fault placements are
+    /// counted and not looked at.
+    ///
+    /// An error means that memory ran out. Then the judge has not taken the placement, and nothing changes.
+    pub fn take(&mut self, place: &[u32]) -> Result<(), AllocError>
+        requires times { self.old.count < 2 ^ 32 }
+        requires robots { length place.now < 2 ^ 32 }
+        ensures taken { (m : Floor) (places : List (List ℕ)) → HasJudged m places self.old → OnOk result (HasJudged m (places ++ place.now ∷ []) self.new) }
+        ensures counted { OnOk result (self.new.count ≡ self.old.count + 1) }
+        ensures kept { IfErr result (λ _. self.new ≡ self.old) }
+        // After the first fault no memory is asked for.
+        ensures faulty { IsSome self.old.fault → IsOk result }
+    {
+        if self.fault.is_some() {
+            self.count += 1;
+            return Ok(());
+        }
+        if self.count == 0 {
+            self.take_first(place)
+        } else {
+            self.take_next(place)
+        }
+    }
+
+    /// Takes the first placement.
+    fn take_first(&mut self, place: &[u32]) -> Result<(), AllocError>
+        requires first { self.old.count ≡ 0 }
+        requires faultless { self.old.fault ≡ None }
+        requires robots { length place.now < 2 ^ 32 }
+        ensures taken { (m : Floor) (places : List (List ℕ)) → HasJudged m places self.old → OnOk result (HasJudged m (places ++ place.now ∷ []) self.new) }
+        ensures counted { OnOk result (self.new.count ≡ self.old.count + 1) }
+        ensures kept { IfErr result (λ _. self.new ≡ self.old) }
+    {
+        match first_fault(self.alloc, self.grid, place)? {
+            Some(fault) => self.fault = Some(PlanFault { time: 0, fault }),
+            None => {
+                let last = Vec::from_slice(self.alloc, place)?;
+                self.costs = zeros(self.alloc, place.len())?;
+                self.last = last;
+            }
+        }
+        self.count = 1;
+        Ok(())
+    }
+
+    /// Takes a placement after the first.
+    fn take_next(&mut self, place: &[u32]) -> Result<(), AllocError>
+        requires later { 1 ≤ self.old.count }
+        requires times { self.old.count < 2 ^ 32 }
+        requires faultless { self.old.fault ≡ None }
+        ensures taken { (m : Floor) (places : List (List ℕ)) → HasJudged m places self.old → OnOk result (HasJudged m (places ++ place.now ∷ []) self.new) }
+        ensures counted { OnOk result (self.new.count ≡ self.old.count + 1) }
+        ensures kept { IfErr result (λ _. self.new ≡ self.old) }
+    {
+        let time = self.count as u32;
+        if let Some(fault) = step_fault(
+            self.alloc,
+            self.grid,
+            &mut self.seats,
+            &self.last,
+            place,
+        )? {
+            self.fault = Some(PlanFault { time, fault });
+            self.count += 1;
+            return Ok(());
+        }
+        step(&mut self.last, &mut self.costs, place, time);
+        self.count += 1;
+        Ok(())
+    }
+
+    /// The number of placements taken.
+    pub fn count(&self) -> usize
+        ensures { result ≡ self.now.count }
+    {
+        self.count
+    }
+
+    /// The first fault of the placements taken; `None` if they are a valid plan.
+    pub fn fault(&self) -> Option<PlanFault>
+        ensures { (m : Floor) (places : List (List ℕ)) → HasJudged m places self.now → MatchOption result (IsValidPlan m places) (λ f. IsPlanFault m places f.time f.fault) }
+    {
+        self.fault
+    }
+
+    /// The report on the plan of all placements taken, with the number of robots that end on these goals; or the first
+    /// placement at fault. Without goals it says nothing of them.
+    pub fn verdict(&self, goals: Option<&[u32]>) -> Result<PlanReport, PlanFault>
+        requires { 1 ≤ self.now.count }
+        ensures valid { (m : Floor) (places : List (List ℕ)) → HasJudged m places self.now → OnOk result (IsValidPlan m places) }
+        ensures report { (m : Floor) (places : List (List ℕ)) → HasJudged m places self.now → IfOk result (λ report. IsReportOf (goals_in goals.entry) places report) }
+        ensures fault { (m : Floor) (places : List (List ℕ)) → HasJudged m places self.now → IfErr result (λ f. IsPlanFault m places f.time f.fault) }
+        ensures lawful { (m : Floor) (places : List (List ℕ)) → HasJudged m places self.now → IsValidPlan m places → IsOk result }
+        ensures named { (m : Floor) (places : List (List ℕ)) → HasJudged m places self.now → IfErr result (λ f. f.fault ≢ NoMemory) }
+    {
+        match self.fault {
+            Some(fault) => Err(fault),
+            None => Ok(report_of(
+                self.count - 1,
+                goals,
+                self.last.as_slice(),
+                self.costs.as_slice(),
+            )),
+        }
+    }
+}
