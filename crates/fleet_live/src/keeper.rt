@@ -8,7 +8,6 @@ use fleet_core::ChapterFault;
 use fleet_office::{Office, OfficeName, TurnCause};
 use fleet_talk::Shelf;
 use std::alloc::{Alloc, AllocError, Global};
-use std::mem;
 use std::sync::Wait;
 
 /// How many chapters one turn may need at most: each has room for an order of each client.
@@ -83,10 +82,7 @@ impl<N: OfficeName<Global>, S: Shelf> Keeper<'_, N, S> {
             Ok(None) => Ok(true),
             Ok(Some(page)) => match work.pages.push(page) {
                 Ok(()) => Ok(true),
-                Err(refused) => {
-                    mem::drop(refused);
-                    Err(Stop::NoMemory)
-                }
+                Err(AllocError) => Err(Stop::NoMemory),
             },
             Err(ChapterFault::BookSpent) => Ok(false),
             Err(ChapterFault::NoMemory) => Err(Stop::NoMemory),

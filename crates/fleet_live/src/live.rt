@@ -112,7 +112,9 @@ fn end_fleet<N: OfficeName<Global>, R: Alloc<A = Global> + Clock + Threads + Wai
     rt: &R,
     office: Office<N>,
     left: Left<N, S>,
-) -> Result<bool, TalkFault> {
+) -> Result<bool, TalkFault>
+    ensures opened { IfErr result IsEnded }
+{
     let Left {
         stage,
         tickers,
@@ -130,7 +132,8 @@ fn end_fleet<N: OfficeName<Global>, R: Alloc<A = Global> + Clock + Threads + Wai
         shelf,
     } = stage;
     let limited = round.into_inner().limited;
-    let finished = finish(rt, office, &conversations, tickers, shelf.into_inner());
+    let mut shelf = shelf.into_inner();
+    let finished = finish(rt, office, &conversations, tickers, &mut shelf);
     counts.end(rt);
     wait_for_readers(rt, &conversations, writer);
     match (stop, finished) {
