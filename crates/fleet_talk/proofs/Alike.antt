@@ -1,24 +1,20 @@
 -- A script in form, held as a conversation, is a run of it.
-use Rattle.std.proofs.Common.{◌≡◌, ◌∙◌, ℕ, Bool, true, false, List, [], ◌∷◌, ◌++◌, length, map, Option, Some, None, Ok, IfSome, is_some, unwrap_or, refl, sym, ap, subst}
-use Rattle.std.specs.Prelude.{if◌then◌else◌}
+use Rattle.std.proofs.Common.{◌≡◌, ◌∙◌, ℕ, true, false, List, [], ◌++◌, map, Option, Some, None, Ok, IfSome, is_some, unwrap_or, refl, sym, ap, subst}
 use Rattle.std.specs.declared.alloc.Global.{Global}
 use Rattle.std.proofs.lemmas.Option.{same_Some}
 use Rattle.fleet_grid.specs.Floor.{Floor}
-use Rattle.fleet_book.specs.declared.event.Event.{Event}
 use Rattle.fleet_book.specs.declared.limits.Limits.{Limits}
 use Rattle.fleet_core.specs.Hooks.{HookLaws}
-use Rattle.fleet_script.specs.declared.head.GivenLimits.{GivenLimits}
-use Rattle.fleet_script.specs.Script.{Draft, Plan, blank_draft, limits_of, limits_over, script_of}
+use Rattle.fleet_script.specs.Script.{Draft, Plan, blank_draft, limits_of, script_of}
 use Rattle.fleet_world.specs.declared.reply.Reply.{Reply}
 use Rattle.fleet_world.specs.Run.{State, Run, opened_state}
-use Rattle.errands_answer.specs.Kit.{KitLaws, cut_laws, chosen_laws}
+use Rattle.errands_answer.specs.Kit.{KitLaws, chosen_laws}
 use Rattle.errands_text.specs.Output.{run_text}
 use Rattle.fleet_session.specs.Talk.{Talk}
-use Rattle.fleet_talk.specs.declared.ground.TheConstants.{TALK_LIMITS}
-use Rattle.fleet_talk.specs.Act.{Act, play, acts_from}
+use Rattle.fleet_talk.specs.Act.{Act, play}
 use Rattle.fleet_talk.specs.Acts.{Talks}
 use Rattle.fleet_talk.specs.Chapters.{ChapterView}
-use Rattle.fleet_talk.specs.Conversation.{Terms, IsConversation, unopened, talked, MayOpen, NamesLimits, plain_terms, head_in, opened as opened_fleet, acts_of, clients_in, limits_in, laws_in}
+use Rattle.fleet_talk.specs.Conversation.{IsConversation, unopened, talked, MayOpen, NamesLimits, plain_terms, head_in, opened as opened_fleet, acts_of, clients_in, limits_in, laws_in}
 use Rattle.fleet_talk.specs.Heard.{AreShort, Head, Opening, all_of, heard_lines}
 use Rattle.fleet_talk.proofs.Runs.{said-run}
 use Rattle.fleet_talk.proofs.Scripts.{IsOf, Heads, unopened as silent, opened, heard_script}

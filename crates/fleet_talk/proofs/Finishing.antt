@@ -1,5 +1,5 @@
 -- A conversation as a whole, from its parts.
-use Rattle.std.proofs.Common.{◌≡◌, ◌∙◌, ℕ, ◌+◌, Bool, zero, suc, ◌≤◌, List, [], ◌∷◌, ◌++◌, length, take, take_all, Option, Some, None, Result, Ok, Err, IfSome, refl, sym, ap, subst, arith, append-nil}
+use Rattle.std.proofs.Common.{◌≡◌, ◌∙◌, ℕ, Bool, zero, suc, List, [], ◌∷◌, ◌++◌, length, take, take_all, Option, Some, None, Result, Ok, Err, IfSome, refl, sym, ap, subst, arith, append-nil}
 use Rattle.std.specs.Prelude.{OnOk, IfErr}
 use Rattle.std.specs.declared.alloc.Global.{Global}
 use Rattle.std.specs.Io.KnownBytes.{Appends}
@@ -18,7 +18,7 @@ use Rattle.fleet_talk.specs.declared.fault.TalkFault.TheVariants.{Input, Output,
 use Rattle.fleet_talk.specs.Act.{acts_from}
 use Rattle.fleet_talk.specs.Acts.{Talks}
 use Rattle.fleet_talk.specs.Broken.{IsMidway, SaysUntil}
-use Rattle.fleet_talk.specs.Chapters.{Adds, AreChapters, ChapterView, KeepsAll, KeepsLast, KeepsTurned}
+use Rattle.fleet_talk.specs.Chapters.{Adds, ChapterView, KeepsAll, KeepsLast, KeepsTurned}
 use Rattle.fleet_talk.specs.Conversation.{Terms, Shelved, IsConversation, unopened, talked, IsBegun, in_head, in_talk, IsRefusedHead, MayOpen, ComesTo, head_in, opened, acts_of, clients_in, limits_in, laws_in}
 use Rattle.fleet_talk.specs.Ending.{Keeps, IsSame, Finishes, written, unwritten}
 use Rattle.fleet_talk.specs.Heard.{Opening, Head, all_of, heard_lines}

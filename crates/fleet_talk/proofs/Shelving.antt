@@ -1,6 +1,6 @@
 -- Chapters that are handed out and kept.
 use Rattle.std.proofs.Common.{◌≡◌, ◌∙◌, ℕ, List, [], ◌∷◌, ◌++◌, Option, Some, None, refl, sym, ap, subst, append_assoc, append-nil}
-use Rattle.std.specs.Prelude.{Result, Ok, Err, OnOk, OnErr}
+use Rattle.std.specs.Prelude.{Result, OnOk}
 use Rattle.std.proofs.lemmas.Result.{on_ok_weaker}
 use Rattle.fleet_grid.specs.Floor.{Floor, IsNeighbour}
 use Rattle.fleet_grid.specs.Walk.{IsBridgeless}
@@ -17,7 +17,7 @@ use Rattle.fleet_core.specs.Core.{World}
 use Rattle.fleet_world.specs.declared.reply.Reply.{Reply}
 use Rattle.fleet_world.specs.declared.reply.Reply.TheVariants.{Posted, LaneFull, Took, LaneEmpty, TakeRefused, Ticked, TickRefused, Gave, NothingPending, OutletFull, Collected, NothingThere, ShutDone, ShutRefused, NoClient}
 use Rattle.fleet_session.specs.Talk.{Talk, TalkStep, next_talk}
-use Rattle.fleet_talk.specs.Chapters.{ChapterView, chapter_in, IsSound, Beginning, beginning, next_beginning, IsFrom, AreTurned, Adds, KeepsAll, KeepsLast, KeepsTurned}
+use Rattle.fleet_talk.specs.Chapters.{ChapterView, chapter_in, IsSound, Beginning, beginning, next_beginning, AreTurned, Adds, KeepsAll, KeepsLast, KeepsTurned}
 
 -- ---- lists that may be known
 
@@ -68,9 +68,9 @@ module _ {A : Type 0} where
       → IsLegal t.world.floor t.world.history → (IsBridgeless (IsNeighbour t.world.floor) → EachTick (IsAdvancingTick t.world.floor) t.world.history)
       → OnOk r (Adds a b (record { number = n; history = h } ∷ [])) → OnOk r (KeepsLast a b t)
   keeps-last r a b t n h number history legal advancing = on_ok_weaker r (λ added. (
-      record { legal = legal; advancing = advancing },
-      subst (λ (c : ChapterView A). Adds a b (c ∷ [])) (rw (number, history) refl) added,
-    ))
+    record { legal = legal; advancing = advancing },
+    subst (λ (c : ChapterView A). Adds a b (c ∷ [])) (rw (number, history) refl) added,
+  ))
 
   -- ---- events
 

@@ -1,5 +1,5 @@
 -- What a conversation came to, and its last write.
-use Rattle.std.proofs.Common.{[], ◌≡◌, List, ℕ, IfSome, subst}
+use Rattle.std.proofs.Common.{List, ℕ, IfSome, subst}
 use Rattle.std.specs.Io.Buffered.{reader_remaining}
 use Rattle.errands_answer.specs.Kit.{kit_laws}
 use Rattle.fleet_talk.specs.declared.ends.Settings.{Settings}

@@ -1,5 +1,5 @@
 -- A line of an open fleet, and where the conversation ends.
-use Rattle.std.proofs.Common.{◌≡◌, ◌∙◌, ◌∷◌, ℕ, List, Option, IfSome, refl, sym, ap, subst}
+use Rattle.std.proofs.Common.{◌∙◌, ◌∷◌, ℕ, List, Option, IfSome, refl, sym, ap, subst}
 use Rattle.std.specs.Io.Buffered.{reader_remaining}
 use Rattle.std.specs.declared.alloc.Global.{Global}
 use Rattle.fleet_session.specs.Keeps.{talk}
@@ -11,7 +11,7 @@ use Rattle.fleet_talk.specs.Ask.{line_in}
 use Rattle.fleet_talk.specs.Chapters.{ChapterView, KeepsTurned}
 use Rattle.fleet_talk.specs.Heard.{heard_lines, IsNext}
 use Rattle.fleet_talk.specs.Lines.{line_shown}
-use Rattle.fleet_talk.specs.Talked.{Goes, TalksUntil}
+use Rattle.fleet_talk.specs.Talked.{TalksUntil}
 use Rattle.fleet_talk.proofs.Onward.{goes-none, goes-fault, goes-over, goes-broken, goes-unwritten, goes-unread, goes-end, goes-more}
 use Rattle.fleet_talk.proofs.Saying.{at-fault}
 use Rattle.fleet_talk.proofs.Shelving.{keeps-same, keeps-then}
