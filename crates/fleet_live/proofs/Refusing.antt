@@ -1,10 +1,9 @@
 -- Why a fleet in real time was not opened.
-use Rattle.std.proofs.Common.{◌≡◌, ◌↔◌, ◌⊎◌, inl, inr, ℕ, Bool, List, Result, Ok, Err, refl, sym, ap, subst}
+use Rattle.std.proofs.Common.{◌≡◌, ◌↔◌, ℕ, Bool, List, Result, Ok, Err, ap, subst}
 use Rattle.std.specs.Prelude.{IfErr}
 use Rattle.fleet_book.specs.declared.limits.Limits.{Limits}
 use Rattle.fleet_grid.specs.Floor.{Floor}
 use Rattle.fleet_core.specs.Hooks.{HookLaws}
-use Rattle.fleet_core.specs.Opening.{AreInRange}
 use Rattle.fleet_core.specs.OpeningFaults.{IsNamed, IsRefused}
 use Rattle.fleet_core.specs.declared.faults.OpenFault.{OpenFault}
 use Rattle.fleet_core.specs.declared.faults.OpenFault.TheVariants as why
@@ -39,17 +38,15 @@ pub opened-by : {X : Type 0} (x : X) (named : OpenFault) (result : Result Bool T
 opened-by x named (Ok b) R ended refused = (λ e. absurd (never b (Opening named) e), λ r. absurd (never x named (refused.1 r)))
 opened-by x named (Err f) R ended refused = (λ e. absurd (subst IsEnded (same_err f (Opening named) e) ended), λ r. absurd (never x named (refused.1 r)))
 
--- the limits were refused
-pub limits-only : {X : Type 0} (m : Floor) (starts : List ℕ) (clients : ℕ) (limits : Limits) (laws : HookLaws) (named : OpenFault) → (AreInRange clients limits → ⊥) → err {X = X} (Opening why.Limits) ≡ err (Opening named)
-    → IsRefused m starts clients limits laws named
-limits-only {X} m starts clients limits laws named out e =
-    subst (IsRefused m starts clients limits laws) (same_why why.Limits named (same_err {X = X} (Opening why.Limits) (Opening named) e)) out
+-- what is refused is refused for a reason other than out of memory
+pub named-of : (m : Floor) (starts : List ℕ) (clients : ℕ) (limits : Limits) (laws : HookLaws) (named : OpenFault) → IsRefused m starts clients limits laws named → IsNamed named
+named-of m starts clients limits laws why.Limits r = tt
+named-of m starts clients limits laws why.NoRobots r = tt
+named-of m starts clients limits laws (why.Start q) r = tt
+named-of m starts clients limits laws (why.Shared q u) r = tt
+named-of m starts clients limits laws why.Hooks r = tt
+named-of m starts clients limits laws why.NoMemory r = absurd r
 
-pub limits-first : {X : Type 0} (m : Floor) (starts : List ℕ) (clients : ℕ) (limits : Limits) (laws : HookLaws) (named : OpenFault) → (AreInRange clients limits → ⊥) → IsRefused m starts clients limits laws named
-    → err {X = X} (Opening why.Limits) ≡ err (Opening named)
-limits-first m starts clients limits laws why.Limits out r = refl
-limits-first m starts clients limits laws why.NoRobots out r = absurd (out r.0)
-limits-first m starts clients limits laws (why.Start q) out r = absurd (out r.0)
-limits-first m starts clients limits laws (why.Shared q u) out r = absurd (out r.0)
-limits-first m starts clients limits laws why.Hooks out r = absurd (out r.0)
-limits-first m starts clients limits laws why.NoMemory out r = absurd r
+-- the same of an equal map, in equal terms
+pub in-ground : (P : Floor → List ℕ → ℕ → Limits → HookLaws → Type 0) (m o : Floor) (s t : List ℕ) (c d : ℕ) (l k : Limits) (h i : HookLaws) → m ≡ o → s ≡ t → c ≡ d → l ≡ k → h ≡ i → P m s c l h → P o t d k i
+in-ground P m o s t c d l k h i a b e f q p = rw (← a, ← b, ← e, ← f, ← q) p

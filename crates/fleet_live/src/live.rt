@@ -1,8 +1,12 @@
 //! A fleet in real time, as a whole.
 
-ghost use Rattle.std.specs.Prelude.{◌≡◌, ◌≤◌, ◌↔◌, IfErr, vec_len};
-ghost use Rattle.fleet_core.specs.OpeningFaults.{IsNamed as IsNamedFault};
+ghost use Rattle.std.specs.Prelude.{◌≡◌, ◌≤◌, ◌↔◌, ◌⊎◌, ℕ, List, Err, IfErr, Some, length, vec_len};
+ghost use Rattle.errands_answer.specs.Kit.{kit_laws};
+ghost use Rattle.fleet_core.specs.Hooks.{laws_of};
+ghost use Rattle.fleet_core.specs.OpeningFaults.{IsNamed as IsNamedFault, IsRefused};
 ghost use Rattle.fleet_office.specs.Views.{IsNamed};
+ghost use Rattle.fleet_talk.specs.Conversation.{clients_in, laws_in, limits_in};
+ghost use Rattle.fleet_talk.specs.Heading.{drafted};
 ghost use Rattle.fleet_live.specs.Ended.{IsEnded, ended_by, unopened};
 
 use crate::bell::Stop;
@@ -53,7 +57,11 @@ impl Opening {
     /// These parts.
     fn of(desk: Desk, limits: Limits, grid: Grid, starts: Vec<u32>, hooks: Hooks) -> Opening
         requires { 0 ≤ vec_len hooks.ties }
-        ensures { result ≡ record { desk = desk; limits = limits; grid = grid; starts = starts; hooks = hooks } }
+        ensures desk { result.desk ≡ desk }
+        ensures limits { result.limits ≡ limits }
+        ensures grid { result.grid ≡ grid }
+        ensures starts { result.starts.items ≡ starts.items }
+        ensures hooks { laws_of result.hooks ≡ laws_of hooks }
     {
         Opening {
             desk,
@@ -159,6 +167,8 @@ fn keep_fleet<
     ends: LiveEnds<I, W, P, Q, E, S>,
 ) -> Result<bool, TalkFault>
     requires { IsNamed opening.desk N.name N.parts N.rings }
+    ensures refused { (why : OpenFault) → IsNamedFault why →
+        ((result ≡ Err (TalkFault.Opening why)) ↔ IsRefused opening.grid opening.starts.items (length opening.desk.clients) opening.desk.limits (laws_of opening.hooks) why) }
 {
     let site = opening.site(settings);
     let Opening {
@@ -200,6 +210,13 @@ pub fn keep_live<
 ) -> Result<bool, TalkFault>
     // Of each call: only a call with a condition may hand on closures.
     requires { 0 ≤ vec_len ground.kit.plain.ties }
+    // The fleet is refused for this reason.
+    ensures refused { (starts : List ℕ) → (drafted ground.head).starts ≡ Some starts → (why : OpenFault) → IsNamedFault why → result ≡ Err (TalkFault.Opening why) →
+        IsRefused ground.grid starts (clients_in (drafted ground.head)) (limits_in (drafted ground.head)) (laws_in (kit_laws ground.kit) (drafted ground.head) starts) why }
+    // A reason that stands is returned, unless memory ran out.
+    ensures named { (starts : List ℕ) → (drafted ground.head).starts ≡ Some starts → (why : OpenFault) →
+        IsRefused ground.grid starts (clients_in (drafted ground.head)) (limits_in (drafted ground.head)) (laws_in (kit_laws ground.kit) (drafted ground.head) starts) why →
+        (result ≡ Err (TalkFault.Opening why)) ⊎ (result ≡ Err TalkFault.NoMemory) }
 {
     let alloc = rt.alloc();
     let Ground { grid, kit, head } = ground;
@@ -211,9 +228,13 @@ pub fn keep_live<
             let opening = Opening::of(desk, limits, grid, starts, hooks);
             keep_fleet::<Brand, R, I, W, P, Q, E, S>(rt, opening, settings, ends)
         }
-        Err(fault) => {
+        Err(OpenFault::Limits) => {
             mem::drop(hooks);
-            Err(unopened(fault))
+            Err(TalkFault::Opening(OpenFault::Limits))
+        }
+        Err(_) => {
+            mem::drop(hooks);
+            Err(TalkFault::NoMemory)
         }
     }
 }
