@@ -8,7 +8,7 @@ use Rattle.fleet_core.specs.OpeningFaults.{IsNamed, IsRefused}
 use Rattle.fleet_core.specs.declared.faults.OpenFault.{OpenFault}
 use Rattle.fleet_core.specs.declared.faults.OpenFault.TheVariants as why
 use Rattle.fleet_talk.specs.declared.fault.TalkFault.{TalkFault}
-use Rattle.fleet_talk.specs.declared.fault.TalkFault.TheVariants.{Opening, NoMemory}
+use Rattle.fleet_talk.specs.declared.fault.TalkFault.TheVariants.{Opening}
 use Rattle.fleet_live.specs.Ended.{IsEnded}
 
 abbrev err : {X E : Type 0} → E → Result X E

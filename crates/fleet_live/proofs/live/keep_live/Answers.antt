@@ -1,5 +1,5 @@
 -- The office was opened, or it was refused for the first reason that the head has.
-use Rattle.std.proofs.Common.{◌≡◌, ◌∙◌, ◌↔◌, Bool, List, Err, inl, length, ap}
+use Rattle.std.proofs.Common.{◌≡◌, ◌∙◌, ◌↔◌, Bool, Err, inl, length, ap}
 use Rattle.std.specs.Prelude.{if◌then◌else◌}
 use Rattle.std.specs.declared.alloc.Global.{Global}
 use Rattle.fleet_core.specs.Hooks.{laws_of}

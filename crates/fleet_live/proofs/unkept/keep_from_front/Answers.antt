@@ -1,5 +1,5 @@
 -- The first chapter was kept, and is removed.
-use Rattle.std.proofs.Common.{rules, ◌≡◌, ◌∙◌, ◌<◌, ◌∷◌, length, map, ap, sym}
+use Rattle.std.proofs.Common.{rules, ◌∙◌, ◌<◌, ◌∷◌, length, map, ap, sym}
 use Rattle.fleet_talk.specs.Chapters.{chapter_shown}
 use Rattle.fleet_live.specs.Kept.{IsKeepable}
 use Rattle.fleet_live.proofs.Keeping.{all-left, first-is, keeps-next}
