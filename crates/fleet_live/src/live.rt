@@ -5,9 +5,8 @@ ghost use Rattle.errands_answer.specs.Kit.{kit_laws};
 ghost use Rattle.fleet_core.specs.Hooks.{laws_of};
 ghost use Rattle.fleet_core.specs.OpeningFaults.{IsNamed as IsNamedFault, IsRefused};
 ghost use Rattle.fleet_office.specs.Views.{IsNamed};
-ghost use Rattle.fleet_talk.specs.Conversation.{clients_in, laws_in, limits_in};
 ghost use Rattle.fleet_talk.specs.Heading.{drafted};
-ghost use Rattle.fleet_live.specs.Ended.{IsEnded, ended_by, unopened};
+ghost use Rattle.fleet_live.specs.Ended.{IsEnded, IsRefusedHead, ended_by, unopened};
 
 use crate::bell::Stop;
 use crate::conversation::Conversation;
@@ -194,6 +193,8 @@ fn keep_fleet<
 /// Keeps a fleet in real time: opens an office with the head's robots and clients, lets each conversation post, look and be told in
 /// threads of its own, and makes turns at their deadlines, or where a line asks for them. It ends where the first conversation does.
 /// Each chapter goes to the shelf when it is handed out, and the last at the end. Returns whether a limit was met.
+///
+/// If the fleet cannot be opened, the fault is `Opening` with the first reason that stands, or `NoMemory`.
 pub fn keep_live<
     R: Alloc<A = Global> + Clock + Threads + Sync + Wait + Copy + Send + Drop + 'static,
     I: Read + Send + Drop + 'static,
@@ -210,20 +211,16 @@ pub fn keep_live<
 ) -> Result<bool, TalkFault>
     // Of each call: only a call with a condition may hand on closures.
     requires { 0 ≤ vec_len ground.kit.plain.ties }
-    // The fleet is refused for this reason.
-    ensures refused { (starts : List ℕ) → (drafted ground.head).starts ≡ Some starts → (why : OpenFault) → IsNamedFault why → result ≡ Err (TalkFault.Opening why) →
-        IsRefused ground.grid starts (clients_in (drafted ground.head)) (limits_in (drafted ground.head)) (laws_in (kit_laws ground.kit) (drafted ground.head) starts) why }
-    // A reason that stands is returned, unless memory ran out.
+    ensures refused { (starts : List ℕ) → (drafted ground.head).starts ≡ Some starts → (why : OpenFault) → IsNamedFault why →
+        result ≡ Err (TalkFault.Opening why) → IsRefusedHead (kit_laws ground.kit) ground.grid (drafted ground.head) starts why }
     ensures named { (starts : List ℕ) → (drafted ground.head).starts ≡ Some starts → (why : OpenFault) →
-        IsRefused ground.grid starts (clients_in (drafted ground.head)) (limits_in (drafted ground.head)) (laws_in (kit_laws ground.kit) (drafted ground.head) starts) why →
-        (result ≡ Err (TalkFault.Opening why)) ⊎ (result ≡ Err TalkFault.NoMemory) }
+        IsRefusedHead (kit_laws ground.kit) ground.grid (drafted ground.head) starts why → (result ≡ Err (TalkFault.Opening why)) ⊎ (result ≡ Err TalkFault.NoMemory) }
 {
-    let alloc = rt.alloc();
     let Ground { grid, kit, head } = ground;
-    let starts = head.starts.unwrap_or(Vec::new(alloc));
+    let starts = head.starts.unwrap_or(Vec::new(rt.alloc()));
     let hooks = kit.choose(head.south.unwrap_or(false)).cut(starts.len());
     let limits = head.limits.limits_over(TALK_LIMITS);
-    match Desk::new(alloc, head.clients.unwrap_or(1), limits) {
+    match Desk::new(rt.alloc(), head.clients.unwrap_or(1), limits) {
         Ok(desk) => {
             let opening = Opening::of(desk, limits, grid, starts, hooks);
             keep_fleet::<Brand, R, I, W, P, Q, E, S>(rt, opening, settings, ends)
