@@ -1,8 +1,9 @@
 -- The chapters of a fleet in real time, as a shelf keeps them.
-use Rattle.std.specs.Prelude.{◌≡◌, List, [], ◌∷◌, ◌++◌, Option, length}
+use Rattle.std.specs.Prelude.{◌≡◌, ◌<◌, ℕ, List, [], ◌∷◌, ◌++◌, Option, length}
 use Rattle.std.specs.List.{AllByRecursion}
 use Rattle.fleet_grid.specs.Floor.{Floor}
 use Rattle.fleet_lanes.specs.Names.{LaneName}
+use Rattle.fleet_office.specs.Chapters.{IsChapterOf}
 use Rattle.fleet_office.specs.Concluded.{IsLast}
 use Rattle.fleet_office.specs.Hall.{HallView, IsLawful}
 use Rattle.fleet_office.specs.Views.{ClientCore}
@@ -20,6 +21,11 @@ pub record KeepsFirst {X : Type 0} (all left : List X) (before after : Option (L
   pub kept : List X
   pub parts : all ≡ kept ++ left
   pub added : Adds before after kept
+
+-- the chapter of an office of these rings was handed out and waits after the others; or it had fewer entries than these
+pub data IsTurned {A : Type 0} (rings : List (LaneName A)) (least : ℕ) (before after : List (ChapterView A)) : Type 0 where
+  handed : (hall : HallView A) (c : ChapterView A) → IsChapterOf rings hall c.number c.history → after ≡ before ++ c ∷ [] → IsTurned rings least before after
+  early : (hall : HallView A) → IsLawful rings hall.world hall.ends hall.total → length hall.world.history.entries < least → after ≡ before → IsTurned rings least before after
 
 -- some sound chapters were kept
 abbrev pub KeepsSome : {A : Type 0} → Option (List (ChapterView A)) → Option (List (ChapterView A)) → Type 0

@@ -1,5 +1,8 @@
 //! The keeper: the ticker that makes turns and tells clients what became of their orders.
 
+ghost use Rattle.std.specs.Prelude.{◌≡◌, Ok, true};
+ghost use Rattle.fleet_live.specs.Kept.{IsTurned};
+
 use crate::bell::{Call, Stop};
 use crate::conversation::Conversation;
 use crate::said::tick_text;
@@ -76,7 +79,9 @@ impl<N: OfficeName<Global>, S: Shelf> Keeper<'_, N, S> {
     }
 
     /// Hands out the chapter where it is full, and returns whether there is room for an entry now.
-    pub(crate) fn turn_page<R: Wait>(&self, rt: &R, work: &mut Work<N>) -> Result<bool, Stop> {
+    pub(crate) fn turn_page<R: Wait>(&self, rt: &R, work: &mut Work<N>) -> Result<bool, Stop>
+        ensures { result ≡ Ok true → IsTurned N.rings self.now.stage.now.chapter work.old.pages work.new.pages }
+    {
         match self.office.turn_page(rt, self.stage.chapter) {
             // The other ticker handed it out.
             Ok(None) => Ok(true),
