@@ -1,5 +1,7 @@
 //! The folder of chapters.
 
+ghost use Rattle.std.specs.Prelude.{None};
+
 use fleet_lib::{Chapter, Shelf, ShelfFault, trace_line, write_whole};
 use std::alloc::{Alloc, Global};
 use std::fs::{self, File, Files};
@@ -35,6 +37,8 @@ fn write_beside<R: Files + Alloc<A = Global>>(
 }
 
 impl<R: Files + Alloc<A = Global>> Shelf for TraceFolder<'_, R> {
+    ghost kept = { λ _. None };
+
     fn keep(&mut self, chapter: &Chapter) -> Result<(), ShelfFault> {
         let Some(folder) = self.name else {
             return Ok(());

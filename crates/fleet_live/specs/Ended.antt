@@ -1,11 +1,20 @@
 -- How a fleet in real time is opened, and how it ends.
-use Rattle.std.specs.Prelude.{Bool, true, Result, Ok, Err}
+use Rattle.std.specs.Prelude.{ℕ, Bool, true, List, Result, Ok, Err}
+use Rattle.fleet_grid.specs.Floor.{Floor}
+use Rattle.fleet_core.specs.OpeningFaults.{IsRefused}
 use Rattle.fleet_core.specs.declared.faults.OpenFault.{OpenFault}
 use Rattle.fleet_core.specs.declared.faults.OpenFault.TheVariants as fault
+use Rattle.fleet_script.specs.Script.{Draft}
+use Rattle.errands_answer.specs.Kit.{KitLaws}
+use Rattle.fleet_talk.specs.Conversation.{clients_in, laws_in, limits_in}
 use Rattle.fleet_live.specs.declared.bell.Stop.{Stop}
 use Rattle.fleet_live.specs.declared.bell.Stop.TheVariants.{Quit, Limit, Input, Output, Shelf, NoMemory}
 use Rattle.fleet_talk.specs.declared.fault.TalkFault.{TalkFault}
 use Rattle.fleet_talk.specs.declared.fault.TalkFault.TheVariants as talk
+
+-- the fleet of a head whose robots start on these cells is refused for this reason
+abbrev pub IsRefusedHead : KitLaws → Floor → Draft → List ℕ → OpenFault → Type 0
+IsRefusedHead kit m d starts why = IsRefused m starts (clients_in d) (limits_in d) (laws_in kit d starts) why
 
 -- why a fleet was not opened
 abbrev pub unopened : OpenFault → TalkFault

@@ -1,6 +1,7 @@
 pub mod Counts
 pub mod Demand
 pub mod Ended
+pub mod Kept
 pub mod Page
 pub mod Period
 pub mod Posted

@@ -1,7 +1,12 @@
 //! The end: guests are returned, the office is concluded, and notices that were not collected are printed.
 
-ghost use Rattle.std.specs.Prelude.{◌≡◌, IfOk};
+ghost use Rattle.std.specs.Prelude.{◌≡◌, ◌≤◌, [], ◌∷◌, IfOk, OnOk};
+ghost use Rattle.std.specs.declared.alloc.Global.{Global};
+ghost use Rattle.fleet_grid.specs.Floor.{Floor};
+ghost use Rattle.fleet_history.specs.History.{history_of};
 ghost use Rattle.fleet_office.specs.Views.{AreOn, cores};
+ghost use Rattle.fleet_talk.specs.Chapters.{Adds, ChapterView, IsSound, chapter_shown};
+ghost use Rattle.fleet_live.specs.Kept.{IsConcluded, KeepsSome, KeepsToEnd};
 
 use crate::bell::Stop;
 use crate::conversation::Conversation;
@@ -55,7 +60,10 @@ fn turn_page<N: OfficeName<Global>, R: Wait, S: Shelf>(
     rt: &R,
     office: &Office<N>,
     shelf: &mut S,
-) -> Result<(), Stop> {
+) -> Result<(), Stop>
+    requires { 0 ≤ 1 }
+    ensures kept { OnOk result ((chapter : ChapterView Global) × ((m : Floor) × IsSound m chapter.history) × Adds (S.kept shelf.old) (S.kept shelf.new) (chapter ∷ [])) }
+{
     match office.next_chapter(rt) {
         Ok(chapter) => Ok(shelf.keep(&chapter)?),
         Err(ChapterFault::BookSpent) => Err(Stop::Limit),
@@ -70,6 +78,9 @@ fn conclude<N: OfficeName<Global>, R: Alloc<A = Global> + Wait, S: Shelf>(
     shelf: &mut S,
 ) -> Result<Final, Stop>
     requires on { AreOn N.rings (cores home.clients.items) }
+    ensures sound { IfOk result (λ end. (m : Floor) × IsSound m (history_of end.chapter)) }
+    ensures concluded { IfOk result (λ end. IsConcluded N.rings (chapter_shown end.chapter)) }
+    ensures kept { OnOk result (KeepsSome (S.kept shelf.old) (S.kept shelf.new)) }
 {
     let mut home = home;
     for _ in 0..MOST_CHAPTERS {
@@ -139,14 +150,15 @@ fn tell_rest<N: OfficeName<Global>, R: Alloc<A = Global> + Wait>(
 }
 
 /// Ends the fleet: the guests come home, the office is concluded, what was not collected is told, and the last chapter is kept.
-pub(crate) fn finish<N: OfficeName<Global>, R: Alloc<A = Global> + Wait, S: Shelf + Drop>(
+pub(crate) fn finish<N: OfficeName<Global>, R: Alloc<A = Global> + Wait, S: Shelf>(
     rt: &R,
     office: Office<N>,
     conversations: &[Arc<Conversation<N>>],
     tickers: Vec<Ticker<N>>,
-    shelf: S,
-) -> Result<(), Stop> {
-    let mut shelf = shelf;
+    shelf: &mut S,
+) -> Result<(), Stop>
+    ensures kept { OnOk result (KeepsToEnd N.rings (S.kept shelf.old) (S.kept shelf.new)) }
+{
     let clients = match clients_home(rt, conversations) {
         Ok(clients) => clients,
         Err(AllocError) => {
@@ -159,7 +171,7 @@ pub(crate) fn finish<N: OfficeName<Global>, R: Alloc<A = Global> + Wait, S: Shel
         clients,
         tickers,
     };
-    let end = conclude(rt, home, &mut shelf)?;
+    let end = conclude(rt, home, shelf)?;
     tell_rest(rt, conversations, &end)?;
     Ok(shelf.keep(&end.chapter)?)
 }

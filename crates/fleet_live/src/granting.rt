@@ -8,7 +8,7 @@ use crate::stage::{Round, Work, keep_pages};
 use fleet_core::{ChapterFault, ShutFault};
 use fleet_office::OfficeName;
 use fleet_talk::Shelf;
-use std::alloc::{Alloc, Global};
+use std::alloc::{Alloc, AllocError, Global};
 use std::sync::Wait;
 
 impl<N: OfficeName<Global>, S: Shelf> Keeper<'_, N, S> {
@@ -50,7 +50,7 @@ impl<N: OfficeName<Global>, S: Shelf> Keeper<'_, N, S> {
             Err(ChapterFault::NoMemory) => return Err(Stop::NoMemory),
         };
         let (number, entries) = (page.number, page.entries.len());
-        if work.pages.push(page).is_err() {
+        if let Err(AllocError) = work.pages.push(page) {
             return Err(Stop::NoMemory);
         }
         keep_pages(rt, &self.stage.shelf, &mut work.pages)?;

@@ -1,5 +1,8 @@
 //! The keeper: the ticker that makes turns and tells clients what became of their orders.
 
+ghost use Rattle.std.specs.Prelude.{◌≡◌, Ok, true};
+ghost use Rattle.fleet_live.specs.Kept.{IsTurned};
+
 use crate::bell::{Call, Stop};
 use crate::conversation::Conversation;
 use crate::said::tick_text;
@@ -8,7 +11,6 @@ use fleet_core::ChapterFault;
 use fleet_office::{Office, OfficeName, TurnCause};
 use fleet_talk::Shelf;
 use std::alloc::{Alloc, AllocError, Global};
-use std::mem;
 use std::sync::Wait;
 
 /// How many chapters one turn may need at most: each has room for an order of each client.
@@ -77,16 +79,15 @@ impl<N: OfficeName<Global>, S: Shelf> Keeper<'_, N, S> {
     }
 
     /// Hands out the chapter where it is full, and returns whether there is room for an entry now.
-    pub(crate) fn turn_page<R: Wait>(&self, rt: &R, work: &mut Work<N>) -> Result<bool, Stop> {
+    pub(crate) fn turn_page<R: Wait>(&self, rt: &R, work: &mut Work<N>) -> Result<bool, Stop>
+        ensures { result ≡ Ok true → IsTurned N.rings self.now.stage.now.chapter work.old.pages work.new.pages }
+    {
         match self.office.turn_page(rt, self.stage.chapter) {
             // The other ticker handed it out.
             Ok(None) => Ok(true),
             Ok(Some(page)) => match work.pages.push(page) {
                 Ok(()) => Ok(true),
-                Err(refused) => {
-                    mem::drop(refused);
-                    Err(Stop::NoMemory)
-                }
+                Err(AllocError) => Err(Stop::NoMemory),
             },
             Err(ChapterFault::BookSpent) => Ok(false),
             Err(ChapterFault::NoMemory) => Err(Stop::NoMemory),

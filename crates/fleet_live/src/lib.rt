@@ -22,6 +22,7 @@ mod tally;
 mod threads;
 mod tickers;
 mod told;
+mod unkept;
 mod voice;
 
 pub use ends::{LiveEnds, LiveSettings, Pipes};

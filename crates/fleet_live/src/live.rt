@@ -1,9 +1,12 @@
 //! A fleet in real time, as a whole.
 
-ghost use Rattle.std.specs.Prelude.{◌≡◌, ◌≤◌, ◌↔◌, IfErr, vec_len};
-ghost use Rattle.fleet_core.specs.OpeningFaults.{IsNamed as IsNamedFault};
+ghost use Rattle.std.specs.Prelude.{◌≡◌, ◌≤◌, ◌↔◌, ◌⊎◌, ℕ, List, Err, IfErr, Some, length, vec_len};
+ghost use Rattle.errands_answer.specs.Kit.{kit_laws};
+ghost use Rattle.fleet_core.specs.Hooks.{laws_of};
+ghost use Rattle.fleet_core.specs.OpeningFaults.{IsNamed as IsNamedFault, IsRefused};
 ghost use Rattle.fleet_office.specs.Views.{IsNamed};
-ghost use Rattle.fleet_live.specs.Ended.{IsEnded, ended_by, unopened};
+ghost use Rattle.fleet_talk.specs.Heading.{drafted};
+ghost use Rattle.fleet_live.specs.Ended.{IsEnded, IsRefusedHead, ended_by, unopened};
 
 use crate::bell::Stop;
 use crate::conversation::Conversation;
@@ -53,7 +56,11 @@ impl Opening {
     /// These parts.
     fn of(desk: Desk, limits: Limits, grid: Grid, starts: Vec<u32>, hooks: Hooks) -> Opening
         requires { 0 ≤ vec_len hooks.ties }
-        ensures { result ≡ record { desk = desk; limits = limits; grid = grid; starts = starts; hooks = hooks } }
+        ensures desk { result.desk ≡ desk }
+        ensures limits { result.limits ≡ limits }
+        ensures grid { result.grid ≡ grid }
+        ensures starts { result.starts.items ≡ starts.items }
+        ensures hooks { laws_of result.hooks ≡ laws_of hooks }
     {
         Opening {
             desk,
@@ -112,7 +119,9 @@ fn end_fleet<N: OfficeName<Global>, R: Alloc<A = Global> + Clock + Threads + Wai
     rt: &R,
     office: Office<N>,
     left: Left<N, S>,
-) -> Result<bool, TalkFault> {
+) -> Result<bool, TalkFault>
+    ensures opened { IfErr result IsEnded }
+{
     let Left {
         stage,
         tickers,
@@ -130,7 +139,8 @@ fn end_fleet<N: OfficeName<Global>, R: Alloc<A = Global> + Clock + Threads + Wai
         shelf,
     } = stage;
     let limited = round.into_inner().limited;
-    let finished = finish(rt, office, &conversations, tickers, shelf.into_inner());
+    let mut shelf = shelf.into_inner();
+    let finished = finish(rt, office, &conversations, tickers, &mut shelf);
     counts.end(rt);
     wait_for_readers(rt, &conversations, writer);
     match (stop, finished) {
@@ -156,6 +166,8 @@ fn keep_fleet<
     ends: LiveEnds<I, W, P, Q, E, S>,
 ) -> Result<bool, TalkFault>
     requires { IsNamed opening.desk N.name N.parts N.rings }
+    ensures refused { (why : OpenFault) → IsNamedFault why →
+        ((result ≡ Err (TalkFault.Opening why)) ↔ IsRefused opening.grid opening.starts.items (length opening.desk.clients) opening.desk.limits (laws_of opening.hooks) why) }
 {
     let site = opening.site(settings);
     let Opening {
@@ -181,6 +193,8 @@ fn keep_fleet<
 /// Keeps a fleet in real time: opens an office with the head's robots and clients, lets each conversation post, look and be told in
 /// threads of its own, and makes turns at their deadlines, or where a line asks for them. It ends where the first conversation does.
 /// Each chapter goes to the shelf when it is handed out, and the last at the end. Returns whether a limit was met.
+///
+/// If the fleet cannot be opened, the fault is `Opening` with the first reason that stands, or `NoMemory`.
 pub fn keep_live<
     R: Alloc<A = Global> + Clock + Threads + Sync + Wait + Copy + Send + Drop + 'static,
     I: Read + Send + Drop + 'static,
@@ -197,20 +211,27 @@ pub fn keep_live<
 ) -> Result<bool, TalkFault>
     // Of each call: only a call with a condition may hand on closures.
     requires { 0 ≤ vec_len ground.kit.plain.ties }
+    ensures refused { (starts : List ℕ) → (drafted ground.head).starts ≡ Some starts → (why : OpenFault) → IsNamedFault why →
+        result ≡ Err (TalkFault.Opening why) → IsRefusedHead (kit_laws ground.kit) ground.grid (drafted ground.head) starts why }
+    ensures named { (starts : List ℕ) → (drafted ground.head).starts ≡ Some starts → (why : OpenFault) →
+        IsRefusedHead (kit_laws ground.kit) ground.grid (drafted ground.head) starts why → (result ≡ Err (TalkFault.Opening why)) ⊎ (result ≡ Err TalkFault.NoMemory) }
 {
-    let alloc = rt.alloc();
     let Ground { grid, kit, head } = ground;
-    let starts = head.starts.unwrap_or(Vec::new(alloc));
+    let starts = head.starts.unwrap_or(Vec::new(rt.alloc()));
     let hooks = kit.choose(head.south.unwrap_or(false)).cut(starts.len());
     let limits = head.limits.limits_over(TALK_LIMITS);
-    match Desk::new(alloc, head.clients.unwrap_or(1), limits) {
+    match Desk::new(rt.alloc(), head.clients.unwrap_or(1), limits) {
         Ok(desk) => {
             let opening = Opening::of(desk, limits, grid, starts, hooks);
             keep_fleet::<Brand, R, I, W, P, Q, E, S>(rt, opening, settings, ends)
         }
-        Err(fault) => {
+        Err(OpenFault::Limits) => {
             mem::drop(hooks);
-            Err(unopened(fault))
+            Err(TalkFault::Opening(OpenFault::Limits))
+        }
+        Err(_) => {
+            mem::drop(hooks);
+            Err(TalkFault::NoMemory)
         }
     }
 }

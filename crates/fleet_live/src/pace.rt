@@ -5,7 +5,7 @@ ghost use Rattle.std.specs.Prelude.{◌<◌, ◌^◌};
 use crate::bell::{Call, Stop};
 use crate::keeper::{Keeper, Turned};
 use crate::period::next_due;
-use crate::stage::{Round, Work, keep_all, keep_pages};
+use crate::stage::{Round, Work, keep_pages};
 use crate::tally::Tally;
 use fleet_office::OfficeName;
 use fleet_talk::Shelf;
@@ -186,7 +186,7 @@ fn keep_for_a_chapter<
     }
     let mut shelf = keeper.stage.shelf.lock(rt);
     mem::drop(held);
-    keep_all(&mut *shelf, &mut work.pages)
+    work.pages.keep_on(&mut *shelf)
 }
 
 /// Keeps the fleet, in turn with the other ticker if there is one, until the fleet is to stop. The result is why, or why a chapter that

@@ -1,13 +1,15 @@
 //! What the tickers of a fleet in real time share, and what is each ticker's own.
 
+ghost use Rattle.std.specs.Prelude.{◌≡◌, [], OnOk};
+
 use crate::bell::{Bell, Stop};
 use crate::conversation::Conversation;
 use crate::pace::Deadlines;
 use crate::tally::Tally;
+use crate::unkept::Unkept;
 use crate::voice::Voice;
-use fleet_history::Chapter;
 use fleet_office::{OfficeName, TickRecord, Ticker, TurnReport};
-use fleet_talk::{Shelf, ShelfFault};
+use fleet_talk::Shelf;
 use std::alloc::{AllocError, Global};
 use std::sync::{Arc, Mutex, Wait};
 
@@ -77,7 +79,7 @@ pub(crate) struct Work<N: OfficeName<Global>> {
     /// The last tick that it made.
     pub(crate) made: TickRecord,
     /// Chapters that were handed out and are not kept yet.
-    pub(crate) pages: Vec<Chapter>,
+    pub(crate) pages: Unkept,
 }
 
 impl<N: OfficeName<Global>> Work<N> {
@@ -86,35 +88,19 @@ impl<N: OfficeName<Global>> Work<N> {
         Ok(Work {
             ticker,
             made,
-            pages: Vec::new(alloc),
+            pages: Unkept::new(alloc),
         })
     }
-}
-
-impl From<ShelfFault> for Stop {
-    fn from(fault: ShelfFault) -> Stop {
-        match fault {
-            ShelfFault::File => Stop::Shelf,
-            ShelfFault::NoMemory => Stop::NoMemory,
-        }
-    }
-}
-
-/// Keeps these chapters, in order.
-pub(crate) fn keep_all<S: Shelf>(shelf: &mut S, pages: &mut Vec<Chapter>) -> Result<(), Stop> {
-    for page in pages.iter() {
-        shelf.keep(page)?;
-    }
-    pages.clear();
-    Ok(())
 }
 
 /// Keeps these chapters on a shelf that is shared.
 pub(crate) fn keep_pages<R: Wait, S: Shelf>(
     rt: &R,
     shelf: &Mutex<S>,
-    pages: &mut Vec<Chapter>,
-) -> Result<(), Stop> {
+    pages: &mut Unkept,
+) -> Result<(), Stop>
+    ensures none { OnOk result (pages.new ≡ []) }
+{
     let mut held = shelf.lock(rt);
-    keep_all(&mut *held, pages)
+    pages.keep_on(&mut *held)
 }

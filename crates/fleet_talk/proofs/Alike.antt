@@ -1,23 +1,20 @@
 -- A script in form, held as a conversation, is a run of it.
-use Rattle.std.proofs.Common.{◌≡◌, ◌∙◌, ℕ, Bool, true, false, List, [], ◌∷◌, ◌++◌, length, map, Option, Some, None, Ok, IfSome, is_some, unwrap_or, refl, sym, ap, subst}
-use Rattle.std.specs.Prelude.{if◌then◌else◌}
+use Rattle.std.proofs.Common.{◌≡◌, ◌∙◌, ℕ, true, false, List, [], ◌++◌, map, Option, Some, None, Ok, IfSome, is_some, unwrap_or, refl, sym, ap, subst}
 use Rattle.std.specs.declared.alloc.Global.{Global}
 use Rattle.std.proofs.lemmas.Option.{same_Some}
 use Rattle.fleet_grid.specs.Floor.{Floor}
-use Rattle.fleet_book.specs.declared.event.Event.{Event}
 use Rattle.fleet_book.specs.declared.limits.Limits.{Limits}
 use Rattle.fleet_core.specs.Hooks.{HookLaws}
-use Rattle.fleet_script.specs.declared.head.GivenLimits.{GivenLimits}
-use Rattle.fleet_script.specs.Script.{Draft, Plan, blank_draft, limits_of, limits_over, script_of}
+use Rattle.fleet_script.specs.Script.{Draft, Plan, blank_draft, limits_of, script_of}
 use Rattle.fleet_world.specs.declared.reply.Reply.{Reply}
 use Rattle.fleet_world.specs.Run.{State, Run, opened_state}
-use Rattle.errands_answer.specs.Kit.{KitLaws, cut_laws, chosen_laws}
+use Rattle.errands_answer.specs.Kit.{KitLaws, chosen_laws}
 use Rattle.errands_text.specs.Output.{run_text}
 use Rattle.fleet_session.specs.Talk.{Talk}
-use Rattle.fleet_talk.specs.declared.ground.TheConstants.{TALK_LIMITS}
-use Rattle.fleet_talk.specs.Act.{Act, play, acts_from}
+use Rattle.fleet_talk.specs.Act.{Act, play}
 use Rattle.fleet_talk.specs.Acts.{Talks}
-use Rattle.fleet_talk.specs.Conversation.{Terms, IsConversation, unopened, talked, MayOpen, NamesLimits, plain_terms, head_in, opened as opened_fleet, acts_of, clients_in, limits_in, laws_in}
+use Rattle.fleet_talk.specs.Chapters.{ChapterView}
+use Rattle.fleet_talk.specs.Conversation.{IsConversation, unopened, talked, MayOpen, NamesLimits, plain_terms, head_in, opened as opened_fleet, acts_of, clients_in, limits_in, laws_in}
 use Rattle.fleet_talk.specs.Heard.{AreShort, Head, Opening, all_of, heard_lines}
 use Rattle.fleet_talk.proofs.Runs.{said-run}
 use Rattle.fleet_talk.proofs.Scripts.{IsOf, Heads, unopened as silent, opened, heard_script}
@@ -59,18 +56,18 @@ talked_run kit m plan text o last starts of named may acts talks =
     in-terms (IsRunOf m plan text) o.starts plan.starts (clients_in d) plan.clients (limits_in d) plan.limits laws (chosen_laws kit plan)
     starts (sym of.clients) (limits-same d named ∙ sym of.limits) (laws-same kit d plan o.starts starts of.south) (replies, end, run, is)
 
-pub script-run : (kit : KitLaws) (m : Floor) (bytes text : List ℕ) (plan : Plan) → script_of bytes ≡ Ok plan → AreShort bytes → IfSome (head_in (plain_terms kit m) bytes).opening (λ o. NamesLimits o.head)
-    → IsConversation (plain_terms kit m) bytes text → IsRunOf m plan text plan.starts plan.clients plan.limits (chosen_laws kit plan)
-script-run kit m bytes text plan read short named conv = by (heard_script false bytes plan short read) conv
+pub script-run : (kit : KitLaws) (m : Floor) (bytes text : List ℕ) (chapters : List (ChapterView Global)) (plan : Plan) → script_of bytes ≡ Ok plan → AreShort bytes → IfSome (head_in (plain_terms kit m) bytes).opening (λ o. NamesLimits o.head)
+    → IsConversation (plain_terms kit m) bytes text chapters → IsRunOf m plan text plan.starts plan.clients plan.limits (chosen_laws kit plan)
+script-run kit m bytes text chapters plan read short named conv = by (heard_script false bytes plan short read) conv
   where
     at_none : {X : Type 0} (o : X) (k : Option X) → k ≡ None → k ≡ Some o → ⊥
     at_none o k a b = let bad : None ≡ Some o = sym a ∙ b in absurd cc
 
-    by : Heads false blank_draft 1 (heard_lines bytes) plan → IsConversation (plain_terms kit m) bytes text → IsRunOf m plan text plan.starts plan.clients plan.limits (chosen_laws kit plan)
-    by (silent is none) (unopened at said) = silent_run m plan text (chosen_laws kit plan) none (said ∙ ap (λ (h : Head). all_of h.said) is)
-    by (silent is none) (talked o at may answers last talks said) = absurd (at_none o (head_in (plain_terms kit m) bytes).opening (ap (λ (h : Head). h.opening) is) at)
-    by (opened o is starts of acts) (unopened at said) = absurd (at_none o (head_in (plain_terms kit m) bytes).opening at (ap (λ (h : Head). h.opening) is))
-    by (opened o is starts of acts) (talked o2 at may answers last talks said) =
+    by : Heads false blank_draft 1 (heard_lines bytes) plan → IsConversation (plain_terms kit m) bytes text chapters → IsRunOf m plan text plan.starts plan.clients plan.limits (chosen_laws kit plan)
+    by (silent is none) (unopened at said kept) = silent_run m plan text (chosen_laws kit plan) none (said ∙ ap (λ (h : Head). all_of h.said) is)
+    by (silent is none) (talked o at may answers last talks said kept) = absurd (at_none o (head_in (plain_terms kit m) bytes).opening (ap (λ (h : Head). h.opening) is) at)
+    by (opened o is starts of acts) (unopened at said kept) = absurd (at_none o (head_in (plain_terms kit m) bytes).opening at (ap (λ (h : Head). h.opening) is))
+    by (opened o is starts of acts) (talked o2 at may answers last talks said kept) =
         let same : o2 ≡ o = same_Some o2 o (sym at ∙ ap (λ (h : Head). h.opening) is) in
         let names = subst (λ (k : Option Opening). IfSome k (λ o. NamesLimits o.head)) (ap (λ (h : Head). h.opening) is) named in
         let told : text ≡ answers = said ∙ ap (λ (h : Head). all_of h.said ++ answers) is in

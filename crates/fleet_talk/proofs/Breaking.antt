@@ -7,7 +7,7 @@ use Rattle.fleet_talk.specs.declared.pen.Pen.{Pen}
 use Rattle.fleet_talk.specs.Act.{Act}
 use Rattle.fleet_talk.specs.Acts.{Does, Talks}
 use Rattle.fleet_talk.specs.Broken.{IsMidway, SaysUntil}
-use Rattle.fleet_talk.specs.Said.{IsAdded, IsKept}
+use Rattle.fleet_talk.specs.Said.{IsKept}
 use Rattle.fleet_talk.specs.Says.{Says}
 use Rattle.fleet_talk.specs.Talked.{TalksUntil}
 use Rattle.fleet_talk.proofs.Saying.{says-added, midway, until-then, until-written}

@@ -1,5 +1,5 @@
 -- A conversation as a whole, from its parts.
-use Rattle.std.proofs.Common.{◌≡◌, ◌∙◌, ℕ, ◌+◌, Bool, zero, suc, ◌≤◌, List, [], ◌∷◌, ◌++◌, length, take, take_all, Option, Some, None, Result, Ok, Err, IfSome, refl, sym, ap, subst, arith, append-nil}
+use Rattle.std.proofs.Common.{◌≡◌, ◌∙◌, ℕ, Bool, zero, suc, List, [], ◌∷◌, ◌++◌, length, take, take_all, Option, Some, None, Result, Ok, Err, IfSome, refl, sym, ap, subst, arith, append-nil}
 use Rattle.std.specs.Prelude.{OnOk, IfErr}
 use Rattle.std.specs.declared.alloc.Global.{Global}
 use Rattle.std.specs.Io.KnownBytes.{Appends}
@@ -18,7 +18,8 @@ use Rattle.fleet_talk.specs.declared.fault.TalkFault.TheVariants.{Input, Output,
 use Rattle.fleet_talk.specs.Act.{acts_from}
 use Rattle.fleet_talk.specs.Acts.{Talks}
 use Rattle.fleet_talk.specs.Broken.{IsMidway, SaysUntil}
-use Rattle.fleet_talk.specs.Conversation.{Terms, IsConversation, unopened, talked, IsBegun, in_head, in_talk, IsRefusedHead, MayOpen, ComesTo, head_in, opened, acts_of, clients_in, limits_in, laws_in}
+use Rattle.fleet_talk.specs.Chapters.{Adds, ChapterView, KeepsAll, KeepsLast, KeepsTurned}
+use Rattle.fleet_talk.specs.Conversation.{Terms, Shelved, IsConversation, unopened, talked, IsBegun, in_head, in_talk, IsRefusedHead, MayOpen, ComesTo, head_in, opened, acts_of, clients_in, limits_in, laws_in}
 use Rattle.fleet_talk.specs.Ending.{Keeps, IsSame, Finishes, written, unwritten}
 use Rattle.fleet_talk.specs.Heard.{Opening, Head, all_of, heard_lines}
 use Rattle.fleet_talk.specs.Heading.{HearsAll, HearsUntil}
@@ -26,6 +27,7 @@ use Rattle.fleet_talk.specs.Refusals.{talk_fault}
 use Rattle.fleet_talk.specs.Says.{Says}
 use Rattle.fleet_talk.specs.Talked.{TalksUntil}
 use Rattle.fleet_talk.proofs.Saying.{prefix-after, says-then, until-then}
+use Rattle.fleet_talk.proofs.Shelving.{adds-none, keeps-all}
 
 -- ---- the last write
 
@@ -53,14 +55,14 @@ came : (ended : Result (Unit {0}) TalkFault) (result : Result Bool TalkFault) (f
 came (Ok done) result f same is = absurd (subst (λ (r : Result Bool TalkFault). IfErr r (λ g. ⊥)) is same)
 came (Err g) result f same is = ap (λ x. Err x) (same_err g f (sym same ∙ is))
 
-begun : (on : Terms) (bytes text : List ℕ) → IsConversation on bytes text → IsBegun on bytes text
-begun on bytes text (unopened none is) = in_head (head_in on bytes).said [] (sym (append-nil (head_in on bytes).said)) is
-begun on bytes text (talked o at may answers last talks is) = in_talk o at may (acts_of on o) [] (sym (append-nil (acts_of on o))) answers last talks is
+begun : (on : Terms) (bytes text : List ℕ) (chapters : List (ChapterView Global)) → IsConversation on bytes text chapters → IsBegun on bytes text
+begun on bytes text chapters (unopened none is kept) = in_head (head_in on bytes).said [] (sym (append-nil (head_in on bytes).said)) is
+begun on bytes text chapters (talked o at may answers last talks is kept) = in_talk o at may (acts_of on o) [] (sym (append-nil (acts_of on o))) answers last talks is
 
 -- ---- the clauses of a conversation
 
-abbrev pub Whole : Terms → Option (List ℕ) → Option (List ℕ) → List ℕ → Type 0
-Whole on a c bytes = (text : List ℕ) × IsConversation on bytes text × Appends a c text
+abbrev pub Whole : Terms → Shelved → Option (List ℕ) → Option (List ℕ) → List ℕ → Type 0
+Whole on k a c bytes = (text : List ℕ) × (chapters : List (ChapterView Global)) × IsConversation on bytes text chapters × Appends a c text × Adds k.old k.new chapters
 
 abbrev pub Broken : Terms → Option (List ℕ) → Option (List ℕ) → List ℕ → Type 0
 Broken on a c bytes = (text : List ℕ) × IsBegun on bytes text × Appends a c text
@@ -71,97 +73,97 @@ CutShort on a c bytes = (text : List ℕ) × IsBegun on bytes text × AppendsPre
 abbrev pub Refused : Terms → Option (List ℕ) → Option (List ℕ) → OpenFault → List ℕ → Type 0
 Refused on a c f bytes = (text : List ℕ) × IsRefusedHead on bytes text f × Appends a c text
 
-abbrev Come : Terms → Option (List ℕ) → Option (List ℕ) → Option (List ℕ) → List ℕ → Result (Unit {0}) TalkFault → Type 0
-Come on known a b p ended = IfSome known (λ bytes. ComesTo on bytes a b [] p ended)
+abbrev Come : Terms → Option (List ℕ) → Option (List ℕ) → Option (List ℕ) → List ℕ → Shelved → Result (Unit {0}) TalkFault → Type 0
+Come on known a b p k ended = IfSome known (λ bytes. ComesTo on bytes a b [] p k ended)
 
-whole_at : (on : Terms) (known a b c : Option (List ℕ)) (p : List ℕ) (ended : Result (Unit {0}) TalkFault) (x : Bool) → IsSame ended (Ok x) → Come on known a b p ended → Appends b c p → IfSome known (Whole on a c)
-whole_at on None a b c p ended x same h all = tt
-whole_at on (Some bytes) a b c p (Ok done) x same (text, is, says) all = (text, is, written_all a b c p text says all)
-whole_at on (Some bytes) a b c p (Err f) x same h all = let bad : Ok x ≡ err f = same in absurd cc
+whole_at : (on : Terms) (k : Shelved) (known a b c : Option (List ℕ)) (p : List ℕ) (ended : Result (Unit {0}) TalkFault) (x : Bool) → IsSame ended (Ok x) → Come on known a b p k ended → Appends b c p → IfSome known (Whole on k a c)
+whole_at on k None a b c p ended x same h all = tt
+whole_at on k (Some bytes) a b c p (Ok done) x same (text, chapters, is, says, kept) all = (text, chapters, is, written_all a b c p text says all, kept)
+whole_at on k (Some bytes) a b c p (Err f) x same h all = let bad : Ok x ≡ err f = same in absurd cc
 
-pub finish-whole : (on : Terms) (known a b c : Option (List ℕ)) (p : List ℕ) (ended : Result (Unit {0}) TalkFault) (result : Result Bool TalkFault) → Come on known a b p ended → Finishes ended b c p result → OnOk result (IfSome known (Whole on a c))
-finish-whole on known a b c p ended (Err f) h last = tt
-finish-whole on known a b c p ended (Ok x) h (written all same) = whole_at on known a b c p ended x same h all
-finish-whole on known a b c p ended (Ok x) h (unwritten part none) = let bad : Ok x ≡ err Output = none in absurd cc
+pub finish-whole : (on : Terms) (k : Shelved) (known a b c : Option (List ℕ)) (p : List ℕ) (ended : Result (Unit {0}) TalkFault) (result : Result Bool TalkFault) → Come on known a b p k ended → Finishes ended b c p result → OnOk result (IfSome known (Whole on k a c))
+finish-whole on k known a b c p ended (Err f) h last = tt
+finish-whole on k known a b c p ended (Ok x) h (written all same) = whole_at on k known a b c p ended x same h all
+finish-whole on k known a b c p ended (Ok x) h (unwritten part none) = let bad : Ok x ≡ err Output = none in absurd cc
 
-refused_at : (on : Terms) (known a b c : Option (List ℕ)) (p : List ℕ) (f : OpenFault) → Come on known a b p (Err (Unopened f)) → Appends b c p → IfSome known (Refused on a c f)
-refused_at on None a b c p f h all = tt
-refused_at on (Some bytes) a b c p f (text, is, says) all = (text, is, written_all a b c p text says all)
+refused_at : (on : Terms) (k : Shelved) (known a b c : Option (List ℕ)) (p : List ℕ) (f : OpenFault) → Come on known a b p k (Err (Unopened f)) → Appends b c p → IfSome known (Refused on a c f)
+refused_at on k None a b c p f h all = tt
+refused_at on k (Some bytes) a b c p f (text, is, says) all = (text, is, written_all a b c p text says all)
 
-pub finish-refused : (on : Terms) (known a b c : Option (List ℕ)) (p : List ℕ) (ended : Result (Unit {0}) TalkFault) (result : Result Bool TalkFault) → Come on known a b p ended → Finishes ended b c p result
+pub finish-refused : (on : Terms) (k : Shelved) (known a b c : Option (List ℕ)) (p : List ℕ) (ended : Result (Unit {0}) TalkFault) (result : Result Bool TalkFault) → Come on known a b p k ended → Finishes ended b c p result
     → (f : OpenFault) → result ≡ Err (Unopened f) → IfSome known (Refused on a c f)
-finish-refused on known a b c p ended result h (written all same) f is = refused_at on known a b c p f (subst (Come on known a b p) (came ended result (Unopened f) same is) h) all
-finish-refused on known a b c p ended result h (unwritten part none) f is = let bad : Output ≡ Unopened f = same_err Output (Unopened f) (sym none ∙ is) in absurd cc
+finish-refused on k known a b c p ended result h (written all same) f is = refused_at on k known a b c p f (subst (Come on known a b p k) (came ended result (Unopened f) same is) h) all
+finish-refused on k known a b c p ended result h (unwritten part none) f is = let bad : Output ≡ Unopened f = same_err Output (Unopened f) (sym none ∙ is) in absurd cc
 
-broken_at : (on : Terms) (known a b c : Option (List ℕ)) (p : List ℕ) (f : TalkFault) → IsMidway f → Come on known a b p (Err f) → Appends b c p → IfSome known (Broken on a c)
-broken_at on None a b c p f mid h all = tt
-broken_at on (Some bytes) a b c p Input mid (text, is, says) all = (text, is, written_all a b c p text says all)
-broken_at on (Some bytes) a b c p Shelf mid (text, is, says) all = (text, is, written_all a b c p text says all)
-broken_at on (Some bytes) a b c p NoMemory mid (text, is, says) all = (text, is, written_all a b c p text says all)
-broken_at on (Some bytes) a b c p Output mid h all = absurd mid
-broken_at on (Some bytes) a b c p (Unopened f) mid h all = absurd mid
+broken_at : (on : Terms) (k : Shelved) (known a b c : Option (List ℕ)) (p : List ℕ) (f : TalkFault) → IsMidway f → Come on known a b p k (Err f) → Appends b c p → IfSome known (Broken on a c)
+broken_at on k None a b c p f mid h all = tt
+broken_at on k (Some bytes) a b c p Input mid (text, is, says) all = (text, is, written_all a b c p text says all)
+broken_at on k (Some bytes) a b c p Shelf mid (text, is, says) all = (text, is, written_all a b c p text says all)
+broken_at on k (Some bytes) a b c p NoMemory mid (text, is, says) all = (text, is, written_all a b c p text says all)
+broken_at on k (Some bytes) a b c p Output mid h all = absurd mid
+broken_at on k (Some bytes) a b c p (Unopened f) mid h all = absurd mid
 
-pub finish-broken : (on : Terms) (known a b c : Option (List ℕ)) (p : List ℕ) (ended : Result (Unit {0}) TalkFault) (result : Result Bool TalkFault) → Come on known a b p ended → Finishes ended b c p result
+pub finish-broken : (on : Terms) (k : Shelved) (known a b c : Option (List ℕ)) (p : List ℕ) (ended : Result (Unit {0}) TalkFault) (result : Result Bool TalkFault) → Come on known a b p k ended → Finishes ended b c p result
     → IfErr result (λ f. IsMidway f → IfSome known (Broken on a c))
-finish-broken on known a b c p ended (Ok x) h last = tt
-finish-broken on known a b c p ended (Err f) h (written all same) = λ mid. broken_at on known a b c p f mid (subst (Come on known a b p) (came ended (Err f) f same refl) h) all
-finish-broken on known a b c p ended (Err f) h (unwritten part none) = λ mid. absurd (subst IsMidway (same_err f Output none) mid)
+finish-broken on k known a b c p ended (Ok x) h last = tt
+finish-broken on k known a b c p ended (Err f) h (written all same) = λ mid. broken_at on k known a b c p f mid (subst (Come on known a b p k) (came ended (Err f) f same refl) h) all
+finish-broken on k known a b c p ended (Err f) h (unwritten part none) = λ mid. absurd (subst IsMidway (same_err f Output none) mid)
 
-cut_at : (on : Terms) (known a b c : Option (List ℕ)) (p : List ℕ) → Come on known a b p (Err Output) → AppendsPrefix b c p → IfSome known (CutShort on a c)
-cut_at on None a b c p h part = tt
-cut_at on (Some bytes) a b c p (text, is, (prefix, none)) (n, within, taken) =
+cut_at : (on : Terms) (k : Shelved) (known a b c : Option (List ℕ)) (p : List ℕ) → Come on known a b p k (Err Output) → AppendsPrefix b c p → IfSome known (CutShort on a c)
+cut_at on k None a b c p h part = tt
+cut_at on k (Some bytes) a b c p (text, is, (prefix, none)) (n, within, taken) =
     (text, is, written_none a b c text prefix (subst (λ (l : List ℕ). Appends b c l) (ap (take n) none ∙ take_none n) taken))
 
-cut_short : (on : Terms) (known a b c : Option (List ℕ)) (p : List ℕ) (ended : Result (Unit {0}) TalkFault) → Come on known a b p ended → AppendsPrefix b c p → IfSome known (CutShort on a c)
-cut_short on None a b c p ended h part = tt
-cut_short on (Some bytes) a b c p (Ok done) (text, is, says) part = (text, begun on bytes text is, written_part a b c p text says part)
-cut_short on (Some bytes) a b c p (Err Input) (text, is, says) part = (text, is, written_part a b c p text says part)
-cut_short on (Some bytes) a b c p (Err Shelf) (text, is, says) part = (text, is, written_part a b c p text says part)
-cut_short on (Some bytes) a b c p (Err NoMemory) (text, is, says) part = (text, is, written_part a b c p text says part)
-cut_short on (Some bytes) a b c p (Err Output) h part = cut_at on (Some bytes) a b c p h part
-cut_short on (Some bytes) a b c p (Err (Unopened f)) (text, is, says) part =
+cut_short : (on : Terms) (k : Shelved) (known a b c : Option (List ℕ)) (p : List ℕ) (ended : Result (Unit {0}) TalkFault) → Come on known a b p k ended → AppendsPrefix b c p → IfSome known (CutShort on a c)
+cut_short on k None a b c p ended h part = tt
+cut_short on k (Some bytes) a b c p (Ok done) (text, chapters, is, says, kept) part = (text, begun on bytes text chapters is, written_part a b c p text says part)
+cut_short on k (Some bytes) a b c p (Err Input) (text, is, says) part = (text, is, written_part a b c p text says part)
+cut_short on k (Some bytes) a b c p (Err Shelf) (text, is, says) part = (text, is, written_part a b c p text says part)
+cut_short on k (Some bytes) a b c p (Err NoMemory) (text, is, says) part = (text, is, written_part a b c p text says part)
+cut_short on k (Some bytes) a b c p (Err Output) h part = cut_at on k (Some bytes) a b c p h part
+cut_short on k (Some bytes) a b c p (Err (Unopened f)) (text, is, says) part =
     (text, in_head (head_in on bytes).said [] (sym (append-nil (head_in on bytes).said)) is.is, written_part a b c p text says part)
 
 whole_prefix : (b c : Option (List ℕ)) (p : List ℕ) → Appends b c p → AppendsPrefix b c p
 whole_prefix b c p all = (length p, omega arith, subst (λ (l : List ℕ). Appends b c l) (sym (take_all (length p) p (omega arith))) all)
 
-pub finish-unwritten : (on : Terms) (known a b c : Option (List ℕ)) (p : List ℕ) (ended : Result (Unit {0}) TalkFault) (result : Result Bool TalkFault) → Come on known a b p ended → Finishes ended b c p result
+pub finish-unwritten : (on : Terms) (k : Shelved) (known a b c : Option (List ℕ)) (p : List ℕ) (ended : Result (Unit {0}) TalkFault) (result : Result Bool TalkFault) → Come on known a b p k ended → Finishes ended b c p result
     → result ≡ Err Output → IfSome known (CutShort on a c)
-finish-unwritten on known a b c p ended result h (written all same) is = cut_short on known a b c p ended h (whole_prefix b c p all)
-finish-unwritten on known a b c p ended result h (unwritten part none) is = cut_short on known a b c p ended h part
+finish-unwritten on k known a b c p ended result h (written all same) is = cut_short on k known a b c p ended h (whole_prefix b c p all)
+finish-unwritten on k known a b c p ended result h (unwritten part none) is = cut_short on k known a b c p ended h part
 
 -- ---- what a conversation comes to
 
 -- the head broke off
-pub come-head : (on : Terms) (known a b : Option (List ℕ)) (o p : List ℕ) (f : TalkFault) → IfSome known (λ xs. HearsUntil f on.settings on.head xs a b o p) → IfSome known (λ xs. ComesTo on xs a b o p (Err f))
-come-head on None a b o p f h = tt
-come-head on (Some xs) a b o p Input h = (all_of h.said, in_head h.said h.left h.parts refl, h.says)
-come-head on (Some xs) a b o p Output h = (all_of h.said, in_head h.said h.left h.parts refl, h.says)
-come-head on (Some xs) a b o p Shelf h = (all_of h.said, in_head h.said h.left h.parts refl, h.says)
-come-head on (Some xs) a b o p NoMemory h = (all_of h.said, in_head h.said h.left h.parts refl, h.says)
-come-head on (Some xs) a b o p (Unopened f) h = absurd h.says
+pub come-head : (on : Terms) (k : Shelved) (known a b : Option (List ℕ)) (o p : List ℕ) (f : TalkFault) → IfSome known (λ xs. HearsUntil f on.settings on.head xs a b o p) → IfSome known (λ xs. ComesTo on xs a b o p k (Err f))
+come-head on k None a b o p f h = tt
+come-head on k (Some xs) a b o p Input h = (all_of h.said, in_head h.said h.left h.parts refl, h.says)
+come-head on k (Some xs) a b o p Output h = (all_of h.said, in_head h.said h.left h.parts refl, h.says)
+come-head on k (Some xs) a b o p Shelf h = (all_of h.said, in_head h.said h.left h.parts refl, h.says)
+come-head on k (Some xs) a b o p NoMemory h = (all_of h.said, in_head h.said h.left h.parts refl, h.says)
+come-head on k (Some xs) a b o p (Unopened f) h = absurd h.says
 
 -- no line opened the fleet
-pub come-unopened : (on : Terms) (known left a b : Option (List ℕ)) (e : Draft) (line o p : List ℕ) → IfSome known (λ xs. HearsAll on.settings on.head xs left e line None a b o p) → IfSome known (λ xs. ComesTo on xs a b o p (Ok tt))
-come-unopened on None left a b e line o p h = tt
-come-unopened on (Some xs) left a b e line o p (said, is, says) =
-    (all_of said, unopened (ap (λ (x : Head). x.opening) is) (ap (λ (x : Head). all_of x.said) (sym is)), says)
+pub come-unopened : (on : Terms) (before after : Option (List (ChapterView Global))) (known left a b : Option (List ℕ)) (e : Draft) (line o p : List ℕ) → after ≡ before → IfSome known (λ xs. HearsAll on.settings on.head xs left e line None a b o p) → IfSome known (λ xs. ComesTo on xs a b o p (record { old = before; new = after }) (Ok tt))
+come-unopened on before after None left a b e line o p same h = tt
+come-unopened on before after (Some xs) left a b e line o p same (said, is, says) =
+    (all_of said, [], unopened (ap (λ (x : Head). x.opening) is) (ap (λ (x : Head). all_of x.said) (sym is)) refl, says, rw same (adds-none before))
 
 -- the fleet that a head opens
 abbrev pub Opens : Terms → Option (List ℕ) → Option (List ℕ) → Draft → List ℕ → ℕ → Option (List ℕ) → Option (List ℕ) → List ℕ → List ℕ → Type 0
 Opens on known left e line first a b o p = IfSome known (λ xs. HearsAll on.settings on.head xs left e line (Some first) a b o p)
 
 -- it is refused, or memory runs out
-pub come-refused : (on : Terms) (known left a b : Option (List ℕ)) (e : Draft) (line : List ℕ) (first : ℕ) (o p : List ℕ) (f : OpenFault) → Opens on known left e line first a b o p
+pub come-refused : (on : Terms) (k : Shelved) (known left a b : Option (List ℕ)) (e : Draft) (line : List ℕ) (first : ℕ) (o p : List ℕ) (f : OpenFault) → Opens on known left e line first a b o p
     → ((starts : List ℕ) → e.starts ≡ Some starts → IsNamed f → IsRefused on.floor starts (clients_in e) (limits_in e) (laws_in on.kit e starts) f)
-    → IfSome known (λ xs. ComesTo on xs a b o p (Err (talk_fault f)))
-come-refused on None left a b e line first o p f h refused = tt
-come-refused on (Some xs) left a b e line first o p f (rest, left_is, starts, starts_is, said, is, says) refused = by f (refused starts starts_is)
+    → IfSome known (λ xs. ComesTo on xs a b o p k (Err (talk_fault f)))
+come-refused on k None left a b e line first o p f h refused = tt
+come-refused on k (Some xs) left a b e line first o p f (rest, left_is, starts, starts_is, said, is, says) refused = by f (refused starts starts_is)
   where
     told : all_of said ≡ all_of (head_in on xs).said
     told = ap (λ (x : Head). all_of x.said) (sym is)
 
-    by : (f : OpenFault) → (IsNamed f → IsRefused on.floor starts (clients_in e) (limits_in e) (laws_in on.kit e starts) f) → ComesTo on xs a b o p (Err (talk_fault f))
+    by : (f : OpenFault) → (IsNamed f → IsRefused on.floor starts (clients_in e) (limits_in e) (laws_in on.kit e starts) f) → ComesTo on xs a b o p k (Err (talk_fault f))
     by why.NoMemory r = (all_of said, in_head said [] (ap (λ (x : Head). x.said) is ∙ sym (append-nil said)) refl, says)
     by why.Limits r = (all_of said, record { opening = _; at = ap (λ (x : Head). x.opening) is; refused = r tt; is = told }, says)
     by why.NoRobots r = (all_of said, record { opening = _; at = ap (λ (x : Head). x.opening) is; refused = r tt; is = told }, says)
@@ -175,14 +177,36 @@ record Talked (on : Terms) (bytes : List ℕ) (o : Opening) (a b c : Option (Lis
   may : MayOpen on o
   says : Says a b w p (all_of (head_in on bytes).said)
 
-come_all : (on : Terms) (bytes : List ℕ) (o : Opening) (a b c : Option (List ℕ)) (w p q : List ℕ) → Talked on bytes o a b c w p q
-    → (text : List ℕ) × (last : Talk Global) × Talks on.settings.roll (opened on o) (acts_of on o) text last × Says b c p q text → ComesTo on bytes a c w q (Ok tt)
-come_all on bytes o a b c w p q t (text, last, talks, says) =
-    (all_of (head_in on bytes).said ++ text, talked o t.at t.may text last talks refl, says-then a b c w p q (all_of (head_in on bytes).said) text t.says says)
+-- all that was asked of it was said, and it ended so
+abbrev SaidAll : Terms → Opening → Talk Global → Option (List ℕ) → Option (List ℕ) → List ℕ → List ℕ → Type 0
+SaidAll on o last b c p q = (text : List ℕ) × Talks on.settings.roll (opened on o) (acts_of on o) text last × Says b c p q text
 
-come_until : (on : Terms) (bytes : List ℕ) (o : Opening) (a b c : Option (List ℕ)) (w p q : List ℕ) (f : TalkFault) → Talked on bytes o a b c w p q
-    → TalksUntil f on.settings.roll (opened {A = Global} on o) (acts_of on o) b c p q → ComesTo on bytes a c w q (Err f)
-come_until on bytes o a b c w p q f t u = by f (until-then f a b c w p q (all_of (head_in on bytes).said) u.text t.says u.says)
+come_all : (on : Terms) (k : Shelved) (bytes : List ℕ) (o : Opening) (last : Talk Global) (a b c : Option (List ℕ)) (w p q : List ℕ) → Talked on bytes o a b c w p q → SaidAll on o last b c p q
+    → KeepsAll k.old k.new (opened on o) last → ComesTo on bytes a c w q k (Ok tt)
+come_all on k bytes o last a b c w p q t (text, talks, says) (chapters, are, kept) =
+    (all_of (head_in on bytes).said ++ text, chapters, talked o t.at t.may text last talks refl are, says-then a b c w p q (all_of (head_in on bytes).said) text t.says says, kept)
+
+-- the last chapter was not kept
+come_unkept : (on : Terms) (k : Shelved) (bytes : List ℕ) (o : Opening) (last : Talk Global) (a b c : Option (List ℕ)) (w p q : List ℕ) (f : TalkFault) → Talked on bytes o a b c w p q → SaidAll on o last b c p q
+    → IsMidway f → ComesTo on bytes a c w q k (Err f)
+come_unkept on k bytes o last a b c w p q f t (answers, talks, told) mid = by f mid
+  where
+    is : IsBegun on bytes (all_of (head_in on bytes).said ++ answers)
+    is = in_talk o t.at t.may (acts_of on o) [] (sym (append-nil (acts_of on o))) answers last talks refl
+
+    says : Says a c w q (all_of (head_in on bytes).said ++ answers)
+    says = says-then a b c w p q (all_of (head_in on bytes).said) answers t.says told
+
+    by : (f : TalkFault) → IsMidway f → ComesTo on bytes a c w q k (Err f)
+    by Input mid = (all_of (head_in on bytes).said ++ answers, is, says)
+    by Shelf mid = (all_of (head_in on bytes).said ++ answers, is, says)
+    by NoMemory mid = (all_of (head_in on bytes).said ++ answers, is, says)
+    by Output mid = absurd mid
+    by (Unopened f) mid = absurd mid
+
+come_until : (on : Terms) (k : Shelved) (bytes : List ℕ) (o : Opening) (a b c : Option (List ℕ)) (w p q : List ℕ) (f : TalkFault) → Talked on bytes o a b c w p q
+    → TalksUntil f on.settings.roll (opened {A = Global} on o) (acts_of on o) b c p q → ComesTo on bytes a c w q k (Err f)
+come_until on k bytes o a b c w p q f t u = by f (until-then f a b c w p q (all_of (head_in on bytes).said) u.text t.says u.says)
   where
     text : List ℕ
     text = all_of (head_in on bytes).said ++ u.text
@@ -190,30 +214,20 @@ come_until on bytes o a b c w p q f t u = by f (until-then f a b c w p q (all_of
     is : IsBegun on bytes (all_of (head_in on bytes).said ++ u.text)
     is = in_talk o t.at t.may u.done u.left u.parts u.text u.last u.talks refl
 
-    by : (f : TalkFault) → SaysUntil f a c w q (all_of (head_in on bytes).said ++ u.text) → ComesTo on bytes a c w q (Err f)
+    by : (f : TalkFault) → SaysUntil f a c w q (all_of (head_in on bytes).said ++ u.text) → ComesTo on bytes a c w q k (Err f)
     by Input s = (all_of (head_in on bytes).said ++ u.text, is, s)
     by Output s = (all_of (head_in on bytes).said ++ u.text, is, s)
     by Shelf s = (all_of (head_in on bytes).said ++ u.text, is, s)
     by NoMemory s = (all_of (head_in on bytes).said ++ u.text, is, s)
     by (Unopened f) s = absurd s
 
--- the last chapter was kept or not
-kept_last : (on : Terms) (bytes : List ℕ) (a c : Option (List ℕ)) (w q : List ℕ) (ended result : Result (Unit {0}) TalkFault) → ComesTo on bytes a c w q ended → Keeps ended result → ComesTo on bytes a c w q result
-kept_last on bytes a c w q (Ok done) (Ok done2) h k = h
-kept_last on bytes a c w q (Ok done) (Err Input) (text, is, says) k = (text, begun on bytes text is, says)
-kept_last on bytes a c w q (Ok done) (Err Shelf) (text, is, says) k = (text, begun on bytes text is, says)
-kept_last on bytes a c w q (Ok done) (Err NoMemory) (text, is, says) k = (text, begun on bytes text is, says)
-kept_last on bytes a c w q (Ok done) (Err Output) h k = absurd k
-kept_last on bytes a c w q (Ok done) (Err (Unopened f)) h k = absurd k
-kept_last on bytes a c w q (Err f) result h k = subst (ComesTo on bytes a c w q) (sym k) h
-
 -- the same of the open fleet, in the words of the head
-all_said : (on settings : Settings) (rest : List ℕ) (first : ℕ) (line : List ℕ) (b c : Option (List ℕ)) (p q : List ℕ) (left : Option (List ℕ)) (s t : Talk Global) → left ≡ Some rest → settings ≡ on → s ≡ t
-    → IfSome left (λ xs. (text : List ℕ) × (last : Talk Global) × Talks settings.roll s (acts_from settings first (line ∷ heard_lines xs)) text last × Says b c p q text)
-    → (text : List ℕ) × (last : Talk Global) × Talks on.roll t (acts_from on first (line ∷ heard_lines rest)) text last × Says b c p q text
-all_said on settings rest first line b c p q left s t left_is same is h =
-    let (text, last, talks, says) = subst (λ (l : Option (List ℕ)). IfSome l (λ xs. (text : List ℕ) × (last : Talk Global) × Talks settings.roll s (acts_from settings first (line ∷ heard_lines xs)) text last × Says b c p q text)) left_is h in
-    (text, last, subst (λ (x : Talk Global). Talks on.roll x (acts_from on first (line ∷ heard_lines rest)) text last) is (subst (λ (st : Settings). Talks st.roll s (acts_from st first (line ∷ heard_lines rest)) text last) same talks), says)
+all_said : (on settings : Settings) (rest : List ℕ) (first : ℕ) (line : List ℕ) (b c : Option (List ℕ)) (p q : List ℕ) (left : Option (List ℕ)) (s t last : Talk Global) → left ≡ Some rest → settings ≡ on → s ≡ t
+    → IfSome left (λ xs. (text : List ℕ) × Talks settings.roll s (acts_from settings first (line ∷ heard_lines xs)) text last × Says b c p q text)
+    → (text : List ℕ) × Talks on.roll t (acts_from on first (line ∷ heard_lines rest)) text last × Says b c p q text
+all_said on settings rest first line b c p q left s t last left_is same is h =
+    let (text, talks, says) = subst (λ (l : Option (List ℕ)). IfSome l (λ xs. (text : List ℕ) × Talks settings.roll s (acts_from settings first (line ∷ heard_lines xs)) text last × Says b c p q text)) left_is h in
+    (text, subst (λ (x : Talk Global). Talks on.roll x (acts_from on first (line ∷ heard_lines rest)) text last) is (subst (λ (st : Settings). Talks st.roll s (acts_from st first (line ∷ heard_lines rest)) text last) same talks), says)
 
 until_said : (on settings : Settings) (rest : List ℕ) (first : ℕ) (line : List ℕ) (b c : Option (List ℕ)) (p q : List ℕ) (left : Option (List ℕ)) (s t : Talk Global) (f : TalkFault) → left ≡ Some rest → settings ≡ on → s ≡ t
     → IfSome left (λ xs. TalksUntil f settings.roll s (acts_from settings first (line ∷ heard_lines xs)) b c p q) → TalksUntil f on.roll t (acts_from on first (line ∷ heard_lines rest)) b c p q
@@ -221,18 +235,20 @@ until_said on settings rest first line b c p q left s t f left_is same is h =
     let u = subst (λ (l : Option (List ℕ)). IfSome l (λ xs. TalksUntil f settings.roll s (acts_from settings first (line ∷ heard_lines xs)) b c p q)) left_is h in
     subst (λ (x : Talk Global). TalksUntil f on.roll x (acts_from on first (line ∷ heard_lines rest)) b c p q) is (subst (λ (st : Settings). TalksUntil f st.roll s (acts_from st first (line ∷ heard_lines rest)) b c p q) same u)
 
--- the fleet was opened, and the lines from then on were answered
-pub come-talk : (on : Terms) (known left a b c : Option (List ℕ)) (e : Draft) (line : List ℕ) (first : ℕ) (w p q : List ℕ) (settings : Settings) (s : Talk Global) (ended result : Result (Unit {0}) TalkFault)
+-- the fleet was opened, the lines from then on were answered, and the chapters were kept
+pub come-talk : (on : Terms) (before mid after : Option (List (ChapterView Global))) (known left a b c : Option (List ℕ)) (e : Draft) (line : List ℕ) (first : ℕ) (w p q : List ℕ) (settings : Settings) (s last : Talk Global)
+    (ended result : Result (Unit {0}) TalkFault)
     → Opens on known left e line first a b w p → settings ≡ on.settings
     → ((starts : List ℕ) → e.starts ≡ Some starts → CanOpen on.floor starts (clients_in e) (limits_in e) (laws_in on.kit e starts))
     → ((starts : List ℕ) → e.starts ≡ Some starts → AreOrderly (laws_in on.kit e starts))
     → ((starts : List ℕ) → e.starts ≡ Some starts → s ≡ opened on (record { starts = starts; head = e; number = first; lines = [] }))
-    → OnOk ended (IfSome left (λ xs. (text : List ℕ) × (last : Talk Global) × Talks settings.roll s (acts_from settings first (line ∷ heard_lines xs)) text last × Says b c p q text))
+    → OnOk ended (IfSome left (λ xs. (text : List ℕ) × Talks settings.roll s (acts_from settings first (line ∷ heard_lines xs)) text last × Says b c p q text))
     → IfErr ended (λ f. IfSome left (λ xs. TalksUntil f settings.roll s (acts_from settings first (line ∷ heard_lines xs)) b c p q))
-    → Keeps ended result → IfSome known (λ xs. ComesTo on xs a c w q result)
-come-talk on None left a b c e line first w p q settings s ended result h same can orderly ready all until keeps = tt
-come-talk on (Some xs) left a b c e line first w p q settings s ended result (rest, left_is, starts, starts_is, said, is, says) same can orderly ready all until keeps =
-    kept_last on xs a c w q ended result (by ended all until) keeps
+    → OnOk ended (KeepsTurned before mid s last) → Keeps ended result → OnOk result (KeepsLast mid after last)
+    → IfSome known (λ xs. ComesTo on xs a c w q (record { old = before; new = after }) result)
+come-talk on before mid after None left a b c e line first w p q settings s last ended result h same can orderly ready all until turned keeps kept = tt
+come-talk on before mid after (Some xs) left a b c e line first w p q settings s last ended result (rest, left_is, starts, starts_is, said, is, says) same can orderly ready all until turned keeps kept =
+    by ended result all until turned keeps kept
   where
     o : Opening
     o = record { starts = starts; head = e; number = first; lines = line ∷ heard_lines rest }
@@ -244,7 +260,14 @@ come-talk on (Some xs) left a b c e line first w p q settings s ended result (re
       says = subst (λ (x : List ℕ). Says a b w p x) (ap (λ (x : Head). all_of x.said) (sym is)) says;
     }
 
-    by : (ended : Result (Unit {0}) TalkFault) → OnOk ended (IfSome left (λ xs. (text : List ℕ) × (last : Talk Global) × Talks settings.roll s (acts_from settings first (line ∷ heard_lines xs)) text last × Says b c p q text))
-        → IfErr ended (λ f. IfSome left (λ xs. TalksUntil f settings.roll s (acts_from settings first (line ∷ heard_lines xs)) b c p q)) → ComesTo on xs a c w q ended
-    by (Ok done) all until = come_all on xs o a b c w p q t (all_said on.settings settings rest first line b c p q left s (opened on o) left_is same (ready starts starts_is) all)
-    by (Err f) all until = come_until on xs o a b c w p q f t (until_said on.settings settings rest first line b c p q left s (opened on o) f left_is same (ready starts starts_is) until)
+    by : (ended result : Result (Unit {0}) TalkFault) → OnOk ended (IfSome left (λ xs. (text : List ℕ) × Talks settings.roll s (acts_from settings first (line ∷ heard_lines xs)) text last × Says b c p q text))
+        → IfErr ended (λ f. IfSome left (λ xs. TalksUntil f settings.roll s (acts_from settings first (line ∷ heard_lines xs)) b c p q))
+        → OnOk ended (KeepsTurned before mid s last) → Keeps ended result → OnOk result (KeepsLast mid after last) → ComesTo on xs a c w q (record { old = before; new = after }) result
+    by (Ok done) (Ok done2) all until turned keeps kept =
+        come_all on (record { old = before; new = after }) xs o last a b c w p q t (all_said on.settings settings rest first line b c p q left s (opened on o) last left_is same (ready starts starts_is) all)
+        (keeps-all before mid after (opened on o) last (subst (λ (x : Talk Global). KeepsTurned before mid x last) (ready starts starts_is) turned) kept)
+    by (Ok done) (Err f) all until turned keeps kept =
+        come_unkept on (record { old = before; new = after }) xs o last a b c w p q f t (all_said on.settings settings rest first line b c p q left s (opened on o) last left_is same (ready starts starts_is) all) keeps
+    by (Err f) result all until turned keeps kept =
+        subst (ComesTo on xs a c w q (record { old = before; new = after })) (sym keeps)
+        (come_until on (record { old = before; new = after }) xs o a b c w p q f t (until_said on.settings settings rest first line b c p q left s (opened on o) f left_is same (ready starts starts_is) until))

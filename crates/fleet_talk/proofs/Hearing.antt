@@ -1,12 +1,11 @@
 -- The lines of a head, one after another.
-use Rattle.std.proofs.Common.{◌≡◌, ◌∙◌, ℕ, ◌+◌, Bool, true, false, cond, List, [], ◌∷◌, ◌++◌, Option, Some, None, IfSome, refl, sym, ap, subst, append_assoc, append-nil, is_some, unwrap_or}
+use Rattle.std.proofs.Common.{◌≡◌, ◌∙◌, ℕ, ◌+◌, Bool, true, false, cond, List, [], ◌∷◌, ◌++◌, Option, Some, None, IfSome, refl, sym, ap, subst, append_assoc, append-nil, unwrap_or}
 use Rattle.fleet_script.specs.Script.{Draft}
 use Rattle.fleet_talk.specs.declared.ask.Asked.{Asked}
 use Rattle.fleet_talk.specs.declared.ask.Asked.TheVariants.{Nothing, Events, Chapter, Look, Quit, Other, Long}
 use Rattle.fleet_talk.specs.declared.ends.Settings.{Settings}
 use Rattle.fleet_talk.specs.declared.fault.TalkFault.{TalkFault}
 use Rattle.fleet_talk.specs.declared.fault.TalkFault.TheVariants.{NoMemory}
-use Rattle.fleet_talk.specs.declared.heading.After.{After}
 use Rattle.fleet_talk.specs.declared.heading.After.TheVariants as comes
 use Rattle.fleet_talk.specs.declared.pen.Pen.{Pen}
 use Rattle.fleet_talk.specs.Act.{is_quit}
@@ -14,7 +13,6 @@ use Rattle.fleet_talk.specs.Ask.{Line, line_in}
 use Rattle.fleet_talk.specs.Broken.{IsMidway, SaysUntil}
 use Rattle.fleet_talk.specs.Heard.{Head, no_head, all_of, head_of, heard_lines, opens, with_head_line, with_said, unless_opened, IsNext}
 use Rattle.fleet_talk.specs.Heading.{Follows, Hears, HearsAll, HearsUntil, IsOfHead, IsPartly, texts_at}
-use Rattle.fleet_talk.specs.Said.{IsAdded, IsKept}
 use Rattle.fleet_talk.specs.Says.{Says}
 use Rattle.fleet_talk.proofs.Saying.{says-none, says-added, says-then, says-written, midway, until-then, until-written}
 

@@ -1,6 +1,7 @@
 pub mod Lines
 pub mod Scripts
 pub mod Saying
+pub mod Shelving
 pub mod Hearing
 pub mod Talking
 pub mod Breaking

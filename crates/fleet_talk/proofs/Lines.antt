@@ -1,5 +1,5 @@
 -- The lines of an input, as they are read one by one.
-use Rattle.std.proofs.Common.{◌≡◌, ◌≢◌, ◌∙◌, ℕ, ◌+◌, ◌<◌, Bool, true, false, cond, List, [], ◌∷◌, ◌++◌, All, length, take, map, Option, None, Some, IfSome, IsTrue, ◌↔◌, refl, sym, ap, subst, arith, ne_eqb, eqb}
+use Rattle.std.proofs.Common.{◌≡◌, ◌≢◌, ◌∙◌, ℕ, ◌<◌, Bool, true, false, List, [], ◌∷◌, ◌++◌, All, length, take, map, Option, None, Some, IfSome, IsTrue, ◌↔◌, refl, sym, ap, subst, arith, ne_eqb, eqb}
 use Rattle.std.specs.List.{slice_split}
 use Rattle.std.specs.Io.BufRead.{take_through, drop_through, first_piece, strip_last, DropsThrough}
 use Rattle.std.proofs.BufReadLemmas.{take_through-append, drop_through-append}

@@ -15,8 +15,8 @@ use Rattle.fleet_talk.proofs.Saying.{says-none, says-then, until-then}
 use Rattle.fleet_talk.proofs.Talking.{talks-append}
 
 -- what is said of the lines that were asked of an open fleet
-abbrev pub TalksAll : {A : Type 0} → Settings → Talk A → List Act → Option (List ℕ) → Option (List ℕ) → List ℕ → List ℕ → Type 0
-TalksAll {A} settings s asked before after waited waits = (text : List ℕ) × (last : Talk A) × Talks settings.roll s asked text last × Says before after waited waits text
+abbrev pub TalksAll : {A : Type 0} → Settings → Talk A → List Act → Talk A → Option (List ℕ) → Option (List ℕ) → List ℕ → List ℕ → Type 0
+TalksAll settings s asked last before after waited waits = (text : List ℕ) × Talks settings.roll s asked text last × Says before after waited waits text
 
 module _ {A : Type 0} (settings : Settings) (s : Talk A) where
   -- what is done at a line and at those that follow
@@ -54,10 +54,10 @@ module _ {A : Type 0} (settings : Settings) (s : Talk A) where
         (until-none fault settings.roll m (acts_from settings n (line ∷ heard_lines g.rest)) after waits waits is refl)))
 
     -- the line ends the conversation
-    pub goes-over : (l : Line) → l ≡ line_in n line → is_quit l.asked ≡ true → IfSome known (λ xs. TalksAll settings s (asks xs) before after waited waits)
-    goes-over l at quit = at_each (λ xs. TalksAll settings s (asks xs) before after waited waits) (λ xs g.
+    pub goes-over : (l : Line) → l ≡ line_in n line → is_quit l.asked ≡ true → IfSome known (λ xs. TalksAll settings s (asks xs) m before after waited waits)
+    goes-over l at quit = at_each (λ xs. TalksAll settings s (asks xs) m before after waited waits) (λ xs g.
         let all : asks xs ≡ g.done = g.parts ∙ (ap (λ acts. g.done ++ acts) (acts_over n line (heard_lines g.rest) l at quit) ∙ append-nil g.done) in
-        (g.text, m, subst (λ (acts : List Act). Talks settings.roll s acts g.text m) (sym all) g.talks, g.says))
+        (g.text, subst (λ (acts : List Act). Talks settings.roll s acts g.text m) (sym all) g.talks, g.says))
 
     -- the line broke off
     pub goes-broken : (l : Line) (fault : TalkFault) (after2 : Option (List ℕ)) (waits2 : List ℕ) → l ≡ line_in n line → is_quit l.asked ≡ false → TalksUntil fault settings.roll m (acts_on settings l) after after2 waits waits2
@@ -107,12 +107,12 @@ module _ {A : Type 0} (settings : Settings) (s : Talk A) where
         next_is rest left2 found line2 is next = subst (λ (o : Option (List ℕ)). IfSome o (λ ys. IsNext ys left2 found line2)) is next
 
         -- it was the last
-        pub goes-end : (left2 : Option (List ℕ)) (found : Bool) (line2 : List ℕ) → IfSome left (λ ys. IsNext ys left2 found line2) → found ≡ false → IfSome known (λ xs. TalksAll settings s (asks xs) before after3 waited waits3)
-        goes-end left2 found line2 next none = at_each (λ xs. TalksAll settings s (asks xs) before after3 waited waits3) (λ xs g.
+        pub goes-end : (left2 : Option (List ℕ)) (found : Bool) (line2 : List ℕ) → IfSome left (λ ys. IsNext ys left2 found line2) → found ≡ false → IfSome known (λ xs. TalksAll settings s (asks xs) t before after3 waited waits3)
+        goes-end left2 found line2 next none = at_each (λ xs. TalksAll settings s (asks xs) t before after3 waited waits3) (λ xs g.
             let (rest, left_is, done, parts, text, all, told) = answered_line xs g in
             let (rest2, left2_is, lines) = next_is rest left2 false line2 left_is (subst (λ b. IfSome left (λ ys. IsNext ys left2 b line2)) none next) in
             let ends : asks xs ≡ done = parts ∙ (ap (λ (ls : List (List ℕ)). done ++ acts_from settings (n + 1) ls) lines ∙ append-nil done) in
-            (text, t, subst (λ (acts : List Act). Talks settings.roll s acts text t) (sym ends) all, all_said text told))
+            (text, subst (λ (acts : List Act). Talks settings.roll s acts text t) (sym ends) all, all_said text told))
 
         -- another was read
         pub goes-more : (left2 : Option (List ℕ)) (found : Bool) (line2 : List ℕ) → IfSome left (λ ys. IsNext ys left2 found line2) → found ≡ true → IfSome known (λ xs. Goes settings s (asks xs) left2 t (n + 1) line2 before after3 waited waits3)

@@ -1,8 +1,8 @@
 -- A script in form, as a conversation hears it.
-use Rattle.std.proofs.Common.{◌≡◌, ◌∙◌, ℕ, zero, suc, ◌+◌, ◌≤◌, Bool, true, false, cond, ◌&&◌, leb, ltb, eqb, List, [], ◌∷◌, ◌++◌, length, map, take, take_all, replicate, Option, Some, None, Result, Ok, Err, refl, sym, ap, subst, arith, codes, bytes_eq, option_map, unwrap_or, is_some, append-nil, inl, inr, append_assoc, true≢false}
+use Rattle.std.proofs.Common.{◌≡◌, ◌∙◌, ℕ, zero, suc, ◌+◌, ◌≤◌, Bool, true, false, cond, ◌&&◌, leb, ltb, eqb, List, [], ◌∷◌, ◌++◌, length, map, take, take_all, replicate, Option, Some, None, Result, Ok, refl, sym, ap, subst, arith, codes, option_map, unwrap_or, is_some, append-nil, inl, inr, append_assoc, true≢false}
 use Rattle.std.specs.List.{AllByRecursion, slice_split, onto_first}
 use Rattle.std.specs.Str.Lines.{strip_carriage_return}
-use Rattle.std.proofs.lemmas.Bool.{cases_Bool, leb-true, le-leb, le-ltb, eqb-true, eqb-false, and_parts}
+use Rattle.std.proofs.lemmas.Bool.{cases_Bool, leb-true, le-leb, le-ltb, eqb-true, and_parts}
 use Rattle.std.proofs.lemmas.Option.{same_Some}
 use Rattle.std.specs.Prelude.{filter, not}
 use Rattle.fleet_map.specs.Text.{is_blank, is_empty, words_of}
@@ -10,13 +10,12 @@ use Rattle.fleet_book.specs.declared.event.Event.{Event}
 use Rattle.fleet_script.specs.Script.{Draft, Plan, Repeated, starts_within, if_new, with_header, with_header_within, with_events, no_events, with_line_of, with_line, with_words, is_comment, events_of, plan_from, limits_of, or_line, and_then, draft_of, blank_draft, script_of}
 use Rattle.fleet_script.specs.Numbers.{numbers_in}
 use Rattle.fleet_script.specs.Grammar.{is_header}
-use Rattle.fleet_script.specs.Event.{Said, event_line_in}
 use Rattle.fleet_script.proofs.Heads.{at_word, header_is}
 use Rattle.fleet_script.proofs.Forms.{event_is, other_is}
 use Rattle.fleet_talk.specs.declared.ask.Asked.{Asked}
-use Rattle.fleet_talk.specs.declared.ask.Asked.TheVariants.{Nothing, Events, Chapter, Look, Quit, Other, Long}
+use Rattle.fleet_talk.specs.declared.ask.Asked.TheVariants.{Nothing, Events, Other}
 use Rattle.fleet_talk.specs.declared.ends.Settings.{Settings}
-use Rattle.fleet_talk.specs.Ask.{Line, line_in, asked_in, asked_on, word_asked, is_marked, mark_in, told_in}
+use Rattle.fleet_talk.specs.Ask.{Line, line_in, asked_in, word_asked, is_marked}
 use Rattle.fleet_talk.specs.Act.{Act, play, is_quit, acts_asked, acts_on, acts_from}
 use Rattle.fleet_talk.specs.Heard.{parts_of, heard_lines, AreShort, Opening, Head, no_head, with_said, unless_opened, opens, header_texts, with_head_line, head_of}
 

@@ -1,5 +1,5 @@
 -- The fleet that a head names.
-use Rattle.std.proofs.Common.{◌≡◌, ◌∙◌, ℕ, List, Option, Some, None, option_map, unwrap_or, refl, sym, ap}
+use Rattle.std.proofs.Common.{◌≡◌, ◌∙◌, ℕ, List, Option, Some, None, option_map, unwrap_or, ap}
 use Rattle.std.proofs.lemmas.Option.{same_Some}
 use Rattle.fleet_book.specs.declared.limits.Limits.{Limits}
 use Rattle.fleet_core.specs.Hooks.{HookLaws}

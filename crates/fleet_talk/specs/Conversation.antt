@@ -1,5 +1,5 @@
 -- A conversation as a whole: over all lines of an input, or up to a fault.
-use Rattle.std.specs.Prelude.{◌≡◌, ℕ, true, false, is_some, List, ◌++◌, length, Option, Some, None, Result, Ok, Err, unwrap_or, if◌then◌else◌}
+use Rattle.std.specs.Prelude.{◌≡◌, ℕ, true, false, is_some, List, [], ◌++◌, length, Option, Some, None, Result, Ok, Err, unwrap_or, if◌then◌else◌}
 use Rattle.std.specs.declared.alloc.Global.{Global}
 use Rattle.fleet_grid.specs.Floor.{Floor}
 use Rattle.fleet_book.specs.declared.limits.Limits.{Limits}
@@ -17,6 +17,7 @@ use Rattle.fleet_talk.specs.declared.ground.TheConstants.{TALK_LIMITS}
 use Rattle.fleet_talk.specs.Act.{Act, acts_from}
 use Rattle.fleet_talk.specs.Acts.{Talks}
 use Rattle.fleet_talk.specs.Broken.{SaysUntil}
+use Rattle.fleet_talk.specs.Chapters.{Adds, AreChapters, ChapterView}
 use Rattle.fleet_talk.specs.Heard.{Opening, Head, all_of, head_of, heard_lines}
 use Rattle.fleet_talk.specs.Says.{Says}
 
@@ -57,13 +58,13 @@ acts_of on o = acts_from on.settings o.number o.lines
 
 -- ---- texts of conversations
 
--- the text of a whole conversation: the lines of the input were answered one by one, up to one that says quit, or to the end
-pub data IsConversation (on : Terms) (bytes text : List ℕ) : Type 0 where
+-- the text and the chapters of a whole conversation: the lines of the input were answered one by one, up to one that says quit, or to the end
+pub data IsConversation (on : Terms) (bytes text : List ℕ) (chapters : List (ChapterView Global)) : Type 0 where
   -- no line opened the fleet
-  unopened : (head_in on bytes).opening ≡ None → text ≡ all_of (head_in on bytes).said → IsConversation on bytes text
+  unopened : (head_in on bytes).opening ≡ None → text ≡ all_of (head_in on bytes).said → chapters ≡ [] → IsConversation on bytes text chapters
   -- the fleet was opened, and all was done that the lines from then on ask
   talked : (o : Opening) → (head_in on bytes).opening ≡ Some o → MayOpen on o → (answers : List ℕ) (last : Talk Global) → Talks on.settings.roll (opened on o) (acts_of on o) answers last
-      → text ≡ all_of (head_in on bytes).said ++ answers → IsConversation on bytes text
+      → text ≡ all_of (head_in on bytes).said ++ answers → AreChapters (opened {A = Global} on o).world last.world chapters → IsConversation on bytes text chapters
 
 -- the beginning of one: some first texts of its head, or all of these and what is said of some first acts
 pub data IsBegun (on : Terms) (bytes text : List ℕ) : Type 0 where
@@ -81,14 +82,20 @@ pub record IsRefusedHead (on : Terms) (bytes text : List ℕ) (why : OpenFault) 
 
 -- ---- how one ends
 
--- what was said of an input when the conversation came to this end, and what a writer took of it
-abbrev pub ComesTo : Terms → List ℕ → Option (List ℕ) → Option (List ℕ) → List ℕ → List ℕ → Result (Unit {0}) TalkFault → Type 0
-ComesTo on bytes before after waited waits (Ok done) = (text : List ℕ) × IsConversation on bytes text × Says before after waited waits text
-ComesTo on bytes before after waited waits (Err Input) = (text : List ℕ) × IsBegun on bytes text × SaysUntil Input before after waited waits text
-ComesTo on bytes before after waited waits (Err Output) = (text : List ℕ) × IsBegun on bytes text × SaysUntil Output before after waited waits text
-ComesTo on bytes before after waited waits (Err Shelf) = (text : List ℕ) × IsBegun on bytes text × SaysUntil Shelf before after waited waits text
-ComesTo on bytes before after waited waits (Err (Unopened why)) = (text : List ℕ) × IsRefusedHead on bytes text why × Says before after waited waits text
-ComesTo on bytes before after waited waits (Err NoMemory) = (text : List ℕ) × IsBegun on bytes text × SaysUntil NoMemory before after waited waits text
+-- what a shelf had kept before, and what it has kept now
+pub record Shelved : Type 0 where
+  pub old : Option (List (ChapterView Global))
+  pub new : Option (List (ChapterView Global))
+
+-- what was said of an input when the conversation came to this end, what a writer took of it, and what a shelf kept
+abbrev pub ComesTo : Terms → List ℕ → Option (List ℕ) → Option (List ℕ) → List ℕ → List ℕ → Shelved → Result (Unit {0}) TalkFault → Type 0
+ComesTo on bytes before after waited waits shelf (Ok done) =
+    (text : List ℕ) × (chapters : List (ChapterView Global)) × IsConversation on bytes text chapters × Says before after waited waits text × Adds shelf.old shelf.new chapters
+ComesTo on bytes before after waited waits shelf (Err Input) = (text : List ℕ) × IsBegun on bytes text × SaysUntil Input before after waited waits text
+ComesTo on bytes before after waited waits shelf (Err Output) = (text : List ℕ) × IsBegun on bytes text × SaysUntil Output before after waited waits text
+ComesTo on bytes before after waited waits shelf (Err Shelf) = (text : List ℕ) × IsBegun on bytes text × SaysUntil Shelf before after waited waits text
+ComesTo on bytes before after waited waits shelf (Err (Unopened why)) = (text : List ℕ) × IsRefusedHead on bytes text why × Says before after waited waits text
+ComesTo on bytes before after waited waits shelf (Err NoMemory) = (text : List ℕ) × IsBegun on bytes text × SaysUntil NoMemory before after waited waits text
 
 -- ---- scripts
 

@@ -1,5 +1,5 @@
 -- What is heard and said of a head, line by line.
-use Rattle.std.specs.Prelude.{◌≡◌, ℕ, ◌+◌, Bool, true, false, List, [], ◌∷◌, ◌++◌, Option, Some, None, is_some, unwrap_or}
+use Rattle.std.specs.Prelude.{◌≡◌, ℕ, Bool, true, false, List, [], ◌∷◌, ◌++◌, Option, Some, None, is_some, unwrap_or}
 use Rattle.fleet_script.specs.declared.header.Head as program
 use Rattle.fleet_script.specs.Script.{Draft}
 use Rattle.fleet_script.specs.Shown.{headed}
@@ -11,7 +11,7 @@ use Rattle.fleet_talk.specs.declared.pen.Pen.{Pen}
 use Rattle.fleet_talk.specs.Act.{is_quit}
 use Rattle.fleet_talk.specs.Ask.{Line}
 use Rattle.fleet_talk.specs.Broken.{SaysUntil}
-use Rattle.fleet_talk.specs.Heard.{Opening, all_of, head_of, header_texts, heard_lines, opens, with_head_line, with_said}
+use Rattle.fleet_talk.specs.Heard.{all_of, head_of, header_texts, heard_lines, opens, with_head_line, with_said}
 use Rattle.fleet_talk.specs.Said.{IsAdded, IsKept}
 use Rattle.fleet_talk.specs.Says.{Says}
 

@@ -7,6 +7,7 @@ pub mod Broken
 pub mod Heading
 pub mod Look
 pub mod Acts
+pub mod Chapters
 pub mod Talked
 pub mod Said
 pub mod Conversation

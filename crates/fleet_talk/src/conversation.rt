@@ -1,8 +1,11 @@
 //! A conversation as a whole.
 
-ghost use Rattle.std.specs.Prelude.{◌≡◌, ◌≤◌, ◌↔◌, ℕ, List, [], Ok, Err, Some, OnOk, IfOk, IfErr, IfSome, vec_len};
+ghost use Rattle.std.specs.Prelude.{◌≡◌, ◌≤◌, ◌↔◌, ◌∷◌, ℕ, List, [], Ok, Err, Some, OnOk, IfOk, IfErr, IfSome, vec_len};
 ghost use Rattle.std.specs.Io.Buffered.{reader_remaining};
 ghost use Rattle.std.specs.Io.KnownBytes.{Appends};
+ghost use Rattle.std.specs.declared.alloc.Global.{Global};
+ghost use Rattle.fleet_grid.specs.Floor.{Floor};
+ghost use Rattle.fleet_history.specs.History.{history_of};
 ghost use Rattle.errands_answer.specs.Kit.{kit_laws};
 ghost use Rattle.errands_text.specs.Transfer.{AppendsPrefix};
 ghost use Rattle.fleet_core.specs.Hooks.{AreOrderly};
@@ -11,6 +14,7 @@ ghost use Rattle.fleet_core.specs.OpeningFaults.{IsNamed, IsRefused};
 ghost use Rattle.fleet_session.specs.Keeps.{talk};
 ghost use Rattle.fleet_session.specs.Talk.{opened_talk};
 ghost use Rattle.fleet_talk.specs.Broken.{IsMidway};
+ghost use Rattle.fleet_talk.specs.Chapters.{Adds, ChapterView, IsSound, chapter_shown};
 ghost use Rattle.fleet_talk.specs.Conversation.{ComesTo, IsBegun, IsConversation, IsRefusedHead, Terms, clients_in, laws_in, limits_in};
 ghost use Rattle.fleet_talk.specs.Ending.{Finishes, Keeps};
 ghost use Rattle.fleet_talk.specs.Heading.{drafted};
@@ -79,7 +83,9 @@ fn keep_last<S: Shelf>(
     chapter: &Chapter,
     ended: Result<(), TalkFault>,
 ) -> Result<(), TalkFault>
-    ensures { Keeps ended result }
+    requires sound { (m : Floor) × IsSound m (history_of chapter.now) }
+    ensures ended { Keeps ended result }
+    ensures kept { OnOk result (Adds (S.kept shelf.old) (S.kept shelf.new) (chapter_shown chapter.now ∷ [])) }
 {
     let kept = shelf.keep(chapter);
     ended?;
@@ -112,7 +118,8 @@ fn hold<R: Alloc<A = Global>, I: Read, W: Write, S: Shelf>(
     requires { 0 ≤ vec_len ground.kit.plain.ties }
     ensures { IfSome (reader_remaining I.remaining ends.old.input) (λ bytes.
         ComesTo (record { kit = kit_laws ground.kit; floor = ground.grid; settings = pen.old.settings; head = drafted ground.head }) bytes
-        (W.contents ends.old.output) (W.contents ends.new.output) pen.old.out.items pen.new.out.items result) }
+        (W.contents ends.old.output) (W.contents ends.new.output) pen.old.out.items pen.new.out.items
+        (record { old = S.kept ends.old.shelf; new = S.kept ends.new.shelf }) result) }
 {
     let alloc = rt.alloc();
     let Ground { grid, kit, head } = ground;
@@ -150,10 +157,11 @@ pub fn converse<R: Alloc<A = Global>, I: Read, W: Write, S: Shelf>(
 ) -> Result<bool, TalkFault>
     // Of each call: only a call with a condition may hand on closures.
     requires { 0 ≤ vec_len ground.kit.plain.ties }
-    // A whole conversation over the lines of the input was written.
-    ensures ended { OnOk result (IfSome (reader_remaining I.remaining ends.old.input) (λ bytes. (text : List ℕ)
-        × IsConversation (record { kit = kit_laws ground.kit; floor = ground.grid; settings = settings; head = drafted ground.head }) bytes text
-        × Appends (W.contents ends.old.output) (W.contents ends.new.output) text)) }
+    // A whole conversation over the lines of the input was written, and its chapters were kept: those that were handed out, in order, and the last.
+    ensures ended { OnOk result (IfSome (reader_remaining I.remaining ends.old.input) (λ bytes. (text : List ℕ) × (chapters : List (ChapterView Global))
+        × IsConversation (record { kit = kit_laws ground.kit; floor = ground.grid; settings = settings; head = drafted ground.head }) bytes text chapters
+        × Appends (W.contents ends.old.output) (W.contents ends.new.output) text
+        × Adds (S.kept ends.old.shelf) (S.kept ends.new.shelf) chapters)) }
     // The answers to the head's lines were written, and the fleet is refused for this reason.
     ensures refused { (why : OpenFault) → result ≡ Err (TalkFault.Opening why) → IfSome (reader_remaining I.remaining ends.old.input) (λ bytes. (text : List ℕ)
         × IsRefusedHead (record { kit = kit_laws ground.kit; floor = ground.grid; settings = settings; head = drafted ground.head }) bytes text why

@@ -1,5 +1,11 @@
 //! Where a conversation's lines come from and where its answers go.
 
+ghost use Rattle.std.specs.Prelude.{◌≡◌, [], ◌∷◌, List, Option, OnOk, OnErr};
+ghost use Rattle.std.specs.declared.alloc.Global.{Global};
+ghost use Rattle.fleet_grid.specs.Floor.{Floor};
+ghost use Rattle.fleet_history.specs.History.{history_of};
+ghost use Rattle.fleet_talk.specs.Chapters.{Adds, ChapterView, IsSound, chapter_shown};
+
 use fleet_history::Chapter;
 use std::alloc::AllocError;
 use std::io::BufReader;
@@ -34,8 +40,14 @@ impl From<AllocError> for ShelfFault {
 
 /// Where a conversation's chapters go.
 pub trait Shelf {
-    /// Keeps a chapter.
-    fn keep(&mut self, chapter: &Chapter) -> Result<(), ShelfFault>;
+    /// The chapters that it kept, in order, where that is known; of files it is not.
+    ghost kept: { Self → Option (List (ChapterView Global)) };
+
+    /// Keeps a chapter, which is legal, and each tick of which advances where its map has no bridge. After a fault it is not kept.
+    fn keep(&mut self, chapter: &Chapter) -> Result<(), ShelfFault>
+        requires sound { (m : Floor) × IsSound m (history_of chapter.now) }
+        ensures ok { OnOk result (Adds (kept self.old) (kept self.new) (chapter_shown chapter.now ∷ [])) }
+        ensures err { OnErr result (kept self.new ≡ kept self.old) };
 }
 
 /// The reader of the lines, the writer of the answers, and the shelf of the chapters.

@@ -2,11 +2,10 @@
 
 ghost use Rattle.std.specs.Prelude.{◌≡◌, ◌≤◌, ◌∷◌, ℕ, List, OnOk, OnErr, IfErr, IfSome};
 ghost use Rattle.std.specs.Io.Buffered.{reader_remaining};
-ghost use Rattle.std.specs.declared.alloc.Global.{Global};
 ghost use Rattle.fleet_session.specs.Keeps.{talk};
-ghost use Rattle.fleet_session.specs.Talk.{Talk};
 ghost use Rattle.fleet_talk.specs.Act.{acts_asked, acts_from, acts_on, show};
 ghost use Rattle.fleet_talk.specs.Acts.{Does, Talks};
+ghost use Rattle.fleet_talk.specs.Chapters.{KeepsTurned};
 ghost use Rattle.fleet_talk.specs.Heard.{heard_lines};
 ghost use Rattle.fleet_talk.specs.Lines.{line_shown};
 ghost use Rattle.fleet_talk.specs.Said.{IsAdded, IsKept, under};
@@ -51,6 +50,7 @@ fn do_asked<R: Alloc<A = Global>, I, W: Write, S: Shelf>(
     requires { 0 ≤ session.old.world.core.number }
     ensures talks { OnOk result ((text : List ℕ) × Talks pen.old.settings.roll (talk session.old) (acts_asked (line_shown line.entry) line.entry.asked) text (talk session.new)
         × Says (W.contents ends.old.output) (W.contents ends.new.output) pen.old.out.items pen.new.out.items text) }
+    ensures kept { OnOk result (KeepsTurned (S.kept ends.old.shelf) (S.kept ends.new.shelf) (talk session.old) (talk session.new)) }
     ensures broken { IfErr result (λ fault. TalksUntil fault pen.old.settings.roll (talk session.old) (acts_asked (line_shown line.entry) line.entry.asked)
         (W.contents ends.old.output) (W.contents ends.new.output) pen.old.out.items pen.new.out.items) }
     ensures settings { pen.new.settings ≡ pen.old.settings }
@@ -76,6 +76,7 @@ fn answer<R: Alloc<A = Global>, I, W: Write, S: Shelf>(
     requires { 0 ≤ session.old.world.core.number }
     ensures talks { OnOk result ((text : List ℕ) × Talks pen.old.settings.roll (talk session.old) (acts_on pen.old.settings (line_shown line.entry)) text (talk session.new)
         × Says (W.contents ends.old.output) (W.contents ends.new.output) pen.old.out.items pen.new.out.items text) }
+    ensures kept { OnOk result (KeepsTurned (S.kept ends.old.shelf) (S.kept ends.new.shelf) (talk session.old) (talk session.new)) }
     ensures broken { IfErr result (λ fault. TalksUntil fault pen.old.settings.roll (talk session.old) (acts_on pen.old.settings (line_shown line.entry))
         (W.contents ends.old.output) (W.contents ends.new.output) pen.old.out.items pen.new.out.items) }
     ensures settings { pen.new.settings ≡ pen.old.settings }
@@ -95,9 +96,10 @@ pub(crate) fn go_on<R: Alloc<A = Global>, I: Read, W: Write, S: Shelf>(
     first: u64,
 ) -> Result<(), TalkFault>
     requires { 0 ≤ session.old.world.core.number }
-    ensures talks { OnOk result (IfSome (reader_remaining I.remaining ends.old.input) (λ xs. (text : List ℕ) × (last : Talk Global)
-        × Talks pen.old.settings.roll (talk session.old) (acts_from pen.old.settings first (bytes.old.items ∷ heard_lines xs)) text last
+    ensures talks { OnOk result (IfSome (reader_remaining I.remaining ends.old.input) (λ xs. (text : List ℕ)
+        × Talks pen.old.settings.roll (talk session.old) (acts_from pen.old.settings first (bytes.old.items ∷ heard_lines xs)) text (talk session.new)
         × Says (W.contents ends.old.output) (W.contents ends.new.output) pen.old.out.items pen.new.out.items text)) }
+    ensures kept { OnOk result (KeepsTurned (S.kept ends.old.shelf) (S.kept ends.new.shelf) (talk session.old) (talk session.new)) }
     ensures broken { IfErr result (λ fault. IfSome (reader_remaining I.remaining ends.old.input) (λ xs.
         TalksUntil fault pen.old.settings.roll (talk session.old) (acts_from pen.old.settings first (bytes.old.items ∷ heard_lines xs))
         (W.contents ends.old.output) (W.contents ends.new.output) pen.old.out.items pen.new.out.items)) }

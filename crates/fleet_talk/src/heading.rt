@@ -111,6 +111,7 @@ pub(crate) fn hear_head<I: Read, W: Write, S>(
     ensures broken { IfErr result (λ fault. IfSome (reader_remaining I.remaining ends.old.input) (λ xs.
         HearsUntil fault pen.old.settings (drafted head.old) xs (W.contents ends.old.output) (W.contents ends.new.output) pen.old.out.items pen.new.out.items)) }
     ensures settings { pen.new.settings ≡ pen.old.settings }
+    ensures shelf { ends.new.shelf ≡ ends.old.shelf }
 {
     for number in 1..u64::MAX {
         if !next_line(&mut ends.input, bytes)? {

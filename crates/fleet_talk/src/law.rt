@@ -15,6 +15,7 @@ ghost use Rattle.errands_text.specs.Output.{run_text};
 ghost use Rattle.fleet_session.specs.Talk.{Talk, forget, opened_talk};
 ghost use Rattle.fleet_talk.specs.Act.{play};
 ghost use Rattle.fleet_talk.specs.Acts.{Talks};
+ghost use Rattle.fleet_talk.specs.Chapters.{ChapterView};
 ghost use Rattle.fleet_talk.specs.Conversation.{IsConversation, NamesLimits, head_in, plain_terms};
 ghost use Rattle.fleet_talk.specs.Heard.{AreShort};
 
@@ -33,8 +34,8 @@ pub fn a_conversation_is_a_run<A>()
 /// Conditions: no line is too long; the head names the four limits whose defaults differ in a conversation; no marks
 /// are asked for, and no chapter is handed out unasked.
 pub fn a_script_is_a_run()
-    ensures { (kit : KitLaws) (m : Floor) (bytes text : List ℕ) (plan : Plan) →
-        script_of bytes ≡ Ok plan → AreShort bytes → IfSome (head_in (plain_terms kit m) bytes).opening (λ o. NamesLimits o.head) → IsConversation (plain_terms kit m) bytes text →
+    ensures { (kit : KitLaws) (m : Floor) (bytes text : List ℕ) (chapters : List (ChapterView Global)) (plan : Plan) →
+        script_of bytes ≡ Ok plan → AreShort bytes → IfSome (head_in (plain_terms kit m) bytes).opening (λ o. NamesLimits o.head) → IsConversation (plain_terms kit m) bytes text chapters →
         (replies : List Reply) × (last : State Global) × Run (opened_state m plan.starts plan.clients plan.limits (chosen_laws kit plan)) plan.events replies last
         × (text ≡ run_text plan.events replies last.world.history.entries) }
 {}

@@ -1,11 +1,14 @@
 //! Events and chapters of a conversation.
 
-ghost use Rattle.std.specs.Prelude.{◌≡◌, ◌≤◌, ℕ, List, length, replicate, OnOk, OnErr, IfErr};
+ghost use Rattle.std.specs.Prelude.{◌≡◌, ◌≤◌, [], ◌∷◌, ℕ, List, length, replicate, OnOk, OnErr, IfErr};
+ghost use Rattle.fleet_grid.specs.Floor.{Floor};
+ghost use Rattle.fleet_history.specs.History.{history_of};
 ghost use Rattle.errands_text.specs.Output.{is_limit_met};
 ghost use Rattle.fleet_session.specs.Keeps.{talk};
 ghost use Rattle.fleet_talk.specs.Act.{play};
 ghost use Rattle.fleet_talk.specs.Acts.{Does, HandsOut, Plays, Rolls, Talks, makes_entry};
 ghost use Rattle.fleet_talk.specs.Broken.{IsMidway};
+ghost use Rattle.fleet_talk.specs.Chapters.{Adds, IsSound, KeepsTurned, beginning, chapter_shown};
 ghost use Rattle.fleet_talk.specs.Said.{IsAdded, IsKept, under};
 ghost use Rattle.fleet_talk.specs.Says.{Says, chapter_text, marked};
 ghost use Rattle.fleet_talk.specs.Talked.{TalksUntil};
@@ -52,6 +55,8 @@ fn keep<S: Shelf>(
     pen: &mut Pen,
     mark: Option<&[u8]>,
 ) -> Result<(), TalkFault>
+    requires sound { (m : Floor) × IsSound m (history_of chapter.now) }
+    ensures kept { OnOk result (Adds (S.kept shelf.old) (S.kept shelf.new) (chapter_shown chapter.now ∷ [])) }
     ensures ok { OnOk result (IsAdded pen.old pen.new (marked (under mark.entry) (chapter_text chapter.now.number (length chapter.now.entries.items)))) }
     ensures err { OnErr result (IsKept pen.old pen.new) }
     ensures midway { IfErr result (λ fault. IsMidway fault) }
@@ -73,6 +78,7 @@ pub(crate) fn next_chapter<S: Shelf>(
 ) -> Result<(), TalkFault>
     requires { 0 ≤ session.old.world.core.number }
     ensures ok { OnOk result ((text : List ℕ) × HandsOut (talk session.old) (under mark.entry) text (talk session.new) × IsAdded pen.old pen.new text) }
+    ensures kept { OnOk result (KeepsTurned (S.kept shelf.old) (S.kept shelf.new) (talk session.old) (talk session.new)) }
     ensures err { OnErr result (IsKept pen.old pen.new) }
     ensures midway { IfErr result (λ fault. IsMidway fault) }
 {
@@ -94,6 +100,7 @@ fn roll<S: Shelf>(
 ) -> Result<(), TalkFault>
     requires { 0 ≤ session.old.world.core.number }
     ensures ok { OnOk result ((text : List ℕ) × Rolls pen.old.settings.roll (talk session.old) (under mark.entry) event text (talk session.new) × IsAdded pen.old pen.new text) }
+    ensures kept { OnOk result (KeepsTurned (S.kept shelf.old) (S.kept shelf.new) (talk session.old) (talk session.new)) }
     ensures err { OnErr result (IsKept pen.old pen.new) }
     ensures midway { IfErr result (λ fault. IsMidway fault) }
 {
@@ -123,6 +130,7 @@ fn play<R: Alloc<A = Global>>(
 ) -> Result<(), AllocError>
     requires { 0 ≤ session.old.world.core.number }
     ensures ok { OnOk result ((text : List ℕ) × Plays (talk session.old) (under mark.entry) event text (talk session.new) × IsAdded pen.old pen.new text) }
+    ensures same { OnOk result (beginning session.new.world.core ≡ beginning session.old.world.core) }
     ensures err { OnErr result (IsKept pen.old pen.new) }
 {
     let reply = session.step(rt, event)?;
@@ -144,6 +152,7 @@ fn play_in_room<R: Alloc<A = Global>, S: Shelf>(
 ) -> Result<(), TalkFault>
     requires { 0 ≤ session.old.world.core.number }
     ensures ok { OnOk result ((text : List ℕ) × Does pen.old.settings.roll (talk session.old) (play (under mark.entry) event) text (talk session.new) × IsAdded pen.old pen.new text) }
+    ensures kept { OnOk result (KeepsTurned (S.kept shelf.old) (S.kept shelf.new) (talk session.old) (talk session.new)) }
     ensures err { OnErr result ((text : List ℕ) × IsAdded pen.old pen.new text) }
     ensures midway { IfErr result (λ fault. IsMidway fault) }
 {
@@ -163,6 +172,7 @@ fn play_on<R: Alloc<A = Global>, S: Shelf>(
 ) -> Result<(), TalkFault>
     requires { 0 ≤ session.old.world.core.number }
     ensures ok { OnOk result ((text : List ℕ) × Does pen.old.settings.roll (talk session.old) (play (under mark.entry) event) text (talk session.new) × IsAdded pen.old pen.new text) }
+    ensures kept { OnOk result (KeepsTurned (S.kept shelf.old) (S.kept shelf.new) (talk session.old) (talk session.new)) }
     ensures err { OnErr result (IsKept pen.old pen.new) }
     ensures midway { IfErr result (λ fault. IsMidway fault) }
 {
@@ -188,6 +198,7 @@ pub(crate) fn play_all<R: Alloc<A = Global>, I, W: Write, S: Shelf>(
     requires { 0 ≤ session.old.world.core.number }
     ensures talks { OnOk result ((text : List ℕ) × Talks pen.old.settings.roll (talk session.old) (replicate more.times (play (under mark.entry) more.event)) text (talk session.new)
         × Says (W.contents ends.old.output) (W.contents ends.new.output) pen.old.out.items pen.new.out.items text) }
+    ensures kept { OnOk result (KeepsTurned (S.kept ends.old.shelf) (S.kept ends.new.shelf) (talk session.old) (talk session.new)) }
     ensures broken { IfErr result (λ fault. TalksUntil fault pen.old.settings.roll (talk session.old) (replicate more.times (play (under mark.entry) more.event))
         (W.contents ends.old.output) (W.contents ends.new.output) pen.old.out.items pen.new.out.items) }
     ensures settings { pen.new.settings ≡ pen.old.settings }

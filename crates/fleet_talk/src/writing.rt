@@ -43,6 +43,7 @@ pub(crate) fn write_if_due<I: Read, W: Write, S>(
     ensures broken { IfErr result (λ fault. SaysUntil fault (W.contents ends.old.output) (W.contents ends.new.output) pen.old.out.items pen.new.out.items []) }
     ensures settings { pen.new.settings ≡ pen.old.settings }
     ensures input { ends.new.input ≡ ends.old.input }
+    ensures shelf { ends.new.shelf ≡ ends.old.shelf }
 {
     let has_line = ends.input.buffer().iter().any(|byte| *byte == b'\n');
     if has_line && !pen.is_full() {

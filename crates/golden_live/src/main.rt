@@ -2,6 +2,8 @@
 //! `stdin`, and what it says in `stdout`, which `tools/live/model.py` prints.
 #![tactic(auto)]
 
+ghost use Rattle.std.specs.Prelude.{None};
+
 use fleet_lib::{Chapter, Live, LiveEnds, Shelf, ShelfFault, TalkTexts, run_live};
 use std::alloc::{Alloc, AllocError, Global};
 use std::io::{Stdin, Stdout};
@@ -16,6 +18,8 @@ const HEAD: &[u8] = b"lane 2\nmailbox 3\nchapter 6\n";
 struct NoShelf;
 
 impl Shelf for NoShelf {
+    ghost kept = { λ _. None };
+
     fn keep(&mut self, _chapter: &Chapter) -> Result<(), ShelfFault> {
         Ok(())
     }

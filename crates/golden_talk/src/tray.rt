@@ -1,5 +1,7 @@
 //! A shelf that fails.
 
+ghost use Rattle.std.specs.Prelude.{None};
+
 use fleet_lib::{Chapter, Shelf, ShelfFault};
 
 /// Takes chapters in their order, and keeps none. It fails when this many were taken.
@@ -10,6 +12,8 @@ pub(crate) struct Tray {
 }
 
 impl Shelf for Tray {
+    ghost kept = { λ _. None };
+
     fn keep(&mut self, chapter: &Chapter) -> Result<(), ShelfFault> {
         if self.taken == self.room || u64::from(chapter.number) != self.taken {
             return Err(ShelfFault::File);

@@ -1,6 +1,10 @@
--- The clients are on the office's rings.
+-- The clients are on the office's rings, and the chapters that were handed out are kept.
 use Rattle.fleet_office.specs.Views.{AreOn, cores}
+use Rattle.fleet_live.specs.Kept.{KeepsSome}
 use Rattle.fleet_live.proofs.ending.conclude.Given as goal
 
 abbrev pub invariant-loop : goal.invariant-loop
-invariant-loop g l = AreOn g.N.OfficeName.rings (cores l.home.clients.items)
+invariant-loop g l = record {
+  on : AreOn g.N.OfficeName.rings (cores l.home.clients.items);
+  kept : KeepsSome (g.S.Shelf.kept l.fn.shelf) (g.S.Shelf.kept l.shelf);
+}

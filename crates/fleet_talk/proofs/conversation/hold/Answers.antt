@@ -1,36 +1,57 @@
 -- What a conversation comes to.
-use Rattle.std.proofs.Common.{ℕ, Option, Err, IfSome, refl, sym, subst}
+use Rattle.std.proofs.Common.{ℕ, List, Option, Err, IfSome, refl, sym, ap, subst}
+use Rattle.std.specs.Prelude.{OnOk}
+use Rattle.std.specs.declared.alloc.Global.{Global}
 use Rattle.std.specs.Io.Buffered.{reader_remaining}
 use Rattle.errands_answer.specs.Kit.{kit_laws}
+use Rattle.fleet_history.specs.History.{history_of}
 use Rattle.fleet_session.specs.Keeps.{talk}
 use Rattle.fleet_talk.specs.declared.fault.TalkFault.{TalkFault}
-use Rattle.fleet_talk.specs.Conversation.{ComesTo, Terms}
+use Rattle.fleet_talk.specs.Chapters.{ChapterView, KeepsTurned}
+use Rattle.fleet_talk.specs.Conversation.{ComesTo, Shelved, Terms}
 use Rattle.fleet_talk.specs.Heading.{HearsAll, drafted}
 use Rattle.fleet_talk.proofs.Finishing.{come-head, come-unopened, come-refused, come-talk}
+use Rattle.fleet_talk.proofs.Shelving.{keeps-last, sound-is}
 use Rattle.fleet_talk.proofs.conversation.hold.Goals as goal
 
 pub returns-in-Ok : goal.returns-in-Ok
 returns-in-Ok g c =
     let on : Terms = record { kit = kit_laws c.args.ground.kit; floor = c.args.ground.grid; settings = c.args.pen.now.settings; head = drafted c.args.ground.head } in
-    come-talk on (reader_remaining g.I.Read.remaining c.args.ends.now.input) (reader_remaining g.I.Read.remaining c.hear_head.new.ends.input) (g.W.Write.contents c.args.ends.now.output) (g.W.Write.contents c.hear_head.new.ends.output) (g.W.Write.contents c.go_on-ended.new.ends.output) (drafted c.hear_head.new.head) c.hear_head.new.bytes.items c.in-Ok-Some.first c.args.pen.now.out.items c.hear_head.new.pen.out.items c.go_on-ended.new.pen.out.items c.hear_head.new.pen.settings (talk c.in-Ok.session) c.go_on-ended.result c.keep_last.result
+    let before = g.S.Shelf.kept c.args.ends.now.shelf in
+    let mid = g.S.Shelf.kept c.go_on-ended.new.ends.shelf in
+    let after = g.S.Shelf.kept c.keep_last.new.shelf in
+    let last = talk c.go_on-ended.new.session in
+    come-talk on before mid after (reader_remaining g.I.Read.remaining c.args.ends.now.input) (reader_remaining g.I.Read.remaining c.hear_head.new.ends.input) (g.W.Write.contents c.args.ends.now.output) (g.W.Write.contents c.hear_head.new.ends.output) (g.W.Write.contents c.go_on-ended.new.ends.output) (drafted c.hear_head.new.head) c.hear_head.new.bytes.items c.in-Ok-Some.first c.args.pen.now.out.items c.hear_head.new.pen.out.items c.go_on-ended.new.pen.out.items c.hear_head.new.pen.settings (talk c.in-Ok.session) last c.go_on-ended.result c.keep_last.result
     (subst (λ (at : Option ℕ). IfSome (reader_remaining g.I.Read.remaining c.args.ends.now.input) (λ xs. HearsAll c.args.pen.now.settings (drafted c.args.ground.head) xs (reader_remaining g.I.Read.remaining c.hear_head.new.ends.input) (drafted c.hear_head.new.head) c.hear_head.new.bytes.items at (g.W.Write.contents c.args.ends.now.output) (g.W.Write.contents c.hear_head.new.ends.output) c.args.pen.now.out.items c.hear_head.new.pen.out.items)) c.in-Ok-Some.field-0-is c.in-Ok-Some.ensures.all)
-    c.hear_head.ensures.settings c.in-Ok.ensures.can c.in-Ok.ensures.orderly c.in-Ok.ensures.ok c.go_on-ended.ensures.talks c.go_on-ended.ensures.broken c.keep_last.ensures
+    c.hear_head.ensures.settings c.in-Ok.ensures.can c.in-Ok.ensures.orderly c.in-Ok.ensures.ok c.go_on-ended.ensures.talks c.go_on-ended.ensures.broken
+    (subst (λ (known : Option (List (ChapterView Global))). OnOk c.go_on-ended.result (KeepsTurned known mid (talk c.in-Ok.session) last)) (ap g.S.Shelf.kept c.hear_head.ensures.shelf) c.go_on-ended.ensures.kept)
+    c.keep_last.ensures.ended
+    (keeps-last c.keep_last.result mid after last c.finish-grid.result.1.number (history_of c.finish-grid.result.1) c.finish-grid.ensures.number c.finish-grid.ensures.history c.finish-grid.ensures.legal c.finish-grid.ensures.advancing c.keep_last.ensures.kept)
+
+pub keep_last-requires : goal.keep_last-requires
+keep_last-requires g c =
+    let world = c.go_on-ended.new.session.world.core in
+    record { sound = (world.floor, sound-is world.floor world.history (history_of c.finish-grid.result.1) c.finish-grid.ensures.history c.finish-grid.ensures.legal c.finish-grid.ensures.advancing) }
 
 pub returns-in-Ok-Some : goal.returns-in-Ok-Some
 returns-in-Ok-Some g c =
     let on : Terms = record { kit = kit_laws c.args.ground.kit; floor = c.args.ground.grid; settings = c.args.pen.now.settings; head = drafted c.args.ground.head } in
-    subst (λ (fault : TalkFault). IfSome (reader_remaining g.I.Read.remaining c.args.ends.now.input) (λ xs. ComesTo on xs (g.W.Write.contents c.args.ends.now.output) (g.W.Write.contents c.hear_head.new.ends.output) c.args.pen.now.out.items c.hear_head.new.pen.out.items (Err fault))) (sym c.opening_fault.ensures)
-    (come-refused on (reader_remaining g.I.Read.remaining c.args.ends.now.input) (reader_remaining g.I.Read.remaining c.hear_head.new.ends.input) (g.W.Write.contents c.args.ends.now.output) (g.W.Write.contents c.hear_head.new.ends.output) (drafted c.hear_head.new.head) c.hear_head.new.bytes.items c.in-Ok-Some.first c.args.pen.now.out.items c.hear_head.new.pen.out.items c.in-Err-open.fault
+    let k : Shelved = record { old = g.S.Shelf.kept c.args.ends.now.shelf; new = g.S.Shelf.kept c.hear_head.new.ends.shelf } in
+    subst (λ (fault : TalkFault). IfSome (reader_remaining g.I.Read.remaining c.args.ends.now.input) (λ xs. ComesTo on xs (g.W.Write.contents c.args.ends.now.output) (g.W.Write.contents c.hear_head.new.ends.output) c.args.pen.now.out.items c.hear_head.new.pen.out.items k (Err fault))) (sym c.opening_fault.ensures)
+    (come-refused on k (reader_remaining g.I.Read.remaining c.args.ends.now.input) (reader_remaining g.I.Read.remaining c.hear_head.new.ends.input) (g.W.Write.contents c.args.ends.now.output) (g.W.Write.contents c.hear_head.new.ends.output) (drafted c.hear_head.new.head) c.hear_head.new.bytes.items c.in-Ok-Some.first c.args.pen.now.out.items c.hear_head.new.pen.out.items c.in-Err-open.fault
     (subst (λ (at : Option ℕ). IfSome (reader_remaining g.I.Read.remaining c.args.ends.now.input) (λ xs. HearsAll c.args.pen.now.settings (drafted c.args.ground.head) xs (reader_remaining g.I.Read.remaining c.hear_head.new.ends.input) (drafted c.hear_head.new.head) c.hear_head.new.bytes.items at (g.W.Write.contents c.args.ends.now.output) (g.W.Write.contents c.hear_head.new.ends.output) c.args.pen.now.out.items c.hear_head.new.pen.out.items)) c.in-Ok-Some.field-0-is c.in-Ok-Some.ensures.all)
     (λ starts is named. (c.in-Err-open.ensures.refused starts is c.in-Err-open.fault named).0 refl))
 
 pub returns-in-Ok-None : goal.returns-in-Ok-None
 returns-in-Ok-None g c =
     let on : Terms = record { kit = kit_laws c.args.ground.kit; floor = c.args.ground.grid; settings = c.args.pen.now.settings; head = drafted c.args.ground.head } in
-    come-unopened on (reader_remaining g.I.Read.remaining c.args.ends.now.input) (reader_remaining g.I.Read.remaining c.hear_head.new.ends.input) (g.W.Write.contents c.args.ends.now.output) (g.W.Write.contents c.hear_head.new.ends.output) (drafted c.hear_head.new.head) c.hear_head.new.bytes.items c.args.pen.now.out.items c.hear_head.new.pen.out.items
+    let k : Shelved = record { old = g.S.Shelf.kept c.args.ends.now.shelf; new = g.S.Shelf.kept c.hear_head.new.ends.shelf } in
+    come-unopened on (g.S.Shelf.kept c.args.ends.now.shelf) (g.S.Shelf.kept c.hear_head.new.ends.shelf) (reader_remaining g.I.Read.remaining c.args.ends.now.input) (reader_remaining g.I.Read.remaining c.hear_head.new.ends.input) (g.W.Write.contents c.args.ends.now.output) (g.W.Write.contents c.hear_head.new.ends.output) (drafted c.hear_head.new.head) c.hear_head.new.bytes.items c.args.pen.now.out.items c.hear_head.new.pen.out.items
+    (ap g.S.Shelf.kept c.hear_head.ensures.shelf)
     (subst (λ (at : Option ℕ). IfSome (reader_remaining g.I.Read.remaining c.args.ends.now.input) (λ xs. HearsAll c.args.pen.now.settings (drafted c.args.ground.head) xs (reader_remaining g.I.Read.remaining c.hear_head.new.ends.input) (drafted c.hear_head.new.head) c.hear_head.new.bytes.items at (g.W.Write.contents c.args.ends.now.output) (g.W.Write.contents c.hear_head.new.ends.output) c.args.pen.now.out.items c.hear_head.new.pen.out.items)) c.in-Ok-None.field-0-is c.in-Ok-None.ensures.all)
 
 pub returns : goal.returns
 returns g c =
     let on : Terms = record { kit = kit_laws c.args.ground.kit; floor = c.args.ground.grid; settings = c.args.pen.now.settings; head = drafted c.args.ground.head } in
-    come-head on (reader_remaining g.I.Read.remaining c.args.ends.now.input) (g.W.Write.contents c.args.ends.now.output) (g.W.Write.contents c.hear_head.new.ends.output) c.args.pen.now.out.items c.hear_head.new.pen.out.items c.in-Err.fault c.in-Err.ensures.broken
+    let k : Shelved = record { old = g.S.Shelf.kept c.args.ends.now.shelf; new = g.S.Shelf.kept c.hear_head.new.ends.shelf } in
+    come-head on k (reader_remaining g.I.Read.remaining c.args.ends.now.input) (g.W.Write.contents c.args.ends.now.output) (g.W.Write.contents c.hear_head.new.ends.output) c.args.pen.now.out.items c.hear_head.new.pen.out.items c.in-Err.fault c.in-Err.ensures.broken

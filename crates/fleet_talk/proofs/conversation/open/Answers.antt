@@ -1,8 +1,7 @@
 -- The fleet that a head names is opened, or refused.
-use Rattle.std.proofs.Common.{◌≡◌, ◌∙◌, ℕ, Bool, List, length, Err, IfOk, OnOk, ◌↔◌, ap}
+use Rattle.std.proofs.Common.{◌≡◌, ◌∙◌, Bool, length, Err, IfOk, OnOk, ◌↔◌, ap}
 use Rattle.std.specs.Prelude.{if◌then◌else◌}
-use Rattle.fleet_book.specs.declared.limits.Limits.{Limits}
-use Rattle.fleet_core.specs.Hooks.{HookLaws, AreOrderly, laws_of}
+use Rattle.fleet_core.specs.Hooks.{AreOrderly, laws_of}
 use Rattle.fleet_core.specs.Opening.{CanOpen}
 use Rattle.fleet_core.specs.OpeningFaults.{IsRefused}
 use Rattle.fleet_script.specs.Script.{plan_from}

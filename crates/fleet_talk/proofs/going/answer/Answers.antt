@@ -33,3 +33,6 @@ returns-in_err-say_end-clause-broken g c =
     at-fault _ NoMemory _ c.from_residual-in_err-say_end.ensures.1
     (until-after NoMemory c.args.pen.now.settings.roll (talk c.args.session.now) mid (acts_asked (line_shown c.args.line) c.args.line.asked) ends (g.W.Write.contents c.args.ends.now.output) out out c.args.pen.now.out.items c.do_asked.new.pen.out.items c.say_end.new.self.out.items text talks says
     (until-none NoMemory c.args.pen.now.settings.roll mid ends out c.do_asked.new.pen.out.items c.say_end.new.self.out.items tt c.in_err-say_end.ensures.err.out))
+
+pub returns-clause-kept : goal.returns-clause-kept
+returns-clause-kept g c = c.in_ok-do_asked.ensures.kept

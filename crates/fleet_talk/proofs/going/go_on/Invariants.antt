@@ -3,6 +3,7 @@ use Rattle.std.proofs.Common.{◌≡◌, ◌∷◌, IfSome}
 use Rattle.std.specs.Io.Buffered.{reader_remaining}
 use Rattle.fleet_session.specs.Keeps.{talk}
 use Rattle.fleet_talk.specs.Act.{acts_from}
+use Rattle.fleet_talk.specs.Chapters.{KeepsTurned}
 use Rattle.fleet_talk.specs.Heard.{heard_lines}
 use Rattle.fleet_talk.specs.Talked.{Goes}
 use Rattle.fleet_talk.proofs.going.go_on.Given as goal
@@ -12,5 +13,6 @@ invariant-loop-number g l = record {
   goes : IfSome (reader_remaining g.I.Read.remaining l.fn.ends.input) (λ xs. Goes l.fn.pen.settings (talk l.fn.session) (acts_from l.fn.pen.settings l.fn.first (l.fn.bytes.items ∷ heard_lines xs))
       (reader_remaining g.I.Read.remaining l.ends.input) (talk l.session) l.number l.bytes.items
       (g.W.Write.contents l.fn.ends.output) (g.W.Write.contents l.ends.output) l.fn.pen.out.items l.pen.out.items);
+  kept : KeepsTurned (g.S.Shelf.kept l.fn.ends.shelf) (g.S.Shelf.kept l.ends.shelf) (talk l.fn.session) (talk l.session);
   settings : l.pen.settings ≡ l.fn.pen.settings;
 }

@@ -11,7 +11,7 @@ use Rattle.fleet_talk.proofs.Saying.{at-fault}
 use Rattle.fleet_talk.proofs.heading.hear_head.Goals as goal
 
 pub loop-number-init : goal.loop-number-init
-loop-number-init g c = record { hears = hears-none c.args.pen.now.settings (drafted c.args.head.now) (reader_remaining g.I.Read.remaining c.args.ends.now.input) (g.W.Write.contents c.args.ends.now.output) c.args.pen.now.out.items; settings = refl }
+loop-number-init g c = record { hears = hears-none c.args.pen.now.settings (drafted c.args.head.now) (reader_remaining g.I.Read.remaining c.args.ends.now.input) (g.W.Write.contents c.args.ends.now.output) c.args.pen.now.out.items; settings = refl; shelf = refl }
 
 pub returns-in_err-next_line-clause-broken : goal.returns-in_err-next_line-clause-broken
 returns-in_err-next_line-clause-broken g c =
@@ -47,6 +47,7 @@ loop-number-preserved g c =
           (g.W.Write.contents c.args.ends.now.output) (g.W.Write.contents c.write_if_due.new.ends.output) c.args.pen.now.out.items c.write_if_due.new.pen.out.items))
           (ap (reader_remaining g.I.Read.remaining) (sym c.write_if_due.ensures.input)) hears;
       settings = c.write_if_due.ensures.settings ∙ (follows.2.settings ∙ c.loop-number.invariant.settings);
+      shelf = c.write_if_due.ensures.shelf ∙ c.loop-number.invariant.shelf;
     }
 
 pub returns-clause-broken : goal.returns-clause-broken

@@ -9,4 +9,5 @@ invariant-loop-number g l = record {
   hears : IfSome (reader_remaining g.I.Read.remaining l.fn.ends.input) (λ xs. Hears l.fn.pen.settings (drafted l.fn.head) xs (reader_remaining g.I.Read.remaining l.ends.input) (drafted l.head) l.number
       (g.W.Write.contents l.fn.ends.output) (g.W.Write.contents l.ends.output) l.fn.pen.out.items l.pen.out.items);
   settings : l.pen.settings ≡ l.fn.pen.settings;
+  shelf : l.ends.shelf ≡ l.fn.ends.shelf;
 }

@@ -4,6 +4,7 @@ use Rattle.std.specs.Prelude.{replicate}
 use Rattle.fleet_session.specs.Keeps.{talk}
 use Rattle.fleet_talk.specs.Act.{play}
 use Rattle.fleet_talk.specs.Acts.{Talks}
+use Rattle.fleet_talk.specs.Chapters.{KeepsTurned}
 use Rattle.fleet_talk.specs.Said.{under}
 use Rattle.fleet_talk.specs.Says.{Says}
 use Rattle.fleet_talk.proofs.plays.play_all.Given as goal
@@ -12,6 +13,7 @@ abbrev pub invariant-loop : goal.invariant-loop
 invariant-loop g l = record {
   talks : (text : List ℕ) × Talks l.fn.pen.settings.roll (talk l.fn.session) (replicate l.counter (play (under l.mark) l.more.event)) text (talk l.session)
       × Says (g.W.Write.contents l.fn.ends.output) (g.W.Write.contents l.ends.output) l.fn.pen.out.items l.pen.out.items text;
+  kept : KeepsTurned (g.S.Shelf.kept l.fn.ends.shelf) (g.S.Shelf.kept l.ends.shelf) (talk l.fn.session) (talk l.session);
   settings : l.pen.settings ≡ l.fn.pen.settings;
   input : l.ends.input ≡ l.fn.ends.input;
 }
