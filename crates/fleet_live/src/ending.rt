@@ -1,6 +1,6 @@
 //! The end: guests are returned, the office is concluded, and notices that were not collected are printed.
 
-ghost use Rattle.std.specs.Prelude.{◌≡◌, ◌≤◌, [], ◌∷◌, IfOk, OnOk};
+ghost use Rattle.std.specs.Prelude.{◌≡◌, [], ◌∷◌, IfOk, OnOk};
 ghost use Rattle.std.specs.declared.alloc.Global.{Global};
 ghost use Rattle.fleet_grid.specs.Floor.{Floor};
 ghost use Rattle.fleet_history.specs.History.{history_of};
@@ -61,7 +61,6 @@ fn turn_page<N: OfficeName<Global>, R: Wait, S: Shelf>(
     office: &Office<N>,
     shelf: &mut S,
 ) -> Result<(), Stop>
-    requires { 0 ≤ 1 }
     ensures kept { OnOk result ((chapter : ChapterView Global) × ((m : Floor) × IsSound m chapter.history) × Adds (S.kept shelf.old) (S.kept shelf.new) (chapter ∷ [])) }
 {
     match office.next_chapter(rt) {
