@@ -1,5 +1,5 @@
 -- The tick whose arrivals break the fifth rule.
-use Rattle.std.proofs.Common.{◌≡◌, ◌∙◌, ℕ, ◌-◌, Bool, true, false, inl, inr, List, [], ◌∷◌, length, Option, Some, None, refl, sym, subst, arith, ◌==◌, ◌&&◌}
+use Rattle.std.proofs.Common.{◌≡◌, ◌∙◌, ℕ, ◌-◌, Bool, true, false, true≢false, inl, inr, List, [], ◌∷◌, length, Option, Some, None, refl, sym, ap, subst, arith, ◌==◌, ◌&&◌}
 use Rattle.std.specs.Prelude.{slice_get, map, MatchOption}
 use Rattle.std.specs.Option.{option_map}
 use Rattle.std.proofs.lemmas.Bool.{eq-eqb, eqb-true}
@@ -34,10 +34,14 @@ left false b is = is
 
 right : (a b : Bool) → (a && b) ≡ true → b ≡ true
 right true b is = is
-right false b is = absurd is
+right false b is = absurd (true≢false (sym is))
+
+arriving : ℕ → ℕ → ℕ → Arriving
+arriving r c n = record { robot = r; client = c; number = n }
 
 same_parts : (d e : Arriving) → d.robot ≡ e.robot → d.client ≡ e.client → d.number ≡ e.number → d ≡ e
-same_parts d e r c n = cc
+same_parts d e r c n =
+    ap (λ (x : ℕ). arriving x d.client d.number) r ∙ (ap (λ (x : ℕ). arriving e.robot x d.number) c ∙ ap (λ (x : ℕ). arriving e.robot e.client x) n)
 
 same_one : (d e : Arriving) → is_same d e ≡ true → d ≡ e
 same_one d e is =

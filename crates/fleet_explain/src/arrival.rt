@@ -121,6 +121,7 @@ pub(crate) fn arrivals_at(
             let (to, arrived) = (to.as_slice(), arrived.as_slice());
             arrival_detail(alloc, grid, chapter, entries, to, arrived)
         }
-        Entry::Take { .. } | Entry::Shut { .. } => Ok(Detail::Nothing),
+        Entry::Take { .. } => Ok(Detail::Nothing),
+        Entry::Shut { .. } => Ok(Detail::Nothing),
     }
 }
