@@ -16,9 +16,6 @@ length_more : (places : List (List ℕ)) (place : List ℕ) → length (places +
 length_more places place = length-append places (place ∷ []) ∙ omega arith
 
 module _ (m : Floor) (places : List (List ℕ)) (place : List ℕ) where
-  more : List (List ℕ)
-  more = places ++ place ∷ []
-
   same_at : (t : ℕ) → t < length places → place_at (places ++ place ∷ []) t ≡ place_at places t
   same_at t less = get_or_append_left places (place ∷ []) [] t less
 
@@ -32,9 +29,6 @@ module _ (m : Floor) (places : List (List ℕ)) (place : List ℕ) where
 
   -- the step to the new placement
   module _ (last costs : List ℕ) (some : 1 ≤ length places) (was : HasPassed m places last costs) where
-    time : ℕ
-    time = length places
-
     from_is : place_at (places ++ place ∷ []) (length places - 1) ≡ last
     from_is = same_at (length places - 1) (omega (arith, some)) ∙ sym was.last_one
 
