@@ -36,7 +36,7 @@ right : (a b : Bool) → (a && b) ≡ true → b ≡ true
 right true b is = is
 right false b is = absurd (true≢false (sym is))
 
-arriving : ℕ → ℕ → ℕ → Arriving
+abbrev arriving : ℕ → ℕ → ℕ → Arriving
 arriving r c n = record { robot = r; client = c; number = n }
 
 same_parts : (d e : Arriving) → d.robot ≡ e.robot → d.client ≡ e.client → d.number ≡ e.number → d ≡ e
@@ -45,9 +45,9 @@ same_parts d e r c n =
 
 same_one : (d e : Arriving) → is_same d e ≡ true → d ≡ e
 same_one d e is =
-    let rest = right (d.robot == e.robot) ((d.client == e.client) && (d.number == e.number)) is in
-    same_parts d e (eqb-true d.robot e.robot (left (d.robot == e.robot) ((d.client == e.client) && (d.number == e.number)) is))
-    (eqb-true d.client e.client (left (d.client == e.client) (d.number == e.number) rest)) (eqb-true d.number e.number (right (d.client == e.client) (d.number == e.number) rest))
+    let first = left ((d.robot == e.robot) && (d.client == e.client)) (d.number == e.number) is in
+    same_parts d e (eqb-true d.robot e.robot (left (d.robot == e.robot) (d.client == e.client) first)) (eqb-true d.client e.client (right (d.robot == e.robot) (d.client == e.client) first))
+    (eqb-true d.number e.number (right ((d.robot == e.robot) && (d.client == e.client)) (d.number == e.number) is))
 
 pub arrivals_read : (ds others : List Arriving) → MatchOption (first_only is_same ds others) (HasNoOther is_same ds others) (IsOnlyIn is_same ds others)
 arrivals_read = only_read is_same same_own same_one
