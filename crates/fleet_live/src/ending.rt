@@ -148,6 +148,14 @@ fn tell_rest<N: OfficeName<Global>, R: Alloc<A = Global> + Wait>(
     Ok(())
 }
 
+/// Keeps the last chapter.
+fn keep_last<S: Shelf>(shelf: &mut S, end: &Final) -> Result<(), Stop>
+    requires sound { (m : Floor) × IsSound m (history_of end.now.chapter) }
+    ensures kept { OnOk result (Adds (S.kept shelf.old) (S.kept shelf.new) (chapter_shown end.now.chapter ∷ [])) }
+{
+    Ok(shelf.keep(&end.chapter)?)
+}
+
 /// Ends the fleet: the guests come home, the office is concluded, what was not collected is told, and the last chapter is kept.
 pub(crate) fn finish<N: OfficeName<Global>, R: Alloc<A = Global> + Wait, S: Shelf>(
     rt: &R,
@@ -172,5 +180,5 @@ pub(crate) fn finish<N: OfficeName<Global>, R: Alloc<A = Global> + Wait, S: Shel
     };
     let end = conclude(rt, home, shelf)?;
     tell_rest(rt, conversations, &end)?;
-    Ok(shelf.keep(&end.chapter)?)
+    keep_last(shelf, &end)
 }
