@@ -1,5 +1,5 @@
 -- The tick whose arrivals break the fifth rule.
-use Rattle.std.proofs.Common.{◌≡◌, ◌∙◌, ℕ, ◌-◌, Bool, true, false, true≢false, inl, inr, List, [], ◌∷◌, length, Option, Some, None, refl, sym, ap, subst, arith, ◌==◌, ◌&&◌}
+use Rattle.std.proofs.Common.{◌≡◌, ◌∙◌, ℕ, ◌-◌, Bool, true, false, true≢false, inl, inr, List, length, Option, Some, None, refl, sym, ap, subst, arith, ◌==◌, ◌&&◌}
 use Rattle.std.specs.Prelude.{slice_get, map, MatchOption}
 use Rattle.std.specs.Option.{option_map}
 use Rattle.std.proofs.lemmas.Bool.{eq-eqb, eqb-true}

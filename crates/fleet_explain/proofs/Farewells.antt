@@ -1,7 +1,6 @@
 -- The entry whose farewells break the sixth rule.
-use Rattle.std.proofs.Common.{◌≡◌, ◌∙◌, ℕ, ◌-◌, Bool, true, false, inl, inr, List, [], ◌∷◌, length, Option, Some, None, refl, sym, ap, subst, arith, ◌==◌}
-use Rattle.std.specs.Prelude.{slice_get, map, ◌||◌, if◌then◌else◌, MatchOption}
-use Rattle.std.specs.List.{list_any}
+use Rattle.std.proofs.Common.{◌≡◌, ◌∙◌, ℕ, ◌-◌, Bool, true, false, inl, inr, List, [], ◌∷◌, length, Option, Some, None, refl, sym, subst, arith, ◌==◌}
+use Rattle.std.specs.Prelude.{slice_get, ◌||◌, MatchOption}
 use Rattle.std.proofs.lemmas.Bool.{eq-eqb, eqb-true}
 use Rattle.fleet_grid.specs.Floor.{Floor}
 use Rattle.fleet_grid.specs.Step.{IsConflictFree}

@@ -1,5 +1,5 @@
 -- An item of one list that is none of another.
-use Rattle.std.proofs.Common.{◌≡◌, ℕ, Bool, true, false, List, [], ◌∷◌, Option, Some, None, refl, ap, subst, ◌==◌}
+use Rattle.std.proofs.Common.{◌≡◌, Bool, true, false, List, [], ◌∷◌, Option, Some, None, refl, ap, subst}
 use Rattle.std.specs.Prelude.{map, ◌||◌, if◌then◌else◌, MatchOption}
 use Rattle.std.specs.List.{list_any}
 use Rattle.fleet_explain.specs.Only.{is_among, first_only, HasNoOther, IsOnlyIn}
