@@ -1,8 +1,9 @@
 //! Callers of `fleet_plans`.
 
-ghost use Rattle.std.specs.Prelude.{◌≡◌, ◌≤◌, ◌<◌, ◌^◌, ◌++◌, ◌∷◌, ℕ, List, [], Ok, OnOk, IfOk, IsTrue, length};
-ghost use Rattle.fleet_map.specs.Grammar.{Map, map_of};
-ghost use Rattle.fleet_grid.specs.Floor.{Floor, floor_of};
+ghost use Rattle.std.specs.Prelude.{◌≡◌, ◌≤◌, ◌<◌, ◌^◌, ◌++◌, ◌∷◌, ℕ, List, [], OnOk, IfOk, IsTrue, length};
+ghost use Rattle.fleet_grid.specs.Floor.{Floor};
+ghost use Rattle.fleet_plans.specs.Answer.{IsPlanAnswer};
+ghost use Rattle.fleet_plans.specs.declared.report.PlanReport.{PlanReport};
 ghost use Rattle.fleet_plans.specs.Judge.{HasJudged};
 ghost use Rattle.fleet_plans.specs.Valid.{IsValidPlan};
 
@@ -12,7 +13,7 @@ use std::alloc::{AllocError, Global};
 /// Whether the text of another planner's plan is free of conflicts on a map.
 pub fn is_valid(alloc: Global, map: &[u8], plan: &[u8]) -> Result<bool, AllocError>
     requires { length plan.now ≤ 16777216 }
-    ensures { IfOk result (λ valid. IsTrue valid → (m : Map) × (places : List (List ℕ)) × (map_of map.now ≡ Ok m) × IsValidPlan (floor_of m.height m.width m.cells) places) }
+    ensures { IfOk result (λ valid. IsTrue valid → (report : PlanReport) × IsPlanAnswer map.now plan.now (PlanAnswer.Valid report)) }
 {
     match check_texts(alloc, map, plan)? {
         PlanAnswer::Valid(_report) => Ok(true),
