@@ -3,7 +3,7 @@
 ghost use Rattle.std.specs.Prelude.{◌≡◌, ℕ, ◌<◌, ◌≤◌, ◌==◌, ◌↔◌, IsTrue, length, IfOk, None, slice_index, slice_index_or};
 ghost use Rattle.std.specs.Int.{bit_at};
 ghost use Rattle.fleet_grid.specs.Floor.{IsFloor, IsNeighbourIn};
-ghost use Rattle.fleet_grid.specs.Ways.{AreNearer, IsLess};
+ghost use Rattle.fleet_grid.specs.Ways.{AreNearer, AreOpen, IsLess};
 ghost use Rattle.fleet_field.specs.Field.{IsField};
 ghost use Rattle.fleet_field.specs.Compass.{next_cell, steps_down};
 ghost use Rattle.fleet_field.specs.inside.Bytes.{low};
@@ -12,11 +12,12 @@ use crate::bits::{free_ways, pack};
 use crate::columns::Columns;
 use crate::search::search;
 use crate::ways::is_less;
-use fleet_grid::{Dir, Grid, Ways};
+use fleet_grid::{Dir, Grid, Outlook, Ways};
 use std::alloc::{AllocError, Allocator, Global};
 use std::marker::Model;
 
-/// The ways of a map's cells that lead nearer to a goal, in the low halves of their bytes. Contracts see the goal and the distances, cell by cell.
+/// The ways of a map's cells that lead nearer to a goal, in the low halves of their bytes, and the ways to floor neighbours in
+/// the high halves. Contracts see the goal, and the distances and exits cell by cell.
 #[derive(Drop)]
 pub struct Compass<A: Allocator + Copy = Global> {
     height: u32,
@@ -184,6 +185,25 @@ impl<A: Allocator + Copy> Compass<A> {
             return self.ways_elsewhere(grid, cell);
         }
         ways_in(&self.ways, cell)
+    }
+
+    /// The ways from a floor cell of the map: those that lead nearer to the goal, and all exits. One byte tells both.
+    pub fn outlook<B: Allocator + Copy>(&self, grid: &Grid<B>, cell: u32) -> Outlook
+        requires field { IsField grid.now self.now.goal self.now }
+        requires floor { IsFloor grid.now cell }
+        ensures nearer { AreNearer grid.now (λ c. slice_index_or self.now.away c None) cell result.nearer.byte }
+        ensures exits { AreOpen grid.now cell result.exits.byte }
+    {
+        let byte = self.ways[cell as usize];
+        let nearer = if grid.width() == self.width {
+            Ways { byte: byte & 15 }
+        } else {
+            self.ways_elsewhere(grid, cell)
+        };
+        Outlook {
+            nearer,
+            exits: Ways { byte: byte >> 4 },
+        }
     }
 
     /// How many cells the map has, which is the number of bytes of the compass.

@@ -2,7 +2,7 @@
 
 ghost use Rattle.std.specs.Prelude.{◌≡◌, ℕ, ◌+◌, ◌<◌, ◌^◌, [], None, Some, length, slice_index, ◌↔◌, IfOk, OnOk, OnErr, IsSome, IsTrue, slice_index_or};
 ghost use Rattle.fleet_grid.specs.Floor.{Floor, IsFloor};
-ghost use Rattle.fleet_grid.specs.Ways.{AreNearer};
+ghost use Rattle.fleet_grid.specs.Ways.{AreNearer, AreOpen};
 ghost use Rattle.fleet_field.specs.Field.{Aim};
 ghost use Rattle.fleet_field.specs.Store.{shown, Serves, Keeps, IsOnce, IsHold, IsRelease, HasUsesLeft};
 ghost use Rattle.fleet_field.specs.Several.{AreHeld, HaveUsesLeft};
@@ -13,7 +13,7 @@ use crate::compasses::compasses;
 use crate::holds::{hold_with, missing_of, use_again};
 use crate::keyed::Keyed;
 use crate::shelf::Shelf;
-use fleet_grid::{Grid, Ways};
+use fleet_grid::{Grid, Outlook, Ways};
 use std::alloc::{AllocError, Allocator, Global};
 use std::marker::Model;
 use std::thread::Threads;
@@ -152,6 +152,22 @@ impl<A: Allocator + Copy> FieldStore<A> {
         ensures { (held : HeldView Aim) → shown self.now key ≡ Some held → AreNearer grid.now (λ c. slice_index_or held.field.away c None) cell result.byte }
     {
         self.held[key].field.ways(grid, cell)
+    }
+
+    /// The ways from a floor cell of the map: those that lead nearer to the goal of the key, and all exits.
+    pub fn outlook<B: Allocator + Copy>(
+        &self,
+        grid: &Grid<B>,
+        key: usize,
+        cell: u32,
+    ) -> Outlook
+        requires shown { IsSome (shown self.now key) }
+        requires serves { Serves grid.now self.now }
+        requires floor { IsFloor grid.now cell }
+        ensures nearer { (held : HeldView Aim) → shown self.now key ≡ Some held → AreNearer grid.now (λ c. slice_index_or held.field.away c None) cell result.nearer.byte }
+        ensures exits { AreOpen grid.now cell result.exits.byte }
+    {
+        self.held[key].field.outlook(grid, cell)
     }
 
     /// The goal of the key.

@@ -10,6 +10,7 @@ use Rattle.fleet_pibt.specs.inside.Entry.{table, IsEmpty}
 use Rattle.fleet_pibt.specs.Goals.{AreGoals}
 use Rattle.fleet_pibt.specs.Order.{IsOrder}
 use Rattle.fleet_pibt.specs.Purposeful.{IsPurposeful}
+use Rattle.fleet_pibt.specs.Stepped.{IsStepped}
 use Rattle.fleet_pibt.specs.inside.Setting.{Setting, robots, IsScene, IsPlanned, IsChosen, NamesAll}
 use Rattle.fleet_pibt.specs.inside.Tables.{IsTaken}
 use Rattle.fleet_pibt.specs.Ties.{IsByLaw}
@@ -39,18 +40,18 @@ module _ (s : Setting) (scene : IsScene s) (waits : List (Option ℕ)) (waited :
   stepped-names : NamesAll s queue
   stepped-names = order-names s waits queue waited order
 
-  pub stepped-conflict_free : IsConflictFree s.floor s.from to
-  stepped-conflict_free = conflict-free s scene waits are queue to same stepped-names chosen
-
-  pub stepped-purposeful : IsPurposeful s.floor s.goals s.from to
-  stepped-purposeful = purposeful s scene waits are queue to same stepped-names chosen
-
-  pub stepped-advances : (e g : ℕ) → IsEldest waits e → s.goals e ≡ Some g → IsOpenAhead s.floor s.from g (slice_index s.from e) → Advances s.floor g (slice_index s.from e) (slice_index to e)
+  stepped-advances : (e g : ℕ) → IsEldest waits e → s.goals e ≡ Some g → IsOpenAhead s.floor s.from g (slice_index s.from e) → Advances s.floor g (slice_index s.from e) (slice_index to e)
   stepped-advances e g eldest is = advances-at s scene waits are queue to same stepped-names chosen e g (eldest-first waits queue order e eldest) is
 
-  pub stepped-bridgeless : IsBridgeless (IsNeighbour s.floor) → IsAdvancing s.floor waits s.goals s.from to
-  stepped-bridgeless no-bridge e g eldest is = stepped-advances e g eldest is (λ w n closer. inr (no-bridge (slice_index s.from e) w))
-
-  pub stepped-by_law : (e g : ℕ) (law : TieLaw) → IsEldest waits e → s.goals e ≡ Some g → IsOpenAhead s.floor s.from g (slice_index s.from e) → slice_get s.laws e ≡ Some law →
+  stepped-by_law : (e g : ℕ) (law : TieLaw) → IsEldest waits e → s.goals e ≡ Some g → IsOpenAhead s.floor s.from g (slice_index s.from e) → slice_get s.laws e ≡ Some law →
       IsByLaw s.floor law g (slice_index s.from e) (slice_index to e)
   stepped-by_law e g law eldest is ahead at = by-law-at s scene waits are queue to same stepped-names chosen e g (eldest-first waits queue order e eldest) is ahead law at
+
+  pub stepped : IsStepped s.floor waits s.goals s.laws s.from to
+  stepped = record {
+    conflict_free = conflict-free s scene waits are queue to same stepped-names chosen;
+    purposeful = purposeful s scene waits are queue to same stepped-names chosen;
+    advances = stepped-advances;
+    bridgeless = λ no-bridge e g eldest is. stepped-advances e g eldest is (λ w n closer. inr (no-bridge (slice_index s.from e) w));
+    by_law = stepped-by_law;
+  }

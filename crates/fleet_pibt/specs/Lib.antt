@@ -7,5 +7,6 @@ pub mod Goals
 pub mod Purposeful
 pub mod Advancing
 pub mod Ties
+pub mod Stepped
 pub mod Size
 pub mod inside

@@ -5,8 +5,8 @@ ghost use Rattle.fleet_grid.specs.Floor.{IsFloor};
 ghost use Rattle.fleet_grid.specs.Ways.{AreOpen};
 ghost use Rattle.fleet_pibt.specs.inside.Around.{IsSpot, IsAround, AreArounds, IsAsked, AreAsked, cell_in};
 
-use crate::goals::Goals;
-use fleet_grid::{Dir, Grid, Ways};
+use crate::goals::Guide;
+use fleet_grid::{Dir, Grid, Outlook, Ways};
 use std::alloc::Allocator;
 
 /// A robot's own cell, the cells next to it, and which of those are nearer to its goal. Where there is no floor the own cell
@@ -20,6 +20,8 @@ pub(crate) struct Around {
     pub(crate) west: u32,
     /// The ways to those.
     pub(crate) nearer: Ways,
+    /// The ways to floor neighbours.
+    pub(crate) exits: Ways,
 }
 
 impl Around {
@@ -31,6 +33,7 @@ impl Around {
         south: 0,
         west: 0,
         nearer: Ways::NONE,
+        exits: Ways::NONE,
     };
 
     /// The cell in a direction.
@@ -58,49 +61,29 @@ fn spot<A: Allocator + Copy>(grid: &Grid<A>, exits: Ways, own: u32, dir: Dir) ->
     dir.across(grid.width(), own)
 }
 
-/// What a robot sees from the floor cell `own` with these exits, where the ways in `nearer` lead nearer to its goal.
-fn look<A: Allocator + Copy>(grid: &Grid<A>, exits: Ways, own: u32, nearer: Ways) -> Around
+/// What a robot that has this outlook sees from the floor cell `own`.
+fn look<A: Allocator + Copy>(grid: &Grid<A>, own: u32, outlook: Outlook) -> Around
     requires floor { IsFloor grid.now own }
-    requires exits { AreOpen grid.now own exits.byte }
+    requires exits { AreOpen grid.now own outlook.exits.byte }
     ensures cells { IsAround grid.now own result }
-    ensures nearer { result.nearer ≡ nearer }
+    ensures nearer { result.nearer ≡ outlook.nearer }
+    ensures exits { result.exits ≡ outlook.exits }
 {
+    let exits = outlook.exits;
     Around {
         own,
         north: spot(grid, exits, own, Dir::North),
         east: spot(grid, exits, own, Dir::East),
         south: spot(grid, exits, own, Dir::South),
         west: spot(grid, exits, own, Dir::West),
-        nearer,
+        nearer: outlook.nearer,
+        exits,
     }
 }
 
-/// The ways that lead the robot nearer to its goal.
-fn asked<G: Goals, A: Allocator + Copy>(grid: &Grid<A>, goals: &G, robot: u32, own: u32) -> Ways
-    ensures { IsAsked grid.now (G.goal_of goals.now robot) (G.distance goals.now robot) own result.byte }
-{
-    goals.ways(grid, robot, own)
-}
-
-/// Writes which ways lead each robot nearer to its goal. The robots' fields are far apart in memory; reading them
-/// directly one after the other lets the processor fetch many of them at once.
-fn ask<G: Goals, A: Allocator + Copy>(
-    grid: &Grid<A>,
-    from: &[u32],
-    goals: &G,
-    arounds: &mut [Around],
-)
-    requires same_length { length arounds.old ≡ length from.now }
-    requires few { length from.now ≤ 512 }
-    ensures { AreAsked grid.now (G.goal_of goals.now) (G.distance goals.now) from.now arounds.new }
-{
-    for (robot, seen) in arounds.iter_mut().enumerate() {
-        seen.nearer = asked(grid, goals, robot as u32, from[robot]);
-    }
-}
-
-/// Writes down what each robot sees.
-pub(crate) fn gather<G: Goals, A: Allocator + Copy>(
+/// Writes each robot's outlook from its cell. The robots' fields are far apart in memory; reading them directly one after
+/// the other lets the processor fetch many of them at once.
+fn ask<G: Guide, A: Allocator + Copy>(
     grid: &Grid<A>,
     from: &[u32],
     goals: &G,
@@ -109,15 +92,35 @@ pub(crate) fn gather<G: Goals, A: Allocator + Copy>(
     requires same_length { length arounds.old ≡ length from.now }
     requires few { length from.now ≤ 512 }
     requires floor { (r : ℕ) → r < length from.now → IsFloor grid.now (slice_index from.now r) }
+    requires shows { G.shows goals.now grid.now }
+    ensures { AreAsked grid.now (G.goal_of goals.now) (G.distance goals.now) from.now arounds.new }
+{
+    for (robot, seen) in arounds.iter_mut().enumerate() {
+        let outlook = goals.outlook(grid, robot as u32, from[robot]);
+        seen.nearer = outlook.nearer;
+        seen.exits = outlook.exits;
+    }
+}
+
+/// Writes down what each robot sees.
+pub(crate) fn gather<G: Guide, A: Allocator + Copy>(
+    grid: &Grid<A>,
+    from: &[u32],
+    goals: &G,
+    arounds: &mut [Around],
+)
+    requires same_length { length arounds.old ≡ length from.now }
+    requires few { length from.now ≤ 512 }
+    requires floor { (r : ℕ) → r < length from.now → IsFloor grid.now (slice_index from.now r) }
+    requires shows { G.shows goals.now grid.now }
     ensures { AreArounds grid.now (G.goal_of goals.now) (G.distance goals.now) from.now arounds.new }
 {
     ask(grid, from, goals, arounds);
-    let ways = grid.ways();
     for (robot, seen) in arounds.iter_mut().enumerate() {
-        let own = from[robot];
-        let exits = Ways {
-            byte: ways[own as usize],
+        let outlook = Outlook {
+            nearer: seen.nearer,
+            exits: seen.exits,
         };
-        *seen = look(grid, exits, own, seen.nearer);
+        *seen = look(grid, from[robot], outlook);
     }
 }

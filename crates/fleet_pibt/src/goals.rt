@@ -1,10 +1,10 @@
 //! What a step asks about the robots' goals.
 
 ghost use Rattle.std.specs.Prelude.{◌≡◌, ◌↔◌, ℕ, Option, None, IsSome, IsTrue};
-ghost use Rattle.fleet_grid.specs.Floor.{IsNeighbourIn};
-ghost use Rattle.fleet_grid.specs.Ways.{AreNearer, IsLess};
+ghost use Rattle.fleet_grid.specs.Floor.{Floor, IsFloor, IsNeighbourIn};
+ghost use Rattle.fleet_grid.specs.Ways.{AreNearer, AreOpen, IsLess};
 
-use fleet_grid::{Dir, Grid, Ways};
+use fleet_grid::{Dir, Grid, Outlook, Ways};
 use std::alloc::Allocator;
 
 /// Where each robot goes, and how far that is. An implementation says `goal` and `at`; `ways` follows from them, and may be
@@ -39,6 +39,19 @@ pub trait Goals {
             is_less(self.at(robot, beside(grid, cell, Dir::West)), own),
         )
     }
+}
+
+/// Goals that tell both kinds of ways at once, so that one read of memory may answer both.
+pub trait Guide: Goals {
+    ghost shows: { Self → Floor → Type 0 };
+
+    /// What the robot sees from a floor cell of the map that these goals show. An idle robot has no way that leads nearer.
+    fn outlook<A: Allocator + Copy>(&self, grid: &Grid<A>, robot: u32, cell: u32) -> Outlook
+        requires shows { shows self.now grid.now }
+        requires floor { IsFloor grid.now cell }
+        ensures nearer { IsSome (Self.goal_of self.now robot) → AreNearer grid.now (Self.distance self.now robot) cell result.nearer.byte }
+        ensures idle { Self.goal_of self.now robot ≡ None → result.nearer.byte ≡ 0 }
+        ensures exits { AreOpen grid.now cell result.exits.byte };
 }
 
 /// The floor neighbour of the cell in a direction; where there is none, the cell.

@@ -6,6 +6,7 @@ mod around;
 mod board;
 mod choice;
 mod goals;
+mod on_map;
 mod plan;
 mod priority;
 mod scene;
@@ -15,6 +16,6 @@ mod stepper;
 mod table;
 mod tables;
 
-pub use goals::Goals;
+pub use goals::{Goals, Guide};
 pub use priority::{comes_before, order};
 pub use stepper::Stepper;

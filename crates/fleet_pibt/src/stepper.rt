@@ -9,6 +9,7 @@ ghost use Rattle.fleet_pibt.specs.Eldest.{IsEldest};
 ghost use Rattle.fleet_pibt.specs.Goals.{AreGoals};
 ghost use Rattle.fleet_pibt.specs.Order.{IsOrder, IsRoll};
 ghost use Rattle.fleet_pibt.specs.Purposeful.{IsPurposeful};
+ghost use Rattle.fleet_pibt.specs.Stepped.{IsStepped};
 ghost use Rattle.fleet_pibt.specs.Ties.{IsByLaw};
 ghost use Rattle.fleet_pibt.specs.inside.Around.{AreArounds};
 ghost use Rattle.fleet_pibt.specs.inside.Entry.{IsEmpty};
@@ -17,7 +18,8 @@ ghost use Rattle.fleet_pibt.specs.inside.Tables.{IsClear};
 
 use crate::around::{Around, gather};
 use crate::board::Board;
-use crate::goals::Goals;
+use crate::goals::{Goals, Guide};
+use crate::on_map::OnMap;
 use crate::plan::plan_all;
 use crate::priority::{numbered, put_in_order};
 use crate::scene::Scene;
@@ -106,6 +108,31 @@ impl<A: Allocator + Copy> Stepper<A> {
             slice_get (map (λ h. h.law) ties.now) e ≡ Some law →
             IsByLaw grid.now law g (slice_index from.now e) (slice_index to.new e) }
     {
+        self.step_by(grid, from, waits, &OnMap { goals }, ties, tick, to);
+    }
+
+    /// Does what `step` does, for goals that tell the exits of a cell with the ways to the goal.
+    pub fn step_by<G: Guide>(
+        &mut self,
+        grid: &Grid<A>,
+        from: &[u32],
+        waits: &[Option<u64>],
+        goals: &G,
+        ties: &[TieHook],
+        tick: u64,
+        to: &mut [u32],
+    )
+        requires placed { IsPlacement grid.now from.now }
+        requires few { length from.now ≤ 512 }
+        requires waited { length waits.now ≡ length from.now }
+        requires tied { length ties.now ≡ length from.now }
+        requires same_length { length to.old ≡ length from.now }
+        requires made { self.old ≡ record { cells = length grid.now.letters; robots = length from.now } }
+        requires goals { AreGoals grid.now from.now waits.now (G.goal_of goals.now) (G.distance goals.now) }
+        requires shows { G.shows goals.now grid.now }
+        ensures made { self.new ≡ self.old }
+        ensures stepped { IsStepped grid.now waits.now (G.goal_of goals.now) (map (λ h. h.law) ties.now) from.now to.new }
+    {
         see(grid, from, goals, &mut self.arounds, &mut self.board.seats);
         let scene = Scene {
             grid,
@@ -120,7 +147,7 @@ impl<A: Allocator + Copy> Stepper<A> {
 }
 
 /// Writes down what each robot sees, and fetches the entries that its plan asks for.
-fn see<G: Goals, A: Allocator + Copy>(
+fn see<G: Guide, A: Allocator + Copy>(
     grid: &Grid<A>,
     from: &[u32],
     goals: &G,
@@ -130,6 +157,7 @@ fn see<G: Goals, A: Allocator + Copy>(
     requires same_length { length arounds.old ≡ length from.now }
     requires few { length from.now ≤ 512 }
     requires floor { (r : ℕ) → r < length from.now → IsFloor grid.now (slice_index from.now r) }
+    requires shows { G.shows goals.now grid.now }
     requires cells { length seats.old.standing ≡ length grid.now.letters }
     requires nobody { IsEmpty seats.old.standing }
     ensures arounds { AreArounds grid.now (G.goal_of goals.now) (G.distance goals.now) from.now arounds.new }

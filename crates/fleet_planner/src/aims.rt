@@ -6,11 +6,11 @@ ghost use Rattle.fleet_grid.specs.Floor.{Floor, IsFloor};
 ghost use Rattle.fleet_planner.specs.Aims.{goals_of, goal, distance, AreOn};
 ghost use Rattle.fleet_planner.specs.Turned.{turned, AreFloorTurns, AreKnownTurns};
 
-use crate::keys::{distance_of, goal_of, ways_of};
+use crate::keys::{distance_of, goal_of, outlook_of, ways_of};
 use crate::turns::{GoalChange, turn_to};
 use fleet_field::{FieldStore, Shelf};
-use fleet_grid::{Grid, Ways};
-use fleet_pibt::Goals;
+use fleet_grid::{Grid, Outlook, Ways};
+use fleet_pibt::{Goals, Guide};
 use std::alloc::{AllocError, Allocator, Global};
 use std::marker::Model;
 
@@ -136,5 +136,13 @@ impl<A: Allocator + Copy> Goals for Aims<A> {
 
     fn ways<B: Allocator + Copy>(&self, grid: &Grid<B>, robot: u32, cell: u32) -> Ways {
         ways_of(&self.store, &self.keys, grid, robot, cell)
+    }
+}
+
+impl<A: Allocator + Copy> Guide for Aims<A> {
+    ghost shows = { λ s m. AreOn m s };
+
+    fn outlook<B: Allocator + Copy>(&self, grid: &Grid<B>, robot: u32, cell: u32) -> Outlook {
+        outlook_of(&self.store, &self.keys, grid, robot, cell)
     }
 }

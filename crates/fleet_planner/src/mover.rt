@@ -44,7 +44,7 @@ fn step_into<A: Allocator + Copy>(
     ensures planned { IsPlannedBy grid.now (map (λ h. h.law) ties.now) input.entry.waits.now (goals_of aims.now) input.entry.cells.now to.new }
 {
     let TickInput { cells, waits, tick } = input;
-    stepper.step(grid, cells, waits, aims, ties, tick, to);
+    stepper.step_by(grid, cells, waits, aims, ties, tick, to);
 }
 
 /// Where the robots go from their cells in the tick that is being made, by priority inheritance with backtracking.

@@ -1,7 +1,7 @@
 -- What a robot sees from its cell: the cells next to it, and which of them are nearer to its goal.
 use Rattle.std.specs.Prelude.{◌≡◌, ◌≢◌, ℕ, ◌+◌, List, length, slice_get, slice_index, Option, Some, None, IsSome}
 use Rattle.fleet_grid.specs.Floor.{Floor, IsNeighbourIn}
-use Rattle.fleet_grid.specs.Ways.{IsWay, AreNearer}
+use Rattle.fleet_grid.specs.Ways.{IsWay, AreNearer, AreOpen}
 use Rattle.fleet_grid.specs.declared.dir.Dir.{Dir}
 use Rattle.fleet_grid.specs.declared.dir.Dir.TheVariants.{North, East, South, West}
 use Rattle.fleet_pibt.specs.inside.Setting.{Setting, cell_of, cost, IsScene}
@@ -22,14 +22,16 @@ pub record IsAround (m : Floor) (own : ℕ) (around : Around) : Type 0 where
   pub here : around.own ≡ own
   pub beside : (dir : Dir) → IsSpot m own dir (cell_in around dir)
 
--- of the ways that a robot sees from its cell those lead nearer to its goal, and an idle robot has none
-pub record IsAsked (m : Floor) (goal : Option ℕ) (distance : ℕ → Option ℕ) (own nearer : ℕ) : Type 0 where
+-- of the ways that a robot sees from its cell those lead nearer to its goal, and an idle robot has none; the exits lead to
+-- floor neighbours
+pub record IsAsked (m : Floor) (goal : Option ℕ) (distance : ℕ → Option ℕ) (own nearer exits : ℕ) : Type 0 where
   pub tells : IsSome goal → AreNearer m distance own nearer
   pub idle : goal ≡ None → nearer ≡ 0
+  pub opens : AreOpen m own exits
 
--- the list has for each robot the ways that lead nearer
+-- the list has each robot's outlook
 abbrev pub AreAsked : Floor → (ℕ → Option ℕ) → (ℕ → ℕ → Option ℕ) → List ℕ → List Around → Type 0
-AreAsked m goals distance from arounds = (r : ℕ) (around : Around) → slice_get arounds r ≡ Some around → IsAsked m (goals r) (distance r) (slice_index from r) around.nearer.byte
+AreAsked m goals distance from arounds = (r : ℕ) (around : Around) → slice_get arounds r ≡ Some around → IsAsked m (goals r) (distance r) (slice_index from r) around.nearer.byte around.exits.byte
 
 -- the list has for each robot what it sees
 pub record AreArounds (m : Floor) (goals : ℕ → Option ℕ) (distance : ℕ → ℕ → Option ℕ) (from : List ℕ) (arounds : List Around) : Type 0 where

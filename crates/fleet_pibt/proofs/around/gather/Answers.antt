@@ -1,8 +1,13 @@
 use Rattle.std.proofs.Common.{slice_index, arith}
-use Rattle.fleet_grid.proofs.Forms.{floor_inside}
 use Rattle.fleet_pibt.specs.inside.Around.{IsAround, IsAsked}
 use Rattle.fleet_pibt.proofs.Seen.{seen-more, seen-all, seen-at, seen-below}
 use Rattle.fleet_pibt.proofs.around.gather.Goals as goal
+
+pub ask-requires-clause-floor : goal.ask-requires-clause-floor
+ask-requires-clause-floor g c = c.requires.floor
+
+pub ask-requires-clause-shows : goal.ask-requires-clause-shows
+ask-requires-clause-shows g c = c.requires.shows
 
 pub loop-robot-preserved : goal.loop-robot-preserved
 loop-robot-preserved g c =
@@ -12,16 +17,14 @@ loop-robot-preserved g c =
     let seen = c.loop-robot.arounds in
     let robot = c.loop-robot.robot in
     let inside = seen-at seen robot _ (omega (arith, c.loop-robot-test.true, c.loop-robot.auto.arounds)) in
-    let asked : IsAsked m (g.G.Goals.goal_of goals robot) (g.G.Goals.distance goals robot) (slice_index from robot) c.look.result.nearer.byte = rw c.look.ensures.nearer (c.loop-robot.invariant.0 robot _ inside) in (
-      seen-all (λ r around. IsAsked m (g.G.Goals.goal_of goals r) (g.G.Goals.distance goals r) (slice_index from r) around.nearer.byte) seen robot c.look.result c.loop-robot.invariant.0 asked,
+    let asked : IsAsked m (g.G.Goals.goal_of goals robot) (g.G.Goals.distance goals robot) (slice_index from robot) c.look.result.nearer.byte c.look.result.exits.byte =
+    rw (c.look.ensures.nearer, c.look.ensures.exits) (c.loop-robot.invariant.0 robot _ inside) in (
+      seen-all (λ r around. IsAsked m (g.G.Goals.goal_of goals r) (g.G.Goals.distance goals r) (slice_index from r) around.nearer.byte around.exits.byte) seen robot c.look.result c.loop-robot.invariant.0 asked,
       seen-more (λ r around. IsAround m (slice_index from r) around) seen robot c.look.result c.loop-robot.invariant.1 c.look.ensures.cells,
     )
 
 pub look-requires-clause-exits : goal.look-requires-clause-exits
-look-requires-clause-exits g c =
-    let m = c.args.grid.now in
-    let own = slice_index c.args.from.now c.loop-robot.robot in
-    c.ways-ways.ensures.ways.each own (floor_inside m own (c.requires.floor c.loop-robot.robot (omega (arith, c.loop-robot-test.true, c.loop-robot.auto.arounds, c.loop-robot.auto.robot-end, c.ask.auto.arounds, c.requires.same_length))))
+look-requires-clause-exits g c = (c.loop-robot.invariant.0 c.loop-robot.robot _ (seen-at c.loop-robot.arounds c.loop-robot.robot _ (omega (arith, c.loop-robot-test.true, c.loop-robot.auto.arounds)))).opens
 
 pub returns : goal.returns
 returns g c = record {
@@ -35,12 +38,6 @@ loop-robot-init g c = (c.ask.ensures, λ r around less. absurd (omega (arith, le
 
 pub bounds-from-robot : goal.bounds-from-robot
 bounds-from-robot g c = omega (arith, c.loop-robot-test.true, c.ask.auto.arounds, c.requires.same_length)
-
-pub bounds-ways-own : goal.bounds-ways-own
-bounds-ways-own g c =
-    let floor = c.requires.floor c.loop-robot.robot (omega (arith, c.loop-robot-test.true, c.ask.auto.arounds, c.requires.same_length)) in
-    let inside = floor_inside c.args.grid.now (slice_index c.args.from.now c.loop-robot.robot) floor in
-    omega (arith, inside, c.ways-ways.ensures.ways.size)
 
 pub look-requires-clause-floor : goal.look-requires-clause-floor
 look-requires-clause-floor g c = c.requires.floor c.loop-robot.robot (omega (arith, c.loop-robot-test.true, c.ask.auto.arounds, c.requires.same_length))

@@ -11,6 +11,9 @@ gather-requires-clause-few g c = c.requires.few
 pub gather-requires-clause-floor : goal.gather-requires-clause-floor
 gather-requires-clause-floor g c = c.requires.floor
 
+pub gather-requires-clause-shows : goal.gather-requires-clause-shows
+gather-requires-clause-shows g c = c.requires.shows
+
 pub fetch-requires-clause-inside : goal.fetch-requires-clause-inside
 fetch-requires-clause-inside g c = rw c.requires.cells (sides-inside c.args.grid.now _ _ c.args.from.now c.gather.new.arounds c.gather.ensures c.requires.floor)
 

@@ -5,7 +5,7 @@ use Rattle.fleet_pibt.proofs.Seen.{seen-at}
 use Rattle.fleet_pibt.proofs.tables.fetch.Goals as goal
 
 abbrev nowhere : Around
-nowhere = record { own = 0; north = 0; east = 0; south = 0; west = 0; nearer = record { byte = 0 } }
+nowhere = record { own = 0; north = 0; east = 0; south = 0; west = 0; nearer = record { byte = 0 }; exits = record { byte = 0 } }
 
 pub loop-around-preserved : goal.loop-around-preserved
 loop-around-preserved g c =
