@@ -94,6 +94,12 @@ high_bit x West = omega arith
 pub low_high : (x : ℕ) → low (high x) ≡ 0
 low_high x = and_mask (x * 16 % 256) 4 ∙ omega arith
 
+pub upper_bit : (x : ℕ) (dir : Dir) → bit_at (x / 16) (dir_number dir) ≡ bit_at x (dir_number dir + 4)
+upper_bit x North = omega arith
+upper_bit x East = omega arith
+upper_bit x South = omega arith
+upper_bit x West = omega arith
+
 -- both halves of a byte at once: what is set in the high half and not in the low one
 further_bit : (x k both a b : ℕ) → both ≡ min a b → a ≡ bit_at x (k + 4) → b ≡ 1 - bit_at x k → (both ≡ 1) ↔ ((bit_at x (k + 4) ≡ 1) × (bit_at x k ≢ 1))
 further_bit x k both a b e high_one low_none =

@@ -181,6 +181,7 @@ module _ (blank : List ℕ) (stride goal level : ℕ) (ways : List ℕ) (step : 
     walls = r.walls;
     len = r.marks.len ∙ r.walls.len;
     each = λ v below. record { north = way_at v North below; east = way_at v East below; south = way_at v South below; west = way_at v West below };
+    free = r.marks.free;
   }
 
 pub no_items : (xs : List ℕ) → length xs ≡ 0 → xs ≡ []

@@ -1,5 +1,5 @@
 -- Steps down the ways that lead nearer are as many as the distance.
-use Rattle.std.proofs.Common.{◌≡◌, ◌≢◌, ℕ, zero, suc, ◌+◌, ◌-◌, ◌*◌, ◌<◌, ◌≤◌, ◌⊎◌, inl, inr, ◌==◌, Bool, true, false, cond, List, [], ◌∷◌, length, get_or, slice_index, Option, Some, None, MatchOption, IsTrue, ◌↔◌, refl, sym, ap, subst, ◌∙◌, arith}
+use Rattle.std.proofs.Common.{◌≡◌, ◌≢◌, ℕ, zero, suc, ◌+◌, ◌-◌, ◌*◌, ◌/◌, ◌<◌, ◌≤◌, ◌⊎◌, inl, inr, ◌==◌, Bool, true, false, cond, List, [], ◌∷◌, length, get_or, slice_get, slice_index, Option, Some, None, MatchOption, IsTrue, ◌↔◌, refl, sym, ap, subst, ◌∙◌, arith}
 use Rattle.std.specs.Int.{bit_at}
 use Rattle.std.proofs.lemmas.Bool.{cases_lt, eqb-true, eq-eqb, false≢true}
 use Rattle.std.proofs.lemmas.List.{get_or_past}
@@ -9,19 +9,21 @@ use Rattle.fleet_grid.specs.declared.dir.Dir.TheVariants.{North, East, South, We
 use Rattle.fleet_grid.specs.Direction.{dir_number}
 use Rattle.fleet_grid.specs.Floor.{Floor, HasForm, IsFloor, IsBeside, IsNeighbour, IsNeighbourIn}
 use Rattle.fleet_grid.specs.Walk.{Walks, IsDistance, AreApart}
-use Rattle.fleet_grid.specs.Ways.{IsWay, IsLess, AreNearer}
-use Rattle.fleet_grid.specs.Padded.{IsPadded, place}
+use Rattle.fleet_grid.specs.Ways.{IsWay, IsLess, AreNearer, AreOpen}
+use Rattle.fleet_grid.specs.Padded.{IsOpen, IsPadded, place}
 use Rattle.fleet_grid.proofs.Edges.{beside_once}
 use Rattle.fleet_grid.proofs.Forms.{floor_inside, wide, few_cells}
 use Rattle.fleet_grid.proofs.Shortest.{distance_below}
 use Rattle.fleet_grid.proofs.Colours.{differ_by_one}
-use Rattle.fleet_field.specs.Field.{IsField, aim_of}
+use Rattle.fleet_field.specs.Field.{Aim, IsField}
 use Rattle.fleet_field.specs.inside.Search.{SameWalls, AreLevels}
-use Rattle.fleet_field.specs.inside.Bytes.{low, IsSearched}
+use Rattle.fleet_field.specs.inside.Bytes.{low, toward, IsFreeWay, IsSearched}
 use Rattle.fleet_field.specs.Kept.{aways, IsLaidOut}
-use Rattle.fleet_field.specs.Compass.{next_cell, steps_down, aways_down, IsNear, AreWaysAt, IsRight, IsCompass}
+use Rattle.fleet_field.specs.Compass.{next_cell, steps_down, aways_down, exits_of, aim_by, IsNear, AreWaysAt, IsRight, IsCompass}
 use Rattle.fleet_field.proofs.Transfer as transfer
-use Rattle.fleet_field.proofs.Halves.{low_bit, few_ways}
+use Rattle.fleet_field.proofs.Transfer.{blank_open}
+use Rattle.fleet_field.proofs.Halves.{low_bit, few_ways, upper_bit}
+use Rattle.fleet_field.proofs.Unsearched.{open_toward}
 use Rattle.fleet_field.proofs.Marks.{some_is, none_is, less_parts, less_by, around_inside, is_right}
 use Rattle.fleet_field.proofs.Descent.{step_found, step_stuck, step_on}
 
@@ -192,22 +194,23 @@ module _ (m : Floor) (goal : ℕ) (form : HasForm m) (at : IsFloor m goal) (ways
     };
   }
 
-  pub is_field : IsField m goal (aim_of goal (aways_down m.height m.width goal ways))
-  is_field = record {
+  pub is_field : ((c exits : ℕ) → IsFloor m c → slice_get (exits_of ways) c ≡ Some exits → AreOpen m c exits) → IsField m goal (aim_by m.height m.width goal ways)
+  is_field opens = record {
     goal = refl;
     covers = length-map-range_with_len (λ i. steps_down m.width ways goal (m.height * m.width) 0 i) 0 (m.height * m.width) ∙ sym form.covered;
     each = λ c. subst (Tells m goal c) (sym (same c)) (each c);
+    opens = opens;
   }
 
 -- the same, where the sides were read from the grid
 pub made : (m : Floor) (h w goal : ℕ) (ways : List ℕ) (D : ℕ → Option ℕ) → h ≡ m.height → w ≡ m.width → HasForm m → IsFloor m goal → ((c : ℕ) → Tells m goal c (D c)) → IsRight w ways D → length ways ≡ h * w
-    → IsCompass h w goal ways × IsField m goal (aim_of goal (aways_down h w goal ways))
-made m h w goal ways D eh ew form at each right len =
+    → ((c exits : ℕ) → IsFloor m c → slice_get (exits_of ways) c ≡ Some exits → AreOpen m c exits) → IsCompass h w goal ways × IsField m goal (aim_by h w goal ways)
+made m h w goal ways D eh ew form at each right len opens =
     let r : IsRight m.width ways D = subst (λ (x : ℕ). IsRight x ways D) ew right in
     let l : length ways ≡ m.height * m.width = len ∙ (ap (λ (x : ℕ). x * w) eh ∙ ap (λ (x : ℕ). m.height * x) ew) in
-    subst (λ (x : ℕ). IsCompass x w goal ways × IsField m goal (aim_of goal (aways_down x w goal ways))) (sym eh)
-    (subst (λ (y : ℕ). IsCompass m.height y goal ways × IsField m goal (aim_of goal (aways_down m.height y goal ways))) (sym ew)
-    (is_compass m goal form at ways D each r l, is_field m goal form at ways D each r))
+    subst (λ (x : ℕ). IsCompass x w goal ways × IsField m goal (aim_by x w goal ways)) (sym eh)
+    (subst (λ (y : ℕ). IsCompass m.height y goal ways × IsField m goal (aim_by m.height y goal ways)) (sym ew)
+    (is_compass m goal form at ways D each r l, is_field m goal form at ways D each r opens))
 
 -- the cells of the places that the search reached
 cells_of : (m : Floor) (h w s : ℕ) (blank dist : List ℕ) → h ≡ m.height → w ≡ m.width → HasForm m → IsPadded m s blank → SameWalls blank dist → (v : ℕ) → v < length dist → slice_index dist v < 4294967294 → (c : ℕ) × (c < h * w) × (v ≡ place w s c)
@@ -218,10 +221,11 @@ cells_of m h w s blank dist eh ew form p walls v inside less =
     (cell.1, omega (arith, below, form.covered, size), cell.3 ∙ ap (λ (x : ℕ). place x s cell.1) (sym ew))
 
 pub compass_of : (m : Floor) (h w s goal start : ℕ) (blank dist ways : List ℕ) → h ≡ m.height → w ≡ m.width → HasForm m → IsPadded m s blank → IsFloor m goal → SameWalls blank dist → start ≡ place w s goal → AreLevels dist s start
-    → length ways ≡ h * w → ((c : ℕ) → c < h * w → AreWaysAt dist s (place w s c) (slice_index ways c)) → IsCompass h w goal ways × IsField m goal (aim_of goal (aways_down h w goal ways))
-compass_of m h w s goal start blank dist ways eh ew form p at walls es levels len each =
+    → length ways ≡ h * w → ((c : ℕ) → c < h * w → AreWaysAt dist s (place w s c) (slice_index ways c))
+    → ((c exits : ℕ) → IsFloor m c → slice_get (exits_of ways) c ≡ Some exits → AreOpen m c exits) → IsCompass h w goal ways × IsField m goal (aim_by h w goal ways)
+compass_of m h w s goal start blank dist ways eh ew form p at walls es levels len each opens =
     let field = transfer.made m h w s goal start blank dist eh ew form p at walls es levels in
-    made m h w goal ways (λ c. get_or (aways h w s dist) c None) eh ew form at field.1.each (is_right h w s dist field.0 ways len (cells_of m h w s blank dist eh ew form p walls) each) len
+    made m h w goal ways (λ c. get_or (aways h w s dist) c None) eh ew form at field.1.each (is_right h w s dist field.0 ways len (cells_of m h w s blank dist eh ew form p walls) each) len opens
 
 -- the same, from the bytes that the search left
 pub searched_out : (m : Floor) (h w s goal start : ℕ) (blank bytes : List ℕ) → h ≡ m.height → w ≡ m.width → HasForm m → IsPadded m s blank → IsFloor m goal → start ≡ place w s goal → IsSearched blank s start bytes → IsLaidOut h w s bytes
@@ -239,12 +243,56 @@ whole_ways dist s at byte are = record {
   west = subst (λ (b : ℕ). (b ≡ 1) ↔ IsNear dist at (at - 1)) (low_bit byte 3 (omega arith)) are.west;
 }
 
+-- the bytes of the cells, as exits
+shown_byte : (ways : List ℕ) (c exits : ℕ) → slice_get (exits_of ways) c ≡ Some exits → (c < length ways) × (slice_index ways c / 16 ≡ exits)
+shown_byte [] c exits e = absurd (none_is exits e)
+shown_byte (x ∷ ways) zero exits e = (omega arith, some_is (x / 16) exits e)
+shown_byte (x ∷ ways) (suc c) exits e = let it = shown_byte ways c exits e in (omega (arith, it.0), it.1)
+
+byte_shown : (ways : List ℕ) (c : ℕ) → c < length ways → slice_get (exits_of ways) c ≡ Some (slice_index ways c / 16)
+byte_shown [] c below = absurd (omega (arith, below))
+byte_shown (x ∷ ways) zero below = refl
+byte_shown (x ∷ ways) (suc c) below = byte_shown ways c (omega (arith, below))
+
+module _ (m : Floor) (h w s start : ℕ) (blank bytes ways : List ℕ) (eh : h ≡ m.height) (ew : w ≡ m.width) (form : HasForm m) (p : IsPadded m s blank) (r : IsSearched blank s start bytes)
+    (len : length ways ≡ h * w) (each : (c : ℕ) → c < h * w → slice_index ways c ≡ slice_index bytes (place w s c)) where
+  exit_is : (c exits : ℕ) (dir : Dir) → c < length ways → slice_index ways c / 16 ≡ exits → bit_at exits (dir_number dir) ≡ bit_at (slice_index bytes (place m.width s c)) (dir_number dir + 4)
+  exit_is c exits dir below is =
+      ap (λ (x : ℕ). bit_at x (dir_number dir)) (sym is)
+      ∙ (upper_bit (slice_index ways c) dir
+      ∙ (ap (λ (x : ℕ). bit_at x (dir_number dir + 4)) (each c (omega (arith, below, len)))
+      ∙ ap (λ (x : ℕ). bit_at (slice_index bytes (place x s c)) (dir_number dir + 4)) ew))
+
+  opens_by : (c exits : ℕ) → IsFloor m c → slice_get (exits_of ways) c ≡ Some exits → AreOpen m c exits
+  opens_by c exits at shown dir =
+      let byte = shown_byte ways c exits shown in
+      let is = exit_is c exits dir byte.0 byte.1 in
+      let here : IsOpen r.dist (place m.width s c) = r.walls.kept (place m.width s c) (blank_open m s blank form p c at) in
+      let free = r.free (place m.width s c) dir here in
+      let there = open_toward m s blank form p c dir at in (
+        λ way. there.0 (r.walls.no_more (toward s dir (place m.width s c)) (free.0 (sym is ∙ way))),
+        λ n. is ∙ free.1 (r.walls.kept (toward s dir (place m.width s c)) (there.1 n)),
+      )
+
 pub compass_by : (m : Floor) (h w s goal start : ℕ) (blank bytes ways : List ℕ) → h ≡ m.height → w ≡ m.width → HasForm m → IsPadded m s blank → IsFloor m goal → start ≡ place w s goal → IsSearched blank s start bytes
-    → length ways ≡ h * w → ((c : ℕ) → c < h * w → slice_index ways c ≡ slice_index bytes (place w s c)) → IsCompass h w goal ways × IsField m goal (aim_of goal (aways_down h w goal ways))
+    → length ways ≡ h * w → ((c : ℕ) → c < h * w → slice_index ways c ≡ slice_index bytes (place w s c)) → IsCompass h w goal ways × IsField m goal (aim_by h w goal ways)
 compass_by m h w s goal start blank bytes ways eh ew form p at es r len each =
     let l = (transfer.made m h w s goal start blank r.dist eh ew form p at r.walls es r.levels).0 in
     compass_of m h w s goal start blank r.dist ways eh ew form p at r.walls es r.levels len
     (λ c below. subst (AreWaysAt r.dist s (place w s c)) (sym (each c below)) (whole_ways r.dist s (place w s c) (slice_index bytes (place w s c)) (r.each (place w s c) (let i = around_inside h w s r.dist l c below in omega (arith, i.1)))))
+    (opens_by m h w s start blank bytes ways eh ew form p r len each)
+
+-- the exits of a floor cell, in the memory of a compass
+pub exits_at : (m : Floor) (h w goal cell : ℕ) (ways : List ℕ) (aim : Aim) → aim_by h w goal ways ≡ aim → IsField m aim.goal aim → IsFloor m cell → cell < length ways → AreOpen m cell (slice_index ways cell / 16)
+exits_at m h w goal cell ways aim is field at below =
+    field.opens cell (slice_index ways cell / 16) at (ap (λ (a : Aim). slice_get a.exits cell) (sym is) ∙ byte_shown ways cell below)
+
+pub byte_inside : (m : Floor) (h w goal cell : ℕ) (ways : List ℕ) (aim : Aim) → IsCompass h w goal ways → aim_by h w goal ways ≡ aim → IsField m aim.goal aim → IsFloor m cell → cell < length ways
+byte_inside m h w goal cell ways aim compass is field at =
+    let inside = floor_inside m cell at in
+    let long = ap (λ (a : Aim). length a.away) is in
+    let cells = length-map-range_with_len (λ i. steps_down w ways goal (h * w) 0 i) 0 (h * w) in
+    omega (arith, inside, field.covers, long, cells, compass.size)
 
 pub down_in : (h w goal c : ℕ) (ways : List ℕ) → c < h * w → get_or (aways_down h w goal ways) c None ≡ steps_down w ways goal (h * w) 0 c
 down_in h w goal c ways below = get_or-map-range_with_len (λ i. steps_down w ways goal (h * w) 0 i) 0 (h * w) c c None below (omega arith)

@@ -145,7 +145,7 @@ module _ (m : Floor) (s : ℕ) (blank : List ℕ) (form : HasForm m) (p : IsPadd
     ]
 
     pub is_field : IsField m goal (aim_of goal (aways m.height m.width s dist))
-    is_field = record { goal = refl; covers = aways_len m.height m.width s dist ∙ sym form.covered; each = each }
+    is_field = record { goal = refl; covers = aways_len m.height m.width s dist ∙ sym form.covered; each = each; opens = λ cell exits at none. absurd (cc (none)) }
 
 -- the same, where the sides were read from the grid
 pub made : (m : Floor) (h w s goal start : ℕ) (blank dist : List ℕ) → h ≡ m.height → w ≡ m.width → HasForm m → IsPadded m s blank → IsFloor m goal → SameWalls blank dist → start ≡ place w s goal → AreLevels dist s start

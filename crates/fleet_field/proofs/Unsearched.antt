@@ -28,22 +28,30 @@ beside_of w s a b East pos apart above e = east_back w s a b pos apart (sym e)
 beside_of w s a b South pos apart above e = south_back w s a b pos apart (sym e)
 beside_of w s a b West pos apart above e = east_back w s b a pos apart (omega (arith, e, above, apart))
 
+-- the place toward a direction is open where the floor cell has a neighbour there
+pub open_toward : (m : Floor) (s : ℕ) (blank : List ℕ) → HasForm m → IsPadded m s blank → (c : ℕ) (dir : Dir) → IsFloor m c → IsOpen blank (toward s dir (place m.width s c)) ↔ ((n : ℕ) × IsNeighbourIn m dir c n)
+open_toward m s blank form p c dir f =
+    let pos = wide m c form f in
+    let inside = floor_inside m c f in
+    let below : c < m.height * m.width = omega (arith, inside, form.covered) in (
+      λ o. (
+          let cell = p.only (toward s dir (place m.width s c)) o in
+          let above = (place_inside m.height m.width s c pos p.apart below).0 in
+          let n : IsNeighbourIn m dir c cell.1 = record { from = f; to = cell.2; beside = beside_of m.width s c cell.1 dir pos p.apart above cell.3 } in
+          (cell.1, n)),
+      λ n. subst (IsOpen blank) (toward_of m.width s c n.0 dir pos n.1.beside) (blank_open m s blank form p n.0 n.1.to),
+    )
+
 module _ (m : Floor) (s : ℕ) (blank ways bytes : List ℕ) (form : HasForm m) (p : IsPadded m s blank) (led : AreWays m ways) (laid : AreFree m.height m.width s ways bytes) where
   -- a floor cell's free ways lead to open places
   free_at : (c : ℕ) (dir : Dir) → IsFloor m c → IsFreeWay (slice_index bytes (place m.width s c)) dir ↔ IsOpen blank (toward s dir (place m.width s c))
   free_at c dir f =
-      let pos = wide m c form f in
       let inside = floor_inside m c f in
       let below : c < m.height * m.width = omega (arith, inside, form.covered) in
+      let there = open_toward m s blank form p c dir f in
       let is : bit_at (slice_index bytes (place m.width s c)) (dir_number dir + 4) ≡ bit_at (slice_index ways c) (dir_number dir) = ap (λ (x : ℕ). bit_at x (dir_number dir + 4)) (laid.each c below) ∙ high_bit (slice_index ways c) dir in (
-        λ way. (
-            let n = (led.each c inside dir).0 (sym is ∙ way) in
-            subst (IsOpen blank) (toward_of m.width s c n.0 dir pos n.1.beside) (blank_open m s blank form p n.0 n.1.to)),
-        λ o. (
-            let cell = p.only (toward s dir (place m.width s c)) o in
-            let above = (place_inside m.height m.width s c pos p.apart below).0 in
-            let n : IsNeighbourIn m dir c cell.1 = record { from = f; to = cell.2; beside = beside_of m.width s c cell.1 dir pos p.apart above cell.3 } in
-            is ∙ (led.each c inside dir).1 (cell.1, n)),
+        λ way. there.1 ((led.each c inside dir).0 (sym is ∙ way)),
+        λ o. is ∙ (led.each c inside dir).1 (there.0 o),
       )
 
   unsearched : IsUnsearched blank s bytes

@@ -1,11 +1,12 @@
 -- How a compass tells distances: by the steps down the ways that lead nearer.
-use Rattle.std.specs.Prelude.{◌≡◌, ℕ, zero, suc, ◌+◌, ◌-◌, ◌*◌, ◌<◌, ◌≤◌, ◌==◌, ◌↔◌, cond, List, Option, Some, None, length, map, slice_index, slice_index_or}
+use Rattle.std.specs.Prelude.{◌≡◌, ℕ, zero, suc, ◌+◌, ◌-◌, ◌*◌, ◌/◌, ◌<◌, ◌≤◌, ◌==◌, ◌↔◌, cond, List, Option, Some, None, length, map, slice_index, slice_index_or}
 use Rattle.std.specs.Int.{bit_at}
 use Rattle.std.specs.List.{range_with_len}
 use Rattle.fleet_grid.specs.declared.dir.Dir.{Dir}
 use Rattle.fleet_grid.specs.declared.dir.Dir.TheVariants.{North, East, South, West}
 use Rattle.fleet_grid.specs.Floor.{IsBeside}
 use Rattle.fleet_grid.specs.Ways.{IsWay, IsLess}
+use Rattle.fleet_field.specs.Field.{Aim}
 
 -- the cell that the first of a cell's ways leads to
 abbrev pub next_cell : ℕ → ℕ → ℕ → Option ℕ
@@ -25,6 +26,14 @@ steps_down width ways goal (suc left) taken cell =
 -- the distances of the cells
 abbrev pub aways_down : ℕ → ℕ → ℕ → List ℕ → List (Option ℕ)
 aways_down height width goal ways = map (λ cell. steps_down width ways goal (height * width) 0 cell) (range_with_len 0 (height * width))
+
+-- the exits of the cells, in the high halves of their bytes
+abbrev pub exits_of : List ℕ → List ℕ
+exits_of bytes = map (λ byte. byte / 16) bytes
+
+-- what these bytes show
+abbrev pub aim_by : ℕ → ℕ → ℕ → List ℕ → Aim
+aim_by height width goal bytes = record { goal = goal; away = aways_down height width goal bytes; exits = exits_of bytes }
 
 -- each cell's ways lead to the cells next to it that have less distance, and no other way is among them
 pub record IsRight (width : ℕ) (ways : List ℕ) (distance : ℕ → Option ℕ) : Type 0 where

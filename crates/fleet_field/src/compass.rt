@@ -27,12 +27,12 @@ pub struct Compass<A: Allocator + Copy = Global> {
 }
 
 impl<A: Allocator + Copy> Model for Compass<A> {
-    ghost use Rattle.fleet_field.specs.Field.{Aim, aim_of};
-    ghost use Rattle.fleet_field.specs.Compass.{IsCompass, aways_down};
+    ghost use Rattle.fleet_field.specs.Field.{Aim};
+    ghost use Rattle.fleet_field.specs.Compass.{IsCompass, aim_by};
 
     ghost Value = { Aim };
 
-    ghost view = { λ c. aim_of c.goal (aways_down c.height c.width c.goal c.ways.items) };
+    ghost view = { λ c. aim_by c.height c.width c.goal c.ways.items };
 
     ghost invariant = { λ c. IsCompass c.height c.width c.goal c.ways.items };
 }
@@ -194,15 +194,11 @@ impl<A: Allocator + Copy> Compass<A> {
         ensures nearer { AreNearer grid.now (λ c. slice_index_or self.now.away c None) cell result.nearer.byte }
         ensures exits { AreOpen grid.now cell result.exits.byte }
     {
-        let byte = self.ways[cell as usize];
-        let nearer = if grid.width() == self.width {
-            Ways { byte: byte & 15 }
-        } else {
-            self.ways_elsewhere(grid, cell)
-        };
         Outlook {
-            nearer,
-            exits: Ways { byte: byte >> 4 },
+            nearer: self.ways(grid, cell),
+            exits: Ways {
+                byte: self.ways[cell as usize] >> 4,
+            },
         }
     }
 

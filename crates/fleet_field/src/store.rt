@@ -155,12 +155,7 @@ impl<A: Allocator + Copy> FieldStore<A> {
     }
 
     /// The ways from a floor cell of the map: those that lead nearer to the goal of the key, and all exits.
-    pub fn outlook<B: Allocator + Copy>(
-        &self,
-        grid: &Grid<B>,
-        key: usize,
-        cell: u32,
-    ) -> Outlook
+    pub fn outlook<B: Allocator + Copy>(&self, grid: &Grid<B>, key: usize, cell: u32) -> Outlook
         requires shown { IsSome (shown self.now key) }
         requires serves { Serves grid.now self.now }
         requires floor { IsFloor grid.now cell }

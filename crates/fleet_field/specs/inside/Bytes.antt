@@ -139,13 +139,14 @@ pub record Runs (blank : List ℕ) (stride goal level : ℕ) (now ways : List �
   pub count : level + length now + far_count dist ≤ length blank
   pub marks : Marks (colour stride goal) stride level dist ways
 
--- the low halves are the ways by distances to the goal
+-- the low halves are the ways by distances to the goal, and the high halves the ways to open places
 pub record IsSearched (blank : List ℕ) (stride goal : ℕ) (ways : List ℕ) : Type 0 where
   pub dist : List ℕ
   pub levels : AreLevels dist stride goal
   pub walls : SameWalls blank dist
   pub len : length ways ≡ length blank
   pub each : (v : ℕ) → v < length dist → AreWaysAt dist stride v (low (slice_index ways v))
+  pub free : (v : ℕ) (dir : Dir) → IsOpen dist v → IsFreeWay (slice_index ways v) dir ↔ IsOpen dist (toward stride dir v)
 
 -- what becomes of this many bytes from one on stands in the list from an entry on, and what stood before it is left
 pub record HasRow (half : ℕ → ℕ) (bytes : List ℕ) (start first count : ℕ) (before after : List ℕ) : Type 0 where
