@@ -11,7 +11,6 @@ mod turns;
 mod waits;
 
 pub use aims::Aims;
-pub use mover::{TickInput, plan};
 pub use planner::{Planner, is_nobody};
 pub use turns::GoalChange;
 pub use waits::eldest;

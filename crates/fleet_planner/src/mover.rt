@@ -3,7 +3,7 @@
 ghost use Rattle.std.specs.Prelude.{◌≡◌, ℕ, ◌≤◌, length, map, IfOk};
 ghost use Rattle.fleet_grid.specs.Step.{IsPlacement, IsConflictFree};
 ghost use Rattle.fleet_pibt.specs.Goals.{AreGoals};
-ghost use Rattle.fleet_planner.specs.Aims.{goals_of, goal, distance};
+ghost use Rattle.fleet_planner.specs.Aims.{goals_of, goal, distance, AreOn};
 ghost use Rattle.fleet_planner.specs.Planned.{IsPlannedBy};
 
 use crate::aims::Aims;
@@ -14,13 +14,13 @@ use std::alloc::{AllocError, Allocator};
 
 /// The state before a tick, robot by robot.
 #[derive(Clone, Copy, Debug)]
-pub struct TickInput<'a> {
+pub(crate) struct TickInput<'a> {
     /// The robots' cells.
-    pub cells: &'a [u32],
+    pub(crate) cells: &'a [u32],
     /// How long each robot has waited.
-    pub waits: &'a [Option<u64>],
+    pub(crate) waits: &'a [Option<u64>],
     /// The tick that is being made.
-    pub tick: u64,
+    pub(crate) tick: u64,
 }
 
 /// Writes to `to` where the robots go from their cells.
@@ -39,6 +39,7 @@ fn step_into<A: Allocator + Copy>(
     requires room { length to.old ≡ length input.cells.now }
     requires made { stepper.old ≡ record { cells = length grid.now.letters; robots = length input.cells.now } }
     requires goals { AreGoals grid.now input.cells.now input.waits.now (goal aims.now) (distance aims.now) }
+    requires on { AreOn grid.now aims.now }
     ensures made { stepper.new ≡ stepper.old }
     ensures conflict_free { IsConflictFree grid.now input.entry.cells.now to.new }
     ensures planned { IsPlannedBy grid.now (map (λ h. h.law) ties.now) input.entry.waits.now (goals_of aims.now) input.entry.cells.now to.new }
@@ -48,7 +49,7 @@ fn step_into<A: Allocator + Copy>(
 }
 
 /// Where the robots go from their cells in the tick that is being made, by priority inheritance with backtracking.
-pub fn plan<A: Allocator + Copy>(
+pub(crate) fn plan<A: Allocator + Copy>(
     alloc: A,
     grid: &Grid<A>,
     input: TickInput<'_>,
@@ -62,6 +63,7 @@ pub fn plan<A: Allocator + Copy>(
     requires tied { length ties.now ≡ length input.cells.now }
     requires made { stepper.old ≡ record { cells = length grid.now.letters; robots = length input.cells.now } }
     requires goals { AreGoals grid.now input.cells.now input.waits.now (goal aims.now) (distance aims.now) }
+    requires on { AreOn grid.now aims.now }
     ensures made { stepper.new ≡ stepper.old }
     ensures conflict_free { IfOk result (λ to. IsConflictFree grid.now input.entry.cells.now to.items) }
     ensures planned { IfOk result (λ to. IsPlannedBy grid.now (map (λ h. h.law) ties.now) input.entry.waits.now (goals_of aims.now) input.entry.cells.now to.items) }

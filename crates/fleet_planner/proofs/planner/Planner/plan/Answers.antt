@@ -33,6 +33,9 @@ plan-requires-clause-goals g c =
     let a = subst (IsAimed c.args.grid.now may.history) (sym c.self.view_is) may.aimed in
     rw (c.place.ensures.cells, cells-of may.is, c.waits.ensures.waits, waits-of may.is) (kept_goals c.args.grid.now may.history c.self.inside.aims may.is.legal a.aimed a.on)
 
+pub plan-requires-clause-on : goal.plan-requires-clause-on
+plan-requires-clause-on g c = (subst (IsAimed c.args.grid.now c.requires.may.history) (sym c.self.view_is) c.requires.may.aimed).on
+
 pub invariant_of-self : goal.invariant_of-self
 invariant_of-self g c = c.self.invariant
 
