@@ -36,9 +36,13 @@ pub record AreStarts (m : Floor) (home : ℕ) (taken : List Bool) (starts : List
   pub within : AreWithin m home starts
   pub taken_all : AreTaken starts taken
 
+-- each is the field of its goal
+abbrev pub AreFields : Floor → List Aim → Type 0
+AreFields m fields = (k : ℕ) (field : Aim) → slice_get fields k ≡ Some field → IsField m field.goal field
+
 -- each is the field of a goal in the part of `home`
 pub record Serves (m : Floor) (home : ℕ) (fields : List Aim) : Type 0 where
-  pub each : (k : ℕ) (field : Aim) → slice_get fields k ≡ Some field → IsField m field.goal field
+  pub each : AreFields m fields
   pub within : (k : ℕ) (field : Aim) → slice_get fields k ≡ Some field → IsWithin m home field.goal
 
 -- where each robot is, how long it has waited, and the number of its field

@@ -2,11 +2,11 @@
 
 ghost use Rattle.std.specs.Prelude.{◌≡◌};
 ghost use Rattle.std.specs.Option.{option_map};
-ghost use Rattle.bench_ground.specs.Fleet.{field_of, goal_of, distance_of};
+ghost use Rattle.bench_ground.specs.Fleet.{field_of, goal_of, distance_of, AreFields};
 
 use fleet_field::Compass;
-use fleet_grid::{Grid, Ways};
-use fleet_pibt::Goals;
+use fleet_grid::{Grid, Outlook, Ways};
+use fleet_pibt::{Goals, Guide};
 use std::alloc::Allocator;
 
 /// Robots and their fields.
@@ -46,6 +46,20 @@ impl<'a> Goals for Course<'a> {
         match self.field(robot) {
             Some(field) => field.ways(grid, cell),
             None => Ways::NONE,
+        }
+    }
+}
+
+impl<'a> Guide for Course<'a> {
+    ghost shows = { λ s m. AreFields m s.fields.now };
+
+    fn outlook<A: Allocator + Copy>(&self, grid: &Grid<A>, robot: u32, cell: u32) -> Outlook {
+        match self.field(robot) {
+            Some(field) => field.outlook(grid, cell),
+            None => Outlook {
+                nearer: Ways::NONE,
+                exits: grid.exits(cell),
+            },
         }
     }
 }

@@ -81,7 +81,7 @@ impl Fleet {
             fields,
             aims: &self.aims,
         };
-        stepper.step(
+        stepper.step_by(
             &site.grid,
             &self.from,
             &self.waits,

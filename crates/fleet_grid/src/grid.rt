@@ -3,7 +3,7 @@
 ghost use Rattle.std.specs.Prelude.{◌≡◌, ℕ, ◌*◌, ◌<◌, ◌≤◌, ◌↔◌, length, IfOk, IsTrue, MatchOption};
 ghost use Rattle.fleet_grid.specs.Floor.{floor_of, HasForm, IsFloor, IsNeighbour, IsNeighbourIn};
 ghost use Rattle.fleet_grid.specs.Padded.{IsPadded};
-ghost use Rattle.fleet_grid.specs.Ways.{AreWays};
+ghost use Rattle.fleet_grid.specs.Ways.{AreOpen, AreWays};
 ghost use Rattle.fleet_grid.specs.Walk.{AreJoined};
 ghost use Rattle.fleet_grid.specs.Counts.{floor_count, edge_count};
 ghost use Rattle.fleet_grid.specs.Turns.{IsRagged};
@@ -14,7 +14,7 @@ use crate::dir::Dir;
 use crate::padded::{blank_of, stride_of};
 use crate::parts::{is_same_part, parts_of};
 use crate::turns;
-use crate::ways::ways_of;
+use crate::ways::{Ways, ways_of};
 use fleet_map::MapText;
 use std::alloc::{AllocError, Allocator, Global};
 use std::marker::Model;
@@ -122,6 +122,17 @@ impl<A: Allocator + Copy> Grid<A> {
         ensures form { HasForm self.now }
     {
         self.ways.as_slice()
+    }
+
+    /// The ways from a floor cell to its floor neighbours.
+    pub fn exits(&self, cell: u32) -> Ways
+        requires { IsFloor self.now cell }
+        ensures { AreOpen self.now cell result.byte }
+    {
+        let ways = self.ways();
+        Ways {
+            byte: ways[cell as usize],
+        }
     }
 
     /// Whether a walk joins two floor cells.

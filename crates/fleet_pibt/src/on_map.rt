@@ -34,12 +34,9 @@ impl<'a, G: Goals> Guide for OnMap<'a, G> {
     ghost shows = { λ _ _. Unit {0} };
 
     fn outlook<A: Allocator + Copy>(&self, grid: &Grid<A>, robot: u32, cell: u32) -> Outlook {
-        let ways = grid.ways();
         Outlook {
             nearer: self.goals.ways(grid, robot, cell),
-            exits: Ways {
-                byte: ways[cell as usize],
-            },
+            exits: grid.exits(cell),
         }
     }
 }

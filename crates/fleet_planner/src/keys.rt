@@ -82,9 +82,7 @@ pub(crate) fn outlook_of<A: Allocator + Copy, B: Allocator + Copy>(
         Some(key) => store.outlook(grid, key, cell),
         None => Outlook {
             nearer: Ways::NONE,
-            exits: Ways {
-                byte: grid.ways()[cell as usize],
-            },
+            exits: grid.exits(cell),
         },
     }
 }

@@ -1,5 +1,4 @@
-use Rattle.std.proofs.Common.{sym, ◌∙◌, arith}
-use Rattle.fleet_grid.proofs.Forms.{floor_inside}
+use Rattle.std.proofs.Common.{sym, ◌∙◌}
 use Rattle.fleet_planner.specs.Keys.{key_at}
 use Rattle.fleet_planner.proofs.Fields.{ways_shown, ways_none, goal_there}
 use Rattle.fleet_planner.proofs.keys.outlook_of.Goals as goal
@@ -19,6 +18,3 @@ returns-in-Some-clause-idle g c =
 
 pub returns-in-None-clause-nearer : goal.returns-in-None-clause-nearer
 returns-in-None-clause-nearer g c = ways_none c.args.store.now (key_at c.args.keys.now c.args.robot) c.args.grid.now c.args.cell (sym c.key_of.ensures ∙ c.in-None.is)
-
-pub returns-in-None-clause-exits : goal.returns-in-None-clause-exits
-returns-in-None-clause-exits g c = c.ways.ensures.ways.each c.args.cell (floor_inside c.args.grid.now c.args.cell c.requires.floor)
