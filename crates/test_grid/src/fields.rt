@@ -137,6 +137,18 @@ fn check_ways(rt: &impl Abort, grid: &Grid, field: &Field, compass: &Compass) {
     }
 }
 
+/// The ways from the ring's cells to their floor neighbours: 1 leads north, 2 east, 4 south and 8 west.
+const EXITS: [(u32, u8); 8] = [
+    (0, 6),
+    (1, 10),
+    (2, 12),
+    (3, 5),
+    (5, 5),
+    (6, 3),
+    (7, 10),
+    (8, 9),
+];
+
 fn ways_by_store(rt: &impl Abort, grid: &Grid, store: &mut FieldStore)
     requires floor { IsFloor grid.now 0 }
     requires serves { Serves grid.now store.old }
@@ -144,6 +156,12 @@ fn ways_by_store(rt: &impl Abort, grid: &Grid, store: &mut FieldStore)
     let key = hold(store, grid, 0).expect(rt, "memory for a field");
     for (cell, ways) in WAYS {
         assert!(rt; store.ways(grid, key, cell).byte == ways);
+        assert!(rt; grid.is_floor(cell));
+        assert!(rt; store.outlook(grid, key, cell).nearer.byte == ways);
+    }
+    for (cell, exits) in EXITS {
+        assert!(rt; grid.is_floor(cell) && grid.exits(cell).byte == exits);
+        assert!(rt; store.outlook(grid, key, cell).exits.byte == exits);
     }
 }
 

@@ -10,7 +10,7 @@ use crate::floor::grid_of;
 use allowed::are_allowed;
 use fleet_field::Shelf;
 use fleet_grid::Grid;
-use fleet_pibt::Goals;
+use fleet_pibt::{Goals, Guide};
 use fleet_planner::{Aims, GoalChange};
 use std::alloc::{AllocError, Allocator, Global};
 use std::process::Abort;
@@ -100,6 +100,10 @@ fn check_aimed<A: Allocator + Copy>(rt: &impl Abort, aims: &Aims<A>, grid: &Grid
     assert!(rt; is_away(aims, 0, 4, None));
     // East and south.
     assert!(rt; aims.ways(grid, 0, 0).byte == 6 && aims.ways(grid, 1, 0).byte == 0);
+    assert!(rt; grid.is_floor(0));
+    let (goes, idles) = (aims.outlook(grid, 0, 0), aims.outlook(grid, 1, 0));
+    assert!(rt; goes.nearer.byte == 6 && goes.exits.byte == 6);
+    assert!(rt; idles.nearer.byte == 0 && idles.exits.byte == 6);
 }
 
 /// Robot 0 is given the goal 8, then robot 1, and then robot 0 is turned to cell 1.
