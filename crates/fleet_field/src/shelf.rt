@@ -64,7 +64,7 @@ impl<A: Allocator + Copy> Shelf<A> {
         self.bytes = bytes;
     }
 
-    /// How many cells the last field has, as each has; `None` if nothing is kept.
+    /// How many cells the last field has, as each has; 0 if nothing is kept.
     fn cells(&self) -> usize
         ensures { result ≡ cells_kept self.now.kept }
     {
