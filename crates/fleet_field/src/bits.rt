@@ -1,44 +1,36 @@
-//! The bytes of a map's places before a search, and those of its cells after it.
+//! The labels of a map's places before a search, and the bytes of its cells after it.
 
-ghost use Rattle.std.specs.Prelude.{◌≡◌, ℕ, ◌+◌, ◌*◌, ◌<◌, ◌≤◌, ◌++◌, length, slice_index, IfOk};
+ghost use Rattle.std.specs.Prelude.{◌≡◌, ℕ, ◌+◌, ◌*◌, ◌<◌, ◌≤◌, ◌↔◌, length, slice_index, IfOk};
 ghost use Rattle.fleet_grid.specs.Padded.{place};
+ghost use Rattle.fleet_grid.specs.Ways.{IsWay};
+ghost use Rattle.fleet_grid.specs.declared.dir.Dir.TheVariants.{North, East, South, West};
 ghost use Rattle.fleet_field.specs.Kept.{IsLaidOut};
-ghost use Rattle.fleet_field.specs.inside.Bytes.{high, AreFree, HaveNone, HasRow, IsMoved};
+ghost use Rattle.fleet_field.specs.inside.Labels.{AreUnseen, IsPointed, before};
 
+use fleet_grid::Ways;
 use std::alloc::{AllocError, Allocator};
 
-/// Writes the ways of this many cells, from the cell `first` on, into the high halves of the bytes from `start` on.
-fn lay_row(bytes: &mut [u8], ways: &[u8], start: usize, first: usize, width: usize)
-    requires small { length ways.now < 1073741824 }
-    requires inside { first + width ≤ length ways.now }
-    requires room { start + width ≤ length bytes.old }
-    requires none { HaveNone bytes.old }
-    ensures row { HasRow high ways.now first start width bytes.old bytes.new }
-    ensures none { HaveNone bytes.new }
-{
+/// The label of a place that is shut.
+const SHUT: u8 = 64;
+
+/// Writes the labels of a row's cells: those with ways are not reached, the others are shut.
+fn lay_row(labels: &mut [u8], ways: &[u8], row: usize, width: usize, stride: usize) {
+    let (start, first) = ((row + 1) * stride, row * width);
     for column in 0..width {
-        bytes[start + column] = ways[first + column] << 4;
+        labels[start + column] = if ways[first + column] == 0 { SHUT } else { 0 };
     }
 }
 
-/// Writes each cell's ways into the high half of its byte, row by row.
-fn lay_rows(bytes: &mut [u8], height: usize, width: usize, stride: usize, ways: &[u8])
-    requires laid_out { IsLaidOut height width stride bytes.old }
-    requires cells { length ways.now ≡ height * width }
-    requires none { HaveNone bytes.old }
-    ensures len { length bytes.new ≡ length bytes.old }
-    ensures none { HaveNone bytes.new }
-    ensures each { (cell : ℕ) → cell < height * width → slice_index bytes.new (place width stride cell) ≡ high (slice_index ways.now cell) }
-{
+/// Writes the labels of the cells, row by row.
+fn lay_rows(labels: &mut [u8], height: usize, width: usize, stride: usize, ways: &[u8]) {
     for row in 0..height {
-        lay_row(bytes, ways, (row + 1) * stride, row * width, width);
+        lay_row(labels, ways, row, width, stride);
     }
 }
 
-/// The bytes of the places before a search, in the memory of a list that is no longer needed: a cell's byte has the ways to
-/// open places; every other byte has none.
-pub(crate) fn free_ways<A: Allocator + Copy>(
-    spare: Vec<u8, A>,
+/// The labels before a search: 0 for each cell that has ways, and 64 for each other place.
+pub(crate) fn unseen<A: Allocator + Copy>(
+    alloc: A,
     height: u32,
     width: u32,
     stride: u32,
@@ -49,63 +41,80 @@ pub(crate) fn free_ways<A: Allocator + Copy>(
     requires few { height * width ≤ 1048576 }
     requires small { (height + 2) * stride < 1073741824 }
     requires cells { length ways.now ≡ height * width }
-    ensures { IfOk result (λ bytes. AreFree height width stride ways.now bytes.items) }
+    ensures { IfOk result (λ labels. AreUnseen height width stride ways.now labels.items) }
 {
     let (rows, columns, step) = (height as usize, width as usize, stride as usize);
-    let mut bytes = spare;
-    bytes.clear();
-    bytes.resize((rows + 2) * step, 0)?;
-    lay_rows(bytes.as_mut_slice(), rows, columns, step, ways);
-    Ok(bytes)
+    let mut labels = Vec::new(alloc);
+    labels.resize((rows + 2) * step, SHUT)?;
+    lay_rows(labels.as_mut_slice(), rows, columns, step, ways);
+    Ok(labels)
 }
 
-/// Copies the first bytes of `after` to the entries of `before` from `first` on. The two are parts of one list, so that the row
-/// is copied as a whole, and not byte by byte.
-fn copy_row(before: &mut [u8], after: &[u8], first: usize, width: usize)
-    requires small { length before.old < 1073741824 }
-    requires room { first + width ≤ length before.old }
-    requires inside { width ≤ length after.now }
-    ensures { IsMoved (length before.old) first width (before.old ++ after.now) (before.new ++ after.now) }
+/// The label of the level before that of this label, which no place has where the label is that of no level.
+#[inline(always)]
+fn before(label: u8) -> u8
+    ensures { result ≡ before label }
 {
-    before[first..first + width].copy_from_slice(&after[..width]);
+    if label == 1 { 3 } else { label.wrapping_sub(1) }
 }
 
-/// Moves this many bytes from `start` on forward, to the entries from `first` on.
-fn pack_row(bytes: &mut [u8], start: usize, first: usize, width: usize)
-    requires small { length bytes.old < 1073741824 }
-    requires forward { first + width ≤ start }
-    requires inside { start + width ≤ length bytes.old }
-    ensures { IsMoved start first width bytes.old bytes.new }
-{
-    let (before, after) = bytes.split_at_mut(start);
-    copy_row(before, after, first, width);
-}
-
-/// Moves each row's bytes forward in the list, so that each cell's byte is where the cell's number says.
-fn pack_rows(bytes: &mut [u8], height: usize, width: usize, stride: usize)
-    requires { IsLaidOut height width stride bytes.old }
-    ensures len { length bytes.new ≡ length bytes.old }
-    ensures each { (cell : ℕ) → cell < height * width → slice_index bytes.new cell ≡ slice_index bytes.old (place width stride cell) }
-{
-    for row in 0..height {
-        pack_row(bytes, (row + 1) * stride, row * width, width);
+/// Writes the bytes of a row's cells.
+fn point_row(
+    bytes: &mut [u8],
+    labels: &[u8],
+    ways: &[u8],
+    row: usize,
+    width: usize,
+    stride: usize,
+) {
+    let (start, first) = ((row + 1) * stride, row * width);
+    for column in 0..width {
+        let (at, cell) = (start + column, first + column);
+        let last = before(labels[at]);
+        let nearer = Ways::of(
+            labels[at - stride] == last,
+            labels[at + 1] == last,
+            labels[at + stride] == last,
+            labels[at - 1] == last,
+        );
+        bytes[cell] = ways[cell] << 4 | nearer.byte;
     }
 }
 
-/// The bytes of the cells, in the memory of those of the places.
-pub(crate) fn pack<A: Allocator + Copy>(
-    bytes: Vec<u8, A>,
+/// Writes the bytes of the cells, row by row.
+fn point_rows(
+    bytes: &mut [u8],
+    labels: &[u8],
+    ways: &[u8],
+    height: usize,
+    width: usize,
+    stride: usize,
+) {
+    for row in 0..height {
+        point_row(bytes, labels, ways, row, width, stride);
+    }
+}
+
+/// The bytes of the cells after a search that left these labels, in the memory of a list that is no longer needed: the high half
+/// of a cell's byte has its exits, and the low half the ways that lead nearer.
+pub(crate) fn pointed<A: Allocator + Copy>(
+    spare: Vec<u8, A>,
+    labels: &[u8],
     height: u32,
     width: u32,
     stride: u32,
-) -> Vec<u8, A>
-    requires { IsLaidOut height width stride bytes.items }
-    ensures len { length result.items ≡ height * width }
-    ensures each { (cell : ℕ) → cell < height * width → slice_index result.items cell ≡ slice_index bytes.items (place width stride cell) }
+    ways: &[u8],
+) -> Result<Vec<u8, A>, AllocError>
+    requires laid_out { IsLaidOut height width stride labels.now }
+    requires cells { length ways.now ≡ height * width }
+    requires low { (cell : ℕ) → cell < height * width → slice_index ways.now cell < 16 }
+    ensures len { IfOk result (λ bytes. length bytes.items ≡ height * width) }
+    ensures each { IfOk result (λ bytes. (cell : ℕ) → cell < height * width →
+        IsPointed stride labels.now (place width stride cell) (slice_index ways.now cell) (slice_index bytes.items cell)) }
 {
     let (rows, columns) = (height as usize, width as usize);
-    let mut cells = bytes;
-    pack_rows(cells.as_mut_slice(), rows, columns, stride as usize);
-    cells.truncate(rows * columns);
-    cells
+    let mut bytes = spare;
+    bytes.resize(rows * columns, 0)?;
+    point_rows(bytes.as_mut_slice(), labels, ways, rows, columns, stride as usize);
+    Ok(bytes)
 }
