@@ -51,7 +51,7 @@ was_open old new level v small k o = (omega (arith, o.0, k.len), λ w. elim (k.e
 pub stays_open : (old new : List ℕ) (level v : ℕ) → level < 4294967294 → Keeps old new level → IsOpen old v → IsOpen new v
 stays_open old new level v small k o = (omega (arith, o.0, k.len), λ w. elim (k.each v) [ inl e ↦ o.1 (sym e ∙ w) | inr p ↦ omega (arith, p.1, w, small) ])
 
-was_link : (old new : List ℕ) (stride level a b : ℕ) → level < 4294967294 → Keeps old new level → IsLink new stride a b → IsLink old stride a b
+pub was_link : (old new : List ℕ) (stride level a b : ℕ) → level < 4294967294 → Keeps old new level → IsLink new stride a b → IsLink old stride a b
 was_link old new stride level a b small k l = record { from = was_open old new level a small k l.from; to = was_open old new level b small k l.to; side = l.side }
 
 pub extends_same : (stride level : ℕ) (dist front : List ℕ) → Search dist stride level (level + 1) front → Extends stride level dist front dist front

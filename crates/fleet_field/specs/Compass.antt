@@ -1,6 +1,7 @@
 -- How a compass tells distances: by the steps down the ways that lead nearer.
 use Rattle.std.specs.Prelude.{◌≡◌, ℕ, zero, suc, ◌+◌, ◌-◌, ◌*◌, ◌/◌, ◌<◌, ◌≤◌, ◌==◌, ◌↔◌, cond, List, Option, Some, None, length, map, slice_index, slice_index_or}
 use Rattle.std.specs.Int.{bit_at}
+use Rattle.std.specs.Int.Bits.{bit_and}
 use Rattle.std.specs.List.{range_with_len}
 use Rattle.fleet_grid.specs.declared.dir.Dir.{Dir}
 use Rattle.fleet_grid.specs.declared.dir.Dir.TheVariants.{North, East, South, West}
@@ -26,6 +27,10 @@ steps_down width ways goal (suc left) taken cell =
 -- the distances of the cells
 abbrev pub aways_down : ℕ → ℕ → ℕ → List ℕ → List (Option ℕ)
 aways_down height width goal ways = map (λ cell. steps_down width ways goal (height * width) 0 cell) (range_with_len 0 (height * width))
+
+-- the ways that lead nearer, in the low half of a cell's byte
+abbrev pub low : ℕ → ℕ
+low byte = bit_and byte 15
 
 -- the exits of the cells, in the high halves of their bytes
 abbrev pub exits_of : List ℕ → List ℕ

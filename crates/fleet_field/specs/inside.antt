@@ -1,6 +1,5 @@
 -- What only proofs and private functions use.
 pub mod Search
-pub mod Bytes
 pub mod Labels
 pub mod Uses
 pub mod Work

@@ -5,10 +5,9 @@ ghost use Rattle.std.specs.Int.{bit_at};
 ghost use Rattle.fleet_grid.specs.Floor.{IsFloor, IsNeighbourIn};
 ghost use Rattle.fleet_grid.specs.Ways.{AreNearer, AreOpen, IsLess};
 ghost use Rattle.fleet_field.specs.Field.{IsField};
-ghost use Rattle.fleet_field.specs.Compass.{next_cell, steps_down};
-ghost use Rattle.fleet_field.specs.inside.Bytes.{low};
+ghost use Rattle.fleet_field.specs.Compass.{next_cell, steps_down, low};
 
-use crate::bits::{free_ways, pack};
+use crate::bits::{pointed, unseen};
 use crate::columns::Columns;
 use crate::search::search;
 use crate::ways::is_less;
@@ -135,13 +134,15 @@ impl<A: Allocator + Copy> Compass<A> {
         let columns = Columns::new(grid.width());
         let (stride, _blank) = grid.padded();
         let start = columns.place(stride, goal) as u32;
-        let free = free_ways(spare, height, columns.width, stride, grid.ways())?;
-        let bytes = search(alloc, free, stride as usize, start, grid.is_ragged())?;
+        let exits = grid.ways();
+        let fresh = unseen(alloc, height, columns.width, stride, exits)?;
+        let labels = search(alloc, fresh, stride as usize, start, grid.is_ragged())?;
+        let ways = pointed(spare, &labels, height, columns.width, stride, exits)?;
         Ok(Compass {
             height,
             width: columns.width,
             goal,
-            ways: pack(bytes, height, columns.width, stride),
+            ways,
         })
     }
 

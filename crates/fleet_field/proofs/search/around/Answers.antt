@@ -1,10 +1,9 @@
 use Rattle.std.proofs.Common.{take, arith}
-use Rattle.fleet_field.proofs.Around.{left_around}
+use Rattle.fleet_field.proofs.Labels.{around_by}
 use Rattle.fleet_field.proofs.search.around.Goals as goal
 
 pub returns-clause-around : goal.returns-clause-around
-returns-clause-around g c shade level dist small here s m =
-    left_around shade c.args.stride level c.args.place dist (take c.args.count c.args.next.now) c.args.ways.now small here (omega (arith, c.requires.inside.1, m.len)) m s c.requires.step c.requires.inside.0 (omega (arith, c.requires.inside.1, m.len))
-    c.further_ways-further.result.byte c.further_ways-further.ensures
-    c.look-north.new.ways (take c.look-north.result c.look-north.new.next) c.look-east.new.ways (take c.look-east.result c.look-east.new.next) c.look-south.new.ways (take c.look-south.result c.look-south.new.next) c.look.new.ways (take c.look.result c.look.new.next)
-    c.look-north.ensures.look c.look-east.ensures.look c.look-south.ensures.look c.look.ensures.look
+returns-clause-around g c level dist small is here s are =
+    around_by c.args.stride level c.args.place c.args.mark dist c.args.labels.now (take c.args.count c.args.next.now) small is here s are c.requires.step c.requires.inside.0 (omega (arith, c.requires.inside.1, are.len))
+    c.visit-north.new.labels (take c.visit-north.result c.visit-north.new.next) c.visit-east.new.labels (take c.visit-east.result c.visit-east.new.next) c.visit-south.new.labels (take c.visit-south.result c.visit-south.new.next) c.visit.new.labels (take c.visit.result c.visit.new.next)
+    c.visit-north.ensures.visited c.visit-east.ensures.visited c.visit-south.ensures.visited c.visit.ensures.visited

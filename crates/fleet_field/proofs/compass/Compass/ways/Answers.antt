@@ -1,7 +1,7 @@
 use Rattle.std.proofs.Common.{ℕ, get_or, None, sym, subst, ◌∙◌}
 use Rattle.fleet_grid.specs.Ways.{AreNearer}
 use Rattle.fleet_field.specs.Field.{Aim}
-use Rattle.fleet_field.specs.inside.Bytes.{low}
+use Rattle.fleet_field.specs.Compass.{low}
 use Rattle.fleet_field.proofs.Nearer.{are_nearer}
 use Rattle.fleet_field.proofs.compass.Compass.ways.Goals as goal
 
