@@ -25,3 +25,4 @@ pub mod Unsearched
 pub mod Fronted
 pub mod Queued
 pub mod Beside
+pub mod Pointed

@@ -28,7 +28,7 @@ row_more half bytes p f n xs ys x h inside last = record {
   ];
 }
 
-place_at : (w s q r : ℕ) → r < w → place w s (q * w + r) ≡ (q + 1) * s + r
+pub place_at : (w s q r : ℕ) → r < w → place w s (q * w + r) ≡ (q + 1) * s + r
 place_at w s q r h = rw (div-mul-add q w r h, mod-mul-add q w r h) refl
 
 -- the cells of this many rows have their bytes, and the bytes after them are as they were

@@ -87,14 +87,14 @@ pub record Runs (blank : List ℕ) (stride goal level : ℕ) (now labels : List 
   pub start : (goal < length dist) × (slice_index dist goal ≡ 0)
   pub only : (v : ℕ) → IsOpen dist v → slice_index dist v ≡ 0 → v ≡ goal
   pub count : level + length now + far_count dist ≤ length blank
-  pub labels : AreLabels stride dist labels
+  pub labelled : AreLabels stride dist labels
 
 -- the labels of the distances to the goal
 pub record IsSearched (blank : List ℕ) (stride goal : ℕ) (labels : List ℕ) : Type 0 where
   pub dist : List ℕ
   pub levels : AreLevels dist stride goal
   pub walls : SameWalls blank dist
-  pub labels : AreLabels stride dist labels
+  pub labelled : AreLabels stride dist labels
 
 -- the label of the level before; of no level where the place has no level
 abbrev pub before : ℕ → ℕ
@@ -102,5 +102,10 @@ before l = cond (l == 1) 3 (cond (l == 0) 255 (l - 1))
 
 -- the byte of a place: its high half has its exits, and its low half the ways to places of the level before
 pub record IsPointed (stride : ℕ) (labels : List ℕ) (at exits byte : ℕ) : Type 0 where
-  pub exits : byte / 16 ≡ exits
+  pub high : byte / 16 ≡ exits
   pub each : (dir : Dir) → IsWay byte dir ↔ (slice_index labels (toward stride dir at) ≡ before (slice_index labels at))
+
+-- the bytes of the first cells, this many
+abbrev pub ArePointed : ℕ → ℕ → List ℕ → List ℕ → ℕ → List ℕ → Type 0
+ArePointed width stride labels ways count bytes =
+    (cell : ℕ) → cell < count → IsPointed stride labels (place width stride cell) (slice_index ways cell) (slice_index bytes cell)
