@@ -9,22 +9,23 @@ use Rattle.fleet_grid.specs.declared.dir.Dir.TheVariants.{North, East, South, We
 use Rattle.fleet_grid.specs.Direction.{dir_number}
 use Rattle.fleet_grid.specs.Floor.{Floor, HasForm, IsFloor, IsBeside, IsNeighbour, IsNeighbourIn}
 use Rattle.fleet_grid.specs.Walk.{Walks, IsDistance, AreApart}
-use Rattle.fleet_grid.specs.Ways.{IsWay, IsLess, AreNearer, AreOpen}
-use Rattle.fleet_grid.specs.Padded.{IsOpen, IsPadded, place}
+use Rattle.fleet_grid.specs.Ways.{IsWay, IsLess, AreNearer, AreOpen, AreWays}
+use Rattle.fleet_grid.specs.Padded.{IsPadded, place}
 use Rattle.fleet_grid.proofs.Edges.{beside_once}
 use Rattle.fleet_grid.proofs.Forms.{floor_inside, wide, few_cells}
 use Rattle.fleet_grid.proofs.Shortest.{distance_below}
 use Rattle.fleet_grid.proofs.Colours.{differ_by_one}
 use Rattle.fleet_field.specs.Field.{Aim, IsField}
 use Rattle.fleet_field.specs.inside.Search.{SameWalls, AreLevels}
-use Rattle.fleet_field.specs.inside.Bytes.{low, toward, IsFreeWay, IsSearched}
+use Rattle.fleet_field.specs.inside.Bytes.{low}
+use Rattle.fleet_field.specs.inside.Labels.{IsSearched, ArePointed}
 use Rattle.fleet_field.specs.Kept.{aways, IsLaidOut}
-use Rattle.fleet_field.specs.Compass.{next_cell, steps_down, aways_down, exits_of, aim_by, IsNear, AreWaysAt, IsRight, IsCompass}
+use Rattle.fleet_field.specs.Compass.{next_cell, steps_down, aways_down, exits_of, aim_by, AreWaysAt, IsRight, IsCompass}
 use Rattle.fleet_field.proofs.Transfer as transfer
 use Rattle.fleet_field.proofs.Transfer.{blank_open}
-use Rattle.fleet_field.proofs.Halves.{low_bit, few_ways, upper_bit}
-use Rattle.fleet_field.proofs.Unsearched.{open_toward}
+use Rattle.fleet_field.proofs.Halves.{low_bit, few_ways}
 use Rattle.fleet_field.proofs.Marks.{some_is, none_is, less_parts, less_by, around_inside, is_right}
+use Rattle.fleet_field.proofs.Pointed.{points}
 use Rattle.fleet_field.proofs.Descent.{step_found, step_stuck, step_on}
 
 -- the first of four that is there
@@ -227,21 +228,12 @@ compass_of m h w s goal start blank dist ways eh ew form p at walls es levels le
     let field = transfer.made m h w s goal start blank dist eh ew form p at walls es levels in
     made m h w goal ways (λ c. get_or (aways h w s dist) c None) eh ew form at field.1.each (is_right h w s dist field.0 ways len (cells_of m h w s blank dist eh ew form p walls) each) len opens
 
--- the same, from the bytes that the search left
-pub searched_out : (m : Floor) (h w s goal start : ℕ) (blank bytes : List ℕ) → h ≡ m.height → w ≡ m.width → HasForm m → IsPadded m s blank → IsFloor m goal → start ≡ place w s goal → IsSearched blank s start bytes → IsLaidOut h w s bytes
-searched_out m h w s goal start blank bytes eh ew form p at es r =
+-- the labels after the search lie as the distances do
+pub searched_out : (m : Floor) (h w s goal start : ℕ) (blank labels : List ℕ) → h ≡ m.height → w ≡ m.width → HasForm m → IsPadded m s blank → IsFloor m goal → start ≡ place w s goal → IsSearched blank s start labels → IsLaidOut h w s labels
+searched_out m h w s goal start blank labels eh ew form p at es r =
     let l = (transfer.made m h w s goal start blank r.dist eh ew form p at r.walls es r.levels).0 in
-    let same : length bytes ≡ length r.dist = r.len ∙ sym r.walls.len in
+    let same = r.labelled.len in
     record { wide = l.wide; apart = l.apart; few = l.few; small = (let x = l.small in omega (arith, x, same)); size = same ∙ l.size }
-
--- a byte has the ways of its low half
-whole_ways : (dist : List ℕ) (s at byte : ℕ) → AreWaysAt dist s at (low byte) → AreWaysAt dist s at byte
-whole_ways dist s at byte are = record {
-  north = subst (λ (b : ℕ). (b ≡ 1) ↔ IsNear dist at (at - s)) (low_bit byte 0 (omega arith)) are.north;
-  east = subst (λ (b : ℕ). (b ≡ 1) ↔ IsNear dist at (at + 1)) (low_bit byte 1 (omega arith)) are.east;
-  south = subst (λ (b : ℕ). (b ≡ 1) ↔ IsNear dist at (at + s)) (low_bit byte 2 (omega arith)) are.south;
-  west = subst (λ (b : ℕ). (b ≡ 1) ↔ IsNear dist at (at - 1)) (low_bit byte 3 (omega arith)) are.west;
-}
 
 -- the bytes of the cells, as exits
 shown_byte : (ways : List ℕ) (c exits : ℕ) → slice_get (exits_of ways) c ≡ Some exits → (c < length ways) × (slice_index ways c / 16 ≡ exits)
@@ -254,33 +246,19 @@ byte_shown [] c below = absurd (omega (arith, below))
 byte_shown (x ∷ ways) zero below = refl
 byte_shown (x ∷ ways) (suc c) below = byte_shown ways c (omega (arith, below))
 
-module _ (m : Floor) (h w s start : ℕ) (blank bytes ways : List ℕ) (eh : h ≡ m.height) (ew : w ≡ m.width) (form : HasForm m) (p : IsPadded m s blank) (r : IsSearched blank s start bytes)
-    (len : length ways ≡ h * w) (each : (c : ℕ) → c < h * w → slice_index ways c ≡ slice_index bytes (place w s c)) where
-  exit_is : (c exits : ℕ) (dir : Dir) → c < length ways → slice_index ways c / 16 ≡ exits → bit_at exits (dir_number dir) ≡ bit_at (slice_index bytes (place m.width s c)) (dir_number dir + 4)
-  exit_is c exits dir below is =
-      ap (λ (x : ℕ). bit_at x (dir_number dir)) (sym is)
-      ∙ (upper_bit (slice_index ways c) dir
-      ∙ (ap (λ (x : ℕ). bit_at x (dir_number dir + 4)) (each c (omega (arith, below, len)))
-      ∙ ap (λ (x : ℕ). bit_at (slice_index bytes (place x s c)) (dir_number dir + 4)) ew))
-
-  opens_by : (c exits : ℕ) → IsFloor m c → slice_get (exits_of ways) c ≡ Some exits → AreOpen m c exits
-  opens_by c exits at shown dir =
-      let byte = shown_byte ways c exits shown in
-      let is = exit_is c exits dir byte.0 byte.1 in
-      let here : IsOpen r.dist (place m.width s c) = r.walls.kept (place m.width s c) (blank_open m s blank form p c at) in
-      let free = r.free (place m.width s c) dir here in
-      let there = open_toward m s blank form p c dir at in (
-        λ way. there.0 (r.walls.no_more (toward s dir (place m.width s c)) (free.0 (sym is ∙ way))),
-        λ n. is ∙ free.1 (r.walls.kept (toward s dir (place m.width s c)) (there.1 n)),
-      )
-
-pub compass_by : (m : Floor) (h w s goal start : ℕ) (blank bytes ways : List ℕ) → h ≡ m.height → w ≡ m.width → HasForm m → IsPadded m s blank → IsFloor m goal → start ≡ place w s goal → IsSearched blank s start bytes
-    → length ways ≡ h * w → ((c : ℕ) → c < h * w → slice_index ways c ≡ slice_index bytes (place w s c)) → IsCompass h w goal ways × IsField m goal (aim_by h w goal ways)
-compass_by m h w s goal start blank bytes ways eh ew form p at es r len each =
+-- the bytes that were made of the labels
+pub compass_by : (m : Floor) (h w s goal start : ℕ) (blank labels ways bytes : List ℕ) → h ≡ m.height → w ≡ m.width → HasForm m → IsPadded m s blank → AreWays m ways → IsFloor m goal → start ≡ place w s goal
+    → IsSearched blank s start labels → length bytes ≡ h * w → ArePointed w s labels ways (h * w) bytes → IsCompass h w goal bytes × IsField m goal (aim_by h w goal bytes)
+compass_by m h w s goal start blank labels ways bytes eh ew form p led at es r len each =
     let l = (transfer.made m h w s goal start blank r.dist eh ew form p at r.walls es r.levels).0 in
-    compass_of m h w s goal start blank r.dist ways eh ew form p at r.walls es r.levels len
-    (λ c below. subst (AreWaysAt r.dist s (place w s c)) (sym (each c below)) (whole_ways r.dist s (place w s c) (slice_index bytes (place w s c)) (r.each (place w s c) (let i = around_inside h w s r.dist l c below in omega (arith, i.1)))))
-    (opens_by m h w s start blank bytes ways eh ew form p r len each)
+    compass_of m h w s goal start blank r.dist bytes eh ew form p at r.walls es r.levels len
+    (λ c below. (
+    let i = around_inside h w s r.dist l c below in
+    points s start (place w s c) (slice_index ways c) (slice_index bytes c) r.dist labels (let apart = l.apart in omega (arith, apart)) r.levels r.labelled i.0 i.1 (each c below)))
+    (λ c exits f shown. (
+    let byte = shown_byte bytes c exits shown in
+    let is : slice_index ways c ≡ exits = sym (each c (omega (arith, byte.0, len))).high ∙ byte.1 in
+    subst (AreOpen m c) is (led.each c (floor_inside m c f))))
 
 -- the exits of a floor cell, in the memory of a compass
 pub exits_at : (m : Floor) (h w goal cell : ℕ) (ways : List ℕ) (aim : Aim) → aim_by h w goal ways ≡ aim → IsField m aim.goal aim → IsFloor m cell → cell < length ways → AreOpen m cell (slice_index ways cell / 16)
