@@ -52,3 +52,6 @@ module _ (m : Floor) (s : ℕ) (blank : List ℕ) (p : IsPadded m s blank) where
 
     pub has_cells : (ways : List ℕ) → AreWays m ways → HasForm m → length ways ≡ h * w
     has_cells ways led form = led.size ∙ (form.covered ∙ sym area)
+
+    pub are_low : (ways : List ℕ) → AreWays m ways → HasForm m → (cell : ℕ) → cell < h * w → slice_index ways cell < 16
+    are_low ways led form cell below = led.low cell (omega (arith, below, area, form.covered))

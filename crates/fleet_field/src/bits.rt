@@ -1,13 +1,11 @@
 //! The labels of a map's places before a search, and the bytes of its cells after it.
 
-ghost use Rattle.std.specs.Prelude.{◌≡◌, ℕ, ◌+◌, ◌*◌, ◌<◌, ◌≤◌, ◌↔◌, length, slice_index, IfOk};
-ghost use Rattle.fleet_grid.specs.Padded.{place};
+ghost use Rattle.std.specs.Prelude.{◌≡◌, ℕ, ◌+◌, ◌*◌, ◌/◌, ◌<◌, ◌≤◌, ◌↔◌, length, slice_index, IfOk};
 ghost use Rattle.fleet_grid.specs.Ways.{IsWay};
 ghost use Rattle.fleet_grid.specs.declared.dir.Dir.TheVariants.{North, East, South, West};
 ghost use Rattle.fleet_field.specs.Kept.{IsLaidOut};
-ghost use Rattle.fleet_field.specs.inside.Labels.{AreUnseen, IsPointed, before};
+ghost use Rattle.fleet_field.specs.inside.Labels.{AreUnseen, ArePointed, before};
 
-use fleet_grid::Ways;
 use std::alloc::{AllocError, Allocator};
 
 /// The label of a place that is shut.
@@ -58,26 +56,47 @@ fn before(label: u8) -> u8
     if label == 1 { 3 } else { label.wrapping_sub(1) }
 }
 
-/// Writes the bytes of a row's cells.
-fn point_row(
-    bytes: &mut [u8],
-    labels: &[u8],
-    ways: &[u8],
-    row: usize,
-    width: usize,
-    stride: usize,
-) {
+/// The byte of a place that has these exits, by its own label and those of the four places next to it.
+#[inline(always)]
+fn pointing(exits: u8, here: u8, north: u8, east: u8, south: u8, west: u8) -> u8
+    requires low { exits < 16 }
+    ensures exits { result / 16 ≡ exits }
+    ensures north { IsWay result North ↔ (north ≡ before here) }
+    ensures east { IsWay result East ↔ (east ≡ before here) }
+    ensures south { IsWay result South ↔ (south ≡ before here) }
+    ensures west { IsWay result West ↔ (west ≡ before here) }
+{
+    let last = before(here);
+    16 * exits
+        + 8 * u8::from(west == last)
+        + 4 * u8::from(south == last)
+        + 2 * u8::from(east == last)
+        + u8::from(north == last)
+}
+
+/// Writes the bytes of a row's cells, after those of the rows before it.
+fn point_row(bytes: &mut [u8], labels: &[u8], ways: &[u8], row: usize, width: usize, stride: usize)
+    requires apart { width < stride }
+    requires small { length labels.now < 1073741824 }
+    requires around { (row + 2) * stride + width ≤ length labels.now }
+    requires inside { (row + 1) * width ≤ length ways.now }
+    requires room { length bytes.old ≡ length ways.now }
+    requires low { (cell : ℕ) → cell < length ways.now → slice_index ways.now cell < 16 }
+    requires done { ArePointed width stride labels.now ways.now (row * width) bytes.old }
+    ensures len { length bytes.new ≡ length bytes.old }
+    ensures each { ArePointed width stride labels.now ways.now ((row + 1) * width) bytes.new }
+{
     let (start, first) = ((row + 1) * stride, row * width);
     for column in 0..width {
         let (at, cell) = (start + column, first + column);
-        let last = before(labels[at]);
-        let nearer = Ways::of(
-            labels[at - stride] == last,
-            labels[at + 1] == last,
-            labels[at + stride] == last,
-            labels[at - 1] == last,
+        bytes[cell] = pointing(
+            ways[cell],
+            labels[at],
+            labels[at - stride],
+            labels[at + 1],
+            labels[at + stride],
+            labels[at - 1],
         );
-        bytes[cell] = ways[cell] << 4 | nearer.byte;
     }
 }
 
@@ -89,7 +108,14 @@ fn point_rows(
     height: usize,
     width: usize,
     stride: usize,
-) {
+)
+    requires laid_out { IsLaidOut height width stride labels.now }
+    requires cells { length ways.now ≡ height * width }
+    requires room { length bytes.old ≡ height * width }
+    requires low { (cell : ℕ) → cell < height * width → slice_index ways.now cell < 16 }
+    ensures len { length bytes.new ≡ length bytes.old }
+    ensures each { ArePointed width stride labels.now ways.now (height * width) bytes.new }
+{
     for row in 0..height {
         point_row(bytes, labels, ways, row, width, stride);
     }
@@ -109,12 +135,18 @@ pub(crate) fn pointed<A: Allocator + Copy>(
     requires cells { length ways.now ≡ height * width }
     requires low { (cell : ℕ) → cell < height * width → slice_index ways.now cell < 16 }
     ensures len { IfOk result (λ bytes. length bytes.items ≡ height * width) }
-    ensures each { IfOk result (λ bytes. (cell : ℕ) → cell < height * width →
-        IsPointed stride labels.now (place width stride cell) (slice_index ways.now cell) (slice_index bytes.items cell)) }
+    ensures each { IfOk result (λ bytes. ArePointed width stride labels.now ways.now (height * width) bytes.items) }
 {
     let (rows, columns) = (height as usize, width as usize);
     let mut bytes = spare;
     bytes.resize(rows * columns, 0)?;
-    point_rows(bytes.as_mut_slice(), labels, ways, rows, columns, stride as usize);
+    point_rows(
+        bytes.as_mut_slice(),
+        labels,
+        ways,
+        rows,
+        columns,
+        stride as usize,
+    );
     Ok(bytes)
 }

@@ -104,3 +104,8 @@ before l = cond (l == 1) 3 (cond (l == 0) 255 (l - 1))
 pub record IsPointed (stride : ℕ) (labels : List ℕ) (at exits byte : ℕ) : Type 0 where
   pub high : byte / 16 ≡ exits
   pub each : (dir : Dir) → IsWay byte dir ↔ (slice_index labels (toward stride dir at) ≡ before (slice_index labels at))
+
+-- the bytes of the first cells, this many
+abbrev pub ArePointed : ℕ → ℕ → List ℕ → List ℕ → ℕ → List ℕ → Type 0
+ArePointed width stride labels ways count bytes =
+    (cell : ℕ) → cell < count → IsPointed stride labels (place width stride cell) (slice_index ways cell) (slice_index bytes cell)
