@@ -21,7 +21,9 @@ pub mod Looks
 pub mod Around
 pub mod Levels
 pub mod Shades
-pub mod Unsearched
+pub mod Laid
+pub mod Toward
+pub mod Unseen
 pub mod Fronted
 pub mod Queued
 pub mod Beside

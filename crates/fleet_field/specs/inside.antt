@@ -2,6 +2,7 @@
 pub mod Search
 pub mod Bytes
 pub mod Labels
+pub mod Laid
 pub mod Uses
 pub mod Work
 pub mod Sorted

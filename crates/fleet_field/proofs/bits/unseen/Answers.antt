@@ -1,7 +1,7 @@
 use Rattle.std.proofs.Common.{◌≡◌, ℕ, ◌+◌, ◌*◌, List, length, sym, ap, subst, ◌∙◌, arith}
-use Rattle.fleet_field.specs.inside.Bytes.{AreFree}
+use Rattle.fleet_field.specs.inside.Labels.{AreUnseen}
 use Rattle.fleet_field.proofs.Whole.{written_back}
-use Rattle.fleet_field.proofs.bits.free_ways.Goals as goal
+use Rattle.fleet_field.proofs.bits.unseen.Goals as goal
 
 pub lay_rows-requires-clause-laid_out : goal.lay_rows-requires-clause-laid_out
 lay_rows-requires-clause-laid_out g c =
@@ -19,6 +19,5 @@ lay_rows-requires-clause-cells g c = c.requires.cells
 
 pub returns : goal.returns
 returns g c =
-    let kept : length c.lay_rows.new.bytes ≡ length c.resize.new.self.items = c.lay_rows.ensures.len ∙ ap (λ (xs : List ℕ). length xs) c.as_mut_slice.ensures.value in
-    subst (AreFree c.args.height c.args.width c.args.stride c.args.ways.now) (sym (written_back c.resize.new.self.len c.lay_rows.new.bytes c.resize.new.self.items kept c.resize.new.self.ok.0))
-    (record { len = kept ∙ (sym c.resize.new.self.ok.0 ∙ c.in_ok-resize.ensures.len); each = c.lay_rows.ensures.each; none = c.lay_rows.ensures.none })
+    let kept : length c.lay_rows.new.labels ≡ length c.resize.new.self.items = c.lay_rows.ensures.len ∙ (sym c.in_ok-resize.ensures.len ∙ c.resize.new.self.ok.0) in
+    subst (AreUnseen c.args.height c.args.width c.args.stride c.args.ways.now) (sym (written_back c.resize.new.self.len c.lay_rows.new.labels c.resize.new.self.items kept c.resize.new.self.ok.0)) c.lay_rows.ensures
