@@ -17,7 +17,6 @@ const SHUT: u8 = 64;
 /// Writes the labels of this many cells, from the cell `first` on, to the entries from `start` on: those with ways are not
 /// reached, the others are shut.
 fn lay_row(labels: &mut [u8], ways: &[u8], start: usize, first: usize, width: usize)
-    requires small { length ways.now < 1073741824 }
     requires inside { first + width ≤ length ways.now }
     requires room { start + width ≤ length labels.old }
     ensures { HasLabels ways.now start first width labels.old labels.new }
