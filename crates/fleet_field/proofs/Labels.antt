@@ -42,7 +42,8 @@ labels_set stride level place mark dist labels small is are inside far = record 
     | inl e ↦ subst (λ (u : ℕ). IsLabel stride (set dist place level) u (slice_index (set labels place mark) u)) (sym e)
         (inr (inl (
           subst (λ (d : ℕ). d < 4294967294) (sym (get_or-set_same dist place level 0 inside)) small,
-          get_or-set_same labels place mark 0 (omega (arith, inside, are.len)) ∙ (is ∙ ap label (sym (get_or-set_same dist place level 0 inside))))))
+          get_or-set_same labels place mark 0 (omega (arith, inside, are.len)) ∙ (is ∙ ap label (sym (get_or-set_same dist place level 0 inside))),
+        )))
     | inr ne ↦ subst (IsLabel stride (set dist place level) v) (sym (get_or-set_other labels place v mark 0 ne))
         (still_label stride level v (slice_index labels v) dist (set dist place level) small (keeps_set dist place level inside far) (get_or-set_other dist place v level 0 ne) (are.each v (omega (arith, below, length-set dist place level))))
   ];
@@ -80,11 +81,12 @@ module _ (stride level at mark : ℕ) (dist labels from : List ℕ) (small : lev
       let a = on dist labels (at - stride) from l1 f1 refl here are (omega (arith, below)) (inr (inl (omega (arith, above)))) v1 in
       let b = on a.0 l1 (at + 1) f1 l2 f2 a.3 a.4 a.2 (omega (arith, below, step)) (inr (inr refl)) v2 in
       let c = on b.0 l2 (at + stride) f2 l3 f3 b.3 b.4 b.2 below (inl (inl refl)) v3 in
-      let d = on c.0 l3 (at - 1) f3 l4 f4 c.3 c.4 c.2 (omega (arith, below)) (inl (inr (omega (arith, above, step)))) v4 in
-      (d.0,
+      let d = on c.0 l3 (at - 1) f3 l4 f4 c.3 c.4 c.2 (omega (arith, below)) (inl (inr (omega (arith, above, step)))) v4 in (
+        d.0,
         around_extends stride level at dist from a.0 f1 b.0 f2 c.0 f3 d.0 f4 small step above below a.3 (b.3 ∙ sym a.3) (c.3 ∙ sym b.3) a.1 b.1 c.1 d.1 s here,
         d.2,
-        around_reached stride level at dist from a.0 f1 b.0 f2 c.0 f3 d.0 f4 small step above below a.3 (b.3 ∙ sym a.3) (c.3 ∙ sym b.3) a.1 b.1 c.1 d.1 s here)
+        around_reached stride level at dist from a.0 f1 b.0 f2 c.0 f3 d.0 f4 small step above below a.3 (b.3 ∙ sym a.3) (c.3 ∙ sym b.3) a.1 b.1 c.1 d.1 s here,
+      )
 
 -- one more place of the front was left
 pub leaves_on : (stride level n mark : ℕ) (old now dist next labels next' news : List ℕ) → level + 1 < 4294967294 → mark ≡ label (level + 1) → n < length now → Search old stride level level now → Leaves stride level old now n dist next labels

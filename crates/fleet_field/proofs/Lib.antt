@@ -18,6 +18,7 @@ pub mod Ahead
 pub mod Halves
 pub mod Labels
 pub mod Pointed
+pub mod Laid
 pub mod Unseen
 pub mod Fronted
 pub mod Queued

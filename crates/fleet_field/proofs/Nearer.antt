@@ -259,8 +259,8 @@ compass_by m h w s goal start blank labels ways bytes eh ew form p at es r led l
     let apart = p.apart in
     compass_of m h w s goal start blank r.dist bytes eh ew form p at r.walls es r.levels len
     (λ c below. (
-        let i = around_inside h w s r.dist l c below in
-        points s start (place w s c) (slice_index ways c) (slice_index bytes c) r.dist labels (omega (arith, apart)) r.levels r.labelled i.0 i.1 (each c below)))
+    let i = around_inside h w s r.dist l c below in
+    points s start (place w s c) (slice_index ways c) (slice_index bytes c) r.dist labels (omega (arith, apart)) r.levels r.labelled i.0 i.1 (each c below)))
     (opens_by m (h * w) s (place w s) labels ways bytes led len each)
 
 -- the exits of a floor cell, in the memory of a compass

@@ -24,7 +24,7 @@ places_beside w s East a b pos e = inl (inr (east_on w s a b pos e.0 e.1))
 places_beside w s South a b pos e = inr (inl (south_on w s a b pos e))
 places_beside w s West a b pos e = inr (inr (east_on w s b a pos e.0 e.1))
 
-side_of : (w s a b : ℕ) → 0 < w → w < s → IsBeside s (place w s a) (place w s b) → (dir : Dir) × floor.IsBeside w dir a b
+pub side_of : (w s a b : ℕ) → 0 < w → w < s → IsBeside s (place w s a) (place w s b) → (dir : Dir) × floor.IsBeside w dir a b
 side_of w s a b pos apart (inl (inl e)) = (North, south_back w s b a pos apart e)
 side_of w s a b pos apart (inl (inr e)) = (East, east_back w s a b pos apart e)
 side_of w s a b pos apart (inr (inl e)) = (South, south_back w s a b pos apart e)

@@ -1,6 +1,7 @@
 -- What only proofs and private functions use.
 pub mod Search
 pub mod Labels
+pub mod Laid
 pub mod Uses
 pub mod Work
 pub mod Sorted

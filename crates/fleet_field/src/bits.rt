@@ -5,24 +5,34 @@ ghost use Rattle.fleet_grid.specs.Ways.{IsWay};
 ghost use Rattle.fleet_grid.specs.declared.dir.Dir.TheVariants.{North, East, South, West};
 ghost use Rattle.fleet_field.specs.Kept.{IsLaidOut};
 ghost use Rattle.fleet_field.specs.inside.Labels.{AreUnseen, ArePointed, before};
+ghost use Rattle.fleet_field.specs.inside.Laid.{HasLabels};
 
 use std::alloc::{AllocError, Allocator};
 
 /// The label of a place that is shut.
 const SHUT: u8 = 64;
 
-/// Writes the labels of a row's cells: those with ways are not reached, the others are shut.
-fn lay_row(labels: &mut [u8], ways: &[u8], row: usize, width: usize, stride: usize) {
-    let (start, first) = ((row + 1) * stride, row * width);
+/// Writes the labels of this many cells, from the cell `first` on, to the entries from `start` on: those with ways are not
+/// reached, the others are shut.
+fn lay_row(labels: &mut [u8], ways: &[u8], start: usize, first: usize, width: usize)
+    requires inside { first + width ≤ length ways.now }
+    requires room { start + width ≤ length labels.old }
+    ensures { HasLabels ways.now start first width labels.old labels.new }
+{
     for column in 0..width {
         labels[start + column] = if ways[first + column] == 0 { SHUT } else { 0 };
     }
 }
 
 /// Writes the labels of the cells, row by row.
-fn lay_rows(labels: &mut [u8], height: usize, width: usize, stride: usize, ways: &[u8]) {
+fn lay_rows(labels: &mut [u8], height: usize, width: usize, stride: usize, ways: &[u8])
+    requires laid_out { IsLaidOut height width stride labels.old }
+    requires cells { length ways.now ≡ height * width }
+    requires shut { (v : ℕ) → v < length labels.old → slice_index labels.old v ≡ 64 }
+    ensures { AreUnseen height width stride ways.now labels.new }
+{
     for row in 0..height {
-        lay_row(labels, ways, row, width, stride);
+        lay_row(labels, ways, (row + 1) * stride, row * width, width);
     }
 }
 

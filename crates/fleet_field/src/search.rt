@@ -148,7 +148,14 @@ pub(crate) fn search<A: Allocator + Copy>(
         }
         mark = after(mark);
         make_room(&mut next, count)?;
-        count = spread(&mut labels, &now[..count], &mut next, stride, mark, is_ragged);
+        count = spread(
+            &mut labels,
+            &now[..count],
+            &mut next,
+            stride,
+            mark,
+            is_ragged,
+        );
         mem::swap(&mut now, &mut next);
     }
     Ok(labels)

@@ -1,5 +1,5 @@
 use Rattle.std.proofs.Common.{◌∙◌, arith}
-use Rattle.fleet_field.proofs.Sides.{is_slim, is_within, is_wide, is_low, has_step, is_apart, is_small, is_few, has_cells, stride_fits}
+use Rattle.fleet_field.proofs.Sides.{is_slim, is_within, is_wide, is_low, has_step, is_apart, is_small, is_few, has_cells, are_low, stride_fits}
 use Rattle.fleet_field.proofs.Unseen.{ready_by}
 use Rattle.fleet_field.proofs.Nearer.{searched_out, compass_by}
 use Rattle.std.proofs.lemmas.Result.{IfOk-from_err}
@@ -59,10 +59,9 @@ pointed-requires-clause-cells g c =
     c.ways-exits.result.now c.ways-exits.ensures.ways c.width.ensures.form
 
 pub pointed-requires-clause-low : goal.pointed-requires-clause-low
-pointed-requires-clause-low g c cell below =
-    let many = has_cells c.args.grid.now c.padded-stride.result.0 c.padded-stride.result.1.now c.padded-stride.ensures.padded c.height-height.result c.new-columns.result.width c.height-height.ensures.value (c.new-columns.ensures ∙ c.width.ensures.value)
-    c.ways-exits.result.now c.ways-exits.ensures.ways c.width.ensures.form in
-    c.ways-exits.ensures.ways.low cell (omega (arith, below, many, c.ways-exits.ensures.ways.size))
+pointed-requires-clause-low g c =
+    are_low c.args.grid.now c.padded-stride.result.0 c.padded-stride.result.1.now c.padded-stride.ensures.padded c.height-height.result c.new-columns.result.width c.height-height.ensures.value (c.new-columns.ensures ∙ c.width.ensures.value)
+    c.ways-exits.result.now c.ways-exits.ensures.ways c.width.ensures.form
 
 pub invariant_of-result : goal.invariant_of-result
 invariant_of-result g c =
