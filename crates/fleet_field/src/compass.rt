@@ -166,7 +166,8 @@ impl<A: Allocator + Copy> Compass<A> {
         }
     }
 
-    /// The ways from a cell of a map that is not this one's.
+    /// The ways from a cell of a map that is not this one's. Kept out of the calls that ask it, which no world lets come here.
+    #[inline(never)]
     fn ways_elsewhere<B: Allocator + Copy>(&self, grid: &Grid<B>, cell: u32) -> Ways
         ensures { AreNearer grid.now (λ c. slice_index_or self.now.away c None) cell result.byte }
     {
@@ -189,17 +190,24 @@ impl<A: Allocator + Copy> Compass<A> {
     }
 
     /// The ways from a floor cell of the map: those that lead nearer to the goal, and all exits. One byte tells both.
+    #[inline(always)]
     pub fn outlook<B: Allocator + Copy>(&self, grid: &Grid<B>, cell: u32) -> Outlook
         requires field { IsField grid.now self.now.goal self.now }
         requires floor { IsFloor grid.now cell }
         ensures nearer { AreNearer grid.now (λ c. slice_index_or self.now.away c None) cell result.nearer.byte }
         ensures exits { AreOpen grid.now cell result.exits.byte }
     {
+        let byte = self.ways[cell as usize];
+        let exits = Ways { byte: byte >> 4 };
+        if grid.width() != self.width {
+            return Outlook {
+                nearer: self.ways_elsewhere(grid, cell),
+                exits,
+            };
+        }
         Outlook {
-            nearer: self.ways(grid, cell),
-            exits: Ways {
-                byte: self.ways[cell as usize] >> 4,
-            },
+            nearer: Ways { byte: byte & 15 },
+            exits,
         }
     }
 
