@@ -1,7 +1,7 @@
 //! What each robot sees from its cell, collected in one pass before the planning.
 
 ghost use Rattle.std.specs.Prelude.{◌≡◌, ℕ, ◌<◌, ◌≤◌, length, slice_index};
-ghost use Rattle.fleet_grid.specs.Floor.{IsFloor};
+ghost use Rattle.fleet_grid.specs.Floor.{HasForm, IsFloor};
 ghost use Rattle.fleet_grid.specs.Ways.{AreOpen};
 ghost use Rattle.fleet_pibt.specs.inside.Around.{IsSpot, IsAround, AreArounds, IsAsked, AreAsked, cell_in};
 
@@ -49,8 +49,11 @@ impl Around {
     }
 }
 
-/// The cell next to the floor cell `own` in a direction where that is an exit, and else `own`. No letter is read.
-fn spot<A: Allocator + Copy>(grid: &Grid<A>, exits: Ways, own: u32, dir: Dir) -> u32
+/// The cell next to the floor cell `own` in a direction where that is an exit, and else `own`. No letter is read. The width is
+/// read beforehand, so that a processor need not foresee which ways are exits.
+fn spot<A: Allocator + Copy>(grid: &Grid<A>, width: u32, exits: Ways, own: u32, dir: Dir) -> u32
+    requires form { HasForm grid.now }
+    requires width { width ≡ grid.now.width }
     requires floor { IsFloor grid.now own }
     requires exits { AreOpen grid.now own exits.byte }
     ensures { IsSpot grid.now own dir result }
@@ -58,7 +61,7 @@ fn spot<A: Allocator + Copy>(grid: &Grid<A>, exits: Ways, own: u32, dir: Dir) ->
     if !exits.has(dir) {
         return own;
     }
-    dir.across(grid.width(), own)
+    dir.across(width, own)
 }
 
 /// What a robot that has this outlook sees from the floor cell `own`.
@@ -70,12 +73,13 @@ fn look<A: Allocator + Copy>(grid: &Grid<A>, own: u32, outlook: Outlook) -> Arou
     ensures exits { result.exits ≡ outlook.exits }
 {
     let exits = outlook.exits;
+    let width = grid.width();
     Around {
         own,
-        north: spot(grid, exits, own, Dir::North),
-        east: spot(grid, exits, own, Dir::East),
-        south: spot(grid, exits, own, Dir::South),
-        west: spot(grid, exits, own, Dir::West),
+        north: spot(grid, width, exits, own, Dir::North),
+        east: spot(grid, width, exits, own, Dir::East),
+        south: spot(grid, width, exits, own, Dir::South),
+        west: spot(grid, width, exits, own, Dir::West),
         nearer: outlook.nearer,
         exits,
     }
