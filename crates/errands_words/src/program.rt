@@ -87,7 +87,7 @@ const ERRANDS: Program<'static> = Program {
     words: &[MAP, RUN, JUDGE, SERVE],
 };
 
-/// The program, which a proof of a function that named the constant itself would carry along at each step.
+/// The program with its words. Only this function names the constant, since a proof has it at each step of the function.
 pub(crate) fn program() -> Program<'static>
     ensures { program_app result ≡ errands_app }
 {

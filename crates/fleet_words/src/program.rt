@@ -22,7 +22,7 @@ pub(crate) const FLEET: Program<'static> = Program {
     words: &[VIEW, CHECK, TALK, CONVERT, EXPLAIN, LIVE],
 };
 
-/// The program, which a proof of a function that named the constant itself would carry along at each step.
+/// The program with its words. Only this function names the constant, since a proof has it at each step of the function.
 pub(crate) fn program() -> Program<'static>
     ensures { program_app result ≡ fleet_app }
 {

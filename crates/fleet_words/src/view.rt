@@ -1,6 +1,6 @@
 //! The word `view`.
 
-ghost use Rattle.std.specs.Prelude.{◌≡◌, ◌*◌, Some, None, false, map, codes, string_bytes, IfOk};
+ghost use Rattle.std.specs.Prelude.{◌≡◌, IfOk};
 ghost use Rattle.clap.specs.Words.{found_of, rows_of};
 ghost use Rattle.fleet_words.specs.Asked.{IsShownAs, IsView};
 

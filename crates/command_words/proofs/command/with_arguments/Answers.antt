@@ -1,7 +1,7 @@
 -- One more argument.
 use Rattle.std.proofs.Common.{◌≡◌, ◌∙◌, ap, sym, refl, ℕ, ◌+◌, ◌<◌, List, ◌∷◌, length, drop, map, drop-cons, add-one, get_or, Bool, true, false, ◌||◌}
 use Rattle.clap.specs.declared.builder.command.Command.TheViews.{out-Command as fields_of}
-use Rattle.clap.specs.Words.{App, Rule, app_of, with_rule}
+use Rattle.clap.specs.Words.{App, Rule, with_rule}
 use Rattle.command_words.specs.declared.table.Argument.{Argument}
 use Rattle.command_words.specs.Table.{argument_rule, with_rules}
 use Rattle.command_words.proofs.command.with_arguments.Goals as goal

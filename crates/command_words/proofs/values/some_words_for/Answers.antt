@@ -1,5 +1,5 @@
 -- The words of an argument that may have none.
-use Rattle.std.proofs.Common.{◌∙◌, ap, sym, List, ℕ, Some, None}
+use Rattle.std.proofs.Common.{◌∙◌, ap, sym}
 use Rattle.std.proofs.lemmas.Result.{IfOk-weaker}
 use Rattle.clap.specs.Words.{found_of}
 use Rattle.clap.proofs.WalkLemmas.{raw_values-rows}
