@@ -4,9 +4,11 @@
 without optimisation. Here the bitcode is kept as soon as it is written, `rt` is ended, and the kit's own clang compiles the bitcode at -O2.
 """
 import concurrent.futures
+import datetime
 import functools
 import os
 import pathlib
+import re
 import shutil
 import signal
 import subprocess
@@ -22,7 +24,7 @@ PATIENCE = 15
 # rt try first has clang compile an empty module, of some hundred bytes; a program has a million and more
 SMALLEST = 100_000
 # The flags of clang that the kit gives for machine code, optimised
-CLANG = ["--target=x86_64-unknown-linux-gnu", "-march=x86-64-v2", "--no-default-config", "-fPIC", "-O2", "-c", "-x", "ir"]
+CLANG = ["--target=x86_64-unknown-linux-gnu", "-march=x86-64-v2", "--no-default-config", "-fPIC", "-O2", "-x", "ir"]
 
 
 class Missing(Exception):
@@ -156,12 +158,11 @@ def bitcode(crate, room, tests=False):
     return kept
 
 
-def machine_code(module, *more):
-    """Compiles bitcode, and returns the path of the object file."""
-    made, log = module.with_suffix(".o"), module.with_suffix(".log")
+def clang(module, made, *words):
+    """Has the kit's clang make the file `made` of bitcode."""
+    log = made.with_suffix(".log")
     with open(log, "wb") as said:
-        finish(begin([kit() / "toolchain/bin/clang", *CLANG, *more, module, "-o", made], stdin=subprocess.DEVNULL, stdout=said, stderr=said), log)
-    return made
+        finish(begin([kit() / "toolchain/bin/clang", *CLANG, *words, module, "-o", made], stdin=subprocess.DEVNULL, stdout=said, stderr=said), log)
 
 
 def program(crate, made, say, tests=False):
@@ -172,13 +173,34 @@ def program(crate, made, say, tests=False):
         say(f"{name}: rt try translates it")
         module = bitcode(crate, room, tests)
         say(f"{name}: bitcode of {module.stat().st_size / 1e6:.1f} MB after {time.monotonic() - start:.0f} s, clang -O2 compiles it")
-        code = machine_code(module)
-        whole = room / "program"
+        code, whole = room / "program.o", room / "program"
+        clang(module, code, "-c")
         with open(room / "cc.log", "wb") as said:
             words = ["cc", "-pie", code, kit() / "c/libos_c.a", kit() / "c/liblibc_c.a", "-lpthread", "-o", whole]
             finish(begin(words, stdin=subprocess.DEVNULL, stdout=said, stderr=said), room / "cc.log")
         os.replace(whole, made)
         say(f"{name}: built after {time.monotonic() - start:.0f} s")
+
+
+# ---- what says how a build was made
+
+def commit():
+    """The commit of the sources, and whether they differ from it."""
+    def git(*words):
+        return subprocess.run(["git", "-C", TOP, *words], capture_output=True, text=True).stdout.strip()
+    changed = git("status", "--porcelain", "--", "crates", "crates.txt")
+    return (git("rev-parse", "--short=8", "HEAD") or "unknown") + (" with changes" if changed else "")
+
+
+def describe(readme, what, names, tool, is_quick, built_of=None):
+    """Says in the file `readme` of each build in its folder whether it is proved, when it was made and of which commit."""
+    rows = dict(re.findall(r"^\| ([\w.]+) (\|.*)$", readme.read_text(), re.M)) if readme.exists() else {}
+    now = datetime.datetime.now(datetime.timezone.utc).strftime("%Y-%m-%d %H:%M UTC")
+    kind = "quick: not proved, with run-time checks" if is_quick else "proved"
+    rows |= {name: f"| {kind} | {now} | {built_of or commit()} |" for name in names}
+    lines = [f"| {name} {rows[name]}\n" for name in sorted(rows) if (readme.parent / name).exists()]
+    readme.write_text(f"Here {tool} puts {what}. `{tool}` proves and replaces what is quick; `{tool} --quick` builds without proofs.\n\n"
+                      "| File | Build | When | Commit |\n|---|---|---|---|\n" + "".join(lines))
 
 
 # ---- many side by side
@@ -190,10 +212,10 @@ def how_many():
 
 
 class Voice:
-    """Prints lines from many threads, and a sign of life where nothing was printed for PATIENCE seconds."""
+    """Prints lines from many threads, each with the seconds since the start; inside `with`, also a sign of life after PATIENCE silent seconds."""
 
     def __init__(self, what):
-        self.what, self.lock, self.spoke, self.start, self.works = what, threading.Lock(), time.monotonic(), time.monotonic(), []
+        self.lock, self.spoke, self.start, self.works, self.quiet = threading.Lock(), time.monotonic(), time.monotonic(), [what], threading.Event()
 
     def __call__(self, line):
         with self.lock:
@@ -203,15 +225,22 @@ class Voice:
     def seconds(self):
         return time.monotonic() - self.start
 
-    def tick(self):
-        if time.monotonic() - self.spoke >= PATIENCE - 1:
-            self(f"still at work: {', '.join(sorted(self.works)) or self.what}")
+    def __enter__(self):
+        def beat():
+            while not self.quiet.wait(1):
+                if time.monotonic() - self.spoke >= PATIENCE - 1:
+                    self(f"still at work: {', '.join(self.works[1:] or self.works)}")
+        threading.Thread(target=beat, daemon=True).start()
+        return self
+
+    def __exit__(self, *_):
+        self.quiet.set()
 
 
 def side_by_side(works, voice, count=None):
     """Does works, given as pairs of a name and a call, `count` at a time; raises what the first to fail raises, once all have ended.
 
-    Ctrl-C ends every command that was started, and is raised again.
+    The first failure, and Ctrl-C, end every command that was started.
     """
     def one(name, call):
         if stopped.is_set():
@@ -229,7 +258,6 @@ def side_by_side(works, voice, count=None):
                 done, left = concurrent.futures.wait(left, 1, concurrent.futures.FIRST_EXCEPTION)
                 if any(it.exception() for it in done):
                     break
-                voice.tick()
         except KeyboardInterrupt:
             stop()
             raise

@@ -1,0 +1,110 @@
+"""Makes the object file of the library for C without proofs, with run-time checks: used by tools/build_c.
+
+`rt try` builds programs only, and only the functions that a program calls. So the crate fleet_c is copied as a program whose `main` calls each
+export. In the bitcode of that program the exports get their C names and can be called from outside; nothing else can.
+"""
+import re
+import shutil
+
+import quick
+from quick import TOP
+
+ZEROS = {"bool": "false"}
+
+
+def value(rust, structs):
+    """A value of a type that crosses to C, written in Rattle."""
+    array = re.fullmatch(r"\[(\w+); (\d+)\]", rust)
+    if array:
+        return f"[{value(array[1], structs)}; {array[2]}]"
+    if rust in structs:
+        module, fields = structs[rust]
+        return f"crate::{module}::{rust} {{ " + ", ".join(f"{name}: {value(kind, structs)}" for name, kind in fields) + " }"
+    return ZEROS.get(rust, f"0{rust}")
+
+
+def structs_of(sources):
+    """The structs that cross to C, each with its module and its fields."""
+    found = {}
+    for file, text in sources.items():
+        for name, body in re.findall(r"#\[repr\(C\)\]\s*(?:#\[derive\([^)]*\)\]\s*)?pub struct (\w+) \{(.*?)\n\}", text, re.S):
+            found[name] = file.removesuffix(".rt"), re.findall(r"^\s*pub (\w+): ([^,]+),", body, re.M)
+    return found
+
+
+def call(module, name, parameters, structs):
+    """Lines that call an export once."""
+    lines, words = [], []
+    for at, rust in enumerate(parameters):
+        borrowed = re.fullmatch(r"&(mut )?(.+)", rust)
+        if rust == "Global":
+            words.append("alloc")
+        elif not borrowed:
+            words.append(value(rust, structs))
+        else:
+            kind = borrowed[2].strip()
+            kind = f"[{kind[1:-1]}; 1]" if kind.startswith("[") and ";" not in kind else kind
+            made = "crate::handle::quick_handle(alloc)" if kind == "Handle" else value(kind, structs)
+            lines.append(f"let {'mut ' if borrowed[1] else ''}value_{at} = {made};")
+            words.append(f"&{borrowed[1] or ''}value_{at}")
+    lines.append(f"let _ = crate::{module}::{name}({', '.join(words)});")
+    return "    {\n" + "".join(f"        {line}\n" for line in lines) + "    }\n"
+
+
+def exports_of(sources):
+    """The exports: module, name, types of the parameters."""
+    return [(file.removesuffix(".rt"), name, [it.split(":", 1)[1].strip() for it in parameters.split(",\n" if "\n" in parameters else ", ") if ":" in it])
+            for file, text in sources.items()
+            for name, parameters in re.findall(r'pub extern "C" fn (\w+)\(([^)]*)\)', text)]
+
+
+def as_program(room):
+    """Copies the crate as a program into a repository of its own in the folder `room`; returns the crate's folder and its exports."""
+    shutil.copytree(TOP / "crates", room / "crates", ignore=shutil.ignore_patterns("out", "must-fail"))
+    copy = room / "crates" / "fleet_c"
+    (room / "crates.txt").write_text(re.sub(r"^fleet_c staticlib:", "fleet_c:", (TOP / "crates.txt").read_text(), flags=re.M))
+    if (TOP / "HANDLES").exists():
+        shutil.copy(TOP / "HANDLES", room / "HANDLES")
+    sources = {path.name: path.read_text() for path in sorted((copy / "src").glob("*.rt"))}
+    structs, exports = structs_of(sources), exports_of(sources)
+    with open(copy / "src" / "handle.rt", "a") as text:
+        text.write("\npub fn quick_handle(alloc: Global) -> Handle {\n    Handle::closed(alloc)\n}\n")
+    calls = "".join(call(*export, structs) for export in exports)
+    # The calls need an allocator, which only `main` can get.
+    main = sources["lib.rt"] + "\nuse std::alloc::Alloc;\n\nfn main(rt: HostRuntime) {\n    let alloc = rt.alloc();\n" + calls + "}\n"
+    (copy / "src" / "lib.rt").unlink()
+    (copy / "src" / "main.rt").write_text(main)
+    return copy, [name for _, name, _ in exports]
+
+
+def with_c_names(module, names):
+    """Bitcode as text, in which the exports have their C names and are the only functions that can be called from outside."""
+    text = module.with_suffix(".all.ll")
+    quick.clang(module, text, "-Xclang", "-disable-llvm-passes", "-S", "-emit-llvm")
+    spelled = re.compile(r'@"fleet_c::\w+::(' + "|".join(names) + r')"')
+    found, changed = set(), module.with_suffix(".ll")
+    with open(text) as lines, open(changed, "w") as out:
+        for line in lines:
+            line = spelled.sub(r"@\1", line)
+            if line.startswith("define"):
+                export = re.search(r"@(\w+)\(", line)
+                if export and export[1] in names:
+                    found.add(export[1])
+                    line = line.replace("define internal ", "define ", 1)
+                elif not line.startswith("define internal "):
+                    line = line.replace("define ", "define internal ", 1)
+            out.write(line)
+    if found != set(names):
+        raise quick.Missing(f"the bitcode lacks {', '.join(sorted(set(names) - found))}")
+    return changed
+
+
+def build(room, say):
+    """Makes the object file in the folder `room`; returns its path."""
+    copy, names = as_program(room / "copy")
+    say("rt try translates the library")
+    module = quick.bitcode(copy, room)
+    say(f"bitcode of {module.stat().st_size / 1e6:.1f} MB, clang -O2 compiles it")
+    made = room / "nashirudder.o"
+    quick.clang(with_c_names(module, names), made, "-c")
+    return made
