@@ -12,6 +12,7 @@ import re
 import shutil
 import signal
 import subprocess
+import sys
 import tempfile
 import threading
 import time
@@ -201,6 +202,13 @@ def describe(readme, what, names, tool, is_quick, built_of=None):
     lines = [f"| {name} {rows[name]}\n" for name in sorted(rows) if (readme.parent / name).exists()]
     readme.write_text(f"Here {tool} puts {what}. `{tool}` proves and replaces what is quick; `{tool} --quick` builds without proofs.\n\n"
                       "| File | Build | When | Commit |\n|---|---|---|---|\n" + "".join(lines))
+
+
+def built(path):
+    """The whole path of a program that a tool runs; without one, ends with the way to build it."""
+    if not os.path.isfile(path):
+        raise SystemExit(f"{sys.argv[0]}: there is no program {path}: tools/install --quick makes bin/errands, bin/fleet and bin/depot")
+    return os.path.abspath(path)
 
 
 # ---- many side by side

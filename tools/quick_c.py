@@ -6,6 +6,7 @@ export. In the bitcode of that program the exports get their C names and can be 
 import re
 import shutil
 
+import c_sources
 import quick
 from quick import TOP
 
@@ -23,19 +24,10 @@ def value(rust, structs):
     return ZEROS.get(rust, f"0{rust}")
 
 
-def structs_of(sources):
-    """The structs that cross to C, each with its module and its fields."""
-    found = {}
-    for file, text in sources.items():
-        for name, body in re.findall(r"#\[repr\(C\)\]\s*(?:#\[derive\([^)]*\)\]\s*)?pub struct (\w+) \{(.*?)\n\}", text, re.S):
-            found[name] = file.removesuffix(".rt"), re.findall(r"^\s*pub (\w+): ([^,]+),", body, re.M)
-    return found
-
-
 def call(module, name, parameters, structs):
     """Lines that call an export once."""
     lines, words = [], []
-    for at, rust in enumerate(parameters):
+    for at, (_, rust) in enumerate(parameters):
         borrowed = re.fullmatch(r"&(mut )?(.+)", rust)
         if rust == "Global":
             words.append("alloc")
@@ -51,13 +43,6 @@ def call(module, name, parameters, structs):
     return "    {\n" + "".join(f"        {line}\n" for line in lines) + "    }\n"
 
 
-def exports_of(sources):
-    """The exports: module, name, types of the parameters."""
-    return [(file.removesuffix(".rt"), name, [it.split(":", 1)[1].strip() for it in parameters.split(",\n" if "\n" in parameters else ", ") if ":" in it])
-            for file, text in sources.items()
-            for name, parameters in re.findall(r'pub extern "C" fn (\w+)\(([^)]*)\)', text)]
-
-
 def as_program(room):
     """Copies the crate as a program into a repository of its own in the folder `room`; returns the crate's folder and its exports."""
     shutil.copytree(TOP / "crates", room / "crates", ignore=shutil.ignore_patterns("out", "must-fail"))
@@ -65,16 +50,16 @@ def as_program(room):
     (room / "crates.txt").write_text(re.sub(r"^fleet_c staticlib:", "fleet_c:", (TOP / "crates.txt").read_text(), flags=re.M))
     if (TOP / "HANDLES").exists():
         shutil.copy(TOP / "HANDLES", room / "HANDLES")
-    sources = {path.name: path.read_text() for path in sorted((copy / "src").glob("*.rt"))}
-    structs, exports = structs_of(sources), exports_of(sources)
+    sources = c_sources.sources_of(copy)
+    structs, exports = c_sources.structs_of(sources), c_sources.exports_of(sources)
     with open(copy / "src" / "handle.rt", "a") as text:
         text.write("\npub fn quick_handle(alloc: Global) -> Handle {\n    Handle::closed(alloc)\n}\n")
-    calls = "".join(call(*export, structs) for export in exports)
+    calls = "".join(call(module, name, parameters, structs) for module, name, parameters, _ in exports)
     # The calls need an allocator, which only `main` can get.
-    main = sources["lib.rt"] + "\nuse std::alloc::Alloc;\n\nfn main(rt: HostRuntime) {\n    let alloc = rt.alloc();\n" + calls + "}\n"
+    main = sources["lib"] + "\nuse std::alloc::Alloc;\n\nfn main(rt: HostRuntime) {\n    let alloc = rt.alloc();\n" + calls + "}\n"
     (copy / "src" / "lib.rt").unlink()
     (copy / "src" / "main.rt").write_text(main)
-    return copy, [name for _, name, _ in exports]
+    return copy, [name for _, name, _, _ in exports]
 
 
 def with_c_names(module, names):
