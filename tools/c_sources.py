@@ -1,5 +1,8 @@
-"""What the sources of the crate fleet_c export to C: used by tools/build_c, and by tools/quick_c.py."""
+"""What the sources of the crate fleet_c export to C: used by tools/build_c and tools/quick_c.py."""
 import re
+
+STRUCT = re.compile(r"#\[repr\(C\)\]\s*(?:#\[derive\([^)]*\)\]\s*)?pub struct (\w+) \{(.*?)\n\}", re.S)
+EXPORT = re.compile(r'pub extern "C" fn (\w+)\(([^)]*)\)(?: -> (\w+))?')
 
 
 def sources_of(crate):
@@ -8,10 +11,10 @@ def sources_of(crate):
 
 
 def exports_of(sources):
-    """The exports, each as its module, its name, its parameters (pairs of a name and a type) and the type of its result or ''."""
+    """The exports, each as its module, its name, its parameters (names and types), and its result's type or ''."""
     found = []
     for module, text in sources.items():
-        for name, parameters, result in re.findall(r'pub extern "C" fn (\w+)\(([^)]*)\)(?: -> (\w+))?', text):
+        for name, parameters, result in EXPORT.findall(text):
             parts = [part.strip().split(":", 1) for part in parameters.split(",") if part.strip()]
             found.append((module, name, [(word.strip(), rust.strip()) for word, rust in parts], result))
     return found
@@ -19,8 +22,5 @@ def exports_of(sources):
 
 def structs_of(sources):
     """The structs that cross, by name: the module, and the fields (pairs of a name and a type)."""
-    found = {}
-    for module, text in sources.items():
-        for name, body in re.findall(r"#\[repr\(C\)\]\s*(?:#\[derive\([^)]*\)\]\s*)?pub struct (\w+) \{(.*?)\n\}", text, re.S):
-            found[name] = module, re.findall(r"^\s*(?:pub )?(\w+): ([^,]+),", body, re.M)
-    return found
+    return {name: (module, re.findall(r"^\s*(?:pub )?(\w+): ([^,]+),", body, re.M))
+            for module, text in sources.items() for name, body in STRUCT.findall(text)}

@@ -1,16 +1,30 @@
 """Makes the object file of the library for C without proofs, with run-time checks: used by tools/build_c.
 
-`rt try` builds programs only, and only the functions that a program calls. So the crate fleet_c is copied as a program whose `main` calls each
-export. In the bitcode of that program the exports get their C names and can be called from outside; nothing else can.
+`rt try` builds programs only, and only the functions that a program calls. So the crate fleet_c is copied as a program
+whose `main` calls each export. In the bitcode of that program the exports get their C names and can be called from
+outside; nothing else can.
 """
 import re
 import shutil
 
 import c_sources
 import quick
+from processes import Missing
 from quick import TOP
 
-ZEROS = {"bool": "false"}
+MAIN = """{library}
+use std::alloc::Alloc;
+
+fn main(rt: HostRuntime) {{
+    let alloc = rt.alloc();
+{calls}}}
+"""
+# Makes a handle for `main`, which may not see what a handle is made of
+HANDLE = """
+pub fn quick_handle(alloc: Global) -> Handle {
+    Handle::closed(alloc)
+}
+"""
 
 
 def value(rust, structs):
@@ -20,8 +34,9 @@ def value(rust, structs):
         return f"[{value(array[1], structs)}; {array[2]}]"
     if rust in structs:
         module, fields = structs[rust]
-        return f"crate::{module}::{rust} {{ " + ", ".join(f"{name}: {value(kind, structs)}" for name, kind in fields) + " }"
-    return ZEROS.get(rust, f"0{rust}")
+        inner = ", ".join(f"{name}: {value(kind, structs)}" for name, kind in fields)
+        return f"crate::{module}::{rust} {{ {inner} }}"
+    return "false" if rust == "bool" else f"0{rust}"
 
 
 def call(module, name, parameters, structs):
@@ -34,53 +49,50 @@ def call(module, name, parameters, structs):
         elif not borrowed:
             words.append(value(rust, structs))
         else:
-            kind = borrowed[2].strip()
-            kind = f"[{kind[1:-1]}; 1]" if kind.startswith("[") and ";" not in kind else kind
+            kind = re.sub(r"^\[(\w+)\]$", r"[\1; 1]", borrowed[2])
             made = "crate::handle::quick_handle(alloc)" if kind == "Handle" else value(kind, structs)
-            lines.append(f"let {'mut ' if borrowed[1] else ''}value_{at} = {made};")
+            lines.append(f"let {borrowed[1] or ''}value_{at} = {made};")
             words.append(f"&{borrowed[1] or ''}value_{at}")
     lines.append(f"let _ = crate::{module}::{name}({', '.join(words)});")
     return "    {\n" + "".join(f"        {line}\n" for line in lines) + "    }\n"
 
 
 def as_program(room):
-    """Copies the crate as a program into a repository of its own in the folder `room`; returns the crate's folder and its exports."""
+    """Copies the crate as a program into a repository in the folder `room`; returns its folder and the exports."""
     shutil.copytree(TOP / "crates", room / "crates", ignore=shutil.ignore_patterns("out", "must-fail"))
     copy = room / "crates" / "fleet_c"
-    (room / "crates.txt").write_text(re.sub(r"^fleet_c staticlib:", "fleet_c:", (TOP / "crates.txt").read_text(), flags=re.M))
+    listed = (TOP / "crates.txt").read_text()
+    (room / "crates.txt").write_text(re.sub(r"^fleet_c staticlib:", "fleet_c:", listed, flags=re.M))
     if (TOP / "HANDLES").exists():
         shutil.copy(TOP / "HANDLES", room / "HANDLES")
     sources = c_sources.sources_of(copy)
     structs, exports = c_sources.structs_of(sources), c_sources.exports_of(sources)
     with open(copy / "src" / "handle.rt", "a") as text:
-        text.write("\npub fn quick_handle(alloc: Global) -> Handle {\n    Handle::closed(alloc)\n}\n")
+        text.write(HANDLE)
     calls = "".join(call(module, name, parameters, structs) for module, name, parameters, _ in exports)
-    # The calls need an allocator, which only `main` can get.
-    main = sources["lib"] + "\nuse std::alloc::Alloc;\n\nfn main(rt: HostRuntime) {\n    let alloc = rt.alloc();\n" + calls + "}\n"
     (copy / "src" / "lib.rt").unlink()
-    (copy / "src" / "main.rt").write_text(main)
+    (copy / "src" / "main.rt").write_text(MAIN.format(library=sources["lib"], calls=calls))
     return copy, [name for _, name, _, _ in exports]
 
 
 def with_c_names(module, names):
-    """Bitcode as text, in which the exports have their C names and are the only functions that can be called from outside."""
-    text = module.with_suffix(".all.ll")
+    """The bitcode as text in which the exports have their C names, and only they can be called from outside."""
+    text, changed = module.with_suffix(".all.ll"), module.with_suffix(".ll")
     quick.clang(module, text, "-Xclang", "-disable-llvm-passes", "-S", "-emit-llvm")
-    spelled = re.compile(r'@"fleet_c::\w+::(' + "|".join(names) + r')"')
-    found, changed = set(), module.with_suffix(".ll")
+    spelled, found = re.compile(r'@"fleet_c::\w+::(' + "|".join(names) + r')"'), set()
     with open(text) as lines, open(changed, "w") as out:
         for line in lines:
             line = spelled.sub(r"@\1", line)
             if line.startswith("define"):
                 export = re.search(r"@(\w+)\(", line)
+                line = line.replace("define internal ", "define ", 1)
                 if export and export[1] in names:
                     found.add(export[1])
-                    line = line.replace("define internal ", "define ", 1)
-                elif not line.startswith("define internal "):
+                else:
                     line = line.replace("define ", "define internal ", 1)
             out.write(line)
     if found != set(names):
-        raise quick.Missing(f"the bitcode lacks {', '.join(sorted(set(names) - found))}")
+        raise Missing(f"the bitcode lacks {', '.join(sorted(set(names) - found))}")
     return changed
 
 
