@@ -53,6 +53,21 @@ def end(child):
     running.pop(child.pid, None)
 
 
+def end_those_in(folder):
+    """Ends what still runs with its temporary files in the folder: what `rt` started just before it was ended itself."""
+    sign, found = f"TMPDIR={folder}".encode(), True
+    while found:
+        found = False
+        for process in pathlib.Path("/proc").glob("[0-9]*"):
+            try:
+                if sign in (process / "environ").read_bytes():
+                    os.kill(int(process.name), signal.SIGKILL)
+                    found = True
+            except OSError:
+                pass
+        time.sleep(0.05 * found)
+
+
 def status_of(words, log, **more):
     """Runs a command, whose outputs go to the file `log`; returns its status."""
     with open(log, "wb") as said:

@@ -94,6 +94,7 @@ def bitcode(crate, room, tests=False):
             time.sleep(0.01)
     finally:
         processes.end(tool)
+        processes.end_those_in(tmp)
         shutil.rmtree(tmp, ignore_errors=True)
     if processes.stopped.is_set():
         raise processes.Stopped
