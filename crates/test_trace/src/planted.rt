@@ -1,11 +1,10 @@
-//! A legal chapter, and the same with one fault planted for each rule.
+//! What the second judge says of a legal chapter, and of the same with one fault planted for each rule.
 
-use crate::rules::first_fault;
-use crate::site::Site;
 use fleet_book::{Order, Verdict};
 use fleet_history::{Arrival, Bye, Chapter, ClientState, Entry, Opening, RobotState, Row};
 use fleet_hooks::StampLaw;
 use fleet_map::MapText;
+use golden_judge::{Site, first_fault};
 use std::alloc::Global;
 use std::process::Abort;
 
