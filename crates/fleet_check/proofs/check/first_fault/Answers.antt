@@ -1,8 +1,8 @@
-use Rattle.std.proofs.Common.{ℕ, slice_index, subst, arith, inl, refl}
+use Rattle.std.proofs.Common.{ℕ, slice_index, subst, arith}
 use Rattle.fleet_grid.specs.Floor.{IsFloor}
 use Rattle.fleet_check.specs.Fault.{IsFirst, IsFirstPair, Exchange}
 use Rattle.fleet_check.proofs.Steps.{few_robots}
-use Rattle.fleet_check.proofs.check.check_step.Goals as goal
+use Rattle.fleet_check.proofs.check.first_fault.Goals as goal
 
 pub overflow_cast-result : goal.overflow_cast-result
 overflow_cast-result g c =
@@ -48,29 +48,14 @@ returns-in-Some-first_exchange-clause-fault g c =
       subst (λ (n : ℕ). IsFirstPair (Exchange c.args.from.now c.args.to.now) n p.first p.second) e p.ensures,
     )
 
-pub returns-then-to-from-clause-lawful : goal.returns-then-to-from-clause-lawful
-returns-then-to-from-clause-lawful g c = λ free. absurd (c.if-to-from.true free.same_length)
-
 pub returns-in-Some-clause-ok : goal.returns-in-Some-clause-ok
 returns-in-Some-clause-ok g c = tt
-
-pub returns-in-Some-clause-lawful : goal.returns-in-Some-clause-lawful
-returns-in-Some-clause-lawful g c =
-    λ free.
-    let p = c.in-Some.ensures in
-    absurd (p.holds (free.on_floor c.in-Some.robot (omega (arith, p.inside, c.if-to-from.false))))
 
 pub first_not_adjacent-requires : goal.first_not_adjacent-requires
 first_not_adjacent-requires g c = c.if-to-from.false
 
 pub returns-in-Some-first_not_adjacent-clause-ok : goal.returns-in-Some-first_not_adjacent-clause-ok
 returns-in-Some-first_not_adjacent-clause-ok g c = tt
-
-pub returns-in-Some-first_not_adjacent-clause-lawful : goal.returns-in-Some-first_not_adjacent-clause-lawful
-returns-in-Some-first_not_adjacent-clause-lawful g c =
-    λ free.
-    let p = c.in-Some-first_not_adjacent.ensures in
-    absurd (p.holds (free.moves c.in-Some-first_not_adjacent.robot (omega (arith, p.inside, c.if-to-from.false))))
 
 pub first_exchange-requires-clause-equal : goal.first_exchange-requires-clause-equal
 first_exchange-requires-clause-equal g c = c.if-to-from.false
@@ -80,12 +65,6 @@ first_exchange-requires-clause-seats g c = c.in_ok-seats.ensures
 
 pub returns-in-Some-first_exchange-clause-ok : goal.returns-in-Some-first_exchange-clause-ok
 returns-in-Some-first_exchange-clause-ok g c = tt
-
-pub returns-in-Some-first_exchange-clause-lawful : goal.returns-in-Some-first_exchange-clause-lawful
-returns-in-Some-first_exchange-clause-lawful g c =
-    λ free.
-    let p = c.in-Some-first_exchange in
-    absurd (free.no_swapping_conflict p.first p.second p.ensures.order (omega (arith, p.ensures.inside, c.if-to-from.false)) p.ensures.holds.0 p.ensures.holds.1)
 
 pub returns-clause-ok : goal.returns-clause-ok
 returns-clause-ok g c =
@@ -100,6 +79,3 @@ returns-clause-ok g c =
 
 pub returns-clause-fault : goal.returns-clause-fault
 returns-clause-fault g c = tt
-
-pub returns-clause-lawful : goal.returns-clause-lawful
-returns-clause-lawful g c = λ free. inl refl

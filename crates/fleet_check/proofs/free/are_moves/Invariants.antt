@@ -1,6 +1,6 @@
 use Rattle.std.proofs.Common.{◌≡◌, ◌<◌, ◌⊎◌, ℕ, slice_index}
 use Rattle.fleet_grid.specs.Floor.{IsNeighbour}
-use Rattle.fleet_plans.proofs.seats.are_moves.Given as goal
+use Rattle.fleet_check.proofs.free.are_moves.Given as goal
 
 abbrev pub invariant-loop-robot : goal.invariant-loop-robot
 invariant-loop-robot g l = record {
