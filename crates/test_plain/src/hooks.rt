@@ -171,6 +171,12 @@ fn hooks_that_are_all_alike(rt: HostRuntime) {
         Farewell::fixed(8),
     )
     .expect(&rt, "memory for hooks");
-    assert!(rt; (hooks.ties.len(), hooks.arrivals.len(), hooks.farewells.len()) == (2, 2, 2));
+    assert!(rt;
+        (
+            hooks.ties.len(),
+            hooks.arrivals.len(),
+            hooks.farewells.len()
+        ) == (2, 2, 2)
+    );
     assert!(rt; hooks.arrivals[1].law() == THOUSAND);
 }
