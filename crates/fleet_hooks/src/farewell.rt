@@ -1,9 +1,11 @@
-//! What is called once, when a robot has done its last errand: a closure, or a fixed answer.
+//! What is called once, when a robot has done its last errand: a closure, a fixed answer, or the robot's cell.
 
-ghost use Rattle.std.specs.Prelude.{◌≡◌, ℕ, ◌<◌, ◌^◌};
+ghost use Rattle.std.specs.Prelude.{◌≡◌, ◌≢◌, ℕ, ◌<◌, ◌^◌, is_some, true};
 ghost use Rattle.std.specs.Option.{ForSome};
-ghost use Rattle.fleet_hooks.specs.Law.{IsStampLaw, IsStamp, exact_stamp};
+ghost use Rattle.fleet_hooks.specs.Law.{IsStampLaw, IsStamp, exact_stamp, stamps_to};
+ghost use Rattle.fleet_hooks.specs.declared.kind.HookKind.{HookKind};
 
+use crate::kind::HookKind;
 use crate::law::StampLaw;
 use crate::views::FarewellView;
 
@@ -18,13 +20,18 @@ struct LastClosure {
     ghost lawful: { (view : _) (stamp : ℕ) → stamp < 2 ^ 32 → Last.post run view stamp → IsStamp law stamp },
 }
 
-/// Gives a robot's farewell its stamp, within a law: by a closure, which is consumed by its one call, or a fixed stamp.
+/// Gives a robot's farewell its stamp, within a law: by a closure, which is consumed by its one call, one fixed stamp,
+/// or the robot's cell.
 #[derive(Drop)]
 pub struct Farewell {
     /// The bounds of the answer.
     pub law: StampLaw,
+    /// How the answer is found.
+    pub kind: HookKind,
     closure: Option<LastClosure>,
     ghost fits: { IsStampLaw law },
+    ghost southern: { kind ≡ HookKind.South → law ≡ stamps_to 4294967295 },
+    ghost own: { is_some closure ≡ true → kind ≡ HookKind.Closure },
     ghost same: { ForSome closure (λ closure. closure.law ≡ law) },
 }
 
@@ -34,21 +41,56 @@ impl Farewell {
         requires fits { IsStampLaw law }
         requires callable { Last.IsAlwaysCallable run }
         requires lawful { (view : _) (stamp : ℕ) → stamp < 2 ^ 32 → Last.post run view stamp → IsStamp law stamp }
-        ensures { result.law ≡ law }
+        ensures law { result.law ≡ law }
+        ensures kind { result.kind ≡ HookKind.Closure }
     {
         let closure = Some(LastClosure { law, run });
-        Farewell { law, closure }
+        Farewell {
+            law,
+            kind: HookKind::Closure,
+            closure,
+        }
     }
 
     /// Gives the farewell this answer. It allocates nothing.
     pub fn fixed(answer: u32) -> Farewell
-        ensures { result.law ≡ exact_stamp answer }
+        ensures law { result.law ≡ exact_stamp answer }
+        ensures kind { result.kind ≡ HookKind.Fixed }
     {
         let law = StampLaw {
             low: answer,
             high: answer,
         };
-        Farewell { law, closure: None }
+        Farewell {
+            law,
+            kind: HookKind::Fixed,
+            closure: None,
+        }
+    }
+
+    /// Answers the cell on which the robot is. It allocates nothing.
+    pub fn by_cell() -> Farewell
+        ensures law { result.law ≡ stamps_to 4294967295 }
+        ensures kind { result.kind ≡ HookKind.South }
+    {
+        Farewell {
+            law: StampLaw::ANY,
+            kind: HookKind::South,
+            closure: None,
+        }
+    }
+
+    /// The same hook once more.
+    pub(crate) fn again(&self) -> Farewell
+        requires { self.now.kind ≢ HookKind.Closure }
+        ensures law { result.law ≡ self.now.law }
+        ensures kind { result.kind ≡ self.now.kind }
+    {
+        Farewell {
+            law: self.law,
+            kind: self.kind,
+            closure: None,
+        }
     }
 
     /// The law within which the stamp is.
@@ -61,14 +103,16 @@ impl Farewell {
 
     /// The stamp of the farewell. Consumes the hook.
     pub fn call(self, view: FarewellView) -> u32
-        ensures { IsStamp self.law result }
+        ensures law { IsStamp self.law result }
+        ensures south { self.kind ≡ HookKind.South → result ≡ view.cell }
     {
-        let Farewell { law, closure } = self;
+        let Farewell { law, kind, closure } = self;
         match closure {
             Some(closure) => {
                 let LastClosure { law: _, run } = closure;
                 run(view)
             }
+            None if kind == HookKind::South => view.cell,
             None => law.low,
         }
     }

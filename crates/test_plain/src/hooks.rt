@@ -1,10 +1,11 @@
-//! What the closures return, and how often they are called, which no clause says.
+//! What hooks answer, and how often closures are called, which no clause says.
 
 ghost use Rattle.std.specs.Prelude.{◌≡◌, ◌<◌, ◌≤◌, ◌+◌, ℕ};
 
 use fleet_grid::Dir;
 use fleet_hooks::{
-    ArrivalHook, ArrivalView, Farewell, FarewellView, Hooks, StampLaw, TieHook, TieLaw, TieView,
+    ArrivalHook, ArrivalView, Farewell, FarewellView, HookKind, Hooks, StampLaw, TieHook, TieLaw,
+    TieView,
 };
 use std::process::Abort;
 use std::sync::Arc;
@@ -125,4 +126,57 @@ fn cut_keeps_the_first_hooks(rt: HostRuntime) {
     hooks.ties.truncate(1);
     let kept = hooks.cut(2);
     check_kept(&rt, &kept);
+}
+
+#[test]
+fn southern_rule_by_direction_tick_and_cell(rt: HostRuntime) {
+    let tie = TieHook::south_first();
+    assert!(rt; tie.law() == SOUTH_FIRST && tie.kind == HookKind::South);
+    let north = TieView {
+        robot: 0,
+        cell: 4,
+        neighbour: 1,
+        dir: Dir::North,
+        tick: 1,
+    };
+    let south = TieView {
+        neighbour: 7,
+        dir: Dir::South,
+        ..north
+    };
+    assert!(rt; [tie.rank(north), tie.rank(south)] == [1, 0]);
+    let arrival = ArrivalView {
+        client: 0,
+        number: 1,
+        robot: 0,
+        cell: 1,
+        tick: 2026,
+    };
+    assert!(rt; ArrivalHook::by_tick().stamp(arrival) == 26);
+    let farewell = FarewellView {
+        robot: 0,
+        cell: 7,
+        tick: 3,
+    };
+    assert!(rt; Farewell::by_cell().call(farewell) == 7);
+}
+
+#[test]
+fn hooks_that_are_all_alike(rt: HostRuntime) {
+    let hooks = Hooks::alike(
+        rt.alloc(),
+        2,
+        TieHook::fixed([3; 4]),
+        ArrivalHook::by_tick(),
+        Farewell::fixed(8),
+    )
+    .expect(&rt, "memory for hooks");
+    assert!(rt;
+        (
+            hooks.ties.len(),
+            hooks.arrivals.len(),
+            hooks.farewells.len()
+        ) == (2, 2, 2)
+    );
+    assert!(rt; hooks.arrivals[1].law() == THOUSAND);
 }

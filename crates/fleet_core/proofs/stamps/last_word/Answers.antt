@@ -23,7 +23,7 @@ pub returns-clause-stamp : goal.returns-clause-stamp
 returns-clause-stamp g c = (
   c.in_ok-farewell.farewell.law,
   spare-is (λ x. x.law) c.args.farewells.now.items c.args.view.robot c.index_mut.result.now (omega (arith, c.requires, c.args.farewells.now.ok.0)) c.index_mut.ensures.value ∙ ap (λ f. option_map (λ x. x.law) f) (sym c.in_ok-farewell.ensures.value),
-  c.call.ensures,
+  c.call.ensures.law,
 )
 
 pub returns-clause-count : goal.returns-clause-count

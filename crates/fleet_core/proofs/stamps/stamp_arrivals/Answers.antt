@@ -35,7 +35,7 @@ loop-j-preserved g c =
     record {
       shows = set-alike due_of c.loop-j.arrived j x nobody l refl ∙ inv.shows;
       stamps = one-more (λ (b : Arrival). IsStamp (law_at laws b.robot) b.stamp) c.loop-j.arrived j x nobody l inv.stamps
-          (subst (λ law. IsStamp law c.stamp-stamp.result) (sym (law_is (λ h. h.law) c.args.hooks.now a.robot c.index-hooks-arrival.result inside c.index-hooks-arrival.is)) c.stamp-stamp.ensures);
+          (subst (λ law. IsStamp law c.stamp-stamp.result) (sym (law_is (λ h. h.law) c.args.hooks.now a.robot c.index-hooks-arrival.result inside c.index-hooks-arrival.is)) c.stamp-stamp.ensures.law);
     }
 
 pub bounds-arrived-j : goal.bounds-arrived-j

@@ -16,7 +16,7 @@ returns-clause-candidate g c =
     candidate-from s c.args.robot c.args.dir _ c.beside-cell.result c.cost_beside.result c.rank.result c.rank_beside.result c.number.result c.has.result _ seen c.beside-cell.ensures c.if-cell-around.false
     (c.requires.whole.rated c.args.robot c.args.around c.requires.seen c.args.dir)
     c.has.ensures c.cost_beside.ensures
-    c.rank_beside.ensures c.number.ensures c.rank.ensures
+    c.rank_beside.ensures c.number.ensures c.rank.ensures.law
     (λ l e. mapped-at (λ h. h.law) c.args.self.now.ties.now c.args.robot l c.index-self-robot.result e)
 
 pub returns-clause-covers : goal.returns-clause-covers
