@@ -10,12 +10,12 @@ usage: tools/compare/run.sh [--face | --office] [BENCH]
 Measures the program `bench` next to the same kernels in C++ (search.cpp): builds both, runs them in turn for five rounds, and prints one
 table, in nanoseconds per cell, or per robot and tick. A row has the least, the median and the greatest of the rounds, ours and the peer's,
 and the ratio of the least and of the medians. BENCH is the path of the built program; without it `rt run` proves and builds it. Needs g++.
-KERNELS and ROUNDS may be set in the environment.
+`tools/install --quick bench` builds bin/bench without proofs: slower, since it checks at run time. KERNELS and ROUNDS may be set in the environment.
 
     --office the office under load (office.cpp): orders and turns a second, and the time of a post that 999 of 1,000 do not exceed, each
              with least, median and greatest of the rounds
     --face   the tick through the library for C (face.cpp, "ours") next to `bench tick` ("peer"), the mean over 200 ticks.
-             Needs build_c/libnashirudder.a, which tools/build_c makes
+             Needs build_c/libnashirudder.a, which tools/build_c makes (with --quick without proofs)
 HELP
   exit 0
 fi

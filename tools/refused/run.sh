@@ -13,8 +13,8 @@ that come after it. Each run must end
 - as the job otherwise does, where the refusal was made up for. A serve's trace depends on its schedule: it must be found legal.
 
 Ends with status 1 at the first run that does not. Prints for each job how many allocations were refused, how many of these runs ended
-out of memory, and how many refusals were made up for. ERRANDS is the path of the built program; without it `rt run` proves and builds
-it. Needs cc and a C library whose allocations can be replaced (LD_PRELOAD). A minute or two.
+out of memory, and how many refusals were made up for. ERRANDS is the path of the built program (`tools/install
+--quick` makes bin/errands); without it `rt run` proves and builds it. Needs cc and a C library whose allocations can be replaced (LD_PRELOAD). A minute or two.
 HELP
   exit 0
 fi
@@ -23,7 +23,8 @@ if [ -z "$errands" ]; then
   (cd "$here/../../crates/errands" && rt run < stdin > /dev/null)
   errands=$here/../../crates/errands/out/errands
 fi
-errands=$(realpath "$errands")
+errands=$(realpath -e "$errands") ||
+  { echo "tools/refused/run.sh: tools/install --quick makes bin/errands" >&2; exit 2; }
 room=$(mktemp -d)
 trap 'rm -r "$room"' EXIT
 cc -O2 -shared -fPIC -o "$room/refuse.so" "$here/refuse.c"

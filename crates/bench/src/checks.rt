@@ -6,7 +6,7 @@ ghost use Rattle.bench_ground.specs.Fleet.{AreWithin, Serves};
 
 use crate::steps::{FIELDS, FLEETS, MOST};
 use bench_ground::{Fleet, Measure, Random, Site, print_measure};
-use fleet_check::check_step;
+use fleet_check::StepChecker;
 use fleet_field::Compass;
 use fleet_grid::Grid;
 use fleet_hooks::{TieHook, TieLaw, TieView};
@@ -91,9 +91,10 @@ fn time_checks<R: Alloc<A = Global> + Clock>(
     requires { IsPlacement grid.now from.now }
 {
     let mut found = Measure::NONE;
+    let mut checker = StepChecker::new(rt.alloc(), to.len());
     for _ in 0..REPEATS {
         let start = Instant::now(rt)?;
-        let _fault = check_step(rt.alloc(), grid, from, to);
+        let _fault = checker.check(grid, from, to);
         found = found.with(start.elapsed(rt)?.as_nanos());
     }
     Ok(found)

@@ -1,8 +1,9 @@
 -- What the words ask for.
 use Rattle.std.specs.Prelude.{Bool, true, false, List, Option, Some, None, codes, if◌then◌else◌, string_bytes}
-use Rattle.std.specs.Option.{option_and_then, option_map, option_map_or}
+use Rattle.std.specs.Option.{option_and_then, option_map}
 use Rattle.std.specs.Str.{bytes_eq}
 use Rattle.clap.specs.Words.{Text, Row, first_of}
+use Rattle.command_words.specs.Values.{has_flag}
 use Rattle.errands_words.specs.declared.words.Job.{Job}
 use Rattle.errands_words.specs.declared.words.Job.TheVariants.{Bundle, Map, Run, Judge, Serve}
 use Rattle.errands_words.specs.declared.words.JobFiles.{JobFiles}
@@ -23,10 +24,6 @@ asked (Map file) = map (string_bytes file)
 asked (Run first second trace) = run (string_bytes first) (string_bytes second) trace
 asked (Judge first second) = judge (string_bytes first) (string_bytes second)
 asked (Serve first second) = serve (string_bytes first) (string_bytes second)
-
--- whether a flag was given
-abbrev pub has_flag : Text → List Row → Bool
-has_flag name rows = option_map_or (λ word. bytes_eq word (codes "true")) (first_of name rows) false
 
 -- what is asked of the words that stand for these two arguments
 abbrev pub of_two : (Text → Text → Asked) → Text → Text → List Row → Option Asked

@@ -1,7 +1,8 @@
 //! The words that the program `errands` is given, as `clap` takes them, and the job that they name.
 #![tactic(auto)]
 
-mod commands;
+mod program;
 mod words;
 
-pub use words::{Job, JobFiles, WordFault, parse_words};
+pub use command_words::WordFault;
+pub use words::{Job, JobFiles, parse_words};

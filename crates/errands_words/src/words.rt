@@ -2,15 +2,13 @@
 
 ghost use Rattle.std.specs.Prelude.{◌≡◌, [], IfOk, IfErr, Some, true, map, codes, string_bytes};
 ghost use Rattle.clap.specs.Words.{fault_of, first_of, found_of, rows_of, subcommand_of, subcommand_rows_of, takes};
-ghost use Rattle.clap.specs.Values.{kind_of};
-ghost use Rattle.clap.specs.declared.error.kind.ErrorKind.TheVariants.{OutOfMemory};
 ghost use Rattle.errands_words.specs.Command.{errands_app};
-ghost use Rattle.errands_words.specs.Asked.{asked, job_of, has_flag, is_serve, files_of, files_named};
-ghost use Rattle.errands_words.specs.declared.words.WordFault.TheVariants.{NoMemory};
+ghost use Rattle.errands_words.specs.Asked.{asked, job_of, is_serve, files_of, files_named};
+ghost use Rattle.command_words.specs.declared.words.WordFault.TheVariants.{NoMemory};
 
-use crate::commands::named_command;
-use clap::error::ErrorKind;
-use clap::{ArgMatches, Error};
+use crate::program::program;
+use clap::ArgMatches;
+use command_words::{WordFault, has_flag, matches_for, word_for};
 use std::alloc::{AllocError, Global};
 
 /// What the program is to do.
@@ -75,46 +73,6 @@ impl Job {
     }
 }
 
-/// Why the words name no job.
-#[derive(Debug, Drop)]
-pub enum WordFault {
-    /// What `clap` says of the words. A request for help is among these.
-    Words(String),
-    NoMemory,
-}
-
-impl From<AllocError> for WordFault {
-    ghost use Rattle.std.specs.Prelude.{◌≡◌};
-    ghost use Rattle.errands_words.specs.declared.words.WordFault.TheVariants.{NoMemory};
-
-    ghost from_gives = { λ _ e. e ≡ NoMemory };
-
-    fn from(_error: AllocError) -> WordFault {
-        WordFault::NoMemory
-    }
-}
-
-/// The value of a required argument.
-fn word_for(alloc: Global, matches: &ArgMatches<'_>, name: &str) -> Result<String, AllocError>
-    ensures { IfOk result (λ s. first_of name.now (rows_of (found_of matches.now)) ≡ Some (string_bytes s)) }
-{
-    match matches.get_str(name) {
-        Some(word) => String::from_str(alloc, word),
-        // `clap` has a word for each required argument, so this never runs
-        None => Err(AllocError),
-    }
-}
-
-/// Whether a flag was given.
-fn has_flag(matches: &ArgMatches<'_>, name: &str) -> bool
-    ensures { result ≡ has_flag name.now (rows_of (found_of matches.now)) }
-{
-    match matches.get_str(name) {
-        Some(word) => word == "true",
-        None => false,
-    }
-}
-
 /// The values of the arguments for a map and for one more file.
 fn map_and(
     alloc: Global,
@@ -156,19 +114,6 @@ fn job_from(alloc: Global, matches: &ArgMatches<'_>) -> Result<Job, AllocError>
     })
 }
 
-/// Why `clap` did not take the words.
-fn fault_from(alloc: Global, error: &Error) -> WordFault
-    ensures { kind_of error.now ≡ OutOfMemory → result ≡ NoMemory }
-{
-    if error.kind() == ErrorKind::OutOfMemory {
-        return WordFault::NoMemory;
-    }
-    match error.to_string(alloc) {
-        Ok(text) => WordFault::Words(text),
-        Err(_) => WordFault::NoMemory,
-    }
-}
-
 /// The job that the words name. The first word is the program's own name.
 pub fn parse_words(alloc: Global, words: &[String]) -> Result<Job, WordFault>
     // Only words that `clap` takes name a job.
@@ -177,9 +122,8 @@ pub fn parse_words(alloc: Global, words: &[String]) -> Result<Job, WordFault>
     // Words that `clap` takes are refused where memory ran out alone.
     ensures refused { IfErr result (λ f. takes errands_app (map (λ w. string_bytes w) words.now) ≡ true → f ≡ NoMemory) }
 {
-    let command = named_command(alloc)?;
-    match command.try_get_matches_from(words) {
+    match matches_for(alloc, &program(), words) {
         Ok(matches) => Ok(job_from(alloc, &matches)?),
-        Err(error) => Err(fault_from(alloc, &error)),
+        Err(fault) => Err(fault),
     }
 }

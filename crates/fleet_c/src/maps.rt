@@ -40,6 +40,7 @@ fn step_on(alloc: Global, grid: &Grid, from: &[u32], to: &[u32]) -> Result<(), S
     match check_placement(alloc, grid, from) {
         Ok(()) => match check_step(alloc, grid, from, to) {
             Ok(()) => Ok(()),
+            Err(StepFault::NoMemory) => Err(StepRefusal::NoMemory),
             Err(why) => Err(StepRefusal::Step(why)),
         },
         Err(StepFault::OffFloor(robot)) => Err(StepRefusal::FromBlocked(robot)),

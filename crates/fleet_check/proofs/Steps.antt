@@ -1,5 +1,5 @@
 -- From the faults to the step.
-use Rattle.std.proofs.Common.{◌≡◌, ℕ, ◌<◌, ◌≤◌, true, false, eqb, List, length, get_or, slice_index, refl, subst, ◌∙◌, arith, rules}
+use Rattle.std.proofs.Common.{◌≡◌, ℕ, ◌<◌, ◌≤◌, true, false, eqb, List, length, get_or, slice_index, subst, ◌∙◌, arith, rules}
 use Rattle.std.specs.List.{list_any}
 use Rattle.std.proofs.lemmas.Bool.{ne_eqb}
 use Rattle.std.proofs.lemmas.List.{get_or_default}
@@ -9,9 +9,7 @@ use Rattle.std.proofs.lemmas.Map.Views.{Contains-from_any}
 use Rattle.fleet_grid.specs.Floor.{Floor, HasForm, IsFloor}
 use Rattle.fleet_grid.specs.Step.{IsPlacement, IsConflictFree}
 use Rattle.fleet_grid.proofs.Forms.{floor_inside, few_cells}
-use Rattle.fleet_check.specs.declared.fault.StepFault.{StepFault}
-use Rattle.fleet_check.specs.declared.fault.StepFault.TheVariants.{Length, OffFloor, NotAdjacent, NoMemory, Vertex, Swap}
-use Rattle.fleet_check.specs.Fault.{IsFirstFault, AreMoves, ShareCell, Exchange}
+use Rattle.fleet_check.specs.Fault.{AreMoves, ShareCell, Exchange}
 
 -- a placement has no more robots than its map has cells
 pub few_robots : (m : Floor) (place : List ℕ) → HasForm m → IsPlacement m place → length place ≤ 1048576
@@ -33,15 +31,6 @@ few_robots m place form p =
       where
         eqb_true : (x y : ℕ) → eqb x y ≡ true → x ≡ y
         eqb_true x y e = search (rules, e)
-
--- a conflict-free step has no fault but out of memory
-pub no_fault : (m : Floor) (from to : List ℕ) (fault : StepFault) → IsConflictFree m from to → IsFirstFault m from to fault → fault ≡ NoMemory
-no_fault m from to Length s f = absurd (f s.same_length)
-no_fault m from to (OffFloor r) s f = absurd (f.1.holds (s.on_floor r f.1.inside))
-no_fault m from to (NotAdjacent r) s f = absurd (f.1.holds (s.moves r f.1.inside))
-no_fault m from to NoMemory s f = refl
-no_fault m from to (Vertex i j) s f = absurd (s.no_vertex_conflict i j f.1.order f.1.inside f.1.holds)
-no_fault m from to (Swap i j) s f = absurd (s.no_swapping_conflict i j f.2.order f.2.inside f.2.holds.0 f.2.holds.1)
 
 pub no_conflict : (m : Floor) (from to : List ℕ) → AreMoves m from to → ((i j : ℕ) → i < j → j < length from → ShareCell to i j → ⊥) → ((i j : ℕ) → i < j → j < length from → Exchange from to i j → ⊥) → IsConflictFree m from to
 no_conflict m from to a v s = record {

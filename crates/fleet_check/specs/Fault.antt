@@ -45,15 +45,24 @@ abbrev pub IsFirstFault : Floor → List ℕ → List ℕ → StepFault → Type
 IsFirstFault m from to Length = length to ≢ length from
 IsFirstFault m from to (OffFloor r) = (length to ≡ length from) × IsFirst (λ k. IsFloor m (slice_index to k) → ⊥) (length from) r
 IsFirstFault m from to (NotAdjacent r) = AreOnFloor m from to × IsFirst (λ k. Moves m from to k → ⊥) (length from) r
-IsFirstFault m from to NoMemory = AreMoves m from to
+IsFirstFault m from to NoMemory = ⊥
 IsFirstFault m from to (Vertex i j) = AreMoves m from to × IsFirstPair (ShareCell to) (length from) i j
 IsFirstFault m from to (Swap i j) = AreMoves m from to × ((k l : ℕ) → k < l → l < length from → ShareCell to k l → ⊥) × IsFirstPair (Exchange from to) (length from) i j
+
+-- why a step is refused: its first fault; or, in a step of moves, no memory to look for a conflict
+abbrev pub IsRefusal : Floor → List ℕ → List ℕ → StepFault → Type 0
+IsRefusal m from to NoMemory = AreMoves m from to
+IsRefusal m from to Length = IsFirstFault m from to Length
+IsRefusal m from to (OffFloor r) = IsFirstFault m from to (OffFloor r)
+IsRefusal m from to (NotAdjacent r) = IsFirstFault m from to (NotAdjacent r)
+IsRefusal m from to (Vertex i j) = IsFirstFault m from to (Vertex i j)
+IsRefusal m from to (Swap i j) = IsFirstFault m from to (Swap i j)
 
 -- why cells are no placement: the least robot off the floor, else the first two robots on one cell
 abbrev pub IsPlacementFault : Floor → List ℕ → StepFault → Type 0
 IsPlacementFault m cells (OffFloor r) = IsFirst (λ k. IsFloor m (slice_index cells k) → ⊥) (length cells) r
 IsPlacementFault m cells (Vertex i j) = ((r : ℕ) → r < length cells → IsFloor m (slice_index cells r)) × IsFirstPair (ShareCell cells) (length cells) i j
-IsPlacementFault m cells NoMemory = (r : ℕ) → r < length cells → IsFloor m (slice_index cells r)
+IsPlacementFault m cells NoMemory = ⊥
 IsPlacementFault m cells Length = ⊥
 IsPlacementFault m cells (NotAdjacent r) = ⊥
 IsPlacementFault m cells (Swap i j) = ⊥

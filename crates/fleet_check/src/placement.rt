@@ -1,8 +1,10 @@
 //! Whether cells are a placement.
 
-ghost use Rattle.std.specs.Prelude.{◌≡◌, ◌<◌, ◌⊎◌, ◌^◌, length, OnOk, IfErr};
+ghost use Rattle.std.specs.Prelude.{◌≡◌, ◌≢◌, ◌<◌, ◌⊎◌, ◌^◌, ℕ, length, slice_index, OnOk, IfErr};
+ghost use Rattle.fleet_grid.specs.Floor.{IsFloor};
 ghost use Rattle.fleet_grid.specs.Step.{IsPlacement};
 ghost use Rattle.fleet_check.specs.Fault.{IsPlacementFault};
+ghost use Rattle.fleet_check.specs.declared.fault.StepFault.TheVariants.{NoMemory};
 
 use crate::check::{first_off_floor, seats_of};
 use crate::fault::StepFault;
@@ -20,8 +22,9 @@ pub fn check_placement<A: Allocator + Copy, B: Allocator + Copy>(
 ) -> Result<(), StepFault>
     requires { length cells.now < 2 ^ 32 }
     ensures ok { OnOk result (IsPlacement grid.now cells.now) }
-    ensures fault { IfErr result (λ fault. IsPlacementFault grid.now cells.now fault) }
-    ensures lawful { IsPlacement grid.now cells.now → (result ≡ Ok record {}) ⊎ (result ≡ Err StepFault.NoMemory) }
+    ensures fault { IfErr result (λ fault. fault ≢ NoMemory → IsPlacementFault grid.now cells.now fault) }
+    ensures memory { IfErr result (λ fault. fault ≡ NoMemory → (r : ℕ) → r < length cells.now → IsFloor grid.now (slice_index cells.now r)) }
+    ensures lawful { IsPlacement grid.now cells.now → (result ≡ Ok record {}) ⊎ (result ≡ Err NoMemory) }
 {
     if let Some(robot) = first_off_floor(grid, cells) {
         return Err(StepFault::OffFloor(robot as u32));

@@ -1,11 +1,10 @@
 -- What a judge knows after one more placement.
-use Rattle.std.proofs.Common.{◌≡◌, ◌≢◌, ℕ, ◌+◌, ◌-◌, ◌<◌, ◌≤◌, inl, inr, List, [], ◌∷◌, ◌++◌, length, slice_index, Option, Some, None, refl, sym, subst, ◌∙◌, arith}
+use Rattle.std.proofs.Common.{◌≡◌, ℕ, ◌+◌, ◌-◌, ◌<◌, ◌≤◌, inl, inr, List, [], ◌∷◌, ◌++◌, length, slice_index, Option, Some, None, refl, sym, subst, ◌∙◌, arith}
 use Rattle.std.proofs.lemmas.Bool.{cases_eq}
 use Rattle.std.proofs.lemmas.List.{get_or_append_left, get_or_push, length-append}
 use Rattle.fleet_grid.specs.Floor.{Floor}
 use Rattle.fleet_grid.specs.Step.{IsPlacement, IsConflictFree}
 use Rattle.fleet_check.specs.Fault.{IsPlacementFault, IsFirstFault}
-use Rattle.fleet_check.specs.declared.fault.StepFault.TheVariants.{NoMemory}
 use Rattle.fleet_plans.specs.declared.judging.PlanFault.{PlanFault}
 use Rattle.fleet_plans.specs.Valid.{place_at, AreStepsFree}
 use Rattle.fleet_plans.specs.Costs.{AreCostsBy, IsNoted}
@@ -64,8 +63,8 @@ module _ (m : Floor) (places : List (List ℕ)) (place : List ℕ) where
               subst (λ (k : ℕ). AreCostsBy (places ++ place ∷ []) k new) same now;
         }
 
-    pub failed_now : (f : PlanFault) → f.time ≡ length places → IsFirstFault m last place f.fault → f.fault ≢ NoMemory → HasFailed m (places ++ place ∷ []) f
-    failed_now f when first named =
+    pub failed_now : (f : PlanFault) → f.time ≡ length places → IsFirstFault m last place f.fault → HasFailed m (places ++ place ∷ []) f
+    failed_now f when first =
         let size = length_more places place in
         let before : f.time ≡ length places - 1 + 1 = omega (arith, when, some) in
         let next : length places - 1 + 1 ≡ length places = omega (arith, some) in
@@ -83,7 +82,6 @@ module _ (m : Floor) (places : List (List ℕ)) (place : List ℕ) where
                   (subst (λ (q : List ℕ). IsFirstFault m last q f.fault) (sym (last_at (length places - 1 + 1) next)) first);
             },
           );
-          named = named;
         }
 
   -- what was at fault stays at fault
@@ -110,7 +108,6 @@ module _ (m : Floor) (places : List (List ℕ)) (place : List ℕ) where
                 },
               )
         ];
-        named = was.named;
       }
 
 -- a judge before and after it takes one more placement
@@ -131,12 +128,12 @@ module _ (m : Floor) (places : List (List ℕ)) (place : List ℕ) (old new : Ju
   pub judged_on : (f : PlanFault) → old.fault ≡ Some f → new.fault ≡ Some f → HasJudged m (places ++ place ∷ []) new
   judged_on f before after = judged_by (Some f) after (failed_more m places place f (so_far_is (Some f) before))
 
-  pub judged_at_fault : (f : PlanFault) → 1 ≤ old.count → old.fault ≡ None → new.fault ≡ Some f → f.time ≡ old.count → IsFirstFault old.floor old.last place f.fault → f.fault ≢ NoMemory
+  pub judged_at_fault : (f : PlanFault) → 1 ≤ old.count → old.fault ≡ None → new.fault ≡ Some f → f.time ≡ old.count → IsFirstFault old.floor old.last place f.fault
       → HasJudged m (places ++ place ∷ []) new
-  judged_at_fault f some before after when first named =
+  judged_at_fault f some before after when first =
       judged_by (Some f) after
       (failed_now m places place old.last old.costs (omega (arith, some, was.count_is)) (so_far_is None before) f (when ∙ was.count_is)
-      (subst (λ (x : Floor). IsFirstFault x old.last place f.fault) was.on first) named)
+      (subst (λ (x : Floor). IsFirstFault x old.last place f.fault) was.on first))
 
   pub judged_free : 1 ≤ old.count → old.fault ≡ None → new.fault ≡ None → new.last ≡ place → IsConflictFree old.floor old.last place → length new.costs ≡ length old.costs
       → ((r : ℕ) → r < length old.costs → IsNoted old.last place old.count r (slice_index old.costs r) (slice_index new.costs r)) → HasJudged m (places ++ place ∷ []) new

@@ -18,7 +18,7 @@ use Rattle.fleet_plans.specs.Runners.{is_json, IsRunnersPlan, IsRunnersFault}
 -- a plan on a map is valid, with this report, or this is its first fault
 abbrev pub IsJudged : Floor → Option (List ℕ) → List (List ℕ) → PlanAnswer → Type 0
 IsJudged m goals places (answer.Valid report) = IsValidPlan m places × IsReportOf goals places report
-IsJudged m goals places (answer.Invalid fault) = IsPlanFault m places fault.time fault.fault × (fault.fault ≢ NoMemory)
+IsJudged m goals places (answer.Invalid fault) = IsPlanFault m places fault.time fault.fault
 IsJudged m goals places (answer.Map fault) = ⊥
 IsJudged m goals places (answer.Text line) = ⊥
 IsJudged m goals places (answer.Json fault) = ⊥

@@ -1,8 +1,7 @@
 -- What a judge of plans keeps of the placements that it was given.
-use Rattle.std.specs.Prelude.{◌≡◌, ◌≢◌, ℕ, ◌-◌, ◌<◌, List, length, Option, Some, None}
+use Rattle.std.specs.Prelude.{◌≡◌, ℕ, ◌-◌, ◌<◌, List, length, Option, Some, None}
 use Rattle.fleet_grid.specs.Floor.{Floor}
 use Rattle.fleet_grid.specs.Step.{IsPlacement}
-use Rattle.fleet_check.specs.declared.fault.StepFault.TheVariants.{NoMemory}
 use Rattle.fleet_plans.specs.declared.judging.PlanFault.{PlanFault}
 use Rattle.fleet_plans.specs.Valid.{place_at, AreStepsFree, IsPlanFault}
 use Rattle.fleet_plans.specs.Costs.{AreCostsBy}
@@ -29,7 +28,6 @@ pub record HasPassed (m : Floor) (places : List (List ℕ)) (last costs : List �
 pub record HasFailed (m : Floor) (places : List (List ℕ)) (f : PlanFault) : Type 0 where
   pub inside : f.time < length places
   pub first : IsPlanFault m places f.time f.fault
-  pub named : f.fault ≢ NoMemory
 
 abbrev pub IsSoFar : Floor → List (List ℕ) → List ℕ → List ℕ → Option PlanFault → Type 0
 IsSoFar m places last costs None = HasPassed m places last costs

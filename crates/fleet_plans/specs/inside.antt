@@ -2,7 +2,6 @@
 pub mod Walk
 pub mod Few
 pub mod Fits
-pub mod Seats
 pub mod Kept
 pub mod Figures
 pub mod Given

@@ -1,17 +1,17 @@
 //! A judge of plans that is given one placement after the other.
 
-ghost use Rattle.std.specs.Prelude.{◌≡◌, ◌≢◌, ◌≤◌, ◌<◌, ◌+◌, ◌++◌, ◌∷◌, ◌^◌, ℕ, List, [], length, slice_index, None, MatchOption, OnOk, IfOk, IfErr, IsOk, IsSome};
+ghost use Rattle.std.specs.Prelude.{◌≡◌, ◌≤◌, ◌<◌, ◌+◌, ◌++◌, ◌∷◌, ◌^◌, ℕ, List, [], length, slice_index, None, MatchOption, OnOk, IfOk, IfErr, IsOk, IsSome};
 ghost use Rattle.fleet_grid.specs.Floor.{Floor};
 ghost use Rattle.fleet_plans.specs.Valid.{IsValidPlan, IsPlanFault};
 ghost use Rattle.fleet_plans.specs.Report.{IsReportOf};
 ghost use Rattle.fleet_plans.specs.Costs.{IsNoted};
 ghost use Rattle.fleet_plans.specs.Judge.{HasJudged};
 ghost use Rattle.fleet_plans.specs.Shown.{goals_in};
-ghost use Rattle.fleet_check.specs.declared.fault.StepFault.TheVariants.{NoMemory};
 
 use crate::costs::{note_moves, zeros};
 use crate::judging::{PlanFault, first_fault, step_fault};
 use crate::report::{PlanReport, report_of};
+use fleet_check::StepChecker;
 use fleet_grid::Grid;
 use std::alloc::{AllocError, Allocator, Global};
 use std::marker::Model;
@@ -23,8 +23,7 @@ use std::marker::Model;
 pub struct PlanJudge<'a, A: Allocator + Copy = Global, B: Allocator + Copy = Global> {
     alloc: A,
     grid: &'a Grid<B>,
-    /// For each cell, the robot that came to it last; empty if there was no memory for it.
-    seats: Vec<u32, A>,
+    checker: StepChecker<A>,
     count: usize,
     last: Vec<u32, A>,
     costs: Vec<u32, A>,
@@ -40,14 +39,6 @@ impl<'a, A: Allocator + Copy, B: Allocator + Copy> Model for PlanJudge<'a, A, B>
     ghost view = { λ j. record { floor = j.grid.now; count = j.count; last = j.last.items; costs = j.costs.items; fault = j.fault } };
 
     ghost invariant = { λ j. IsKept j.grid.now j.count j.last.items j.costs.items };
-}
-
-/// A table with a robot for each cell; an empty one if memory runs out.
-fn seats_of<A: Allocator + Copy, B: Allocator + Copy>(alloc: A, grid: &Grid<B>) -> Vec<u32, A> {
-    match zeros(alloc, grid.cell_count() as usize) {
-        Ok(seats) => seats,
-        Err(AllocError) => Vec::new(alloc),
-    }
 }
 
 /// Writes the placement over the last one, and this time at the robots that moved to it.
@@ -68,15 +59,14 @@ fn step<A: Allocator + Copy>(
 }
 
 impl<'a, A: Allocator + Copy, B: Allocator + Copy> PlanJudge<'a, A, B> {
-    /// A judge that was given no placement yet. It takes memory for a table with a number for each cell of the map; if
-    /// there is not enough, it judges without the table, and each step takes longer.
+    /// A judge that was given no placement yet. It takes no memory.
     pub fn new(alloc: A, grid: &'a Grid<B>) -> PlanJudge<'a, A, B>
         ensures { HasJudged grid.now [] result }
     {
         PlanJudge {
             alloc,
             grid,
-            seats: seats_of(alloc, grid),
+            checker: StepChecker::new(alloc, 0),
             count: 0,
             last: Vec::new(alloc),
             costs: Vec::new(alloc),
@@ -122,6 +112,7 @@ impl<'a, A: Allocator + Copy, B: Allocator + Copy> PlanJudge<'a, A, B> {
             None => {
                 let last = Vec::from_slice(self.alloc, place)?;
                 self.costs = zeros(self.alloc, place.len())?;
+                self.checker = StepChecker::new(self.alloc, place.len());
                 self.last = last;
             }
         }
@@ -139,13 +130,7 @@ impl<'a, A: Allocator + Copy, B: Allocator + Copy> PlanJudge<'a, A, B> {
         ensures kept { IfErr result (λ _. self.new ≡ self.old) }
     {
         let time = self.count as u32;
-        if let Some(fault) = step_fault(
-            self.alloc,
-            self.grid,
-            &mut self.seats,
-            &self.last,
-            place,
-        )? {
+        if let Some(fault) = step_fault(&mut self.checker, self.grid, &self.last, place)? {
             self.fault = Some(PlanFault { time, fault });
             self.count += 1;
             return Ok(());
@@ -164,7 +149,8 @@ impl<'a, A: Allocator + Copy, B: Allocator + Copy> PlanJudge<'a, A, B> {
 
     /// The first fault of the placements taken; `None` if they are a valid plan.
     pub fn fault(&self) -> Option<PlanFault>
-        ensures { (m : Floor) (places : List (List ℕ)) → HasJudged m places self.now → MatchOption result (IsValidPlan m places) (λ f. IsPlanFault m places f.time f.fault) }
+        ensures first { (m : Floor) (places : List (List ℕ)) → HasJudged m places self.now → MatchOption result (IsValidPlan m places) (λ f. IsPlanFault m places f.time f.fault) }
+        ensures lawful { (m : Floor) (places : List (List ℕ)) → HasJudged m places self.now → IsValidPlan m places → result ≡ None }
     {
         self.fault
     }
@@ -177,7 +163,6 @@ impl<'a, A: Allocator + Copy, B: Allocator + Copy> PlanJudge<'a, A, B> {
         ensures report { (m : Floor) (places : List (List ℕ)) → HasJudged m places self.now → IfOk result (λ report. IsReportOf (goals_in goals.entry) places report) }
         ensures fault { (m : Floor) (places : List (List ℕ)) → HasJudged m places self.now → IfErr result (λ f. IsPlanFault m places f.time f.fault) }
         ensures lawful { (m : Floor) (places : List (List ℕ)) → HasJudged m places self.now → IsValidPlan m places → IsOk result }
-        ensures named { (m : Floor) (places : List (List ℕ)) → HasJudged m places self.now → IfErr result (λ f. f.fault ≢ NoMemory) }
     {
         match self.fault {
             Some(fault) => Err(fault),

@@ -1,11 +1,10 @@
 //! The first fault of a placement of robots, as a start or as a step from the one before.
 
-ghost use Rattle.std.specs.Prelude.{◌≡◌, ◌≢◌, ◌<◌, ◌^◌, length, IfOk, MatchOption};
+ghost use Rattle.std.specs.Prelude.{◌<◌, ◌^◌, length, IfOk, MatchOption};
 ghost use Rattle.fleet_check.specs.Fault.{IsPlacementFault, IsFirstFault};
 ghost use Rattle.fleet_grid.specs.Step.{IsPlacement, IsConflictFree};
 
-use crate::seats::is_free;
-use fleet_check::{StepFault, check_placement, check_step};
+use fleet_check::{StepChecker, StepFault, check_placement};
 use fleet_grid::Grid;
 use std::alloc::{AllocError, Allocator};
 
@@ -25,7 +24,7 @@ pub(crate) fn first_fault<A: Allocator + Copy, B: Allocator + Copy>(
     cells: &[u32],
 ) -> Result<Option<StepFault>, AllocError>
     requires { length cells.now < 2 ^ 32 }
-    ensures { IfOk result (λ fault. MatchOption fault (IsPlacement grid.now cells.now) (λ f. IsPlacementFault grid.now cells.now f × (f ≢ StepFault.NoMemory))) }
+    ensures { IfOk result (λ fault. MatchOption fault (IsPlacement grid.now cells.now) (λ f. IsPlacementFault grid.now cells.now f)) }
 {
     match check_placement(alloc, grid, cells) {
         Ok(()) => Ok(None),
@@ -34,22 +33,17 @@ pub(crate) fn first_fault<A: Allocator + Copy, B: Allocator + Copy>(
     }
 }
 
-/// The first fault of a step; an error if memory runs out. `check_step` looks for faults in their order and keeps a
-/// tree. For most steps `is_free` finds that there is no fault, with a table that is made once.
+/// The first fault of a step; an error if memory runs out.
 pub(crate) fn step_fault<A: Allocator + Copy, B: Allocator + Copy>(
-    alloc: A,
+    checker: &mut StepChecker<A>,
     grid: &Grid<B>,
-    seats: &mut [u32],
     from: &[u32],
     to: &[u32],
 ) -> Result<Option<StepFault>, AllocError>
     requires { IsPlacement grid.now from.now }
-    ensures { IfOk result (λ fault. MatchOption fault (IsConflictFree grid.now from.now to.now) (λ f. IsFirstFault grid.now from.now to.now f × (f ≢ StepFault.NoMemory))) }
+    ensures { IfOk result (λ fault. MatchOption fault (IsConflictFree grid.now from.now to.now) (λ f. IsFirstFault grid.now from.now to.now f)) }
 {
-    if is_free(grid, seats, from, to) {
-        return Ok(None);
-    }
-    match check_step(alloc, grid, from, to) {
+    match checker.check(grid, from, to) {
         Ok(()) => Ok(None),
         Err(StepFault::NoMemory) => Err(AllocError),
         Err(fault) => Ok(Some(fault)),

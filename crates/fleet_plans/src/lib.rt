@@ -14,7 +14,6 @@ mod places;
 mod plan;
 mod report;
 mod runners;
-mod seats;
 mod sides;
 mod tracks;
 mod walk;

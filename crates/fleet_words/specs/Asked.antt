@@ -1,9 +1,10 @@
 -- What the words ask for.
-use Rattle.std.specs.Prelude.{◌≡◌, Bool, true, false, List, [], map, Option, Some, None, codes, string_bytes, if◌then◌else◌}
-use Rattle.std.specs.Option.{option_map, option_map_or, option_and_then}
+use Rattle.std.specs.Prelude.{◌≡◌, true, false, List, map, Option, Some, None, codes, string_bytes, if◌then◌else◌}
+use Rattle.std.specs.Option.{option_map, option_and_then}
 use Rattle.std.specs.Str.{bytes_eq}
 use Rattle.std.specs.Str.Parse.{digits_value, without_leading_plus}
 use Rattle.clap.specs.Words.{Text, Row, first_of, all_of}
+use Rattle.command_words.specs.Values.{has_flag, or_none}
 use Rattle.fleet_words.specs.declared.view.Shown.{Shown}
 use Rattle.fleet_words.specs.declared.view.Shown.TheVariants.{Page, Moving, Still}
 use Rattle.fleet_words.specs.declared.view.View.{View as ViewJob}
@@ -16,10 +17,6 @@ use Rattle.fleet_words.specs.declared.explain.Explain.{Explain as ExplainJob}
 use Rattle.fleet_words.specs.declared.live.Live.{Live as LiveJob}
 use Rattle.fleet_words.specs.declared.words.Job.{Job}
 use Rattle.fleet_words.specs.declared.words.Job.TheVariants as job
-
--- whether a flag was given
-abbrev pub has_flag : Text → List Row → Bool
-has_flag name rows = option_map_or (λ word. bytes_eq word (codes "true")) (first_of name rows) false
 
 -- how the words after `view` say that traces are shown
 abbrev pub IsShownAs : List Row → Shown → Type 0
@@ -68,11 +65,6 @@ pub record IsConvert (rows : List Row) (convert : ConvertJob) : Type 0 where
 pub record IsExplain (rows : List Row) (explain : ExplainJob) : Type 0 where
   pub floor : first_of (codes "MAP") rows ≡ Some (string_bytes explain.map)
   pub other : first_of (codes "INPUT") rows ≡ option_map (λ s. string_bytes s) explain.other
-
--- the words of an argument that may have none
-abbrev pub or_none : Option (List Text) → List Text
-or_none None = []
-or_none (Some words) = words
 
 -- what the words after `live` ask for
 pub record IsLive (rows : List Row) (live : LiveJob) : Type 0 where

@@ -1,13 +1,12 @@
 //! The word `check`.
 
-ghost use Rattle.std.specs.Prelude.{◌≡◌, Some, false, codes, string_bytes, IfOk};
-ghost use Rattle.clap.specs.declared.builder.command.Command.TheViews.{out-Command as fields_of};
-ghost use Rattle.clap.specs.Words.{app_of, found_of, rows_of};
-ghost use Rattle.fleet_words.specs.Command.{check_app};
+ghost use Rattle.std.specs.Prelude.{◌≡◌, IfOk};
+ghost use Rattle.clap.specs.Words.{found_of, rows_of};
 ghost use Rattle.fleet_words.specs.Asked.{IsCheck};
 
-use crate::arguments::{subcommand, with_file, word_for};
-use clap::{ArgMatches, Command};
+use crate::arguments::MAP;
+use clap::ArgMatches;
+use command_words::{Argument, Kind, Word, word_for};
 use std::alloc::{AllocError, Global};
 
 /// To judge a plan on a map.
@@ -17,25 +16,20 @@ pub struct Check {
     pub plan: String,
 }
 
-/// The subcommand `check`.
-pub(crate) fn check_command<'a>(alloc: Global) -> Result<Command<'a>, AllocError>
-    ensures app { IfOk result (λ c. app_of c ≡ check_app) }
-    ensures own { IfOk result (λ c. (fields_of c).has_globals ≡ false) }
-{
-    let command = subcommand(
-        alloc,
-        "check",
-        "Judges a plan of any planner on a map: whether it is free of conflicts, and what it costs",
-        "Example: fleet check arena.map plan.txt",
-    );
-    let command = with_file(alloc, command, "MAP", "A map")?;
-    with_file(
-        alloc,
-        command,
-        "PLAN",
-        "A plan, as pibt2 and LaCAM write it, or a line of moves for each robot",
-    )
-}
+/// `check MAP PLAN`.
+pub(crate) const CHECK: Word<'static> = Word {
+    name: "check",
+    about: "Judges a plan of any planner on a map: whether it is free of conflicts, and what it costs",
+    example: "Example: fleet check arena.map plan.txt",
+    arguments: &[
+        MAP,
+        Argument {
+            name: "PLAN",
+            kind: Kind::File,
+            help: "A plan, as pibt2 and LaCAM write it, or a line of moves for each robot",
+        },
+    ],
+};
 
 /// What the arguments of `check` ask for.
 pub(crate) fn check_in(alloc: Global, matches: &ArgMatches<'_>) -> Result<Check, AllocError>

@@ -1,13 +1,12 @@
 //! The word `convert`.
 
-ghost use Rattle.std.specs.Prelude.{◌≡◌, false, string_bytes, IfOk};
-ghost use Rattle.clap.specs.declared.builder.command.Command.TheViews.{out-Command as fields_of};
-ghost use Rattle.clap.specs.Words.{app_of, rule_of, found_of, rows_of};
-ghost use Rattle.fleet_words.specs.Command.{to_rule, convert_app};
+ghost use Rattle.std.specs.Prelude.{◌≡◌, IfOk};
+ghost use Rattle.clap.specs.Words.{found_of, rows_of};
 ghost use Rattle.fleet_words.specs.Asked.{IsConvert, form_in, form_named};
 
-use crate::arguments::{subcommand, with_argument, with_file, word_for};
-use clap::{Arg, ArgMatches, Command};
+use crate::arguments::MAP;
+use clap::ArgMatches;
+use command_words::{Argument, Kind, Word, word_for};
 use std::alloc::{AllocError, Global};
 
 /// The form of a plan's text.
@@ -30,40 +29,25 @@ pub struct Convert {
     pub trace: String,
 }
 
-/// The option that names a form.
-fn to_option<'a>(alloc: Global) -> Arg<'a>
-    ensures rule { rule_of result ≡ to_rule }
-    ensures own { result.global ≡ false }
-{
-    Arg::new(alloc, "to")
-        .long("to")
-        .value_name("FORM")
-        .required(true)
-        .help(
-            "The form of the plan: pibt2 (lines of cells), moves (lines of move letters), or lorr (the JSON of the League of Robot Runners)",
-        )
-}
-
-/// The subcommand `convert`.
-pub(crate) fn convert_command<'a>(alloc: Global) -> Result<Command<'a>, AllocError>
-    ensures app { IfOk result (λ c. app_of c ≡ convert_app) }
-    ensures own { IfOk result (λ c. (fields_of c).has_globals ≡ false) }
-{
-    let command = subcommand(
-        alloc,
-        "convert",
-        "Prints the placements of a trace as a plan that the tools of other planners read",
-        "Example: fleet convert --to pibt2 ring.map two_robots.trace > plan.txt",
-    );
-    let command = with_argument(command, to_option(alloc))?;
-    let command = with_file(alloc, command, "MAP", "A map")?;
-    with_file(
-        alloc,
-        command,
-        "TRACE",
-        "What `errands run --trace` or `errands serve` wrote",
-    )
-}
+/// `convert --to FORM MAP TRACE`.
+pub(crate) const CONVERT: Word<'static> = Word {
+    name: "convert",
+    about: "Prints the placements of a trace as a plan that the tools of other planners read",
+    example: "Example: fleet convert --to pibt2 ring.map two_robots.trace > plan.txt",
+    arguments: &[
+        Argument {
+            name: "to",
+            kind: Kind::RequiredValue("FORM"),
+            help: "The form of the plan: pibt2 (lines of cells), moves (lines of move letters), or lorr (the JSON of the League of Robot Runners)",
+        },
+        MAP,
+        Argument {
+            name: "TRACE",
+            kind: Kind::File,
+            help: "What `errands run --trace` or `errands serve` wrote",
+        },
+    ],
+};
 
 /// The form with a given name.
 fn form_named(name: &str) -> Option<Form>

@@ -1,16 +1,12 @@
 //! The word `live`.
 
-ghost use Rattle.std.specs.Prelude.{◌≡◌, false, codes, IfOk};
-ghost use Rattle.clap.specs.declared.builder.command.Command.TheViews.{out-Command as fields_of};
-ghost use Rattle.clap.specs.Words.{app_of, rule_of, found_of, rows_of};
-ghost use Rattle.fleet_words.specs.Command.{option_rule, pipes_rule, with_start_options, with_pace_options, with_live_options, live_app};
+ghost use Rattle.std.specs.Prelude.{◌≡◌, IfOk};
+ghost use Rattle.clap.specs.Words.{found_of, rows_of};
 ghost use Rattle.fleet_words.specs.Asked.{IsLive};
 
-use crate::arguments::{
-    flag, has_flag, some_word_for, some_words_for, subcommand, with_argument, with_file, word_for,
-};
-use crate::talk::{script_argument, traces_option};
-use clap::{Arg, ArgAction, ArgMatches, Command};
+use crate::arguments::{MAP, SCRIPT, TRACES};
+use clap::ArgMatches;
+use command_words::{Argument, Kind, Word, has_flag, some_word_for, some_words_for, word_for};
 use std::alloc::{AllocError, Global};
 
 /// To keep a fleet in real time.
@@ -36,99 +32,48 @@ pub struct Live {
     pub watch: bool,
 }
 
-/// An option with a value of this name.
-fn option<'a>(alloc: Global, name: &'a str, value: &'a str, help: &'a str) -> Arg<'a>
-    ensures rule { rule_of result ≡ option_rule name.entry.now }
-    ensures own { result.global ≡ false }
-{
-    Arg::new(alloc, name)
-        .long(name)
-        .value_name(value)
-        .help(help)
-}
-
-/// The option that names a client's pipes, and may be given more than once.
-fn pipes_option<'a>(alloc: Global) -> Arg<'a>
-    ensures rule { rule_of result ≡ pipes_rule }
-    ensures own { result.global ≡ false }
-{
-    Arg::new(alloc, "client")
-        .long("client")
-        .value_name("IN,OUT")
-        .action(ArgAction::Append)
-        .help("The named pipes of the next client, from 0: its lines, and what it is told")
-}
-
-/// The options that say what the fleet begins with.
-fn with_start<'a>(alloc: Global, command: Command<'a>) -> Result<Command<'a>, AllocError>
-    ensures app { IfOk result (λ c. app_of c ≡ with_start_options (app_of command.entry)) }
-    ensures own { IfOk result (λ c. (fields_of c).has_globals ≡ (fields_of command.entry).has_globals) }
-{
-    let robots = option(
-        alloc,
-        "robots",
-        "CELLS",
-        "The robots' start cells, as 0,5,9",
-    );
-    let command = with_argument(command, robots)?;
-    let clients = option(
-        alloc,
-        "clients",
-        "N",
-        "The number of clients, 1 if not given",
-    );
-    with_argument(command, clients)
-}
-
-/// The options that say when the fleet makes turns.
-fn with_pace<'a>(alloc: Global, command: Command<'a>) -> Result<Command<'a>, AllocError>
-    ensures app { IfOk result (λ c. app_of c ≡ with_pace_options (app_of command.entry)) }
-    ensures own { IfOk result (λ c. (fields_of c).has_globals ≡ (fields_of command.entry).has_globals) }
-{
-    let period = option(
-        alloc,
-        "period",
-        "TIME",
-        "The time between two turns, as 20ms; without it a turn is made by `tick`",
-    );
-    let command = with_argument(command, period)?;
-    let tickers = option(
-        alloc,
-        "tickers",
-        "N",
-        "1 or 2 tickers, 1 if not given: with 2, turns go on while a full chapter is written",
-    );
-    with_argument(command, tickers)
-}
-
-/// The options of a fleet in real time.
-fn with_options<'a>(alloc: Global, command: Command<'a>) -> Result<Command<'a>, AllocError>
-    ensures app { IfOk result (λ c. app_of c ≡ with_live_options (app_of command.entry)) }
-    ensures own { IfOk result (λ c. (fields_of c).has_globals ≡ (fields_of command.entry).has_globals) }
-{
-    let command = with_start(alloc, command)?;
-    let command = with_pace(alloc, command)?;
-    with_argument(command, pipes_option(alloc))
-}
-
-/// The subcommand `live`.
-pub(crate) fn live_command<'a>(alloc: Global) -> Result<Command<'a>, AllocError>
-    ensures app { IfOk result (λ c. app_of c ≡ live_app) }
-    ensures own { IfOk result (λ c. (fields_of c).has_globals ≡ false) }
-{
-    let command = subcommand(
-        alloc,
-        "live",
-        "Keeps a fleet in real time for clients that post errands and are told what became of them",
-        "Example: fleet live --robots 0,8 --period 20ms ring.map",
-    );
-    let command = with_options(alloc, command)?;
-    let watch = flag(alloc, "watch", "Say where the robots stand after each tick");
-    let command = with_argument(command, watch)?;
-    let command = with_argument(command, traces_option(alloc))?;
-    let command = with_file(alloc, command, "MAP", "A map")?;
-    with_argument(command, script_argument(alloc))
-}
+/// `live [--robots CELLS] [--clients N] [--period TIME] [--tickers N] [--client IN,OUT].. [--watch] [--traces DIR] MAP
+/// [SCRIPT]`.
+pub(crate) const LIVE: Word<'static> = Word {
+    name: "live",
+    about: "Keeps a fleet in real time for clients that post errands and are told what became of them",
+    example: "Example: fleet live --robots 0,8 --period 20ms ring.map",
+    arguments: &[
+        Argument {
+            name: "robots",
+            kind: Kind::Value("CELLS"),
+            help: "The robots' start cells, as 0,5,9",
+        },
+        Argument {
+            name: "clients",
+            kind: Kind::Value("N"),
+            help: "The number of clients, 1 if not given",
+        },
+        Argument {
+            name: "period",
+            kind: Kind::Value("TIME"),
+            help: "The time between two turns, as 20ms; without it a turn is made by `tick`",
+        },
+        Argument {
+            name: "tickers",
+            kind: Kind::Value("N"),
+            help: "1 or 2 tickers, 1 if not given: with 2, turns go on while a full chapter is written",
+        },
+        Argument {
+            name: "client",
+            kind: Kind::Values("IN,OUT"),
+            help: "The named pipes of the next client, from 0: its lines, and what it is told",
+        },
+        Argument {
+            name: "watch",
+            kind: Kind::Flag,
+            help: "Say where the robots stand after each tick",
+        },
+        TRACES,
+        MAP,
+        SCRIPT,
+    ],
+};
 
 /// What the arguments of `live` ask for.
 pub(crate) fn live_in(alloc: Global, matches: &ArgMatches<'_>) -> Result<Live, AllocError>

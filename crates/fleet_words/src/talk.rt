@@ -1,15 +1,12 @@
 //! The word `talk`.
 
-ghost use Rattle.std.specs.Prelude.{◌≡◌, false, codes, IfOk};
-ghost use Rattle.clap.specs.declared.builder.command.Command.TheViews.{out-Command as fields_of};
-ghost use Rattle.clap.specs.Words.{app_of, rule_of, new_rule, found_of, rows_of};
-ghost use Rattle.fleet_words.specs.Command.{traces_rule, talk_app};
+ghost use Rattle.std.specs.Prelude.{◌≡◌, IfOk};
+ghost use Rattle.clap.specs.Words.{found_of, rows_of};
 ghost use Rattle.fleet_words.specs.Asked.{IsTalk};
 
-use crate::arguments::{
-    flag, has_flag, some_word_for, subcommand, with_argument, with_file, word_for,
-};
-use clap::{Arg, ArgMatches, Command};
+use crate::arguments::{MAP, SCRIPT, TRACES};
+use clap::ArgMatches;
+use command_words::{Argument, Kind, Word, has_flag, some_word_for, word_for};
 use std::alloc::{AllocError, Global};
 
 /// To talk to a fleet on a map.
@@ -26,46 +23,27 @@ pub struct Talk {
     pub roll: bool,
 }
 
-/// The option that names a folder.
-pub(crate) fn traces_option<'a>(alloc: Global) -> Arg<'a>
-    ensures rule { rule_of result ≡ traces_rule }
-    ensures own { result.global ≡ false }
-{
-    Arg::new(alloc, "traces")
-        .long("traces")
-        .value_name("DIR")
-        .help("Write each chapter into this folder, as chapter-N.json")
-}
-
-/// An argument that names a file, and may be left out.
-pub(crate) fn script_argument<'a>(alloc: Global) -> Arg<'a>
-    ensures rule { rule_of result ≡ new_rule (codes "SCRIPT") }
-    ensures own { result.global ≡ false }
-{
-    Arg::new(alloc, "SCRIPT").help(
-        "Header lines of a script, which may also begin the conversation",
-    )
-}
-
-/// The subcommand `talk`.
-pub(crate) fn talk_command<'a>(alloc: Global) -> Result<Command<'a>, AllocError>
-    ensures app { IfOk result (λ c. app_of c ≡ talk_app) }
-    ensures own { IfOk result (λ c. (fields_of c).has_globals ≡ false) }
-{
-    let command = subcommand(
-        alloc,
-        "talk",
-        "Talks to a fleet: answers each line of standard input as soon as it is read",
-        "Example: fleet talk ring.map",
-    );
-    let marks = flag(alloc, "marks", "End the answer to line N with a line `. N`");
-    let command = with_argument(command, marks)?;
-    let roll = flag(alloc, "roll", "Begin the next chapter where one is full");
-    let command = with_argument(command, roll)?;
-    let command = with_argument(command, traces_option(alloc))?;
-    let command = with_file(alloc, command, "MAP", "A map")?;
-    with_argument(command, script_argument(alloc))
-}
+/// `talk [--marks] [--roll] [--traces DIR] MAP [SCRIPT]`.
+pub(crate) const TALK: Word<'static> = Word {
+    name: "talk",
+    about: "Talks to a fleet: answers each line of standard input as soon as it is read",
+    example: "Example: fleet talk ring.map",
+    arguments: &[
+        Argument {
+            name: "marks",
+            kind: Kind::Flag,
+            help: "End the answer to line N with a line `. N`",
+        },
+        Argument {
+            name: "roll",
+            kind: Kind::Flag,
+            help: "Begin the next chapter where one is full",
+        },
+        TRACES,
+        MAP,
+        SCRIPT,
+    ],
+};
 
 /// What the arguments of `talk` ask for.
 pub(crate) fn talk_in(alloc: Global, matches: &ArgMatches<'_>) -> Result<Talk, AllocError>

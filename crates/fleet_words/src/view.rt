@@ -1,15 +1,12 @@
 //! The word `view`.
 
-ghost use Rattle.std.specs.Prelude.{◌≡◌, ◌*◌, Some, None, false, map, codes, string_bytes, IfOk};
-ghost use Rattle.clap.specs.declared.builder.command.Command.TheViews.{out-Command as fields_of};
-ghost use Rattle.clap.specs.Words.{app_of, rule_of, found_of, rows_of};
-ghost use Rattle.fleet_words.specs.Command.{tick_rule, view_app};
+ghost use Rattle.std.specs.Prelude.{◌≡◌, IfOk};
+ghost use Rattle.clap.specs.Words.{found_of, rows_of};
 ghost use Rattle.fleet_words.specs.Asked.{IsShownAs, IsView};
 
-use crate::arguments::{
-    files_argument, flag, has_flag, subcommand, with_argument, with_file, word_for, words_for,
-};
-use clap::{Arg, ArgMatches, Command, value_parser};
+use crate::arguments::MAP;
+use clap::ArgMatches;
+use command_words::{Argument, Kind, Word, has_flag, word_for, words_for};
 use std::alloc::{AllocError, Global};
 
 /// How traces are shown.
@@ -32,44 +29,30 @@ pub struct View {
     pub shown: Shown,
 }
 
-/// The option that names a tick.
-fn tick_option<'a>(alloc: Global) -> Arg<'a>
-    ensures rule { rule_of result ≡ tick_rule }
-    ensures own { result.global ≡ false }
-{
-    Arg::new(alloc, "tick")
-        .long("tick")
-        .value_name("N")
-        .value_parser(value_parser!(u32))
-        .help("Print a picture of what stands after N ticks")
-}
-
-/// The subcommand `view`.
-pub(crate) fn view_command<'a>(alloc: Global) -> Result<Command<'a>, AllocError>
-    ensures app { IfOk result (λ c. app_of c ≡ view_app) }
-    ensures own { IfOk result (λ c. (fields_of c).has_globals ≡ false) }
-{
-    let command = subcommand(
-        alloc,
-        "view",
-        "Prints a page that replays traces on a map, or a picture of them",
-        "Example: fleet view ring.map two_robots.trace > fleet.html",
-    );
-    let svg = flag(
-        alloc,
-        "svg",
-        "Print a moving picture (SVG) in place of the page",
-    );
-    let command = with_argument(command, svg)?;
-    let command = with_argument(command, tick_option(alloc))?;
-    let command = with_file(alloc, command, "MAP", "A map")?;
-    let traces = files_argument(
-        alloc,
-        "TRACE",
-        "What `errands run --trace` or `errands serve` wrote; several are chapters that follow one another",
-    );
-    with_argument(command, traces)
-}
+/// `view [--svg] [--tick N] MAP TRACE..`.
+pub(crate) const VIEW: Word<'static> = Word {
+    name: "view",
+    about: "Prints a page that replays traces on a map, or a picture of them",
+    example: "Example: fleet view ring.map two_robots.trace > fleet.html",
+    arguments: &[
+        Argument {
+            name: "svg",
+            kind: Kind::Flag,
+            help: "Print a moving picture (SVG) in place of the page",
+        },
+        Argument {
+            name: "tick",
+            kind: Kind::Number("N"),
+            help: "Print a picture of what stands after N ticks",
+        },
+        MAP,
+        Argument {
+            name: "TRACE",
+            kind: Kind::Files,
+            help: "What `errands run --trace` or `errands serve` wrote; several are chapters that follow one another",
+        },
+    ],
+};
 
 /// How traces are to be shown.
 fn shown_in(matches: &ArgMatches<'_>) -> Result<Shown, AllocError>

@@ -2,21 +2,19 @@
 
 ghost use Rattle.std.specs.Prelude.{◌≡◌, [], IfOk, IfErr, true, map, string_bytes};
 ghost use Rattle.clap.specs.Words.{fault_of, subcommand_of, subcommand_rows_of, takes};
-ghost use Rattle.clap.specs.Values.{kind_of};
-ghost use Rattle.clap.specs.declared.error.kind.ErrorKind.TheVariants.{OutOfMemory};
 ghost use Rattle.fleet_words.specs.Command.{fleet_app};
 ghost use Rattle.fleet_words.specs.Asked.{IsJobOf};
-ghost use Rattle.fleet_words.specs.declared.words.WordFault.TheVariants.{NoMemory};
+ghost use Rattle.command_words.specs.declared.words.WordFault.TheVariants.{NoMemory};
 
 use crate::check::{Check, check_in};
-use crate::commands::named_command;
 use crate::convert::{Convert, convert_in};
 use crate::explain::{Explain, explain_in};
 use crate::live::{Live, live_in};
+use crate::program::program;
 use crate::talk::{Talk, talk_in};
 use crate::view::{View, view_in};
-use clap::error::ErrorKind;
-use clap::{ArgMatches, Error};
+use clap::ArgMatches;
+use command_words::{WordFault, matches_for};
 use std::alloc::{AllocError, Global};
 
 /// What the program has to do.
@@ -28,25 +26,6 @@ pub enum Job {
     Convert(Convert),
     Explain(Explain),
     Live(Live),
-}
-
-/// Why the words name no job.
-#[derive(Debug, Drop)]
-pub enum WordFault {
-    /// What `clap` prints about the words. A request for help ends here too.
-    Words(String),
-    NoMemory,
-}
-
-impl From<AllocError> for WordFault {
-    ghost use Rattle.std.specs.Prelude.{◌≡◌};
-    ghost use Rattle.fleet_words.specs.declared.words.WordFault.TheVariants.{NoMemory};
-
-    ghost from_gives = { λ _ e. e ≡ NoMemory };
-
-    fn from(_error: AllocError) -> WordFault {
-        WordFault::NoMemory
-    }
 }
 
 /// The job of the words that `clap` accepted.
@@ -77,19 +56,6 @@ fn job_from(alloc: Global, matches: &ArgMatches<'_>) -> Result<Job, AllocError>
     }
 }
 
-/// Why `clap` did not accept the words.
-fn fault_from(alloc: Global, error: &Error) -> WordFault
-    ensures { kind_of error.now ≡ OutOfMemory → result ≡ NoMemory }
-{
-    if error.kind() == ErrorKind::OutOfMemory {
-        return WordFault::NoMemory;
-    }
-    match error.to_string(alloc) {
-        Ok(text) => WordFault::Words(text),
-        Err(_) => WordFault::NoMemory,
-    }
-}
-
 /// The job that the words name. The first word is the program's own name.
 pub fn parse_words(alloc: Global, words: &[String]) -> Result<Job, WordFault>
     // only words that `clap` takes name a job
@@ -98,9 +64,8 @@ pub fn parse_words(alloc: Global, words: &[String]) -> Result<Job, WordFault>
     // words that `clap` takes are refused only where memory runs out
     ensures refused { IfErr result (λ f. takes fleet_app (map (λ w. string_bytes w) words.now) ≡ true → f ≡ NoMemory) }
 {
-    let command = named_command(alloc)?;
-    match command.try_get_matches_from(words) {
+    match matches_for(alloc, &program(), words) {
         Ok(matches) => Ok(job_from(alloc, &matches)?),
-        Err(error) => Err(fault_from(alloc, &error)),
+        Err(fault) => Err(fault),
     }
 }

@@ -7,8 +7,6 @@
 mod fleet;
 mod later;
 mod opening;
-#[cfg(test)]
-mod planted;
 mod rules;
 mod site;
 mod take;

@@ -4,7 +4,7 @@ ghost use Rattle.fleet_grid.specs.Step.{IsPlacement};
 
 use crate::floor::grid_of;
 use crate::squares::{Shape, letters};
-use fleet_check::{StepFault, check_step};
+use fleet_check::{StepChecker, StepFault, check_step};
 use fleet_grid::{Grid, is_placement};
 use std::alloc::{Allocator, Global};
 use std::process::Abort;
@@ -102,16 +102,28 @@ fn whole_fleet(rt: HostRuntime) {
     move_fleet(&rt, rt.alloc(), &grid, &from);
 }
 
-/// Whether an allocation is refused while a step is checked. After a refusal a second check succeeds.
-fn is_refused(rt: &impl Abort, heap: impl Allocator + Copy, grid: &Grid, from: &[u32]) -> bool
+/// A step without a conflict, and an exchange, while one allocation is refused. The first allocation is for a table
+/// that only saves time; after it, memory is taken for the search for a conflict.
+fn refuse_one(rt: &impl Abort, alloc: Global, grid: &Grid, from: &[u32], before: u64)
     requires { IsPlacement grid.now from.now }
 {
-    let met = is_answered(heap, grid, from, &[1, 3, 0], Err(StepFault::NoMemory));
-    assert!(rt; is_answered(heap, grid, from, &[1, 3, 0], Ok(())) || !met);
-    met
+    let heap = Refusing::after(alloc, before);
+    assert!(rt; is_answered(&heap, grid, from, &[1, 3, 0], Ok(())));
+    let heap = Refusing::after(alloc, before);
+    let swap = Err(StepFault::Swap(0, 1));
+    let answer = if before == 1 {
+        Err(StepFault::NoMemory)
+    } else {
+        swap
+    };
+    assert!(rt; is_answered(&heap, grid, from, &[1, 0, 2], answer));
+    if before < 2 {
+        // After the refusal the same check succeeds.
+        assert!(rt; is_answered(&heap, grid, from, &[1, 0, 2], swap));
+    }
 }
 
-/// Faults that come before conflicts are named without taking memory.
+/// Faults that come before conflicts are named though memory is refused.
 fn name_without_memory(rt: &impl Abort, heap: impl Allocator + Copy, grid: &Grid, from: &[u32])
     requires { IsPlacement grid.now from.now }
 {
@@ -124,60 +136,59 @@ fn refused_growths(rt: HostRuntime) {
     let grid = square(&rt, rt.alloc());
     let from = [0, 1, 2];
     assert!(rt; is_placement(&grid, &from));
-    let mut refused = 0;
     for before in 0..8 {
-        if is_refused(&rt, &Refusing::after(rt.alloc(), before), &grid, &from) {
-            refused = before + 1;
-        }
+        refuse_one(&rt, rt.alloc(), &grid, &from, before);
     }
-    assert!(rt; refused == 1);
     name_without_memory(&rt, &Refusing::after(rt.alloc(), 0), &grid, &from);
 }
 
-/// Whether an allocation is refused while the step is checked. It is conflict-free.
-fn is_want_of_memory(
-    rt: &impl Abort,
-    heap: impl Allocator + Copy,
-    grid: &Grid,
-    from: &[u32],
-    to: &[u32],
-) -> bool
-    requires { IsPlacement grid.now from.now }
-{
-    match check_step(heap, grid, from, to) {
-        Ok(()) => false,
-        Err(fault) => {
-            assert!(rt; fault == StepFault::NoMemory);
-            true
-        }
-    }
-}
-
-/// How many allocations are refused in turn before one check of the step meets no refusal; 16 at most.
+/// How many allocations are refused in turn before a check names the conflict.
 fn count_refused(rt: &impl Abort, alloc: Global, grid: &Grid, from: &[u32], to: &[u32]) -> u64
     requires { IsPlacement grid.now from.now }
 {
+    let named = Err(StepFault::Vertex(22, 23));
+    assert!(rt; is_answered(&Refusing::after(alloc, 16), grid, from, to, named));
     let mut refused = 0;
-    for before in 0..16 {
-        if is_want_of_memory(rt, &Refusing::after(alloc, before), grid, from, to) {
-            refused = before + 1;
+    for before in 1..16 {
+        let heap = Refusing::after(alloc, before);
+        if is_answered(&heap, grid, from, to, Err(StepFault::NoMemory)) {
+            refused = before;
         }
     }
     refused
 }
 
-/// How many allocations are refused in turn while the first 24 robots move a row to the south.
+/// How many allocations are refused in turn while the first 22 of 24 robots move a row to the south, and the last comes
+/// to the cell of the one before it, which stays.
 fn count_refused_south(rt: &impl Abort, alloc: Global, grid: &Grid) -> u64 {
     let from = cells_between(rt, alloc, 0, 24);
-    let south = cells_between(rt, alloc, 32, 56);
+    let mut south = cells_between(rt, alloc, 32, 54);
+    south.push(22).expect(rt, "memory for a cell");
+    south.push(22).expect(rt, "memory for a cell");
     assert!(rt; is_placement(grid, &from));
     count_refused(rt, alloc, grid, &from, &south)
 }
 
-/// A step of 24 robots: the table of seats grows more than once, and each allocation is refused in turn.
+/// A step of 24 robots: the tree grows more than once, and each of its allocations is refused in turn.
 #[test]
 fn refused_growths_of_a_fleet(rt: HostRuntime) {
     let grid = hall(&rt, rt.alloc());
     let refused = count_refused_south(&rt, rt.alloc(), &grid);
     assert!(rt; refused >= 2 && refused < 16);
+}
+
+/// One table serves for steps of as many robots, and of fewer and more.
+#[test]
+fn one_checker_for_many_steps(rt: HostRuntime) {
+    let grid = square(&rt, rt.alloc());
+    let mut checker = StepChecker::new(rt.alloc(), 2);
+    let (pair, three) = ([0, 1], [0, 1, 2]);
+    assert!(rt; is_placement(&grid, &pair));
+    assert!(rt; is_placement(&grid, &three));
+    for (to, outcome) in STEPS {
+        assert!(rt; checker.check(&grid, &pair, to) == outcome);
+    }
+    assert!(rt; checker.check(&grid, &three, &[1, 3, 0]) == Ok(()));
+    assert!(rt; checker.check(&grid, &three, &[2, 1, 0]) == Err(StepFault::Swap(0, 2)));
+    assert!(rt; checker.check(&grid, &[], &[]) == Ok(()));
 }

@@ -2,7 +2,8 @@
 use Rattle.std.proofs.Common.{◌≡◌, ◌∙◌, sym, refl, Bool, false, List, Option, Some, None, codes, option_map, string_bytes}
 use Rattle.std.specs.Str.{bytes_eq}
 use Rattle.clap.specs.Words.{Row, Text, first_of, found_of, rows_of}
-use Rattle.errands_words.specs.Asked.{has_flag, job_of, run}
+use Rattle.command_words.specs.Values.{has_flag}
+use Rattle.errands_words.specs.Asked.{job_of, run}
 use Rattle.errands_words.proofs.words.job_from.Goals as goal
 
 -- the subcommand by its name and by its rows

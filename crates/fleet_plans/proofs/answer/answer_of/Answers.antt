@@ -5,4 +5,4 @@ pub returns-in-Ok : goal.returns-in-Ok
 returns-in-Ok g c = λ m places is. (c.in-Ok.ensures.valid m places is, c.in-Ok.ensures.report m places is)
 
 pub returns-in-Err : goal.returns-in-Err
-returns-in-Err g c = λ m places is. (c.in-Err.ensures.fault m places is, c.in-Err.ensures.named m places is)
+returns-in-Err g c = λ m places is. c.in-Err.ensures.fault m places is

@@ -7,8 +7,14 @@ use Rattle.fleet_words.proofs.words.parse_words.Goals as goal
 
 pub returns-in_ok-job_from-in-Ok-clause-taken : goal.returns-in_ok-job_from-in-Ok-clause-taken
 returns-in_ok-job_from-in-Ok-clause-taken c =
-    subst (λ (a : App). fault_of a (map (λ w. string_bytes w) c.args.words.now) ≡ []) c.in_ok-command.ensures
-    (c.in-Ok.ensures.kinds (ap is_simple_and_free c.in_ok-command.ensures))
+    let words = map (λ w. string_bytes w) c.args.words.now in
+    subst (λ (a : App). fault_of a words ≡ []) c.program.ensures (c.in-Ok.ensures.taken (ap is_simple_and_free c.program.ensures))
+
+pub returns-in_ok-job_from-in-Ok-clause-job : goal.returns-in_ok-job_from-in-Ok-clause-job
+returns-in_ok-job_from-in-Ok-clause-job c =
+    let words = map (λ w. string_bytes w) c.args.words.now in
+    let met = c.in-Ok.ensures.word (ap is_simple c.program.ensures) ∙ ap (λ (a : App). subcommand_of a words) c.program.ensures in
+    subst (λ (found : Option (Text × List Row)). IsJobOf found c.in_ok-job_from-in-Ok.field-0) met c.in_ok-job_from-in-Ok.ensures
 
 pub returns-in-Err-clause-taken : goal.returns-in-Err-clause-taken
 returns-in-Err-clause-taken c = tt
@@ -18,10 +24,5 @@ returns-in-Err-clause-job c = tt
 
 pub returns-in-Err-clause-refused : goal.returns-in-Err-clause-refused
 returns-in-Err-clause-refused c = λ e.
-    c.fault_from.ensures (c.in-Err.ensures.passes (subst (λ (a : App). takes a (map (λ w. string_bytes w) c.args.words.now) ≡ true) (sym c.in_ok-command.ensures) e))
-
-pub returns-in_ok-job_from-in-Ok-clause-job : goal.returns-in_ok-job_from-in-Ok-clause-job
-returns-in_ok-job_from-in-Ok-clause-job c =
     let words = map (λ w. string_bytes w) c.args.words.now in
-    let met = (c.in-Ok.ensures.matches (ap is_simple c.in_ok-command.ensures)).1 ∙ ap (λ (a : App). subcommand_of a words) c.in_ok-command.ensures in
-    subst (λ (found : Option (Text × List Row)). IsJobOf found c.in_ok-job_from-in-Ok.field-0) met c.in_ok-job_from-in-Ok.ensures
+    c.in-Err.ensures.refused (subst (λ (a : App). takes a words ≡ true) (sym c.program.ensures) e)

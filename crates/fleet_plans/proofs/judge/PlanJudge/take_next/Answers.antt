@@ -1,10 +1,9 @@
 -- One more placement, free of faults or not.
-use Rattle.std.proofs.Common.{◌≡◌, ◌≢◌, ◌≤◌, ℕ, ◌+◌, List, Option, None, Some, refl, ap, ◌∙◌, sym, subst}
+use Rattle.std.proofs.Common.{◌≡◌, ◌≤◌, ℕ, ◌+◌, List, Option, None, Some, refl, ap, ◌∙◌, sym, subst}
 use Rattle.std.specs.Option.{MatchOption}
 use Rattle.fleet_grid.specs.Step.{IsConflictFree}
 use Rattle.fleet_check.specs.Fault.{IsFirstFault}
 use Rattle.fleet_check.specs.declared.fault.StepFault.{StepFault}
-use Rattle.fleet_check.specs.declared.fault.StepFault.TheVariants.{NoMemory}
 use Rattle.fleet_plans.specs.declared.judging.PlanFault.{PlanFault}
 use Rattle.fleet_plans.specs.Judge.{Judged}
 use Rattle.fleet_plans.proofs.Judgings.{judged_at_fault, judged_free, known}
@@ -20,7 +19,7 @@ returns-clause-taken g c = λ m places was.
     let some : 1 ≤ is.count = subst (λ (n : ℕ). 1 ≤ n) (sym (ap (λ (j : Judged). j.count) c.self.view_is)) c.requires.later in
     let free : IsConflictFree is.grid.now is.last.items place =
     subst (λ (from : List ℕ). IsConflictFree is.grid.now from place) c.deref.ensures.value
-    (subst (λ (o : Option StepFault). MatchOption o (IsConflictFree is.grid.now c.deref.result.now place) (λ f. IsFirstFault is.grid.now c.deref.result.now place f × (f ≢ NoMemory))) c.in_default.is c.in_ok-fault.ensures) in
+    (subst (λ (o : Option StepFault). MatchOption o (IsConflictFree is.grid.now c.deref.result.now place) (λ f. IsFirstFault is.grid.now c.deref.result.now place f)) c.in_default.is c.in_ok-fault.ensures) in
     judged_free m places place old new (known m places old c.args.self.now c.self.view_is was) refl refl some none none c.step.ensures.last free c.step.ensures.count c.step.ensures.costs
 
 pub returns-in-Some-clause-taken : goal.returns-in-Some-clause-taken
@@ -32,8 +31,8 @@ returns-in-Some-clause-taken g c = λ m places was.
     let place = c.args.place.now in
     let none : is.fault ≡ None = ap (λ (j : Judged). j.fault) c.self.view_is ∙ c.requires.faultless in
     let some : 1 ≤ is.count = subst (λ (n : ℕ). 1 ≤ n) (sym (ap (λ (j : Judged). j.count) c.self.view_is)) c.requires.later in
-    let first : IsFirstFault is.grid.now c.deref.result.now place c.in-Some.fault × (c.in-Some.fault ≢ NoMemory) =
-    subst (λ (o : Option StepFault). MatchOption o (IsConflictFree is.grid.now c.deref.result.now place) (λ f. IsFirstFault is.grid.now c.deref.result.now place f × (f ≢ NoMemory))) c.in-Some.is c.in_ok-fault.ensures in
+    let first : IsFirstFault is.grid.now c.deref.result.now place c.in-Some.fault =
+    subst (λ (o : Option StepFault). MatchOption o (IsConflictFree is.grid.now c.deref.result.now place) (λ f. IsFirstFault is.grid.now c.deref.result.now place f)) c.in-Some.is c.in_ok-fault.ensures in
     let there : IsFirstFault is.grid.now is.last.items place c.in-Some.fault =
-    subst (λ (from : List ℕ). IsFirstFault is.grid.now from place c.in-Some.fault) c.deref.ensures.value first.0 in
-    judged_at_fault m places place old new (known m places old c.args.self.now c.self.view_is was) refl refl f some none refl refl there first.1
+    subst (λ (from : List ℕ). IsFirstFault is.grid.now from place c.in-Some.fault) c.deref.ensures.value first in
+    judged_at_fault m places place old new (known m places old c.args.self.now c.self.view_is was) refl refl f some none refl refl there

@@ -1,0 +1,12 @@
+-- The word of an argument that may be left out.
+use Rattle.std.proofs.Common.{ap, sym, ◌∙◌, ℕ, List, Some}
+use Rattle.clap.specs.Words.{found_of}
+use Rattle.clap.proofs.WalkLemmas.{first_value-rows}
+use Rattle.command_words.proofs.values.some_word_for.Goals as goal
+
+pub returns-in_ok-from_str-in-Some : goal.returns-in_ok-from_str-in-Some
+returns-in_ok-from_str-in-Some c =
+    sym (first_value-rows (found_of c.args.matches.now) c.args.name.now) ∙ (sym c.in-Some.ensures ∙ ap (λ (t : List ℕ). Some t) (sym c.in_ok-from_str-in-Some.ensures.ok))
+
+pub returns-in-None : goal.returns-in-None
+returns-in-None c = sym (first_value-rows (found_of c.args.matches.now) c.args.name.now) ∙ sym c.in-None.ensures
