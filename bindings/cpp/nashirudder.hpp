@@ -2,9 +2,12 @@
 ** Nashirudder from C++20: a fleet as an object that is moved and never copied. nashirudder.h says what each call does, what
 ** memory it takes, and what holds of threads; this header needs no library of its own.
 **
-**     nashirudder::Fleet fleet(map, {{.cell = 0}, {.cell = 11}});
-**     fleet.go(0, 1, 4);
-**     while (!fleet.is_idle()) fleet.tick();
+**     nashirudder::Fleet fleet(map, {{.cell = 0, .ranks = {}}, {.cell = 11, .ranks = {}}});
+**     if (fleet.go(0, 1, 4).verdict != NASHIRUDDER_ACCEPTED) return 1;
+**     for (auto left = fleet.idle_within().value(); left > 0 && !fleet.is_idle(); left--) fleet.tick();
+**
+** On a map with a bridge idle_within has no value, and a loop that ticks until the fleet is idle may never end. A fleet that
+** runs for long has to begin new chapters and to give clients their notices: bindings/cpp/controller.cpp.
 **
 ** Where the library refuses a call, nashirudder::Refused is thrown, and std::bad_alloc where memory was refused. The fleet
 ** is then as it was before the call. What is no refusal but an answer, as that a client has no notice, is an empty optional.

@@ -6,7 +6,7 @@
 //! let map = "type octile\nheight 1\nwidth 3\nmap\n...\n";
 //! let mut fleet = Fleet::open(map.as_bytes(), &[Robot::at(0)], &Setup::new(1))?;
 //! fleet.go(0, 0, 2)?;
-//! while !fleet.is_idle()? {
+//! for _ in 0..2 {
 //!     fleet.tick()?;
 //! }
 //! assert_eq!(fleet.placement()?, [2]);
