@@ -210,13 +210,6 @@ fn a_thousand_rounds(rt: HostRuntime) {
     }
 }
 
-/// What each end has from the other, which looks at none of it.
-const UNSEEN: [Call; 3] = [
-    Call::Post(GO, Ok(1)),
-    Call::Close(Ok(2)),
-    Call::Give(FIRST, Ok(())),
-];
-
 /// After both ends were looked at together, what they know of each other is taken and collected.
 fn take_what_is_known(rt: &impl Abort, client: &mut Client, hall: &mut HallEnd) {
     assert!(rt; client.number() == 5);
@@ -231,8 +224,10 @@ fn both_ends_in_one_thread(rt: HostRuntime) {
         &rt,
         "memory for lanes",
     );
-    make_calls(&rt, &mut client, &mut hall, &UNSEEN);
+    let posted = [client.post(GO), client.close()];
+    let given = hall.give(FIRST);
     hall.beside(&mut client);
+    assert!(rt; posted == [Ok(1), Ok(2)] && given == Ok(()));
     take_what_is_known(&rt, &mut client, &mut hall);
 }
 
