@@ -6,12 +6,11 @@ next to it, but no other package.
     with Fleet("site.map", robots=[0, 4, 24]) as fleet:
         errand = fleet.go(robot=1, cell=12)
         errand.accepted()                 # its number, or Refused
-        while not errand.arrived():
-            fleet.tick()
-        print(fleet.look().cells)
+        fleet.tick(fleet.look().within)   # as many ticks as are enough, on a map without bridges
+        print(errand.arrived(), fleet.look().cells)
 
-`Fleet` has the names of nashirudder.py, which speaks with the program `fleet talk` over pipes, so a script runs with either. `Handle` has
-the calls of nashirudder.h, one by one.
+`Fleet` has the names of nashirudder.py, which speaks with the program `fleet talk` over pipes. They differ in the numbers and some of the
+names of refusals, and `ties` and `program` are missing here. `Handle` has the calls of nashirudder.h, one by one.
 
 The library is looked for at the path in NASHIRUDDER_LIBRARY, else as libnashirudder.so next to this file, else where the system looks.
 nashirudder.h says what each call does. A call that is refused raises Refused, whose `name` and `code` say why, or MemoryError; the
