@@ -234,7 +234,8 @@ class _Program:
         return Chapter(int(words[1]), int(words[3]))
 
     def close(self) -> None:
-        """Ends the program, which keeps the last chapter if `traces` was given."""
+        """Ends the program, which writes the last chapter if `traces` was given. Look at `status`: it is 3 if a chapter was not written,
+        which raises nothing."""
         if not self._complaints.closed:
             self._end()
 
@@ -256,6 +257,7 @@ class Fleet(_Program):
     a full chapter is followed by the next. `program` is the built program.
 
     Raises Refused with the name of the opening's refusal, as "start" or "shared", and Ended where the map cannot be read.
+    One thread at a time may call its methods; a call that is interrupted leaves the fleet unusable.
     """
 
     def __init__(
@@ -368,7 +370,8 @@ class Fleet(_Program):
     def go(self, robot: int, cell: int, client: int = 0) -> Errand:
         """Asks a robot to come to a cell, after the errands that it has. The verdict is the errand's `accepted`.
 
-        Raises Refused with "lane-full" or "no-client" where the order was not posted.
+        Raises Refused with "lane-full" or "no-client" where the order was not posted. Where `roll` is off it also raises Refused with
+        "chapter-full": then the order is posted, and waits until a later call takes it.
         """
         errand = Errand(self, client, robot, cell)
         self._post(client, f"go {robot} {cell}", errand)
@@ -475,8 +478,8 @@ class LiveFleet(_Program):
     """A fleet that moves by itself, a turn every `period_ms` milliseconds; without it, a turn for each `tick`.
 
     With two `tickers` turns go on while a full chapter is written. `on_tick` is called with the number of each tick and the robots' cells, in
-    a thread of its own. The other words are those of `Fleet`.
-    Each method may be called from any thread.
+    the thread that reads what the fleet says: it may neither call a method of the fleet nor raise. The other words are those of `Fleet`.
+    Each method may be called from any other thread.
 
     Raises Refused with the name of the opening's refusal, as "start" or "shared", and Ended where the map cannot be read.
     """
