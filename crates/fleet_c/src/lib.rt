@@ -8,7 +8,6 @@ mod edge;
 mod fault;
 mod handle;
 mod judgement;
-mod laws;
 mod life;
 mod mailboxes;
 mod maps;

@@ -8,7 +8,6 @@ ghost use Rattle.fleet_map.specs.FirstFault.{IsFirstFault};
 ghost use Rattle.fleet_c.specs.Forms.{starts_of, laws_of_robots};
 ghost use Rattle.fleet_c.specs.Opening.{Reads, IsAtOpening, IsOpened, IsRefusal, IsRefusedOn};
 
-use crate::laws::are_of;
 use crate::refusal::Refusal;
 use crate::robot::Robot;
 use crate::setup::Setup;
@@ -81,17 +80,11 @@ fn opened(
 {
     let mut hooks = Hooks::new(alloc);
     for robot in robots {
-        // Where memory is refused an answer is missing, which shows below.
-        let _ = hooks.push(
+        hooks.push(
             TieHook::fixed(robot.ranks),
             ArrivalHook::fixed(0),
             Farewell::fixed(0),
-        );
-    }
-    if !are_of(&hooks, robots) {
-        drop(hooks);
-        drop(grid);
-        return Err(Refusal::NoMemory);
+        )?;
     }
     core_of(alloc, grid, starts, robots, setup, hooks)
 }

@@ -1,12 +1,13 @@
 -- What a map and a trace come to as a plan.
-use Rattle.std.specs.Prelude.{◌≡◌, ℕ, List, Ok}
+use Rattle.std.specs.Prelude.{◌≡◌, ◌≢◌, ℕ, List, Ok, Err}
 use Rattle.std.specs.declared.alloc.Global.{Global}
-use Rattle.fleet_map.specs.Grammar.{Map, Fails, map_of}
+use Rattle.fleet_map.specs.Grammar.{Map, map_of}
 use Rattle.fleet_grid.specs.Floor.{Floor, floor_of}
 use Rattle.fleet_history.specs.History.{History}
 use Rattle.fleet_history.specs.Legal.{IsLegal}
 use Rattle.fleet_trace.specs.Trace.{Trace}
 use Rattle.fleet_trace.specs.Reads.{Tells, IsTraceFault}
+use Rattle.fleet_trace.specs.declared.fault.TraceFault.TheVariants as trace_fault
 use Rattle.fleet_trace.specs.Judged.{IsFirstIllegal}
 use Rattle.fleet_convert.specs.declared.conversion.PlanForm.{PlanForm}
 use Rattle.fleet_convert.specs.declared.conversion.PlanForm.TheVariants.{Pibt2, Moves, Runners}
@@ -55,9 +56,9 @@ IsMapRead map = (floor : Map) × (map_of map ≡ Ok floor)
 abbrev pub IsIllegalOn : List ℕ → List ℕ → ℕ → ℕ → Type 0
 IsIllegalOn map trace at rule = (floor : Map) × (map_of map ≡ Ok floor) × (told : Trace Global) × Tells trace told × IsFirstIllegal (floor_of_map floor) told.history at rule
 
--- why there is no text, unless memory ran out: the map, the trace, the first entry that breaks a rule
+-- why there is no text: the map, the trace, the first entry that breaks a rule; that memory ran out is a fault of its own
 abbrev pub IsUnconverted : List ℕ → List ℕ → ConvertFault → Type 0
-IsUnconverted map trace (fault.Map f) = Fails f (map_of map)
-IsUnconverted map trace (fault.Trace f) = IsMapRead map × IsTraceFault trace f
+IsUnconverted map trace (fault.Map f) = map_of map ≡ Err f
+IsUnconverted map trace (fault.Trace f) = IsMapRead map × IsTraceFault trace f × (f ≢ trace_fault.NoMemory)
 IsUnconverted map trace (fault.Illegal at rule) = IsIllegalOn map trace at rule
 IsUnconverted map trace fault.NoMemory = Unit {0}

@@ -1,8 +1,17 @@
-//! Tests of traces: they are written, read back and judged; truncated and hostile ones too. The second judge finds planted faults.
+//! Tests of traces and plans. Traces are written, read back and judged; truncated and hostile ones too, and the second
+//! judge finds planted faults. Plans of other planners are judged, traces are turned into plans, and faults are explained.
 #![tactic(auto)]
 
 #[cfg(test)]
+mod conversions;
+#[cfg(test)]
+mod explanations;
+#[cfg(test)]
 mod judged;
+#[cfg(test)]
+mod plan_judge;
+#[cfg(test)]
+mod plan_texts;
 #[cfg(test)]
 mod planted;
 #[cfg(test)]

@@ -150,8 +150,22 @@ const CLOCK_SPENT_LATE: Row = Row {
     ..STANDOFF
 };
 
+/// The two tickers make two ticks, and 1,000,000 further turns one each: the last of them is a tick too many.
+const CLOCK_SPENT_LAST: Row = Row {
+    name: "clock_spent_at_the_last_turn",
+    script: b"robots 0 2\nturns 1\nmailbox 2\nclock 1000001\nchapter 2000000\npost 0 go 0 2\npost 0 go 1 0\n",
+    ..STANDOFF
+};
+
+/// With a tick more for the clock, the further turns are given up.
+const GIVEN_UP: Row = Row {
+    name: "never_drained_by_the_last_turn",
+    script: b"robots 0 2\nturns 1\nmailbox 2\nclock 1000002\nchapter 2000000\npost 0 go 0 2\npost 0 go 1 0\n",
+    ..STANDOFF
+};
+
 /// All cases.
-pub(crate) const ROWS: [Row; 13] = [
+pub(crate) const ROWS: [Row; 15] = [
     SIDE_BY_SIDE,
     LANE_OF_ONE,
     IDLE_AT_THE_END,
@@ -165,4 +179,6 @@ pub(crate) const ROWS: [Row; 13] = [
     IDLE_IN_TIME,
     CHAPTER_FULL,
     CLOCK_SPENT_LATE,
+    CLOCK_SPENT_LAST,
+    GIVEN_UP,
 ];
