@@ -19,14 +19,15 @@
 **
 ** LISTS
 **     A list is a pointer and then the number of its items. The pointer is never null, even where the list is empty. The
-**     items of a list that is written must not overlap those of another argument.
+**     items of a list that is written must not overlap those of another argument. No other pointer may be null either:
+**     each call writes or reads what its pointers lead to.
 **
 ** MEMORY
 **     The library takes memory by malloc and realloc and gives it back by free. All that it took for a fleet is free after
 **     nashirudder_close. Where memory is refused the call answers NASHIRUDDER_NO_MEMORY; no call ends the program.
 **
 ** THREADS
-**     One call at a time on a handle. A handle may move from thread to thread, and calls on different handles may run side
+**     One call at a time on a handle, the views included: they write the handle too. A handle may move from thread to thread, and calls on different handles may run side
 **     by side. No call starts a thread, waits for a lock, or may be made from a signal handler.
 **
 ** REFUSALS

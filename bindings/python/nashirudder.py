@@ -5,9 +5,10 @@
     with Fleet("site.map", robots=[0, 4, 24]) as fleet:
         errand = fleet.go(robot=1, cell=12)
         errand.accepted()                 # its number, or Refused
-        while not errand.arrived():       # Refused, if it was withdrawn
-            fleet.tick()
-        print(fleet.look().cells)
+        fleet.tick(fleet.look().within)   # as many ticks as are enough, on a map without bridges
+        print(errand.arrived(), fleet.look().cells)
+
+On a map with a bridge `within` is None, and a loop that waits for an arrival may never end. `controller.py`, next to this file, is a fleet that runs for months.
 
 The fleet stands still until `tick` is called. One that moves by itself is a `LiveFleet`, which `fleet live` keeps:
 

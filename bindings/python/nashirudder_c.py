@@ -6,9 +6,8 @@ next to it, but no other package.
     with Fleet("site.map", robots=[0, 4, 24]) as fleet:
         errand = fleet.go(robot=1, cell=12)
         errand.accepted()                 # its number, or Refused
-        while not errand.arrived():
-            fleet.tick()
-        print(fleet.look().cells)
+        fleet.tick(fleet.look().within)   # as many ticks as are enough, on a map without bridges
+        print(errand.arrived(), fleet.look().cells)
 
 `Fleet` has the names of nashirudder.py, which speaks with the program `fleet talk` over pipes: a script that names no `ties`, `program` or
 `timeout` runs with either, but the names and codes of refusals are those of nashirudder.h here. `Handle` has the calls of nashirudder.h, one by one.
