@@ -1,20 +1,20 @@
 //! Does what the program `errands` does, with any readers and writers: the answers to the files of a job, with the
-//! program's own closures, and its status.
+//! program's own hooks, and its status.
 #![tactic(auto)]
 
 mod answer;
-mod closures;
+mod hooks;
 mod inputs;
 mod program;
 mod service;
 mod words;
 
-pub use closures::run_with_kit;
 pub use errands_answer::HookKit;
 pub use errands_text::{InputFault, read_whole, write_whole};
 pub use errands_words::{Job, WordFault, parse_words};
 pub use fleet_script::{Script, ScriptFault, read_script};
 pub use fleet_serve::{Gate, ServeFault, Served, serve};
+pub use hooks::run_with_kit;
 pub use inputs::Inputs;
 pub use program::{fail, run_plain, run_program};
 pub use words::{refuse_words, run_words};

@@ -6,7 +6,7 @@ ghost use Rattle.errands_lib.specs.Inputs.{DoesJob, DoesWords, Refuses};
 ghost use Rattle.errands_lib.specs.Laws.{program_laws};
 ghost use Rattle.errands_lib.specs.Told.{IsShown, names_two};
 
-use crate::closures::run_with_kit;
+use crate::hooks::run_with_kit;
 use crate::inputs::{Inputs, open_both};
 use crate::program::fail;
 use errands_text::{InputFault, write_whole};

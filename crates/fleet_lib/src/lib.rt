@@ -2,12 +2,10 @@
 #![tactic(auto)]
 
 mod check;
-mod closures;
 mod convert;
 mod explain;
 mod input;
 mod live;
-mod live_closures;
 mod said;
 mod talk;
 mod view;

@@ -4,14 +4,16 @@ ghost use Rattle.std.specs.Prelude.{◌≡◌, ◌≤◌, ◌<◌, ◌⊎◌, �
 ghost use Rattle.fleet_map.specs.Text.{number_of};
 
 use crate::input::InputFault;
-use crate::live_closures::keep_with_closures;
 use crate::said::fail;
 use crate::talk::{TalkTexts, complain, complaint_of, grounds};
+use errands_answer::HookKit;
 use errands_text::{Complaint, write_whole};
-use fleet_live::{LiveEnds, LiveSettings, read_period};
+use fleet_grid::Grid;
+use fleet_hooks::{ArrivalHook, Farewell, Hooks, TieHook};
+use fleet_live::{LiveEnds, LiveSettings, keep_live, read_period};
 use fleet_map::text::number_up_to;
 use fleet_script::Head;
-use fleet_talk::{MOST_ROBOTS, Shelf};
+use fleet_talk::{Ground, MOST_ROBOTS, Shelf, TalkFault};
 use fleet_words::Live;
 use std::alloc::{Alloc, AllocError, Global};
 use std::io::{Read, Write};
@@ -121,6 +123,41 @@ fn complain_of_word<E: Write>(word: BadWord, error: &mut E) -> u8 {
     2
 }
 
+/// Keeps a fleet with the hooks of `errands run`, for as many robots as it may have.
+fn keep_with_hooks<
+    R: Alloc<A = Global> + Clock + Threads + Sync + Wait + Copy + Send + Drop + 'static,
+    I: Read + Send + Drop + 'static,
+    W: Write + Send + Drop + 'static,
+    P: Read + Send + Drop + 'static,
+    Q: Write + Send + Drop + 'static,
+    E: Write + Send + Drop + 'static,
+    S: Shelf + Send + Drop,
+>(
+    rt: &R,
+    grid: Grid,
+    head: Head,
+    settings: LiveSettings,
+    ends: LiveEnds<I, W, P, Q, E, S>,
+) -> Result<bool, TalkFault> {
+    let alloc = rt.alloc();
+    let plain = Hooks::alike(
+        alloc,
+        MOST_ROBOTS,
+        TieHook::fixed([0; 4]),
+        ArrivalHook::fixed(0),
+        Farewell::fixed(0),
+    )?;
+    let south = Hooks::alike(
+        alloc,
+        MOST_ROBOTS,
+        TieHook::south_first(),
+        ArrivalHook::by_tick(),
+        Farewell::by_cell(),
+    )?;
+    let kit = HookKit { plain, south };
+    keep_live(rt, Ground { grid, kit, head }, settings, ends)
+}
+
 /// Keeps a fleet on the map in real time, or on demand. Returns the status: 0 good, 2 a word is wrong, 3 a line could
 /// not be read, or an answer or a chapter not written, 4 the map, 5 the script or the opening is refused, 7 out of
 /// memory, 8 a limit was met.
@@ -149,7 +186,7 @@ pub fn run_live<
     if let Err(word) = add_words(alloc, &mut head, live) {
         return complain_of_word(word, error);
     }
-    match keep_with_closures(rt, grid, head, settings, ends) {
+    match keep_with_hooks(rt, grid, head, settings, ends) {
         Ok(false) => 0,
         Ok(true) => complain(alloc, Complaint::Limit, error),
         Err(fault) => complain(alloc, complaint_of(fault), error),

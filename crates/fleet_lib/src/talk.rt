@@ -2,14 +2,15 @@
 
 ghost use Rattle.std.specs.Prelude.{◌≤◌, length};
 
-use crate::closures::converse_with_closures;
 use crate::input::InputFault;
 use crate::said::fail;
+use errands_answer::HookKit;
 use errands_text::{Complaint, write_whole};
 use fleet_grid::Grid;
+use fleet_hooks::{ArrivalHook, Farewell, Hooks, TieHook};
 use fleet_map::{MapFault, read_map};
 use fleet_script::{Head, ScriptFault};
-use fleet_talk::{Ends, Settings, Shelf, TalkFault, read_head};
+use fleet_talk::{Ends, Ground, MOST_ROBOTS, Settings, Shelf, TalkFault, converse, read_head};
 use std::alloc::{Alloc, AllocError, Global};
 use std::io::{Read, Write};
 
@@ -60,6 +61,33 @@ pub(crate) fn grounds(alloc: Global, texts: TalkTexts<'_>) -> Result<(Grid, Head
     }
 }
 
+/// Holds a conversation with the hooks of `errands run`, for as many robots as it may have.
+fn converse_with_hooks<R: Alloc<A = Global>, I: Read, W: Write, S: Shelf>(
+    rt: &R,
+    grid: Grid,
+    head: Head,
+    settings: Settings,
+    ends: &mut Ends<I, W, S>,
+) -> Result<bool, TalkFault> {
+    let alloc = rt.alloc();
+    let plain = Hooks::alike(
+        alloc,
+        MOST_ROBOTS,
+        TieHook::fixed([0; 4]),
+        ArrivalHook::fixed(0),
+        Farewell::fixed(0),
+    )?;
+    let south = Hooks::alike(
+        alloc,
+        MOST_ROBOTS,
+        TieHook::south_first(),
+        ArrivalHook::by_tick(),
+        Farewell::by_cell(),
+    )?;
+    let kit = HookKit { plain, south };
+    converse(rt, Ground { grid, kit, head }, settings, ends)
+}
+
 /// Holds a conversation on the map. Returns the status: 0 good, 3 a line could not be read, or an answer or a chapter
 /// not written, 4 the map, 5 the script or the opening is refused, 7 out of memory, 8 a limit was met.
 pub fn run_talk<R: Alloc<A = Global>, I: Read, W: Write, S: Shelf, E: Write>(
@@ -76,7 +104,7 @@ pub fn run_talk<R: Alloc<A = Global>, I: Read, W: Write, S: Shelf, E: Write>(
         Ok(grounds) => grounds,
         Err(complaint) => return complain(alloc, complaint, error),
     };
-    match converse_with_closures(rt, grid, head, settings, ends) {
+    match converse_with_hooks(rt, grid, head, settings, ends) {
         Ok(false) => 0,
         Ok(true) => complain(alloc, Complaint::Limit, error),
         Err(fault) => complain(alloc, complaint_of(fault), error),
