@@ -8,6 +8,10 @@ import tempfile
 import time
 
 
+# what a keyboard sends for keys that are no letters
+CODES = {'Tab': 9, 'Enter': 13, 'Escape': 27, 'End': 35, 'Home': 36, 'ArrowLeft': 37, 'ArrowRight': 39}
+
+
 class Failure(Exception):
     """Chromium did not answer, or answered with an error."""
 
@@ -118,19 +122,65 @@ class Chromium:
         return answer['result'].get('value')
 
     def key(self, name, code=None, shift=False):
-        press = {'key': name, 'code': code or name, 'modifiers': 8 if shift else 0}
+        number = CODES.get(name, ord(name.upper()) if len(name) == 1 else 0)
+        press = {'key': name, 'code': code or name, 'modifiers': 8 if shift else 0, 'windowsVirtualKeyCode': number}
         if len(name) == 1:
             press['text'] = name
         self.send('Input.dispatchKeyEvent', type='keyDown', **press)
         self.send('Input.dispatchKeyEvent', type='keyUp', **press)
 
-    def click(self, selector):
-        box = self.run(f'(() => {{ const b = document.querySelector({json.dumps(selector)}).getBoundingClientRect(); return [b.left + b.width / 2, b.top + b.height / 2]; }})()')
-        for kind in ('mousePressed', 'mouseReleased'):
-            self.send('Input.dispatchMouseEvent', type=kind, x=box[0], y=box[1], button='left', clickCount=1)
+    def middle_of(self, selector):
+        return self.run(f'(() => {{ const b = document.querySelector({json.dumps(selector)}); b.scrollIntoView({{block: "nearest"}}); const r = b.getBoundingClientRect(); return [r.left + r.width / 2, r.top + r.height / 2]; }})()')
 
-    def size(self, width, height):
-        self.send('Emulation.setDeviceMetricsOverride', width=width, height=height, deviceScaleFactor=1, mobile=False)
+    def mouse(self, kind, x, y):
+        self.send('Input.dispatchMouseEvent', type=kind, x=x, y=y, button='left', buttons=0 if kind == 'mouseReleased' else 1, clickCount=1)
+
+    def press(self, x, y):
+        self.mouse('mousePressed', x, y)
+        self.mouse('mouseReleased', x, y)
+
+    def click(self, selector):
+        self.press(*self.middle_of(selector))
+
+    def drag(self, selector, right, down):
+        x, y = self.middle_of(selector)
+        self.mouse('mousePressed', x, y)
+        for part in (0.1, 0.5, 1):
+            self.mouse('mouseMoved', x + right * part, y + down * part)
+        self.mouse('mouseReleased', x + right, y + down)
+
+    def touch(self, on):
+        self.send('Emulation.setTouchEmulationEnabled', enabled=on, maxTouchPoints=5)
+
+    def fingers(self, kind, *places):
+        self.send('Input.dispatchTouchEvent', type=kind, touchPoints=[{'x': x, 'y': y, 'id': number} for number, (x, y) in enumerate(places)])
+
+    def swipe(self, start, end):
+        self.fingers('touchStart', start)
+        for step in range(1, 11):
+            self.fingers('touchMove', tuple(a + (b - a) * step / 10 for a, b in zip(start, end)))
+            time.sleep(0.02)
+        self.fingers('touchEnd')
+
+    def pinch(self, middle, start, end):
+        """Two fingers, each so far from the middle, move to another distance."""
+        x, y = middle
+        pair = lambda far: ((x - far, y), (x + far, y))
+        self.fingers('touchStart', pair(start)[0])
+        self.fingers('touchStart', *pair(start))
+        for step in range(1, 11):
+            self.fingers('touchMove', *pair(start + (end - start) * step / 10))
+            time.sleep(0.02)
+        self.fingers('touchEnd')
+
+    def size(self, width, height, mobile=False):
+        self.send('Emulation.setDeviceMetricsOverride', width=width, height=height, deviceScaleFactor=1, mobile=mobile)
+
+    def reload(self, seconds=60):
+        self.loaded = False
+        self.send('Page.reload')
+        while not self.loaded:
+            self.wait_for(lambda message: message.get('method') == 'Page.loadEventFired', seconds, 'load')
 
     def scheme(self, name):
         self.send('Emulation.setEmulatedMedia', features=[{'name': 'prefers-color-scheme', 'value': name}])

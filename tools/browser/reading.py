@@ -43,7 +43,7 @@ class Standing:
         self.arrivals += len(arrived)
         self.waits = [None if wait is None else wait + 1 for wait in self.waits]
         for robot in self.arrived:
-            self.queues[robot].pop(0)
+            del self.queues[robot][:1]
             self.waits[robot] = 0 if self.queues[robot] else None
 
     def eldest(self):

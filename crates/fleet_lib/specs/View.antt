@@ -20,12 +20,14 @@ abbrev pub fault_text : ViewFault → List ℕ
 fault_text (fault.Map f) = complaint_text (complaint.Map f)
 fault_text (fault.Trace f) = complaint_text (complaint.Trace f)
 fault_text (fault.Chapter number) = codes "chapter " ++ decimal number
+fault_text (fault.OffMap number) = codes "off-map " ++ decimal number
 fault_text fault.NoMemory = complaint_text complaint.Memory
 
 abbrev pub fault_status : ViewFault → ℕ
 fault_status (fault.Map f) = 4
 fault_status (fault.Trace f) = 6
 fault_status (fault.Chapter number) = 6
+fault_status (fault.OffMap number) = 6
 fault_status fault.NoMemory = 7
 
 abbrev pub faulty : ViewFault → Outcome

@@ -33,6 +33,7 @@ impl fmt::Display for FaultText {
                 write!(f, "{complaint}")
             }
             ViewFault::Chapter(number) => write!(f, "chapter {number}"),
+            ViewFault::OffMap(number) => write!(f, "off-map {number}"),
             ViewFault::NoMemory => f.write_str("memory"),
         }
     }
@@ -44,7 +45,7 @@ fn status_of(fault: ViewFault) -> u8
 {
     match fault {
         ViewFault::Map(_) => 4,
-        ViewFault::Trace(_) | ViewFault::Chapter(_) => 6,
+        ViewFault::Trace(_) | ViewFault::Chapter(_) | ViewFault::OffMap(_) => 6,
         ViewFault::NoMemory => 7,
     }
 }

@@ -21,6 +21,9 @@ use Rattle.fleet_map.specs.Grammar.{Map, is_letter}
 use Rattle.fleet_map.specs.Shape.{IsMapText, IsRow}
 use Rattle.fleet_trace.specs.Trace.{Trace}
 use Rattle.fleet_trace.specs.Text.{counted, client_data, errand_data, wait_data, robot_data, opening_data, order_data, verdict_data, arrival_data, bye_data, entry_data, trace_data, trace_text}
+use Rattle.fleet_view.specs.declared.verdict.ChapterVerdict.{ChapterVerdict}
+use Rattle.fleet_view.specs.declared.verdict.ChapterVerdict.TheVariants.{Legal, Illegal}
+use Rattle.fleet_view.specs.Verdicts.{verdict_text, verdicts_text}
 use Rattle.fleet_view.specs.Page.{rows_text, map_text, chapters_text}
 use Rattle.fleet_view.specs.Closed.{is_other, HasNoTag}
 
@@ -158,6 +161,19 @@ closed-trace t = closed (trace_data t) (plain-trace t)
 pub closed-chapters : {A : Type 0} (ts : List (Trace A)) → HasNoTag (chapters_text ts)
 closed-chapters [] = refl
 closed-chapters (t ∷ ts) = both (trace_text t ++ codes "\n") (chapters_text ts) (both (trace_text t) (codes "\n") (closed-trace t) refl) (closed-chapters ts)
+
+-- ---- verdicts
+
+closed-verdict : (v : ChapterVerdict) → HasNoTag (verdict_text v)
+closed-verdict Legal = refl
+closed-verdict (Illegal at rule) =
+    let begun = both (codes "illegal ") (decimal at) refl (decimal-closed at) in
+    let named = both (codes "illegal " ++ decimal at ++ codes " ") (decimal rule) (both (codes "illegal " ++ decimal at) (codes " ") begun refl) (decimal-closed rule) in
+    both (codes "illegal " ++ decimal at ++ codes " " ++ decimal rule) (codes "\n") named refl
+
+pub closed-verdicts : (vs : List ChapterVerdict) → HasNoTag (verdicts_text vs)
+closed-verdicts [] = refl
+closed-verdicts (v ∷ vs) = both (verdict_text v) (verdicts_text vs) (closed-verdict v) (closed-verdicts vs)
 
 -- ---- maps
 

@@ -1,4 +1,6 @@
 pub mod Rows
 pub mod Tellings
+pub mod Verdicts
+pub mod Made
 pub mod Pieces
 pub mod Closed

@@ -2,8 +2,10 @@
 use Rattle.std.proofs.Common.{◌≡◌, ◌∙◌, ℕ, suc, ◌+◌, ◌-◌, ◌*◌, ◌<◌, List, ◌++◌, length, take, drop, length-drop, sym, ap, subst, refl, codes, arith, append_assoc}
 use Rattle.fleet_trace.specs.Trace.{Trace}
 use Rattle.fleet_map.specs.Grammar.{Map}
+use Rattle.fleet_view.specs.declared.verdict.ChapterVerdict.{ChapterVerdict}
+use Rattle.fleet_view.specs.Verdicts.{verdicts_text}
 use Rattle.fleet_view.specs.Page.{rows_text, chapters_text, page_text}
-use Rattle.fleet_view.specs.declared.frame.TheConstants.{HEAD, MIDDLE}
+use Rattle.fleet_view.specs.declared.frame.TheConstants.{HEAD, VERDICTS, TRACES}
 use Rattle.fleet_view.specs.declared.script.TheConstants.{TAIL}
 
 module _ (n k width : ℕ) (less : k < n) where
@@ -24,7 +26,7 @@ module _ (n k width : ℕ) (less : k < n) where
       ap length behind-is ∙ length-drop width rest ∙ omega (arith, all)
 
 -- the pieces of a page, one written after the other
-pub page-is : {A : Type 0} (m : Map) (ts : List (Trace A)) (head a b cells c middle d e tail : List ℕ) → a ≡ head → head ≡ HEAD.now → b ≡ a ++ rows_text m.height m.width cells → cells ≡ m.cells → c ≡ b ++ middle → middle ≡ MIDDLE.now
-    → d ≡ c ++ chapters_text ts → e ≡ d ++ tail → tail ≡ TAIL.now → e ≡ page_text m ts
-page-is m ts head a b cells c middle d e tail a-is head-is b-is cells-is c-is middle-is d-is e-is tail-is =
-    rw (e-is, tail-is, d-is, c-is, middle-is, b-is, cells-is, a-is, head-is) refl
+pub page-is : {A : Type 0} (m : Map) (vs : List ChapterVerdict) (ts : List (Trace A)) (head a b cells c before d e middle f g tail : List ℕ) → a ≡ head → head ≡ HEAD.now → b ≡ a ++ rows_text m.height m.width cells → cells ≡ m.cells
+    → c ≡ b ++ before → before ≡ VERDICTS.now → d ≡ c ++ verdicts_text vs → e ≡ d ++ middle → middle ≡ TRACES.now → f ≡ e ++ chapters_text ts → g ≡ f ++ tail → tail ≡ TAIL.now → g ≡ page_text m vs ts
+page-is m vs ts head a b cells c before d e middle f g tail a-is head-is b-is cells-is c-is before-is d-is e-is middle-is f-is g-is tail-is =
+    rw (g-is, tail-is, f-is, e-is, middle-is, d-is, c-is, before-is, b-is, cells-is, a-is, head-is) refl

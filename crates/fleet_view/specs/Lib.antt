@@ -1,5 +1,7 @@
+pub mod Verdicts
 pub mod Page
 pub mod Chapters
+pub mod Cells
 pub mod Picture
 pub mod View
 pub mod Closed

@@ -4,8 +4,10 @@ use Rattle.std.specs.List.{flat_map}
 use Rattle.fleet_map.specs.Grammar.{Map}
 use Rattle.fleet_trace.specs.Trace.{Trace}
 use Rattle.fleet_trace.specs.Text.{trace_text}
-use Rattle.fleet_view.specs.declared.frame.TheConstants.{HEAD, MIDDLE}
+use Rattle.fleet_view.specs.declared.frame.TheConstants.{HEAD, VERDICTS, TRACES}
 use Rattle.fleet_view.specs.declared.script.TheConstants.{TAIL}
+use Rattle.fleet_view.specs.declared.verdict.ChapterVerdict.{ChapterVerdict}
+use Rattle.fleet_view.specs.Verdicts.{verdicts_text}
 
 -- n rows of this width, a line each
 abbrev pub rows_text : ℕ → ℕ → List ℕ → List ℕ
@@ -20,6 +22,6 @@ map_text m = rows_text m.height m.width m.cells
 abbrev pub chapters_text : {A : Type 0} → List (Trace A) → List ℕ
 chapters_text ts = flat_map (λ t. trace_text t ++ codes "\n") ts
 
--- the page of a map and traces on it
-abbrev pub page_text : {A : Type 0} → Map → List (Trace A) → List ℕ
-page_text m ts = HEAD.now ++ map_text m ++ MIDDLE.now ++ chapters_text ts ++ TAIL.now
+-- the page of a map and of traces on it, with these verdicts
+abbrev pub page_text : {A : Type 0} → Map → List ChapterVerdict → List (Trace A) → List ℕ
+page_text m vs ts = HEAD.now ++ map_text m ++ VERDICTS.now ++ verdicts_text vs ++ TRACES.now ++ chapters_text ts ++ TAIL.now

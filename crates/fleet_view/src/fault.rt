@@ -13,6 +13,9 @@ pub enum ViewFault {
     Trace(TraceFault),
     /// The trace with this number, from 1, does not continue the one before it.
     Chapter(u64),
+    /// The trace with this number, from 1, is the first that has a cell which the map does not have: in its opening the
+    /// cell of a robot or of an errand, or a cell of a tick.
+    OffMap(u64),
     NoMemory,
 }
 

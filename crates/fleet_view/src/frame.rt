@@ -1,4 +1,4 @@
-//! What stands before and between the map and the traces. Written by `tools/view/embed --write` from `tools/view`.
+//! What stands before and between the map, the verdicts and the traces. Written by `tools/view/embed --write` from `tools/view`.
 
 /// The page up to the map.
 pub(crate) const HEAD: &str = r##"<!doctype html>
@@ -11,14 +11,14 @@ pub(crate) const HEAD: &str = r##"<!doctype html>
 :root {
   color-scheme: light dark;
   --page: #f4f5f8; --card: #ffffff; --ink: #1b2430; --soft: #5d6878; --line: #d9dee6;
-  --floor: #ffffff; --wall: #b9c2cf; --shelf: #cfd6e0; --grid: #e6eaf0; --idle: #97a1af;
-  --accent: #2563eb; --mark: #c2410c; --heat: 194, 65, 12;
+  --floor: #ffffff; --wall: #6b7789; --shelf: #7f9488; --grid: #e6eaf0; --idle: #7b8696;
+  --accent: #2563eb; --mark: #b43c0a; --fault: #d40000; --heat: 194, 65, 12;
 }
 @media (prefers-color-scheme: dark) {
   :root {
     --page: #11151b; --card: #191f28; --ink: #e7eaf0; --soft: #9aa5b5; --line: #2c3542;
-    --floor: #1b222c; --wall: #3c4757; --shelf: #323c4a; --grid: #262f3b; --idle: #6d7888;
-    --accent: #7aa7ff; --mark: #fb923c; --heat: 251, 146, 60;
+    --floor: #1b222c; --wall: #68758a; --shelf: #5f7d6e; --grid: #262f3b; --idle: #9aa4b2;
+    --accent: #7aa7ff; --mark: #fb923c; --fault: #ff5a52; --heat: 251, 146, 60;
   }
 }
 * { box-sizing: border-box; }
@@ -32,15 +32,41 @@ main { display: grid; grid-template-columns: minmax(0, 1fr) 360px; gap: 14px; pa
 @media (max-width: 900px) { main { grid-template-columns: minmax(0, 1fr); } }
 aside { display: flex; flex-direction: column; gap: 14px; min-width: 0; }
 .card { background: var(--card); border: 1px solid var(--line); border-radius: 10px; padding: 12px; min-width: 0; }
-#map { display: block; width: 100%; border-radius: 6px; background: var(--floor); cursor: grab; touch-action: none; }
+#map { display: block; width: 100%; border-radius: 6px; background: var(--floor); cursor: grab; }
 #map.held { cursor: grabbing; }
 :focus-visible { outline: 2px solid var(--accent); outline-offset: 2px; }
-.zoom { display: inline-flex; gap: 4px; }
-.zoom button { padding: 1px 9px; }
+.together { display: inline-flex; gap: 4px; align-items: center; }
+.together button { padding: 1px 9px; }
+.banner { max-width: 1568px; margin: 14px auto 0; padding: 10px 14px; border: 2px solid var(--fault); border-radius: 10px; background: var(--card); }
+@media (max-width: 1600px) { .banner { margin: 14px 16px 0; } }
+.banner p + p { margin-top: 6px; }
+.track { position: relative; display: flex; flex: 1; min-width: 120px; }
+#marks span { position: absolute; top: -3px; bottom: -3px; left: calc(8px + (100% - 16px) * var(--part) - 1.5px); width: 3px; background: var(--fault); pointer-events: none; }
+#speed { min-width: 108px; text-align: center; font-variant-numeric: tabular-nums; }
+.robot { display: flex; gap: 10px; align-items: center; margin-top: 4px; }
+#unpick { flex: none; white-space: nowrap; }
+.legend { display: flex; flex-wrap: wrap; gap: 4px 16px; margin: 8px 0 0; padding: 0; list-style: none; font-size: 12.5px; color: var(--soft); }
+.legend li { display: inline-flex; gap: 6px; align-items: center; }
+.sign { display: inline-block; width: 13px; height: 13px; flex: none; }
+.sign.disc { border-radius: 50%; background: hsl(0 62% 46%); }
+.sign.idle { background: var(--idle); }
+.sign.shut { background: hsl(0 62% 46%); border-bottom: 4px solid var(--ink); }
+.sign.goal { border: 2px solid hsl(0 62% 46%); }
+.sign.eldest { outline: 2px solid var(--ink); outline-offset: 1px; }
+.sign.arrives { outline: 2px solid hsl(0 62% 46%); outline-offset: 2px; }
+.sign.wall { background: var(--wall); }
+.sign.shelf { background: var(--shelf); }
+dialog { color: var(--ink); background: var(--card); border: 1px solid var(--line); border-radius: 10px; max-width: 560px; }
+dialog::backdrop { background: rgb(0 0 0 / 45%); }
+.keys th, .keys td { text-align: left; white-space: normal; padding: 4px 10px 4px 0; }
+.keys th { color: var(--ink); white-space: nowrap; }
+dialog form { margin-top: 10px; }
+.told { float: right; font-weight: 400; }
+.pick { padding: 0 6px; border-color: transparent; background: none; }
 .bar { display: flex; flex-wrap: wrap; gap: 8px 14px; align-items: center; margin-top: 10px; }
-.bar input[type="range"] { flex: 1; min-width: 120px; accent-color: var(--accent); }
+.bar input[type="range"] { flex: 1; min-width: 120px; margin: 0; accent-color: var(--accent); }
 #clock { font-variant-numeric: tabular-nums; min-width: 130px; text-align: right; }
-#hover { margin-left: auto; font-variant-numeric: tabular-nums; }
+#hover { min-height: 1.45em; margin-top: 8px; font-variant-numeric: tabular-nums; }
 #keys { margin-top: 8px; font-size: 12.5px; }
 button, select { font: inherit; padding: 3px 11px; border: 1px solid var(--line); border-radius: 7px; background: var(--page); color: var(--ink); cursor: pointer; }
 button:hover { border-color: var(--accent); }
@@ -49,7 +75,7 @@ label { display: inline-flex; gap: 5px; align-items: center; }
 .figures dt { color: var(--soft); font-size: 12.5px; }
 .figures dd { margin: 0; font-size: 22px; font-weight: 600; font-variant-numeric: tabular-nums; }
 #bound { font-size: 12.5px; margin-top: 6px; }
-.curve { display: block; width: 100%; height: 92px; }
+.chart { cursor: pointer; display: block; width: 100%; height: 92px; }
 .scroll { overflow: auto; max-height: 170px; margin: 0; padding: 0; }
 .tall { max-height: 330px; }
 #entries { list-style: none; font-size: 12.5px; min-height: 3em; }
@@ -60,16 +86,26 @@ th, td { text-align: right; padding: 2px 6px; border-bottom: 1px solid var(--lin
 th { color: var(--soft); font-weight: 500; }
 thead th { position: sticky; top: 0; background: var(--card); }
 td:last-child, th:last-child { text-align: left; }
+tbody tr { cursor: pointer; }
 tr.eldest > * { background: color-mix(in srgb, var(--accent) 14%, transparent); }
+tr.picked > * { background: color-mix(in srgb, var(--accent) 30%, transparent); }
 .dot { display: inline-block; width: 9px; height: 9px; border-radius: 50%; margin-right: 5px; }
 .unseen { position: absolute; width: 1px; height: 1px; overflow: hidden; clip-path: inset(50%); }
+/* fingers need larger controls */
+@media (pointer: coarse) {
+  button, label, .together button, .pick { min-width: 44px; min-height: 44px; }
+  input[type="checkbox"] { width: 24px; height: 24px; }
+  .bar input[type="range"] { height: 44px; }
+}
 </style>
 </head>
 <body>
 <header>
 <h1>Fleet</h1>
 <p id="summary"></p>
+<p id="judged"></p>
 </header>
+<section id="verdict" class="banner" aria-label="Verdict of the judge" hidden></section>
 <main>
 <section class="card stage" aria-label="Map and time">
 <canvas id="map" tabindex="0" role="img" aria-label="Robots on the map" aria-describedby="keys"></canvas>
@@ -77,44 +113,91 @@ tr.eldest > * { background: color-mix(in srgb, var(--accent) 14%, transparent); 
 <button type="button" id="play" aria-label="Play">&#9654;</button>
 <button type="button" id="back" aria-label="One tick back">&#8249;</button>
 <button type="button" id="on" aria-label="One tick on">&#8250;</button>
-<input type="range" id="slider" min="0" max="0" value="0" step="1" aria-label="Tick">
-<output id="clock" for="slider"></output>
+<span class="track"><input type="range" id="slider" min="0" max="0" value="0" step="1" aria-label="Tick"><span id="marks" aria-hidden="true"></span></span>
+<span id="clock"></span>
 </div>
 <div class="bar" role="group" aria-label="What is shown">
-<label>ticks a second <select id="speed"><option>1</option><option>2</option><option>4</option><option selected>8</option><option>16</option><option>30</option><option>60</option><option>120</option></select></label>
-<label><input type="checkbox" id="show-heat"> heat</label>
-<label><input type="checkbox" id="show-goals" checked> goals</label>
-<label><input type="checkbox" id="show-lines" checked> lines</label>
-<span class="zoom" role="group" aria-label="Zoom">
-<button type="button" id="zoom-in" aria-label="Zoom in">+</button>
+<span class="together" role="group" aria-label="Speed">
+<button type="button" id="slower" aria-label="Slower">&minus;</button>
+<span id="speed"></span>
+<button type="button" id="faster" aria-label="Faster">+</button>
+</span>
+<label title="How often robots came to each cell up to this tick"><input type="checkbox" id="show-heat"> heat</label>
+<label title="The current goal of each robot"><input type="checkbox" id="show-goals" checked> goals</label>
+<label title="From each robot to its goal"><input type="checkbox" id="show-lines" checked> lines</label>
+<label title="Keeps the picked robot in the middle"><input type="checkbox" id="follow"> follow</label>
+<span class="together" role="group" aria-label="Zoom">
 <button type="button" id="zoom-out" aria-label="Zoom out">&minus;</button>
+<button type="button" id="zoom-in" aria-label="Zoom in">+</button>
 <button type="button" id="zoom-fit" aria-label="Show the whole map">fit</button>
 </span>
-<span id="hover" class="soft"></span>
+<span class="together">
+<button type="button" id="copy-link">copy link</button>
+<button type="button" id="save-picture">save picture</button>
+<button type="button" id="show-help" aria-label="Keys">?</button>
+</span>
 </div>
-<p id="keys" class="soft">Space plays, arrow keys go a tick back or on (with shift ten), Home and End to either end, + and &minus; zoom, 0 shows the whole map; drag moves it.</p>
+<p id="hover" class="soft"></p>
+<p class="robot"><span id="picked"></span> <button type="button" id="unpick" hidden>all robots</button></p>
+<p id="keys" class="soft">Space plays, arrow keys go a tick back or on, + and &minus; zoom, W A S D move the map, [ and ] pick a robot; ? shows all keys. Click a robot to follow it.</p>
+<ul class="legend" aria-label="Legend">
+<li><span class="sign disc"></span>robot with an errand</li>
+<li><span class="sign disc idle"></span>idle</li>
+<li><span class="sign shut"></span>shut: takes no more errands</li>
+<li><span class="sign goal"></span>goal, in its robot's colour</li>
+<li><span class="sign disc eldest"></span>has waited longest</li>
+<li><span class="sign disc arrives"></span>arrives</li>
+<li><span class="sign wall"></span>wall</li>
+<li><span class="sign shelf"></span>tree or water</li>
+</ul>
 </section>
 <aside>
 <section class="card" aria-label="Figures">
 <dl class="figures">
-<div><dt>arrivals</dt><dd id="arrivals"></dd></div>
-<div><dt>unfinished</dt><dd id="unfinished"></dd></div>
-<div><dt>greatest wait</dt><dd id="wait"></dd></div>
-<div><dt>eldest robot</dt><dd id="eldest"></dd></div>
+<div title="Errands done up to this tick"><dt>arrivals</dt><dd id="arrivals"></dd></div>
+<div title="Errands accepted and not yet done"><dt>unfinished</dt><dd id="unfinished"></dd></div>
+<div title="Ticks since the last arrival of the robot that has waited longest, or since its queue was empty"><dt>longest wait</dt><dd id="wait"></dd></div>
+<div title="The robot that has waited longest"><dt>eldest robot</dt><dd id="eldest"></dd></div>
 </dl>
 <p id="bound" class="soft"></p>
 </section>
-<section class="card"><h2>Arrivals, all together</h2><canvas id="arrivals-curve" class="curve" role="img" aria-label="Arrivals by tick"></canvas></section>
-<section class="card"><h2>Greatest wait</h2><canvas id="wait-curve" class="curve" role="img" aria-label="Greatest wait by tick"></canvas></section>
+<section class="card"><h2>Arrivals in the last 100 ticks <span class="told"></span></h2><canvas id="arrivals-chart" class="chart" role="img" aria-label="Arrivals in the last 100 ticks, by tick"></canvas></section>
+<section class="card"><h2>Idle robots <span class="told"></span></h2><canvas id="idle-chart" class="chart" role="img" aria-label="Idle robots by tick"></canvas></section>
+<section class="card"><h2>Longest wait <span class="told"></span></h2><canvas id="wait-chart" class="chart" role="img" aria-label="Longest wait by tick"></canvas></section>
 <section class="card"><h2>Entries up to the next tick</h2><ol id="entries" class="scroll" tabindex="0" aria-label="Entries up to the next tick"></ol></section>
-<section class="card"><h2>Robots</h2><div class="scroll tall" tabindex="0" aria-label="Robots"><table><thead><tr><th scope="col">robot</th><th scope="col">cell</th><th scope="col">goal</th><th scope="col">queue</th><th scope="col">wait</th><th scope="col">state</th></tr></thead><tbody id="robots"></tbody></table></div></section>
+<section class="card"><h2>Robots</h2><div class="scroll tall" tabindex="0" role="region" aria-label="Robots"><table><thead><tr><th scope="col">robot</th><th scope="col">cell</th><th scope="col">goal</th><th scope="col">queue</th><th scope="col">wait</th><th scope="col">state</th></tr></thead><tbody id="robots"></tbody></table></div></section>
 </aside>
 </main>
+<dialog id="help" aria-label="Keys">
+<h2>Keys</h2>
+<table class="keys">
+<tr><th>Space</th><td>play and pause</td></tr>
+<tr><th>&#8592; &#8594;</th><td>a tick back or on; with Shift, ten ticks</td></tr>
+<tr><th>Home End</th><td>the first and the last tick</td></tr>
+<tr><th>B N</th><td>the tick before or after at which a robot arrives or is shut, or an order is refused</td></tr>
+<tr><th>&lt; &gt;</th><td>slower, faster</td></tr>
+<tr><th>+ &minus; 0</th><td>zoom in, zoom out, the whole map</td></tr>
+<tr><th>W A S D</th><td>move the map up, left, down, right</td></tr>
+<tr><th>C</th><td>tells the cell in the middle</td></tr>
+<tr><th>[ ]</th><td>picks the robot before or after</td></tr>
+<tr><th>F</th><td>keeps the picked robot in the middle</td></tr>
+<tr><th>Esc</th><td>all robots again</td></tr>
+<tr><th>H G L</th><td>heat, goals, lines</td></tr>
+<tr><th>Y</th><td>copies the link to what is shown</td></tr>
+<tr><th>?</th><td>shows this</td></tr>
+</table>
+<form method="dialog"><button>close</button></form>
+</dialog>
 <p id="announce" class="unseen" aria-live="polite"></p>
 <script type="text/plain" id="map-rows">
 "##;
 
-/// What stands between the map and the traces.
-pub(crate) const MIDDLE: &str = r##"</script>
+/// What stands between the map and the verdicts.
+pub(crate) const VERDICTS: &str = r##"</script>
+<script type="text/plain" id="verdicts">
+"##;
+
+/// What stands between the verdicts and the traces.
+pub(crate) const TRACES: &str = r##"</script>
 <script type="text/plain" id="traces">
 "##;

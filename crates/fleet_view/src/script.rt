@@ -5,16 +5,17 @@ pub(crate) const TAIL: &str = r##"</script>
 <script>
 'use strict';
 
-// The replay of one or more traces on a map. Traces are chapters that follow one another. Frame 0 is the first opening, frame i
-// what stands before the tick i + 1: the tick i and all orders and shuts since. From frame to frame only what changes is
-// kept, and is done or undone, so that a long trace costs no copy of all cells for each tick.
+// The replay of one or more traces on a map. Traces are chapters that follow one another. Frame 0 is the first opening,
+// frame i what stands before the tick i + 1: the tick i and all orders and shuts since. From frame to frame only what
+// changes is kept, and is done or undone, so that a long trace costs no copy of all cells for each tick.
 
 // ---- reading what the page carries
 
-const VERDICTS = ['', 'client-closed', 'no-robot', 'robot-shut', 'no-cell', 'blocked', 'unreachable', 'queue-full', 'life-spent', 'no-errand', 'too-late'];
+function linesOf(text) {
+  return text.split('\n').filter((line) => line.length > 0);
+}
 
-function readMap() {
-  const rows = document.getElementById('map-rows').textContent.split('\n').filter((row) => row.length > 0);
+function mapOf(rows) {
   const height = rows.length;
   const width = height > 0 ? rows[0].length : 0;
   const letters = rows.join('');
@@ -26,20 +27,29 @@ function readMap() {
   return { height, width, letters, floor };
 }
 
-function readTraces() {
-  const text = document.getElementById('traces').textContent;
+// The judge's verdicts: null for a legal chapter, else the entry at fault (0: the opening) and the rule that it breaks.
+function verdictsOf(lines) {
+  return lines.map((line) => {
+    const [word, at, rule] = line.split(' ');
+    return word === 'legal' ? null : { at: Number(at), rule: Number(rule) };
+  });
+}
+
+function traceOf(line) {
+  const trace = JSON.parse(line);
+  // a clock may be greater than a number of this language tells exactly
+  const clock = /"tick":(\d+)\},"version":\d+\}$/.exec(line.slice(-200));
+  trace.clock = BigInt(clock === null ? 0 : clock[1]);
+  return trace;
+}
+
+// One line after the other, since the texts of all traces together may be long.
+function tracesOf(text) {
   const traces = [];
   for (let from = 0; from < text.length;) {
     let end = text.indexOf('\n', from);
     if (end < 0) end = text.length;
-    if (end > from) {
-      const line = text.slice(from, end);
-      const trace = JSON.parse(line);
-      // a clock may be greater than a number of this language tells exactly
-      const clock = /"tick":(\d+)\},"version":\d+\}$/.exec(line.slice(-200));
-      trace.clock = BigInt(clock === null ? 0 : clock[1]);
-      traces.push(trace);
-    }
+    if (end > from) traces.push(traceOf(text.slice(from, end)));
     from = end + 1;
   }
   return traces;
@@ -47,42 +57,62 @@ function readTraces() {
 
 // ---- the map as a graph
 
-// The greatest distance of two cells that a walk joins, or null where that takes too long to work out.
-function greatestDistance(map) {
-  const { height, width, floor } = map;
-  const cells = [];
-  for (let cell = 0; cell < floor.length; cell += 1) if (floor[cell]) cells.push(cell);
-  if (cells.length > 6000) return null;
-  const seen = new Int32Array(height * width).fill(-1);
-  const far = new Int32Array(height * width);
-  const queue = new Int32Array(cells.length);
-  let greatest = 1;
-  for (const start of cells) {
+// Calls `reach` with each neighbour of the cell that is on the map and floor.
+function eachNeighbour(map, cell, reach) {
+  const { width, floor } = map;
+  const column = cell % width;
+  if (cell >= width && floor[cell - width]) reach(cell - width);
+  if (cell + width < floor.length && floor[cell + width]) reach(cell + width);
+  if (column > 0 && floor[cell - 1]) reach(cell - 1);
+  if (column + 1 < width && floor[cell + 1]) reach(cell + 1);
+}
+
+function countFloor(map) {
+  return map.floor.reduce((count, floor) => count + floor, 0);
+}
+
+// Distances from one cell. The arrays are kept from search to search: `seen` says in which search a cell was reached.
+class Distances {
+  constructor(map) {
+    this.map = map;
+    this.search = 0;
+    this.seen = new Int32Array(map.floor.length);
+    this.far = new Int32Array(map.floor.length);
+    this.queue = new Int32Array(map.floor.length);
+  }
+
+  // Searches from this cell, and returns the greatest distance.
+  from(start) {
+    const { map, seen, far, queue } = this;
+    this.search += 1;
+    const { search } = this;
     let head = 0;
-    let tail = 1;
-    queue[0] = start;
-    seen[start] = start;
-    far[start] = 0;
+    let tail = 0;
+    if (map.floor[start]) {
+      queue[0] = start;
+      tail = 1;
+      seen[start] = search;
+      far[start] = 0;
+    }
     while (head < tail) {
       const cell = queue[head];
       head += 1;
-      const column = cell % width;
       const next = far[cell] + 1;
-      const reach = (other) => {
-        if (!floor[other] || seen[other] === start) return;
-        seen[other] = start;
+      eachNeighbour(map, cell, (other) => {
+        if (seen[other] === search) return;
+        seen[other] = search;
         far[other] = next;
         queue[tail] = other;
         tail += 1;
-      };
-      if (cell >= width) reach(cell - width);
-      if (cell + width < floor.length) reach(cell + width);
-      if (column > 0) reach(cell - 1);
-      if (column + 1 < width) reach(cell + 1);
+      });
     }
-    greatest = Math.max(greatest, far[queue[tail - 1]]);
+    return tail === 0 ? 0 : far[queue[tail - 1]];
   }
-  return greatest;
+
+  // The distance of a cell from where the last search began; -1 if no walk joins them.
+  of(cell) {
+    return this.seen[cell] === this.search ? this.far[cell] : -1;
+  }
 }
 
 // Whether some edge of the floor lies on no round: a search in depth with the lowest place that each cell's branch reaches.
@@ -131,6 +161,97 @@ function hasBridge(map) {
   return false;
 }
 
+// ---- what is wrong with the entry that breaks a rule
+
+// The rule and the entry are the judge's, which the page carries. Which robots and cells are at fault is found here.
+
+const RULES = [
+  '', 'the opening is not in order', 'there is no such client', 'the verdict is not the one that is due',
+  'the step is not free of conflicts', 'the arrivals are not those that are due', 'the farewells are not those that are due',
+  'a stamp is outside of its law', 'there is no such robot, or it is shut already',
+];
+
+const NO_DETAIL = { detail: '', robots: [], cells: [] };
+
+// Two robots on one cell, or one on a cell that is no floor.
+function detailOfPlaces(map, cells) {
+  const first = new Map();
+  for (let robot = 0; robot < cells.length; robot += 1) {
+    const cell = cells[robot];
+    if (!map.floor[cell]) return { detail: `robot ${robot} is on cell ${cell}, which is no floor`, robots: [robot], cells: [cell] };
+    if (first.has(cell)) {
+      const other = first.get(cell);
+      return { detail: `robots ${other} and ${robot} are on cell ${cell}`, robots: [other, robot], cells: [cell] };
+    }
+    first.set(cell, robot);
+  }
+  return NO_DETAIL;
+}
+
+function detailOfOpening(map, opening) {
+  return detailOfPlaces(map, opening.robots.map((robot) => robot[0]));
+}
+
+function detailOfStep(map, from, to) {
+  if (to.length !== from.length) return { ...NO_DETAIL, detail: `it has ${to.length} cells for ${from.length} robots` };
+  const places = detailOfPlaces(map, to);
+  if (places !== NO_DETAIL) return places;
+  const at = new Map();
+  from.forEach((cell, robot) => at.set(cell, robot));
+  for (let robot = 0; robot < to.length; robot += 1) {
+    const [old, cell] = [from[robot], to[robot]];
+    let near = old === cell;
+    eachNeighbour(map, old, (other) => { near = near || other === cell; });
+    if (!near) return { detail: `robot ${robot} goes from cell ${old} to cell ${cell}, which is no neighbour`, robots: [robot], cells: [old, cell] };
+    const other = at.get(cell);
+    if (other !== undefined && other !== robot && to[other] === old) {
+      return { detail: `robots ${robot} and ${other} exchange the cells ${old} and ${cell}`, robots: [robot, other], cells: [old, cell] };
+    }
+  }
+  return NO_DETAIL;
+}
+
+// The first robot of which one list tells and the other does not.
+function firstOdd(due, shown, to, missing, extra) {
+  for (const robot of due) if (!shown.includes(robot)) return { detail: `robot ${robot} ${missing}`, robots: [robot], cells: [to[robot]] };
+  for (const robot of shown) if (!due.includes(robot)) return { detail: `robot ${robot} ${extra}`, robots: [robot], cells: [to[robot]].filter((cell) => cell !== undefined) };
+  return { detail: '', robots: due, cells: due.map((robot) => to[robot]) };
+}
+
+function detailOfTick(replay, trace, entry, rule) {
+  const { cells, queues, shut } = replay.state;
+  const [, to, arrived, farewells] = entry;
+  if (rule === 4) return detailOfStep(replay.map, cells, to);
+  const due = [...to.keys()].filter((robot) => queues[robot].length > 0 && queues[robot][0].cell === to[robot]);
+  if (rule === 5) return firstOdd(due, arrived.map((arrival) => arrival[0]), to, 'arrives there, which is not told', 'has no errand to that cell first');
+  if (rule === 6) {
+    const leaving = due.filter((robot) => shut[robot] && queues[robot].length === 1);
+    return firstOdd(leaving, farewells.map((farewell) => farewell[0]), to, 'is shut and done, and has no farewell', 'has a farewell that is not due');
+  }
+  const laws = trace.opening.robots;
+  const outside = (law, stamp) => stamp < law[0] || stamp > law[1];
+  const odd = [
+    ...arrived.filter((arrival) => outside(laws[arrival[0]][4], arrival[3])).map((arrival) => arrival[0]),
+    ...farewells.filter((farewell) => outside(laws[farewell[0]][5], farewell[1])).map((farewell) => farewell[0]),
+  ];
+  return { detail: odd.length > 0 ? `it is that of robot ${odd[0]}` : '', robots: odd, cells: odd.map((robot) => to[robot]) };
+}
+
+// The entry follows what the replay's state is.
+function detailOf(replay, trace, entry, verdict) {
+  if (entry[0] === 'tick') return detailOfTick(replay, trace, entry, verdict.rule);
+  const robot = entry[0] === 'shut' ? entry[1] : entry[2][0] === 'go' ? entry[2][1] : -1;
+  const known = robot >= 0 && robot < replay.robots;
+  const robots = known ? [robot] : [];
+  return { detail: '', robots, cells: robots.map((one) => replay.state.cells[one]) };
+}
+
+function faultText(fault) {
+  const where = fault.at === 0 ? 'in its opening' : `at entry ${fault.at}`;
+  const detail = fault.detail === '' ? '' : `: ${fault.detail}`;
+  return `illegal ${where}: it breaks rule ${fault.rule}, ${RULES[fault.rule] ?? 'unknown'}${detail}`;
+}
+
 // ---- the replay
 
 function countMoves(traces) {
@@ -149,18 +270,40 @@ function countMoves(traces) {
   return { moves, ticks };
 }
 
-// What stands at one frame.
+// A robot as an opening has it at this frame.
+function openedRobot([, shut, wait, errands], frame) {
+  return {
+    queue: errands.map(([client, number, cell]) => ({ client, number, cell })),
+    // the frame at which the wait began, as if it had been counted from the first opening on
+    since: wait === null ? NaN : frame - wait,
+    shut: shut ? 1 : 0,
+  };
+}
+
+// What stands at the first frame.
 function openedState(map, opening) {
-  const robots = opening.robots;
+  const robots = opening.robots.map((robot) => openedRobot(robot, 0));
   return {
     frame: 0,
-    cells: Int32Array.from(robots, (robot) => robot[0]),
-    queues: robots.map((robot) => robot[3].map(([client, number, cell]) => ({ client, number, cell }))),
-    // the frame at which the wait began, as if it had been counted from the first opening on
-    since: Float64Array.from(robots, (robot) => (robot[2] === null ? NaN : -robot[2])),
-    shut: Uint8Array.from(robots, (robot) => (robot[1] ? 1 : 0)),
+    cells: Int32Array.from(opening.robots, (robot) => robot[0]),
+    queues: robots.map((robot) => robot.queue),
+    since: Float64Array.from(robots, (robot) => robot.since),
+    shut: Uint8Array.from(robots, (robot) => robot.shut),
     heat: new Uint32Array(map.floor.length),
   };
+}
+
+function sameQueue(one, other) {
+  return one.length === other.length && one.every((errand, place) => errand.client === other[place].client
+    && errand.number === other[place].number && errand.cell === other[place].cell);
+}
+
+function exchange(state, event) {
+  const { robot, other } = event;
+  event.other = { queue: state.queues[robot], since: state.since[robot], shut: state.shut[robot] };
+  state.queues[robot] = other.queue;
+  state.since[robot] = other.since;
+  state.shut[robot] = other.shut;
 }
 
 // An event is a change that can be done and undone, with the entry that it stands for.
@@ -194,9 +337,14 @@ const EVENTS = {
     },
   },
   shut: {
-    go(state, event) { state.shut[event.robot] = 1; },
-    back(state, event) { state.shut[event.robot] = 0; },
+    go(state, event) {
+      event.before = state.shut[event.robot];
+      state.shut[event.robot] = 1;
+    },
+    back(state, event) { state.shut[event.robot] = event.before; },
   },
+  // a chapter opens with another queue, wait or shut of a robot than the one before it ends with
+  reopen: { go: exchange, back: exchange },
   // a chapter begins, or an order that changes nothing
   note: { go() {}, back() {} },
 };
@@ -209,51 +357,22 @@ function errandPlace(state, client, number) {
   return null;
 }
 
-function cellName(map, cell) {
-  return `${cell} (row ${Math.floor(cell / map.width)}, column ${cell % map.width})`;
-}
-
-function orderText(map, client, order) {
-  if (order[0] === 'go') return `client ${client} sends robot ${order[1]} to cell ${cellName(map, order[2])}`;
-  if (order[0] === 'withdraw') return `client ${client} withdraws its errand ${order[1]}`;
-  return `client ${client} closes`;
-}
-
-function verdictText(verdict) {
-  if (verdict[0] === 'accepted') return `accepted as errand ${verdict[1]}`;
-  if (verdict[0] === 'refused') return `refused: ${VERDICTS[verdict[1]] ?? verdict[1]}`;
-  return verdict[0];
-}
-
 function takeEvent(state, entry) {
   const { frame } = state;
   const [, client, order, verdict] = entry;
   if (verdict[0] === 'accepted' && order[0] === 'go' && order[1] < state.queues.length) {
     return { kind: 'join', frame, robot: order[1], errand: { client, number: verdict[1], cell: order[2] }, entry };
   }
-  if (verdict[0] === 'withdrawn') {
+  if (verdict[0] === 'withdrawn' && order[0] === 'withdraw') {
     const found = errandPlace(state, client, order[1]);
     if (found !== null) return { kind: 'withdraw', frame, ...found, errand: state.queues[found.robot][found.place], entry };
   }
   return { kind: 'note', frame, entry };
 }
 
-// What the list of entries says of an event.
-function noteOf(map, entry) {
-  switch (entry[0]) {
-    case 'take': return `${orderText(map, entry[1], entry[2])}: ${verdictText(entry[3])}`;
-    case 'arrival': {
-      const [, cell, robot, client, number, stamp] = entry;
-      return `robot ${robot} arrives at cell ${cellName(map, cell)}: errand ${number} of client ${client}, stamp ${stamp}`;
-    }
-    case 'farewell': return `robot ${entry[1]} takes its farewell with stamp ${entry[2]}`;
-    case 'shut': return `robot ${entry[1]} is shut${entry.length > 2 ? `, and takes its farewell with stamp ${entry[2]}` : ''}`;
-    default: return `chapter ${entry[1]} begins`;
-  }
-}
-
 class Replay {
-  constructor(map, traces) {
+  // A verdict of the judge stands for each trace, in order; null says that it is legal.
+  constructor(map, traces, verdicts) {
     const { moves, ticks } = countMoves(traces);
     this.map = map;
     this.last = ticks;
@@ -264,21 +383,28 @@ class Replay {
     this.events = new Array(ticks + 1);
     this.arrivals = new Uint32Array(ticks + 1);
     this.unfinished = new Uint32Array(ticks + 1);
+    this.idle = new Uint32Array(ticks + 1);
     this.wait = new Float64Array(ticks + 1);
     this.eldest = new Int32Array(ticks + 1);
+    // by frame, the goal of the robot that was the eldest before the tick to this frame, and whence and where it went
+    this.eldestGoal = new Int32Array(ticks + 1).fill(-1);
+    this.eldestFrom = new Int32Array(ticks + 1);
+    this.eldestTo = new Int32Array(ticks + 1);
+    this.openings = [];
     this.chapters = [];
+    this.faults = [];
     this.state = openedState(map, traces[0].opening);
-    this.build(traces);
+    this.build(traces, verdicts);
     this.seek(0);
   }
 
-  build(traces) {
+  build(traces, verdicts) {
     let arrived = 0;
-    for (const trace of traces) {
-      const frame = this.state.frame;
-      this.chapters.push({ number: trace.chapter, frame, clock: trace.clock });
-      if (this.chapters.length > 1) this.push({ kind: 'note', frame, entry: ['chapter', trace.chapter] });
-      for (const entry of trace.entries) {
+    traces.forEach((trace, place) => {
+      const verdict = verdicts[place] ?? null;
+      this.openChapter(trace, verdict);
+      trace.entries.forEach((entry, number) => {
+        const fault = verdict !== null && verdict.at === number + 1 ? detailOf(this, trace, entry, verdict) : null;
         if (entry[0] === 'tick') {
           this.measure(arrived);
           this.addTick(entry);
@@ -288,11 +414,36 @@ class Replay {
         } else {
           this.push({ kind: this.kindFor('shut', entry[1]), frame: this.state.frame, robot: entry[1], entry });
         }
-      }
+        if (fault !== null) this.addFault(trace, verdict, fault);
+      });
       trace.entries = null;
-    }
+    });
     this.measure(arrived);
     this.mostHeat = this.state.heat.reduce((most, count) => Math.max(most, count), 1);
+  }
+
+  openChapter(trace, verdict) {
+    const { state } = this;
+    const { frame } = state;
+    this.chapters.push({ number: trace.chapter, frame, clock: trace.clock });
+    if (this.chapters.length > 1) {
+      this.push({ kind: 'note', frame, entry: ['chapter', trace.chapter] });
+      for (let robot = 0; robot < this.robots; robot += 1) {
+        const other = openedRobot(trace.opening.robots[robot] ?? [0, false, null, []], frame);
+        const same = sameQueue(other.queue, state.queues[robot]) && Object.is(other.since, state.since[robot]) && other.shut === state.shut[robot];
+        if (!same) this.push({ kind: 'reopen', frame, robot, other, entry: ['reopened', robot] });
+      }
+    }
+    this.openings.push({
+      cells: state.cells.slice(),
+      waits: Array.from(state.since, (since) => (since === since ? frame - since : null)),
+      goals: state.queues.map((queue) => (queue.length > 0 ? queue[0].cell : -1)),
+    });
+    if (verdict !== null && verdict.at === 0) this.addFault(trace, verdict, detailOfOpening(this.map, trace.opening));
+  }
+
+  addFault(trace, verdict, detail) {
+    this.faults.push({ chapter: trace.chapter, ...verdict, frame: this.state.frame, ...detail });
   }
 
   // An illegal trace may tell of a robot that there is none of: nothing changes by that.
@@ -309,9 +460,25 @@ class Replay {
   addTick(entry) {
     const { state } = this;
     const [, to, arrived, farewells] = entry;
+    const eldest = this.eldest[state.frame];
     state.frame += 1;
     const { frame } = state;
-    let at = this.moveStart[frame];
+    if (eldest >= 0 && state.queues[eldest].length > 0) {
+      this.eldestGoal[frame] = state.queues[eldest][0].cell;
+      this.eldestFrom[frame] = state.cells[eldest];
+      this.eldestTo[frame] = to[eldest] ?? state.cells[eldest];
+    }
+    this.addMoves(to);
+    for (const arrival of arrived) {
+      const event = { kind: this.kindFor('arrive', arrival[0]), frame, robot: arrival[0] };
+      this.push({ ...event, entry: ['arrival', to[arrival[0]], ...arrival] });
+    }
+    for (const farewell of farewells) this.push({ kind: 'note', frame, entry: ['farewell', ...farewell] });
+  }
+
+  addMoves(to) {
+    const { state } = this;
+    let at = this.moveStart[state.frame];
     const count = Math.min(to.length, state.cells.length);
     for (let robot = 0; robot < count; robot += 1) {
       const delta = to[robot] - state.cells[robot];
@@ -322,9 +489,7 @@ class Replay {
       state.cells[robot] = to[robot];
       state.heat[to[robot]] += 1;
     }
-    this.moveStart[frame + 1] = at;
-    for (const arrival of arrived) this.push({ kind: this.kindFor('arrive', arrival[0]), frame, robot: arrival[0], entry: ['arrival', to[arrival[0]], ...arrival] });
-    for (const farewell of farewells) this.push({ kind: 'note', frame, entry: ['farewell', ...farewell] });
+    this.moveStart[state.frame + 1] = at;
   }
 
   // the figures of the frame that the state is at
@@ -332,14 +497,17 @@ class Replay {
     const { state } = this;
     const { frame } = state;
     let unfinished = 0;
+    let idle = 0;
     let eldest = -1;
     for (let robot = 0; robot < this.robots; robot += 1) {
       unfinished += state.queues[robot].length;
+      if (state.queues[robot].length === 0) idle += 1;
       const since = state.since[robot];
       if (since === since && (eldest < 0 || since < state.since[eldest])) eldest = robot;
     }
     this.arrivals[frame] = arrived;
     this.unfinished[frame] = unfinished;
+    this.idle[frame] = idle;
     this.eldest[frame] = eldest;
     this.wait[frame] = eldest < 0 ? -1 : frame - state.since[eldest];
   }
@@ -388,23 +556,178 @@ class Replay {
     return chapter.clock + BigInt(frame - chapter.frame);
   }
 
+  // The frame at which the clock shows this tick.
+  frameOf(clock) {
+    const frame = clock - this.chapters[0].clock;
+    if (frame <= 0n) return 0;
+    return frame >= BigInt(this.last) ? this.last : Number(frame);
+  }
+
   arrivedAt(frame) {
     return (this.events[frame] ?? []).filter((event) => event.kind === 'arrive').map((event) => event.robot);
   }
+
+  // The cells of a robot at the frames from one to another, the last one included.
+  pathOf(robot, from, to) {
+    const { frame } = this.state;
+    const first = Math.max(0, from);
+    const last = Math.min(this.last, to);
+    const cells = [this.state.cells[robot]];
+    for (let past = frame; past > first; past -= 1) cells.unshift(cells[0] - this.deltaOf(robot, past));
+    for (let next = frame + 1; next <= last; next += 1) cells.push(cells[cells.length - 1] + this.deltaOf(robot, next));
+    return { cells, here: frame - first };
+  }
+
+  // By how much the cell of a robot changes in the tick to a frame. The robots of a frame's moves rise.
+  deltaOf(robot, frame) {
+    let low = this.moveStart[frame];
+    let high = this.moveStart[frame + 1];
+    while (low < high) {
+      const middle = (low + high) >> 1;
+      if (this.moveRobot[middle] < robot) low = middle + 1;
+      else high = middle;
+    }
+    return low < this.moveStart[frame + 1] && this.moveRobot[low] === robot ? this.moveDelta[low] : 0;
+  }
+}
+
+// ---- the bound on waits
+
+// On a map without bridges no wait of a legal history reaches the number of robots times the greatest distance, if each
+// tick advances (the eldest robot comes nearer to its goal, or is on it and stays) and the waits at the opening leave room
+// for that. All of this is looked at before a bound is shown. The search works in slices, so that the page does not stand
+// still: each of these is a generator, which returns its result and yields in between.
+
+const MOST_CELLS = 6000;
+const MOST_VISITS = 4e8;
+
+// The greatest distance of two cells that a walk joins, at least 1.
+function* greatestDistance(map, distances) {
+  let greatest = 1;
+  for (let cell = 0; cell < map.floor.length; cell += 1) {
+    if (!map.floor[cell]) continue;
+    greatest = Math.max(greatest, distances.from(cell));
+    yield;
+  }
+  return greatest;
+}
+
+// The frame of a tick that does not advance; 0 if each advances, -1 if that takes too long to find out.
+function* firstIdleTick(replay, distances, floorCount) {
+  const byGoal = new Map();
+  for (let frame = 1; frame <= replay.last; frame += 1) {
+    const goal = replay.eldestGoal[frame];
+    if (goal < 0) continue;
+    if (!byGoal.has(goal)) byGoal.set(goal, []);
+    byGoal.get(goal).push(frame);
+  }
+  if (byGoal.size * floorCount > MOST_VISITS) return -1;
+  let first = 0;
+  for (const [goal, frames] of byGoal) {
+    distances.from(goal);
+    for (const frame of frames) {
+      const [from, to] = [replay.eldestFrom[frame], replay.eldestTo[frame]];
+      const advances = (from === goal && to === goal) || (distances.of(from) > 0 && distances.of(to) === distances.of(from) - 1);
+      if (!advances && (first === 0 || frame < first)) first = frame;
+    }
+    yield;
+  }
+  return first;
+}
+
+// How many robots have waited longer than robot r, or as long with a lesser number.
+function countBefore(waits, r) {
+  return waits.filter((wait, other) => wait !== null && (wait > waits[r] || (wait === waits[r] && other < r))).length;
+}
+
+// Whether the waits at an opening leave room for the bound.
+function leavesRoom(opening, far, distances) {
+  const { waits, goals, cells } = opening;
+  if (waits.every((wait) => wait === null || wait === 0)) return true;
+  if (far === null) return false;
+  let eldest = -1;
+  waits.forEach((wait, robot) => { if (wait !== null && (eldest < 0 || wait > waits[eldest])) eldest = robot; });
+  distances.from(goals[eldest]);
+  const way = Math.max(1, distances.of(cells[eldest]));
+  return waits.every((wait, robot) => wait === null || wait + way + countBefore(waits, robot) * far <= waits.length * far);
+}
+
+// The bound, or null, and why in words.
+function* findBound(map, replay) {
+  const none = (why) => ({ bound: null, text: `No bound on waits is shown: ${why}.` });
+  if (replay.faults.length > 0) return none(`chapter ${replay.faults[0].chapter} is illegal`);
+  if (hasBridge(map)) return none('the map has a bridge, where robots may have to wait for ever');
+  yield;
+  const distances = new Distances(map);
+  const floorCount = countFloor(map);
+  const idle = yield* firstIdleTick(replay, distances, floorCount);
+  if (idle < 0) return none('it would take too long to find out whether each tick advances');
+  if (idle > 0) return none(`in tick ${replay.clockAt(idle)} the robot that had waited longest came no nearer to its goal`);
+  const small = floorCount <= MOST_CELLS;
+  const far = small ? yield* greatestDistance(map, distances) : null;
+  if (!replay.openings.every((opening) => leavesRoom(opening, far, distances))) return none('robots had waited too long when it began');
+  const factor = small ? far : Math.max(1, floorCount - 1);
+  const bound = replay.robots * factor;
+  const kind = small ? `the greatest distance, ${far}` : `the floor cells less one, ${factor}`;
+  return { bound, text: `Every wait is below ${bound}: that is ${replay.robots} robots times ${kind}. The map has no bridge, and each tick advances.` };
 }
 
 // ---- colours
 
-function hueOf(robot) {
-  return `hsl(${((robot * 137.508) % 360).toFixed(1)} 62% 46%)`;
+// The luminance of WCAG, from 0 to 1, of red, green and blue from 0 to 1.
+function luminanceOf(channels) {
+  const [red, green, blue] = channels.map((part) => (part <= 0.04045 ? part / 12.92 : ((part + 0.055) / 1.055) ** 2.4));
+  return 0.2126 * red + 0.7152 * green + 0.0722 * blue;
 }
 
-function readColours() {
+function contrastOf(one, other) {
+  return (Math.max(one, other) + 0.05) / (Math.min(one, other) + 0.05);
+}
+
+// The luminance of a colour that is written as #rrggbb.
+function luminanceOfHex(text) {
+  return luminanceOf([1, 3, 5].map((at) => Number.parseInt(text.slice(at, at + 2), 16) / 255));
+}
+
+// Red, green and blue of a hue in degrees; saturation and lightness are from 0 to 1.
+function channelsOf(hue, saturation, lightness) {
+  const reach = saturation * Math.min(lightness, 1 - lightness);
+  return [0, 8, 4].map((n) => {
+    const k = (n + hue / 30) % 12;
+    return lightness - reach * Math.max(-1, Math.min(k - 3, 9 - k, 1));
+  });
+}
+
+// The colour of digits on a ground: the one of more contrast.
+function digitsOn(luminance) {
+  return contrastOf(1, luminance) >= contrastOf(0, luminance) ? '#ffffff' : '#000000';
+}
+
+const SATURATION = 0.62;
+const LEAST_CONTRAST = 3;
+
+// A colour for each robot: hues far from one another, as light or dark as it takes to stand out from the floor.
+function robotColour(robot, floor) {
+  const hue = (robot * 137.508) % 360;
+  const step = floor > 0.5 ? -0.02 : 0.02;
+  let lightness = 0.46;
+  let luminance = luminanceOf(channelsOf(hue, SATURATION, lightness));
+  while (contrastOf(luminance, floor) < LEAST_CONTRAST) {
+    lightness += step;
+    luminance = luminanceOf(channelsOf(hue, SATURATION, lightness));
+  }
+  return { fill: `hsl(${hue.toFixed(1)} 62% ${Math.round(lightness * 100)}%)`, luminance, digits: digitsOn(luminance) };
+}
+
+function readColours(robots) {
   const style = getComputedStyle(document.documentElement);
   const colours = {};
-  for (const name of ['page', 'card', 'ink', 'soft', 'line', 'floor', 'wall', 'shelf', 'grid', 'idle', 'accent', 'mark', 'heat']) {
+  for (const name of ['page', 'card', 'ink', 'soft', 'line', 'floor', 'wall', 'shelf', 'grid', 'idle', 'accent', 'mark', 'fault', 'heat']) {
     colours[name] = style.getPropertyValue(`--${name}`).trim();
   }
+  const floor = luminanceOfHex(colours.floor);
+  colours.robots = Array.from({ length: robots }, (_, robot) => robotColour(robot, floor));
+  colours.digitsOnIdle = digitsOn(luminanceOfHex(colours.idle));
   return colours;
 }
 
@@ -418,15 +741,29 @@ function shadesOf(heat) {
 
 // ---- the map on its canvas
 
+// a cell is at most so many pixels wide, but even a small map may be zoomed so far
+const MOST_CELL = 120;
+const LEAST_MOST_ZOOM = 4;
+const LEAST_NUMBERED = 9;
+const PATH_FRAMES = 30;
+
 class MapView {
   constructor(canvas, replay) {
+    const { height, width } = replay.map;
     this.canvas = canvas;
     this.pen = canvas.getContext('2d');
     this.replay = replay;
     this.shows = { heat: false, goals: true, lines: true };
-    this.view = { scale: 1, left: 0, top: 0 };
-    this.hues = Array.from({ length: replay.robots }, (_, robot) => hueOf(robot));
-    this.ahead = new Int32Array(replay.robots);
+    this.picked = null;
+    this.follows = false;
+    this.faults = [];
+    this.pulse = 0;
+    // the zoom, 1 where the whole map is shown, and the place of the map that is in the middle, in cells
+    this.zoom = 1;
+    this.middle = { x: width / 2, y: height / 2 };
+    this.other = new Int32Array(replay.robots);
+    this.xs = new Float64Array(replay.robots);
+    this.ys = new Float64Array(replay.robots);
   }
 
   // Letters become one pixel a cell, which is drawn larger.
@@ -436,10 +773,10 @@ class MapView {
     this.ground = document.createElement('canvas');
     this.ground.width = width;
     this.ground.height = height;
-    this.warm = document.createElement('canvas');
-    this.warm.width = width;
-    this.warm.height = height;
-    this.warmth = this.warm.getContext('2d').createImageData(width, height);
+    this.heatCanvas = document.createElement('canvas');
+    this.heatCanvas.width = width;
+    this.heatCanvas.height = height;
+    this.heatPixels = this.heatCanvas.getContext('2d').createImageData(width, height);
     this.shades = shadesOf(colours.heat);
     this.heatFrame = undefined;
     const pen = this.ground.getContext('2d');
@@ -452,6 +789,7 @@ class MapView {
     }
   }
 
+  // Zoom and middle stay.
   resize() {
     const { height, width } = this.replay.map;
     const room = this.canvas.clientWidth;
@@ -460,27 +798,56 @@ class MapView {
     this.canvas.style.height = `${high}px`;
     this.canvas.width = Math.round(room * this.ratio);
     this.canvas.height = Math.round(high * this.ratio);
-    this.fit();
+    this.fitScale = Math.min(this.canvas.width / width, this.canvas.height / height);
+    this.place();
+  }
+
+  // Where the map lies on the canvas. It cannot leave it: a side that is shown whole is centred.
+  place() {
+    const { height, width } = this.replay.map;
+    const { canvas, middle } = this;
+    this.zoom = this.zoomWithin(this.zoom);
+    const scale = this.fitScale * this.zoom;
+    const within = (place, side, room) => {
+      const half = room / scale / 2;
+      return half >= side / 2 ? side / 2 : Math.min(Math.max(place, half), side - half);
+    };
+    middle.x = within(middle.x, width, canvas.width);
+    middle.y = within(middle.y, height, canvas.height);
+    this.view = { scale, left: canvas.width / 2 - middle.x * scale, top: canvas.height / 2 - middle.y * scale };
+    // one finger scrolls the page while the whole map is shown, and moves the map when it is zoomed
+    canvas.style.touchAction = this.zoom > 1 ? 'none' : 'pan-x pan-y';
+  }
+
+  zoomWithin(zoom) {
+    return Math.min(Math.max(zoom, 1), Math.max(LEAST_MOST_ZOOM, MOST_CELL * this.ratio / this.fitScale));
   }
 
   fit() {
-    const { height, width } = this.replay.map;
-    const scale = Math.min(this.canvas.width / width, this.canvas.height / height);
-    this.least = scale;
-    this.view = { scale, left: (this.canvas.width - scale * width) / 2, top: (this.canvas.height - scale * height) / 2 };
+    this.zoom = 1;
+    this.place();
   }
 
-  zoom(factor, x, y) {
+  // The point x, y of the canvas stays where it is.
+  zoomAt(factor, x, y) {
     const { view } = this;
-    const scale = Math.min(Math.max(view.scale * factor, this.least * 0.5), 120 * this.ratio);
-    view.left = x - (x - view.left) * scale / view.scale;
-    view.top = y - (y - view.top) * scale / view.scale;
-    view.scale = scale;
+    const [column, row] = [(x - view.left) / view.scale, (y - view.top) / view.scale];
+    this.zoom = this.zoomWithin(this.zoom * factor);
+    const scale = this.fitScale * this.zoom;
+    this.middle.x = column + (this.canvas.width / 2 - x) / scale;
+    this.middle.y = row + (this.canvas.height / 2 - y) / scale;
+    this.place();
   }
 
   drag(x, y) {
-    this.view.left += x;
-    this.view.top += y;
+    this.middle.x -= x / this.view.scale;
+    this.middle.y -= y / this.view.scale;
+    this.place();
+  }
+
+  // Moves the view by parts of what is shown.
+  pan(right, down) {
+    this.drag(-right * this.canvas.width, -down * this.canvas.height);
   }
 
   cellAt(x, y) {
@@ -490,20 +857,66 @@ class MapView {
     return column >= 0 && column < width && row >= 0 && row < height ? row * width + column : -1;
   }
 
-  // The cells of the next frame, towards which robots are drawn while the replay plays.
-  lookAhead() {
-    const { replay, ahead } = this;
+  // The robot that is drawn nearest to a point of the canvas, if one is near.
+  robotAt(x, y) {
+    let best = null;
+    let least = Math.max(this.view.scale * 0.55, 10 * this.ratio);
+    for (let robot = 0; robot < this.replay.robots; robot += 1) {
+      const far = Math.hypot(this.xs[robot] - x, this.ys[robot] - y);
+      if (far < least) [best, least] = [robot, far];
+    }
+    return best;
+  }
+
+  centre(cell) {
+    const { width } = this.replay.map;
+    this.middle = { x: cell % width + 0.5, y: Math.floor(cell / width) + 0.5 };
+    this.place();
+  }
+
+  // The middle of a cell on the canvas.
+  pointOf(cell) {
+    const { width } = this.replay.map;
+    const { view } = this;
+    return [view.left + (cell % width + 0.5) * view.scale, view.top + (Math.floor(cell / width) + 0.5) * view.scale];
+  }
+
+  // The cells between which robots are drawn: those of this frame and of the next one, or of the one before where the
+  // fraction is negative.
+  placeRobots(fraction) {
+    const { replay, other } = this;
     const { frame, cells } = replay.state;
-    ahead.set(cells);
-    if (frame >= replay.last) return;
-    for (let at = replay.moveStart[frame + 1]; at < replay.moveStart[frame + 2]; at += 1) {
-      ahead[replay.moveRobot[at]] += replay.moveDelta[at];
+    other.set(cells);
+    const from = fraction < 0 ? frame : frame + 1;
+    if (from <= replay.last) {
+      const sign = fraction < 0 ? -1 : 1;
+      for (let at = replay.moveStart[from]; at < replay.moveStart[from + 1]; at += 1) {
+        other[replay.moveRobot[at]] += sign * replay.moveDelta[at];
+      }
+    }
+    const part = Math.abs(fraction);
+    if (this.follows && this.picked !== null) this.centreBetween(cells[this.picked], other[this.picked], part);
+    for (let robot = 0; robot < replay.robots; robot += 1) {
+      const [x, y] = this.pointOf(cells[robot]);
+      const [nextX, nextY] = this.pointOf(other[robot]);
+      this.xs[robot] = x + (nextX - x) * part;
+      this.ys[robot] = y + (nextY - y) * part;
     }
   }
 
+  centreBetween(cell, other, part) {
+    const { width } = this.replay.map;
+    const between = (a, b) => a + (b - a) * part + 0.5;
+    this.middle = { x: between(cell % width, other % width), y: between(Math.floor(cell / width), Math.floor(other / width)) };
+    this.place();
+  }
+
   draw(fraction) {
-    const { pen, view, colours, canvas } = this;
+    const { pen, colours, canvas, picked } = this;
+    this.placeRobots(fraction);
+    const { view } = this;
     pen.setTransform(1, 0, 0, 1, 0, 0);
+    pen.globalAlpha = 1;
     pen.fillStyle = colours.card;
     pen.fillRect(0, 0, canvas.width, canvas.height);
     pen.imageSmoothingEnabled = false;
@@ -513,18 +926,25 @@ class MapView {
     pen.strokeStyle = colours.line;
     pen.lineWidth = 1;
     pen.strokeRect(view.left, view.top, width * view.scale, height * view.scale);
-    if (view.scale >= 9 * this.ratio) this.drawGrid();
-    this.lookAhead();
-    this.placeRobots(fraction);
-    if (this.shows.goals || this.shows.lines) this.drawGoals();
+    if (view.scale >= LEAST_NUMBERED * this.ratio) this.drawGrid();
+    if (picked !== null) this.drawPath(picked);
+    if (this.shows.lines) this.drawLines();
     this.drawRobots(fraction);
+    if (this.shows.goals) this.drawGoals();
+    if (picked !== null) this.drawQueue(picked);
+    this.drawFaults();
+  }
+
+  // How strongly a robot is drawn: others than the picked one are dimmed.
+  strengthOf(robot) {
+    return this.picked === null || this.picked === robot ? 1 : 0.25;
   }
 
   // How often robots came to each cell, one pixel a cell. From one frame to the next only the cells that were come to change.
   paintHeat() {
     const { replay } = this;
     const { frame, heat, cells } = replay.state;
-    const pixels = new Uint32Array(this.warmth.data.buffer);
+    const pixels = new Uint32Array(this.heatPixels.data.buffer);
     const shade = (cell) => {
       pixels[cell] = this.shades[Math.ceil(255 * Math.sqrt(Math.min(1, heat[cell] / replay.mostHeat)))];
     };
@@ -534,13 +954,13 @@ class MapView {
       for (let cell = 0; cell < heat.length; cell += 1) shade(cell);
     }
     this.heatFrame = frame;
-    this.warm.getContext('2d').putImageData(this.warmth, 0, 0);
+    this.heatCanvas.getContext('2d').putImageData(this.heatPixels, 0, 0);
   }
 
   drawHeat() {
     const { pen, view, replay } = this;
     if (this.heatFrame !== replay.state.frame) this.paintHeat();
-    pen.drawImage(this.warm, view.left, view.top, replay.map.width * view.scale, replay.map.height * view.scale);
+    pen.drawImage(this.heatCanvas, view.left, view.top, replay.map.width * view.scale, replay.map.height * view.scale);
   }
 
   drawGrid() {
@@ -562,115 +982,197 @@ class MapView {
     pen.stroke();
   }
 
-  // The middle of each robot on the canvas.
-  placeRobots(fraction) {
-    const { view, replay, ahead } = this;
-    const { width } = replay.map;
-    const { cells } = replay.state;
-    this.xs ??= new Float64Array(replay.robots);
-    this.ys ??= new Float64Array(replay.robots);
+  // From each robot to its goal.
+  drawLines() {
+    const { pen, view, replay } = this;
+    pen.lineWidth = Math.max(1, Math.min(view.scale / 14, 5 * this.ratio));
     for (let robot = 0; robot < replay.robots; robot += 1) {
-      const here = cells[robot];
-      const there = ahead[robot];
-      const column = here % width;
-      const row = (here - column) / width;
-      const nextColumn = there % width;
-      const nextRow = (there - nextColumn) / width;
-      this.xs[robot] = view.left + (column + (nextColumn - column) * fraction + 0.5) * view.scale;
-      this.ys[robot] = view.top + (row + (nextRow - row) * fraction + 0.5) * view.scale;
+      const queue = replay.state.queues[robot];
+      if (queue.length === 0) continue;
+      const [x, y] = this.pointOf(queue[0].cell);
+      pen.strokeStyle = this.colours.robots[robot].fill;
+      pen.globalAlpha = (replay.robots > 100 ? 0.25 : 0.45) * this.strengthOf(robot);
+      pen.beginPath();
+      pen.moveTo(this.xs[robot], this.ys[robot]);
+      pen.lineTo(x, y);
+      pen.stroke();
     }
+    pen.globalAlpha = 1;
   }
 
+  // A square for each robot's goal. Where several have one goal, each further square is smaller, within the one before.
   drawGoals() {
     const { pen, view, replay } = this;
-    const { width } = replay.map;
-    const half = Math.max(view.scale * 0.3, 2 * this.ratio);
+    const half = Math.max(view.scale * 0.42, 2 * this.ratio);
+    const line = Math.max(1.2, Math.min(view.scale / 12, 5 * this.ratio));
+    pen.lineWidth = line;
+    const shared = new Map();
     for (let robot = 0; robot < replay.robots; robot += 1) {
       const queue = replay.state.queues[robot];
       if (queue.length === 0) continue;
       const goal = queue[0].cell;
-      const x = view.left + (goal % width + 0.5) * view.scale;
-      const y = view.top + (Math.floor(goal / width) + 0.5) * view.scale;
-      pen.strokeStyle = this.hues[robot];
-      if (this.shows.lines) {
-        pen.globalAlpha = replay.robots > 100 ? 0.25 : 0.4;
-        pen.lineWidth = Math.max(1, Math.min(view.scale / 14, 5 * this.ratio));
-        pen.beginPath();
-        pen.moveTo(this.xs[robot], this.ys[robot]);
-        pen.lineTo(x, y);
-        pen.stroke();
-        pen.globalAlpha = 1;
-      }
-      if (this.shows.goals) {
-        pen.lineWidth = Math.max(1.2, Math.min(view.scale / 11, 5 * this.ratio));
-        pen.strokeRect(x - half, y - half, 2 * half, 2 * half);
-      }
+      const inner = shared.get(goal) ?? 0;
+      shared.set(goal, inner + 1);
+      const side = Math.max(half - inner * 1.6 * line, line);
+      const [x, y] = this.pointOf(goal);
+      pen.strokeStyle = this.colours.robots[robot].fill;
+      pen.globalAlpha = this.strengthOf(robot);
+      pen.strokeRect(x - side, y - side, 2 * side, 2 * side);
     }
+    pen.globalAlpha = 1;
   }
 
   drawRobots(fraction) {
     const { pen, view, replay, colours } = this;
     const { frame, queues, shut } = replay.state;
-    const radius = Math.max(view.scale * 0.4, 2.4 * this.ratio);
-    const arrived = replay.arrivedAt(frame);
-    const eldest = replay.eldest[frame];
-    const named = view.scale > 15 * this.ratio;
+    const radius = Math.max(view.scale * 0.36, 2.4 * this.ratio);
+    const numbered = view.scale >= LEAST_NUMBERED * this.ratio;
+    const outlined = this.shows.heat || view.scale >= LEAST_NUMBERED * this.ratio;
     for (let robot = 0; robot < replay.robots; robot += 1) {
-      const x = this.xs[robot];
-      const y = this.ys[robot];
-      pen.fillStyle = queues[robot].length > 0 ? this.hues[robot] : colours.idle;
+      const [x, y] = [this.xs[robot], this.ys[robot]];
+      const idle = queues[robot].length === 0;
+      pen.globalAlpha = this.strengthOf(robot);
+      pen.fillStyle = idle ? colours.idle : this.colours.robots[robot].fill;
       pen.beginPath();
-      if (shut[robot]) pen.rect(x - radius * 0.85, y - radius * 0.85, radius * 1.7, radius * 1.7);
+      if (shut[robot]) pen.rect(x - radius * 0.88, y - radius * 0.88, radius * 1.76, radius * 1.76);
       else pen.arc(x, y, radius, 0, 2 * Math.PI);
       pen.fill();
+      if (outlined) {
+        pen.strokeStyle = colours.ink;
+        pen.lineWidth = Math.max(1, Math.min(view.scale / 30, 2 * this.ratio));
+        pen.stroke();
+      }
       if (shut[robot]) this.drawBar(x, y, radius);
-      if (named) this.drawNumber(robot, x, y);
+      if (numbered) this.drawNumber(robot, x, y, idle);
     }
-    pen.lineWidth = Math.max(1.5 * this.ratio, Math.min(view.scale / 12, 5 * this.ratio));
-    if (eldest >= 0) {
-      pen.strokeStyle = colours.ink;
-      pen.beginPath();
-      pen.arc(this.xs[eldest], this.ys[eldest], radius * 1.18, 0, 2 * Math.PI);
-      pen.stroke();
-    }
-    for (const robot of arrived) {
-      pen.strokeStyle = this.hues[robot];
-      pen.globalAlpha = 1 - 0.7 * fraction;
-      pen.beginPath();
-      pen.arc(this.xs[robot], this.ys[robot], radius * (1.32 + 0.5 * fraction), 0, 2 * Math.PI);
-      pen.stroke();
-      pen.globalAlpha = 1;
-    }
+    pen.globalAlpha = 1;
+    this.drawRings(radius, fraction, frame);
   }
 
+  // Round the eldest, the picked one, and those that arrive.
+  drawRings(radius, fraction, frame) {
+    const { pen, view, replay, colours } = this;
+    pen.lineWidth = Math.max(1.5 * this.ratio, Math.min(view.scale / 12, 5 * this.ratio));
+    const ring = (robot, colour, factor) => {
+      pen.strokeStyle = colour;
+      pen.beginPath();
+      pen.arc(this.xs[robot], this.ys[robot], radius * factor, 0, 2 * Math.PI);
+      pen.stroke();
+    };
+    if (replay.eldest[frame] >= 0) ring(replay.eldest[frame], colours.ink, 1.2);
+    if (this.picked !== null) ring(this.picked, colours.accent, 1.45);
+    const part = Math.max(0, fraction);
+    pen.globalAlpha = 1 - 0.7 * part;
+    for (const robot of replay.arrivedAt(frame)) ring(robot, this.colours.robots[robot].fill, 1.4 + 0.5 * part);
+    pen.globalAlpha = 1;
+  }
+
+  // The mark of a shut robot: a bar below its number.
   drawBar(x, y, radius) {
     const { pen, colours } = this;
-    pen.strokeStyle = colours.floor;
-    pen.lineWidth = Math.max(1, radius * 0.22);
-    pen.beginPath();
-    pen.moveTo(x - radius * 0.8, y + radius * 0.8);
-    pen.lineTo(x + radius * 0.8, y - radius * 0.8);
-    pen.stroke();
+    pen.fillStyle = colours.ink;
+    pen.fillRect(x - radius * 0.88, y + radius * 0.62, radius * 1.76, radius * 0.3);
   }
 
-  drawNumber(robot, x, y) {
-    const { pen, view } = this;
-    pen.fillStyle = '#ffffff';
-    pen.font = `600 ${Math.round(view.scale * (robot > 99 ? 0.3 : 0.4))}px system-ui, sans-serif`;
+  drawNumber(robot, x, y, idle) {
+    const { pen, view, colours } = this;
+    const size = Math.max(view.scale * (robot > 99 ? 0.32 : 0.42), 5.5 * this.ratio);
+    pen.fillStyle = idle ? colours.digitsOnIdle : colours.robots[robot].digits;
+    pen.font = `600 ${size.toFixed(1)}px system-ui, sans-serif`;
     pen.textAlign = 'center';
     pen.textBaseline = 'middle';
-    pen.fillText(String(robot), x, y + view.scale * 0.03);
+    pen.fillText(String(robot), x, y + view.scale * 0.02);
+  }
+
+  // Where the picked robot was, drawn whole, and where it goes, dotted.
+  drawPath(robot) {
+    const { pen, view, replay } = this;
+    const { frame } = replay.state;
+    const { cells, here } = replay.pathOf(robot, frame - PATH_FRAMES, frame + PATH_FRAMES);
+    pen.strokeStyle = this.colours.robots[robot].fill;
+    pen.lineJoin = 'round';
+    pen.lineWidth = Math.max(2 * this.ratio, Math.min(view.scale / 6, 8 * this.ratio));
+    const along = (part, dashes, alpha) => {
+      pen.setLineDash(dashes);
+      pen.globalAlpha = alpha;
+      pen.beginPath();
+      part.forEach((cell, place) => {
+        const [x, y] = this.pointOf(cell);
+        if (place === 0) pen.moveTo(x, y);
+        else pen.lineTo(x, y);
+      });
+      pen.stroke();
+    };
+    along(cells.slice(0, here + 1), [], 0.35);
+    along(cells.slice(here), [pen.lineWidth, pen.lineWidth * 1.5], 0.8);
+    pen.setLineDash([]);
+    pen.globalAlpha = 1;
+  }
+
+  // The errands of the picked robot after the first, numbered by their place in its queue.
+  drawQueue(robot) {
+    const { pen, view, replay } = this;
+    const half = Math.max(view.scale * 0.3, 2 * this.ratio);
+    pen.strokeStyle = this.colours.robots[robot].fill;
+    pen.fillStyle = this.colours.robots[robot].fill;
+    pen.lineWidth = Math.max(1, view.scale / 16);
+    pen.font = `600 ${Math.max(view.scale * 0.34, 9 * this.ratio).toFixed(1)}px system-ui, sans-serif`;
+    pen.textAlign = 'center';
+    pen.textBaseline = 'middle';
+    replay.state.queues[robot].slice(1).forEach((errand, place) => {
+      const [x, y] = this.pointOf(errand.cell);
+      pen.setLineDash([3 * this.ratio, 2 * this.ratio]);
+      pen.strokeRect(x - half, y - half, 2 * half, 2 * half);
+      pen.setLineDash([]);
+      pen.fillText(String(place + 2), x, y - half - 5 * this.ratio);
+    });
+  }
+
+  // The cells and robots at fault in the entry that the judge names, if this frame is its.
+  drawFaults() {
+    const { pen, view, replay, colours } = this;
+    pen.strokeStyle = colours.fault;
+    pen.fillStyle = colours.fault;
+    pen.lineWidth = Math.max(3 * this.ratio, Math.min(view.scale / 8, 8 * this.ratio));
+    const half = Math.max(view.scale * (0.5 + 0.12 * this.pulse), 7 * this.ratio);
+    for (const fault of this.faults) {
+      if (fault.frame !== replay.state.frame) continue;
+      for (const cell of [...fault.cells, ...fault.robots.map((robot) => replay.state.cells[robot])]) {
+        if (cell === undefined) continue;
+        const [x, y] = this.pointOf(cell);
+        pen.globalAlpha = 0.25 * this.pulse;
+        pen.fillRect(x - half, y - half, 2 * half, 2 * half);
+        pen.globalAlpha = 1;
+        pen.strokeRect(x - half, y - half, 2 * half, 2 * half);
+      }
+    }
   }
 }
 
-// ---- curves
+// ---- charts
 
-class Curve {
-  constructor(canvas, values) {
+const WINDOW = 100;
+
+// How many robots arrived in the last ticks, by frame.
+function recentArrivals(arrivals) {
+  return arrivals.map((count, frame) => count - arrivals[Math.max(0, frame - WINDOW)]);
+}
+
+// A chart tells the value of the frame under the pointer, and goes to it at a click.
+class Chart {
+  constructor(canvas, values, name) {
     this.canvas = canvas;
     this.values = values;
+    this.name = name;
+    this.limit = null;
     this.most = 1;
     for (const value of values) if (value > this.most) this.most = value;
+  }
+
+  // A line at the greatest value that is possible, if it is near enough to be drawn.
+  setLimit(limit) {
+    this.limit = limit !== null && limit <= 4 * this.most ? limit : null;
+    if (this.limit !== null) this.most = Math.max(this.most, limit);
   }
 
   // The line, drawn once for its size and colours: by column the greatest value.
@@ -686,12 +1188,29 @@ class Curve {
     const pen = this.line.getContext('2d');
     pen.strokeStyle = colours.line;
     pen.lineWidth = 1;
-    pen.strokeRect(0.5, 0.5, canvas.width - 1, canvas.height - 1);
-    pen.strokeStyle = colours.accent;
-    pen.lineWidth = 1.6 * ratio;
+    pen.strokeRect(this.xOf(0), 0.5, canvas.width - this.xOf(0) - 1, this.yOf(0));
+    if (this.limit !== null) {
+      pen.strokeStyle = colours.mark;
+      pen.setLineDash([4 * ratio, 3 * ratio]);
+      pen.strokeRect(this.xOf(0), this.yOf(this.limit), canvas.width - this.xOf(0), 0);
+      pen.setLineDash([]);
+    }
+    this.paintValues(pen);
+    pen.fillStyle = colours.soft;
+    pen.font = `${11 * ratio}px system-ui, sans-serif`;
+    pen.textAlign = 'right';
+    pen.fillText(String(this.most), 46 * ratio, 12 * ratio);
+    pen.fillText('0', 46 * ratio, this.yOf(0));
+    this.labelEnds(pen);
+  }
+
+  paintValues(pen) {
+    const { values } = this;
+    pen.strokeStyle = this.colours.accent;
+    pen.lineWidth = 1.6 * this.ratio;
     pen.lineJoin = 'round';
     pen.beginPath();
-    const columns = Math.min(values.length, canvas.width - Math.round(50 * ratio));
+    const columns = Math.min(values.length, this.canvas.width - Math.round(50 * this.ratio));
     for (let column = 0; column < columns; column += 1) {
       const from = Math.floor(column * values.length / columns);
       const to = Math.max(from + 1, Math.floor((column + 1) * values.length / columns));
@@ -702,11 +1221,15 @@ class Curve {
       else pen.lineTo(this.xOf(from), y);
     }
     pen.stroke();
-    pen.fillStyle = colours.soft;
-    pen.font = `${11 * ratio}px system-ui, sans-serif`;
+  }
+
+  // The first and the last tick under the line.
+  labelEnds(pen) {
+    if (this.ends === undefined) return;
+    pen.textAlign = 'left';
+    pen.fillText(this.ends[0], this.xOf(0), this.canvas.height - 2 * this.ratio);
     pen.textAlign = 'right';
-    pen.fillText(String(this.most), 46 * ratio, 14 * ratio);
-    pen.fillText('0', 46 * ratio, canvas.height - 5 * ratio);
+    pen.fillText(this.ends[1], this.canvas.width - 2, this.canvas.height - 2 * this.ratio);
   }
 
   xOf(at) {
@@ -715,7 +1238,16 @@ class Curve {
   }
 
   yOf(value) {
-    return this.canvas.height - 3 - value / this.most * (this.canvas.height - 6);
+    const low = this.canvas.height - 14 * this.ratio;
+    return low - value / this.most * (low - 3);
+  }
+
+  // The frame at a place of the page.
+  frameAt(clientX) {
+    const left = 50 * this.ratio;
+    const x = (clientX - this.canvas.getBoundingClientRect().left) * this.ratio;
+    const frame = Math.round((x - left) / Math.max(1, this.canvas.width - left - 2) * (this.values.length - 1));
+    return Math.min(Math.max(frame, 0), this.values.length - 1);
   }
 
   draw(frame) {
@@ -726,65 +1258,47 @@ class Curve {
     pen.lineWidth = this.ratio;
     pen.beginPath();
     pen.moveTo(this.xOf(frame), 0);
-    pen.lineTo(this.xOf(frame), this.canvas.height);
+    pen.lineTo(this.xOf(frame), this.yOf(0));
     pen.stroke();
   }
 }
 
 // ---- texts next to the map
 
-function textCell(row) {
-  const cell = document.createElement('td');
-  row.append(cell);
-  return cell;
-}
-
-class RobotTable {
-  constructor(body, replay) {
-    this.replay = replay;
-    this.rows = Array.from({ length: replay.robots }, (_, robot) => {
-      const row = document.createElement('tr');
-      const name = document.createElement('th');
-      name.scope = 'row';
-      const dot = document.createElement('span');
-      dot.className = 'dot';
-      name.append(dot, String(robot));
-      row.append(name);
-      body.append(row);
-      return { row, dot, hue: hueOf(robot), cells: Array.from({ length: 5 }, () => textCell(row)), shown: [] };
-    });
-  }
-
-  // Only what changed is written.
-  draw(colours) {
-    const { replay } = this;
-    const { cells, queues, shut, frame } = replay.state;
-    for (let robot = 0; robot < replay.robots; robot += 1) {
-      const { row, dot, hue, cells: places, shown } = this.rows[robot];
-      const queue = queues[robot];
-      const idle = queue.length === 0;
-      const wait = replay.waitOf(robot);
-      const texts = [cells[robot], idle ? '\u2013' : queue[0].cell, queue.length, wait === null ? '\u2013' : wait, shut[robot] ? (idle ? 'gone' : 'shut') : ''];
-      texts.forEach((text, place) => {
-        if (shown[place] === text) return;
-        shown[place] = text;
-        places[place].textContent = text;
-      });
-      const colour = idle ? colours.idle : hue;
-      if (shown[5] !== colour) {
-        shown[5] = colour;
-        dot.style.background = colour;
-      }
-      const eldest = replay.eldest[frame] === robot;
-      if (shown[6] !== eldest) {
-        shown[6] = eldest;
-        row.classList.toggle('eldest', eldest);
-      }
-    }
-  }
-}
-
+const REFUSALS = ['', 'client-closed', 'no-robot', 'robot-shut', 'no-cell', 'blocked', 'unreachable', 'queue-full', 'life-spent', 'no-errand', 'too-late'];
 const MOST_ENTRIES = 200;
+
+function cellName(map, cell) {
+  return `${cell} (row ${Math.floor(cell / map.width)}, column ${cell % map.width})`;
+}
+
+function orderText(map, client, order) {
+  if (order[0] === 'go') return `client ${client} sends robot ${order[1]} to cell ${cellName(map, order[2])}`;
+  if (order[0] === 'withdraw') return `client ${client} withdraws its errand ${order[1]}`;
+  return `client ${client} closes`;
+}
+
+function verdictText(verdict) {
+  if (verdict[0] === 'accepted') return `accepted as errand ${verdict[1]}`;
+  if (verdict[0] === 'refused') return `refused: ${REFUSALS[verdict[1]] ?? verdict[1]}`;
+  return verdict[0];
+}
+
+// What the list of entries says of an event.
+function noteOf(map, entry) {
+  switch (entry[0]) {
+    case 'take': return `${orderText(map, entry[1], entry[2])}: ${verdictText(entry[3])}`;
+    case 'arrival': {
+      const [, cell, robot, client, number, stamp] = entry;
+      const where = cell === undefined ? 'it does not say where' : `cell ${cellName(map, cell)}`;
+      return `robot ${robot} arrives at ${where}: errand ${number} of client ${client}, stamp ${stamp}`;
+    }
+    case 'farewell': return `robot ${entry[1]} takes its farewell with stamp ${entry[2]}`;
+    case 'shut': return `robot ${entry[1]} is shut${entry.length > 2 ? `, and takes its farewell with stamp ${entry[2]}` : ''}`;
+    case 'reopened': return `robot ${entry[1]} has another queue, wait or state than at the end of the chapter before`;
+    default: return `chapter ${entry[1]} begins`;
+  }
+}
 
 function showEntries(list, replay) {
   const { frame } = replay.state;
@@ -804,7 +1318,88 @@ function showEntries(list, replay) {
   list.replaceChildren(...items);
 }
 
-// ---- the page
+function stateText(shut, idle) {
+  if (shut) return idle ? 'shut, done' : 'shut';
+  return idle ? 'idle' : '';
+}
+
+function textCell(row) {
+  const cell = document.createElement('td');
+  row.append(cell);
+  return cell;
+}
+
+class RobotTable {
+  constructor(body, replay) {
+    this.replay = replay;
+    this.rows = Array.from({ length: replay.robots }, (_, robot) => {
+      const row = document.createElement('tr');
+      row.dataset.robot = robot;
+      const name = document.createElement('th');
+      name.scope = 'row';
+      const button = document.createElement('button');
+      button.type = 'button';
+      button.className = 'pick';
+      button.setAttribute('aria-pressed', 'false');
+      const dot = document.createElement('span');
+      dot.className = 'dot';
+      button.append(dot, String(robot));
+      name.append(button);
+      row.append(name);
+      body.append(row);
+      return { row, dot, button, cells: Array.from({ length: 5 }, () => textCell(row)), shown: [] };
+    });
+  }
+
+  // Only what changed is written.
+  draw(colours, picked) {
+    const { replay } = this;
+    const { cells, queues, shut, frame } = replay.state;
+    for (let robot = 0; robot < replay.robots; robot += 1) {
+      const { row, dot, button, cells: places, shown } = this.rows[robot];
+      const queue = queues[robot];
+      const idle = queue.length === 0;
+      const wait = replay.waitOf(robot);
+      const texts = [cells[robot], idle ? '\u2013' : queue[0].cell, queue.length, wait === null ? '\u2013' : wait, stateText(shut[robot], idle)];
+      texts.forEach((text, place) => {
+        if (shown[place] === text) return;
+        shown[place] = text;
+        places[place].textContent = text;
+      });
+      const marks = [idle ? colours.idle : colours.robots[robot].fill, replay.eldest[frame] === robot, picked === robot];
+      if (shown[5] !== marks[0]) dot.style.background = marks[0];
+      if (shown[6] !== marks[1]) row.classList.toggle('eldest', marks[1]);
+      if (shown[7] !== marks[2]) {
+        row.classList.toggle('picked', marks[2]);
+        button.setAttribute('aria-pressed', marks[2]);
+      }
+      [shown[5], shown[6], shown[7]] = marks;
+    }
+  }
+}
+
+// What is said of the picked robot.
+function robotText(replay, robot) {
+  const queue = replay.state.queues[robot];
+  const wait = replay.waitOf(robot);
+  const errands = queue.map((errand) => `${errand.cell} (client ${errand.client}, errand ${errand.number})`);
+  const words = [`Robot ${robot} is on cell ${cellName(replay.map, replay.state.cells[robot])}.`];
+  if (errands.length === 0) words.push(replay.state.shut[robot] ? 'It is shut, and done.' : 'It is idle.');
+  else words.push(`It has waited ${wait} tick${wait === 1 ? '' : 's'}, and is sent to ${errands.length === 1 ? 'cell' : 'cells'} ${errands.slice(0, 20).join(', then ')}${errands.length > 20 ? `, and ${errands.length - 20} more` : ''}.`);
+  return words.join(' ');
+}
+
+// ---- what the page shows
+
+const SPEEDS = [1, 2, 4, 8, 16, 30, 60, 120];
+const SHOWN = ['heat', 'goals', 'lines'];
+const GLIDE = 140;
+const FLASH = 3000;
+const MOST_BANNERS = 5;
+
+function element(name) {
+  return document.getElementById(name);
+}
 
 class Page {
   constructor(map, replay) {
@@ -812,19 +1407,23 @@ class Page {
     this.replay = replay;
     this.playing = false;
     this.fraction = 0;
-    this.bound = undefined;
-    this.view = new MapView(this.at('map'), replay);
-    this.curves = [new Curve(this.at('arrivals-curve'), replay.arrivals), new Curve(this.at('wait-curve'), replay.wait)];
-    this.table = new RobotTable(this.at('robots'), replay);
-    this.at('slider').max = String(replay.last);
+    this.speed = 8;
+    this.hovered = null;
+    this.view = new MapView(element('map'), replay);
+    this.view.faults = replay.faults;
+    this.waitChart = new Chart(element('wait-chart'), replay.wait, 'longest wait');
+    this.charts = [
+      new Chart(element('arrivals-chart'), recentArrivals(replay.arrivals), `arrivals in ${WINDOW} ticks`),
+      new Chart(element('idle-chart'), replay.idle, 'idle robots'),
+      this.waitChart,
+    ];
+    this.table = new RobotTable(element('robots'), replay);
+    element('slider').max = String(replay.last);
     this.describe();
-    this.listen();
-    this.readHash();
+    this.showVerdict();
+    this.setSpeed(this.speed);
+    this.readAddress();
     this.repaint();
-  }
-
-  at(name) {
-    return document.getElementById(name);
   }
 
   describe() {
@@ -832,22 +1431,52 @@ class Page {
     const { chapters } = replay;
     const named = chapters.length > 1 ? `chapters ${chapters[0].number} to ${chapters[chapters.length - 1].number}` : `chapter ${chapters[0].number}`;
     const text = `${map.width} \u00d7 ${map.height} cells \u00b7 ${replay.robots} robots \u00b7 ${named} \u00b7 ${replay.last} ticks`;
-    this.at('summary').textContent = text;
+    element('summary').textContent = text;
     document.title = `Fleet: ${text}`;
+    for (const chart of this.charts) chart.ends = [`tick ${replay.clockAt(0)}`, `tick ${replay.clockAt(replay.last)}`];
+  }
+
+  // The judge's verdict: a line for each chapter that is illegal, with a jump to the tick, and a mark on the slider.
+  showVerdict() {
+    const { faults, last } = this.replay;
+    const { dataset } = document.body;
+    dataset.verdict = faults.length === 0 ? 'legal' : 'illegal';
+    dataset.faultFrames = faults.map((fault) => fault.frame).join(' ');
+    dataset.faultRobots = faults.map((fault) => fault.robots.join(',')).join(' ');
+    element('judged').textContent = faults.length === 0 ? 'judged legal' : '';
+    element('verdict').hidden = faults.length === 0;
+    const lines = faults.slice(0, MOST_BANNERS).map((fault) => {
+      const line = document.createElement('p');
+      const button = document.createElement('button');
+      button.type = 'button';
+      button.className = 'jump';
+      button.textContent = `Show tick ${this.replay.clockAt(fault.frame)}`;
+      button.addEventListener('click', () => this.jump(fault.frame));
+      const of = this.replay.chapters.length > 1 ? `Chapter ${fault.chapter} is ` : 'This trace is ';
+      line.append(`${of}${faultText(fault)}. `, button);
+      return line;
+    });
+    if (faults.length > MOST_BANNERS) lines.push(`${faults.length - MOST_BANNERS} more chapters are illegal.`);
+    element('verdict').replaceChildren(...lines);
+    element('marks').replaceChildren(...faults.map((fault) => {
+      const mark = document.createElement('span');
+      mark.style.setProperty('--part', String(last === 0 ? 0 : fault.frame / last));
+      return mark;
+    }));
   }
 
   // A new size or new colours.
   repaint() {
-    const colours = readColours();
+    const colours = readColours(this.replay.robots);
     this.colours = colours;
     this.view.paintLetters(colours);
     this.view.resize();
-    for (const curve of this.curves) curve.paint(colours, this.view.ratio);
+    for (const chart of this.charts) chart.paint(colours, this.view.ratio);
     this.draw();
   }
 
   draw() {
-    this.view.draw(this.playing ? this.fraction : 0);
+    this.view.draw(this.fraction);
     this.drawTexts();
   }
 
@@ -857,20 +1486,25 @@ class Page {
     const { frame } = replay.state;
     if (this.drawnFrame === frame && this.playing) return;
     this.drawnFrame = frame;
-    for (const curve of this.curves) curve.draw(frame);
-    this.at('slider').value = String(frame);
-    this.at('clock').textContent = `tick ${replay.clockAt(frame)} of ${replay.clockAt(replay.last)}`;
-    this.at('arrivals').textContent = replay.arrivals[frame];
-    this.at('unfinished').textContent = replay.unfinished[frame];
-    this.at('wait').textContent = replay.wait[frame] < 0 ? '\u2013' : replay.wait[frame];
-    this.at('eldest').textContent = replay.eldest[frame] < 0 ? '\u2013' : replay.eldest[frame];
+    for (const chart of this.charts) chart.draw(frame);
+    element('slider').value = String(frame);
+    const clock = `tick ${replay.clockAt(frame)} of ${replay.clockAt(replay.last)}`;
+    element('slider').setAttribute('aria-valuetext', clock);
+    element('clock').textContent = clock;
+    element('arrivals').textContent = replay.arrivals[frame];
+    element('unfinished').textContent = replay.unfinished[frame];
+    element('wait').textContent = replay.wait[frame] < 0 ? '\u2013' : replay.wait[frame];
+    element('eldest').textContent = replay.eldest[frame] < 0 ? '\u2013' : replay.eldest[frame];
+    this.tellHovered();
     const now = performance.now();
     if (!this.playing || !(now - this.listed < 200)) {
       this.listed = now;
-      this.table.draw(this.colours);
-      showEntries(this.at('entries'), replay);
+      this.table.draw(this.colours, this.view.picked);
+      showEntries(element('entries'), replay);
+      element('picked').textContent = this.view.picked === null ? '' : robotText(replay, this.view.picked);
     }
     this.publish();
+    this.writeAddress();
   }
 
   // What the page shows, for tests and other tools.
@@ -891,41 +1525,75 @@ class Page {
     dataset.shut = shut.join(' ');
     dataset.arrived = replay.arrivedAt(frame).join(' ');
     dataset.playing = this.playing;
+    dataset.robot = this.view.picked ?? 'none';
+    dataset.zoom = this.view.zoom.toFixed(2);
+    dataset.middle = `${this.view.middle.x.toFixed(2)} ${this.view.middle.y.toFixed(2)}`;
     if (!this.playing) {
       dataset.waits = queues.map((_, robot) => replay.waitOf(robot) ?? '-').join(' ');
       dataset.heat = replay.state.heat.reduce((sum, count) => sum + count, 0);
     }
   }
 
-  showBound() {
-    const { replay } = this;
-    const bridged = hasBridge(this.map);
-    const far = bridged ? null : greatestDistance(this.map);
-    let text;
-    if (bridged) text = 'The map has a bridge, so no bound on waits is promised.';
-    else if (far === null) text = 'The map is bridgeless: waits are bounded. The bound takes too long to work out here.';
-    else text = `The map is bridgeless: every wait is below ${replay.robots} robots \u00d7 distance ${far} = ${replay.robots * far}.`;
-    this.at('bound').textContent = text;
-    document.body.dataset.bound = far === null ? 'none' : replay.robots * far;
-    document.body.dataset.bridge = bridged;
+  // Works out the bound on waits, a few milliseconds at a time.
+  searchBound() {
+    const search = findBound(this.map, this.replay);
+    const slice = () => {
+      const end = performance.now() + 8;
+      let step = search.next();
+      while (!step.done && performance.now() < end) step = search.next();
+      if (step.done) this.showBound(step.value);
+      else setTimeout(slice, 0);
+    };
+    setTimeout(slice, 0);
   }
+
+  showBound({ bound, text }) {
+    element('bound').textContent = text;
+    document.body.dataset.bound = bound ?? 'none';
+    this.waitChart.setLimit(bound);
+    this.waitChart.paint(this.colours, this.view.ratio);
+    this.waitChart.draw(this.replay.state.frame);
+  }
+
+  // ---- time
 
   seek(frame) {
     this.fraction = 0;
     this.replay.seek(Math.min(Math.max(frame, 0), this.replay.last));
     this.draw();
-    if (!this.playing) this.announce();
+    if (!this.playing) {
+      this.announce();
+      this.flash();
+    }
+  }
+
+  jump(frame) {
+    this.pause();
+    this.seek(frame);
+  }
+
+  step(by) {
+    this.jump(this.replay.state.frame + by);
+  }
+
+  // The next or the previous frame at which something arrives, is refused or is shut.
+  stepToEvent(direction) {
+    const telling = (event) => event.kind !== 'join' && event.kind !== 'withdraw';
+    let frame = this.replay.state.frame + direction;
+    while (frame > 0 && frame < this.replay.last && !(this.replay.events[frame] ?? []).some(telling)) frame += direction;
+    this.jump(frame);
   }
 
   announce() {
     const { replay } = this;
     const { frame } = replay.state;
-    this.at('announce').textContent = `tick ${replay.clockAt(frame)}, ${replay.arrivals[frame]} arrivals, ${replay.unfinished[frame]} unfinished`;
+    const fault = replay.faults.find((one) => one.frame === frame);
+    const said = `tick ${replay.clockAt(frame)}, ${replay.arrivals[frame]} arrivals, ${replay.unfinished[frame]} unfinished`;
+    this.say(fault === undefined ? said : `${said}; ${faultText(fault)}`);
   }
 
-  step(by) {
-    this.pause();
-    this.seek(this.replay.state.frame + by);
+  say(text) {
+    element('announce').textContent = text;
   }
 
   toggle() {
@@ -943,30 +1611,69 @@ class Page {
     requestAnimationFrame((now) => this.animate(now));
   }
 
+  // The replay stops at the nearer tick, and robots that are drawn on their way glide to their cells of that tick.
   pause() {
     if (!this.playing) return;
     this.playing = false;
-    this.fraction = 0;
+    if (this.fraction >= 0.5 && this.replay.state.frame < this.replay.last) {
+      this.replay.go();
+      this.fraction -= 1;
+    }
     this.markPlaying();
     this.draw();
     this.announce();
+    this.flash();
+    this.glide(performance.now(), this.fraction);
+  }
+
+  glide(since, from) {
+    if (from === 0) return;
+    const ease = (now) => {
+      if (this.playing || this.fraction === 0) return;
+      const left = Math.max(0, 1 - Math.max(0, now - since) / GLIDE);
+      this.fraction = left > 0 ? from * left : 0;
+      this.view.draw(this.fraction);
+      if (left > 0) requestAnimationFrame(ease);
+    };
+    requestAnimationFrame(ease);
+  }
+
+  // The cells at fault flash for a while, unless the system asks for less motion.
+  flash() {
+    const { replay, view } = this;
+    const { frame } = replay.state;
+    view.pulse = 0;
+    if (!replay.faults.some((fault) => fault.frame === frame) || matchMedia('(prefers-reduced-motion: reduce)').matches) return;
+    const since = performance.now();
+    this.flashing = since;
+    const beat = (now) => {
+      if (this.flashing !== since || this.playing || replay.state.frame !== frame) return;
+      const past = Math.max(0, now - since);
+      view.pulse = past >= FLASH ? 0 : (1 - Math.cos(past / 250 * Math.PI)) / 2;
+      view.draw(this.fraction);
+      if (past < FLASH) requestAnimationFrame(beat);
+    };
+    requestAnimationFrame(beat);
   }
 
   markPlaying() {
-    const button = this.at('play');
+    const button = element('play');
     button.textContent = this.playing ? '\u275a\u275a' : '\u25b6';
     button.setAttribute('aria-label', this.playing ? 'Pause' : 'Play');
+    document.body.dataset.playing = this.playing;
   }
 
   animate(now) {
     if (!this.playing) return;
-    this.fraction += Math.max(0, now - this.then) / 1000 * Number(this.at('speed').value);
+    // a page that was hidden goes on from where it was
+    this.fraction += Math.min(Math.max(0, now - this.then), 500) / 1000 * this.speed;
     this.then = now;
     while (this.fraction >= 1 && this.replay.state.frame < this.replay.last) {
       this.fraction -= 1;
       this.replay.go();
     }
     if (this.replay.state.frame === this.replay.last) {
+      this.fraction = 0;
       this.pause();
       return;
     }
@@ -985,125 +1692,383 @@ class Page {
     counted.since = now;
   }
 
-  // ---- controls
+  setSpeed(speed) {
+    this.speed = speed;
+    element('speed').textContent = `${speed} tick${speed === 1 ? '' : 's'} a second`;
+    document.body.dataset.speed = speed;
+  }
 
-  listen() {
-    this.at('play').addEventListener('click', () => this.toggle());
-    this.at('back').addEventListener('click', () => this.step(-1));
-    this.at('on').addEventListener('click', () => this.step(1));
-    this.at('slider').addEventListener('input', (event) => {
-      this.pause();
-      this.seek(Number(event.target.value));
-    });
-    for (const name of ['heat', 'goals', 'lines']) {
-      this.at(`show-${name}`).addEventListener('change', (event) => {
-        this.view.shows[name] = event.target.checked;
-        this.draw();
-      });
-    }
-    const middle = () => [this.view.canvas.width / 2, this.view.canvas.height / 2];
-    this.zoomBy = (factor) => {
-      this.view.zoom(factor, ...middle());
-      this.draw();
-    };
-    this.at('zoom-in').addEventListener('click', () => this.zoomBy(1.5));
-    this.at('zoom-out').addEventListener('click', () => this.zoomBy(1 / 1.5));
-    this.at('zoom-fit').addEventListener('click', () => this.showAll());
-    this.listenToMap();
-    window.addEventListener('keydown', (event) => this.key(event));
-    window.addEventListener('resize', () => this.repaint());
-    window.addEventListener('hashchange', () => this.readHash());
-    matchMedia('(prefers-color-scheme: dark)').addEventListener('change', () => this.repaint());
+  changeSpeed(by) {
+    const place = Math.min(Math.max(SPEEDS.indexOf(this.speed) + by, 0), SPEEDS.length - 1);
+    this.setSpeed(SPEEDS[place]);
+    this.say(element('speed').textContent);
+  }
+
+  // ---- view
+
+  show(name, on) {
+    this.view.shows[name] = on;
+    element(`show-${name}`).checked = on;
+    this.draw();
+  }
+
+  zoomBy(factor) {
+    const { canvas } = this.view;
+    this.view.zoomAt(factor, canvas.width / 2, canvas.height / 2);
+    this.draw();
+  }
+
+  pan(right, down) {
+    this.follow(false);
+    this.view.pan(right, down);
+    this.draw();
   }
 
   showAll() {
+    this.follow(false);
     this.view.fit();
     this.draw();
   }
 
-  listenToMap() {
-    const canvas = this.at('map');
-    const place = (event) => {
-      const box = canvas.getBoundingClientRect();
-      return [(event.clientX - box.left) * this.view.ratio, (event.clientY - box.top) * this.view.ratio];
-    };
-    let held = null;
-    canvas.addEventListener('wheel', (event) => {
-      event.preventDefault();
-      this.view.zoom(Math.exp(-event.deltaY / 400), ...place(event));
-      this.draw();
-    }, { passive: false });
-    canvas.addEventListener('pointerdown', (event) => {
-      held = place(event);
-      canvas.setPointerCapture(event.pointerId);
-      canvas.classList.add('held');
-    });
-    canvas.addEventListener('pointermove', (event) => {
-      const [x, y] = place(event);
-      this.tellCell(this.view.cellAt(x, y));
-      if (held === null) return;
-      this.view.drag(x - held[0], y - held[1]);
-      held = [x, y];
-      this.draw();
-    });
-    for (const name of ['pointerup', 'pointercancel']) {
-      canvas.addEventListener(name, () => {
-        held = null;
-        canvas.classList.remove('held');
-      });
+  follow(on) {
+    this.view.follows = on;
+    element('follow').checked = on;
+  }
+
+  pick(robot) {
+    const known = robot !== null && robot >= 0 && robot < this.replay.robots;
+    this.view.picked = known ? robot : null;
+    if (!known) this.follow(false);
+    element('unpick').hidden = !known;
+    this.draw();
+    if (known) {
+      this.table.rows[robot].row.scrollIntoView({ block: 'nearest' });
+      this.say(robotText(this.replay, robot));
     }
-    canvas.addEventListener('pointerleave', () => this.tellCell(-1));
   }
 
-  tellCell(cell) {
-    const robot = cell < 0 ? -1 : this.replay.state.cells.indexOf(cell);
-    const text = cell < 0 ? '' : `cell ${cellName(this.map, cell)}`;
-    this.at('hover').textContent = robot < 0 ? text : `${text}: robot ${robot}`;
+  pickNext(by) {
+    const { robots } = this.replay;
+    const { picked } = this.view;
+    const from = picked === null ? (by > 0 ? -1 : 0) : picked;
+    this.pick((from + by + robots) % robots);
   }
 
-  key(event) {
-    if (event.ctrlKey || event.metaKey || event.altKey) return;
-    const own = event.target instanceof Element ? event.target.closest('input, select, button') : null;
-    const far = event.shiftKey ? 10 : 1;
-    const deeds = {
-      ' ': () => this.toggle(),
-      ArrowRight: () => this.step(far),
-      ArrowLeft: () => this.step(-far),
-      Home: () => this.step(-this.replay.last),
-      End: () => this.step(this.replay.last),
-      '+': () => this.zoomBy(1.5),
-      '=': () => this.zoomBy(1.5),
-      '-': () => this.zoomBy(1 / 1.5),
-      0: () => this.showAll(),
-    };
-    const deed = deeds[event.key];
-    // a control that has the focus keeps the keys that it knows itself
-    if (deed === undefined || (own !== null && !['+', '=', '-', '0'].includes(event.key))) return;
-    event.preventDefault();
-    deed();
+  tellHovered() {
+    const cell = this.hovered === null ? -1 : this.view.cellAt(...this.hovered);
+    element('hover').textContent = cell < 0 ? '' : this.cellText(cell);
   }
 
-  // `#t=140` shows that tick, counted from the first opening; `#t=140&heat=1&goals=0&lines=0` what is drawn.
-  readHash() {
-    const words = new URLSearchParams(location.hash.slice(1));
-    for (const name of ['heat', 'goals', 'lines']) {
+  cellText(cell) {
+    const robots = [];
+    this.replay.state.cells.forEach((place, robot) => { if (place === cell) robots.push(robot); });
+    const text = `cell ${cellName(this.map, cell)}`;
+    return robots.length === 0 ? text : `${text}: robot${robots.length > 1 ? 's' : ''} ${robots.join(', ')}`;
+  }
+
+  // The cell in the middle of what is shown, for those who have no pointer.
+  tellMiddle() {
+    const { canvas } = this.view;
+    const text = this.cellText(this.view.cellAt(canvas.width / 2, canvas.height / 2));
+    element('hover').textContent = text;
+    this.say(text);
+  }
+
+  // ---- the address
+
+  // `#t=140` shows the tick at which the clock is 140, `#robot=3` picks a robot, `#zoom=2.5,10,7` shows the map 2.5 times
+  // as large with column 10, row 7 in the middle, and `#heat=1&goals=0&lines=0` says what is drawn.
+  readAddress(hash = location.hash) {
+    const words = new URLSearchParams(hash.slice(1));
+    for (const name of SHOWN) {
       if (!words.has(name)) continue;
       this.view.shows[name] = words.get(name) === '1';
-      this.at(`show-${name}`).checked = this.view.shows[name];
+      element(`show-${name}`).checked = this.view.shows[name];
     }
-    if (words.has('t')) {
-      this.playing = false;
-      this.replay.seek(Math.min(Math.max(Number.parseInt(words.get('t'), 10) || 0, 0), this.replay.last));
+    if (/^\d+$/.test(words.get('robot') ?? '')) {
+      const robot = Number(words.get('robot'));
+      this.view.picked = robot < this.replay.robots ? robot : null;
+      element('unpick').hidden = this.view.picked === null;
     }
-    if (this.colours !== undefined) this.draw();
+    const [zoom, x, y] = (words.get('zoom') ?? '').split(',').map(Number.parseFloat);
+    if (zoom > 0) {
+      this.view.zoom = zoom;
+      if (x >= 0 && y >= 0) this.view.middle = { x, y };
+    }
+    if (this.colours !== undefined) this.view.place();
+    if (/^\d+$/.test(words.get('t') ?? '')) {
+      this.pause();
+      this.fraction = 0;
+      this.replay.seek(this.replay.frameOf(BigInt(words.get('t'))));
+    }
+    if (this.colours !== undefined) {
+      this.draw();
+      this.flash();
+    }
+  }
+
+  address() {
+    const { view, replay } = this;
+    const words = [`t=${replay.clockAt(replay.state.frame)}`];
+    if (view.picked !== null) words.push(`robot=${view.picked}`);
+    if (view.zoom > 1) words.push(`zoom=${view.zoom.toFixed(2)},${view.middle.x.toFixed(1)},${view.middle.y.toFixed(1)}`);
+    for (const name of SHOWN) if (view.shows[name] !== (name !== 'heat')) words.push(`${name}=${view.shows[name] ? 1 : 0}`);
+    return `#${words.join('&')}`;
+  }
+
+  // The address follows, a few times a second at most: browsers refuse more.
+  writeAddress() {
+    if (this.addressTimer !== undefined) return;
+    this.addressTimer = setTimeout(() => {
+      this.addressTimer = undefined;
+      if (this.address() !== location.hash) history.replaceState(null, '', this.address());
+    }, 300);
+  }
+
+  async copyLink() {
+    history.replaceState(null, '', this.address());
+    try {
+      await navigator.clipboard.writeText(location.href);
+      this.tell('The link is copied.');
+    } catch {
+      this.tell('The browser does not let this page copy; the link is in the address line.');
+    }
+  }
+
+  savePicture() {
+    element('map').toBlob((picture) => {
+      const link = document.createElement('a');
+      link.href = URL.createObjectURL(picture);
+      link.download = `fleet_tick_${this.replay.clockAt(this.replay.state.frame)}.png`;
+      link.click();
+      setTimeout(() => URL.revokeObjectURL(link.href), 1000);
+    }, 'image/png');
+  }
+
+  // A short message next to the map, for the eye and the ear.
+  tell(text) {
+    element('hover').textContent = text;
+    this.say(text);
   }
 }
 
+// ---- keys, pointers and controls
+
+const PAN = 0.2;
+const ZOOM = 1.5;
+// how far a pointer may move, in pixels, and still be a click
+const CLICK = 6;
+
+function keysOf(page) {
+  const toggle = (name) => () => page.show(name, !page.view.shows[name]);
+  return {
+    ' ': () => page.toggle(),
+    ArrowRight: (far) => page.step(far),
+    ArrowLeft: (far) => page.step(-far),
+    Home: () => page.jump(0),
+    End: () => page.jump(page.replay.last),
+    n: () => page.stepToEvent(1),
+    b: () => page.stepToEvent(-1),
+    '<': () => page.changeSpeed(-1),
+    '>': () => page.changeSpeed(1),
+    '+': () => page.zoomBy(ZOOM),
+    '=': () => page.zoomBy(ZOOM),
+    '-': () => page.zoomBy(1 / ZOOM),
+    0: () => page.showAll(),
+    w: () => page.pan(0, -PAN),
+    s: () => page.pan(0, PAN),
+    a: () => page.pan(-PAN, 0),
+    d: () => page.pan(PAN, 0),
+    c: () => page.tellMiddle(),
+    '[': () => page.pickNext(-1),
+    ']': () => page.pickNext(1),
+    Escape: () => page.pick(null),
+    f: () => {
+      page.follow(!page.view.follows);
+      page.draw();
+    },
+    h: toggle('heat'),
+    g: toggle('goals'),
+    l: toggle('lines'),
+    y: () => page.copyLink(),
+    '?': () => element('help').showModal(),
+  };
+}
+
+function listenToKeys(page) {
+  const keys = keysOf(page);
+  window.addEventListener('keydown', (event) => {
+    if (event.ctrlKey || event.metaKey || event.altKey || element('help').open) return;
+    const key = keys[event.key] ?? keys[event.key.toLowerCase()];
+    if (key === undefined) return;
+    // a button or a box that has the focus keeps the space bar
+    const own = event.target instanceof Element ? event.target.closest('button, input[type="checkbox"], summary') : null;
+    if (own !== null && event.key === ' ') return;
+    event.preventDefault();
+    key(event.shiftKey ? 10 : 1);
+  });
+}
+
+// After a click on a control the keys are those of the map again. Who comes to a control by the tabulator key stays there.
+function returnFocus() {
+  let byPointer = false;
+  window.addEventListener('pointerdown', () => { byPointer = true; }, true);
+  window.addEventListener('keydown', () => { byPointer = false; }, true);
+  for (const name of ['click', 'change']) {
+    window.addEventListener(name, () => {
+      if (byPointer && !element('help').open) element('map').focus({ preventScroll: true });
+    });
+  }
+}
+
+function listenToControls(page) {
+  const clicks = {
+    play: () => page.toggle(),
+    back: () => page.step(-1),
+    on: () => page.step(1),
+    slower: () => page.changeSpeed(-1),
+    faster: () => page.changeSpeed(1),
+    'zoom-in': () => page.zoomBy(ZOOM),
+    'zoom-out': () => page.zoomBy(1 / ZOOM),
+    'zoom-fit': () => page.showAll(),
+    unpick: () => page.pick(null),
+    'copy-link': () => page.copyLink(),
+    'save-picture': () => page.savePicture(),
+    'show-help': () => element('help').showModal(),
+  };
+  for (const [name, click] of Object.entries(clicks)) element(name).addEventListener('click', click);
+  element('slider').addEventListener('input', (event) => page.jump(Number(event.target.value)));
+  for (const name of SHOWN) element(`show-${name}`).addEventListener('change', (event) => page.show(name, event.target.checked));
+  element('follow').addEventListener('change', (event) => {
+    page.follow(event.target.checked);
+    page.draw();
+  });
+  element('robots').addEventListener('click', (event) => {
+    const row = event.target.closest('tr');
+    if (row === null) return;
+    const robot = Number(row.dataset.robot);
+    page.pick(page.view.picked === robot ? null : robot);
+  });
+}
+
+// One pointer moves the map, or picks a robot if it does not move; two zoom it.
+class MapPointers {
+  constructor(page) {
+    this.page = page;
+    this.canvas = element('map');
+    this.held = new Map();
+    this.moved = false;
+    const { canvas } = this;
+    canvas.addEventListener('wheel', (event) => this.wheel(event), { passive: false });
+    canvas.addEventListener('pointerdown', (event) => this.down(event));
+    canvas.addEventListener('pointermove', (event) => this.move(event));
+    canvas.addEventListener('pointerup', (event) => this.up(event, true));
+    canvas.addEventListener('pointercancel', (event) => this.up(event, false));
+    canvas.addEventListener('pointerleave', () => this.hover(null));
+  }
+
+  place(event) {
+    const box = this.canvas.getBoundingClientRect();
+    const { ratio } = this.page.view;
+    return [(event.clientX - box.left) * ratio, (event.clientY - box.top) * ratio];
+  }
+
+  hover(place) {
+    this.page.hovered = place;
+    this.page.tellHovered();
+  }
+
+  wheel(event) {
+    event.preventDefault();
+    this.page.view.zoomAt(Math.exp(-event.deltaY / 400), ...this.place(event));
+    this.page.draw();
+  }
+
+  down(event) {
+    this.held.set(event.pointerId, this.place(event));
+    this.moved = this.held.size > 1;
+    this.start = this.place(event);
+    this.canvas.setPointerCapture(event.pointerId);
+    this.canvas.classList.add('held');
+  }
+
+  move(event) {
+    const now = this.place(event);
+    if (event.pointerType !== 'touch') this.hover(now);
+    const before = this.held.get(event.pointerId);
+    if (before === undefined) return;
+    if (this.held.size === 1) this.drag(before, now);
+    else this.pinch(event.pointerId, before, now);
+    this.held.set(event.pointerId, now);
+  }
+
+  drag(before, now) {
+    const far = Math.hypot(now[0] - this.start[0], now[1] - this.start[1]);
+    if (!this.moved && far < CLICK * this.page.view.ratio) return;
+    if (!this.moved) this.page.follow(false);
+    const from = this.moved ? before : this.start;
+    this.moved = true;
+    this.page.view.drag(now[0] - from[0], now[1] - from[1]);
+    this.page.draw();
+  }
+
+  // The other pointer stays where it is.
+  pinch(id, before, now) {
+    const other = [...this.held].find(([one]) => one !== id)[1];
+    const apart = (place) => Math.max(1, Math.hypot(place[0] - other[0], place[1] - other[1]));
+    const middle = [(now[0] + other[0]) / 2, (now[1] + other[1]) / 2];
+    this.page.view.drag((now[0] - before[0]) / 2, (now[1] - before[1]) / 2);
+    this.page.view.zoomAt(apart(now) / apart(before), ...middle);
+    this.page.draw();
+  }
+
+  up(event, ended) {
+    const place = this.held.get(event.pointerId);
+    this.held.delete(event.pointerId);
+    if (this.held.size > 0) return;
+    this.canvas.classList.remove('held');
+    if (!ended || place === undefined || this.moved) return;
+    const robot = this.page.view.robotAt(...this.place(event));
+    this.page.pick(robot === this.page.view.picked ? null : robot);
+  }
+}
+
+// A click on a chart goes to its frame; the pointer tells its value.
+function listenToCharts(page) {
+  for (const chart of page.charts) {
+    const { canvas } = chart;
+    const told = canvas.parentElement.querySelector('.told');
+    canvas.addEventListener('click', (event) => page.jump(chart.frameAt(event.clientX)));
+    canvas.addEventListener('pointermove', (event) => {
+      const frame = chart.frameAt(event.clientX);
+      told.textContent = `tick ${page.replay.clockAt(frame)}: ${Math.max(0, chart.values[frame])}`;
+    });
+    canvas.addEventListener('pointerleave', () => { told.textContent = ''; });
+  }
+}
+
+function listen(page) {
+  listenToKeys(page);
+  listenToControls(page);
+  listenToCharts(page);
+  returnFocus();
+  page.pointers = new MapPointers(page);
+  window.addEventListener('resize', () => page.repaint());
+  window.addEventListener('hashchange', (event) => page.readAddress(new URL(event.newURL).hash));
+  document.addEventListener('visibilitychange', () => { page.then = performance.now(); });
+  matchMedia('(prefers-color-scheme: dark)').addEventListener('change', () => page.repaint());
+}
+
+// ---- the beginning
+
 function start() {
-  const map = readMap();
-  const shown = new Page(map, new Replay(map, readTraces()));
+  const textOf = (name) => element(name).textContent;
+  const map = mapOf(linesOf(textOf('map-rows')));
+  const replay = new Replay(map, tracesOf(textOf('traces')), verdictsOf(linesOf(textOf('verdicts'))));
+  const shown = new Page(map, replay);
+  listen(shown);
   document.body.dataset.loaded = Math.round(performance.now());
-  setTimeout(() => shown.showBound(), 0);
+  shown.searchBound();
   return shown;
 }
 

@@ -11,6 +11,6 @@ returns-in-Ok-picture_of-clause-picture c = λ bytes read. record {
   floor = view c.args.floor.now;
   read = read;
   traces = map trace_of c.in-Ok.chapters.items;
-  in_turn = c.in-Ok.ensures.told;
+  told = c.in-Ok.ensures.told;
   is = c.in-Ok-picture_of.ensures ∙ ap (λ (cs : List (Chapter _)). picture_text (view c.args.floor.now) (map trace_of cs) c.args.tick) c.deref.ensures.value;
 }

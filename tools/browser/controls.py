@@ -1,0 +1,221 @@
+"""What a page must do when its controls are used with real clicks, keys and fingers, beyond showing the right tick."""
+import time
+
+
+def shown(browser, name):
+    return browser.run(f'document.body.dataset.{name}')
+
+
+def wait(browser, milliseconds):
+    browser.run(f'new Promise((done) => setTimeout(done, {milliseconds}))')
+
+
+class Controls:
+    """Uses the controls of an open page, and keeps what is wrong. `last` is its last tick."""
+
+    def __init__(self, browser, last, fault):
+        self.browser, self.last, self.fault = browser, last, fault
+        self.compared = 0
+
+    def expect(self, name, wanted, how):
+        self.compared += 1
+        is_now = shown(self.browser, name)
+        if is_now != wanted:
+            self.fault(f'{how}: {name} is {is_now!r}, and should be {wanted!r}')
+
+    def expect_true(self, holds, how):
+        self.compared += 1
+        if not holds:
+            self.fault(how)
+
+    def all(self):
+        self.keys_after_clicks()
+        self.keys_on_focused_controls()
+        self.pan_and_read_by_key()
+        self.pick()
+        self.play_where_it_says()
+        self.address_follows()
+        self.map_stays()
+        self.charts_seek()
+
+    def click_then_keys(self, selector):
+        """After a click on any control the space bar plays, and arrow keys step."""
+        browser = self.browser
+        browser.key('Home')
+        browser.click(selector)
+        if shown(browser, 'playing') == 'true':
+            browser.key(' ', 'Space')
+        browser.key('End')
+        self.expect('frame', str(self.last), f'End after a click on {selector}')
+        browser.key('ArrowLeft')
+        self.expect('frame', str(self.last - 1), f'ArrowLeft after a click on {selector}')
+        browser.key('Home')
+        browser.key(' ', 'Space')
+        self.expect('playing', 'true', f'the space bar after a click on {selector}')
+        browser.key(' ', 'Space')
+        self.expect('playing', 'false', f'the space bar again after a click on {selector}')
+
+    def keys_after_clicks(self):
+        for selector in ('#play', '#on', '#back', '#slider', '#show-heat', '#show-heat', '#faster', '#slower', '#zoom-in', '#zoom-fit', '#map'):
+            self.click_then_keys(selector)
+        if shown(self.browser, 'robot') != 'none':
+            self.browser.key('Escape')
+
+    def keys_on_focused_controls(self):
+        """Who comes to a control by the tabulator key can use it by the space bar."""
+        browser = self.browser
+        browser.run('document.getElementById("map").focus()')
+        before = browser.run('document.getElementById("show-goals").checked')
+        for _ in range(30):
+            browser.key('Tab')
+            if browser.run('document.activeElement.id') == 'show-goals':
+                break
+        browser.key(' ', 'Space')
+        self.expect_true(browser.run('document.getElementById("show-goals").checked') != before, 'the space bar switches a box that has the focus')
+        browser.key(' ', 'Space')
+        browser.key('?')
+        self.expect_true(browser.run('document.getElementById("help").open'), '? shows the keys')
+        browser.key('Escape')
+        self.expect_true(not browser.run('document.getElementById("help").open'), 'Escape closes the keys')
+
+    def pan_and_read_by_key(self):
+        browser = self.browser
+        browser.click('#zoom-fit')
+        for _ in range(4):
+            browser.key('+')
+        for key, axis, sign in (('d', 0, 1), ('a', 0, -1), ('s', 1, 1), ('w', 1, -1)):
+            before = [float(part) for part in shown(browser, 'middle').split()]
+            browser.key(key)
+            after = [float(part) for part in shown(browser, 'middle').split()]
+            self.expect_true((after[axis] - before[axis]) * sign > 0, f'the key {key} moves the map')
+        browser.key('c')
+        self.expect_true(browser.run('document.getElementById("announce").textContent').startswith('cell '), 'the key c tells a cell')
+        browser.key('0')
+        self.expect('zoom', '1.00', 'the key 0')
+
+    def pick(self):
+        browser = self.browser
+        browser.key('Escape')
+        browser.key(']')
+        self.expect('robot', '0', 'the key ]')
+        browser.click('#robots tr:nth-child(2) td')
+        self.expect('robot', '1', 'a click on a row')
+        text = browser.run('document.getElementById("picked").textContent')
+        self.expect_true(text.startswith('Robot 1 is on cell '), 'the picked robot is told of')
+        browser.click('#unpick')
+        self.expect('robot', 'none', 'the button all robots')
+        point = browser.run('(() => { const box = document.getElementById("map").getBoundingClientRect(); return [box.left + page.view.xs[1] / page.view.ratio, box.top + page.view.ys[1] / page.view.ratio]; })()')
+        browser.press(*point)
+        self.expect('robot', '1', 'a click on the robot')
+        browser.key('+')
+        browser.key('+')
+        browser.key('f')
+        middle = [float(part) for part in shown(browser, 'middle').split()]
+        cell = int(shown(browser, 'cells').split()[1])
+        size = browser.run('[page.map.width, page.map.height, page.view.canvas.width / page.view.view.scale, page.view.canvas.height / page.view.view.scale]')
+        near = all(abs(middle[axis] - place) < 0.51 or abs(middle[axis] - min(max(place, size[2 + axis] / 2), size[axis] - size[2 + axis] / 2)) < 0.51 or size[2 + axis] >= size[axis]
+                   for axis, place in enumerate((cell % size[0] + 0.5, cell // size[0] + 0.5)))
+        self.expect_true(near, 'the key f keeps the robot in the middle')
+        browser.key('Escape')
+        browser.key('0')
+
+    def play_where_it_says(self):
+        """Play begins at the tick that is shown; a new address stops it, and the button says so."""
+        browser = self.browser
+        browser.key('Home')
+        browser.key('ArrowRight')
+        browser.click('#play')
+        self.expect('playing', 'true', 'the button play')
+        browser.run(f'location.hash = "#t={int(shown(browser, "clock")) - int(shown(browser, "frame")) + 2}"')
+        wait(browser, 80)
+        self.expect('playing', 'false', 'a new address while it plays')
+        self.expect('frame', '2', 'a new address while it plays')
+        self.expect_true(browser.run('document.getElementById("play").getAttribute("aria-label")') == 'Play', 'the button says Play after a new address')
+        wait(browser, 300)
+        self.expect('frame', '2', 'a new address stays')
+        browser.run('page.play(); page.then = performance.now() - 60000; 0')
+        wait(browser, 60)
+        browser.key(' ', 'Space')
+        self.expect_true(int(shown(browser, 'frame')) < 2 + 0.9 * 8 + 4, 'a page that stood still for a minute goes on from where it was')
+        wait(browser, 400)
+        self.expect_true(browser.run('page.fraction') == 0, 'robots come to rest on their cells')
+
+    def address_follows(self):
+        browser = self.browser
+        browser.key('Home')
+        browser.key('ArrowRight')
+        browser.key(']')
+        browser.key('+')
+        wait(browser, 500)
+        words = browser.run('location.hash')
+        clock = shown(browser, 'clock')
+        self.expect_true(words.startswith(f'#t={clock}&robot={shown(browser, "robot")}&zoom=1.5'), f'the address follows ({words})')
+        zoom = shown(browser, 'middle')
+        browser.key('Escape')
+        browser.key('0')
+        browser.key('End')
+        wait(browser, 500)
+        browser.run(f'location.hash = {words!r}')
+        wait(browser, 80)
+        self.expect('clock', clock, 'an address of before')
+        self.expect('robot', '0', 'an address of before')
+        self.expect_true(all(abs(float(a) - float(b)) < 0.2 for a, b in zip(zoom.split(), shown(browser, 'middle').split())), 'an address of before keeps the place')
+        browser.key('Escape')
+        browser.key('0')
+
+    def map_stays(self):
+        """Zoom and middle stay at a new size and in other colours; the map cannot be dragged away."""
+        browser = self.browser
+        for _ in range(3):
+            browser.key('+')
+        zoom = shown(browser, 'zoom')
+        browser.size(1440, 944)
+        wait(browser, 80)
+        self.expect('zoom', zoom, 'a new size')
+        browser.scheme('dark')
+        wait(browser, 50)
+        self.expect('zoom', zoom, 'other colours')
+        browser.scheme('light')
+        browser.drag('#map', 3000, 3000)
+        left = browser.run('[page.view.view.left, page.view.view.top]')
+        room = browser.run('[page.view.canvas.width, page.view.canvas.height]')
+        self.expect_true(all(left[axis] <= room[axis] / 2 for axis in (0, 1)), 'the map stays on its canvas')
+        browser.key('0')
+        browser.size(1440, 1000)
+
+    def charts_seek(self):
+        browser = self.browser
+        browser.key('Home')
+        browser.click('#idle-chart')
+        frame = int(shown(browser, 'frame'))
+        self.expect_true(0 < frame <= self.last, 'a click on a chart goes to a tick')
+        browser.key('Home')
+
+
+def touch(browser, fault):
+    """Two fingers zoom; one scrolls the page as long as the whole map is shown; controls are 44 pixels high."""
+    browser.touch(True)
+    browser.size(390, 844, mobile=True)
+    wait(browser, 500)
+    browser.reload()
+    box = browser.run('(() => { const b = document.getElementById("map").getBoundingClientRect(); return [b.left, b.top, b.width, b.height]; })()')
+    x, y = box[0] + box[2] / 2, box[1] + box[3] / 2
+    browser.swipe((x, y + 40), (x, y - 160))
+    time.sleep(0.3)
+    if browser.run('window.scrollY') < 40:
+        fault('a swipe on the whole map scrolls the page')
+    browser.run('window.scrollTo(0, 0)')
+    time.sleep(0.2)
+    browser.pinch((x, y), 30, 90)
+    zoom = float(shown(browser, 'zoom'))
+    if not 2 < zoom < 4.5:
+        fault(f'two fingers zoom by three ({zoom})')
+    browser.size(390, 788, mobile=True)
+    wait(browser, 80)
+    if float(shown(browser, 'zoom')) != zoom:
+        fault('the zoom stays if the height changes')
+    small = browser.run('[...document.querySelectorAll("button, label")].filter((one) => one.offsetParent !== null && one.getBoundingClientRect().height < 44).map((one) => one.id || one.textContent)')
+    if small:
+        fault(f'controls are smaller than 44 pixels: {small}')
+    browser.touch(False)
+    browser.size(1440, 1000)

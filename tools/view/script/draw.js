@@ -1,0 +1,409 @@
+// ---- the map on its canvas
+
+// a cell is at most so many pixels wide, but even a small map may be zoomed so far
+const MOST_CELL = 120;
+const LEAST_MOST_ZOOM = 4;
+const LEAST_NUMBERED = 9;
+const PATH_FRAMES = 30;
+
+class MapView {
+  constructor(canvas, replay) {
+    const { height, width } = replay.map;
+    this.canvas = canvas;
+    this.pen = canvas.getContext('2d');
+    this.replay = replay;
+    this.shows = { heat: false, goals: true, lines: true };
+    this.picked = null;
+    this.follows = false;
+    this.faults = [];
+    this.pulse = 0;
+    // the zoom, 1 where the whole map is shown, and the place of the map that is in the middle, in cells
+    this.zoom = 1;
+    this.middle = { x: width / 2, y: height / 2 };
+    this.other = new Int32Array(replay.robots);
+    this.xs = new Float64Array(replay.robots);
+    this.ys = new Float64Array(replay.robots);
+  }
+
+  // Letters become one pixel a cell, which is drawn larger.
+  paintLetters(colours) {
+    const { height, width, letters, floor } = this.replay.map;
+    this.colours = colours;
+    this.ground = document.createElement('canvas');
+    this.ground.width = width;
+    this.ground.height = height;
+    this.heatCanvas = document.createElement('canvas');
+    this.heatCanvas.width = width;
+    this.heatCanvas.height = height;
+    this.heatPixels = this.heatCanvas.getContext('2d').createImageData(width, height);
+    this.shades = shadesOf(colours.heat);
+    this.heatFrame = undefined;
+    const pen = this.ground.getContext('2d');
+    pen.fillStyle = colours.floor;
+    pen.fillRect(0, 0, width, height);
+    for (let cell = 0; cell < floor.length; cell += 1) {
+      if (floor[cell]) continue;
+      pen.fillStyle = letters[cell] === 'T' || letters[cell] === 'W' ? colours.shelf : colours.wall;
+      pen.fillRect(cell % width, Math.floor(cell / width), 1, 1);
+    }
+  }
+
+  // Zoom and middle stay.
+  resize() {
+    const { height, width } = this.replay.map;
+    const room = this.canvas.clientWidth;
+    const high = Math.max(160, Math.min(room * height / width, window.innerHeight * 0.78));
+    this.ratio = window.devicePixelRatio || 1;
+    this.canvas.style.height = `${high}px`;
+    this.canvas.width = Math.round(room * this.ratio);
+    this.canvas.height = Math.round(high * this.ratio);
+    this.fitScale = Math.min(this.canvas.width / width, this.canvas.height / height);
+    this.place();
+  }
+
+  // Where the map lies on the canvas. It cannot leave it: a side that is shown whole is centred.
+  place() {
+    const { height, width } = this.replay.map;
+    const { canvas, middle } = this;
+    this.zoom = this.zoomWithin(this.zoom);
+    const scale = this.fitScale * this.zoom;
+    const within = (place, side, room) => {
+      const half = room / scale / 2;
+      return half >= side / 2 ? side / 2 : Math.min(Math.max(place, half), side - half);
+    };
+    middle.x = within(middle.x, width, canvas.width);
+    middle.y = within(middle.y, height, canvas.height);
+    this.view = { scale, left: canvas.width / 2 - middle.x * scale, top: canvas.height / 2 - middle.y * scale };
+    // one finger scrolls the page while the whole map is shown, and moves the map when it is zoomed
+    canvas.style.touchAction = this.zoom > 1 ? 'none' : 'pan-x pan-y';
+  }
+
+  zoomWithin(zoom) {
+    return Math.min(Math.max(zoom, 1), Math.max(LEAST_MOST_ZOOM, MOST_CELL * this.ratio / this.fitScale));
+  }
+
+  fit() {
+    this.zoom = 1;
+    this.place();
+  }
+
+  // The point x, y of the canvas stays where it is.
+  zoomAt(factor, x, y) {
+    const { view } = this;
+    const [column, row] = [(x - view.left) / view.scale, (y - view.top) / view.scale];
+    this.zoom = this.zoomWithin(this.zoom * factor);
+    const scale = this.fitScale * this.zoom;
+    this.middle.x = column + (this.canvas.width / 2 - x) / scale;
+    this.middle.y = row + (this.canvas.height / 2 - y) / scale;
+    this.place();
+  }
+
+  drag(x, y) {
+    this.middle.x -= x / this.view.scale;
+    this.middle.y -= y / this.view.scale;
+    this.place();
+  }
+
+  // Moves the view by parts of what is shown.
+  pan(right, down) {
+    this.drag(-right * this.canvas.width, -down * this.canvas.height);
+  }
+
+  cellAt(x, y) {
+    const { height, width } = this.replay.map;
+    const column = Math.floor((x - this.view.left) / this.view.scale);
+    const row = Math.floor((y - this.view.top) / this.view.scale);
+    return column >= 0 && column < width && row >= 0 && row < height ? row * width + column : -1;
+  }
+
+  // The robot that is drawn nearest to a point of the canvas, if one is near.
+  robotAt(x, y) {
+    let best = null;
+    let least = Math.max(this.view.scale * 0.55, 10 * this.ratio);
+    for (let robot = 0; robot < this.replay.robots; robot += 1) {
+      const far = Math.hypot(this.xs[robot] - x, this.ys[robot] - y);
+      if (far < least) [best, least] = [robot, far];
+    }
+    return best;
+  }
+
+  centre(cell) {
+    const { width } = this.replay.map;
+    this.middle = { x: cell % width + 0.5, y: Math.floor(cell / width) + 0.5 };
+    this.place();
+  }
+
+  // The middle of a cell on the canvas.
+  pointOf(cell) {
+    const { width } = this.replay.map;
+    const { view } = this;
+    return [view.left + (cell % width + 0.5) * view.scale, view.top + (Math.floor(cell / width) + 0.5) * view.scale];
+  }
+
+  // The cells between which robots are drawn: those of this frame and of the next one, or of the one before where the
+  // fraction is negative.
+  placeRobots(fraction) {
+    const { replay, other } = this;
+    const { frame, cells } = replay.state;
+    other.set(cells);
+    const from = fraction < 0 ? frame : frame + 1;
+    if (from <= replay.last) {
+      const sign = fraction < 0 ? -1 : 1;
+      for (let at = replay.moveStart[from]; at < replay.moveStart[from + 1]; at += 1) {
+        other[replay.moveRobot[at]] += sign * replay.moveDelta[at];
+      }
+    }
+    const part = Math.abs(fraction);
+    if (this.follows && this.picked !== null) this.centreBetween(cells[this.picked], other[this.picked], part);
+    for (let robot = 0; robot < replay.robots; robot += 1) {
+      const [x, y] = this.pointOf(cells[robot]);
+      const [nextX, nextY] = this.pointOf(other[robot]);
+      this.xs[robot] = x + (nextX - x) * part;
+      this.ys[robot] = y + (nextY - y) * part;
+    }
+  }
+
+  centreBetween(cell, other, part) {
+    const { width } = this.replay.map;
+    const between = (a, b) => a + (b - a) * part + 0.5;
+    this.middle = { x: between(cell % width, other % width), y: between(Math.floor(cell / width), Math.floor(other / width)) };
+    this.place();
+  }
+
+  draw(fraction) {
+    const { pen, colours, canvas, picked } = this;
+    this.placeRobots(fraction);
+    const { view } = this;
+    pen.setTransform(1, 0, 0, 1, 0, 0);
+    pen.globalAlpha = 1;
+    pen.fillStyle = colours.card;
+    pen.fillRect(0, 0, canvas.width, canvas.height);
+    pen.imageSmoothingEnabled = false;
+    const { height, width } = this.replay.map;
+    pen.drawImage(this.ground, view.left, view.top, width * view.scale, height * view.scale);
+    if (this.shows.heat) this.drawHeat();
+    pen.strokeStyle = colours.line;
+    pen.lineWidth = 1;
+    pen.strokeRect(view.left, view.top, width * view.scale, height * view.scale);
+    if (view.scale >= LEAST_NUMBERED * this.ratio) this.drawGrid();
+    if (picked !== null) this.drawPath(picked);
+    if (this.shows.lines) this.drawLines();
+    this.drawRobots(fraction);
+    if (this.shows.goals) this.drawGoals();
+    if (picked !== null) this.drawQueue(picked);
+    this.drawFaults();
+  }
+
+  // How strongly a robot is drawn: others than the picked one are dimmed.
+  strengthOf(robot) {
+    return this.picked === null || this.picked === robot ? 1 : 0.25;
+  }
+
+  // How often robots came to each cell, one pixel a cell. From one frame to the next only the cells that were come to change.
+  paintHeat() {
+    const { replay } = this;
+    const { frame, heat, cells } = replay.state;
+    const pixels = new Uint32Array(this.heatPixels.data.buffer);
+    const shade = (cell) => {
+      pixels[cell] = this.shades[Math.ceil(255 * Math.sqrt(Math.min(1, heat[cell] / replay.mostHeat)))];
+    };
+    if (this.heatFrame === frame - 1) {
+      for (let at = replay.moveStart[frame]; at < replay.moveStart[frame + 1]; at += 1) shade(cells[replay.moveRobot[at]]);
+    } else {
+      for (let cell = 0; cell < heat.length; cell += 1) shade(cell);
+    }
+    this.heatFrame = frame;
+    this.heatCanvas.getContext('2d').putImageData(this.heatPixels, 0, 0);
+  }
+
+  drawHeat() {
+    const { pen, view, replay } = this;
+    if (this.heatFrame !== replay.state.frame) this.paintHeat();
+    pen.drawImage(this.heatCanvas, view.left, view.top, replay.map.width * view.scale, replay.map.height * view.scale);
+  }
+
+  drawGrid() {
+    const { pen, view, colours } = this;
+    const { height, width } = this.replay.map;
+    pen.strokeStyle = colours.grid;
+    pen.lineWidth = 1;
+    pen.beginPath();
+    for (let column = 0; column <= width; column += 1) {
+      const x = Math.round(view.left + column * view.scale) + 0.5;
+      pen.moveTo(x, view.top);
+      pen.lineTo(x, view.top + height * view.scale);
+    }
+    for (let row = 0; row <= height; row += 1) {
+      const y = Math.round(view.top + row * view.scale) + 0.5;
+      pen.moveTo(view.left, y);
+      pen.lineTo(view.left + width * view.scale, y);
+    }
+    pen.stroke();
+  }
+
+  // From each robot to its goal.
+  drawLines() {
+    const { pen, view, replay } = this;
+    pen.lineWidth = Math.max(1, Math.min(view.scale / 14, 5 * this.ratio));
+    for (let robot = 0; robot < replay.robots; robot += 1) {
+      const queue = replay.state.queues[robot];
+      if (queue.length === 0) continue;
+      const [x, y] = this.pointOf(queue[0].cell);
+      pen.strokeStyle = this.colours.robots[robot].fill;
+      pen.globalAlpha = (replay.robots > 100 ? 0.25 : 0.45) * this.strengthOf(robot);
+      pen.beginPath();
+      pen.moveTo(this.xs[robot], this.ys[robot]);
+      pen.lineTo(x, y);
+      pen.stroke();
+    }
+    pen.globalAlpha = 1;
+  }
+
+  // A square for each robot's goal. Where several have one goal, each further square is smaller, within the one before.
+  drawGoals() {
+    const { pen, view, replay } = this;
+    const half = Math.max(view.scale * 0.42, 2 * this.ratio);
+    const line = Math.max(1.2, Math.min(view.scale / 12, 5 * this.ratio));
+    pen.lineWidth = line;
+    const shared = new Map();
+    for (let robot = 0; robot < replay.robots; robot += 1) {
+      const queue = replay.state.queues[robot];
+      if (queue.length === 0) continue;
+      const goal = queue[0].cell;
+      const inner = shared.get(goal) ?? 0;
+      shared.set(goal, inner + 1);
+      const side = Math.max(half - inner * 1.6 * line, line);
+      const [x, y] = this.pointOf(goal);
+      pen.strokeStyle = this.colours.robots[robot].fill;
+      pen.globalAlpha = this.strengthOf(robot);
+      pen.strokeRect(x - side, y - side, 2 * side, 2 * side);
+    }
+    pen.globalAlpha = 1;
+  }
+
+  drawRobots(fraction) {
+    const { pen, view, replay, colours } = this;
+    const { frame, queues, shut } = replay.state;
+    const radius = Math.max(view.scale * 0.36, 2.4 * this.ratio);
+    const numbered = view.scale >= LEAST_NUMBERED * this.ratio;
+    const outlined = this.shows.heat || view.scale >= LEAST_NUMBERED * this.ratio;
+    for (let robot = 0; robot < replay.robots; robot += 1) {
+      const [x, y] = [this.xs[robot], this.ys[robot]];
+      const idle = queues[robot].length === 0;
+      pen.globalAlpha = this.strengthOf(robot);
+      pen.fillStyle = idle ? colours.idle : this.colours.robots[robot].fill;
+      pen.beginPath();
+      if (shut[robot]) pen.rect(x - radius * 0.88, y - radius * 0.88, radius * 1.76, radius * 1.76);
+      else pen.arc(x, y, radius, 0, 2 * Math.PI);
+      pen.fill();
+      if (outlined) {
+        pen.strokeStyle = colours.ink;
+        pen.lineWidth = Math.max(1, Math.min(view.scale / 30, 2 * this.ratio));
+        pen.stroke();
+      }
+      if (shut[robot]) this.drawBar(x, y, radius);
+      if (numbered) this.drawNumber(robot, x, y, idle);
+    }
+    pen.globalAlpha = 1;
+    this.drawRings(radius, fraction, frame);
+  }
+
+  // Round the eldest, the picked one, and those that arrive.
+  drawRings(radius, fraction, frame) {
+    const { pen, view, replay, colours } = this;
+    pen.lineWidth = Math.max(1.5 * this.ratio, Math.min(view.scale / 12, 5 * this.ratio));
+    const ring = (robot, colour, factor) => {
+      pen.strokeStyle = colour;
+      pen.beginPath();
+      pen.arc(this.xs[robot], this.ys[robot], radius * factor, 0, 2 * Math.PI);
+      pen.stroke();
+    };
+    if (replay.eldest[frame] >= 0) ring(replay.eldest[frame], colours.ink, 1.2);
+    if (this.picked !== null) ring(this.picked, colours.accent, 1.45);
+    const part = Math.max(0, fraction);
+    pen.globalAlpha = 1 - 0.7 * part;
+    for (const robot of replay.arrivedAt(frame)) ring(robot, this.colours.robots[robot].fill, 1.4 + 0.5 * part);
+    pen.globalAlpha = 1;
+  }
+
+  // The mark of a shut robot: a bar below its number.
+  drawBar(x, y, radius) {
+    const { pen, colours } = this;
+    pen.fillStyle = colours.ink;
+    pen.fillRect(x - radius * 0.88, y + radius * 0.62, radius * 1.76, radius * 0.3);
+  }
+
+  drawNumber(robot, x, y, idle) {
+    const { pen, view, colours } = this;
+    const size = Math.max(view.scale * (robot > 99 ? 0.32 : 0.42), 5.5 * this.ratio);
+    pen.fillStyle = idle ? colours.digitsOnIdle : colours.robots[robot].digits;
+    pen.font = `600 ${size.toFixed(1)}px system-ui, sans-serif`;
+    pen.textAlign = 'center';
+    pen.textBaseline = 'middle';
+    pen.fillText(String(robot), x, y + view.scale * 0.02);
+  }
+
+  // Where the picked robot was, drawn whole, and where it goes, dotted.
+  drawPath(robot) {
+    const { pen, view, replay } = this;
+    const { frame } = replay.state;
+    const { cells, here } = replay.pathOf(robot, frame - PATH_FRAMES, frame + PATH_FRAMES);
+    pen.strokeStyle = this.colours.robots[robot].fill;
+    pen.lineJoin = 'round';
+    pen.lineWidth = Math.max(2 * this.ratio, Math.min(view.scale / 6, 8 * this.ratio));
+    const along = (part, dashes, alpha) => {
+      pen.setLineDash(dashes);
+      pen.globalAlpha = alpha;
+      pen.beginPath();
+      part.forEach((cell, place) => {
+        const [x, y] = this.pointOf(cell);
+        if (place === 0) pen.moveTo(x, y);
+        else pen.lineTo(x, y);
+      });
+      pen.stroke();
+    };
+    along(cells.slice(0, here + 1), [], 0.35);
+    along(cells.slice(here), [pen.lineWidth, pen.lineWidth * 1.5], 0.8);
+    pen.setLineDash([]);
+    pen.globalAlpha = 1;
+  }
+
+  // The errands of the picked robot after the first, numbered by their place in its queue.
+  drawQueue(robot) {
+    const { pen, view, replay } = this;
+    const half = Math.max(view.scale * 0.3, 2 * this.ratio);
+    pen.strokeStyle = this.colours.robots[robot].fill;
+    pen.fillStyle = this.colours.robots[robot].fill;
+    pen.lineWidth = Math.max(1, view.scale / 16);
+    pen.font = `600 ${Math.max(view.scale * 0.34, 9 * this.ratio).toFixed(1)}px system-ui, sans-serif`;
+    pen.textAlign = 'center';
+    pen.textBaseline = 'middle';
+    replay.state.queues[robot].slice(1).forEach((errand, place) => {
+      const [x, y] = this.pointOf(errand.cell);
+      pen.setLineDash([3 * this.ratio, 2 * this.ratio]);
+      pen.strokeRect(x - half, y - half, 2 * half, 2 * half);
+      pen.setLineDash([]);
+      pen.fillText(String(place + 2), x, y - half - 5 * this.ratio);
+    });
+  }
+
+  // The cells and robots at fault in the entry that the judge names, if this frame is its.
+  drawFaults() {
+    const { pen, view, replay, colours } = this;
+    pen.strokeStyle = colours.fault;
+    pen.fillStyle = colours.fault;
+    pen.lineWidth = Math.max(3 * this.ratio, Math.min(view.scale / 8, 8 * this.ratio));
+    const half = Math.max(view.scale * (0.5 + 0.12 * this.pulse), 7 * this.ratio);
+    for (const fault of this.faults) {
+      if (fault.frame !== replay.state.frame) continue;
+      for (const cell of [...fault.cells, ...fault.robots.map((robot) => replay.state.cells[robot])]) {
+        if (cell === undefined) continue;
+        const [x, y] = this.pointOf(cell);
+        pen.globalAlpha = 0.25 * this.pulse;
+        pen.fillRect(x - half, y - half, 2 * half, 2 * half);
+        pen.globalAlpha = 1;
+        pen.strokeRect(x - half, y - half, 2 * half, 2 * half);
+      }
+    }
+  }
+}

@@ -1,0 +1,125 @@
+// ---- texts next to the map
+
+const REFUSALS = ['', 'client-closed', 'no-robot', 'robot-shut', 'no-cell', 'blocked', 'unreachable', 'queue-full', 'life-spent', 'no-errand', 'too-late'];
+const MOST_ENTRIES = 200;
+
+function cellName(map, cell) {
+  return `${cell} (row ${Math.floor(cell / map.width)}, column ${cell % map.width})`;
+}
+
+function orderText(map, client, order) {
+  if (order[0] === 'go') return `client ${client} sends robot ${order[1]} to cell ${cellName(map, order[2])}`;
+  if (order[0] === 'withdraw') return `client ${client} withdraws its errand ${order[1]}`;
+  return `client ${client} closes`;
+}
+
+function verdictText(verdict) {
+  if (verdict[0] === 'accepted') return `accepted as errand ${verdict[1]}`;
+  if (verdict[0] === 'refused') return `refused: ${REFUSALS[verdict[1]] ?? verdict[1]}`;
+  return verdict[0];
+}
+
+// What the list of entries says of an event.
+function noteOf(map, entry) {
+  switch (entry[0]) {
+    case 'take': return `${orderText(map, entry[1], entry[2])}: ${verdictText(entry[3])}`;
+    case 'arrival': {
+      const [, cell, robot, client, number, stamp] = entry;
+      const where = cell === undefined ? 'it does not say where' : `cell ${cellName(map, cell)}`;
+      return `robot ${robot} arrives at ${where}: errand ${number} of client ${client}, stamp ${stamp}`;
+    }
+    case 'farewell': return `robot ${entry[1]} takes its farewell with stamp ${entry[2]}`;
+    case 'shut': return `robot ${entry[1]} is shut${entry.length > 2 ? `, and takes its farewell with stamp ${entry[2]}` : ''}`;
+    case 'reopened': return `robot ${entry[1]} has another queue, wait or state than at the end of the chapter before`;
+    default: return `chapter ${entry[1]} begins`;
+  }
+}
+
+function showEntries(list, replay) {
+  const { frame } = replay.state;
+  const events = replay.events[frame] ?? [];
+  const items = events.slice(0, MOST_ENTRIES).map((event) => {
+    const item = document.createElement('li');
+    item.textContent = noteOf(replay.map, event.entry);
+    item.classList.toggle('refused', event.entry[0] === 'take' && event.entry[3][0] === 'refused');
+    return item;
+  });
+  if (events.length > MOST_ENTRIES || events.length === 0) {
+    const item = document.createElement('li');
+    item.className = 'soft';
+    item.textContent = events.length === 0 ? 'none' : `and ${events.length - MOST_ENTRIES} more`;
+    items.push(item);
+  }
+  list.replaceChildren(...items);
+}
+
+function stateText(shut, idle) {
+  if (shut) return idle ? 'shut, done' : 'shut';
+  return idle ? 'idle' : '';
+}
+
+function textCell(row) {
+  const cell = document.createElement('td');
+  row.append(cell);
+  return cell;
+}
+
+class RobotTable {
+  constructor(body, replay) {
+    this.replay = replay;
+    this.rows = Array.from({ length: replay.robots }, (_, robot) => {
+      const row = document.createElement('tr');
+      row.dataset.robot = robot;
+      const name = document.createElement('th');
+      name.scope = 'row';
+      const button = document.createElement('button');
+      button.type = 'button';
+      button.className = 'pick';
+      button.setAttribute('aria-pressed', 'false');
+      const dot = document.createElement('span');
+      dot.className = 'dot';
+      button.append(dot, String(robot));
+      name.append(button);
+      row.append(name);
+      body.append(row);
+      return { row, dot, button, cells: Array.from({ length: 5 }, () => textCell(row)), shown: [] };
+    });
+  }
+
+  // Only what changed is written.
+  draw(colours, picked) {
+    const { replay } = this;
+    const { cells, queues, shut, frame } = replay.state;
+    for (let robot = 0; robot < replay.robots; robot += 1) {
+      const { row, dot, button, cells: places, shown } = this.rows[robot];
+      const queue = queues[robot];
+      const idle = queue.length === 0;
+      const wait = replay.waitOf(robot);
+      const texts = [cells[robot], idle ? '\u2013' : queue[0].cell, queue.length, wait === null ? '\u2013' : wait, stateText(shut[robot], idle)];
+      texts.forEach((text, place) => {
+        if (shown[place] === text) return;
+        shown[place] = text;
+        places[place].textContent = text;
+      });
+      const marks = [idle ? colours.idle : colours.robots[robot].fill, replay.eldest[frame] === robot, picked === robot];
+      if (shown[5] !== marks[0]) dot.style.background = marks[0];
+      if (shown[6] !== marks[1]) row.classList.toggle('eldest', marks[1]);
+      if (shown[7] !== marks[2]) {
+        row.classList.toggle('picked', marks[2]);
+        button.setAttribute('aria-pressed', marks[2]);
+      }
+      [shown[5], shown[6], shown[7]] = marks;
+    }
+  }
+}
+
+// What is said of the picked robot.
+function robotText(replay, robot) {
+  const queue = replay.state.queues[robot];
+  const wait = replay.waitOf(robot);
+  const errands = queue.map((errand) => `${errand.cell} (client ${errand.client}, errand ${errand.number})`);
+  const words = [`Robot ${robot} is on cell ${cellName(replay.map, replay.state.cells[robot])}.`];
+  if (errands.length === 0) words.push(replay.state.shut[robot] ? 'It is shut, and done.' : 'It is idle.');
+  else words.push(`It has waited ${wait} tick${wait === 1 ? '' : 's'}, and is sent to ${errands.length === 1 ? 'cell' : 'cells'} ${errands.slice(0, 20).join(', then ')}${errands.length > 20 ? `, and ${errands.length - 20} more` : ''}.`);
+  return words.join(' ');
+}

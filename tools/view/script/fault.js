@@ -1,0 +1,90 @@
+// ---- what is wrong with the entry that breaks a rule
+
+// The rule and the entry are the judge's, which the page carries. Which robots and cells are at fault is found here.
+
+const RULES = [
+  '', 'the opening is not in order', 'there is no such client', 'the verdict is not the one that is due',
+  'the step is not free of conflicts', 'the arrivals are not those that are due', 'the farewells are not those that are due',
+  'a stamp is outside of its law', 'there is no such robot, or it is shut already',
+];
+
+const NO_DETAIL = { detail: '', robots: [], cells: [] };
+
+// Two robots on one cell, or one on a cell that is no floor.
+function detailOfPlaces(map, cells) {
+  const first = new Map();
+  for (let robot = 0; robot < cells.length; robot += 1) {
+    const cell = cells[robot];
+    if (!map.floor[cell]) return { detail: `robot ${robot} is on cell ${cell}, which is no floor`, robots: [robot], cells: [cell] };
+    if (first.has(cell)) {
+      const other = first.get(cell);
+      return { detail: `robots ${other} and ${robot} are on cell ${cell}`, robots: [other, robot], cells: [cell] };
+    }
+    first.set(cell, robot);
+  }
+  return NO_DETAIL;
+}
+
+function detailOfOpening(map, opening) {
+  return detailOfPlaces(map, opening.robots.map((robot) => robot[0]));
+}
+
+function detailOfStep(map, from, to) {
+  if (to.length !== from.length) return { ...NO_DETAIL, detail: `it has ${to.length} cells for ${from.length} robots` };
+  const places = detailOfPlaces(map, to);
+  if (places !== NO_DETAIL) return places;
+  const at = new Map();
+  from.forEach((cell, robot) => at.set(cell, robot));
+  for (let robot = 0; robot < to.length; robot += 1) {
+    const [old, cell] = [from[robot], to[robot]];
+    let near = old === cell;
+    eachNeighbour(map, old, (other) => { near = near || other === cell; });
+    if (!near) return { detail: `robot ${robot} goes from cell ${old} to cell ${cell}, which is no neighbour`, robots: [robot], cells: [old, cell] };
+    const other = at.get(cell);
+    if (other !== undefined && other !== robot && to[other] === old) {
+      return { detail: `robots ${robot} and ${other} exchange the cells ${old} and ${cell}`, robots: [robot, other], cells: [old, cell] };
+    }
+  }
+  return NO_DETAIL;
+}
+
+// The first robot of which one list tells and the other does not.
+function firstOdd(due, shown, to, missing, extra) {
+  for (const robot of due) if (!shown.includes(robot)) return { detail: `robot ${robot} ${missing}`, robots: [robot], cells: [to[robot]] };
+  for (const robot of shown) if (!due.includes(robot)) return { detail: `robot ${robot} ${extra}`, robots: [robot], cells: [to[robot]].filter((cell) => cell !== undefined) };
+  return { detail: '', robots: due, cells: due.map((robot) => to[robot]) };
+}
+
+function detailOfTick(replay, trace, entry, rule) {
+  const { cells, queues, shut } = replay.state;
+  const [, to, arrived, farewells] = entry;
+  if (rule === 4) return detailOfStep(replay.map, cells, to);
+  const due = [...to.keys()].filter((robot) => queues[robot].length > 0 && queues[robot][0].cell === to[robot]);
+  if (rule === 5) return firstOdd(due, arrived.map((arrival) => arrival[0]), to, 'arrives there, which is not told', 'has no errand to that cell first');
+  if (rule === 6) {
+    const leaving = due.filter((robot) => shut[robot] && queues[robot].length === 1);
+    return firstOdd(leaving, farewells.map((farewell) => farewell[0]), to, 'is shut and done, and has no farewell', 'has a farewell that is not due');
+  }
+  const laws = trace.opening.robots;
+  const outside = (law, stamp) => stamp < law[0] || stamp > law[1];
+  const odd = [
+    ...arrived.filter((arrival) => outside(laws[arrival[0]][4], arrival[3])).map((arrival) => arrival[0]),
+    ...farewells.filter((farewell) => outside(laws[farewell[0]][5], farewell[1])).map((farewell) => farewell[0]),
+  ];
+  return { detail: odd.length > 0 ? `it is that of robot ${odd[0]}` : '', robots: odd, cells: odd.map((robot) => to[robot]) };
+}
+
+// The entry follows what the replay's state is.
+function detailOf(replay, trace, entry, verdict) {
+  if (entry[0] === 'tick') return detailOfTick(replay, trace, entry, verdict.rule);
+  const robot = entry[0] === 'shut' ? entry[1] : entry[2][0] === 'go' ? entry[2][1] : -1;
+  const known = robot >= 0 && robot < replay.robots;
+  const robots = known ? [robot] : [];
+  return { detail: '', robots, cells: robots.map((one) => replay.state.cells[one]) };
+}
+
+function faultText(fault) {
+  const where = fault.at === 0 ? 'in its opening' : `at entry ${fault.at}`;
+  const detail = fault.detail === '' ? '' : `: ${fault.detail}`;
+  return `illegal ${where}: it breaks rule ${fault.rule}, ${RULES[fault.rule] ?? 'unknown'}${detail}`;
+}

@@ -1,0 +1,201 @@
+'use strict';
+
+// Tests of the replay without a browser: node --test tools/view/test
+// Expected values are worked out by hand from the traces.
+
+const assert = require('node:assert');
+const fs = require('node:fs');
+const path = require('node:path');
+const test = require('node:test');
+const vm = require('node:vm');
+
+const PARTS = ['read', 'graph', 'fault', 'replay', 'bound', 'colours', 'charts', 'events'];
+const NAMES = 'Replay, Distances, mapOf, verdictsOf, traceOf, tracesOf, hasBridge, greatestDistance, findBound, faultText, noteOf, robotText, recentArrivals, robotColour, contrastOf, luminanceOf, luminanceOfHex';
+
+function load() {
+  const texts = PARTS.map((part) => fs.readFileSync(path.join(__dirname, '..', 'script', `${part}.js`), 'utf8'));
+  return vm.runInThisContext(`(() => { ${texts.join('\n')}\nreturn { ${NAMES} }; })()`);
+}
+
+const page = load();
+const OPEN = page.mapOf(['...', '...', '...']);
+const RING = page.mapOf(['...', '.@.', '...']);
+
+function robot(cell, errands = [], wait = null, shut = false) {
+  return [cell, shut, wait, errands, [0, 3], [0, 3]];
+}
+
+function trace(robots, entries, tick = 0, chapter = 0) {
+  const opening = { clients: [[0, 0, 0, false]], life: 100, queue: 4, robots, tick };
+  return page.traceOf(JSON.stringify({ chapter, entries, opening, version: 2 }));
+}
+
+function replayOf(map, traces, verdicts = traces.map(() => 'legal')) {
+  return new page.Replay(map, traces, page.verdictsOf(verdicts));
+}
+
+function finish(search) {
+  let step = search.next();
+  while (!step.done) step = search.next();
+  return step.value;
+}
+
+const boundOf = (map, replay) => finish(page.findBound(map, replay));
+const go = (client, to, cell, number) => ['take', client, ['go', to, cell], ['accepted', number]];
+const tick = (cells, arrived = [], farewells = []) => ['tick', cells, arrived, farewells];
+
+test('a map has the floor of its letters', () => {
+  const map = page.mapOf(['.GS', '@TW']);
+  assert.deepStrictEqual([map.height, map.width, [...map.floor]], [2, 3, [1, 1, 1, 0, 0, 0]]);
+});
+
+test('verdicts are read line by line', () => {
+  assert.deepStrictEqual(page.verdictsOf(['legal', 'illegal 12 4', 'illegal 0 1']), [null, { at: 12, rule: 4 }, { at: 0, rule: 1 }]);
+});
+
+test('a clock beyond 2^53 is exact', () => {
+  assert.strictEqual(page.tracesOf('{"chapter":0,"entries":[],"opening":{"clients":[],"life":1,"queue":1,"robots":[],"tick":18446744073709551615},"version":2}\n')[0].clock, 18446744073709551615n);
+});
+
+test('robots move, arrive and wait, forward and back', () => {
+  const replay = replayOf(OPEN, [trace([robot(0), robot(8)], [go(0, 0, 2, 1), go(0, 0, 0, 2), tick([1, 8]), tick([2, 8], [[0, 0, 1, 0]]), tick([1, 7])])]);
+  assert.strictEqual(replay.last, 3);
+  assert.deepStrictEqual([...replay.arrivals], [0, 0, 1, 1]);
+  assert.deepStrictEqual([...replay.unfinished], [2, 2, 1, 1]);
+  assert.deepStrictEqual([...replay.idle], [1, 1, 1, 1]);
+  assert.deepStrictEqual([...replay.wait], [0, 1, 0, 1]);
+  replay.seek(3);
+  assert.deepStrictEqual([...replay.state.cells], [1, 7]);
+  assert.deepStrictEqual(replay.state.queues[0].map((errand) => errand.cell), [0]);
+  assert.strictEqual(replay.waitOf(0), 1);
+  assert.strictEqual(replay.waitOf(1), null);
+  replay.seek(0);
+  assert.deepStrictEqual([...replay.state.cells], [0, 8]);
+  assert.deepStrictEqual(replay.state.queues[0].map((errand) => errand.cell), [2, 0]);
+  assert.deepStrictEqual([...replay.state.heat], [0, 0, 0, 0, 0, 0, 0, 0, 0]);
+  replay.seek(2);
+  assert.deepStrictEqual(replay.arrivedAt(2), [0]);
+  assert.deepStrictEqual([...replay.state.heat], [0, 1, 1, 0, 0, 0, 0, 0, 0]);
+});
+
+test('the path of a robot reaches to both sides', () => {
+  const replay = replayOf(OPEN, [trace([robot(0), robot(8)], [tick([1, 8]), tick([2, 7]), tick([5, 7])])]);
+  replay.seek(2);
+  assert.deepStrictEqual(replay.pathOf(0, 0, 3), { cells: [0, 1, 2, 5], here: 2 });
+  assert.deepStrictEqual(replay.pathOf(1, 1, 9), { cells: [8, 7, 7], here: 1 });
+});
+
+test('withdrawn errands leave the middle of a queue and come back to it', () => {
+  const replay = replayOf(OPEN, [trace([robot(0)], [go(0, 0, 2, 1), go(0, 0, 5, 2), go(0, 0, 8, 3), tick([1]), ['take', 0, ['withdraw', 2], ['withdrawn']]])]);
+  replay.seek(1);
+  assert.deepStrictEqual(replay.state.queues[0].map((errand) => errand.number), [1, 3]);
+  replay.seek(0);
+  assert.deepStrictEqual(replay.state.queues[0].map((errand) => errand.number), [1, 2, 3]);
+});
+
+test('a chapter that opens with another queue shows that queue', () => {
+  const first = trace([robot(0), robot(8)], [go(0, 0, 2, 1), tick([1, 8])]);
+  const next = trace([robot(1, [[0, 2, 5]], 0), robot(8)], [tick([2, 8])], 1, 1);
+  const replay = replayOf(OPEN, [first, next]);
+  replay.seek(1);
+  assert.deepStrictEqual(replay.state.queues[0].map((errand) => errand.cell), [5]);
+  assert.strictEqual(replay.waitOf(0), 0);
+  replay.seek(0);
+  assert.deepStrictEqual(replay.state.queues[0].map((errand) => errand.cell), [2]);
+});
+
+test('the clock names the frame', () => {
+  const replay = replayOf(OPEN, [trace([robot(0)], [tick([1]), tick([2])], 5000)]);
+  assert.deepStrictEqual([0n, 5000n, 5001n, 5002n, 9000n].map((clock) => replay.frameOf(clock)), [0, 0, 1, 2, 2]);
+  assert.strictEqual(replay.clockAt(1), 5001n);
+});
+
+test('the fault of an illegal step names robots and cells', () => {
+  const fault = (map, robots, to) => replayOf(map, [trace(robots, [tick(to)])], ['illegal 1 4']).faults[0];
+  const [both, exchange, wall, far] = [
+    fault(OPEN, [robot(0), robot(2)], [1, 1]), fault(OPEN, [robot(0), robot(1)], [1, 0]),
+    fault(RING, [robot(3), robot(8)], [4, 8]), fault(OPEN, [robot(2), robot(8)], [3, 8]),
+  ];
+  assert.deepStrictEqual([both.robots, both.cells, both.frame], [[0, 1], [1], 1]);
+  assert.deepStrictEqual([exchange.robots, exchange.cells], [[0, 1], [0, 1]]);
+  assert.deepStrictEqual([wall.robots, wall.cells], [[0], [4]]);
+  // cell 3 is the first of the next row: it is no neighbour of cell 2
+  assert.deepStrictEqual([far.robots, far.cells], [[0], [2, 3]]);
+  assert.strictEqual(page.faultText(both), 'illegal at entry 1: it breaks rule 4, the step is not free of conflicts: robots 0 and 1 are on cell 1');
+});
+
+test('the fault of what a tick tells names the robot', () => {
+  const fault = (entries, verdict) => replayOf(OPEN, [trace([robot(0), robot(8)], entries)], [verdict]).faults[0];
+  assert.deepStrictEqual(fault([go(0, 0, 1, 1), tick([1, 8])], 'illegal 2 5').robots, [0]);
+  assert.deepStrictEqual(fault([tick([1, 8], [[1, 0, 1, 0]])], 'illegal 1 5').robots, [1]);
+  assert.deepStrictEqual(fault([go(0, 0, 1, 1), tick([1, 8], [[0, 0, 1, 9]])], 'illegal 2 7').robots, [0]);
+  assert.deepStrictEqual(fault([tick([1, 8], [], [[1, 0]])], 'illegal 1 6').robots, [1]);
+  assert.deepStrictEqual(fault([['shut', 7]], 'illegal 1 8').robots, []);
+});
+
+test('an illegal opening is at fault where it begins', () => {
+  const { faults } = replayOf(OPEN, [trace([robot(4), robot(4)], [])], ['illegal 0 1']);
+  assert.deepStrictEqual([faults[0].at, faults[0].frame, faults[0].robots, faults[0].cells], [0, 0, [0, 1], [4]]);
+});
+
+test('distances, bridges and the greatest distance', () => {
+  const distances = new page.Distances(RING);
+  assert.strictEqual(distances.from(0), 4);
+  assert.deepStrictEqual([distances.of(8), distances.of(2), distances.of(4)], [4, 2, -1]);
+  assert.strictEqual(finish(page.greatestDistance(RING, distances)), 4);
+  assert.deepStrictEqual([page.hasBridge(RING), page.hasBridge(page.mapOf(['..', '..', '.@']))], [false, true]);
+});
+
+test('a bound is shown where each tick advances', () => {
+  const replay = replayOf(RING, [trace([robot(0), robot(8)], [go(0, 0, 2, 1), tick([1, 8]), tick([2, 8], [[0, 0, 1, 0]])])]);
+  assert.strictEqual(boundOf(RING, replay).bound, 8);
+});
+
+test('no bound is shown where the eldest stands still, where a chapter is illegal, or where there is a bridge', () => {
+  const idle = replayOf(RING, [trace([robot(0), robot(8)], [go(0, 0, 2, 1), tick([1, 8]), tick([1, 8])])]);
+  assert.strictEqual(boundOf(RING, idle).bound, null);
+  assert.match(boundOf(RING, idle).text, /in tick 2 /);
+  const illegal = replayOf(RING, [trace([robot(0), robot(8)], [tick([4, 8])])], ['illegal 1 4']);
+  assert.strictEqual(boundOf(RING, illegal).bound, null);
+  const line = page.mapOf(['...']);
+  assert.strictEqual(boundOf(line, replayOf(line, [trace([robot(0)], [tick([1])])])).bound, null);
+});
+
+test('no bound is shown where robots had waited too long at the opening', () => {
+  const waited = (wait) => replayOf(RING, [trace([robot(0, [[0, 1, 2]], wait), robot(8)], [tick([1, 8])], 900)]);
+  // two robots times four are eight: a wait of six leaves room for the two cells to the goal, one of seven does not
+  assert.strictEqual(boundOf(RING, waited(6)).bound, 8);
+  assert.strictEqual(boundOf(RING, waited(7)).bound, null);
+});
+
+test('above 6,000 cells the bound is robots times the floor cells less one', () => {
+  const map = page.mapOf(Array.from({ length: 80 }, () => '.'.repeat(80)));
+  const replay = replayOf(map, [trace([robot(0), robot(6399)], [go(0, 0, 2, 1), tick([1, 6399])])]);
+  assert.strictEqual(boundOf(map, replay).bound, 2 * 6399);
+});
+
+test('arrivals of the last hundred ticks', () => {
+  const arrivals = Uint32Array.from({ length: 301 }, (_, frame) => 2 * frame);
+  const recent = page.recentArrivals(arrivals);
+  assert.deepStrictEqual([recent[0], recent[50], recent[100], recent[300]], [0, 100, 200, 200]);
+});
+
+test('robots stand out from the floor, and digits from robots', () => {
+  // by the examples of WCAG: white on black has 21, and #767676 on white 4.54
+  assert.strictEqual(page.contrastOf(page.luminanceOfHex('#ffffff'), page.luminanceOfHex('#000000')), 21);
+  assert.strictEqual(page.contrastOf(page.luminanceOfHex('#767676'), 1).toFixed(2), '4.54');
+  for (const floor of ['#ffffff', '#1b222c'].map((colour) => page.luminanceOfHex(colour))) {
+    for (let robot = 0; robot < 512; robot += 1) {
+      const { luminance, digits } = page.robotColour(robot, floor);
+      assert.ok(page.contrastOf(luminance, floor) >= 3, `robot ${robot}`);
+      assert.ok(page.contrastOf(luminance, page.luminanceOfHex(digits)) >= 4.5, `robot ${robot}`);
+    }
+  }
+});
+
+test('entries and robots are told in words', () => {
+  const replay = replayOf(OPEN, [trace([robot(0)], [go(0, 0, 5, 1)])]);
+  assert.strictEqual(page.noteOf(OPEN, go(2, 0, 5, 1)), 'client 2 sends robot 0 to cell 5 (row 1, column 2): accepted as errand 1');
+  assert.strictEqual(page.noteOf(OPEN, ['take', 0, ['close'], ['refused', 1]]), 'client 0 closes: refused: client-closed');
+  assert.strictEqual(page.robotText(replay, 0), 'Robot 0 is on cell 0 (row 0, column 0). It has waited 0 ticks, and is sent to cell 5 (client 0, errand 1).');
+});
