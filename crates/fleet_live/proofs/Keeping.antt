@@ -37,13 +37,30 @@ module _ {A : Type 0} where
   pub some-none : (known : Option (List (ChapterView A))) → KeepsSome known known
   some-none known = ([], tt, adds-none known)
 
-  sound-append : (xs ys : List (ChapterView A)) → AreSound xs → AreSound ys → AreSound (xs ++ ys)
+  pub sound-append : (xs ys : List (ChapterView A)) → AreSound xs → AreSound ys → AreSound (xs ++ ys)
   sound-append [] ys a b = b
   sound-append (x ∷ xs) ys (is, a) b = (is, sound-append xs ys a b)
 
   -- one more was kept
   pub some-more : (a b c : Option (List (ChapterView A))) (x : ChapterView A) → KeepsSome a b → (m : Floor) × IsSound m x.history → Adds b c (x ∷ []) → KeepsSome a c
   some-more a b c x (xs, sound, p) is q = (xs ++ x ∷ [], sound-append xs (x ∷ []) sound (is, tt), adds-then a b c xs (x ∷ []) p q)
+
+  sound-first : (xs ys : List (ChapterView A)) → AreSound (xs ++ ys) → AreSound xs
+  sound-first [] ys all = tt
+  sound-first (x ∷ xs) ys (is, all) = (is, sound-first xs ys all)
+
+  -- the first of those that wait were kept
+  pub some-first : (all left : List (ChapterView A)) (a b : Option (List (ChapterView A))) → AreSound all → KeepsFirst all left a b → KeepsSome a b
+  some-first all left a b sound k = (k.kept, sound-first k.kept left (subst AreSound k.parts sound), k.added)
+
+  -- some were kept, and then some more
+  pub some-then : (a b c : Option (List (ChapterView A))) → KeepsSome a b → KeepsSome b c → KeepsSome a c
+  some-then a b c (xs, s, p) (ys, t, q) = (xs ++ ys, sound-append xs ys s t, adds-then a b c xs ys p q)
+
+  -- those that wait, and others after them, may be kept
+  pub sound-both : {X : Type 0} (f : X → ChapterView A) (xs ys : List X) → AreSound (map f xs) → AreSound (map f ys) → AreSound (map f (xs ++ ys))
+  sound-both f [] ys s t = t
+  sound-both f (x ∷ xs) ys (is, s) t = (is, sound-both f xs ys s t)
 
   -- the last was kept
   pub to-end : (rings : List (LaneName A)) (a b c : Option (List (ChapterView A))) (x : ChapterView A) → KeepsSome a b → (m : Floor) × IsSound m x.history → IsConcluded rings x → Adds b c (x ∷ []) → KeepsToEnd rings a c

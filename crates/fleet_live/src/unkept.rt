@@ -1,10 +1,11 @@
 //! Chapters that were handed out and are not kept yet.
 
-ghost use Rattle.std.specs.Prelude.{◌≡◌, [], ◌∷◌, ◌++◌, map, IsTrue, ◌↔◌, OnOk, OnErr};
+ghost use Rattle.std.specs.Prelude.{◌≡◌, List, [], ◌∷◌, ◌++◌, length, map, IsTrue, ◌↔◌, OnOk, OnErr, IfNone, IfSome};
+ghost use Rattle.std.specs.declared.alloc.Global.{Global};
 ghost use Rattle.fleet_grid.specs.Floor.{Floor};
 ghost use Rattle.fleet_history.specs.History.{history_of};
-ghost use Rattle.fleet_talk.specs.Chapters.{IsSound, chapter_shown};
-ghost use Rattle.fleet_live.specs.Kept.{AreSound, KeepsFirst};
+ghost use Rattle.fleet_talk.specs.Chapters.{ChapterView, IsSound, chapter_shown};
+ghost use Rattle.fleet_live.specs.Kept.{AreSound, KeepsFirst, KeepsSome};
 
 use crate::bell::Stop;
 use fleet_history::Chapter;
@@ -49,6 +50,7 @@ fn keep_from_front<S: Shelf>(
 ) -> Result<(), ShelfFault>
     requires sound { AreSound (map chapter_shown chapters.old.items) }
     ensures kept { KeepsFirst (map chapter_shown chapters.old.items) (map chapter_shown chapters.new.items) (S.kept shelf.old) (S.kept shelf.new) }
+    ensures some { KeepsSome (S.kept shelf.old) (S.kept shelf.new) }
     ensures sound { AreSound (map chapter_shown chapters.new.items) }
     ensures none { OnOk result (chapters.new.items ≡ []) }
 {
@@ -89,9 +91,36 @@ impl Unkept {
         }
     }
 
+    /// How many they are.
+    pub(crate) fn len(&self) -> usize
+        ensures { result ≡ length self.now }
+    {
+        self.chapters.len()
+    }
+
+    /// The number of the first.
+    pub(crate) fn first_number(&self) -> Option<u32>
+        ensures none { IfNone result (self.now ≡ []) }
+        ensures some { IfSome result (λ number. (chapter : ChapterView Global) × (rest : List (ChapterView Global)) × (self.now ≡ chapter ∷ rest) × (number ≡ chapter.number)) }
+    {
+        match self.chapters.front() {
+            Some(chapter) => Some(chapter.number),
+            None => None,
+        }
+    }
+
+    /// Adds others, in their order. Out of memory, both stay as they were.
+    pub(crate) fn append(&mut self, others: &mut Unkept) -> Result<(), AllocError>
+        ensures ok { OnOk result ((self.new ≡ self.old ++ others.old) × (others.new ≡ [])) }
+        ensures err { OnErr result ((self.new ≡ self.old) × (others.new ≡ others.old)) }
+    {
+        self.chapters.append(&mut others.chapters)
+    }
+
     /// Keeps them on a shelf, in order. Each that was kept is removed: after a fault the others are left.
     pub(crate) fn keep_on<S: Shelf>(&mut self, shelf: &mut S) -> Result<(), Stop>
         ensures kept { KeepsFirst self.old self.new (S.kept shelf.old) (S.kept shelf.new) }
+        ensures some { KeepsSome (S.kept shelf.old) (S.kept shelf.new) }
         ensures none { OnOk result (self.new ≡ []) }
     {
         Ok(keep_from_front(shelf, &mut self.chapters)?)
