@@ -35,8 +35,8 @@ impl From<io::Error> for FolderFault {
     }
 }
 
-/// A folder that this fleet alone keeps its chapters in, or none. It holds a lock on a file in the folder: the lock ends with the
-/// process, however that ends.
+/// A folder that this fleet alone keeps its chapters in, or none. It holds a lock on a file in the folder: the lock
+/// ends with the process, however that ends.
 #[derive(Drop)]
 pub(crate) struct HeldFolder {
     lock: Option<(String, File)>,

@@ -1,11 +1,10 @@
 //! The shelf of a fleet's chapters, and the chapters that wait for it.
 
-ghost use Rattle.std.specs.Prelude.{◌≡◌, ◌∷◌, [], Ok, true, OnOk};
-ghost use Rattle.std.specs.declared.alloc.Global.{Global};
+ghost use Rattle.std.specs.Prelude.{◌≡◌, ◌∷◌, ◌++◌, [], Ok, true, OnOk};
 ghost use Rattle.fleet_grid.specs.Floor.{Floor};
 ghost use Rattle.fleet_history.specs.History.{history_of};
-ghost use Rattle.fleet_talk.specs.Chapters.{Adds, ChapterView, IsSound, chapter_shown};
-ghost use Rattle.fleet_live.specs.Kept.{KeepsSome};
+ghost use Rattle.fleet_talk.specs.Chapters.{Adds, IsSound, chapter_shown};
+ghost use Rattle.fleet_live.specs.Kept.{KeepsFirst};
 
 use crate::bell::Stop;
 use crate::unkept::Unkept;
@@ -34,10 +33,10 @@ impl<S: Shelf> Archive<S> {
         }
     }
 
-    /// Keeps the chapters that wait, in order, until one cannot be kept. Returns whether all were kept; with 16 or more that still
-    /// wait the error is that a chapter could not be kept.
+    /// Keeps the chapters that wait, in order, until one cannot be kept. Returns whether all were kept; with 16 or more
+    /// that still wait the error is that a chapter could not be kept.
     pub(crate) fn keep(&mut self) -> Result<bool, Stop>
-        ensures kept { KeepsSome (S.kept self.old.shelf) (S.kept self.new.shelf) }
+        ensures kept { KeepsFirst self.old.waiting self.new.waiting (S.kept self.old.shelf) (S.kept self.new.shelf) }
         ensures all { (result ≡ Ok true) → self.new.waiting ≡ [] }
     {
         match self.waiting.keep_on(&mut self.shelf) {
@@ -50,7 +49,7 @@ impl<S: Shelf> Archive<S> {
     /// Keeps the last chapter, after those that wait.
     pub(crate) fn keep_last(&mut self, chapter: &Chapter) -> Result<(), Stop>
         requires sound { (m : Floor) × IsSound m (history_of chapter.now) }
-        ensures kept { OnOk result ((before : _) × KeepsSome (S.kept self.old.shelf) before × Adds before (S.kept self.new.shelf) (chapter_shown chapter.now ∷ [])) }
+        ensures kept { OnOk result (Adds (S.kept self.old.shelf) (S.kept self.new.shelf) (self.old.waiting ++ chapter_shown chapter.now ∷ [])) }
     {
         self.waiting.keep_on(&mut self.shelf)?;
         Ok(self.shelf.keep(chapter)?)

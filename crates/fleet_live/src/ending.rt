@@ -1,12 +1,12 @@
 //! The end: guests are returned, the office is concluded, and notices that were not collected are printed.
 
-ghost use Rattle.std.specs.Prelude.{◌≡◌, [], ◌∷◌, IfOk, OnOk};
+ghost use Rattle.std.specs.Prelude.{◌≡◌, [], ◌∷◌, ◌++◌, IfOk, OnOk};
 ghost use Rattle.std.specs.declared.alloc.Global.{Global};
 ghost use Rattle.fleet_grid.specs.Floor.{Floor};
 ghost use Rattle.fleet_history.specs.History.{history_of};
 ghost use Rattle.fleet_office.specs.Views.{AreOn, cores};
 ghost use Rattle.fleet_talk.specs.Chapters.{Adds, ChapterView, IsSound, chapter_shown};
-ghost use Rattle.fleet_live.specs.Kept.{IsConcluded, KeepsSome, KeepsToEnd};
+ghost use Rattle.fleet_live.specs.Kept.{IsConcluded, KeepsHanded, KeepsToEnd};
 
 use crate::archive::Archive;
 use crate::bell::Stop;
@@ -54,13 +54,14 @@ fn clients_home<N: OfficeName<Global>, R: Alloc<A = Global> + Wait>(
     }
 }
 
-/// Hands out the chapter, and keeps it after those that wait, or lets it wait. The error where it is the last is that a limit was met.
+/// Hands out the chapter, and keeps it after those that wait, or lets it wait. The error where it is the last is that a
+/// limit was met.
 fn turn_page<N: OfficeName<Global>, R: Wait, S: Shelf>(
     rt: &R,
     office: &Office<N>,
     archive: &mut Archive<S>,
 ) -> Result<(), Stop>
-    ensures kept { KeepsSome (S.kept archive.old.shelf) (S.kept archive.new.shelf) }
+    ensures kept { OnOk result (KeepsHanded archive.old.waiting archive.new.waiting (S.kept archive.old.shelf) (S.kept archive.new.shelf)) }
 {
     match office.next_chapter(rt) {
         Ok(chapter) => archive.waiting.push(chapter)?,
@@ -71,8 +72,8 @@ fn turn_page<N: OfficeName<Global>, R: Wait, S: Shelf>(
     Ok(())
 }
 
-/// Concludes the office, in further chapters where orders are left that have no room in this one. If it cannot be concluded, it is
-/// returned, and why.
+/// Concludes the office, in further chapters where orders are left that have no room in this one. If it cannot be
+/// concluded, it is returned, and why.
 fn conclude<N: OfficeName<Global>, R: Alloc<A = Global> + Wait, S: Shelf>(
     rt: &R,
     home: Home<N>,
@@ -81,7 +82,7 @@ fn conclude<N: OfficeName<Global>, R: Alloc<A = Global> + Wait, S: Shelf>(
     requires on { AreOn N.rings (cores home.clients.items) }
     ensures sound { IfOk result (λ end. (m : Floor) × IsSound m (history_of end.chapter)) }
     ensures concluded { IfOk result (λ end. IsConcluded N.rings (chapter_shown end.chapter)) }
-    ensures kept { OnOk result (KeepsSome (S.kept archive.old.shelf) (S.kept archive.new.shelf)) }
+    ensures kept { OnOk result (KeepsHanded archive.old.waiting archive.new.waiting (S.kept archive.old.shelf) (S.kept archive.new.shelf)) }
 {
     let mut home = home;
     for _ in rt.forever() {
@@ -203,7 +204,7 @@ fn end_in<N: OfficeName<Global>, R: Alloc<A = Global> + Wait, S: Shelf>(
     tick: u64,
 ) -> Result<(), Stop>
     requires sound { (m : Floor) × IsSound m (history_of chapter.now) }
-    ensures kept { OnOk result ((before : _) × KeepsSome (S.kept archive.old.shelf) before × Adds before (S.kept archive.new.shelf) (chapter_shown chapter.now ∷ [])) }
+    ensures kept { OnOk result (Adds (S.kept archive.old.shelf) (S.kept archive.new.shelf) (archive.old.waiting ++ chapter_shown chapter.now ∷ [])) }
 {
     let kept = archive.keep_last(chapter);
     say_ended(rt, conversations, tick)?;
@@ -218,7 +219,7 @@ fn end_all<N: OfficeName<Global>, R: Alloc<A = Global> + Wait, S: Shelf>(
     end: &Final,
 ) -> Result<(), Stop>
     requires sound { (m : Floor) × IsSound m (history_of end.now.chapter) }
-    ensures kept { OnOk result ((before : _) × KeepsSome (S.kept archive.old.shelf) before × Adds before (S.kept archive.new.shelf) (chapter_shown end.now.chapter ∷ [])) }
+    ensures kept { OnOk result (Adds (S.kept archive.old.shelf) (S.kept archive.new.shelf) (archive.old.waiting ++ chapter_shown end.now.chapter ∷ [])) }
 {
     let told = tell_rest(rt, conversations, &end.rest);
     let kept = end_in(rt, conversations, archive, &end.chapter, end.tick);
@@ -233,7 +234,7 @@ fn end_office<N: OfficeName<Global>, R: Alloc<A = Global> + Wait, S: Shelf>(
     archive: &mut Archive<S>,
     office: Office<N>,
 ) -> Result<(), Stop>
-    ensures kept { OnOk result (KeepsSome (S.kept archive.old.shelf) (S.kept archive.new.shelf)) }
+    ensures kept { OnOk result ((chapter : ChapterView Global) × Adds (S.kept archive.old.shelf) (S.kept archive.new.shelf) (archive.old.waiting ++ chapter ∷ [])) }
 {
     let (chapter, tick) = office.into_chapter();
     end_in(rt, conversations, archive, &chapter, tick)
@@ -256,9 +257,9 @@ fn end_home<N: OfficeName<Global>, R: Alloc<A = Global> + Wait, S: Shelf>(
     Ok(told?)
 }
 
-/// Ends the fleet: the guests come home, the office is concluded, what was not collected is told, and the last chapter is kept. If the
-/// office cannot be concluded, since the last chapter is full or memory ran out, the orders that are left are not judged, and all
-/// else is done.
+/// Ends the fleet: the guests come home, the office is concluded, what was not collected is told, and the last chapter
+/// is kept. If the office cannot be concluded, since the last chapter is full or memory ran out, the orders that are
+/// left are not judged, and all else is done.
 pub(crate) fn finish<N: OfficeName<Global>, R: Alloc<A = Global> + Wait, S: Shelf>(
     rt: &R,
     office: Office<N>,
@@ -266,7 +267,7 @@ pub(crate) fn finish<N: OfficeName<Global>, R: Alloc<A = Global> + Wait, S: Shel
     tickers: Vec<Ticker<N>>,
     archive: &mut Archive<S>,
 ) -> Result<(), Stop>
-    ensures kept { OnOk result (KeepsToEnd N.rings (S.kept archive.old.shelf) (S.kept archive.new.shelf)) }
+    ensures kept { OnOk result (KeepsToEnd N.rings archive.old.waiting (S.kept archive.old.shelf) (S.kept archive.new.shelf)) }
 {
     let clients = match clients_home(rt, conversations) {
         Ok(clients) => clients,

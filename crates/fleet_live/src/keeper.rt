@@ -34,8 +34,8 @@ pub(crate) struct Keeper<'a, N: OfficeName<Global>, S> {
 }
 
 impl<N: OfficeName<Global>, S: Shelf> Keeper<'_, N, S> {
-    /// Tells each client all its notices, however few its outlet has room for, while there is room in its conversation. On demand
-    /// the first conversation is told all, however long its reader takes.
+    /// Tells each client all its notices, however few its outlet has room for, while there is room in its conversation.
+    /// On demand the first conversation is told all, however long its reader takes.
     pub(crate) fn tell_all<R: Alloc<A = Global> + Wait>(&self, rt: &R) -> Result<(), AllocError> {
         for _ in rt.forever() {
             for one in &self.stage.conversations {
@@ -44,7 +44,8 @@ impl<N: OfficeName<Global>, S: Shelf> Keeper<'_, N, S> {
                     self.tell_whole(rt, one)?;
                 }
             }
-            // Where nothing was given, each mailbox is empty, or its client's outlet is full since there is no room to print.
+            // Where nothing was given, each mailbox is empty, or its client's outlet is full since there is no room to
+            // print.
             if self.office.give_all(rt) == 0 {
                 return Ok(());
             }

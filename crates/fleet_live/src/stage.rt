@@ -112,7 +112,8 @@ impl<N: OfficeName<Global>, S: Shelf> Stage<N, S> {
         self.counts.say_if_room(rt, line.as_str())
     }
 
-    /// Keeps these chapters, after those that wait. One that cannot be kept waits, with those after it, and that is said.
+    /// Keeps these chapters, after those that wait. One that cannot be kept waits, with those after it, and that is
+    /// said.
     pub(crate) fn keep_in<R: Alloc<A = Global> + Wait>(
         &self,
         rt: &R,

@@ -5,7 +5,7 @@ ghost use Rattle.std.specs.declared.alloc.Global.{Global};
 ghost use Rattle.fleet_grid.specs.Floor.{Floor};
 ghost use Rattle.fleet_history.specs.History.{history_of};
 ghost use Rattle.fleet_talk.specs.Chapters.{ChapterView, IsSound, chapter_shown};
-ghost use Rattle.fleet_live.specs.Kept.{AreSound, KeepsFirst, KeepsSome};
+ghost use Rattle.fleet_live.specs.Kept.{AreSound, KeepsFirst};
 
 use crate::bell::Stop;
 use fleet_history::Chapter;
@@ -50,7 +50,6 @@ fn keep_from_front<S: Shelf>(
 ) -> Result<(), ShelfFault>
     requires sound { AreSound (map chapter_shown chapters.old.items) }
     ensures kept { KeepsFirst (map chapter_shown chapters.old.items) (map chapter_shown chapters.new.items) (S.kept shelf.old) (S.kept shelf.new) }
-    ensures some { KeepsSome (S.kept shelf.old) (S.kept shelf.new) }
     ensures sound { AreSound (map chapter_shown chapters.new.items) }
     ensures none { OnOk result (chapters.new.items ≡ []) }
 {
@@ -120,7 +119,6 @@ impl Unkept {
     /// Keeps them on a shelf, in order. Each that was kept is removed: after a fault the others are left.
     pub(crate) fn keep_on<S: Shelf>(&mut self, shelf: &mut S) -> Result<(), Stop>
         ensures kept { KeepsFirst self.old self.new (S.kept shelf.old) (S.kept shelf.new) }
-        ensures some { KeepsSome (S.kept shelf.old) (S.kept shelf.new) }
         ensures none { OnOk result (self.new ≡ []) }
     {
         Ok(keep_from_front(shelf, &mut self.chapters)?)

@@ -1,5 +1,5 @@
-//! `golden_live` keeps fleets on a ring of eight cells on demand, as `fleet live` does: its test cases are stored in `stdin`, and what
-//! they have to print in `stdout`, which `tools/live/model.py --cases` prints.
+//! `golden_live` keeps fleets on a ring of eight cells on demand, as `fleet live` does: its test cases are stored in
+//! `stdin`, and what they have to print in `stdout`, which `tools/live/model.py --cases` prints.
 #![tactic(auto)]
 
 mod case;

@@ -1,8 +1,8 @@
 -- The first chapter was kept, and is removed.
-use Rattle.std.proofs.Common.{rules, ◌∙◌, ◌<◌, ◌∷◌, length, map, ap, subst, sym}
+use Rattle.std.proofs.Common.{rules, ◌∙◌, ◌<◌, ◌∷◌, length, map, ap, sym}
 use Rattle.fleet_talk.specs.Chapters.{chapter_shown}
-use Rattle.fleet_live.specs.Kept.{AreSound, IsKeepable}
-use Rattle.fleet_live.proofs.Keeping.{all-left, first-is, keeps-next, some-more}
+use Rattle.fleet_live.specs.Kept.{IsKeepable}
+use Rattle.fleet_live.proofs.Keeping.{all-left, first-is, keeps-next}
 use Rattle.fleet_live.proofs.unkept.keep_from_front.Goals as goal
 
 pub loop-chapter-preserved : goal.loop-chapter-preserved
@@ -14,7 +14,5 @@ loop-chapter-preserved g c =
     let is = first-is xs x some c.in-Some.ensures.lookup ∙ ap (λ l. x ∷ l) (sym c.pop_front.ensures.rest) in
     record {
       kept = keeps-next chapter_shown (map chapter_shown c.args.chapters.now.items) xs ys x (g.S.Shelf.kept c.args.shelf.now) (g.S.Shelf.kept c.loop-chapter.shelf) (g.S.Shelf.kept c.keep.new.self) is c.loop-chapter.invariant.kept c.in_ok-keep.ensures.ok;
-      some = some-more (g.S.Shelf.kept c.args.shelf.now) (g.S.Shelf.kept c.loop-chapter.shelf) (g.S.Shelf.kept c.keep.new.self) (chapter_shown x) c.loop-chapter.invariant.some
-          (subst AreSound (ap (λ l. map chapter_shown l) is) c.loop-chapter.invariant.sound).0 c.in_ok-keep.ensures.ok;
       sound = all-left IsKeepable chapter_shown xs ys x is c.loop-chapter.invariant.sound;
     }

@@ -1,13 +1,12 @@
 -- Some chapters were kept, and the others are left.
 use Rattle.std.proofs.Common.{map, length}
 use Rattle.fleet_talk.specs.Chapters.{chapter_shown}
-use Rattle.fleet_live.specs.Kept.{AreSound, KeepsFirst, KeepsSome}
+use Rattle.fleet_live.specs.Kept.{AreSound, KeepsFirst}
 use Rattle.fleet_live.proofs.unkept.keep_from_front.Given as goal
 
 abbrev pub invariant-loop-chapter : goal.invariant-loop-chapter
 invariant-loop-chapter g l = record {
   kept : KeepsFirst (map chapter_shown l.fn.chapters.items) (map chapter_shown l.chapters.items) (g.S.Shelf.kept l.fn.shelf) (g.S.Shelf.kept l.shelf);
-  some : KeepsSome (g.S.Shelf.kept l.fn.shelf) (g.S.Shelf.kept l.shelf);
   sound : AreSound (map chapter_shown l.chapters.items);
 }
 
