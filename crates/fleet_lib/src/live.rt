@@ -1,6 +1,6 @@
 //! The word `live`.
 
-ghost use Rattle.std.specs.Prelude.{◌≡◌, ◌≤◌, ◌<◌, ◌⊎◌, ◌==◌, ℕ, Some, true, false, if◌then◌else◌, IfOk, IfSome, IfNone, length, map};
+ghost use Rattle.std.specs.Prelude.{◌≡◌, ◌≤◌, ◌<◌, ◌⊎◌, ◌==◌, ℕ, Some, if◌then◌else◌, IfOk, IfSome, IfNone, length, map};
 ghost use Rattle.fleet_map.specs.Text.{number_of};
 
 use crate::input::InputFault;
@@ -54,14 +54,16 @@ fn apart(alloc: Global, word: &[u8]) -> Result<Vec<u8>, AllocError>
         .collect(alloc)
 }
 
-/// Whether a word is a number of clients: from 1 to 64.
-fn is_count(word: &[u8]) -> bool
-    ensures good { result ≡ true → (n : ℕ) × (1 ≤ n) × (n ≤ 64) × (number_of word.now ≡ Some n) }
-    ensures bad { result ≡ false → (n : ℕ) → number_of word.now ≡ Some n → (n ≡ 0) ⊎ (64 < n) }
+/// How many clients a word asks for: from 1 to 64.
+fn clients_in(word: &[u8]) -> Option<u32>
+    ensures some { IfSome result (λ n. (1 ≤ n) × (n ≤ 64) × (number_of word.now ≡ Some n)) }
+    ensures none { IfNone result ((n : ℕ) → number_of word.now ≡ Some n → (n ≡ 0) ⊎ (64 < n)) }
 {
-    match number_up_to(word, 65) {
-        Some(number) => 1 <= number && number <= 64,
-        None => false,
+    let number = number_up_to(word, 65)?;
+    if 1 <= number && number <= 64 {
+        Some(number as u32)
+    } else {
+        None
     }
 }
 
@@ -100,7 +102,7 @@ fn add_words(alloc: Global, head: &mut Head, live: &Live) -> Result<(), BadWord>
     }
     if let Some(clients) = &live.clients {
         let count = clients.as_bytes();
-        if !is_count(count) || !head.add_header(alloc, MOST_ROBOTS, b"clients", count)? {
+        if clients_in(count).is_none() || !head.add_header(alloc, MOST_ROBOTS, b"clients", count)? {
             return Err(BadWord::Clients);
         }
     }

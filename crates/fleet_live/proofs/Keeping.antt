@@ -77,8 +77,6 @@ module _ {A : Type 0} where
     sound = sound-append handed.chapters (x ∷ []) handed.sound (is, tt);
     concluded = concluded;
     added = subst (λ l. Adds a c l)
-        (sym (append_assoc handed.kept.kept waits (x ∷ []))
-        ∙ (ap (λ l. l ++ x ∷ []) (sym handed.kept.parts)
-        ∙ append_assoc waited handed.chapters (x ∷ [])))
+        (sym (append_assoc handed.kept.kept waits (x ∷ [])) ∙ ap (λ l. l ++ x ∷ []) (sym handed.kept.parts))
         (adds-then a b c handed.kept.kept (waits ++ x ∷ []) handed.kept.added last);
   }
