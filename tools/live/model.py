@@ -2,9 +2,11 @@
 """A fleet on demand once more: an independent model of `fleet live` without a period, written from docs/PROTOCOL.md over the model of `errands`.
 
 usage: tools/live/model.py [--watch] MAP SCRIPT < LINES
+       tools/live/model.py --cases FILE
 
 Says what the first conversation says, where no client has pipes of its own: output, error text, status. SCRIPT has the header lines.
-Standard library only.
+With --cases it reads the test cases of crates/golden_live (its stdin) and prints what the program has to print of them: a shelf in
+place of a folder counts the chapters that it keeps, and fails first where an option says so. Standard library only.
 """
 import importlib.util
 import os
@@ -19,9 +21,32 @@ spec.loader.exec_module(talk)
 model = talk.model
 
 
+MOST_WAITING = 16
+
+
+class Unkept(Exception):
+    """Sixteen chapters wait."""
+
+
+class Shelf:
+    """Keeps chapters in order, once it has failed so often; those that it did not keep wait."""
+
+    def __init__(self, fails):
+        self.fails, self.waiting, self.kept = fails, [], []
+
+    def keep(self):
+        while self.waiting:
+            if self.fails > 0:
+                self.fails -= 1
+                return False
+            self.kept.append(self.waiting.pop(0))
+        return True
+
+
 class Live:
-    def __init__(self, grid, head, watch):
+    def __init__(self, grid, head, watch, fails=0):
         self.grid, self.head, self.watch = grid, head, watch
+        self.shelf, self.pages = Shelf(fails), []
         hooks = (model.south_hooks if head.south else model.plain_hooks)(len(head.starts))
         self.rings = model.run(grid, head.starts, head.clients, head.limits, hooks, [])
         self.world, self.out, self.limited, self.closed = self.rings.world, [], False, set()
@@ -32,10 +57,29 @@ class Live:
     def event(self, *event):
         return model._event(self.rings, self.world, event, self.head.limits, self.head.clients)
 
+    def turn_page(self):
+        """The next chapter; the one before is handed out."""
+        self.pages.append(len(self.world.entries))
+        try:
+            self.world.next_chapter()
+        except model.BookSpent:
+            self.pages.pop()
+            raise
+
+    def keep(self):
+        """Keeps what was handed out, after what waits."""
+        self.shelf.waiting += self.pages
+        self.pages = []
+        if not self.shelf.keep() and len(self.shelf.waiting) >= MOST_WAITING:
+            raise Unkept()
+
     def give_all(self):
+        """How many notices were given."""
+        given = 0
         for client in range(self.head.clients):
             while self.event("give", client)[0] == "gave":
-                pass
+                given += 1
+        return given
 
     def take_all(self):
         """At most `lane` orders of each client, by number. False where the chapter is full."""
@@ -48,20 +92,30 @@ class Live:
                     break
         return True
 
+    def tell_found(self, client):
+        """Tells a client what is on its outlet. Whether that was something."""
+        found = False
+        while True:
+            reply = self.event("collect", client)
+            if reply[0] != "collected":
+                return found
+            found = True
+            for line in model.event_lines(("collect", client), reply, None):
+                self.say(None, line)
+
     def tell_all(self):
-        for client in range(self.head.clients):
-            while True:
-                reply = self.event("collect", client)
-                if reply[0] != "collected":
-                    break
-                for line in model.event_lines(("collect", client), reply, None):
-                    self.say(None, line)
+        """Tells each client what is on its outlet, until its mailbox is empty too."""
+        while True:
+            for client in range(self.head.clients):
+                self.tell_found(client)
+            if not self.give_all():
+                return
 
     def in_chapters(self, act):
         """Does this, in the next chapter where this one is full. False where that is the last."""
         while not act():
             try:
-                self.world.next_chapter()
+                self.turn_page()
             except model.BookSpent:
                 return False
         return True
@@ -96,6 +150,7 @@ class Live:
         for left in range(times - 1, -1, -1):
             room = self.in_chapters(self.turned)
             self.tell_all()
+            self.keep()
             if not room or not self.made:
                 self.limited = True
                 return self.say(mark, "tick-refused 1 clock-spent" if room else "tick-refused 2 chapter-full")
@@ -146,7 +201,8 @@ class Live:
         elif kind == "chapter":
             told = f"chapter {self.world.number} entries {len(self.world.entries)}"
             try:
-                self.world.next_chapter()
+                self.turn_page()
+                self.keep()
                 self.say(mark, told)
             except model.BookSpent:
                 self.say(mark, "chapter-refused 1 book-spent")
@@ -163,50 +219,95 @@ class Live:
             self.say(mark, f"bad-line {number}")
         return True
 
-    def end(self):
-        """Whether the office could be concluded."""
+    def take_left(self):
+        """Takes every order that is left, in further chapters where this one is full. False where that is the last, or none can be kept."""
         client = 0
         while client < self.head.clients:
             reply = self.event("take", client)
             if reply[0] == "take-refused" and reply[1] == 2:
                 try:
-                    self.world.next_chapter()
+                    self.turn_page()
+                    self.keep()
                 except model.BookSpent:
+                    self.limited = True
                     return False
             elif reply[0] == "take-refused":
                 self.world.widen(client, 2)
             elif reply[0] != "took":
                 client += 1
-        for client in range(self.head.clients):
-            while True:
-                self.event("give", client)
-                reply = self.event("collect", client)
-                if reply[0] != "collected":
-                    break
-                for line in model.event_lines(("collect", client), reply, None):
-                    self.say(None, line)
-        self.say(None, f"ended {self.world.ticks}")
         return True
 
+    def end(self):
+        """The end, whatever its cause: whether all chapters were kept."""
+        try:
+            judged = self.take_left()
+        except Unkept:
+            judged = False
+        if judged:
+            for client in range(self.head.clients):
+                while self.give_all() + self.tell_found(client):
+                    pass
+        else:
+            self.tell_all()
+        self.shelf.waiting += self.pages
+        kept = self.shelf.keep()
+        if kept:
+            self.shelf.waiting.append(len(self.world.entries))
+            kept = self.shelf.keep()
+        self.say(None, f"ended {self.world.ticks}")
+        return kept
 
-def live(text, script, lines, watch=False):
-    """(output, error text, status)"""
-    head = talk.head_of(script)
-    held = Live(model.Grid(*model.read_map(text)), head, watch)
-    for number, raw in enumerate(model.split_lines(lines, cr=False), 1):
-        if not held.line(number, raw):
-            break
-    if not held.end() or held.limited:
-        return b"".join(held.out), "fleet: limit\n", 8
-    return b"".join(held.out), "", 0
+
+def hold(held, lines):
+    """Whether chapters could be kept as long as lines were read."""
+    try:
+        for number, raw in enumerate(model.split_lines(lines, cr=False), 1):
+            if not held.line(number, raw):
+                break
+            if held.pages:
+                held.keep()
+    except Unkept:
+        return False
+    return True
+
+
+def live(text, script, lines, watch=False, fails=0):
+    """(output, error text, status, entries of the chapters that were kept)"""
+    held = Live(model.Grid(*model.read_map(text)), talk.head_of(script), watch, fails)
+    good = hold(held, lines)
+    good = held.end() and good
+    output = b"".join(held.out)
+    if not good:
+        return output, "fleet: file\n", 3, held.shelf.kept
+    if held.limited:
+        return output, "fleet: limit\n", 8, held.shelf.kept
+    return output, "", 0, held.shelf.kept
+
+
+def tell(name, options, lines):
+    """What the program has to print of a case."""
+    script = b"robots 0 8\nclients 2\n"
+    for option in options:
+        word, _, more = option.partition(b" ")
+        if word == b"script":
+            script += more + b"\n"
+    fails = float("inf") if b"fails always" in options else options.count(b"fails")
+    output, error, status, kept = live(talk.model_map(b"ring"), script, lines, b"watch" in options, fails)
+    told = f"{error}status {status}\nkept chapters {len(kept)} entries {sum(kept)}\n"
+    return b"case: " + name + b"\n" + output + told.encode()
 
 
 def main(words):
+    if words[:1] == ["--cases"]:
+        with open(words[1], "rb") as file:
+            for case in talk.cases(file.read()):
+                sys.stdout.buffer.write(tell(*case))
+        return 0
     if {"--help", "-h"} & set(words) or len([word for word in words if not word.startswith("--")]) != 2:
         print(__doc__.strip())
         return 0 if {"--help", "-h"} & set(words) else 2
     texts = [open(name, "rb").read() for name in words if not name.startswith("--")]
-    out, error, status = live(texts[0], texts[1], sys.stdin.buffer.read(), "--watch" in words)
+    out, error, status, _ = live(texts[0], texts[1], sys.stdin.buffer.read(), "--watch" in words)
     sys.stdout.buffer.write(out)
     sys.stderr.write(error)
     return status

@@ -104,7 +104,7 @@ class LiveTest(unittest.TestCase):
 
     def test_words(self):
         for words in (["--robots", "0;8"], ["--robots", "0", "--period", "0ms"], ["--robots", "0", "--period", "20"], ["--robots", "0", "--clients", "x"], ["--robots", "0", "--tickers", "3"],
-                      ["--robots", "0", "--tickers", "0"]):
+                      ["--robots", "0", "--tickers", "0"], ["--robots", "0", "--clients", "0"], ["--robots", "0", "--clients", "65"], ["--robots", "0", "--traces", ""]):
             status, output, complaint = self.run_lines("", *words)
             self.assertEqual((status, output), (2, ""))
             self.assertTrue(complaint.startswith("error: "))
@@ -142,6 +142,105 @@ class LiveTest(unittest.TestCase):
         for name in names:
             with open(os.path.join(self.folder.name, name)) as file:
                 self.assertEqual(len(json.load(file)["entries"]), 50)
+
+    def test_a_pipe_is_named_once(self):
+        names = [os.path.join(self.folder.name, name) for name in ("in0", "out0", "in1")]
+        for name in names:
+            os.mkfifo(name)
+        way, back, other = names
+        for pipes in ([f"{way},{way}"], [f"{way},{back}", f"{other},{back}"], [f"{way},{back}", f"{back},{other}"]):
+            words = [word for one in pipes for word in ("--client", one)]
+            status, output, complaint = self.run_lines("look\n", "--robots", "0,8", "--clients", "2", *words)
+            self.assertEqual((status, output), (2, ""))
+            self.assertTrue(complaint.startswith("error: a pipe is named twice"))
+
+    def test_outlets_hold_back_nothing(self):
+        with self.fleet([0, 8], outlet=1) as fleet:
+            first, second = fleet.go(0, 1), fleet.go(1, 7)
+            fleet.tick()
+            self.assertEqual((first.arrived(timeout=5).tick, second.arrived(timeout=5).tick), (1, 1))
+
+    def head(self, lines):
+        script = os.path.join(self.folder.name, "head.script")
+        with open(script, "w") as file:
+            file.write(lines)
+        return script
+
+    def traces(self):
+        folder = os.path.join(self.folder.name, "traces")
+        os.mkdir(folder)
+        return folder
+
+    def chapters_in(self, folder):
+        """The numbers of entries of the chapters, which are all that the folder has."""
+        names = sorted(os.listdir(folder), key=lambda name: int(name[8:-5]))
+        counts = []
+        for number, name in enumerate(names):
+            self.assertEqual(name, f"chapter-{number}.json")
+            with open(os.path.join(folder, name)) as file:
+                counts.append(len(json.load(file)["entries"]))
+        return counts
+
+    def test_folders_of_chapters(self):
+        folder = self.traces()
+        words = ["--robots", "0,8", "--traces", folder]
+        complaint = f"fleet: file {folder} "
+        with subprocess.Popen([PROGRAM, "live", *words, self.map], stdin=subprocess.PIPE, stdout=subprocess.PIPE) as process:
+            process.stdin.write(b"look\n")
+            process.stdin.flush()
+            self.assertTrue(process.stdout.readline().startswith(b"look "))
+            self.assertEqual(self.run_lines("look\n", *words), (3, "", complaint + "is in use by another fleet\n"))
+            process.stdin.close()
+            process.stdout.read()
+        self.assertEqual(process.returncode, 0)
+        self.assertEqual(self.chapters_in(folder), [0])
+        told = complaint + "has chapters of another fleet\n"
+        self.assertEqual(self.run_lines("tick\n", *words), (3, "", told))
+        talk = subprocess.run([PROGRAM, "talk", "--traces", folder, self.map], input=b"robots 0\ntick\n", capture_output=True)
+        self.assertEqual((talk.returncode, talk.stdout, talk.stderr.decode()), (3, b"", told))
+        self.assertEqual(self.chapters_in(folder), [0])
+        missing = os.path.join(self.folder.name, "missing")
+        told = (3, "", f"fleet: file {missing} cannot be written\n")
+        self.assertEqual(self.run_lines("tick\n", "--robots", "0,8", "--traces", missing), told)
+
+    def test_a_chapter_that_waits(self):
+        folder = self.traces()
+        part = os.path.join(folder, "chapter-1.part")
+        os.mkdir(part)
+        words = ["--period", "1ms", "--traces", folder, self.map, self.head("robots 0 8\nchapter 200\n")]
+        with subprocess.Popen([PROGRAM, "live", *words], stdin=subprocess.PIPE, stdout=subprocess.PIPE, stderr=subprocess.PIPE) as process:
+            self.assertEqual(process.stderr.readline(), b"fleet: file chapter-1.json\n")
+            time.sleep(0.5)
+            self.assertEqual(sorted(os.listdir(folder)), ["chapter-0.json", "chapter-1.part", "fleet.lock"])
+            os.rmdir(part)
+            for _ in range(1000):
+                if os.path.exists(os.path.join(folder, "chapter-2.json")):
+                    break
+                time.sleep(0.01)
+            process.stdin.close()
+            last = process.stdout.read().splitlines()[-1]
+        self.assertEqual(process.returncode, 0)
+        counts = self.chapters_in(folder)
+        self.assertGreater(len(counts), 2)
+        self.assertEqual(set(counts[:-1]), {200})
+        self.assertEqual(last, f"ended {sum(counts)}".encode())
+
+    def test_chapters_that_cannot_be_kept_end_the_fleet(self):
+        folder = self.traces()
+        os.mkdir(os.path.join(folder, "chapter-1.part"))
+        words = ["--period", "1ms", "--traces", folder, self.map, self.head("robots 0 8\nchapter 20\n")]
+        with subprocess.Popen([PROGRAM, "live", *words], stdin=subprocess.PIPE, stdout=subprocess.PIPE, stderr=subprocess.PIPE) as process:
+            process.stdin.write(b"post 0 go 0 1\n")
+            process.stdin.flush()
+            output, complaint = process.stdout.read().decode(), process.stderr.read().decode()
+            process.stdin.close()
+        self.assertEqual(process.returncode, 3)
+        lines = output.splitlines()
+        self.assertEqual(lines[:2], ["posted 0 1", "collected 0 1 verdict 1 accepted 1"])
+        self.assertTrue(lines[2].startswith("collected 0 2 arrived 1 "))
+        self.assertTrue(lines[-1].startswith("ended "))
+        self.assertEqual(set(complaint.splitlines()), {"fleet: file chapter-1.json", "fleet: file"})
+        self.assertEqual(sorted(os.listdir(folder)), ["chapter-0.json", "chapter-1.part"])
 
     def test_a_client_comes_again(self):
         names = [os.path.join(self.folder.name, way) for way in ("in", "out")]

@@ -4,7 +4,7 @@ ghost use Rattle.std.specs.Prelude.{None};
 
 use fleet_lib::{Chapter, Shelf, ShelfFault, trace_line, write_whole};
 use std::alloc::{Alloc, Global};
-use std::fs::{self, File, Files};
+use std::fs::{self, File, Files, OpenFile};
 use std::io::ErrorKind;
 
 /// A folder for the traces of chapters, or none.
@@ -14,15 +14,13 @@ pub(crate) struct TraceFolder<'a, R> {
     pub(crate) name: Option<&'a str>,
 }
 
-/// Writes a file under this name, and then renames it to the other name, so that a file with the other name is always
-/// whole.
-fn write_beside<R: Files + Alloc<A = Global>>(
+/// Writes a file, down to the disk.
+fn write_synced<R: Files + Alloc<A = Global>>(
     rt: &R,
-    beside: &str,
     name: &str,
     text: &[u8],
 ) -> Result<(), ShelfFault> {
-    let mut file = match File::create(rt, beside) {
+    let mut file = match File::create(rt, name) {
         Ok(file) => file,
         Err(fault) if fault.kind() == ErrorKind::OutOfMemory => return Err(ShelfFault::NoMemory),
         Err(_) => return Err(ShelfFault::File),
@@ -30,10 +28,31 @@ fn write_beside<R: Files + Alloc<A = Global>>(
     if !write_whole(&mut file, text) {
         return Err(ShelfFault::File);
     }
-    match fs::rename(rt, beside, name) {
+    match file.sync_all() {
         Ok(()) => Ok(()),
         Err(_) => Err(ShelfFault::File),
     }
+}
+
+/// Writes a file under this name, and then renames it to the other name, so that a file with the other name is always
+/// whole. After a fault no part is left.
+fn write_beside<R: Files + Alloc<A = Global>>(
+    rt: &R,
+    beside: &str,
+    name: &str,
+    text: &[u8],
+) -> Result<(), ShelfFault> {
+    let written = match write_synced(rt, beside, text) {
+        Ok(()) => match fs::rename(rt, beside, name) {
+            Ok(()) => Ok(()),
+            Err(_) => Err(ShelfFault::File),
+        },
+        Err(fault) => Err(fault),
+    };
+    if written.is_err() {
+        let _removed = fs::remove_file(rt, beside);
+    }
+    written
 }
 
 impl<R: Files + Alloc<A = Global>> Shelf for TraceFolder<'_, R> {

@@ -9,6 +9,7 @@ mod check;
 mod convert;
 mod ends;
 mod explain;
+mod folder;
 mod live;
 mod talk;
 mod view;
@@ -18,6 +19,7 @@ use check::run_check;
 use convert::run_convert;
 use explain::run_explain;
 use fleet_lib::{InputFault, Job, WordFault, fail, parse_words, write_whole};
+use folder::{complain_of_folder, hold_folder};
 use live::hold_live;
 use std::alloc::{Alloc, Global};
 use std::env::{self, Env};
@@ -65,14 +67,31 @@ fn main(rt: HostRuntime) -> ExitCode {
     let status = match job_given(&rt, &mut error) {
         Ok(Job::View(view)) => run_view(&rt, &view, &mut output, &mut error),
         Ok(Job::Check(check)) => run_check(&rt, &check, &mut output, &mut error),
-        Ok(Job::Talk(talk)) => hold_talk(&rt, &talk, rt.stdin(), output, &mut error),
+        Ok(Job::Talk(talk)) => {
+            let name = talk.traces.as_deref();
+            match hold_folder(&rt, name) {
+                Ok(folder) => {
+                    let status = hold_talk(&rt, &talk, rt.stdin(), output, &mut error);
+                    folder.let_go(&rt);
+                    status
+                }
+                Err(fault) => complain_of_folder(&rt, fault, name, &mut error),
+            }
+        }
         Ok(Job::Convert(convert)) => run_convert(&rt, &convert, &mut output, &mut error),
         Ok(Job::Explain(explain)) => run_explain(&rt, &explain, &mut output, &mut error),
         Ok(Job::Live(live)) => {
-            // Made here, where it is known of the runtime that threads may share it.
             let name = live.traces.as_deref();
-            let shelf = TraceFolder { rt: &rt, name };
-            hold_live(&rt, &live, (rt.stdin(), output), &mut error, shelf)
+            match hold_folder(&rt, name) {
+                Ok(folder) => {
+                    // Made here, where it is known of the runtime that threads may share it.
+                    let shelf = TraceFolder { rt: &rt, name };
+                    let status = hold_live(&rt, &live, (rt.stdin(), output), &mut error, shelf);
+                    folder.let_go(&rt);
+                    status
+                }
+                Err(fault) => complain_of_folder(&rt, fault, name, &mut error),
+            }
         }
         Err(status) => status,
     };

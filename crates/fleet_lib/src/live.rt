@@ -29,6 +29,8 @@ enum BadWord {
     Period,
     Tickers,
     Pipes,
+    /// A pipe is named twice.
+    Twice,
     NoMemory,
 }
 
@@ -54,6 +56,44 @@ fn apart(alloc: Global, word: &[u8]) -> Result<Vec<u8>, AllocError>
         .collect(alloc)
 }
 
+/// How many clients a word asks for: from 1 to 64.
+fn clients_in(word: &[u8]) -> Option<u32>
+    ensures some { IfSome result (λ n. (1 ≤ n) × (n ≤ 64) × (number_of word.now ≡ Some n)) }
+    ensures none { IfNone result ((n : ℕ) → number_of word.now ≡ Some n → (n ≡ 0) ⊎ (64 < n)) }
+{
+    let number = number_up_to(word, 65)?;
+    if 1 <= number && number <= 64 {
+        Some(number as u32)
+    } else {
+        None
+    }
+}
+
+/// The names of the pipes that a word has, with a comma between them.
+fn names_in(word: &str) -> (&str, &str) {
+    match word.split_once(',') {
+        Some(names) => names,
+        None => (word, ""),
+    }
+}
+
+/// Whether a pipe is named twice.
+fn names_twice(words: &[String]) -> bool {
+    for at in 0..words.len() {
+        let (input, output) = names_in(words[at].as_str());
+        if input == output {
+            return true;
+        }
+        for other in &words[at + 1..] {
+            let (more, back) = names_in(other.as_str());
+            if input == more || input == back || output == more || output == back {
+                return true;
+            }
+        }
+    }
+    false
+}
+
 /// Adds what the words say to the head.
 fn add_words(alloc: Global, head: &mut Head, live: &Live) -> Result<(), BadWord> {
     if let Some(cells) = &live.robots {
@@ -63,12 +103,16 @@ fn add_words(alloc: Global, head: &mut Head, live: &Live) -> Result<(), BadWord>
         }
     }
     if let Some(clients) = &live.clients {
-        if !head.add_header(alloc, MOST_ROBOTS, b"clients", clients.as_bytes())? {
+        let count = clients.as_bytes();
+        if clients_in(count).is_none() || !head.add_header(alloc, MOST_ROBOTS, b"clients", count)? {
             return Err(BadWord::Clients);
         }
     }
     if live.pipes.len() > head.clients.unwrap_or(1) as usize {
         return Err(BadWord::Pipes);
+    }
+    if names_twice(&live.pipes) {
+        return Err(BadWord::Twice);
     }
     Ok(())
 }
@@ -117,6 +161,7 @@ fn complain_of_word<E: Write>(word: BadWord, error: &mut E) -> u8 {
         BadWord::Period => "error: invalid value for '--period <TIME>'\n",
         BadWord::Tickers => "error: invalid value for '--tickers <N>'\n",
         BadWord::Pipes => "error: more '--client <IN,OUT>' than clients\n",
+        BadWord::Twice => "error: a pipe is named twice for '--client <IN,OUT>'\n",
         BadWord::NoMemory => return fail(InputFault::NoMemory, error),
     };
     write_whole(error, text.as_bytes());

@@ -9,8 +9,9 @@ use Rattle.fleet_lanes.specs.Names.{LaneName}
 use Rattle.fleet_office.specs.Chapters.{IsChapterOf}
 use Rattle.fleet_office.specs.Hall.{HallView}
 use Rattle.fleet_talk.specs.Chapters.{Adds, ChapterView, IsSound}
+use Rattle.std.proofs.lemmas.List.{append-nil}
 use Rattle.fleet_talk.proofs.Shelving.{adds-none, adds-then}
-use Rattle.fleet_live.specs.Kept.{AreSound, IsConcluded, KeepsFirst, KeepsSome, KeepsToEnd}
+use Rattle.fleet_live.specs.Kept.{AreSound, IsConcluded, KeepsFirst, KeepsHanded, KeepsToEnd}
 
 pub first-is : {X : Type 0} (xs : List X) (x : X) → 0 < length xs → x ≡ slice_index_or xs 0 x → xs ≡ x ∷ drop 1 xs
 first-is [] x some is = absurd (omega (arith, some))
@@ -34,23 +35,48 @@ module _ {A : Type 0} where
   pub sound-handed : (rings : List (LaneName A)) (n : _) (h : History A) → (hall : HallView A) × IsChapterOf rings hall n h → (m : Floor) × IsSound m h
   sound-handed rings n h (hall, of) = (hall.world.floor, record { legal = subst (IsLegal hall.world.floor) (sym of.history) of.lawful.legal; advancing = of.advancing })
 
-  pub some-none : (known : Option (List (ChapterView A))) → KeepsSome known known
-  some-none known = ([], tt, adds-none known)
+  pub handed-none : (waits : List (ChapterView A)) (known : Option (List (ChapterView A))) → KeepsHanded waits waits known known
+  handed-none waits known = record { chapters = []; sound = tt; kept = record { kept = []; parts = append-nil waits; added = adds-none known } }
 
   sound-append : (xs ys : List (ChapterView A)) → AreSound xs → AreSound ys → AreSound (xs ++ ys)
   sound-append [] ys a b = b
   sound-append (x ∷ xs) ys (is, a) b = (is, sound-append xs ys a b)
 
-  -- one more was kept
-  pub some-more : (a b c : Option (List (ChapterView A))) (x : ChapterView A) → KeepsSome a b → (m : Floor) × IsSound m x.history → Adds b c (x ∷ []) → KeepsSome a c
-  some-more a b c x (xs, sound, p) is q = (xs ++ x ∷ [], sound-append xs (x ∷ []) sound (is, tt), adds-then a b c xs (x ∷ []) p q)
+  -- one was handed out, and waits after the others, of which the first were then kept
+  pub handed-one : (waited waits : List (ChapterView A)) (a b : Option (List (ChapterView A))) (x : ChapterView A) → (m : Floor) × IsSound m x.history →
+      KeepsFirst (waited ++ x ∷ []) waits a b → KeepsHanded waited waits a b
+  handed-one waited waits a b x sound kept = record { chapters = x ∷ []; sound = (sound, tt); kept = kept }
 
-  -- the last was kept
-  pub to-end : (rings : List (LaneName A)) (a b c : Option (List (ChapterView A))) (x : ChapterView A) → KeepsSome a b → (m : Floor) × IsSound m x.history → IsConcluded rings x → Adds b c (x ∷ []) → KeepsToEnd rings a c
-  to-end rings a b c x (xs, sound, p) is concluded q = record {
-    chapters = xs;
+  -- some were handed out, and then others
+  pub handed-then : (u v w : List (ChapterView A)) (a b c : Option (List (ChapterView A))) → KeepsHanded u v a b → KeepsHanded v w b c → KeepsHanded u w a c
+  handed-then u v w a b c f s = record {
+    chapters = f.chapters ++ s.chapters;
+    sound = sound-append f.chapters s.chapters f.sound s.sound;
+    kept = record {
+      kept = f.kept.kept ++ s.kept.kept;
+      parts = sym (append_assoc u f.chapters s.chapters)
+          ∙ (ap (λ l. l ++ s.chapters) f.kept.parts
+          ∙ (append_assoc f.kept.kept v s.chapters
+          ∙ (ap (λ l. f.kept.kept ++ l) s.kept.parts
+          ∙ sym (append_assoc f.kept.kept s.kept.kept w))));
+      added = adds-then a b c f.kept.kept s.kept.kept f.kept.added s.kept.added;
+    };
+  }
+
+  -- all that waited were kept, and then the last
+  pub then-last : (waits : List (ChapterView A)) (a b c : Option (List (ChapterView A))) (x : ChapterView A) → KeepsFirst waits [] a b → Adds b c (x ∷ []) → Adds a c (waits ++ x ∷ [])
+  then-last waits a b c x kept added =
+      subst (λ l. Adds a c (l ++ x ∷ [])) (sym (kept.parts ∙ append-nil kept.kept)) (adds-then a b c kept.kept (x ∷ []) kept.added added)
+
+  -- the last was kept, after those that waited and those that were handed out
+  pub to-end : (rings : List (LaneName A)) (waited waits : List (ChapterView A)) (a b c : Option (List (ChapterView A))) (x : ChapterView A) → KeepsHanded waited waits a b →
+      (m : Floor) × IsSound m x.history → IsConcluded rings x → Adds b c (waits ++ x ∷ []) → KeepsToEnd rings waited a c
+  to-end rings waited waits a b c x handed is concluded last = record {
+    chapters = handed.chapters;
     last = x;
-    sound = sound-append xs (x ∷ []) sound (is, tt);
+    sound = sound-append handed.chapters (x ∷ []) handed.sound (is, tt);
     concluded = concluded;
-    added = adds-then a b c xs (x ∷ []) p q;
+    added = subst (λ l. Adds a c l)
+        (sym (append_assoc handed.kept.kept waits (x ∷ [])) ∙ ap (λ l. l ++ x ∷ []) (sym handed.kept.parts))
+        (adds-then a b c handed.kept.kept (waits ++ x ∷ []) handed.kept.added last);
   }

@@ -1,12 +1,12 @@
 -- Notices that are told one after another.
-use Rattle.std.proofs.Common.{◌∙◌, ℕ, List, [], ◌++◌, refl, sym, ap, subst}
+use Rattle.std.proofs.Common.{◌∙◌, ℕ, List, [], ◌∷◌, ◌++◌, refl, sym, ap, subst}
 use Rattle.std.specs.List.{flat_map}
 use Rattle.std.proofs.lemmas.List.{append-nil, append_assoc}
 use Rattle.std.proofs.lemmas.Grind.{flat_map-append}
 use Rattle.fleet_book.specs.declared.notice.Notice.{Notice}
 use Rattle.fleet_lanes.specs.Ends.{ClientView}
 use Rattle.fleet_live.specs.declared.page.Page.{Page}
-use Rattle.fleet_live.specs.Page.{IsSaid, IsTold}
+use Rattle.fleet_live.specs.Page.{AreTold, IsSaid, IsTold}
 use Rattle.fleet_live.specs.Said.{notice_line}
 
 pub said-none : (p : Page) → IsSaid p p []
@@ -33,3 +33,8 @@ told-then a b c p q r x y = record {
       (said-then p q r (flat_map (notice_line a.number) x.notices) (flat_map (notice_line a.number) y.notices) x.said
       (subst (λ (n : ℕ). IsSaid q r (flat_map (notice_line n) y.notices)) x.number y.said));
 }
+
+-- clients that were told nothing
+pub are-told-none : {A : Type 0} (vs : List (ClientView A)) (p : Page) → AreTold vs vs p p
+are-told-none [] p = refl
+are-told-none (v ∷ vs) p = (p, told-none v p, are-told-none vs p)

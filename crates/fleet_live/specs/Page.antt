@@ -1,6 +1,6 @@
 -- What a page holds once something was said, and what a client is told.
-use Rattle.std.specs.Prelude.{◌≡◌, ℕ, List, [], ◌++◌, length, nat_lt, if◌then◌else◌}
-use Rattle.std.specs.List.{flat_map}
+use Rattle.std.specs.Prelude.{◌≡◌, ℕ, List, [], ◌∷◌, ◌++◌, length, nat_lt, if◌then◌else◌}
+use Rattle.std.specs.List.{AllByRecursion, flat_map}
 use Rattle.fleet_book.specs.declared.notice.Notice.{Notice}
 use Rattle.fleet_lanes.specs.Ends.{ClientView}
 use Rattle.fleet_live.specs.declared.page.Page.{Page}
@@ -24,3 +24,13 @@ pub record IsTold {A : Type 0} (old new : ClientView A) (before after : Page) : 
   pub number : new.number ≡ old.number
   pub lane : new.lane ≡ old.lane
   pub said : IsSaid before after (flat_map (notice_line old.number) notices)
+
+-- the same of each of these clients, one after another
+abbrev pub AreTold : {A : Type 0} → List (ClientView A) → List (ClientView A) → Page → Page → Type 0
+AreTold [] [] before after = after ≡ before
+AreTold (old ∷ olds) (new ∷ news) before after = (mid : Page) × IsTold old new before mid × AreTold olds news mid after
+AreTold olds news before after = ⊥
+
+-- none of these clients finds a notice
+abbrev pub FindNothing : {A : Type 0} → List (ClientView A) → Type 0
+FindNothing cs = AllByRecursion (λ c. c.known ≡ []) cs

@@ -4,7 +4,7 @@ use crate::bell::{Stop, Wish};
 use crate::demand::Wanted;
 use crate::keeper::{Keeper, Turned};
 use crate::said::{look_text, shut_text, tick_text};
-use crate::stage::{Round, Work, keep_pages};
+use crate::stage::{Round, Work};
 use fleet_core::{ChapterFault, ShutFault};
 use fleet_office::OfficeName;
 use fleet_talk::Shelf;
@@ -53,7 +53,7 @@ impl<N: OfficeName<Global>, S: Shelf> Keeper<'_, N, S> {
         if let Err(AllocError) = work.pages.push(page) {
             return Err(Stop::NoMemory);
         }
-        keep_pages(rt, &self.stage.shelf, &mut work.pages)?;
+        self.stage.keep_pages(rt, &mut work.pages)?;
         Ok(format!(in alloc; "chapter {number} entries {entries}\n")?)
     }
 

@@ -6,7 +6,7 @@ ghost use Rattle.fleet_live.specs.Kept.{IsTurned};
 use crate::bell::{Call, Stop};
 use crate::conversation::Conversation;
 use crate::said::tick_text;
-use crate::stage::{Round, Stage, Work, keep_pages};
+use crate::stage::{Round, Stage, Work};
 use fleet_core::ChapterFault;
 use fleet_office::{Office, OfficeName, TurnCause};
 use fleet_talk::Shelf;
@@ -34,15 +34,23 @@ pub(crate) struct Keeper<'a, N: OfficeName<Global>, S> {
 }
 
 impl<N: OfficeName<Global>, S: Shelf> Keeper<'_, N, S> {
-    /// Tells each client what it finds. On demand the first conversation is told all, however long its reader takes.
+    /// Tells each client all its notices, however few its outlet has room for, while there is room in its conversation.
+    /// On demand the first conversation is told all, however long its reader takes.
     pub(crate) fn tell_all<R: Alloc<A = Global> + Wait>(&self, rt: &R) -> Result<(), AllocError> {
-        for one in &self.stage.conversations {
-            let told = one.tell(rt, rt.alloc())?;
-            if !told && !self.stage.paced && one.rights.rules {
-                self.tell_whole(rt, one)?;
+        for _ in rt.forever() {
+            for one in &self.stage.conversations {
+                let told = one.tell(rt, rt.alloc())?;
+                if !told && !self.stage.paced && one.rights.rules {
+                    self.tell_whole(rt, one)?;
+                }
+            }
+            // Where nothing was given, each mailbox is empty, or its client's outlet is full since there is no room to
+            // print.
+            if self.office.give_all(rt) == 0 {
+                return Ok(());
             }
         }
-        Ok(())
+        unreachable!()
     }
 
     /// Tells all that the clients of a conversation find, as its reader makes room.
@@ -140,7 +148,7 @@ impl<N: OfficeName<Global>, S: Shelf> Keeper<'_, N, S> {
             self.show_tick(rt, work)?;
         }
         if !self.stage.paced {
-            keep_pages(rt, &self.stage.shelf, &mut work.pages)?;
+            self.stage.keep_pages(rt, &mut work.pages)?;
         }
         Ok(turned)
     }

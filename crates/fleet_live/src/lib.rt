@@ -2,6 +2,7 @@
 //! or on demand.
 #![tactic(auto)]
 
+mod archive;
 mod bell;
 mod conversation;
 mod conversations;

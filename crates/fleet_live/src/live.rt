@@ -136,11 +136,12 @@ fn end_fleet<N: OfficeName<Global>, R: Alloc<A = Global> + Clock + Threads + Wai
         chapter: _,
         searches: _,
         round,
-        shelf,
+        archive,
+        behind: _,
     } = stage;
     let limited = round.into_inner().limited;
-    let mut shelf = shelf.into_inner();
-    let finished = finish(rt, office, &conversations, tickers, &mut shelf);
+    let mut archive = archive.into_inner();
+    let finished = finish(rt, office, &conversations, tickers, &mut archive);
     counts.end(rt);
     wait_for_readers(rt, &conversations, writer);
     match (stop, finished) {

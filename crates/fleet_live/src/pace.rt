@@ -5,7 +5,7 @@ ghost use Rattle.std.specs.Prelude.{◌<◌, ◌^◌};
 use crate::bell::{Call, Stop};
 use crate::keeper::{Keeper, Turned};
 use crate::period::next_due;
-use crate::stage::{Round, Work, keep_pages};
+use crate::stage::{Round, Work};
 use crate::tally::Tally;
 use fleet_office::OfficeName;
 use fleet_talk::Shelf;
@@ -137,6 +137,7 @@ fn turn_now<N: OfficeName<Global>, R: Alloc<A = Global> + Clock + Wait, S: Shelf
     deadlines.turn = next_due(told_apart(deadlines.turn), period, told_apart(now));
     say_counts(rt, keeper, &mut deadlines, &mut round.tally, now)?;
     round.deadlines = Some(deadlines);
+    round.retry_from(now);
     heed_some(rt, keeper, round, work)
 }
 
@@ -167,6 +168,35 @@ fn step<N: OfficeName<Global>, R: Alloc<A = Global> + Clock + Threads + Sync + W
     keeper.heed(rt, round, work, call)
 }
 
+/// Keeps the fleet until a chapter is handed out, or one that could not be kept is to be tried again.
+fn step_on<N: OfficeName<Global>, R: Alloc<A = Global> + Clock + Threads + Sync + Wait, S: Shelf>(
+    rt: &R,
+    keeper: &Keeper<'_, N, S>,
+    round: &mut Round,
+    work: &mut Work<N>,
+) -> Result<(), Stop> {
+    if let Some(stop) = keeper.stage.bell.stop(rt) {
+        return Err(stop);
+    }
+    round.retries = false;
+    for _ in rt.forever() {
+        step(rt, keeper, round, work)?;
+        if !work.pages.is_empty() || (round.retries && keeper.stage.is_behind()) {
+            return Ok(());
+        }
+    }
+    unreachable!()
+}
+
+/// Why the fleet stops, where it is to stop or chapters cannot be kept. At the end those that wait are tried once more.
+fn stopped(stepped: Result<(), Stop>, kept: Result<(), Stop>) -> Result<(), Stop> {
+    match (stepped, kept) {
+        (Ok(()), kept) => kept,
+        (Err(Stop::Quit | Stop::Limit), Err(Stop::NoMemory)) => Err(Stop::NoMemory),
+        (stepped, _) => stepped,
+    }
+}
+
 /// Keeps the fleet until a chapter is handed out, lets the other ticker keep it, and keeps that chapter.
 fn keep_for_a_chapter<
     N: OfficeName<Global>,
@@ -174,23 +204,18 @@ fn keep_for_a_chapter<
     S: Shelf,
 >(rt: &R, keeper: &Keeper<'_, N, S>, work: &mut Work<N>) -> Result<(), Stop> {
     let mut held = keeper.stage.round.lock(rt);
-    let round = &mut *held;
-    if let Some(stop) = keeper.stage.bell.stop(rt) {
-        return Err(stop);
+    let stepped = step_on(rt, keeper, &mut *held, work);
+    if let Err(stop) = stepped {
+        // While the round is held, so that the other ticker makes no turn after it.
+        keeper.stage.bell.ask_to_stop(rt, stop);
     }
-    for _ in rt.forever() {
-        step(rt, keeper, round, work)?;
-        if !work.pages.is_empty() {
-            break;
-        }
-    }
-    let mut shelf = keeper.stage.shelf.lock(rt);
+    let mut archive = keeper.stage.archive.lock(rt);
     mem::drop(held);
-    work.pages.keep_on(&mut *shelf)
+    let kept = keeper.stage.keep_in(rt, &mut *archive, &mut work.pages);
+    stopped(stepped, kept)
 }
 
-/// Keeps the fleet, in turn with the other ticker if there is one, until the fleet is to stop. The result is why, or why a chapter that
-/// was handed out could not be kept.
+/// Keeps the fleet, in turn with the other ticker if there is one, until the fleet is to stop. The result is why.
 pub(crate) fn keep_on<
     N: OfficeName<Global>,
     R: Alloc<A = Global> + Clock + Threads + Sync + Wait,
@@ -199,13 +224,7 @@ pub(crate) fn keep_on<
     for _ in rt.forever() {
         if let Err(stop) = keep_for_a_chapter(rt, keeper, work) {
             keeper.stage.bell.ask_to_stop(rt, stop);
-            if stop == Stop::Shelf {
-                return stop;
-            }
-            return match keep_pages(rt, &keeper.stage.shelf, &mut work.pages) {
-                Ok(()) => stop,
-                Err(unkept) => unkept,
-            };
+            return stop;
         }
     }
     unreachable!()

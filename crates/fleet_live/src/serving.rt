@@ -2,6 +2,7 @@
 
 ghost use Rattle.fleet_office.specs.Views.{AreOn, cores};
 
+use crate::archive::Archive;
 use crate::bell::{Bell, Stop};
 use crate::conversation::Conversation;
 use crate::conversations::{conversations_of, new_voice};
@@ -15,6 +16,7 @@ use fleet_office::{Office, OfficeName, Ticker};
 use fleet_talk::Shelf;
 use std::alloc::{Alloc, AllocError, Global};
 use std::io::{Read, Write};
+use std::sync::atomic::AtomicU64;
 use std::sync::{Arc, Mutex, Wait};
 use std::thread::{JoinHandle, Threads};
 use std::time::Clock;
@@ -50,7 +52,7 @@ fn new_bell(alloc: Global) -> Result<Arc<Bell>, AllocError> {
 }
 
 /// What the tickers share, before the first thread.
-fn stage_of<N: OfficeName<Global>, R: Alloc<A = Global> + Clock, S: Drop>(
+fn stage_of<N: OfficeName<Global>, R: Alloc<A = Global> + Clock, S: Shelf + Drop>(
     rt: &R,
     clients: Vec<Client>,
     pipes: usize,
@@ -76,7 +78,8 @@ fn stage_of<N: OfficeName<Global>, R: Alloc<A = Global> + Clock, S: Drop>(
         chapter: site.chapter,
         searches: paced && site.cells >= LARGE,
         round: Mutex::new(Round::new(deadlines)),
-        shelf: Mutex::new(shelf),
+        archive: Mutex::new(Archive::new(alloc, shelf)),
+        behind: AtomicU64::new(0),
     })
 }
 

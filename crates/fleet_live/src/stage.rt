@@ -2,6 +2,7 @@
 
 ghost use Rattle.std.specs.Prelude.{◌≡◌, [], OnOk};
 
+use crate::archive::Archive;
 use crate::bell::{Bell, Stop};
 use crate::conversation::Conversation;
 use crate::pace::Deadlines;
@@ -10,8 +11,12 @@ use crate::unkept::Unkept;
 use crate::voice::Voice;
 use fleet_office::{OfficeName, TickRecord, Ticker, TurnReport};
 use fleet_talk::Shelf;
-use std::alloc::{AllocError, Global};
+use std::alloc::{Alloc, AllocError, Global};
+use std::sync::atomic::{AtomicU64, Ordering};
 use std::sync::{Arc, Mutex, Wait};
+
+/// The microseconds of a second.
+const SECOND: u64 = 1_000_000;
 
 /// What passes from the ticker that keeps the fleet to the one that keeps it next.
 #[derive(Drop)]
@@ -21,6 +26,10 @@ pub(crate) struct Round {
     pub(crate) tally: Tally,
     /// Whether a limit was met.
     pub(crate) limited: bool,
+    /// Whether a chapter that waits is to be tried again.
+    pub(crate) retries: bool,
+    /// From which microsecond on a turn lets it be tried again.
+    retry: u64,
     /// Whether robots have other next errands than at the last turn.
     news: bool,
     /// Whether the fields of their next errands are to be searched.
@@ -33,6 +42,8 @@ impl Round {
             deadlines,
             tally: Tally::NONE,
             limited: false,
+            retries: false,
+            retry: 0,
             news: false,
             search: false,
         }
@@ -42,6 +53,14 @@ impl Round {
     pub(crate) fn count_orders(&mut self, orders: u32) {
         self.tally.count_orders(orders);
         self.news |= orders > 0;
+    }
+
+    /// Lets a chapter that waits be tried again, once in a second.
+    pub(crate) fn retry_from(&mut self, now: u64) {
+        if now >= self.retry {
+            self.retries = true;
+            self.retry = now.saturating_add(SECOND);
+        }
     }
 
     /// Counts a turn.
@@ -69,7 +88,65 @@ pub(crate) struct Stage<N: OfficeName<Global>, S> {
     /// Held by the ticker that keeps the fleet.
     pub(crate) round: Mutex<Round>,
     /// Held by the ticker that keeps a chapter. It is locked while the round is held, so chapters come in order.
-    pub(crate) shelf: Mutex<S>,
+    pub(crate) archive: Mutex<Archive<S>>,
+    /// 1 if a chapter could not be kept and waits.
+    pub(crate) behind: AtomicU64,
+}
+
+impl<N: OfficeName<Global>, S: Shelf> Stage<N, S> {
+    /// Whether a chapter could not be kept and waits.
+    pub(crate) fn is_behind(&self) -> bool {
+        self.behind.load(Ordering::SeqCst) != 0
+    }
+
+    /// Says which chapter could not be kept.
+    fn say_unkept<R: Alloc<A = Global> + Wait>(
+        &self,
+        rt: &R,
+        archive: &Archive<S>,
+    ) -> Result<(), AllocError> {
+        let Some(number) = archive.waiting.first_number() else {
+            return Ok(());
+        };
+        let line = format!(in rt.alloc(); "fleet: file chapter-{number}.json\n")?;
+        self.counts.say_if_room(rt, line.as_str())
+    }
+
+    /// Keeps these chapters, after those that wait. One that cannot be kept waits, with those after it, and that is
+    /// said.
+    pub(crate) fn keep_in<R: Alloc<A = Global> + Wait>(
+        &self,
+        rt: &R,
+        archive: &mut Archive<S>,
+        pages: &mut Unkept,
+    ) -> Result<(), Stop>
+        ensures none { OnOk result (pages.new ≡ []) }
+    {
+        archive.waiting.append(pages)?;
+        let kept = archive.keep();
+        if kept == Ok(true) {
+            self.behind.store(0, Ordering::SeqCst);
+            return Ok(());
+        }
+        self.behind.store(1, Ordering::SeqCst);
+        self.say_unkept(rt, archive)?;
+        match kept {
+            Ok(_) => Ok(()),
+            Err(stop) => Err(stop),
+        }
+    }
+
+    /// Keeps these chapters.
+    pub(crate) fn keep_pages<R: Alloc<A = Global> + Wait>(
+        &self,
+        rt: &R,
+        pages: &mut Unkept,
+    ) -> Result<(), Stop>
+        ensures none { OnOk result (pages.new ≡ []) }
+    {
+        let mut held = self.archive.lock(rt);
+        self.keep_in(rt, &mut *held, pages)
+    }
 }
 
 /// What a ticker works with.
@@ -91,16 +168,4 @@ impl<N: OfficeName<Global>> Work<N> {
             pages: Unkept::new(alloc),
         })
     }
-}
-
-/// Keeps these chapters on a shelf that is shared.
-pub(crate) fn keep_pages<R: Wait, S: Shelf>(
-    rt: &R,
-    shelf: &Mutex<S>,
-    pages: &mut Unkept,
-) -> Result<(), Stop>
-    ensures none { OnOk result (pages.new ≡ []) }
-{
-    let mut held = shelf.lock(rt);
-    pages.keep_on(&mut *held)
 }

@@ -1,5 +1,7 @@
 //! The tickers of a fleet in real time, each in a thread of its own.
 
+ghost use Rattle.std.specs.Prelude.{◌+◌, ◌≤◌, vec_capacity, vec_len};
+
 use crate::bell::Stop;
 use crate::keeper::Keeper;
 use crate::pace::keep_on;
@@ -64,24 +66,22 @@ fn why(first: Stop, second: Stop) -> Stop {
     }
 }
 
-/// The tickers that came home, and why they stopped.
+/// The tickers that came home, and why they stopped. There is room for them.
 fn home_of<N: OfficeName<Global>>(
-    alloc: Global,
+    tickers: Vec<Ticker<N>>,
     first: Done<N>,
     second: Option<Done<N>>,
-) -> Result<(Vec<Ticker<N>>, Stop), AllocError> {
-    let mut tickers = Vec::new(alloc);
+) -> (Vec<Ticker<N>>, Stop)
+    requires { vec_len tickers + 2 ≤ vec_capacity tickers }
+{
+    let mut tickers = tickers;
     let Done { ticker, mut stop } = first;
-    if tickers.push(ticker).is_err() {
-        return Err(AllocError);
-    }
+    tickers.push_reserved(ticker);
     if let Some(second) = second {
         stop = why(stop, second.stop);
-        if tickers.push(second.ticker).is_err() {
-            return Err(AllocError);
-        }
+        tickers.push_reserved(second.ticker);
     }
-    Ok((tickers, stop))
+    (tickers, stop)
 }
 
 /// Lets one ticker keep the fleet, or two in turn, until the fleet is to stop. Returns the tickers, and why it stops.
@@ -97,13 +97,14 @@ pub(crate) fn work_all<
     two: bool,
 ) -> Result<(Vec<Ticker<N>>, Stop), AllocError> {
     let alloc = rt.alloc();
+    let home = Vec::with_capacity(alloc, 2)?;
     let mut first = ticker;
     let other = if two { first.split() } else { None };
     let first = Work::new(alloc, first)?;
     let Some(second) = other else {
-        return home_of(alloc, work_on(rt, office, stage, first), None);
+        return Ok(home_of(home, work_on(rt, office, stage, first), None));
     };
     let second = Work::new(alloc, second)?;
     let (first, second) = work_both(rt, office, stage, first, second);
-    home_of(alloc, first, Some(second))
+    Ok(home_of(home, first, Some(second)))
 }

@@ -2,7 +2,7 @@
 
 ghost use Rattle.std.specs.Prelude.{◌≡◌, ◌≤◌, ◌+◌, ◌==◌, [], Ok, None, true, false, length, OnOk, IfNone, IfSome};
 ghost use Rattle.std.specs.List.{position};
-ghost use Rattle.fleet_live.specs.Page.{IsTold};
+ghost use Rattle.fleet_live.specs.Page.{AreTold, FindNothing, IsTold};
 ghost use Rattle.fleet_live.specs.Posted.{PostsOne};
 
 use crate::page::Page;
@@ -74,4 +74,23 @@ pub(crate) fn tell<N: OfficeName<Global>>(
         }
     }
     Ok(false)
+}
+
+/// Tells each client its notices while there is room, and returns whether all that they find were told.
+pub(crate) fn tell_each<N: OfficeName<Global>>(
+    alloc: Global,
+    guests: &mut [Guest<N>],
+    page: &mut Page,
+) -> Result<bool, AllocError>
+    ensures told { OnOk result (AreTold guests.old guests.new page.old page.new) }
+    ensures all { (result ≡ Ok true) → FindNothing guests.new }
+    ensures full { (result ≡ Ok false) → 65536 ≤ length page.new.text.items }
+{
+    let Some((first, rest)) = guests.split_first_mut() else {
+        return Ok(true);
+    };
+    if !tell(alloc, first, page)? {
+        return Ok(false);
+    }
+    tell_each(alloc, rest, page)
 }

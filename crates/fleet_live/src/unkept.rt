@@ -1,9 +1,10 @@
 //! Chapters that were handed out and are not kept yet.
 
-ghost use Rattle.std.specs.Prelude.{◌≡◌, [], ◌∷◌, ◌++◌, map, IsTrue, ◌↔◌, OnOk, OnErr};
+ghost use Rattle.std.specs.Prelude.{◌≡◌, List, [], ◌∷◌, ◌++◌, length, map, IsTrue, ◌↔◌, OnOk, OnErr, IfNone, IfSome};
+ghost use Rattle.std.specs.declared.alloc.Global.{Global};
 ghost use Rattle.fleet_grid.specs.Floor.{Floor};
 ghost use Rattle.fleet_history.specs.History.{history_of};
-ghost use Rattle.fleet_talk.specs.Chapters.{IsSound, chapter_shown};
+ghost use Rattle.fleet_talk.specs.Chapters.{ChapterView, IsSound, chapter_shown};
 ghost use Rattle.fleet_live.specs.Kept.{AreSound, KeepsFirst};
 
 use crate::bell::Stop;
@@ -87,6 +88,32 @@ impl Unkept {
                 Err(AllocError)
             }
         }
+    }
+
+    /// How many they are.
+    pub(crate) fn len(&self) -> usize
+        ensures { result ≡ length self.now }
+    {
+        self.chapters.len()
+    }
+
+    /// The number of the first.
+    pub(crate) fn first_number(&self) -> Option<u32>
+        ensures none { IfNone result (self.now ≡ []) }
+        ensures some { IfSome result (λ number. (chapter : ChapterView Global) × (rest : List (ChapterView Global)) × (self.now ≡ chapter ∷ rest) × (number ≡ chapter.number)) }
+    {
+        match self.chapters.front() {
+            Some(chapter) => Some(chapter.number),
+            None => None,
+        }
+    }
+
+    /// Adds others, in their order. Out of memory, both stay as they were.
+    pub(crate) fn append(&mut self, others: &mut Unkept) -> Result<(), AllocError>
+        ensures ok { OnOk result ((self.new ≡ self.old ++ others.old) × (others.new ≡ [])) }
+        ensures err { OnErr result ((self.new ≡ self.old) × (others.new ≡ others.old)) }
+    {
+        self.chapters.append(&mut others.chapters)
     }
 
     /// Keeps them on a shelf, in order. Each that was kept is removed: after a fault the others are left.

@@ -2,7 +2,7 @@
 
 use crate::bell::Bell;
 use crate::page::Page;
-use crate::told::tell;
+use crate::told::tell_each;
 use errands_text::write_whole;
 use fleet_office::{Guest, OfficeName};
 use std::alloc::{AllocError, Global};
@@ -38,7 +38,12 @@ impl Voice {
     ) -> Result<(), AllocError> {
         let mut held = self.page.lock(rt);
         let page = &mut *held;
-        let done = page.say(mark, line);
+        // Nothing is said to a reader that went away: it would stay here for ever.
+        let done = if page.gone {
+            Ok(())
+        } else {
+            page.say(mark, line)
+        };
         mem::drop(held);
         self.filled.notify_all();
         done
@@ -63,10 +68,7 @@ impl Voice {
     ) -> Result<bool, AllocError> {
         let mut held = self.page.lock(rt);
         let page = &mut *held;
-        let mut all = true;
-        for guest in guests {
-            all &= tell(alloc, guest, page)?;
-        }
+        let all = tell_each(alloc, guests, page)?;
         let is_empty = page.text.is_empty();
         mem::drop(held);
         if !is_empty {

@@ -1,10 +1,10 @@
--- The clients are on the office's rings, and the chapters that were handed out are kept.
+-- The clients are on the office's rings, and the chapters that were handed out are kept or wait.
 use Rattle.fleet_office.specs.Views.{AreOn, cores}
-use Rattle.fleet_live.specs.Kept.{KeepsSome}
+use Rattle.fleet_live.specs.Kept.{KeepsHanded}
 use Rattle.fleet_live.proofs.ending.conclude.Given as goal
 
 abbrev pub invariant-loop : goal.invariant-loop
 invariant-loop g l = record {
   on : AreOn g.N.OfficeName.rings (cores l.home.clients.items);
-  kept : KeepsSome (g.S.Shelf.kept l.fn.shelf) (g.S.Shelf.kept l.shelf);
+  kept : KeepsHanded l.fn.archive.waiting l.archive.waiting (g.S.Shelf.kept l.fn.archive.shelf) (g.S.Shelf.kept l.archive.shelf);
 }
