@@ -19,14 +19,15 @@
 **
 ** LISTS
 **     A list is a pointer and then the number of its items. The pointer is never null, even where the list is empty. The
-**     items of a list that is written must not overlap those of another argument.
+**     items of a list that is written must not overlap those of another argument. No other pointer may be null either:
+**     each call writes or reads what its pointers lead to.
 **
 ** MEMORY
 **     The library takes memory by malloc and realloc and gives it back by free. All that it took for a fleet is free after
 **     nashirudder_close. Where memory is refused the call answers NASHIRUDDER_NO_MEMORY; no call ends the program.
 **
 ** THREADS
-**     One call at a time on a handle. A handle may move from thread to thread, and calls on different handles may run side
+**     One call at a time on a handle, the views included: they write the handle too. A handle may move from thread to thread, and calls on different handles may run side
 **     by side. No call starts a thread, waits for a lock, or may be made from a signal handler.
 **
 ** REFUSALS
@@ -46,7 +47,16 @@ extern "C" {
 #endif
 
 /*
-** CODES: what calls answer.
+** A call whose code is ignored gets a warning.
+*/
+#if defined(__GNUC__)
+#define NASHIRUDDER_MUST_USE __attribute__((warn_unused_result))
+#else
+#define NASHIRUDDER_MUST_USE
+#endif
+
+/*
+** CODES: what calls answer. nashirudder_code_name has a word for each. A verdict is no code, though some numbers are alike.
 */
 #define NASHIRUDDER_DONE 0              /* the call was carried out */
 #define NASHIRUDDER_NO_MEMORY 1         /* memory was refused */
@@ -92,7 +102,7 @@ extern "C" {
 
 /*
 ** VERDICTS: what an order is answered once it is taken. The first three carry it out, the others refuse it for a reason; in
-** either case it is an entry of the history, and the client is told.
+** either case it is an entry of the history, and the client is told. nashirudder_verdict_name has a word for each.
 */
 #define NASHIRUDDER_ACCEPTED 1          /* the errand joins its robot's queue */
 #define NASHIRUDDER_CLOSING 2           /* the client is closed from now on */
@@ -107,6 +117,72 @@ extern "C" {
 #define NASHIRUDDER_LIFE_SPENT 11       /* the client has had all the errands accepted that it may have */
 #define NASHIRUDDER_NO_ERRAND 12        /* no unfinished errand of the client has this number */
 #define NASHIRUDDER_TOO_LATE 13         /* the errand is its robot's front */
+
+/*
+** The word for a code; "unknown" for a number that is none.
+*/
+static inline const char *nashirudder_code_name(uint32_t code) {
+    switch (code) {
+    case NASHIRUDDER_DONE: return "done";
+    case NASHIRUDDER_NO_MEMORY: return "no-memory";
+    case NASHIRUDDER_NOT_OPEN: return "not-open";
+    case NASHIRUDDER_ALREADY_OPEN: return "already-open";
+    case NASHIRUDDER_NO_CLIENT: return "no-client";
+    case NASHIRUDDER_NO_ROBOT: return "no-robot";
+    case NASHIRUDDER_MAILBOX_FULL: return "mailbox-full";
+    case NASHIRUDDER_CHAPTER_FULL: return "chapter-full";
+    case NASHIRUDDER_CLOCK_SPENT: return "clock-spent";
+    case NASHIRUDDER_ALREADY_SHUT: return "already-shut";
+    case NASHIRUDDER_BOOK_SPENT: return "book-spent";
+    case NASHIRUDDER_NO_NOTICE: return "no-notice";
+    case NASHIRUDDER_TOO_WIDE: return "too-wide";
+    case NASHIRUDDER_IDLE: return "idle";
+    case NASHIRUDDER_HAS_BRIDGE: return "has-bridge";
+    case NASHIRUDDER_WRONG_LENGTH: return "wrong-length";
+    case NASHIRUDDER_MAP_HEADER: return "map-header";
+    case NASHIRUDDER_MAP_SIZE: return "map-size";
+    case NASHIRUDDER_MAP_ROW: return "map-row";
+    case NASHIRUDDER_MAP_CELL: return "map-cell";
+    case NASHIRUDDER_MAP_TRAILING: return "map-trailing";
+    case NASHIRUDDER_BAD_SETUP: return "bad-setup";
+    case NASHIRUDDER_ROBOT_COUNT: return "robot-count";
+    case NASHIRUDDER_START_BLOCKED: return "start-blocked";
+    case NASHIRUDDER_START_SHARED: return "start-shared";
+    case NASHIRUDDER_TOO_MANY: return "too-many";
+    case NASHIRUDDER_FROM_BLOCKED: return "from-blocked";
+    case NASHIRUDDER_FROM_SHARED: return "from-shared";
+    case NASHIRUDDER_TO_LENGTH: return "to-length";
+    case NASHIRUDDER_OFF_FLOOR: return "off-floor";
+    case NASHIRUDDER_NOT_ADJACENT: return "not-adjacent";
+    case NASHIRUDDER_VERTEX_CONFLICT: return "vertex-conflict";
+    case NASHIRUDDER_SWAPPING_CONFLICT: return "swapping-conflict";
+    case NASHIRUDDER_NO_BRIDGE: return "no-bridge";
+    case NASHIRUDDER_GOAL_BLOCKED: return "goal-blocked";
+    default: return "unknown";
+    }
+}
+
+/*
+** The word for a verdict; "unknown" for a number that is none.
+*/
+static inline const char *nashirudder_verdict_name(uint32_t verdict) {
+    switch (verdict) {
+    case NASHIRUDDER_ACCEPTED: return "accepted";
+    case NASHIRUDDER_CLOSING: return "closed";
+    case NASHIRUDDER_WITHDRAWN: return "withdrawn";
+    case NASHIRUDDER_CLIENT_CLOSED: return "client-closed";
+    case NASHIRUDDER_UNKNOWN_ROBOT: return "no-robot";
+    case NASHIRUDDER_ROBOT_SHUT: return "robot-shut";
+    case NASHIRUDDER_NO_CELL: return "no-cell";
+    case NASHIRUDDER_BLOCKED: return "blocked";
+    case NASHIRUDDER_UNREACHABLE: return "unreachable";
+    case NASHIRUDDER_QUEUE_FULL: return "queue-full";
+    case NASHIRUDDER_LIFE_SPENT: return "life-spent";
+    case NASHIRUDDER_NO_ERRAND: return "no-errand";
+    case NASHIRUDDER_TOO_LATE: return "too-late";
+    default: return "unknown";
+    }
+}
 
 /* What stands for a cell from which no walk leads to the goal. */
 #define NASHIRUDDER_FAR 4294967295
@@ -210,7 +286,7 @@ void nashirudder_setup_default(uint32_t clients, nashirudder_setup *setup);
 ** Refused: NASHIRUDDER_ALREADY_OPEN, where `fault` stays as it was; a map's first fault; NASHIRUDDER_BAD_SETUP;
 ** NASHIRUDDER_ROBOT_COUNT; NASHIRUDDER_START_BLOCKED; NASHIRUDDER_START_SHARED; and NASHIRUDDER_NO_MEMORY at any time.
 */
-uint32_t nashirudder_open(const uint8_t *map, size_t map_length, const nashirudder_robot *robots, size_t robots_length,
+NASHIRUDDER_MUST_USE uint32_t nashirudder_open(const uint8_t *map, size_t map_length, const nashirudder_robot *robots, size_t robots_length,
                           const nashirudder_setup *setup, nashirudder_fleet *fleet, nashirudder_fault *fault);
 
 /*
@@ -226,19 +302,19 @@ void nashirudder_close(nashirudder_fleet *fleet);
 ** Refused: NASHIRUDDER_NOT_OPEN, NASHIRUDDER_NO_CLIENT, NASHIRUDDER_MAILBOX_FULL, NASHIRUDDER_CHAPTER_FULL,
 ** NASHIRUDDER_NO_MEMORY.
 */
-uint32_t nashirudder_go(nashirudder_fleet *fleet, uint32_t client, uint32_t robot, uint32_t cell,
+NASHIRUDDER_MUST_USE uint32_t nashirudder_go(nashirudder_fleet *fleet, uint32_t client, uint32_t robot, uint32_t cell,
                         nashirudder_judgement *judgement);
 
 /*
 ** A client's last order: all that it orders later gets the verdict NASHIRUDDER_CLIENT_CLOSED. Refused as nashirudder_go.
 */
-uint32_t nashirudder_close_client(nashirudder_fleet *fleet, uint32_t client, nashirudder_judgement *judgement);
+NASHIRUDDER_MUST_USE uint32_t nashirudder_close_client(nashirudder_fleet *fleet, uint32_t client, nashirudder_judgement *judgement);
 
 /*
 ** A client gives up its accepted errand of that number, if it stands in its robot's queue and not in front. Refused as
 ** nashirudder_go.
 */
-uint32_t nashirudder_withdraw(nashirudder_fleet *fleet, uint32_t client, uint64_t number,
+NASHIRUDDER_MUST_USE uint32_t nashirudder_withdraw(nashirudder_fleet *fleet, uint32_t client, uint64_t number,
                               nashirudder_judgement *judgement);
 
 /* ---- ticks and shuts ---- */
@@ -248,7 +324,7 @@ uint32_t nashirudder_withdraw(nashirudder_fleet *fleet, uint32_t client, uint64_
 **
 ** Refused: NASHIRUDDER_NOT_OPEN, NASHIRUDDER_CLOCK_SPENT, NASHIRUDDER_CHAPTER_FULL, NASHIRUDDER_NO_MEMORY.
 */
-uint32_t nashirudder_tick(nashirudder_fleet *fleet, nashirudder_report *report);
+NASHIRUDDER_MUST_USE uint32_t nashirudder_tick(nashirudder_fleet *fleet, nashirudder_report *report);
 
 /*
 ** Shuts a robot: it finishes its errands and gets no more. `left` says whether it has none, and so took its leave at once.
@@ -256,7 +332,7 @@ uint32_t nashirudder_tick(nashirudder_fleet *fleet, nashirudder_report *report);
 ** Refused: NASHIRUDDER_NOT_OPEN, NASHIRUDDER_NO_ROBOT, NASHIRUDDER_ALREADY_SHUT, NASHIRUDDER_CHAPTER_FULL,
 ** NASHIRUDDER_NO_MEMORY.
 */
-uint32_t nashirudder_shut(nashirudder_fleet *fleet, uint32_t robot, bool *left);
+NASHIRUDDER_MUST_USE uint32_t nashirudder_shut(nashirudder_fleet *fleet, uint32_t robot, bool *left);
 
 /* ---- mailboxes ---- */
 
@@ -265,14 +341,14 @@ uint32_t nashirudder_shut(nashirudder_fleet *fleet, uint32_t robot, bool *left);
 **
 ** Refused: NASHIRUDDER_NOT_OPEN, NASHIRUDDER_NO_CLIENT, NASHIRUDDER_NO_NOTICE.
 */
-uint32_t nashirudder_give(nashirudder_fleet *fleet, uint32_t client, nashirudder_note *note);
+NASHIRUDDER_MUST_USE uint32_t nashirudder_give(nashirudder_fleet *fleet, uint32_t client, nashirudder_note *note);
 
 /*
 ** How many notices a client was not given yet.
 **
 ** Refused: NASHIRUDDER_NOT_OPEN, NASHIRUDDER_NO_CLIENT.
 */
-uint32_t nashirudder_pending_count(nashirudder_fleet *fleet, uint32_t client, uint64_t *count);
+NASHIRUDDER_MUST_USE uint32_t nashirudder_pending_count(nashirudder_fleet *fleet, uint32_t client, uint64_t *count);
 
 /*
 ** Lets a client's mailbox hold this many more notices and unfinished errands, and takes the memory for them at once.
@@ -280,7 +356,7 @@ uint32_t nashirudder_pending_count(nashirudder_fleet *fleet, uint32_t client, ui
 ** Refused: NASHIRUDDER_NOT_OPEN, NASHIRUDDER_NO_CLIENT, NASHIRUDDER_TOO_WIDE where it would hold more than 2^60,
 ** NASHIRUDDER_NO_MEMORY.
 */
-uint32_t nashirudder_widen(nashirudder_fleet *fleet, uint32_t client, uint64_t extra);
+NASHIRUDDER_MUST_USE uint32_t nashirudder_widen(nashirudder_fleet *fleet, uint32_t client, uint64_t extra);
 
 /* ---- views: no call here changes the fleet ---- */
 
@@ -289,12 +365,12 @@ uint32_t nashirudder_widen(nashirudder_fleet *fleet, uint32_t client, uint64_t e
 **
 ** Refused: NASHIRUDDER_NOT_OPEN, NASHIRUDDER_WRONG_LENGTH.
 */
-uint32_t nashirudder_placement(nashirudder_fleet *fleet, uint32_t *cells, size_t cells_length);
+NASHIRUDDER_MUST_USE uint32_t nashirudder_placement(nashirudder_fleet *fleet, uint32_t *cells, size_t cells_length);
 
 /*
 ** The ticks made so far. Refused: NASHIRUDDER_NOT_OPEN.
 */
-uint32_t nashirudder_clock(nashirudder_fleet *fleet, uint64_t *ticks);
+NASHIRUDDER_MUST_USE uint32_t nashirudder_clock(nashirudder_fleet *fleet, uint64_t *ticks);
 
 /*
 ** How many ticks a robot has waited for the arrival at the cell of its front errand. On a map without bridges there is a
@@ -302,31 +378,31 @@ uint32_t nashirudder_clock(nashirudder_fleet *fleet, uint64_t *ticks);
 **
 ** Refused: NASHIRUDDER_NOT_OPEN, NASHIRUDDER_NO_ROBOT, NASHIRUDDER_IDLE where it has no errand.
 */
-uint32_t nashirudder_wait_of(nashirudder_fleet *fleet, uint32_t robot, uint64_t *ticks);
+NASHIRUDDER_MUST_USE uint32_t nashirudder_wait_of(nashirudder_fleet *fleet, uint32_t robot, uint64_t *ticks);
 
 /*
 ** The robot that has waited longest, the least number on a tie.
 **
 ** Refused: NASHIRUDDER_NOT_OPEN, NASHIRUDDER_IDLE where nobody has an errand.
 */
-uint32_t nashirudder_eldest(nashirudder_fleet *fleet, uint32_t *robot);
+NASHIRUDDER_MUST_USE uint32_t nashirudder_eldest(nashirudder_fleet *fleet, uint32_t *robot);
 
 /*
 ** Whether nobody has an errand. Refused: NASHIRUDDER_NOT_OPEN.
 */
-uint32_t nashirudder_is_idle(nashirudder_fleet *fleet, bool *is_idle);
+NASHIRUDDER_MUST_USE uint32_t nashirudder_is_idle(nashirudder_fleet *fleet, bool *is_idle);
 
 /*
 ** Within how many ticks nobody has an errand any more, where no order is taken meanwhile.
 **
 ** Refused: NASHIRUDDER_NOT_OPEN, NASHIRUDDER_HAS_BRIDGE.
 */
-uint32_t nashirudder_idle_within(nashirudder_fleet *fleet, uint64_t *ticks);
+NASHIRUDDER_MUST_USE uint32_t nashirudder_idle_within(nashirudder_fleet *fleet, uint64_t *ticks);
 
 /*
 ** Whether the map has no bridge: an edge whose removal separates its two cells. Refused: NASHIRUDDER_NOT_OPEN.
 */
-uint32_t nashirudder_is_bridgeless(nashirudder_fleet *fleet, bool *is_bridgeless);
+NASHIRUDDER_MUST_USE uint32_t nashirudder_is_bridgeless(nashirudder_fleet *fleet, bool *is_bridgeless);
 
 /* ---- chapters ---- */
 
@@ -337,7 +413,7 @@ uint32_t nashirudder_is_bridgeless(nashirudder_fleet *fleet, bool *is_bridgeless
 **
 ** Refused: NASHIRUDDER_NOT_OPEN, NASHIRUDDER_NO_MEMORY, NASHIRUDDER_WRONG_LENGTH.
 */
-uint32_t nashirudder_trace(nashirudder_fleet *fleet, uint8_t *text, size_t text_length, size_t *length);
+NASHIRUDDER_MUST_USE uint32_t nashirudder_trace(nashirudder_fleet *fleet, uint8_t *text, size_t text_length, size_t *length);
 
 /*
 ** Begins the next chapter of the history, whose opening is the state now. The entries of the present one are let go: take
@@ -345,13 +421,13 @@ uint32_t nashirudder_trace(nashirudder_fleet *fleet, uint8_t *text, size_t text_
 **
 ** Refused: NASHIRUDDER_NOT_OPEN, NASHIRUDDER_BOOK_SPENT, NASHIRUDDER_NO_MEMORY.
 */
-uint32_t nashirudder_next_chapter(nashirudder_fleet *fleet);
+NASHIRUDDER_MUST_USE uint32_t nashirudder_next_chapter(nashirudder_fleet *fleet);
 
 /*
 ** Keeps distances to goals that no robot has any more, up to this many bytes; 256 MiB where nothing is said. What is kept
 ** shows in nothing but the time and the memory that later calls need. Refused: NASHIRUDDER_NOT_OPEN.
 */
-uint32_t nashirudder_keep(nashirudder_fleet *fleet, size_t bytes);
+NASHIRUDDER_MUST_USE uint32_t nashirudder_keep(nashirudder_fleet *fleet, size_t bytes);
 
 /* ---- maps, without a handle ---- */
 
@@ -363,7 +439,7 @@ uint32_t nashirudder_keep(nashirudder_fleet *fleet, size_t bytes);
 ** NASHIRUDDER_FROM_SHARED; NASHIRUDDER_TO_LENGTH; NASHIRUDDER_OFF_FLOOR; NASHIRUDDER_NOT_ADJACENT;
 ** NASHIRUDDER_VERTEX_CONFLICT; NASHIRUDDER_SWAPPING_CONFLICT; and NASHIRUDDER_NO_MEMORY at any time.
 */
-uint32_t nashirudder_check_step(const uint8_t *map, size_t map_length, const uint32_t *from, size_t from_length,
+NASHIRUDDER_MUST_USE uint32_t nashirudder_check_step(const uint8_t *map, size_t map_length, const uint32_t *from, size_t from_length,
                                 const uint32_t *to, size_t to_length, nashirudder_fault *fault);
 
 /*
@@ -372,7 +448,7 @@ uint32_t nashirudder_check_step(const uint8_t *map, size_t map_length, const uin
 ** Refused: a map's first fault, told in `fault`; NASHIRUDDER_NO_BRIDGE and NASHIRUDDER_NO_MEMORY, at which `fault` may stay
 ** as it was.
 */
-uint32_t nashirudder_first_bridge(const uint8_t *map, size_t map_length, nashirudder_edge *edge, nashirudder_fault *fault);
+NASHIRUDDER_MUST_USE uint32_t nashirudder_first_bridge(const uint8_t *map, size_t map_length, nashirudder_edge *edge, nashirudder_fault *fault);
 
 /*
 ** The least number of edges of a walk from each cell to the goal, NASHIRUDDER_FAR where no walk leads there. The list has
@@ -381,7 +457,7 @@ uint32_t nashirudder_first_bridge(const uint8_t *map, size_t map_length, nashiru
 ** Refused: a map's first fault, told in `fault`; NASHIRUDDER_WRONG_LENGTH, NASHIRUDDER_GOAL_BLOCKED and
 ** NASHIRUDDER_NO_MEMORY, at which `fault` may stay as it was.
 */
-uint32_t nashirudder_distances(const uint8_t *map, size_t map_length, uint32_t goal, uint32_t *distances,
+NASHIRUDDER_MUST_USE uint32_t nashirudder_distances(const uint8_t *map, size_t map_length, uint32_t goal, uint32_t *distances,
                                size_t distances_length, nashirudder_fault *fault);
 
 #ifdef __cplusplus

@@ -81,8 +81,10 @@ static int maps(long *refused) {
                 if (code != (which == 1 ? NASHIRUDDER_NO_BRIDGE : NASHIRUDDER_DONE)) return 0;
                 break;
             }
-            if (code != NASHIRUDDER_NO_MEMORY) return 0;
             ++*refused;
+            /* check_step does without its table where memory for it is refused: the step is free of conflicts all the same. */
+            if (code == NASHIRUDDER_DONE && which == 0) continue;
+            if (code != NASHIRUDDER_NO_MEMORY) return 0;
         }
     }
     return 1;

@@ -38,47 +38,9 @@ using Report = nashirudder_report;
 using Note = nashirudder_note;
 using Edge = nashirudder_edge;
 
-/* The word for a code. */
-inline const char *name_of(std::uint32_t code) {
-    switch (code) {
-    case NASHIRUDDER_DONE: return "done";
-    case NASHIRUDDER_NO_MEMORY: return "no-memory";
-    case NASHIRUDDER_NOT_OPEN: return "not-open";
-    case NASHIRUDDER_ALREADY_OPEN: return "already-open";
-    case NASHIRUDDER_NO_CLIENT: return "no-client";
-    case NASHIRUDDER_NO_ROBOT: return "no-robot";
-    case NASHIRUDDER_MAILBOX_FULL: return "mailbox-full";
-    case NASHIRUDDER_CHAPTER_FULL: return "chapter-full";
-    case NASHIRUDDER_CLOCK_SPENT: return "clock-spent";
-    case NASHIRUDDER_ALREADY_SHUT: return "already-shut";
-    case NASHIRUDDER_BOOK_SPENT: return "book-spent";
-    case NASHIRUDDER_NO_NOTICE: return "no-notice";
-    case NASHIRUDDER_TOO_WIDE: return "too-wide";
-    case NASHIRUDDER_IDLE: return "idle";
-    case NASHIRUDDER_HAS_BRIDGE: return "has-bridge";
-    case NASHIRUDDER_WRONG_LENGTH: return "wrong-length";
-    case NASHIRUDDER_MAP_HEADER: return "map-header";
-    case NASHIRUDDER_MAP_SIZE: return "map-size";
-    case NASHIRUDDER_MAP_ROW: return "map-row";
-    case NASHIRUDDER_MAP_CELL: return "map-cell";
-    case NASHIRUDDER_MAP_TRAILING: return "map-trailing";
-    case NASHIRUDDER_BAD_SETUP: return "bad-setup";
-    case NASHIRUDDER_ROBOT_COUNT: return "robot-count";
-    case NASHIRUDDER_START_BLOCKED: return "start-blocked";
-    case NASHIRUDDER_START_SHARED: return "start-shared";
-    case NASHIRUDDER_TOO_MANY: return "too-many";
-    case NASHIRUDDER_FROM_BLOCKED: return "from-blocked";
-    case NASHIRUDDER_FROM_SHARED: return "from-shared";
-    case NASHIRUDDER_TO_LENGTH: return "to-length";
-    case NASHIRUDDER_OFF_FLOOR: return "off-floor";
-    case NASHIRUDDER_NOT_ADJACENT: return "not-adjacent";
-    case NASHIRUDDER_VERTEX_CONFLICT: return "vertex-conflict";
-    case NASHIRUDDER_SWAPPING_CONFLICT: return "swapping-conflict";
-    case NASHIRUDDER_NO_BRIDGE: return "no-bridge";
-    case NASHIRUDDER_GOAL_BLOCKED: return "goal-blocked";
-    default: return "unknown";
-    }
-}
+/* The word for a code, and for a verdict. */
+inline const char *name_of(std::uint32_t code) { return nashirudder_code_name(code); }
+inline const char *verdict_name(std::uint32_t verdict) { return nashirudder_verdict_name(verdict); }
 
 /* A call was refused. `fault` has the code, and the numbers that it names. */
 class Refused : public std::runtime_error {
@@ -150,17 +112,17 @@ public:
     }
     ~Fleet() { nashirudder_close(&handle); }
 
-    Judgement go(std::uint32_t client, std::uint32_t robot, std::uint32_t cell) {
+    [[nodiscard]] Judgement go(std::uint32_t client, std::uint32_t robot, std::uint32_t cell) {
         Judgement judgement{};
         detail::check(nashirudder_go(&handle, client, robot, cell, &judgement));
         return judgement;
     }
-    Judgement close_client(std::uint32_t client) {
+    [[nodiscard]] Judgement close_client(std::uint32_t client) {
         Judgement judgement{};
         detail::check(nashirudder_close_client(&handle, client, &judgement));
         return judgement;
     }
-    Judgement withdraw(std::uint32_t client, std::uint64_t number) {
+    [[nodiscard]] Judgement withdraw(std::uint32_t client, std::uint64_t number) {
         Judgement judgement{};
         detail::check(nashirudder_withdraw(&handle, client, number, &judgement));
         return judgement;
@@ -177,12 +139,12 @@ public:
         return left;
     }
     /* The client's next notice, or nothing. */
-    std::optional<Note> give(std::uint32_t client) {
+    [[nodiscard]] std::optional<Note> give(std::uint32_t client) {
         Note note{};
         if (!detail::is_there(nashirudder_give(&handle, client, &note), NASHIRUDDER_NO_NOTICE)) return std::nullopt;
         return note;
     }
-    std::uint64_t pending_count(std::uint32_t client) {
+    [[nodiscard]] std::uint64_t pending_count(std::uint32_t client) {
         std::uint64_t pending = 0;
         detail::check(nashirudder_pending_count(&handle, client, &pending));
         return pending;
@@ -190,46 +152,46 @@ public:
     void widen(std::uint32_t client, std::uint64_t extra) { detail::check(nashirudder_widen(&handle, client, extra)); }
     /* Where the robots stand, by number, into a list that has one place for each. */
     void placement(std::span<std::uint32_t> cells) { detail::check(nashirudder_placement(&handle, detail::address(cells), cells.size())); }
-    std::vector<std::uint32_t> placement() {
+    [[nodiscard]] std::vector<std::uint32_t> placement() {
         std::vector<std::uint32_t> cells(count);
         placement(std::span<std::uint32_t>(cells));
         return cells;
     }
-    std::uint64_t clock() {
+    [[nodiscard]] std::uint64_t clock() {
         std::uint64_t ticks = 0;
         detail::check(nashirudder_clock(&handle, &ticks));
         return ticks;
     }
     /* How long the robot has waited, or nothing where it has no errand. */
-    std::optional<std::uint64_t> wait_of(std::uint32_t robot) {
+    [[nodiscard]] std::optional<std::uint64_t> wait_of(std::uint32_t robot) {
         std::uint64_t ticks = 0;
         if (!detail::is_there(nashirudder_wait_of(&handle, robot, &ticks), NASHIRUDDER_IDLE)) return std::nullopt;
         return ticks;
     }
     /* The robot that has waited longest, or nothing where nobody has an errand. */
-    std::optional<std::uint32_t> eldest() {
+    [[nodiscard]] std::optional<std::uint32_t> eldest() {
         std::uint32_t robot = 0;
         if (!detail::is_there(nashirudder_eldest(&handle, &robot), NASHIRUDDER_IDLE)) return std::nullopt;
         return robot;
     }
-    bool is_idle() {
+    [[nodiscard]] bool is_idle() {
         bool idle = false;
         detail::check(nashirudder_is_idle(&handle, &idle));
         return idle;
     }
     /* Within how many ticks nobody has an errand any more, or nothing on a map with a bridge. */
-    std::optional<std::uint64_t> idle_within() {
+    [[nodiscard]] std::optional<std::uint64_t> idle_within() {
         std::uint64_t ticks = 0;
         if (!detail::is_there(nashirudder_idle_within(&handle, &ticks), NASHIRUDDER_HAS_BRIDGE)) return std::nullopt;
         return ticks;
     }
-    bool is_bridgeless() {
+    [[nodiscard]] bool is_bridgeless() {
         bool bridgeless = false;
         detail::check(nashirudder_is_bridgeless(&handle, &bridgeless));
         return bridgeless;
     }
     /* The trace of the present chapter. */
-    std::string trace() {
+    [[nodiscard]] std::string trace() {
         std::string text(1024, '\0');
         std::size_t length = 0;
         std::uint32_t code = write_trace(text, length);
@@ -244,7 +206,7 @@ public:
     void next_chapter() { detail::check(nashirudder_next_chapter(&handle)); }
     void keep(std::size_t bytes) { detail::check(nashirudder_keep(&handle, bytes)); }
     /* How many robots there are. */
-    std::size_t robots() const { return count; }
+    [[nodiscard]] std::size_t robots() const { return count; }
 
 private:
     std::uint32_t write_trace(std::string &text, std::size_t &length) {
@@ -256,7 +218,7 @@ private:
 };
 
 /* Nothing where the step is free of conflicts, else its first fault. */
-inline std::optional<Fault> check_step(std::string_view map, std::span<const std::uint32_t> from, std::span<const std::uint32_t> to) {
+[[nodiscard]] inline std::optional<Fault> check_step(std::string_view map, std::span<const std::uint32_t> from, std::span<const std::uint32_t> to) {
     Fault fault{};
     std::uint32_t code = nashirudder_check_step(detail::address(map), map.size(), detail::address(from), from.size(), detail::address(to), to.size(), &fault);
     if (code == NASHIRUDDER_NO_MEMORY) throw std::bad_alloc();
@@ -265,7 +227,7 @@ inline std::optional<Fault> check_step(std::string_view map, std::span<const std
 }
 
 /* The map's first bridge, or nothing where it has none. */
-inline std::optional<Edge> first_bridge(std::string_view map) {
+[[nodiscard]] inline std::optional<Edge> first_bridge(std::string_view map) {
     Edge edge{};
     Fault fault{};
     std::uint32_t code = nashirudder_first_bridge(detail::address(map), map.size(), &edge, &fault);
@@ -275,7 +237,7 @@ inline std::optional<Edge> first_bridge(std::string_view map) {
 }
 
 /* The length of a shortest walk from each of the map's cells to the goal, NASHIRUDDER_FAR where there is none. */
-inline std::vector<std::uint32_t> distances(std::string_view map, std::uint32_t goal, std::size_t cells) {
+[[nodiscard]] inline std::vector<std::uint32_t> distances(std::string_view map, std::uint32_t goal, std::size_t cells) {
     std::vector<std::uint32_t> told(cells);
     Fault fault{};
     detail::check(nashirudder_distances(detail::address(map), map.size(), goal, detail::address(std::span<std::uint32_t>(told)), told.size(), &fault), fault);

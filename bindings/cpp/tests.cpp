@@ -130,7 +130,7 @@ static void orders() {
     CHECK(fleet.go(1, 1, 2).verdict == NASHIRUDDER_ROBOT_SHUT);
     CHECK(fleet.close_client(1).verdict == NASHIRUDDER_CLOSING);
     CHECK(fleet.go(1, 0, 2).verdict == NASHIRUDDER_CLIENT_CLOSED);
-    CHECK(is(refusal_of([&] { fleet.go(2, 0, 2); }), NASHIRUDDER_NO_CLIENT));
+    CHECK(is(refusal_of([&] { (void)fleet.go(2, 0, 2); }), NASHIRUDDER_NO_CLIENT));
 
     Fleet apart(APART, {{.cell = 0, .ranks = {}}});
     CHECK(apart.go(0, 0, 2).verdict == NASHIRUDDER_UNREACHABLE);
@@ -141,11 +141,11 @@ static void orders() {
     narrow.clock = 1;
     Fleet little(ROW, {{.cell = 0, .ranks = {}}}, narrow);
     CHECK(little.go(0, 0, 2).number == 1);
-    CHECK(is(refusal_of([&] { little.go(0, 0, 1); }), NASHIRUDDER_MAILBOX_FULL));
+    CHECK(is(refusal_of([&] { (void)little.go(0, 0, 1); }), NASHIRUDDER_MAILBOX_FULL));
     little.widen(0, 2);
     CHECK(little.go(0, 0, 1).number == 2);
     little.widen(0, 100);
-    CHECK(is(refusal_of([&] { little.go(0, 0, 1); }), NASHIRUDDER_CHAPTER_FULL));
+    CHECK(is(refusal_of([&] { (void)little.go(0, 0, 1); }), NASHIRUDDER_CHAPTER_FULL));
     CHECK(is(refusal_of([&] { little.tick(); }), NASHIRUDDER_CHAPTER_FULL));
     CHECK(is(refusal_of([&] { little.shut(0); }), NASHIRUDDER_CHAPTER_FULL));
     little.next_chapter();
@@ -154,21 +154,29 @@ static void orders() {
     CHECK(little.clock() == 1 && little.placement() == std::vector<std::uint32_t>{1});
 }
 
+/* The words for codes and verdicts, of which some have the same numbers. */
+static void names() {
+    using nashirudder::name_of, nashirudder::verdict_name;
+    CHECK(std::string_view(name_of(NASHIRUDDER_CLOCK_SPENT)) == "clock-spent" && std::string_view(verdict_name(NASHIRUDDER_BLOCKED)) == "blocked");
+    CHECK(std::string_view(name_of(NASHIRUDDER_NO_MEMORY)) == "no-memory" && std::string_view(verdict_name(NASHIRUDDER_ACCEPTED)) == "accepted");
+    CHECK(std::string_view(name_of(99)) == "unknown" && std::string_view(verdict_name(0)) == "unknown");
+}
+
 /* Ticks, arrivals, waits and shuts on a row of three cells. */
 static void ticks() {
     Fleet fleet(ROW, {{.cell = 0, .ranks = {}}});
     CHECK(fleet.is_idle() && !fleet.eldest() && !fleet.wait_of(0) && !fleet.is_bridgeless() && !fleet.idle_within());
     CHECK(fleet.robots() == 1 && fleet.pending_count(0) == 0 && !fleet.give(0));
-    fleet.go(0, 0, 2);
+    CHECK(fleet.go(0, 0, 2).verdict == NASHIRUDDER_ACCEPTED);
     CHECK(!fleet.is_idle() && fleet.eldest() == 0 && fleet.wait_of(0) == 0 && fleet.pending_count(0) == 1);
     Report first = fleet.tick();
     CHECK(first.tick == 1 && first.arrived == 0 && first.farewells == 0 && fleet.wait_of(0) == 1);
     CHECK(!fleet.shut(0));
     CHECK(is(refusal_of([&] { fleet.shut(0); }), NASHIRUDDER_ALREADY_SHUT));
     CHECK(is(refusal_of([&] { fleet.shut(1); }), NASHIRUDDER_NO_ROBOT));
-    CHECK(is(refusal_of([&] { fleet.wait_of(1); }), NASHIRUDDER_NO_ROBOT));
-    CHECK(is(refusal_of([&] { fleet.give(1); }), NASHIRUDDER_NO_CLIENT));
-    CHECK(is(refusal_of([&] { fleet.pending_count(1); }), NASHIRUDDER_NO_CLIENT));
+    CHECK(is(refusal_of([&] { (void)fleet.wait_of(1); }), NASHIRUDDER_NO_ROBOT));
+    CHECK(is(refusal_of([&] { (void)fleet.give(1); }), NASHIRUDDER_NO_CLIENT));
+    CHECK(is(refusal_of([&] { (void)fleet.pending_count(1); }), NASHIRUDDER_NO_CLIENT));
     Report second = fleet.tick();
     CHECK(second.tick == 2 && second.arrived == 1 && second.farewells == 1 && fleet.is_idle());
     CHECK(fleet.pending_count(0) == 2);
@@ -189,7 +197,7 @@ static void ticks() {
 static void ranks() {
     auto first_step = [](Robot robot) {
         Fleet fleet(RING, {robot});
-        fleet.go(0, 0, 11);
+        CHECK(fleet.go(0, 0, 11).verdict == NASHIRUDDER_ACCEPTED);
         fleet.tick();
         return fleet.placement().at(0);
     };
@@ -203,8 +211,8 @@ static void ranks() {
 static void bounds() {
     Fleet fleet(RING, {{.cell = 0, .ranks = {}}, {.cell = 3, .ranks = {}}}, default_setup(1));
     CHECK(fleet.is_bridgeless() && fleet.idle_within() == 0);
-    fleet.go(0, 0, 11);
-    fleet.go(0, 1, 8);
+    CHECK(fleet.go(0, 0, 11).verdict == NASHIRUDDER_ACCEPTED);
+    CHECK(fleet.go(0, 1, 8).verdict == NASHIRUDDER_ACCEPTED);
     std::uint64_t bound = fleet.idle_within().value(), made = 0;
     for (; !fleet.is_idle(); made++) fleet.tick();
     CHECK(made == 5 && made <= bound);
@@ -226,7 +234,7 @@ static void chapters() {
     Setup setup = default_setup();
     setup.chapters = 2;
     Fleet fleet(ROW, {{.cell = 0, .ranks = {}}}, setup);
-    fleet.go(0, 0, 1);
+    CHECK(fleet.go(0, 0, 1).verdict == NASHIRUDDER_ACCEPTED);
     fleet.tick();
     const std::string wanted =
         "{\"chapter\":0,\"entries\":[[\"take\",0,[\"go\",0,1],[\"accepted\",1]],[\"tick\",[1],[[0,0,1,0]],[]]],"
@@ -244,7 +252,7 @@ static void moves() {
     Fleet fleet(ROW, {{.cell = 0, .ranks = {}}});
     Fleet moved = std::move(fleet);
     CHECK(is(refusal_of([&] { fleet.tick(); }), NASHIRUDDER_NOT_OPEN));
-    moved.go(0, 0, 2);
+    CHECK(moved.go(0, 0, 2).verdict == NASHIRUDDER_ACCEPTED);
     std::thread elsewhere([&moved] { CHECK(moved.tick().tick == 1); });
     elsewhere.join();
     CHECK(moved.tick().arrived == 1);
@@ -275,21 +283,22 @@ static void maps() {
     CHECK(!first_bridge(RING));
     Edge edge = first_bridge("type octile\nheight 2\nwidth 3\nmap\n..@\n...\n").value();
     CHECK(edge.lower == 4 && edge.upper == 5);
-    CHECK(is(refusal_of([] { first_bridge("type octile\n"); }), NASHIRUDDER_MAP_HEADER, 2));
+    CHECK(is(refusal_of([] { (void)first_bridge("type octile\n"); }), NASHIRUDDER_MAP_HEADER, 2));
 
     using Cells = std::vector<std::uint32_t>;
     const std::uint32_t far = NASHIRUDDER_FAR;
     CHECK(distances(RING, 4, 12) == (Cells{1, 2, 3, 4, 0, far, 4, 5, 1, 2, 3, 4}));
     CHECK(distances(APART, 2, 3) == (Cells{far, far, 0}));
-    CHECK(is(refusal_of([] { distances(RING, 4, 11); }), NASHIRUDDER_WRONG_LENGTH));
-    CHECK(is(refusal_of([] { distances(RING, 5, 12); }), NASHIRUDDER_GOAL_BLOCKED));
-    CHECK(is(refusal_of([] { distances(RING, 99, 12); }), NASHIRUDDER_GOAL_BLOCKED));
+    CHECK(is(refusal_of([] { (void)distances(RING, 4, 11); }), NASHIRUDDER_WRONG_LENGTH));
+    CHECK(is(refusal_of([] { (void)distances(RING, 5, 12); }), NASHIRUDDER_GOAL_BLOCKED));
+    CHECK(is(refusal_of([] { (void)distances(RING, 99, 12); }), NASHIRUDDER_GOAL_BLOCKED));
 }
 
 int main() {
     closed();
     openings();
     orders();
+    names();
     ticks();
     ranks();
     bounds();

@@ -3,7 +3,7 @@ to a folder, and no loop waits for an idle fleet. usage: controller.py MAP TICKS
 import random
 import sys
 
-from nashirudder import Fleet, Refused, Waiting
+from nashirudder import Fleet, Refused
 
 PATIENCE = 1000  # ticks after which an operator has to look at a robot
 
@@ -19,12 +19,10 @@ def main(site: str, ticks: int, folder: str) -> None:
                     continue
                 errand = fleet.go(robot, draw.randrange(45), client=robot % 2)
                 try:
-                    errand.accepted()
+                    errand.accepted()  # at most two errands of a client are unfinished, so its mailbox has room
                 except Refused:
                     counts["refused"] += 1  # a shelf ("blocked"), say: the next turn tries another cell
                     continue
-                except Waiting:
-                    pass  # the mailbox has no room: a later tick takes the order
                 counts["accepted"] += 1
                 begun[robot] = tick
             fleet.tick()  # collects the notices too

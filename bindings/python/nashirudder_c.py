@@ -6,16 +6,15 @@ next to it, but no other package.
     with Fleet("site.map", robots=[0, 4, 24]) as fleet:
         errand = fleet.go(robot=1, cell=12)
         errand.accepted()                 # its number, or Refused
-        while not errand.arrived():
-            fleet.tick()
-        print(fleet.look().cells)
+        fleet.tick(fleet.look().within)   # as many ticks as are enough, on a map without bridges
+        print(errand.arrived(), fleet.look().cells)
 
-`Fleet` has the names of nashirudder.py, which speaks with the program `fleet talk` over pipes, so a script runs with either. `Handle` has
-the calls of nashirudder.h, one by one.
+`Fleet` has the names of nashirudder.py, which speaks with the program `fleet talk` over pipes: a script that names no `ties`, `program` or
+`timeout` runs with either, but the names and codes of refusals are those of nashirudder.h here. `Handle` has the calls of nashirudder.h, one by one.
 
 The library is looked for at the path in NASHIRUDDER_LIBRARY, else as libnashirudder.so next to this file, else where the system looks.
 nashirudder.h says what each call does. A call that is refused raises Refused, whose `name` and `code` say why, or MemoryError; the
-fleet is then as it was. One call at a time on a fleet: ctypes lets go of the interpreter's lock, so two threads need a lock of their own.
+fleet is then as it was. So it is after OutOfRange: no number is cut to fit. One call at a time on a fleet: ctypes lets go of the interpreter's lock, so two threads need a lock of their own.
 """
 from __future__ import annotations
 
@@ -26,10 +25,10 @@ from collections import deque
 from dataclasses import dataclass
 from typing import Deque, Dict, List, Optional, Sequence, Set, Tuple, Union
 
-from nashirudder import Arrival, Chapter, Errand, Farewell, FleetError, Look, Refused, Waiting
+from nashirudder import Arrival, Chapter, Errand, Farewell, FleetError, Look, OutOfRange, Refused, Waiting, whole_number
 
-__all__ = ["Arrival", "Chapter", "Errand", "Farewell", "Fleet", "FleetError", "Handle", "Judgement", "Look", "Notice", "Refused", "Report",
-           "Waiting", "check_step", "first_bridge", "distances", "CODES", "VERDICTS"]
+__all__ = ["Arrival", "Chapter", "Errand", "Farewell", "Fleet", "FleetError", "Handle", "Judgement", "Look", "Notice", "OutOfRange", "Refused",
+           "Report", "Waiting", "check_step", "first_bridge", "distances", "CODES", "VERDICTS"]
 
 CODES = {
     0: "done", 1: "no-memory", 2: "not-open", 3: "already-open", 4: "no-client", 5: "no-robot", 6: "mailbox-full", 7: "chapter-full",
@@ -167,9 +166,21 @@ def _bytes(map: Union[str, bytes]) -> bytes:
     return map.encode() if isinstance(map, str) else bytes(map)
 
 
-def _numbers(items: Sequence[int]) -> ctypes.Array:
+def _long_number(what: str, value: int) -> int:
+    return whole_number(what, value, most=2**64 - 1)
+
+
+def _cells(items: Sequence[int]) -> ctypes.Array:
     # A list is never null, even an empty one.
-    return (ctypes.c_uint32 * max(1, len(items)))(*items)
+    return (ctypes.c_uint32 * max(1, len(items)))(*(whole_number("a cell", item) for item in items))
+
+
+def _start(robot: Union[int, Tuple[int, Sequence[int]]]) -> _Robot:
+    """A robot's start cell and its four ranks."""
+    cell, ranks = robot if isinstance(robot, (tuple, list)) else (robot, (0, 0, 0, 0))
+    if len(ranks) != 4:
+        raise OutOfRange(f"a robot has four ranks, and not {len(ranks)}")
+    return _Robot(whole_number("a start cell", cell), (ctypes.c_uint8 * 4)(*(whole_number("a rank", rank, most=255) for rank in ranks)))
 
 
 class Handle:
@@ -184,15 +195,13 @@ class Handle:
         self._handle = _Fleet()
         self._count = len(robots)
         setup = _Setup()
-        _library.nashirudder_setup_default(clients, ctypes.byref(setup))
+        _library.nashirudder_setup_default(whole_number("clients", clients), ctypes.byref(setup))
+        kinds = dict(_Setup._fields_)
         for name, value in limits.items():
-            if name not in dict(_Setup._fields_):
+            if name not in kinds:
                 raise TypeError(f"no limit is named {name}")
-            setattr(setup, name, value)
-        starts = (_Robot * max(1, len(robots)))()
-        for at, robot in enumerate(robots):
-            cell, ranks = (robot, (0, 0, 0, 0)) if isinstance(robot, int) else robot
-            starts[at] = _Robot(cell, (ctypes.c_uint8 * 4)(*ranks))
+            setattr(setup, name, whole_number(name, value, most=2 ** (8 * ctypes.sizeof(kinds[name])) - 1))
+        starts = (_Robot * max(1, len(robots)))(*(_start(robot) for robot in robots))
         text, fault = _bytes(map), _Fault()
         code = _library.nashirudder_open(text, len(text), starts, len(robots), ctypes.byref(setup), ctypes.byref(self._handle), ctypes.byref(fault))
         _check(code, fault)
@@ -227,22 +236,20 @@ class Handle:
 
     def go(self, robot: int, cell: int, client: int = 0) -> Judgement:
         """The client orders the robot to the cell."""
-        return self._judged(_library.nashirudder_go, client, robot, cell)
+        return self._judged(_library.nashirudder_go, whole_number("client", client), whole_number("robot", robot), whole_number("cell", cell))
 
     def close_client(self, client: int = 0) -> Judgement:
         """The client's last order."""
-        return self._judged(_library.nashirudder_close_client, client)
+        return self._judged(_library.nashirudder_close_client, whole_number("client", client))
 
     def withdraw(self, number: int, client: int = 0) -> Judgement:
         """The client gives up its accepted errand of that number."""
-        return self._judged(_library.nashirudder_withdraw, client, number)
+        return self._judged(_library.nashirudder_withdraw, whole_number("client", client), _long_number("the errand's number", number))
 
     def tick(self, count: int = 1) -> Report:
         """All robots make one step, as many times; the report is the last one's, with all arrivals and farewells."""
-        if count < 1:
-            raise ValueError("a tick is made at least once")
         did, arrived, farewells = _Report(), 0, 0
-        for _ in range(count):
+        for _ in range(whole_number("the number of ticks", count, least=1)):
             _check(_library.nashirudder_tick(ctypes.byref(self._handle), ctypes.byref(did)))
             arrived += did.arrived
             farewells += did.farewells
@@ -251,13 +258,13 @@ class Handle:
     def shut(self, robot: int) -> bool:
         """The robot gets no more errands. True where it has none, and so took its leave at once."""
         left = ctypes.c_bool()
-        _check(_library.nashirudder_shut(ctypes.byref(self._handle), robot, ctypes.byref(left)))
+        _check(_library.nashirudder_shut(ctypes.byref(self._handle), whole_number("robot", robot), ctypes.byref(left)))
         return left.value
 
     def give(self, client: int = 0) -> Optional[Notice]:
         """The client's next notice, or None."""
         note = _Note()
-        code = _library.nashirudder_give(ctypes.byref(self._handle), client, ctypes.byref(note))
+        code = _library.nashirudder_give(ctypes.byref(self._handle), whole_number("client", client), ctypes.byref(note))
         if code == NO_NOTICE:
             return None
         _check(code)
@@ -275,11 +282,11 @@ class Handle:
 
     def pending_count(self, client: int = 0) -> int:
         """How many notices the client was not given yet."""
-        return self._number(_library.nashirudder_pending_count, ctypes.c_uint64, client)
+        return self._number(_library.nashirudder_pending_count, ctypes.c_uint64, whole_number("client", client))
 
     def widen(self, extra: int, client: int = 0) -> None:
         """Lets the client's mailbox hold this many more notices and unfinished errands."""
-        _check(_library.nashirudder_widen(ctypes.byref(self._handle), client, extra))
+        _check(_library.nashirudder_widen(ctypes.byref(self._handle), whole_number("client", client), _long_number("extra", extra)))
 
     def placement(self) -> List[int]:
         """Where the robots stand, by number."""
@@ -293,7 +300,7 @@ class Handle:
 
     def wait_of(self, robot: int) -> Optional[int]:
         """How many ticks the robot has waited, or None where it has no errand."""
-        return self._number(_library.nashirudder_wait_of, ctypes.c_uint64, robot, nothing=IDLE)
+        return self._number(_library.nashirudder_wait_of, ctypes.c_uint64, whole_number("robot", robot), nothing=IDLE)
 
     def eldest(self) -> Optional[int]:
         """The robot that has waited longest, or None where nobody has an errand."""
@@ -327,13 +334,13 @@ class Handle:
 
     def keep(self, size: int) -> None:
         """Keeps distances to goals that no robot has any more, up to this many bytes."""
-        _check(_library.nashirudder_keep(ctypes.byref(self._handle), size))
+        _check(_library.nashirudder_keep(ctypes.byref(self._handle), _long_number("size", size)))
 
 
 def check_step(map: Union[str, bytes], before: Sequence[int], after: Sequence[int]) -> None:
     """Returns where the step is free of conflicts, and else raises Refused with the first fault."""
     text, fault = _bytes(map), _Fault()
-    code = _library.nashirudder_check_step(text, len(text), _numbers(before), len(before), _numbers(after), len(after), ctypes.byref(fault))
+    code = _library.nashirudder_check_step(text, len(text), _cells(before), len(before), _cells(after), len(after), ctypes.byref(fault))
     _check(code, fault)
 
 
@@ -349,8 +356,9 @@ def first_bridge(map: Union[str, bytes]) -> Optional[Tuple[int, int]]:
 
 def distances(map: Union[str, bytes], goal: int, cells: int) -> List[Optional[int]]:
     """For each of the map's cells, of which there are `cells`, the length of a shortest walk to the goal, None where there is none."""
+    cells = whole_number("the number of cells", cells, most=2**20)
     text, told, fault = _bytes(map), (ctypes.c_uint32 * max(1, cells))(), _Fault()
-    code = _library.nashirudder_distances(text, len(text), goal, told, cells, ctypes.byref(fault))
+    code = _library.nashirudder_distances(text, len(text), whole_number("goal", goal), told, cells, ctypes.byref(fault))
     _check(code, fault)
     return [None if away == FAR else away for away in told[:cells]]
 
@@ -446,29 +454,40 @@ class Fleet:
         return judged
 
     def _post(self, client: int, kind: str, first: int = 0, second: int = 0, errand: Optional[Errand] = None) -> Optional[Judgement]:
-        if client not in self._lanes:
+        if whole_number("client", client) not in self._lanes:
             raise Refused("no-client", 4)
         if len(self._lanes[client]) >= self._lane:
             raise Refused("lane-full")
         self._lanes[client].append((kind, first, second, errand))
-        return self._take(client)
+        try:
+            return self._take(client)
+        except Refused:
+            # The order stands, and is taken by a later call. An errand's `accepted` says why it is not judged.
+            return None
 
     def go(self, robot: int, cell: int, client: int = 0) -> Errand:
         """Asks a robot to come to a cell, after the errands that it has. The verdict is the errand's `accepted`."""
-        errand = Errand(self, client, robot, cell)
-        self._post(client, "go", robot, cell, errand)
+        errand = Errand(self, client, whole_number("robot", robot), whole_number("cell", cell))
+        self._post(client, "go", errand.robot, errand.cell, errand)
         return errand
 
     def withdraw(self, errand: Errand) -> None:
         """Takes back an errand that its robot is not heading for yet. Raises Refused with "too-late" or "no-errand"."""
-        judged = self._post(errand.client, "withdraw", errand.accepted())
-        if judged is not None and judged.verdict != "withdrawn":
+        number = errand.accepted()
+        judged = self._post(errand.client, "withdraw", number)
+        if judged is None:
+            raise Waiting("it was posted, and the mailbox has no room yet")
+        if judged.verdict != "withdrawn":
             raise _refusal(judged)
+        self._errands.pop((errand.client, number), None)
+        errand._withdrawn = True
 
     def close_client(self, client: int = 0) -> None:
         """No order of this client is accepted any more."""
         judged = self._post(client, "close")
-        if judged is not None and judged.verdict != "closed":
+        if judged is None:
+            raise Waiting("it was posted, and the mailbox has no room yet")
+        if judged.verdict != "closed":
             raise _refusal(judged)
 
     def shut(self, robot: int) -> Optional[Farewell]:

@@ -5,10 +5,66 @@ import pathlib
 import tempfile
 import unittest
 
-from nashirudder_c import Arrival, Chapter, Farewell, Fleet, Handle, Notice, Refused, Waiting, check_step, distances, first_bridge
+from nashirudder_c import Arrival, Chapter, Farewell, Fleet, Handle, Notice, OutOfRange, Refused, Waiting, check_step, distances, first_bridge
 
 RING = "type octile\nheight 3\nwidth 4\nmap\n....\n.@..\n....\n"
 ROW = "type octile\nheight 1\nwidth 3\nmap\n...\n"
+
+
+# Numbers that no fleet has: negative ones, those that are small again when they are cut to 32, 16 or 8 bits, and what is no whole number.
+WRONG = (-1, 2**32, 2**32 + 2, 2**64 + 2, 2**200, 1.0, "2", None)
+
+
+class Numbers(unittest.TestCase):
+    """No number is cut to fit: each call refuses it, and changes nothing."""
+
+    def test_calls(self):
+        fleet = Handle(RING, robots=[0, 3], clients=2)
+        calls = {
+            "go": (lambda n: fleet.go(n, 1), lambda n: fleet.go(0, n), lambda n: fleet.go(0, 1, client=n)),
+            "close_client": (fleet.close_client,),
+            "withdraw": (lambda n: fleet.withdraw(1, client=n),),
+            "tick": (fleet.tick,),
+            "shut": (fleet.shut,),
+            "give": (fleet.give,),
+            "pending_count": (fleet.pending_count,),
+            "widen": (lambda n: fleet.widen(1, client=n),),
+            "wait_of": (fleet.wait_of,),
+        }
+        for name, ways in calls.items():
+            for way in ways:
+                for number in WRONG:
+                    with self.subTest(name, number=number), self.assertRaises(OutOfRange):
+                        way(number)
+        for way in (lambda n: fleet.withdraw(n), lambda n: fleet.widen(n), fleet.keep):
+            for number in (-1, 2**64, 2**64 + 1, 0.5):
+                with self.assertRaises(OutOfRange):
+                    way(number)
+        with self.assertRaises(OutOfRange):
+            fleet.tick(0)
+        self.assertEqual((fleet.placement(), fleet.clock(), fleet.pending_count(), fleet.pending_count(1), fleet.is_idle()), ([0, 3], 0, 0, 0, True))
+
+    def test_openings(self):
+        for number in WRONG:
+            for robots in ([number], [0, number], [(number, (0, 0, 0, 0))], [(0, (number, 0, 0, 0))]):
+                with self.subTest(robots=robots), self.assertRaises(OutOfRange):
+                    Handle(RING, robots=robots)
+            for words in ({"clients": number}, {"queue": number}, {"mailbox": number}, {"chapter": number}):
+                with self.subTest(words=words), self.assertRaises(OutOfRange):
+                    Handle(RING, robots=[0], **words)
+        for robots in ([(0, (256, 0, 0, 0))], [(0, (0, 0, 0))], [(0, (0, 0, 0, 0, 0))]):
+            with self.assertRaises(OutOfRange):
+                Handle(RING, robots=robots)
+        for name in ("life", "orders", "clock"):
+            with self.assertRaises(OutOfRange):
+                Handle(RING, robots=[0], **{name: 2**64 + 5})
+
+    def test_maps(self):
+        for number in WRONG:
+            for way in (lambda n: check_step(RING, [0, n], [1, 2]), lambda n: check_step(RING, [0, 3], [1, n]), lambda n: distances(RING, n, 12),
+                        lambda n: distances(RING, 0, n)):
+                with self.subTest(number=number), self.assertRaises(OutOfRange):
+                    way(number)
 
 
 class Calls(unittest.TestCase):

@@ -5,6 +5,8 @@ fn main() {
     if let Ok(folder) = std::env::var("NASHIRUDDER_DIR") {
         println!("cargo:rustc-link-search=native={folder}");
         println!("cargo:rerun-if-changed={folder}/libnashirudder.a");
+    } else {
+        println!("cargo:warning=NASHIRUDDER_DIR has to name the folder of libnashirudder.a, which tools/build_c makes");
     }
     println!("cargo:rustc-link-lib=static=nashirudder");
 }

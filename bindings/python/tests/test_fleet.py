@@ -74,7 +74,10 @@ class FleetTest(unittest.TestCase):
             self.assertEqual(caught.exception.name, "too-late")
             fleet.tick(2)
             self.assertEqual(first.arrived().tick, 2)
-            self.assertIsNone(second.arrived())
+            with self.assertRaises(Refused) as caught:
+                second.arrived()
+            self.assertEqual(caught.exception.name, "withdrawn")
+            self.assertEqual((first.state, second.state), ("arrived", "withdrawn"))
 
     def test_shut_and_close(self):
         with self.fleet(CORRIDOR, [0], clients=2) as fleet:

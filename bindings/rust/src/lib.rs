@@ -148,6 +148,7 @@ impl Robot {
 }
 
 /// What an order is answered.
+#[must_use = "an order may have been refused"]
 #[derive(Clone, Copy, Debug, PartialEq, Eq)]
 pub enum Verdict {
     /// The errand joins its robot's queue, and has this number among the client's accepted errands.
@@ -179,6 +180,25 @@ pub enum Verdict {
 }
 
 impl Verdict {
+    /// The word for it.
+    pub fn name(self) -> &'static str {
+        match self {
+            Verdict::Accepted(_) => "accepted",
+            Verdict::Closed => "closed",
+            Verdict::Withdrawn => "withdrawn",
+            Verdict::ClientClosed => "client-closed",
+            Verdict::NoRobot => "no-robot",
+            Verdict::RobotShut => "robot-shut",
+            Verdict::NoCell => "no-cell",
+            Verdict::Blocked => "blocked",
+            Verdict::Unreachable => "unreachable",
+            Verdict::QueueFull => "queue-full",
+            Verdict::LifeSpent => "life-spent",
+            Verdict::NoErrand => "no-errand",
+            Verdict::TooLate => "too-late",
+        }
+    }
+
     fn of(verdict: u32, number: u64) -> Verdict {
         match verdict {
             1 => Verdict::Accepted(number),

@@ -45,7 +45,7 @@ fn refuses() -> Result<(), Refused> {
         ("start-shared", (0, 2))
     );
     let mut fleet = Fleet::open(RING, &[Robot::at(0)], &setup)?;
-    assert_eq!(fleet.go(0, 0, 5)?, Verdict::Blocked);
+    assert_eq!(fleet.go(0, 0, 5)?.name(), "blocked");
     assert_eq!(fleet.withdraw(0, 1)?, Verdict::NoErrand);
     assert_eq!(name_of(fleet.go(1, 0, 5)), ("no-client", (0, 0)));
     assert_eq!(name_of(fleet.widen(0, 1 << 60)), ("too-wide", (0, 0)));

@@ -115,3 +115,21 @@ module _ {A C E : Type 0} (w v : World A) (ends : List (EndView A)) (t : ℕ) wh
   pub hall-stays : (r : Result C E) → OnErr r (v ≡ w) → OnErr r (hall_of v ends t ≡ hall_of w ends t)
   hall-stays (Ok x) e = tt
   hall-stays (Err x) e = ap (λ u. hall_of u ends t) e
+
+-- what is left of a lawful hall is its chapter
+pub handed-last : {A : Type 0} (rings : List (LaneName A)) (v : HallView A) (h : History A) (n : ℕ) → IsLawful rings v.world v.ends v.total →
+    EachTick (IsPlanned v.world.floor v.world.ties) v.world.history →
+    (IsBridgeless (IsNeighbour v.world.floor) → EachTick (IsAdvancingTick v.world.floor) v.world.history) →
+    (IsBridgeless (IsNeighbour v.world.floor) → WaitsAreBounded v.world.floor v.world.history) →
+    h ≡ v.world.history → n ≡ v.world.number → (hall : HallView A) × IsChapterOf rings hall n h
+handed-last rings v h n lawful planned advancing bounded is number = (
+  v,
+  record {
+    lawful = lawful;
+    history = is;
+    number = number;
+    planned = subst (EachTick (IsPlanned v.world.floor v.world.ties)) (sym is) planned;
+    advancing = λ none. subst (EachTick (IsAdvancingTick v.world.floor)) (sym is) (advancing none);
+    bounded = λ none. subst (WaitsAreBounded v.world.floor) (sym is) (bounded none);
+  },
+)

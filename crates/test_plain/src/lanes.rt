@@ -42,6 +42,7 @@ fn arrived(seq: u64, number: u64) -> Notice {
 }
 
 /// A call on one of the two ends, with its result.
+#[derive(Clone, Copy)]
 enum Call {
     Post(Order, Result<u64, PostFault>),
     Close(Result<u64, PostFault>),
@@ -184,14 +185,17 @@ fn play_round(rt: &impl Abort, client: &mut Client, hall: &mut HallEnd, number: 
         accepted(2 * number - 1, number),
         arrived(2 * number, number),
     );
-    assert!(rt; client.post(GO) == Ok(number));
-    assert!(rt; hall.take() == Some(GO));
-    assert!(rt; hall.take() == None);
-    assert!(rt; hall.give(first) == Ok(()));
-    assert!(rt; hall.give(second) == Ok(()));
-    assert!(rt; client.collect() == Some(first));
-    assert!(rt; client.collect() == Some(second));
-    assert!(rt; client.collect() == None);
+    let calls = [
+        Call::Post(GO, Ok(number)),
+        Call::Take(Some(GO)),
+        Call::Take(None),
+        Call::Give(first, Ok(())),
+        Call::Give(second, Ok(())),
+        Call::Collect(Some(first)),
+        Call::Collect(Some(second)),
+        Call::Collect(None),
+    ];
+    make_calls(rt, client, hall, &calls);
 }
 
 /// The smallest rings, many times over: each end finds what the other has done.
@@ -208,6 +212,7 @@ fn a_thousand_rounds(rt: HostRuntime) {
 
 /// After both ends were looked at together, what they know of each other is taken and collected.
 fn take_what_is_known(rt: &impl Abort, client: &mut Client, hall: &mut HallEnd) {
+    assert!(rt; client.number() == 5);
     assert!(rt; hall.known() == 2 && client.known() == 1);
     assert!(rt; hall.peek_known() == GO && hall.take_known() == GO);
     assert!(rt; hall.known() == 1 && client.collect_known() == FIRST);
@@ -219,7 +224,6 @@ fn both_ends_in_one_thread(rt: HostRuntime) {
         &rt,
         "memory for lanes",
     );
-    assert!(rt; client.number() == 5);
     let posted = [client.post(GO), client.close()];
     let given = hall.give(FIRST);
     hall.beside(&mut client);

@@ -205,10 +205,14 @@ fn is_split(parts: Option<(&[u8], &[u8])>, first: &[u8], rest: &[u8]) -> bool {
     }
 }
 
+/// Texts, each with its first line and what comes after it.
+const LINES: [(&[u8], &[u8], &[u8]); 2] = [(b"\r", b"", b""), (b" ab\tc \r\nd", b" ab\tc ", b"d")];
+
 #[test]
 fn lines_and_words(rt: HostRuntime) {
-    assert!(rt; is_split(first_line(b"\r"), b"", b""));
-    assert!(rt; is_split(first_line(b" ab\tc \r\nd"), b" ab\tc ", b"d"));
+    for (text, first, rest) in LINES {
+        assert!(rt; is_split(first_line(text), first, rest));
+    }
     assert!(rt; trimmed_line(b" ab\tc ") == b" ab\tc".as_slice());
     assert!(rt; is_split(first_word(b" ab\tc "), b"ab", b"c "));
     assert!(rt; first_word(b" \t").is_none());

@@ -1,16 +1,19 @@
 //! A row is its items.
 
 use fleet_history::Row;
+use std::process::Abort;
+
+fn check_row(rt: &impl Abort, row: &Row<u32>, items: &[u32]) {
+    assert!(rt; row.as_slice() == items);
+    assert!(rt; row.len() == items.len());
+    assert!(rt; row.is_empty() == items.is_empty());
+}
 
 #[test]
 fn row_is_its_items(rt: HostRuntime) {
     let items = [3_u32, 5]
         .to_vec(rt.alloc())
         .expect(&rt, "memory for a row");
-    let row = Row::from_vec(items);
-    assert!(rt; row.as_slice() == [3, 5].as_slice());
-    assert!(rt; row.len() == 2);
-    assert!(rt; !row.is_empty());
-    let none: Row<u32> = Row::new(rt.alloc());
-    assert!(rt; none.is_empty());
+    check_row(&rt, &Row::from_vec(items), &[3, 5]);
+    check_row(&rt, &Row::new(rt.alloc()), &[]);
 }

@@ -5,12 +5,21 @@ use fleet_script::{EventLine, Repeat, Script, ScriptFault, event_line, read_scri
 use std::alloc::Global;
 use std::process::Abort;
 
+/// The events of a script of each line.
+const EACH: [Event; 6] = [
+    Event::Post(1, Order::Go { robot: 0, cell: 7 }),
+    Event::Take(1),
+    Event::Tick,
+    Event::Tick,
+    Event::Give(1),
+    Event::Collect(1),
+];
+
 fn check_each_line(rt: &impl Abort, script: &Script) {
     assert!(rt; script.starts.as_slice() == [0, 2].as_slice());
-    assert!(rt; (script.clients, script.limits.lane, script.limits.queue) == (2, 3, 16));
+    assert!(rt; [script.clients, script.limits.lane, script.limits.queue] == [2, 3, 16]);
     assert!(rt; script.lines.as_slice() == [6, 7, 8, 8, 9, 10].as_slice());
-    assert!(rt; script.events.len() == 6);
-    assert!(rt; script.events[1] == Event::Take(1));
+    assert!(rt; script.events.as_slice() == EACH.as_slice());
 }
 
 #[test]
@@ -21,33 +30,47 @@ fn script_of_each_line(rt: HostRuntime) {
     check_each_line(&rt, &script);
 }
 
+/// The events of a script of closing lines.
+const CLOSING: [Event; 2] = [Event::Post(1, Order::Close), Event::Shut(3)];
+
+fn check_closing_lines(rt: &impl Abort, script: &Script) {
+    assert!(rt; script.south);
+    assert!(rt; script.events.as_slice() == CLOSING.as_slice());
+}
+
 #[test]
 fn script_of_closing_lines(rt: HostRuntime) {
     let text = b"ties south\nrobots 0\npost 1 close\nshut 3\n";
     let script = read_script(rt.alloc(), text).expect(&rt, "a script");
-    assert!(rt; script.south);
-    assert!(rt; script.events.len() == 2);
-    assert!(rt; script.events[0] == Event::Post(1, Order::Close));
-    assert!(rt; script.events[1] == Event::Shut(3));
+    check_closing_lines(&rt, &script);
 }
 
-/// Lines read one by one, as a conversation reads them: which may follow a head, and which may not.
+const TICKS: Repeat = Repeat {
+    event: Event::Tick,
+    times: 3,
+};
+
+const POST: Repeat = Repeat {
+    event: Event::Post(1, Order::Go { robot: 0, cell: 7 }),
+    times: 1,
+};
+
+/// Lines, and what each is: which may follow a head, and which may not.
+const LINES: [(&[u8], EventLine); 6] = [
+    (b"tick 3", EventLine::Events(TICKS)),
+    (b"post 1 go 0 7", EventLine::Events(POST)),
+    (b" \t", EventLine::Nothing),
+    (b"# tick", EventLine::Nothing),
+    (b"tick 0", EventLine::Other),
+    (b"robots 0", EventLine::Other),
+];
+
+/// Lines read one by one, as a conversation reads them.
 #[test]
 fn lines_one_by_one(rt: HostRuntime) {
-    let ticks = Repeat {
-        event: Event::Tick,
-        times: 3,
-    };
-    let post = Repeat {
-        event: Event::Post(1, Order::Go { robot: 0, cell: 7 }),
-        times: 1,
-    };
-    assert!(rt; event_line(b"tick 3") == EventLine::Events(ticks));
-    assert!(rt; event_line(b"post 1 go 0 7") == EventLine::Events(post));
-    assert!(rt; event_line(b" \t") == EventLine::Nothing);
-    assert!(rt; event_line(b"# tick") == EventLine::Nothing);
-    assert!(rt; event_line(b"tick 0") == EventLine::Other);
-    assert!(rt; event_line(b"robots 0") == EventLine::Other);
+    for (line, found) in LINES {
+        assert!(rt; event_line(line) == found);
+    }
 }
 
 /// The faults of scripts and lanes as they are printed.
