@@ -130,10 +130,12 @@ class Chromium:
         self.send('Input.dispatchKeyEvent', type='keyUp', **press)
 
     def middle_of(self, selector):
-        return self.run(f'(() => {{ const b = document.querySelector({json.dumps(selector)}); b.scrollIntoView({{block: "nearest"}}); const r = b.getBoundingClientRect(); return [r.left + r.width / 2, r.top + r.height / 2]; }})()')
+        return self.run(f'(() => {{ const one = document.querySelector({json.dumps(selector)}); one.scrollIntoView({{block: "nearest"}}); '
+                        'const box = one.getBoundingClientRect(); return [box.left + box.width / 2, box.top + box.height / 2]; })()')
 
     def mouse(self, kind, x, y):
-        self.send('Input.dispatchMouseEvent', type=kind, x=x, y=y, button='left', buttons=0 if kind == 'mouseReleased' else 1, clickCount=1)
+        buttons = 0 if kind == 'mouseReleased' else 1
+        self.send('Input.dispatchMouseEvent', type=kind, x=x, y=y, button='left', buttons=buttons, clickCount=1)
 
     def press(self, x, y):
         self.mouse('mousePressed', x, y)
@@ -153,7 +155,8 @@ class Chromium:
         self.send('Emulation.setTouchEmulationEnabled', enabled=on, maxTouchPoints=5)
 
     def fingers(self, kind, *places):
-        self.send('Input.dispatchTouchEvent', type=kind, touchPoints=[{'x': x, 'y': y, 'id': number} for number, (x, y) in enumerate(places)])
+        points = [{'x': x, 'y': y, 'id': number} for number, (x, y) in enumerate(places)]
+        self.send('Input.dispatchTouchEvent', type=kind, touchPoints=points)
 
     def swipe(self, start, end):
         self.fingers('touchStart', start)

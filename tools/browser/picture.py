@@ -1,8 +1,9 @@
 """The picture of traces as SVG, written from docs/VIEW.md and the traces alone, to compare the program's with."""
 import json
 
-STYLE = ('<style>.floor{fill:#ffffff}.wall{fill:#b9c2cf}text{fill:#ffffff;font:600 7px system-ui,sans-serif;text-anchor:middle}'
-         '@media(prefers-color-scheme:dark){.floor{fill:#1b222c}.wall{fill:#3c4757}}</style>')
+STYLE = ('<style>.floor{fill:#ffffff}.wall{fill:#6b7789}.grid{fill:none;stroke:#e6eaf0}.edge{fill:none;stroke:#6b7789;stroke-width:2}.bar{fill:#2563eb}'
+         'text{fill:#ffffff;stroke:#000000;stroke-opacity:.6;stroke-width:1.4px;paint-order:stroke;font:600 7px system-ui,sans-serif;text-anchor:middle}'
+         '@media(prefers-color-scheme:dark){.floor{fill:#1b222c}.wall{fill:#68758a}.grid{stroke:#262f3b}.edge{stroke:#68758a}.bar{fill:#7aa7ff}}</style>')
 
 
 def picture(rows, texts, tick=None):
@@ -15,12 +16,14 @@ def picture(rows, texts, tick=None):
         f'<svg xmlns="http://www.w3.org/2000/svg" role="img" aria-label="Robots on a map" viewBox="0 0 {width * 16} {height * 16}" '
         f'width="{width * 16}" height="{height * 16}">',
         STYLE,
+        '<pattern id="cell" width="16" height="16" patternUnits="userSpaceOnUse"><path class="grid" d="M16 0v16h-16"/></pattern>',
         '<rect class="floor" width="100%" height="100%"/>',
+        '<rect fill="url(#cell)" width="100%" height="100%"/>',
         f'<path class="wall" d="{walls}"/>',
     ]
     for robot, opened in enumerate(traces[0]['opening']['robots']):
         cells = [opened[0]] + [entry[1][robot] for trace in traces for entry in trace['entries'] if entry[0] == 'tick']
-        disc = (f'<circle cx="8" cy="8" r="6.4" fill="hsl({robot * 137 % 360} 62% 46%)"/>'
+        disc = (f'<circle cx="8" cy="8" r="6.4" fill="hsl({robot * 137508 % 360000}e-3 62% 46%)"/>'
                 f'<text x="8" y="10.6">{robot}</text></g>')
         if tick is None:
             values = ';'.join(map(at, cells))
@@ -28,4 +31,8 @@ def picture(rows, texts, tick=None):
                          f'dur="{max(1, len(cells) - 1) * 200}ms" repeatCount="indefinite"/>{disc}')
         else:
             lines.append(f'<g transform="translate({at(cells[min(tick, len(cells) - 1)])})">{disc}')
-    return '\n'.join([*lines, '</svg>', ''])
+    if tick is None:
+        ticks = sum(entry[0] == 'tick' for trace in traces for entry in trace['entries'])
+        lines.append('<rect class="bar" y="100%" width="0" height="4" transform="translate(0 -4)"><animate attributeName="width" values="0;100%" '
+                     f'dur="{max(1, ticks) * 200}ms" repeatCount="indefinite"/></rect>')
+    return '\n'.join([*lines, '<rect class="edge" width="100%" height="100%"/>', '</svg>', ''])

@@ -1,10 +1,13 @@
-"""The page's texts, put together from page.html, page.css and the parts of the script, and cut where the map, the verdicts and the
-traces stand."""
+"""The page's texts, put together from page.html, page.css and the parts of the script, and cut where the map, the
+verdicts and the traces stand."""
 import pathlib
 
 HERE = pathlib.Path(__file__).resolve().parent
 # in this order: a part may use what is defined before it as soon as it is read
-PARTS = ['read', 'graph', 'fault', 'replay', 'bound', 'colours', 'draw', 'charts', 'events', 'state', 'input', 'start']
+PARTS = [
+    'read', 'graph', 'fault', 'changes', 'replay', 'bound', 'colours', 'place', 'draw', 'charts', 'events', 'time',
+    'address', 'state', 'input', 'start',
+]
 
 
 def script():

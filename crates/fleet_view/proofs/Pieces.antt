@@ -10,5 +10,5 @@ pub floor-is : (old head begin walls end a b c d : List ℕ) → a ≡ old ++ he
 floor-is old head begin walls end a b c d a-is b-is c-is d-is = rw (d-is, c-is, b-is, a-is) (simp append_assoc)
 
 -- a whole picture
-pub picture-is : (none floor shapes end a b c : List ℕ) → none ≡ [] → a ≡ none ++ floor → b ≡ a ++ shapes → c ≡ b ++ end → c ≡ floor ++ shapes ++ end
-picture-is none floor shapes end a b c none-is a-is b-is c-is = rw (c-is, b-is, a-is, none-is) refl
+pub picture-is : (none floor shapes bar end a b c d : List ℕ) → none ≡ [] → a ≡ none ++ floor → b ≡ a ++ shapes → c ≡ b ++ bar → d ≡ c ++ end → d ≡ floor ++ shapes ++ bar ++ end
+picture-is none floor shapes bar end a b c d none-is a-is b-is c-is d-is = rw (d-is, c-is, b-is, a-is, none-is) refl

@@ -6,7 +6,7 @@ use Rattle.fleet_history.specs.declared.history.Entry.{Entry}
 use Rattle.fleet_history.specs.declared.history.Entry.TheVariants.{Take, Tick, Shut}
 use Rattle.fleet_history.specs.declared.history.RobotState.{RobotState}
 use Rattle.fleet_trace.specs.Trace.{Trace}
-use Rattle.fleet_view.specs.declared.shapes.TheConstants.{SVG_BEGIN, SVG_SIZE, SVG_STYLE, WALLS, WALL, WALLS_END, TRACK, TRACK_TIME, TRACK_END, STILL, STILL_END, DISC, NUMBER, SHAPE_END, SVG_END}
+use Rattle.fleet_view.specs.declared.shapes.TheConstants.{SVG_BEGIN, SVG_SIZE, SVG_STYLE, WALLS, WALL, WALLS_END, TRACK, TRACK_TIME, TRACK_END, STILL, STILL_END, DISC, NUMBER, SHAPE_END, BAR, BAR_END, SVG_END}
 
 -- where a cell lies: its column and its row, 16 times each
 abbrev pub point_text : ℕ → ℕ → List ℕ
@@ -50,9 +50,9 @@ points_text width cells = flat_map (λ cell. codes ";" ++ point_text width cell)
 abbrev pub values_text : ℕ → ℕ → List ℕ → List ℕ
 values_text width start cells = point_text width start ++ points_text width cells
 
--- a disc in the robot's colour, and its number
+-- a disc in the robot's colour, and its number; the hue is in thousandths of a degree
 abbrev pub disc_text : ℕ → List ℕ
-disc_text r = DISC.now ++ decimal (r % 360 * 137 % 360) ++ NUMBER.now ++ decimal r ++ SHAPE_END.now
+disc_text r = DISC.now ++ decimal (r % 30000 * 137508 % 360000) ++ NUMBER.now ++ decimal r ++ SHAPE_END.now
 
 -- a fifth of a second, 200 ms, for each tick
 abbrev pub moving_text : ℕ → ℕ → ℕ → List ℕ → List ℕ
@@ -83,6 +83,11 @@ robots_in (t ∷ ts) = t.history.opening.robots
 abbrev pub walls_text : Map → List ℕ
 walls_text m = WALLS.now ++ walls_from m.width 0 m.cells ++ WALLS_END.now
 
+-- a bar that grows while the robots move
+abbrev pub bar_text : {A : Type 0} → Option ℕ → List (Trace A) → List ℕ
+bar_text None ts = BAR.now ++ decimal (2 * max 1 (length (cells_in 0 ts))) ++ BAR_END.now
+bar_text (Some tick) ts = []
+
 -- the picture of a map and of traces on it: all ticks, one after the other, or what stands after one of them
 abbrev pub picture_text : {A : Type 0} → Map → List (Trace A) → Option ℕ → List ℕ
-picture_text m ts tick = head_text m.height m.width ++ walls_text m ++ shapes_from m.width tick ts 0 (robots_in ts) ++ SVG_END.now
+picture_text m ts tick = head_text m.height m.width ++ walls_text m ++ shapes_from m.width tick ts 0 (robots_in ts) ++ bar_text tick ts ++ SVG_END.now

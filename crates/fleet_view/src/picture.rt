@@ -1,15 +1,15 @@
 //! The picture of traces.
 
-ghost use Rattle.std.specs.Prelude.{◌≡◌, ◌++◌, ◌+◌, ◌*◌, ◌<◌, ◌≤◌, ◌^◌, map, length, OnOk, IfOk, string_bytes, slice_index, codes, max};
+ghost use Rattle.std.specs.Prelude.{◌≡◌, ◌++◌, ◌+◌, ◌*◌, ◌<◌, ◌≤◌, ◌^◌, map, length, OnOk, IfOk, string_bytes, slice_index, codes, decimal, max};
 ghost use Rattle.fleet_map.specs.Form.{HasSides};
 ghost use Rattle.fleet_map.specs.Grammar.{view};
 ghost use Rattle.fleet_trace.specs.Trace.{trace_of};
-ghost use Rattle.fleet_view.specs.declared.shapes.TheConstants.{WALL};
-ghost use Rattle.fleet_view.specs.Picture.{point_text, is_floor_letter, walls_from, head_text, walls_text, cells_over, cells_in, points_text, values_text, disc_text, moving_text, cell_behind, still_text, shape_text, shapes_from, robots_in, picture_text};
+ghost use Rattle.fleet_view.specs.declared.shapes.TheConstants.{WALL, BAR, BAR_END};
+ghost use Rattle.fleet_view.specs.Picture.{point_text, is_floor_letter, walls_from, head_text, walls_text, cells_over, cells_in, points_text, values_text, disc_text, moving_text, cell_behind, still_text, shape_text, shapes_from, robots_in, bar_text, picture_text};
 
 use crate::shapes::{
-    DISC, NUMBER, SHAPE_END, STILL, STILL_END, SVG_BEGIN, SVG_END, SVG_SIZE, SVG_STYLE, TRACK,
-    TRACK_END, TRACK_TIME, WALL, WALLS, WALLS_END,
+    BAR, BAR_END, DISC, NUMBER, SHAPE_END, STILL, STILL_END, SVG_BEGIN, SVG_END, SVG_SIZE,
+    SVG_STYLE, TRACK, TRACK_END, TRACK_TIME, WALL, WALLS, WALLS_END,
 };
 use fleet_history::{Chapter, Entry, RobotState};
 use fleet_map::MapText;
@@ -120,11 +120,11 @@ fn write_values(out: &mut String, width: u32, start: u32, cells: &[u32]) -> Resu
     write_points(out, width, cells)
 }
 
-/// A disc in the robot's colour, and its number.
+/// A disc in the robot's colour, which is that of the page, and its number.
 fn write_disc(out: &mut String, robot: usize) -> Result<(), AllocError>
     ensures { OnOk result (string_bytes out.new ≡ string_bytes out.old ++ disc_text robot) }
 {
-    let hue = robot % 360 * 137 % 360;
+    let hue = robot % 30_000 * 137_508 % 360_000;
     write!(out, "{DISC}{hue}{NUMBER}{robot}{SHAPE_END}")
 }
 
@@ -223,6 +223,32 @@ fn write_shapes(
     Ok(())
 }
 
+/// A bar that grows while the robots move through these cells.
+fn write_growing_bar(out: &mut String, cells: &[u32]) -> Result<(), AllocError>
+    ensures { OnOk result (string_bytes out.new ≡ string_bytes out.old ++ (BAR.now ++ decimal (2 * max 1 (length cells.now)) ++ BAR_END.now)) }
+{
+    let time = time_of(cells);
+    write!(out, "{BAR}{time}{BAR_END}")
+}
+
+/// The bar of a picture that moves.
+fn write_bar(
+    alloc: Global,
+    out: &mut String,
+    tick: Option<u32>,
+    chapters: &[Chapter],
+) -> Result<(), AllocError>
+    ensures { OnOk result (string_bytes out.new ≡ string_bytes out.old ++ bar_text tick (map trace_of chapters.now)) }
+{
+    match tick {
+        Some(_) => Ok(()),
+        None => {
+            let cells = cells_in(alloc, 0, chapters)?;
+            write_growing_bar(out, &cells)
+        }
+    }
+}
+
 /// The part of the picture below the robots: the map.
 fn write_floor(out: &mut String, floor: &MapText) -> Result<(), AllocError>
     requires { HasSides (view floor.now) }
@@ -250,6 +276,7 @@ pub fn picture_of(
     write_floor(&mut out, floor)?;
     let robots = robots_in(chapters);
     write_shapes(alloc, &mut out, floor.width, tick, chapters, robots)?;
+    write_bar(alloc, &mut out, tick, chapters)?;
     out.push_str(SVG_END)?;
     Ok(out)
 }

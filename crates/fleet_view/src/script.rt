@@ -115,7 +115,8 @@ class Distances {
   }
 }
 
-// Whether some edge of the floor lies on no round: a search in depth with the lowest place that each cell's branch reaches.
+// Whether some edge of the floor lies on no round: a search in depth with the lowest place that each cell's branch
+// reaches.
 function hasBridge(map) {
   const { width, floor } = map;
   const size = floor.length;
@@ -166,9 +167,15 @@ function hasBridge(map) {
 // The rule and the entry are the judge's, which the page carries. Which robots and cells are at fault is found here.
 
 const RULES = [
-  '', 'the opening is not in order', 'there is no such client', 'the verdict is not the one that is due',
-  'the step is not free of conflicts', 'the arrivals are not those that are due', 'the farewells are not those that are due',
-  'a stamp is outside of its law', 'there is no such robot, or it is shut already',
+  '',
+  'the opening is not in order',
+  'there is no such client',
+  'the verdict is not the one that is due',
+  'the step is not free of conflicts',
+  'the arrivals are not those that are due',
+  'the farewells are not those that are due',
+  'a stamp is outside of its law',
+  'there is no such robot, or it is shut already',
 ];
 
 const NO_DETAIL = { detail: '', robots: [], cells: [] };
@@ -178,7 +185,9 @@ function detailOfPlaces(map, cells) {
   const first = new Map();
   for (let robot = 0; robot < cells.length; robot += 1) {
     const cell = cells[robot];
-    if (!map.floor[cell]) return { detail: `robot ${robot} is on cell ${cell}, which is no floor`, robots: [robot], cells: [cell] };
+    if (!map.floor[cell]) {
+      return { detail: `robot ${robot} is on cell ${cell}, which is no floor`, robots: [robot], cells: [cell] };
+    }
     if (first.has(cell)) {
       const other = first.get(cell);
       return { detail: `robots ${other} and ${robot} are on cell ${cell}`, robots: [other, robot], cells: [cell] };
@@ -202,10 +211,15 @@ function detailOfStep(map, from, to) {
     const [old, cell] = [from[robot], to[robot]];
     let near = old === cell;
     eachNeighbour(map, old, (other) => { near = near || other === cell; });
-    if (!near) return { detail: `robot ${robot} goes from cell ${old} to cell ${cell}, which is no neighbour`, robots: [robot], cells: [old, cell] };
+    const cells = [old, cell];
+    if (!near) {
+      const detail = `robot ${robot} goes from cell ${old} to cell ${cell}, which is no neighbour`;
+      return { detail, robots: [robot], cells };
+    }
     const other = at.get(cell);
     if (other !== undefined && other !== robot && to[other] === old) {
-      return { detail: `robots ${robot} and ${other} exchange the cells ${old} and ${cell}`, robots: [robot, other], cells: [old, cell] };
+      const detail = `robots ${robot} and ${other} exchange the cells ${old} and ${cell}`;
+      return { detail, robots: [robot, other], cells };
     }
   }
   return NO_DETAIL;
@@ -213,8 +227,15 @@ function detailOfStep(map, from, to) {
 
 // The first robot of which one list tells and the other does not.
 function firstOdd(due, shown, to, missing, extra) {
-  for (const robot of due) if (!shown.includes(robot)) return { detail: `robot ${robot} ${missing}`, robots: [robot], cells: [to[robot]] };
-  for (const robot of shown) if (!due.includes(robot)) return { detail: `robot ${robot} ${extra}`, robots: [robot], cells: [to[robot]].filter((cell) => cell !== undefined) };
+  const one = (robot, what) => ({
+    detail: `robot ${robot} ${what}`,
+    robots: [robot],
+    cells: robot < to.length ? [to[robot]] : [],
+  });
+  const missed = due.find((robot) => !shown.includes(robot));
+  if (missed !== undefined) return one(missed, missing);
+  const wrong = shown.find((robot) => !due.includes(robot));
+  if (wrong !== undefined) return one(wrong, extra);
   return { detail: '', robots: due, cells: due.map((robot) => to[robot]) };
 }
 
@@ -223,10 +244,14 @@ function detailOfTick(replay, trace, entry, rule) {
   const [, to, arrived, farewells] = entry;
   if (rule === 4) return detailOfStep(replay.map, cells, to);
   const due = [...to.keys()].filter((robot) => queues[robot].length > 0 && queues[robot][0].cell === to[robot]);
-  if (rule === 5) return firstOdd(due, arrived.map((arrival) => arrival[0]), to, 'arrives there, which is not told', 'has no errand to that cell first');
+  if (rule === 5) {
+    const shown = arrived.map((arrival) => arrival[0]);
+    return firstOdd(due, shown, to, 'arrives there, which is not told', 'has no errand to that cell first');
+  }
   if (rule === 6) {
     const leaving = due.filter((robot) => shut[robot] && queues[robot].length === 1);
-    return firstOdd(leaving, farewells.map((farewell) => farewell[0]), to, 'is shut and done, and has no farewell', 'has a farewell that is not due');
+    const shown = farewells.map((farewell) => farewell[0]);
+    return firstOdd(leaving, shown, to, 'is shut and done, and has no farewell', 'has a farewell that is not due');
   }
   const laws = trace.opening.robots;
   const outside = (law, stamp) => stamp < law[0] || stamp > law[1];
@@ -234,7 +259,8 @@ function detailOfTick(replay, trace, entry, rule) {
     ...arrived.filter((arrival) => outside(laws[arrival[0]][4], arrival[3])).map((arrival) => arrival[0]),
     ...farewells.filter((farewell) => outside(laws[farewell[0]][5], farewell[1])).map((farewell) => farewell[0]),
   ];
-  return { detail: odd.length > 0 ? `it is that of robot ${odd[0]}` : '', robots: odd, cells: odd.map((robot) => to[robot]) };
+  const detail = odd.length > 0 ? `it is that of robot ${odd[0]}` : '';
+  return { detail, robots: odd, cells: odd.map((robot) => to[robot]) };
 }
 
 // The entry follows what the replay's state is.
@@ -252,23 +278,7 @@ function faultText(fault) {
   return `illegal ${where}: it breaks rule ${fault.rule}, ${RULES[fault.rule] ?? 'unknown'}${detail}`;
 }
 
-// ---- the replay
-
-function countMoves(traces) {
-  let moves = 0;
-  let ticks = 0;
-  for (const trace of traces) {
-    let cells = trace.opening.robots.map((robot) => robot[0]);
-    for (const entry of trace.entries) {
-      if (entry[0] !== 'tick') continue;
-      const to = entry[1];
-      for (let robot = 0; robot < to.length; robot += 1) if (to[robot] !== cells[robot]) moves += 1;
-      cells = to;
-      ticks += 1;
-    }
-  }
-  return { moves, ticks };
-}
+// ---- what stands at a frame, and how it changes
 
 // A robot as an opening has it at this frame.
 function openedRobot([, shut, wait, errands], frame) {
@@ -365,9 +375,29 @@ function takeEvent(state, entry) {
   }
   if (verdict[0] === 'withdrawn' && order[0] === 'withdraw') {
     const found = errandPlace(state, client, order[1]);
-    if (found !== null) return { kind: 'withdraw', frame, ...found, errand: state.queues[found.robot][found.place], entry };
+    if (found !== null) {
+      return { kind: 'withdraw', frame, ...found, errand: state.queues[found.robot][found.place], entry };
+    }
   }
   return { kind: 'note', frame, entry };
+}
+
+// ---- the replay
+
+function countMoves(traces) {
+  let moves = 0;
+  let ticks = 0;
+  for (const trace of traces) {
+    let cells = trace.opening.robots.map((robot) => robot[0]);
+    for (const entry of trace.entries) {
+      if (entry[0] !== 'tick') continue;
+      const to = entry[1];
+      for (let robot = 0; robot < to.length; robot += 1) if (to[robot] !== cells[robot]) moves += 1;
+      cells = to;
+      ticks += 1;
+    }
+  }
+  return { moves, ticks };
 }
 
 class Replay {
@@ -430,7 +460,8 @@ class Replay {
       this.push({ kind: 'note', frame, entry: ['chapter', trace.chapter] });
       for (let robot = 0; robot < this.robots; robot += 1) {
         const other = openedRobot(trace.opening.robots[robot] ?? [0, false, null, []], frame);
-        const same = sameQueue(other.queue, state.queues[robot]) && Object.is(other.since, state.since[robot]) && other.shut === state.shut[robot];
+        const same = sameQueue(other.queue, state.queues[robot])
+          && Object.is(other.since, state.since[robot]) && other.shut === state.shut[robot];
         if (!same) this.push({ kind: 'reopen', frame, robot, other, entry: ['reopened', robot] });
       }
     }
@@ -593,10 +624,10 @@ class Replay {
 
 // ---- the bound on waits
 
-// On a map without bridges no wait of a legal history reaches the number of robots times the greatest distance, if each
-// tick advances (the eldest robot comes nearer to its goal, or is on it and stays) and the waits at the opening leave room
-// for that. All of this is looked at before a bound is shown. The search works in slices, so that the page does not stand
-// still: each of these is a generator, which returns its result and yields in between.
+// On a map without bridges no wait of a legal history reaches the number of robots times the greatest distance, if
+// each tick advances (the eldest robot comes nearer to its goal, or is on it and stays) and the waits at the opening
+// leave room for that. All of this is looked at before a bound is shown. The search works in slices, so that the page
+// does not stand still: each of these is a generator, which returns its result and yields in between.
 
 const MOST_CELLS = 6000;
 const MOST_VISITS = 4e8;
@@ -627,7 +658,8 @@ function* firstIdleTick(replay, distances, floorCount) {
     distances.from(goal);
     for (const frame of frames) {
       const [from, to] = [replay.eldestFrom[frame], replay.eldestTo[frame]];
-      const advances = (from === goal && to === goal) || (distances.of(from) > 0 && distances.of(to) === distances.of(from) - 1);
+      const far = distances.of(from);
+      const advances = far === 0 ? to === goal : far > 0 && distances.of(to) === far - 1;
       if (!advances && (first === 0 || frame < first)) first = frame;
     }
     yield;
@@ -646,10 +678,13 @@ function leavesRoom(opening, far, distances) {
   if (waits.every((wait) => wait === null || wait === 0)) return true;
   if (far === null) return false;
   let eldest = -1;
-  waits.forEach((wait, robot) => { if (wait !== null && (eldest < 0 || wait > waits[eldest])) eldest = robot; });
+  waits.forEach((wait, robot) => {
+    if (wait !== null && (eldest < 0 || wait > waits[eldest])) eldest = robot;
+  });
   distances.from(goals[eldest]);
   const way = Math.max(1, distances.of(cells[eldest]));
-  return waits.every((wait, robot) => wait === null || wait + way + countBefore(waits, robot) * far <= waits.length * far);
+  const most = waits.length * far;
+  return waits.every((wait, robot) => wait === null || wait + way + countBefore(waits, robot) * far <= most);
 }
 
 // The bound, or null, and why in words.
@@ -662,14 +697,19 @@ function* findBound(map, replay) {
   const floorCount = countFloor(map);
   const idle = yield* firstIdleTick(replay, distances, floorCount);
   if (idle < 0) return none('it would take too long to find out whether each tick advances');
-  if (idle > 0) return none(`in tick ${replay.clockAt(idle)} the robot that had waited longest came no nearer to its goal`);
+  if (idle > 0) {
+    return none(`in tick ${replay.clockAt(idle)} the robot that had waited longest came no nearer to its goal`);
+  }
   const small = floorCount <= MOST_CELLS;
   const far = small ? yield* greatestDistance(map, distances) : null;
-  if (!replay.openings.every((opening) => leavesRoom(opening, far, distances))) return none('robots had waited too long when it began');
+  if (!replay.openings.every((opening) => leavesRoom(opening, far, distances))) {
+    return none('robots had waited too long when it began');
+  }
   const factor = small ? far : Math.max(1, floorCount - 1);
   const bound = replay.robots * factor;
   const kind = small ? `the greatest distance, ${far}` : `the floor cells less one, ${factor}`;
-  return { bound, text: `Every wait is below ${bound}: that is ${replay.robots} robots times ${kind}. The map has no bridge, and each tick advances.` };
+  const sum = `that is ${replay.robots} robots times ${kind}`;
+  return { bound, text: `Every wait is below ${bound}: ${sum}. The map has no bridge, and each tick advances.` };
 }
 
 // ---- colours
@@ -703,6 +743,9 @@ function digitsOn(luminance) {
   return contrastOf(1, luminance) >= contrastOf(0, luminance) ? '#ffffff' : '#000000';
 }
 
+const COLOURS = [
+  'page', 'card', 'ink', 'soft', 'line', 'floor', 'wall', 'shelf', 'grid', 'idle', 'accent', 'mark', 'fault', 'heat',
+];
 const SATURATION = 0.62;
 const LEAST_CONTRAST = 3;
 
@@ -722,7 +765,7 @@ function robotColour(robot, floor) {
 function readColours(robots) {
   const style = getComputedStyle(document.documentElement);
   const colours = {};
-  for (const name of ['page', 'card', 'ink', 'soft', 'line', 'floor', 'wall', 'shelf', 'grid', 'idle', 'accent', 'mark', 'fault', 'heat']) {
+  for (const name of COLOURS) {
     colours[name] = style.getPropertyValue(`--${name}`).trim();
   }
   const floor = luminanceOfHex(colours.floor);
@@ -739,59 +782,24 @@ function shadesOf(heat) {
   return new Uint32Array(bytes.buffer);
 }
 
-// ---- the map on its canvas
+// ---- where the map lies on its canvas
 
 // a cell is at most so many pixels wide, but even a small map may be zoomed so far
 const MOST_CELL = 120;
 const LEAST_MOST_ZOOM = 4;
-const LEAST_NUMBERED = 9;
-const PATH_FRAMES = 30;
 
-class MapView {
-  constructor(canvas, replay) {
-    const { height, width } = replay.map;
+class MapPlace {
+  constructor(canvas, map) {
     this.canvas = canvas;
-    this.pen = canvas.getContext('2d');
-    this.replay = replay;
-    this.shows = { heat: false, goals: true, lines: true };
-    this.picked = null;
-    this.follows = false;
-    this.faults = [];
-    this.pulse = 0;
+    this.map = map;
     // the zoom, 1 where the whole map is shown, and the place of the map that is in the middle, in cells
     this.zoom = 1;
-    this.middle = { x: width / 2, y: height / 2 };
-    this.other = new Int32Array(replay.robots);
-    this.xs = new Float64Array(replay.robots);
-    this.ys = new Float64Array(replay.robots);
-  }
-
-  // Letters become one pixel a cell, which is drawn larger.
-  paintLetters(colours) {
-    const { height, width, letters, floor } = this.replay.map;
-    this.colours = colours;
-    this.ground = document.createElement('canvas');
-    this.ground.width = width;
-    this.ground.height = height;
-    this.heatCanvas = document.createElement('canvas');
-    this.heatCanvas.width = width;
-    this.heatCanvas.height = height;
-    this.heatPixels = this.heatCanvas.getContext('2d').createImageData(width, height);
-    this.shades = shadesOf(colours.heat);
-    this.heatFrame = undefined;
-    const pen = this.ground.getContext('2d');
-    pen.fillStyle = colours.floor;
-    pen.fillRect(0, 0, width, height);
-    for (let cell = 0; cell < floor.length; cell += 1) {
-      if (floor[cell]) continue;
-      pen.fillStyle = letters[cell] === 'T' || letters[cell] === 'W' ? colours.shelf : colours.wall;
-      pen.fillRect(cell % width, Math.floor(cell / width), 1, 1);
-    }
+    this.middle = { x: map.width / 2, y: map.height / 2 };
   }
 
   // Zoom and middle stay.
   resize() {
-    const { height, width } = this.replay.map;
+    const { height, width } = this.map;
     const room = this.canvas.clientWidth;
     const high = Math.max(160, Math.min(room * height / width, window.innerHeight * 0.78));
     this.ratio = window.devicePixelRatio || 1;
@@ -804,7 +812,7 @@ class MapView {
 
   // Where the map lies on the canvas. It cannot leave it: a side that is shown whole is centred.
   place() {
-    const { height, width } = this.replay.map;
+    const { height, width } = this.map;
     const { canvas, middle } = this;
     this.zoom = this.zoomWithin(this.zoom);
     const scale = this.fitScale * this.zoom;
@@ -817,6 +825,12 @@ class MapView {
     this.view = { scale, left: canvas.width / 2 - middle.x * scale, top: canvas.height / 2 - middle.y * scale };
     // one finger scrolls the page while the whole map is shown, and moves the map when it is zoomed
     canvas.style.touchAction = this.zoom > 1 ? 'none' : 'pan-x pan-y';
+  }
+
+  show(zoom, middle) {
+    this.zoom = zoom;
+    this.middle = { ...middle };
+    this.place();
   }
 
   zoomWithin(zoom) {
@@ -851,12 +865,68 @@ class MapView {
   }
 
   cellAt(x, y) {
-    const { height, width } = this.replay.map;
+    const { height, width } = this.map;
     const column = Math.floor((x - this.view.left) / this.view.scale);
     const row = Math.floor((y - this.view.top) / this.view.scale);
     return column >= 0 && column < width && row >= 0 && row < height ? row * width + column : -1;
   }
 
+  centre(cell) {
+    const { width } = this.map;
+    this.middle = { x: cell % width + 0.5, y: Math.floor(cell / width) + 0.5 };
+    this.place();
+  }
+
+  // The middle of a cell on the canvas.
+  pointOf(cell) {
+    const { width } = this.map;
+    const { view } = this;
+    return [view.left + (cell % width + 0.5) * view.scale, view.top + (Math.floor(cell / width) + 0.5) * view.scale];
+  }
+}
+
+// ---- the map on its canvas
+
+const LEAST_NUMBERED = 9;
+const PATH_FRAMES = 30;
+
+class MapView extends MapPlace {
+  constructor(canvas, replay) {
+    super(canvas, replay.map);
+    this.pen = canvas.getContext('2d');
+    this.replay = replay;
+    this.shows = { heat: false, goals: true, lines: true };
+    this.picked = null;
+    this.follows = false;
+    this.faults = [];
+    this.pulse = 0;
+    this.other = new Int32Array(replay.robots);
+    this.xs = new Float64Array(replay.robots);
+    this.ys = new Float64Array(replay.robots);
+  }
+
+  // Letters become one pixel a cell, which is drawn larger.
+  paintLetters(colours) {
+    const { height, width, letters, floor } = this.replay.map;
+    this.colours = colours;
+    this.ground = document.createElement('canvas');
+    this.ground.width = width;
+    this.ground.height = height;
+    this.heatCanvas = document.createElement('canvas');
+    this.heatCanvas.width = width;
+    this.heatCanvas.height = height;
+    this.heatPixels = this.heatCanvas.getContext('2d').createImageData(width, height);
+    this.shades = shadesOf(colours.heat);
+    this.heatFrame = undefined;
+    const pen = this.ground.getContext('2d');
+    pen.fillStyle = colours.floor;
+    pen.fillRect(0, 0, width, height);
+    for (let cell = 0; cell < floor.length; cell += 1) {
+      if (floor[cell]) continue;
+      pen.fillStyle = letters[cell] === 'T' || letters[cell] === 'W' ? colours.shelf : colours.wall;
+      pen.fillRect(cell % width, Math.floor(cell / width), 1, 1);
+    }
+  }
   // The robot that is drawn nearest to a point of the canvas, if one is near.
   robotAt(x, y) {
     let best = null;
@@ -867,20 +937,6 @@ class MapView {
     }
     return best;
   }
-
-  centre(cell) {
-    const { width } = this.replay.map;
-    this.middle = { x: cell % width + 0.5, y: Math.floor(cell / width) + 0.5 };
-    this.place();
-  }
-
-  // The middle of a cell on the canvas.
-  pointOf(cell) {
-    const { width } = this.replay.map;
-    const { view } = this;
-    return [view.left + (cell % width + 0.5) * view.scale, view.top + (Math.floor(cell / width) + 0.5) * view.scale];
-  }
-
   // The cells between which robots are drawn: those of this frame and of the next one, or of the one before where the
   // fraction is negative.
   placeRobots(fraction) {
@@ -907,7 +963,8 @@ class MapView {
   centreBetween(cell, other, part) {
     const { width } = this.replay.map;
     const between = (a, b) => a + (b - a) * part + 0.5;
-    this.middle = { x: between(cell % width, other % width), y: between(Math.floor(cell / width), Math.floor(other / width)) };
+    const [row, otherRow] = [Math.floor(cell / width), Math.floor(other / width)];
+    this.middle = { x: between(cell % width, other % width), y: between(row, otherRow) };
     this.place();
   }
 
@@ -940,7 +997,7 @@ class MapView {
     return this.picked === null || this.picked === robot ? 1 : 0.25;
   }
 
-  // How often robots came to each cell, one pixel a cell. From one frame to the next only the cells that were come to change.
+  // How often robots came to each cell, one pixel a cell. From frame to frame only cells to which one came change.
   paintHeat() {
     const { replay } = this;
     const { frame, heat, cells } = replay.state;
@@ -949,7 +1006,8 @@ class MapView {
       pixels[cell] = this.shades[Math.ceil(255 * Math.sqrt(Math.min(1, heat[cell] / replay.mostHeat)))];
     };
     if (this.heatFrame === frame - 1) {
-      for (let at = replay.moveStart[frame]; at < replay.moveStart[frame + 1]; at += 1) shade(cells[replay.moveRobot[at]]);
+      const end = replay.moveStart[frame + 1];
+      for (let at = replay.moveStart[frame]; at < end; at += 1) shade(cells[replay.moveRobot[at]]);
     } else {
       for (let cell = 0; cell < heat.length; cell += 1) shade(cell);
     }
@@ -960,7 +1018,8 @@ class MapView {
   drawHeat() {
     const { pen, view, replay } = this;
     if (this.heatFrame !== replay.state.frame) this.paintHeat();
-    pen.drawImage(this.heatCanvas, view.left, view.top, replay.map.width * view.scale, replay.map.height * view.scale);
+    const { height, width } = replay.map;
+    pen.drawImage(this.heatCanvas, view.left, view.top, width * view.scale, height * view.scale);
   }
 
   drawGrid() {
@@ -1265,7 +1324,10 @@ class Chart {
 
 // ---- texts next to the map
 
-const REFUSALS = ['', 'client-closed', 'no-robot', 'robot-shut', 'no-cell', 'blocked', 'unreachable', 'queue-full', 'life-spent', 'no-errand', 'too-late'];
+const REFUSALS = [
+  '', 'client-closed', 'no-robot', 'robot-shut', 'no-cell', 'blocked', 'unreachable', 'queue-full', 'life-spent',
+  'no-errand', 'too-late',
+];
 const MOST_ENTRIES = 200;
 
 function cellName(map, cell) {
@@ -1294,7 +1356,10 @@ function noteOf(map, entry) {
       return `robot ${robot} arrives at ${where}: errand ${number} of client ${client}, stamp ${stamp}`;
     }
     case 'farewell': return `robot ${entry[1]} takes its farewell with stamp ${entry[2]}`;
-    case 'shut': return `robot ${entry[1]} is shut${entry.length > 2 ? `, and takes its farewell with stamp ${entry[2]}` : ''}`;
+    case 'shut': {
+      const farewell = entry.length > 2 ? `, and takes its farewell with stamp ${entry[2]}` : '';
+      return `robot ${entry[1]} is shut${farewell}`;
+    }
     case 'reopened': return `robot ${entry[1]} has another queue, wait or state than at the end of the chapter before`;
     default: return `chapter ${entry[1]} begins`;
   }
@@ -1347,7 +1412,8 @@ class RobotTable {
       name.append(button);
       row.append(name);
       body.append(row);
-      return { row, dot, button, cells: Array.from({ length: 5 }, () => textCell(row)), shown: [] };
+      const cells = Array.from({ length: 5 }, () => textCell(row));
+      return { row, dot, button, cells, shown: [] };
     });
   }
 
@@ -1360,13 +1426,15 @@ class RobotTable {
       const queue = queues[robot];
       const idle = queue.length === 0;
       const wait = replay.waitOf(robot);
-      const texts = [cells[robot], idle ? '\u2013' : queue[0].cell, queue.length, wait === null ? '\u2013' : wait, stateText(shut[robot], idle)];
+      const goal = idle ? '\u2013' : queue[0].cell;
+      const texts = [cells[robot], goal, queue.length, wait ?? '\u2013', stateText(shut[robot], idle)];
       texts.forEach((text, place) => {
         if (shown[place] === text) return;
         shown[place] = text;
         places[place].textContent = text;
       });
-      const marks = [idle ? colours.idle : colours.robots[robot].fill, replay.eldest[frame] === robot, picked === robot];
+      const colour = idle ? colours.idle : colours.robots[robot].fill;
+      const marks = [colour, replay.eldest[frame] === robot, picked === robot];
       if (shown[5] !== marks[0]) dot.style.background = marks[0];
       if (shown[6] !== marks[1]) row.classList.toggle('eldest', marks[1]);
       if (shown[7] !== marks[2]) {
@@ -1378,23 +1446,228 @@ class RobotTable {
   }
 }
 
+const MOST_ERRANDS = 20;
+
 // What is said of the picked robot.
 function robotText(replay, robot) {
   const queue = replay.state.queues[robot];
   const wait = replay.waitOf(robot);
+  const place = `Robot ${robot} is on cell ${cellName(replay.map, replay.state.cells[robot])}.`;
+  if (queue.length === 0) return `${place} ${replay.state.shut[robot] ? 'It is shut, and done.' : 'It is idle.'}`;
   const errands = queue.map((errand) => `${errand.cell} (client ${errand.client}, errand ${errand.number})`);
-  const words = [`Robot ${robot} is on cell ${cellName(replay.map, replay.state.cells[robot])}.`];
-  if (errands.length === 0) words.push(replay.state.shut[robot] ? 'It is shut, and done.' : 'It is idle.');
-  else words.push(`It has waited ${wait} tick${wait === 1 ? '' : 's'}, and is sent to ${errands.length === 1 ? 'cell' : 'cells'} ${errands.slice(0, 20).join(', then ')}${errands.length > 20 ? `, and ${errands.length - 20} more` : ''}.`);
-  return words.join(' ');
+  const more = queue.length > MOST_ERRANDS ? `, and ${queue.length - MOST_ERRANDS} more` : '';
+  const cells = `${queue.length === 1 ? 'cell' : 'cells'} ${errands.slice(0, MOST_ERRANDS).join(', then ')}${more}`;
+  return `${place} It has waited ${wait} tick${wait === 1 ? '' : 's'}, and is sent to ${cells}.`;
+}
+
+// ---- time: which tick is shown, and play
+
+const SPEEDS = [1, 2, 4, 8, 16, 30, 60, 120];
+const GLIDE = 140;
+const FLASH = 3000;
+
+class Player {
+  constructor(page) {
+    this.page = page;
+    this.playing = false;
+    // how far robots are drawn on their way to the next tick, or from the one before where it is negative
+    this.fraction = 0;
+  }
+
+  seek(frame) {
+    this.fraction = 0;
+    this.page.replay.seek(Math.min(Math.max(frame, 0), this.page.replay.last));
+    this.page.draw();
+    if (!this.playing) {
+      this.page.announce();
+      this.flash();
+    }
+  }
+
+  jump(frame) {
+    this.pause();
+    this.seek(frame);
+  }
+
+  step(by) {
+    this.jump(this.page.replay.state.frame + by);
+  }
+
+  // The next or the previous frame at which something arrives, is refused or is shut.
+  stepToEvent(direction) {
+    const telling = (event) => event.kind !== 'join' && event.kind !== 'withdraw';
+    let frame = this.page.replay.state.frame + direction;
+    const { last, events } = this.page.replay;
+    while (frame > 0 && frame < last && !(events[frame] ?? []).some(telling)) frame += direction;
+    this.jump(frame);
+  }
+
+  toggle() {
+    if (this.playing) this.pause();
+    else this.play();
+  }
+
+  play() {
+    if (this.page.replay.state.frame === this.page.replay.last) this.page.replay.seek(0);
+    this.playing = true;
+    this.fraction = 0;
+    this.counted = { frames: 0, since: performance.now() };
+    this.then = performance.now();
+    this.markPlaying();
+    requestAnimationFrame((now) => this.animate(now));
+  }
+
+  // The replay stops at the nearer tick, and robots that are drawn on their way glide to their cells of that tick.
+  pause() {
+    if (!this.playing) return;
+    this.playing = false;
+    if (this.fraction >= 0.5 && this.page.replay.state.frame < this.page.replay.last) {
+      this.page.replay.go();
+      this.fraction -= 1;
+    }
+    this.markPlaying();
+    this.page.draw();
+    this.page.announce();
+    this.flash();
+    this.glide(performance.now(), this.fraction);
+  }
+
+  glide(since, from) {
+    if (from === 0) return;
+    const ease = (now) => {
+      if (this.playing || this.fraction === 0) return;
+      const left = Math.max(0, 1 - Math.max(0, now - since) / GLIDE);
+      this.fraction = left > 0 ? from * left : 0;
+      this.page.view.draw(this.fraction);
+      if (left > 0) requestAnimationFrame(ease);
+    };
+    requestAnimationFrame(ease);
+  }
+
+  // The cells at fault flash for a while, unless the system asks for less motion.
+  flash() {
+    const { replay, view } = this.page;
+    const { frame } = replay.state;
+    view.pulse = 0;
+    if (!replay.faults.some((fault) => fault.frame === frame)) return;
+    if (matchMedia('(prefers-reduced-motion: reduce)').matches) return;
+    const since = performance.now();
+    this.flashing = since;
+    const beat = (now) => {
+      if (this.flashing !== since || this.playing || replay.state.frame !== frame) return;
+      const past = Math.max(0, now - since);
+      view.pulse = past >= FLASH ? 0 : (1 - Math.cos(past / 250 * Math.PI)) / 2;
+      view.draw(this.fraction);
+      if (past < FLASH) requestAnimationFrame(beat);
+    };
+    requestAnimationFrame(beat);
+  }
+
+  markPlaying() {
+    const button = element('play');
+    button.textContent = this.playing ? '\u275a\u275a' : '\u25b6';
+    button.setAttribute('aria-label', this.playing ? 'Pause' : 'Play');
+    document.body.dataset.playing = this.playing;
+  }
+
+  animate(now) {
+    if (!this.playing) return;
+    // a page that was hidden goes on from where it was
+    this.fraction += Math.min(Math.max(0, now - this.then), 500) / 1000 * this.speed;
+    this.then = now;
+    while (this.fraction >= 1 && this.page.replay.state.frame < this.page.replay.last) {
+      this.fraction -= 1;
+      this.page.replay.go();
+    }
+    if (this.page.replay.state.frame === this.page.replay.last) {
+      this.fraction = 0;
+      this.pause();
+      return;
+    }
+    this.page.draw();
+    this.countFrame(now);
+    requestAnimationFrame((next) => this.animate(next));
+  }
+
+  // Frames a second while the replay plays.
+  countFrame(now) {
+    const { counted } = this;
+    counted.frames += 1;
+    if (now - counted.since < 1000) return;
+    document.body.dataset.rate = (counted.frames * 1000 / (now - counted.since)).toFixed(1);
+    counted.frames = 0;
+    counted.since = now;
+  }
+
+  setSpeed(speed) {
+    this.speed = speed;
+    element('speed').textContent = `${speed} tick${speed === 1 ? '' : 's'} a second`;
+    document.body.dataset.speed = speed;
+  }
+
+  changeSpeed(by) {
+    const place = Math.min(Math.max(SPEEDS.indexOf(this.speed) + by, 0), SPEEDS.length - 1);
+    this.setSpeed(SPEEDS[place]);
+    this.page.say(element('speed').textContent);
+  }
+}
+
+// ---- the address: what is shown, as words after `#`
+
+const SHOWN = ['heat', 'goals', 'lines'];
+const ADDRESS_EVERY = 300;
+
+// `t=140` is the tick at which the clock is 140, `robot=3` the picked robot, `zoom=2.5,10,7` shows the map 2.5 times as
+// large with column 10, row 7 in the middle, and `heat=1&goals=0&lines=0` says what is drawn.
+class Address {
+  constructor(page) {
+    this.page = page;
+  }
+
+  read(hash = location.hash) {
+    const { page } = this;
+    const words = new URLSearchParams(hash.slice(1));
+    for (const name of SHOWN) if (words.has(name)) page.setShown(name, words.get(name) === '1');
+    if (/^\d+$/.test(words.get('robot') ?? '')) page.setPicked(Number(words.get('robot')));
+    const [zoom, x, y] = (words.get('zoom') ?? '').split(',').map(Number.parseFloat);
+    if (zoom > 0) page.view.show(zoom, x >= 0 && y >= 0 ? { x, y } : page.view.middle);
+    if (/^\d+$/.test(words.get('t') ?? '')) page.player.jump(page.replay.frameOf(BigInt(words.get('t'))));
+    else page.draw();
+  }
+
+  text() {
+    const { view, replay } = this.page;
+    const words = [`t=${replay.clockAt(replay.state.frame)}`];
+    if (view.picked !== null) words.push(`robot=${view.picked}`);
+    const { zoom, middle } = view;
+    if (zoom > 1) words.push(`zoom=${zoom.toFixed(2)},${middle.x.toFixed(1)},${middle.y.toFixed(1)}`);
+    const others = SHOWN.filter((name) => view.shows[name] !== (name !== 'heat'));
+    words.push(...others.map((name) => `${name}=${view.shows[name] ? 1 : 0}`));
+    return `#${words.join('&')}`;
+  }
+
+  // The address follows what is shown, a few times a second at most: browsers refuse more.
+  follow() {
+    if (this.timer !== undefined) return;
+    this.timer = setTimeout(() => {
+      this.timer = undefined;
+      if (this.text() !== location.hash) history.replaceState(null, '', this.text());
+    }, ADDRESS_EVERY);
+  }
+
+  async copy() {
+    history.replaceState(null, '', this.text());
+    try {
+      await navigator.clipboard.writeText(location.href);
+      this.page.tell('The link is copied.');
+    } catch {
+      this.page.tell('The browser does not let this page copy; the link is in the address line.');
+    }
+  }
 }
 
 // ---- what the page shows
 
-const SPEEDS = [1, 2, 4, 8, 16, 30, 60, 120];
-const SHOWN = ['heat', 'goals', 'lines'];
-const GLIDE = 140;
-const FLASH = 3000;
 const MOST_BANNERS = 5;
 
 function element(name) {
@@ -1405,10 +1678,9 @@ class Page {
   constructor(map, replay) {
     this.map = map;
     this.replay = replay;
-    this.playing = false;
-    this.fraction = 0;
-    this.speed = 8;
     this.hovered = null;
+    this.player = new Player(this);
+    this.address = new Address(this);
     this.view = new MapView(element('map'), replay);
     this.view.faults = replay.faults;
     this.waitChart = new Chart(element('wait-chart'), replay.wait, 'longest wait');
@@ -1421,16 +1693,18 @@ class Page {
     element('slider').max = String(replay.last);
     this.describe();
     this.showVerdict();
-    this.setSpeed(this.speed);
-    this.readAddress();
+    this.player.setSpeed(8);
     this.repaint();
+    this.address.read();
   }
 
   describe() {
     const { map, replay } = this;
     const { chapters } = replay;
-    const named = chapters.length > 1 ? `chapters ${chapters[0].number} to ${chapters[chapters.length - 1].number}` : `chapter ${chapters[0].number}`;
-    const text = `${map.width} \u00d7 ${map.height} cells \u00b7 ${replay.robots} robots \u00b7 ${named} \u00b7 ${replay.last} ticks`;
+    const [first, last] = [chapters[0].number, chapters[chapters.length - 1].number];
+    const named = first === last ? `chapter ${first}` : `chapters ${first} to ${last}`;
+    const sizes = [`${map.width} \u00d7 ${map.height} cells`, `${replay.robots} robots`, named, `${replay.last} ticks`];
+    const text = sizes.join(' \u00b7 ');
     element('summary').textContent = text;
     document.title = `Fleet: ${text}`;
     for (const chart of this.charts) chart.ends = [`tick ${replay.clockAt(0)}`, `tick ${replay.clockAt(replay.last)}`];
@@ -1451,7 +1725,7 @@ class Page {
       button.type = 'button';
       button.className = 'jump';
       button.textContent = `Show tick ${this.replay.clockAt(fault.frame)}`;
-      button.addEventListener('click', () => this.jump(fault.frame));
+      button.addEventListener('click', () => this.player.jump(fault.frame));
       const of = this.replay.chapters.length > 1 ? `Chapter ${fault.chapter} is ` : 'This trace is ';
       line.append(`${of}${faultText(fault)}. `, button);
       return line;
@@ -1476,7 +1750,7 @@ class Page {
   }
 
   draw() {
-    this.view.draw(this.fraction);
+    this.view.draw(this.player.fraction);
     this.drawTexts();
   }
 
@@ -1484,7 +1758,7 @@ class Page {
   drawTexts() {
     const { replay } = this;
     const { frame } = replay.state;
-    if (this.drawnFrame === frame && this.playing) return;
+    if (this.drawnFrame === frame && this.player.playing) return;
     this.drawnFrame = frame;
     for (const chart of this.charts) chart.draw(frame);
     element('slider').value = String(frame);
@@ -1497,14 +1771,14 @@ class Page {
     element('eldest').textContent = replay.eldest[frame] < 0 ? '\u2013' : replay.eldest[frame];
     this.tellHovered();
     const now = performance.now();
-    if (!this.playing || !(now - this.listed < 200)) {
+    if (!this.player.playing || !(now - this.listed < 200)) {
       this.listed = now;
       this.table.draw(this.colours, this.view.picked);
       showEntries(element('entries'), replay);
       element('picked').textContent = this.view.picked === null ? '' : robotText(replay, this.view.picked);
     }
     this.publish();
-    this.writeAddress();
+    this.address.follow();
   }
 
   // What the page shows, for tests and other tools.
@@ -1524,11 +1798,11 @@ class Page {
     dataset.queues = queues.map((queue) => queue.length).join(' ');
     dataset.shut = shut.join(' ');
     dataset.arrived = replay.arrivedAt(frame).join(' ');
-    dataset.playing = this.playing;
+    dataset.playing = this.player.playing;
     dataset.robot = this.view.picked ?? 'none';
     dataset.zoom = this.view.zoom.toFixed(2);
     dataset.middle = `${this.view.middle.x.toFixed(2)} ${this.view.middle.y.toFixed(2)}`;
-    if (!this.playing) {
+    if (!this.player.playing) {
       dataset.waits = queues.map((_, robot) => replay.waitOf(robot) ?? '-').join(' ');
       dataset.heat = replay.state.heat.reduce((sum, count) => sum + count, 0);
     }
@@ -1555,40 +1829,12 @@ class Page {
     this.waitChart.draw(this.replay.state.frame);
   }
 
-  // ---- time
-
-  seek(frame) {
-    this.fraction = 0;
-    this.replay.seek(Math.min(Math.max(frame, 0), this.replay.last));
-    this.draw();
-    if (!this.playing) {
-      this.announce();
-      this.flash();
-    }
-  }
-
-  jump(frame) {
-    this.pause();
-    this.seek(frame);
-  }
-
-  step(by) {
-    this.jump(this.replay.state.frame + by);
-  }
-
-  // The next or the previous frame at which something arrives, is refused or is shut.
-  stepToEvent(direction) {
-    const telling = (event) => event.kind !== 'join' && event.kind !== 'withdraw';
-    let frame = this.replay.state.frame + direction;
-    while (frame > 0 && frame < this.replay.last && !(this.replay.events[frame] ?? []).some(telling)) frame += direction;
-    this.jump(frame);
-  }
-
   announce() {
     const { replay } = this;
     const { frame } = replay.state;
     const fault = replay.faults.find((one) => one.frame === frame);
-    const said = `tick ${replay.clockAt(frame)}, ${replay.arrivals[frame]} arrivals, ${replay.unfinished[frame]} unfinished`;
+    const [arrivals, unfinished] = [replay.arrivals[frame], replay.unfinished[frame]];
+    const said = `tick ${replay.clockAt(frame)}, ${arrivals} arrivals, ${unfinished} unfinished`;
     this.say(fault === undefined ? said : `${said}; ${faultText(fault)}`);
   }
 
@@ -1596,119 +1842,15 @@ class Page {
     element('announce').textContent = text;
   }
 
-  toggle() {
-    if (this.playing) this.pause();
-    else this.play();
-  }
-
-  play() {
-    if (this.replay.state.frame === this.replay.last) this.replay.seek(0);
-    this.playing = true;
-    this.fraction = 0;
-    this.counted = { frames: 0, since: performance.now() };
-    this.then = performance.now();
-    this.markPlaying();
-    requestAnimationFrame((now) => this.animate(now));
-  }
-
-  // The replay stops at the nearer tick, and robots that are drawn on their way glide to their cells of that tick.
-  pause() {
-    if (!this.playing) return;
-    this.playing = false;
-    if (this.fraction >= 0.5 && this.replay.state.frame < this.replay.last) {
-      this.replay.go();
-      this.fraction -= 1;
-    }
-    this.markPlaying();
-    this.draw();
-    this.announce();
-    this.flash();
-    this.glide(performance.now(), this.fraction);
-  }
-
-  glide(since, from) {
-    if (from === 0) return;
-    const ease = (now) => {
-      if (this.playing || this.fraction === 0) return;
-      const left = Math.max(0, 1 - Math.max(0, now - since) / GLIDE);
-      this.fraction = left > 0 ? from * left : 0;
-      this.view.draw(this.fraction);
-      if (left > 0) requestAnimationFrame(ease);
-    };
-    requestAnimationFrame(ease);
-  }
-
-  // The cells at fault flash for a while, unless the system asks for less motion.
-  flash() {
-    const { replay, view } = this;
-    const { frame } = replay.state;
-    view.pulse = 0;
-    if (!replay.faults.some((fault) => fault.frame === frame) || matchMedia('(prefers-reduced-motion: reduce)').matches) return;
-    const since = performance.now();
-    this.flashing = since;
-    const beat = (now) => {
-      if (this.flashing !== since || this.playing || replay.state.frame !== frame) return;
-      const past = Math.max(0, now - since);
-      view.pulse = past >= FLASH ? 0 : (1 - Math.cos(past / 250 * Math.PI)) / 2;
-      view.draw(this.fraction);
-      if (past < FLASH) requestAnimationFrame(beat);
-    };
-    requestAnimationFrame(beat);
-  }
-
-  markPlaying() {
-    const button = element('play');
-    button.textContent = this.playing ? '\u275a\u275a' : '\u25b6';
-    button.setAttribute('aria-label', this.playing ? 'Pause' : 'Play');
-    document.body.dataset.playing = this.playing;
-  }
-
-  animate(now) {
-    if (!this.playing) return;
-    // a page that was hidden goes on from where it was
-    this.fraction += Math.min(Math.max(0, now - this.then), 500) / 1000 * this.speed;
-    this.then = now;
-    while (this.fraction >= 1 && this.replay.state.frame < this.replay.last) {
-      this.fraction -= 1;
-      this.replay.go();
-    }
-    if (this.replay.state.frame === this.replay.last) {
-      this.fraction = 0;
-      this.pause();
-      return;
-    }
-    this.draw();
-    this.countFrame(now);
-    requestAnimationFrame((next) => this.animate(next));
-  }
-
-  // Frames a second while the replay plays.
-  countFrame(now) {
-    const { counted } = this;
-    counted.frames += 1;
-    if (now - counted.since < 1000) return;
-    document.body.dataset.rate = (counted.frames * 1000 / (now - counted.since)).toFixed(1);
-    counted.frames = 0;
-    counted.since = now;
-  }
-
-  setSpeed(speed) {
-    this.speed = speed;
-    element('speed').textContent = `${speed} tick${speed === 1 ? '' : 's'} a second`;
-    document.body.dataset.speed = speed;
-  }
-
-  changeSpeed(by) {
-    const place = Math.min(Math.max(SPEEDS.indexOf(this.speed) + by, 0), SPEEDS.length - 1);
-    this.setSpeed(SPEEDS[place]);
-    this.say(element('speed').textContent);
-  }
-
   // ---- view
 
-  show(name, on) {
+  setShown(name, on) {
     this.view.shows[name] = on;
     element(`show-${name}`).checked = on;
+  }
+
+  show(name, on) {
+    this.setShown(name, on);
     this.draw();
   }
 
@@ -1735,11 +1877,17 @@ class Page {
     element('follow').checked = on;
   }
 
-  pick(robot) {
+  // Whether there is such a robot; null picks none.
+  setPicked(robot) {
     const known = robot !== null && robot >= 0 && robot < this.replay.robots;
     this.view.picked = known ? robot : null;
     if (!known) this.follow(false);
     element('unpick').hidden = !known;
+    return known;
+  }
+
+  pick(robot) {
+    const known = this.setPicked(robot);
     this.draw();
     if (known) {
       this.table.rows[robot].row.scrollIntoView({ block: 'nearest' });
@@ -1774,67 +1922,6 @@ class Page {
     this.say(text);
   }
 
-  // ---- the address
-
-  // `#t=140` shows the tick at which the clock is 140, `#robot=3` picks a robot, `#zoom=2.5,10,7` shows the map 2.5 times
-  // as large with column 10, row 7 in the middle, and `#heat=1&goals=0&lines=0` says what is drawn.
-  readAddress(hash = location.hash) {
-    const words = new URLSearchParams(hash.slice(1));
-    for (const name of SHOWN) {
-      if (!words.has(name)) continue;
-      this.view.shows[name] = words.get(name) === '1';
-      element(`show-${name}`).checked = this.view.shows[name];
-    }
-    if (/^\d+$/.test(words.get('robot') ?? '')) {
-      const robot = Number(words.get('robot'));
-      this.view.picked = robot < this.replay.robots ? robot : null;
-      element('unpick').hidden = this.view.picked === null;
-    }
-    const [zoom, x, y] = (words.get('zoom') ?? '').split(',').map(Number.parseFloat);
-    if (zoom > 0) {
-      this.view.zoom = zoom;
-      if (x >= 0 && y >= 0) this.view.middle = { x, y };
-    }
-    if (this.colours !== undefined) this.view.place();
-    if (/^\d+$/.test(words.get('t') ?? '')) {
-      this.pause();
-      this.fraction = 0;
-      this.replay.seek(this.replay.frameOf(BigInt(words.get('t'))));
-    }
-    if (this.colours !== undefined) {
-      this.draw();
-      this.flash();
-    }
-  }
-
-  address() {
-    const { view, replay } = this;
-    const words = [`t=${replay.clockAt(replay.state.frame)}`];
-    if (view.picked !== null) words.push(`robot=${view.picked}`);
-    if (view.zoom > 1) words.push(`zoom=${view.zoom.toFixed(2)},${view.middle.x.toFixed(1)},${view.middle.y.toFixed(1)}`);
-    for (const name of SHOWN) if (view.shows[name] !== (name !== 'heat')) words.push(`${name}=${view.shows[name] ? 1 : 0}`);
-    return `#${words.join('&')}`;
-  }
-
-  // The address follows, a few times a second at most: browsers refuse more.
-  writeAddress() {
-    if (this.addressTimer !== undefined) return;
-    this.addressTimer = setTimeout(() => {
-      this.addressTimer = undefined;
-      if (this.address() !== location.hash) history.replaceState(null, '', this.address());
-    }, 300);
-  }
-
-  async copyLink() {
-    history.replaceState(null, '', this.address());
-    try {
-      await navigator.clipboard.writeText(location.href);
-      this.tell('The link is copied.');
-    } catch {
-      this.tell('The browser does not let this page copy; the link is in the address line.');
-    }
-  }
-
   savePicture() {
     element('map').toBlob((picture) => {
       const link = document.createElement('a');
@@ -1862,15 +1949,15 @@ const CLICK = 6;
 function keysOf(page) {
   const toggle = (name) => () => page.show(name, !page.view.shows[name]);
   return {
-    ' ': () => page.toggle(),
-    ArrowRight: (far) => page.step(far),
-    ArrowLeft: (far) => page.step(-far),
-    Home: () => page.jump(0),
-    End: () => page.jump(page.replay.last),
-    n: () => page.stepToEvent(1),
-    b: () => page.stepToEvent(-1),
-    '<': () => page.changeSpeed(-1),
-    '>': () => page.changeSpeed(1),
+    ' ': () => page.player.toggle(),
+    ArrowRight: (far) => page.player.step(far),
+    ArrowLeft: (far) => page.player.step(-far),
+    Home: () => page.player.jump(0),
+    End: () => page.player.jump(page.replay.last),
+    n: () => page.player.stepToEvent(1),
+    b: () => page.player.stepToEvent(-1),
+    '<': () => page.player.changeSpeed(-1),
+    '>': () => page.player.changeSpeed(1),
     '+': () => page.zoomBy(ZOOM),
     '=': () => page.zoomBy(ZOOM),
     '-': () => page.zoomBy(1 / ZOOM),
@@ -1890,7 +1977,7 @@ function keysOf(page) {
     h: toggle('heat'),
     g: toggle('goals'),
     l: toggle('lines'),
-    y: () => page.copyLink(),
+    y: () => page.address.copy(),
     '?': () => element('help').showModal(),
   };
 }
@@ -1902,14 +1989,14 @@ function listenToKeys(page) {
     const key = keys[event.key] ?? keys[event.key.toLowerCase()];
     if (key === undefined) return;
     // a button or a box that has the focus keeps the space bar
-    const own = event.target instanceof Element ? event.target.closest('button, input[type="checkbox"], summary') : null;
+    const own = event.target instanceof Element ? event.target.closest('button, input[type="checkbox"]') : null;
     if (own !== null && event.key === ' ') return;
     event.preventDefault();
     key(event.shiftKey ? 10 : 1);
   });
 }
 
-// After a click on a control the keys are those of the map again. Who comes to a control by the tabulator key stays there.
+// After a click on a control the keys are those of the map again. Who comes to a control by the tabulator key stays.
 function returnFocus() {
   let byPointer = false;
   window.addEventListener('pointerdown', () => { byPointer = true; }, true);
@@ -1923,22 +2010,24 @@ function returnFocus() {
 
 function listenToControls(page) {
   const clicks = {
-    play: () => page.toggle(),
-    back: () => page.step(-1),
-    on: () => page.step(1),
-    slower: () => page.changeSpeed(-1),
-    faster: () => page.changeSpeed(1),
+    play: () => page.player.toggle(),
+    back: () => page.player.step(-1),
+    on: () => page.player.step(1),
+    slower: () => page.player.changeSpeed(-1),
+    faster: () => page.player.changeSpeed(1),
     'zoom-in': () => page.zoomBy(ZOOM),
     'zoom-out': () => page.zoomBy(1 / ZOOM),
     'zoom-fit': () => page.showAll(),
     unpick: () => page.pick(null),
-    'copy-link': () => page.copyLink(),
+    'copy-link': () => page.address.copy(),
     'save-picture': () => page.savePicture(),
     'show-help': () => element('help').showModal(),
   };
   for (const [name, click] of Object.entries(clicks)) element(name).addEventListener('click', click);
-  element('slider').addEventListener('input', (event) => page.jump(Number(event.target.value)));
-  for (const name of SHOWN) element(`show-${name}`).addEventListener('change', (event) => page.show(name, event.target.checked));
+  element('slider').addEventListener('input', (event) => page.player.jump(Number(event.target.value)));
+  for (const name of SHOWN) {
+    element(`show-${name}`).addEventListener('change', (event) => page.show(name, event.target.checked));
+  }
   element('follow').addEventListener('change', (event) => {
     page.follow(event.target.checked);
     page.draw();
@@ -2038,7 +2127,7 @@ function listenToCharts(page) {
   for (const chart of page.charts) {
     const { canvas } = chart;
     const told = canvas.parentElement.querySelector('.told');
-    canvas.addEventListener('click', (event) => page.jump(chart.frameAt(event.clientX)));
+    canvas.addEventListener('click', (event) => page.player.jump(chart.frameAt(event.clientX)));
     canvas.addEventListener('pointermove', (event) => {
       const frame = chart.frameAt(event.clientX);
       told.textContent = `tick ${page.replay.clockAt(frame)}: ${Math.max(0, chart.values[frame])}`;
@@ -2054,8 +2143,8 @@ function listen(page) {
   returnFocus();
   page.pointers = new MapPointers(page);
   window.addEventListener('resize', () => page.repaint());
-  window.addEventListener('hashchange', (event) => page.readAddress(new URL(event.newURL).hash));
-  document.addEventListener('visibilitychange', () => { page.then = performance.now(); });
+  window.addEventListener('hashchange', (event) => page.address.read(new URL(event.newURL).hash));
+  document.addEventListener('visibilitychange', () => { page.player.then = performance.now(); });
   matchMedia('(prefers-color-scheme: dark)').addEventListener('change', () => page.repaint());
 }
 

@@ -5,9 +5,13 @@ pub(crate) const SVG_BEGIN: &str =
 
 pub(crate) const SVG_SIZE: &str = "\" width=\"";
 
+/// The colours of the page, light and dark, then the floor with a line round each cell.
 pub(crate) const SVG_STYLE: &str =
-    "\">\n<style>.floor{fill:#ffffff}.wall{fill:#b9c2cf}text{fill:#ffffff;font:600 7px system-ui,sans-serif;text-anchor:middle}\
-    @media(prefers-color-scheme:dark){.floor{fill:#1b222c}.wall{fill:#3c4757}}</style>\n<rect class=\"floor\" width=\"100%\" height=\"100%\"/>\n";
+    "\">\n<style>.floor{fill:#ffffff}.wall{fill:#6b7789}.grid{fill:none;stroke:#e6eaf0}.edge{fill:none;stroke:#6b7789;stroke-width:2}.bar{fill:#2563eb}\
+    text{fill:#ffffff;stroke:#000000;stroke-opacity:.6;stroke-width:1.4px;paint-order:stroke;font:600 7px system-ui,sans-serif;text-anchor:middle}\
+    @media(prefers-color-scheme:dark){.floor{fill:#1b222c}.wall{fill:#68758a}.grid{stroke:#262f3b}.edge{stroke:#68758a}.bar{fill:#7aa7ff}}</style>\n\
+    <pattern id=\"cell\" width=\"16\" height=\"16\" patternUnits=\"userSpaceOnUse\"><path class=\"grid\" d=\"M16 0v16h-16\"/></pattern>\n\
+    <rect class=\"floor\" width=\"100%\" height=\"100%\"/>\n<rect fill=\"url(#cell)\" width=\"100%\" height=\"100%\"/>\n";
 
 pub(crate) const WALLS: &str = "<path class=\"wall\" d=\"";
 
@@ -30,8 +34,14 @@ pub(crate) const STILL_END: &str = ")\">";
 
 pub(crate) const DISC: &str = "<circle cx=\"8\" cy=\"8\" r=\"6.4\" fill=\"hsl(";
 
-pub(crate) const NUMBER: &str = " 62% 46%)\"/><text x=\"8\" y=\"10.6\">";
+pub(crate) const NUMBER: &str = "e-3 62% 46%)\"/><text x=\"8\" y=\"10.6\">";
 
 pub(crate) const SHAPE_END: &str = "</text></g>\n";
 
-pub(crate) const SVG_END: &str = "</svg>\n";
+/// The beginning of the bar at the lower edge, which grows from tick to tick.
+pub(crate) const BAR: &str =
+    "<rect class=\"bar\" y=\"100%\" width=\"0\" height=\"4\" transform=\"translate(0 -4)\"><animate attributeName=\"width\" values=\"0;100%\" dur=\"";
+
+pub(crate) const BAR_END: &str = "00ms\" repeatCount=\"indefinite\"/></rect>\n";
+
+pub(crate) const SVG_END: &str = "<rect class=\"edge\" width=\"100%\" height=\"100%\"/>\n</svg>\n";

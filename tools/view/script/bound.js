@@ -1,9 +1,9 @@
 // ---- the bound on waits
 
-// On a map without bridges no wait of a legal history reaches the number of robots times the greatest distance, if each
-// tick advances (the eldest robot comes nearer to its goal, or is on it and stays) and the waits at the opening leave room
-// for that. All of this is looked at before a bound is shown. The search works in slices, so that the page does not stand
-// still: each of these is a generator, which returns its result and yields in between.
+// On a map without bridges no wait of a legal history reaches the number of robots times the greatest distance, if
+// each tick advances (the eldest robot comes nearer to its goal, or is on it and stays) and the waits at the opening
+// leave room for that. All of this is looked at before a bound is shown. The search works in slices, so that the page
+// does not stand still: each of these is a generator, which returns its result and yields in between.
 
 const MOST_CELLS = 6000;
 const MOST_VISITS = 4e8;
@@ -34,7 +34,8 @@ function* firstIdleTick(replay, distances, floorCount) {
     distances.from(goal);
     for (const frame of frames) {
       const [from, to] = [replay.eldestFrom[frame], replay.eldestTo[frame]];
-      const advances = (from === goal && to === goal) || (distances.of(from) > 0 && distances.of(to) === distances.of(from) - 1);
+      const far = distances.of(from);
+      const advances = far === 0 ? to === goal : far > 0 && distances.of(to) === far - 1;
       if (!advances && (first === 0 || frame < first)) first = frame;
     }
     yield;
@@ -53,10 +54,13 @@ function leavesRoom(opening, far, distances) {
   if (waits.every((wait) => wait === null || wait === 0)) return true;
   if (far === null) return false;
   let eldest = -1;
-  waits.forEach((wait, robot) => { if (wait !== null && (eldest < 0 || wait > waits[eldest])) eldest = robot; });
+  waits.forEach((wait, robot) => {
+    if (wait !== null && (eldest < 0 || wait > waits[eldest])) eldest = robot;
+  });
   distances.from(goals[eldest]);
   const way = Math.max(1, distances.of(cells[eldest]));
-  return waits.every((wait, robot) => wait === null || wait + way + countBefore(waits, robot) * far <= waits.length * far);
+  const most = waits.length * far;
+  return waits.every((wait, robot) => wait === null || wait + way + countBefore(waits, robot) * far <= most);
 }
 
 // The bound, or null, and why in words.
@@ -69,12 +73,17 @@ function* findBound(map, replay) {
   const floorCount = countFloor(map);
   const idle = yield* firstIdleTick(replay, distances, floorCount);
   if (idle < 0) return none('it would take too long to find out whether each tick advances');
-  if (idle > 0) return none(`in tick ${replay.clockAt(idle)} the robot that had waited longest came no nearer to its goal`);
+  if (idle > 0) {
+    return none(`in tick ${replay.clockAt(idle)} the robot that had waited longest came no nearer to its goal`);
+  }
   const small = floorCount <= MOST_CELLS;
   const far = small ? yield* greatestDistance(map, distances) : null;
-  if (!replay.openings.every((opening) => leavesRoom(opening, far, distances))) return none('robots had waited too long when it began');
+  if (!replay.openings.every((opening) => leavesRoom(opening, far, distances))) {
+    return none('robots had waited too long when it began');
+  }
   const factor = small ? far : Math.max(1, floorCount - 1);
   const bound = replay.robots * factor;
   const kind = small ? `the greatest distance, ${far}` : `the floor cells less one, ${factor}`;
-  return { bound, text: `Every wait is below ${bound}: that is ${replay.robots} robots times ${kind}. The map has no bridge, and each tick advances.` };
+  const sum = `that is ${replay.robots} robots times ${kind}`;
+  return { bound, text: `Every wait is below ${bound}: ${sum}. The map has no bridge, and each tick advances.` };
 }

@@ -29,6 +29,9 @@ function digitsOn(luminance) {
   return contrastOf(1, luminance) >= contrastOf(0, luminance) ? '#ffffff' : '#000000';
 }
 
+const COLOURS = [
+  'page', 'card', 'ink', 'soft', 'line', 'floor', 'wall', 'shelf', 'grid', 'idle', 'accent', 'mark', 'fault', 'heat',
+];
 const SATURATION = 0.62;
 const LEAST_CONTRAST = 3;
 
@@ -48,7 +51,7 @@ function robotColour(robot, floor) {
 function readColours(robots) {
   const style = getComputedStyle(document.documentElement);
   const colours = {};
-  for (const name of ['page', 'card', 'ink', 'soft', 'line', 'floor', 'wall', 'shelf', 'grid', 'idle', 'accent', 'mark', 'fault', 'heat']) {
+  for (const name of COLOURS) {
     colours[name] = style.getPropertyValue(`--${name}`).trim();
   }
   const floor = luminanceOfHex(colours.floor);

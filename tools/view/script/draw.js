@@ -1,15 +1,11 @@
 // ---- the map on its canvas
 
-// a cell is at most so many pixels wide, but even a small map may be zoomed so far
-const MOST_CELL = 120;
-const LEAST_MOST_ZOOM = 4;
 const LEAST_NUMBERED = 9;
 const PATH_FRAMES = 30;
 
-class MapView {
+class MapView extends MapPlace {
   constructor(canvas, replay) {
-    const { height, width } = replay.map;
-    this.canvas = canvas;
+    super(canvas, replay.map);
     this.pen = canvas.getContext('2d');
     this.replay = replay;
     this.shows = { heat: false, goals: true, lines: true };
@@ -17,9 +13,6 @@ class MapView {
     this.follows = false;
     this.faults = [];
     this.pulse = 0;
-    // the zoom, 1 where the whole map is shown, and the place of the map that is in the middle, in cells
-    this.zoom = 1;
-    this.middle = { x: width / 2, y: height / 2 };
     this.other = new Int32Array(replay.robots);
     this.xs = new Float64Array(replay.robots);
     this.ys = new Float64Array(replay.robots);
@@ -47,75 +40,6 @@ class MapView {
       pen.fillRect(cell % width, Math.floor(cell / width), 1, 1);
     }
   }
-
-  // Zoom and middle stay.
-  resize() {
-    const { height, width } = this.replay.map;
-    const room = this.canvas.clientWidth;
-    const high = Math.max(160, Math.min(room * height / width, window.innerHeight * 0.78));
-    this.ratio = window.devicePixelRatio || 1;
-    this.canvas.style.height = `${high}px`;
-    this.canvas.width = Math.round(room * this.ratio);
-    this.canvas.height = Math.round(high * this.ratio);
-    this.fitScale = Math.min(this.canvas.width / width, this.canvas.height / height);
-    this.place();
-  }
-
-  // Where the map lies on the canvas. It cannot leave it: a side that is shown whole is centred.
-  place() {
-    const { height, width } = this.replay.map;
-    const { canvas, middle } = this;
-    this.zoom = this.zoomWithin(this.zoom);
-    const scale = this.fitScale * this.zoom;
-    const within = (place, side, room) => {
-      const half = room / scale / 2;
-      return half >= side / 2 ? side / 2 : Math.min(Math.max(place, half), side - half);
-    };
-    middle.x = within(middle.x, width, canvas.width);
-    middle.y = within(middle.y, height, canvas.height);
-    this.view = { scale, left: canvas.width / 2 - middle.x * scale, top: canvas.height / 2 - middle.y * scale };
-    // one finger scrolls the page while the whole map is shown, and moves the map when it is zoomed
-    canvas.style.touchAction = this.zoom > 1 ? 'none' : 'pan-x pan-y';
-  }
-
-  zoomWithin(zoom) {
-    return Math.min(Math.max(zoom, 1), Math.max(LEAST_MOST_ZOOM, MOST_CELL * this.ratio / this.fitScale));
-  }
-
-  fit() {
-    this.zoom = 1;
-    this.place();
-  }
-
-  // The point x, y of the canvas stays where it is.
-  zoomAt(factor, x, y) {
-    const { view } = this;
-    const [column, row] = [(x - view.left) / view.scale, (y - view.top) / view.scale];
-    this.zoom = this.zoomWithin(this.zoom * factor);
-    const scale = this.fitScale * this.zoom;
-    this.middle.x = column + (this.canvas.width / 2 - x) / scale;
-    this.middle.y = row + (this.canvas.height / 2 - y) / scale;
-    this.place();
-  }
-
-  drag(x, y) {
-    this.middle.x -= x / this.view.scale;
-    this.middle.y -= y / this.view.scale;
-    this.place();
-  }
-
-  // Moves the view by parts of what is shown.
-  pan(right, down) {
-    this.drag(-right * this.canvas.width, -down * this.canvas.height);
-  }
-
-  cellAt(x, y) {
-    const { height, width } = this.replay.map;
-    const column = Math.floor((x - this.view.left) / this.view.scale);
-    const row = Math.floor((y - this.view.top) / this.view.scale);
-    return column >= 0 && column < width && row >= 0 && row < height ? row * width + column : -1;
-  }
-
   // The robot that is drawn nearest to a point of the canvas, if one is near.
   robotAt(x, y) {
     let best = null;
@@ -126,20 +50,6 @@ class MapView {
     }
     return best;
   }
-
-  centre(cell) {
-    const { width } = this.replay.map;
-    this.middle = { x: cell % width + 0.5, y: Math.floor(cell / width) + 0.5 };
-    this.place();
-  }
-
-  // The middle of a cell on the canvas.
-  pointOf(cell) {
-    const { width } = this.replay.map;
-    const { view } = this;
-    return [view.left + (cell % width + 0.5) * view.scale, view.top + (Math.floor(cell / width) + 0.5) * view.scale];
-  }
-
   // The cells between which robots are drawn: those of this frame and of the next one, or of the one before where the
   // fraction is negative.
   placeRobots(fraction) {
@@ -166,7 +76,8 @@ class MapView {
   centreBetween(cell, other, part) {
     const { width } = this.replay.map;
     const between = (a, b) => a + (b - a) * part + 0.5;
-    this.middle = { x: between(cell % width, other % width), y: between(Math.floor(cell / width), Math.floor(other / width)) };
+    const [row, otherRow] = [Math.floor(cell / width), Math.floor(other / width)];
+    this.middle = { x: between(cell % width, other % width), y: between(row, otherRow) };
     this.place();
   }
 
@@ -199,7 +110,7 @@ class MapView {
     return this.picked === null || this.picked === robot ? 1 : 0.25;
   }
 
-  // How often robots came to each cell, one pixel a cell. From one frame to the next only the cells that were come to change.
+  // How often robots came to each cell, one pixel a cell. From frame to frame only cells to which one came change.
   paintHeat() {
     const { replay } = this;
     const { frame, heat, cells } = replay.state;
@@ -208,7 +119,8 @@ class MapView {
       pixels[cell] = this.shades[Math.ceil(255 * Math.sqrt(Math.min(1, heat[cell] / replay.mostHeat)))];
     };
     if (this.heatFrame === frame - 1) {
-      for (let at = replay.moveStart[frame]; at < replay.moveStart[frame + 1]; at += 1) shade(cells[replay.moveRobot[at]]);
+      const end = replay.moveStart[frame + 1];
+      for (let at = replay.moveStart[frame]; at < end; at += 1) shade(cells[replay.moveRobot[at]]);
     } else {
       for (let cell = 0; cell < heat.length; cell += 1) shade(cell);
     }
@@ -219,7 +131,8 @@ class MapView {
   drawHeat() {
     const { pen, view, replay } = this;
     if (this.heatFrame !== replay.state.frame) this.paintHeat();
-    pen.drawImage(this.heatCanvas, view.left, view.top, replay.map.width * view.scale, replay.map.height * view.scale);
+    const { height, width } = replay.map;
+    pen.drawImage(this.heatCanvas, view.left, view.top, width * view.scale, height * view.scale);
   }
 
   drawGrid() {

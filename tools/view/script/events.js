@@ -1,6 +1,9 @@
 // ---- texts next to the map
 
-const REFUSALS = ['', 'client-closed', 'no-robot', 'robot-shut', 'no-cell', 'blocked', 'unreachable', 'queue-full', 'life-spent', 'no-errand', 'too-late'];
+const REFUSALS = [
+  '', 'client-closed', 'no-robot', 'robot-shut', 'no-cell', 'blocked', 'unreachable', 'queue-full', 'life-spent',
+  'no-errand', 'too-late',
+];
 const MOST_ENTRIES = 200;
 
 function cellName(map, cell) {
@@ -29,7 +32,10 @@ function noteOf(map, entry) {
       return `robot ${robot} arrives at ${where}: errand ${number} of client ${client}, stamp ${stamp}`;
     }
     case 'farewell': return `robot ${entry[1]} takes its farewell with stamp ${entry[2]}`;
-    case 'shut': return `robot ${entry[1]} is shut${entry.length > 2 ? `, and takes its farewell with stamp ${entry[2]}` : ''}`;
+    case 'shut': {
+      const farewell = entry.length > 2 ? `, and takes its farewell with stamp ${entry[2]}` : '';
+      return `robot ${entry[1]} is shut${farewell}`;
+    }
     case 'reopened': return `robot ${entry[1]} has another queue, wait or state than at the end of the chapter before`;
     default: return `chapter ${entry[1]} begins`;
   }
@@ -82,7 +88,8 @@ class RobotTable {
       name.append(button);
       row.append(name);
       body.append(row);
-      return { row, dot, button, cells: Array.from({ length: 5 }, () => textCell(row)), shown: [] };
+      const cells = Array.from({ length: 5 }, () => textCell(row));
+      return { row, dot, button, cells, shown: [] };
     });
   }
 
@@ -95,13 +102,15 @@ class RobotTable {
       const queue = queues[robot];
       const idle = queue.length === 0;
       const wait = replay.waitOf(robot);
-      const texts = [cells[robot], idle ? '\u2013' : queue[0].cell, queue.length, wait === null ? '\u2013' : wait, stateText(shut[robot], idle)];
+      const goal = idle ? '\u2013' : queue[0].cell;
+      const texts = [cells[robot], goal, queue.length, wait ?? '\u2013', stateText(shut[robot], idle)];
       texts.forEach((text, place) => {
         if (shown[place] === text) return;
         shown[place] = text;
         places[place].textContent = text;
       });
-      const marks = [idle ? colours.idle : colours.robots[robot].fill, replay.eldest[frame] === robot, picked === robot];
+      const colour = idle ? colours.idle : colours.robots[robot].fill;
+      const marks = [colour, replay.eldest[frame] === robot, picked === robot];
       if (shown[5] !== marks[0]) dot.style.background = marks[0];
       if (shown[6] !== marks[1]) row.classList.toggle('eldest', marks[1]);
       if (shown[7] !== marks[2]) {
@@ -113,13 +122,16 @@ class RobotTable {
   }
 }
 
+const MOST_ERRANDS = 20;
+
 // What is said of the picked robot.
 function robotText(replay, robot) {
   const queue = replay.state.queues[robot];
   const wait = replay.waitOf(robot);
+  const place = `Robot ${robot} is on cell ${cellName(replay.map, replay.state.cells[robot])}.`;
+  if (queue.length === 0) return `${place} ${replay.state.shut[robot] ? 'It is shut, and done.' : 'It is idle.'}`;
   const errands = queue.map((errand) => `${errand.cell} (client ${errand.client}, errand ${errand.number})`);
-  const words = [`Robot ${robot} is on cell ${cellName(replay.map, replay.state.cells[robot])}.`];
-  if (errands.length === 0) words.push(replay.state.shut[robot] ? 'It is shut, and done.' : 'It is idle.');
-  else words.push(`It has waited ${wait} tick${wait === 1 ? '' : 's'}, and is sent to ${errands.length === 1 ? 'cell' : 'cells'} ${errands.slice(0, 20).join(', then ')}${errands.length > 20 ? `, and ${errands.length - 20} more` : ''}.`);
-  return words.join(' ');
+  const more = queue.length > MOST_ERRANDS ? `, and ${queue.length - MOST_ERRANDS} more` : '';
+  const cells = `${queue.length === 1 ? 'cell' : 'cells'} ${errands.slice(0, MOST_ERRANDS).join(', then ')}${more}`;
+  return `${place} It has waited ${wait} tick${wait === 1 ? '' : 's'}, and is sent to ${cells}.`;
 }

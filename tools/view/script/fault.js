@@ -3,9 +3,15 @@
 // The rule and the entry are the judge's, which the page carries. Which robots and cells are at fault is found here.
 
 const RULES = [
-  '', 'the opening is not in order', 'there is no such client', 'the verdict is not the one that is due',
-  'the step is not free of conflicts', 'the arrivals are not those that are due', 'the farewells are not those that are due',
-  'a stamp is outside of its law', 'there is no such robot, or it is shut already',
+  '',
+  'the opening is not in order',
+  'there is no such client',
+  'the verdict is not the one that is due',
+  'the step is not free of conflicts',
+  'the arrivals are not those that are due',
+  'the farewells are not those that are due',
+  'a stamp is outside of its law',
+  'there is no such robot, or it is shut already',
 ];
 
 const NO_DETAIL = { detail: '', robots: [], cells: [] };
@@ -15,7 +21,9 @@ function detailOfPlaces(map, cells) {
   const first = new Map();
   for (let robot = 0; robot < cells.length; robot += 1) {
     const cell = cells[robot];
-    if (!map.floor[cell]) return { detail: `robot ${robot} is on cell ${cell}, which is no floor`, robots: [robot], cells: [cell] };
+    if (!map.floor[cell]) {
+      return { detail: `robot ${robot} is on cell ${cell}, which is no floor`, robots: [robot], cells: [cell] };
+    }
     if (first.has(cell)) {
       const other = first.get(cell);
       return { detail: `robots ${other} and ${robot} are on cell ${cell}`, robots: [other, robot], cells: [cell] };
@@ -39,10 +47,15 @@ function detailOfStep(map, from, to) {
     const [old, cell] = [from[robot], to[robot]];
     let near = old === cell;
     eachNeighbour(map, old, (other) => { near = near || other === cell; });
-    if (!near) return { detail: `robot ${robot} goes from cell ${old} to cell ${cell}, which is no neighbour`, robots: [robot], cells: [old, cell] };
+    const cells = [old, cell];
+    if (!near) {
+      const detail = `robot ${robot} goes from cell ${old} to cell ${cell}, which is no neighbour`;
+      return { detail, robots: [robot], cells };
+    }
     const other = at.get(cell);
     if (other !== undefined && other !== robot && to[other] === old) {
-      return { detail: `robots ${robot} and ${other} exchange the cells ${old} and ${cell}`, robots: [robot, other], cells: [old, cell] };
+      const detail = `robots ${robot} and ${other} exchange the cells ${old} and ${cell}`;
+      return { detail, robots: [robot, other], cells };
     }
   }
   return NO_DETAIL;
@@ -50,8 +63,15 @@ function detailOfStep(map, from, to) {
 
 // The first robot of which one list tells and the other does not.
 function firstOdd(due, shown, to, missing, extra) {
-  for (const robot of due) if (!shown.includes(robot)) return { detail: `robot ${robot} ${missing}`, robots: [robot], cells: [to[robot]] };
-  for (const robot of shown) if (!due.includes(robot)) return { detail: `robot ${robot} ${extra}`, robots: [robot], cells: [to[robot]].filter((cell) => cell !== undefined) };
+  const one = (robot, what) => ({
+    detail: `robot ${robot} ${what}`,
+    robots: [robot],
+    cells: robot < to.length ? [to[robot]] : [],
+  });
+  const missed = due.find((robot) => !shown.includes(robot));
+  if (missed !== undefined) return one(missed, missing);
+  const wrong = shown.find((robot) => !due.includes(robot));
+  if (wrong !== undefined) return one(wrong, extra);
   return { detail: '', robots: due, cells: due.map((robot) => to[robot]) };
 }
 
@@ -60,10 +80,14 @@ function detailOfTick(replay, trace, entry, rule) {
   const [, to, arrived, farewells] = entry;
   if (rule === 4) return detailOfStep(replay.map, cells, to);
   const due = [...to.keys()].filter((robot) => queues[robot].length > 0 && queues[robot][0].cell === to[robot]);
-  if (rule === 5) return firstOdd(due, arrived.map((arrival) => arrival[0]), to, 'arrives there, which is not told', 'has no errand to that cell first');
+  if (rule === 5) {
+    const shown = arrived.map((arrival) => arrival[0]);
+    return firstOdd(due, shown, to, 'arrives there, which is not told', 'has no errand to that cell first');
+  }
   if (rule === 6) {
     const leaving = due.filter((robot) => shut[robot] && queues[robot].length === 1);
-    return firstOdd(leaving, farewells.map((farewell) => farewell[0]), to, 'is shut and done, and has no farewell', 'has a farewell that is not due');
+    const shown = farewells.map((farewell) => farewell[0]);
+    return firstOdd(leaving, shown, to, 'is shut and done, and has no farewell', 'has a farewell that is not due');
   }
   const laws = trace.opening.robots;
   const outside = (law, stamp) => stamp < law[0] || stamp > law[1];
@@ -71,7 +95,8 @@ function detailOfTick(replay, trace, entry, rule) {
     ...arrived.filter((arrival) => outside(laws[arrival[0]][4], arrival[3])).map((arrival) => arrival[0]),
     ...farewells.filter((farewell) => outside(laws[farewell[0]][5], farewell[1])).map((farewell) => farewell[0]),
   ];
-  return { detail: odd.length > 0 ? `it is that of robot ${odd[0]}` : '', robots: odd, cells: odd.map((robot) => to[robot]) };
+  const detail = odd.length > 0 ? `it is that of robot ${odd[0]}` : '';
+  return { detail, robots: odd, cells: odd.map((robot) => to[robot]) };
 }
 
 // The entry follows what the replay's state is.

@@ -58,7 +58,8 @@ class Distances {
   }
 }
 
-// Whether some edge of the floor lies on no round: a search in depth with the lowest place that each cell's branch reaches.
+// Whether some edge of the floor lies on no round: a search in depth with the lowest place that each cell's branch
+// reaches.
 function hasBridge(map) {
   const { width, floor } = map;
   const size = floor.length;

@@ -8,15 +8,15 @@ const CLICK = 6;
 function keysOf(page) {
   const toggle = (name) => () => page.show(name, !page.view.shows[name]);
   return {
-    ' ': () => page.toggle(),
-    ArrowRight: (far) => page.step(far),
-    ArrowLeft: (far) => page.step(-far),
-    Home: () => page.jump(0),
-    End: () => page.jump(page.replay.last),
-    n: () => page.stepToEvent(1),
-    b: () => page.stepToEvent(-1),
-    '<': () => page.changeSpeed(-1),
-    '>': () => page.changeSpeed(1),
+    ' ': () => page.player.toggle(),
+    ArrowRight: (far) => page.player.step(far),
+    ArrowLeft: (far) => page.player.step(-far),
+    Home: () => page.player.jump(0),
+    End: () => page.player.jump(page.replay.last),
+    n: () => page.player.stepToEvent(1),
+    b: () => page.player.stepToEvent(-1),
+    '<': () => page.player.changeSpeed(-1),
+    '>': () => page.player.changeSpeed(1),
     '+': () => page.zoomBy(ZOOM),
     '=': () => page.zoomBy(ZOOM),
     '-': () => page.zoomBy(1 / ZOOM),
@@ -36,7 +36,7 @@ function keysOf(page) {
     h: toggle('heat'),
     g: toggle('goals'),
     l: toggle('lines'),
-    y: () => page.copyLink(),
+    y: () => page.address.copy(),
     '?': () => element('help').showModal(),
   };
 }
@@ -48,14 +48,14 @@ function listenToKeys(page) {
     const key = keys[event.key] ?? keys[event.key.toLowerCase()];
     if (key === undefined) return;
     // a button or a box that has the focus keeps the space bar
-    const own = event.target instanceof Element ? event.target.closest('button, input[type="checkbox"], summary') : null;
+    const own = event.target instanceof Element ? event.target.closest('button, input[type="checkbox"]') : null;
     if (own !== null && event.key === ' ') return;
     event.preventDefault();
     key(event.shiftKey ? 10 : 1);
   });
 }
 
-// After a click on a control the keys are those of the map again. Who comes to a control by the tabulator key stays there.
+// After a click on a control the keys are those of the map again. Who comes to a control by the tabulator key stays.
 function returnFocus() {
   let byPointer = false;
   window.addEventListener('pointerdown', () => { byPointer = true; }, true);
@@ -69,22 +69,24 @@ function returnFocus() {
 
 function listenToControls(page) {
   const clicks = {
-    play: () => page.toggle(),
-    back: () => page.step(-1),
-    on: () => page.step(1),
-    slower: () => page.changeSpeed(-1),
-    faster: () => page.changeSpeed(1),
+    play: () => page.player.toggle(),
+    back: () => page.player.step(-1),
+    on: () => page.player.step(1),
+    slower: () => page.player.changeSpeed(-1),
+    faster: () => page.player.changeSpeed(1),
     'zoom-in': () => page.zoomBy(ZOOM),
     'zoom-out': () => page.zoomBy(1 / ZOOM),
     'zoom-fit': () => page.showAll(),
     unpick: () => page.pick(null),
-    'copy-link': () => page.copyLink(),
+    'copy-link': () => page.address.copy(),
     'save-picture': () => page.savePicture(),
     'show-help': () => element('help').showModal(),
   };
   for (const [name, click] of Object.entries(clicks)) element(name).addEventListener('click', click);
-  element('slider').addEventListener('input', (event) => page.jump(Number(event.target.value)));
-  for (const name of SHOWN) element(`show-${name}`).addEventListener('change', (event) => page.show(name, event.target.checked));
+  element('slider').addEventListener('input', (event) => page.player.jump(Number(event.target.value)));
+  for (const name of SHOWN) {
+    element(`show-${name}`).addEventListener('change', (event) => page.show(name, event.target.checked));
+  }
   element('follow').addEventListener('change', (event) => {
     page.follow(event.target.checked);
     page.draw();
@@ -184,7 +186,7 @@ function listenToCharts(page) {
   for (const chart of page.charts) {
     const { canvas } = chart;
     const told = canvas.parentElement.querySelector('.told');
-    canvas.addEventListener('click', (event) => page.jump(chart.frameAt(event.clientX)));
+    canvas.addEventListener('click', (event) => page.player.jump(chart.frameAt(event.clientX)));
     canvas.addEventListener('pointermove', (event) => {
       const frame = chart.frameAt(event.clientX);
       told.textContent = `tick ${page.replay.clockAt(frame)}: ${Math.max(0, chart.values[frame])}`;
@@ -200,7 +202,7 @@ function listen(page) {
   returnFocus();
   page.pointers = new MapPointers(page);
   window.addEventListener('resize', () => page.repaint());
-  window.addEventListener('hashchange', (event) => page.readAddress(new URL(event.newURL).hash));
-  document.addEventListener('visibilitychange', () => { page.then = performance.now(); });
+  window.addEventListener('hashchange', (event) => page.address.read(new URL(event.newURL).hash));
+  document.addEventListener('visibilitychange', () => { page.player.then = performance.now(); });
   matchMedia('(prefers-color-scheme: dark)').addEventListener('change', () => page.repaint());
 }

@@ -1,9 +1,5 @@
 // ---- what the page shows
 
-const SPEEDS = [1, 2, 4, 8, 16, 30, 60, 120];
-const SHOWN = ['heat', 'goals', 'lines'];
-const GLIDE = 140;
-const FLASH = 3000;
 const MOST_BANNERS = 5;
 
 function element(name) {
@@ -14,10 +10,9 @@ class Page {
   constructor(map, replay) {
     this.map = map;
     this.replay = replay;
-    this.playing = false;
-    this.fraction = 0;
-    this.speed = 8;
     this.hovered = null;
+    this.player = new Player(this);
+    this.address = new Address(this);
     this.view = new MapView(element('map'), replay);
     this.view.faults = replay.faults;
     this.waitChart = new Chart(element('wait-chart'), replay.wait, 'longest wait');
@@ -30,16 +25,18 @@ class Page {
     element('slider').max = String(replay.last);
     this.describe();
     this.showVerdict();
-    this.setSpeed(this.speed);
-    this.readAddress();
+    this.player.setSpeed(8);
     this.repaint();
+    this.address.read();
   }
 
   describe() {
     const { map, replay } = this;
     const { chapters } = replay;
-    const named = chapters.length > 1 ? `chapters ${chapters[0].number} to ${chapters[chapters.length - 1].number}` : `chapter ${chapters[0].number}`;
-    const text = `${map.width} \u00d7 ${map.height} cells \u00b7 ${replay.robots} robots \u00b7 ${named} \u00b7 ${replay.last} ticks`;
+    const [first, last] = [chapters[0].number, chapters[chapters.length - 1].number];
+    const named = first === last ? `chapter ${first}` : `chapters ${first} to ${last}`;
+    const sizes = [`${map.width} \u00d7 ${map.height} cells`, `${replay.robots} robots`, named, `${replay.last} ticks`];
+    const text = sizes.join(' \u00b7 ');
     element('summary').textContent = text;
     document.title = `Fleet: ${text}`;
     for (const chart of this.charts) chart.ends = [`tick ${replay.clockAt(0)}`, `tick ${replay.clockAt(replay.last)}`];
@@ -60,7 +57,7 @@ class Page {
       button.type = 'button';
       button.className = 'jump';
       button.textContent = `Show tick ${this.replay.clockAt(fault.frame)}`;
-      button.addEventListener('click', () => this.jump(fault.frame));
+      button.addEventListener('click', () => this.player.jump(fault.frame));
       const of = this.replay.chapters.length > 1 ? `Chapter ${fault.chapter} is ` : 'This trace is ';
       line.append(`${of}${faultText(fault)}. `, button);
       return line;
@@ -85,7 +82,7 @@ class Page {
   }
 
   draw() {
-    this.view.draw(this.fraction);
+    this.view.draw(this.player.fraction);
     this.drawTexts();
   }
 
@@ -93,7 +90,7 @@ class Page {
   drawTexts() {
     const { replay } = this;
     const { frame } = replay.state;
-    if (this.drawnFrame === frame && this.playing) return;
+    if (this.drawnFrame === frame && this.player.playing) return;
     this.drawnFrame = frame;
     for (const chart of this.charts) chart.draw(frame);
     element('slider').value = String(frame);
@@ -106,14 +103,14 @@ class Page {
     element('eldest').textContent = replay.eldest[frame] < 0 ? '\u2013' : replay.eldest[frame];
     this.tellHovered();
     const now = performance.now();
-    if (!this.playing || !(now - this.listed < 200)) {
+    if (!this.player.playing || !(now - this.listed < 200)) {
       this.listed = now;
       this.table.draw(this.colours, this.view.picked);
       showEntries(element('entries'), replay);
       element('picked').textContent = this.view.picked === null ? '' : robotText(replay, this.view.picked);
     }
     this.publish();
-    this.writeAddress();
+    this.address.follow();
   }
 
   // What the page shows, for tests and other tools.
@@ -133,11 +130,11 @@ class Page {
     dataset.queues = queues.map((queue) => queue.length).join(' ');
     dataset.shut = shut.join(' ');
     dataset.arrived = replay.arrivedAt(frame).join(' ');
-    dataset.playing = this.playing;
+    dataset.playing = this.player.playing;
     dataset.robot = this.view.picked ?? 'none';
     dataset.zoom = this.view.zoom.toFixed(2);
     dataset.middle = `${this.view.middle.x.toFixed(2)} ${this.view.middle.y.toFixed(2)}`;
-    if (!this.playing) {
+    if (!this.player.playing) {
       dataset.waits = queues.map((_, robot) => replay.waitOf(robot) ?? '-').join(' ');
       dataset.heat = replay.state.heat.reduce((sum, count) => sum + count, 0);
     }
@@ -164,40 +161,12 @@ class Page {
     this.waitChart.draw(this.replay.state.frame);
   }
 
-  // ---- time
-
-  seek(frame) {
-    this.fraction = 0;
-    this.replay.seek(Math.min(Math.max(frame, 0), this.replay.last));
-    this.draw();
-    if (!this.playing) {
-      this.announce();
-      this.flash();
-    }
-  }
-
-  jump(frame) {
-    this.pause();
-    this.seek(frame);
-  }
-
-  step(by) {
-    this.jump(this.replay.state.frame + by);
-  }
-
-  // The next or the previous frame at which something arrives, is refused or is shut.
-  stepToEvent(direction) {
-    const telling = (event) => event.kind !== 'join' && event.kind !== 'withdraw';
-    let frame = this.replay.state.frame + direction;
-    while (frame > 0 && frame < this.replay.last && !(this.replay.events[frame] ?? []).some(telling)) frame += direction;
-    this.jump(frame);
-  }
-
   announce() {
     const { replay } = this;
     const { frame } = replay.state;
     const fault = replay.faults.find((one) => one.frame === frame);
-    const said = `tick ${replay.clockAt(frame)}, ${replay.arrivals[frame]} arrivals, ${replay.unfinished[frame]} unfinished`;
+    const [arrivals, unfinished] = [replay.arrivals[frame], replay.unfinished[frame]];
+    const said = `tick ${replay.clockAt(frame)}, ${arrivals} arrivals, ${unfinished} unfinished`;
     this.say(fault === undefined ? said : `${said}; ${faultText(fault)}`);
   }
 
@@ -205,119 +174,15 @@ class Page {
     element('announce').textContent = text;
   }
 
-  toggle() {
-    if (this.playing) this.pause();
-    else this.play();
-  }
-
-  play() {
-    if (this.replay.state.frame === this.replay.last) this.replay.seek(0);
-    this.playing = true;
-    this.fraction = 0;
-    this.counted = { frames: 0, since: performance.now() };
-    this.then = performance.now();
-    this.markPlaying();
-    requestAnimationFrame((now) => this.animate(now));
-  }
-
-  // The replay stops at the nearer tick, and robots that are drawn on their way glide to their cells of that tick.
-  pause() {
-    if (!this.playing) return;
-    this.playing = false;
-    if (this.fraction >= 0.5 && this.replay.state.frame < this.replay.last) {
-      this.replay.go();
-      this.fraction -= 1;
-    }
-    this.markPlaying();
-    this.draw();
-    this.announce();
-    this.flash();
-    this.glide(performance.now(), this.fraction);
-  }
-
-  glide(since, from) {
-    if (from === 0) return;
-    const ease = (now) => {
-      if (this.playing || this.fraction === 0) return;
-      const left = Math.max(0, 1 - Math.max(0, now - since) / GLIDE);
-      this.fraction = left > 0 ? from * left : 0;
-      this.view.draw(this.fraction);
-      if (left > 0) requestAnimationFrame(ease);
-    };
-    requestAnimationFrame(ease);
-  }
-
-  // The cells at fault flash for a while, unless the system asks for less motion.
-  flash() {
-    const { replay, view } = this;
-    const { frame } = replay.state;
-    view.pulse = 0;
-    if (!replay.faults.some((fault) => fault.frame === frame) || matchMedia('(prefers-reduced-motion: reduce)').matches) return;
-    const since = performance.now();
-    this.flashing = since;
-    const beat = (now) => {
-      if (this.flashing !== since || this.playing || replay.state.frame !== frame) return;
-      const past = Math.max(0, now - since);
-      view.pulse = past >= FLASH ? 0 : (1 - Math.cos(past / 250 * Math.PI)) / 2;
-      view.draw(this.fraction);
-      if (past < FLASH) requestAnimationFrame(beat);
-    };
-    requestAnimationFrame(beat);
-  }
-
-  markPlaying() {
-    const button = element('play');
-    button.textContent = this.playing ? '\u275a\u275a' : '\u25b6';
-    button.setAttribute('aria-label', this.playing ? 'Pause' : 'Play');
-    document.body.dataset.playing = this.playing;
-  }
-
-  animate(now) {
-    if (!this.playing) return;
-    // a page that was hidden goes on from where it was
-    this.fraction += Math.min(Math.max(0, now - this.then), 500) / 1000 * this.speed;
-    this.then = now;
-    while (this.fraction >= 1 && this.replay.state.frame < this.replay.last) {
-      this.fraction -= 1;
-      this.replay.go();
-    }
-    if (this.replay.state.frame === this.replay.last) {
-      this.fraction = 0;
-      this.pause();
-      return;
-    }
-    this.draw();
-    this.countFrame(now);
-    requestAnimationFrame((next) => this.animate(next));
-  }
-
-  // Frames a second while the replay plays.
-  countFrame(now) {
-    const { counted } = this;
-    counted.frames += 1;
-    if (now - counted.since < 1000) return;
-    document.body.dataset.rate = (counted.frames * 1000 / (now - counted.since)).toFixed(1);
-    counted.frames = 0;
-    counted.since = now;
-  }
-
-  setSpeed(speed) {
-    this.speed = speed;
-    element('speed').textContent = `${speed} tick${speed === 1 ? '' : 's'} a second`;
-    document.body.dataset.speed = speed;
-  }
-
-  changeSpeed(by) {
-    const place = Math.min(Math.max(SPEEDS.indexOf(this.speed) + by, 0), SPEEDS.length - 1);
-    this.setSpeed(SPEEDS[place]);
-    this.say(element('speed').textContent);
-  }
-
   // ---- view
 
-  show(name, on) {
+  setShown(name, on) {
     this.view.shows[name] = on;
     element(`show-${name}`).checked = on;
+  }
+
+  show(name, on) {
+    this.setShown(name, on);
     this.draw();
   }
 
@@ -344,11 +209,17 @@ class Page {
     element('follow').checked = on;
   }
 
-  pick(robot) {
+  // Whether there is such a robot; null picks none.
+  setPicked(robot) {
     const known = robot !== null && robot >= 0 && robot < this.replay.robots;
     this.view.picked = known ? robot : null;
     if (!known) this.follow(false);
     element('unpick').hidden = !known;
+    return known;
+  }
+
+  pick(robot) {
+    const known = this.setPicked(robot);
     this.draw();
     if (known) {
       this.table.rows[robot].row.scrollIntoView({ block: 'nearest' });
@@ -381,67 +252,6 @@ class Page {
     const text = this.cellText(this.view.cellAt(canvas.width / 2, canvas.height / 2));
     element('hover').textContent = text;
     this.say(text);
-  }
-
-  // ---- the address
-
-  // `#t=140` shows the tick at which the clock is 140, `#robot=3` picks a robot, `#zoom=2.5,10,7` shows the map 2.5 times
-  // as large with column 10, row 7 in the middle, and `#heat=1&goals=0&lines=0` says what is drawn.
-  readAddress(hash = location.hash) {
-    const words = new URLSearchParams(hash.slice(1));
-    for (const name of SHOWN) {
-      if (!words.has(name)) continue;
-      this.view.shows[name] = words.get(name) === '1';
-      element(`show-${name}`).checked = this.view.shows[name];
-    }
-    if (/^\d+$/.test(words.get('robot') ?? '')) {
-      const robot = Number(words.get('robot'));
-      this.view.picked = robot < this.replay.robots ? robot : null;
-      element('unpick').hidden = this.view.picked === null;
-    }
-    const [zoom, x, y] = (words.get('zoom') ?? '').split(',').map(Number.parseFloat);
-    if (zoom > 0) {
-      this.view.zoom = zoom;
-      if (x >= 0 && y >= 0) this.view.middle = { x, y };
-    }
-    if (this.colours !== undefined) this.view.place();
-    if (/^\d+$/.test(words.get('t') ?? '')) {
-      this.pause();
-      this.fraction = 0;
-      this.replay.seek(this.replay.frameOf(BigInt(words.get('t'))));
-    }
-    if (this.colours !== undefined) {
-      this.draw();
-      this.flash();
-    }
-  }
-
-  address() {
-    const { view, replay } = this;
-    const words = [`t=${replay.clockAt(replay.state.frame)}`];
-    if (view.picked !== null) words.push(`robot=${view.picked}`);
-    if (view.zoom > 1) words.push(`zoom=${view.zoom.toFixed(2)},${view.middle.x.toFixed(1)},${view.middle.y.toFixed(1)}`);
-    for (const name of SHOWN) if (view.shows[name] !== (name !== 'heat')) words.push(`${name}=${view.shows[name] ? 1 : 0}`);
-    return `#${words.join('&')}`;
-  }
-
-  // The address follows, a few times a second at most: browsers refuse more.
-  writeAddress() {
-    if (this.addressTimer !== undefined) return;
-    this.addressTimer = setTimeout(() => {
-      this.addressTimer = undefined;
-      if (this.address() !== location.hash) history.replaceState(null, '', this.address());
-    }, 300);
-  }
-
-  async copyLink() {
-    history.replaceState(null, '', this.address());
-    try {
-      await navigator.clipboard.writeText(location.href);
-      this.tell('The link is copied.');
-    } catch {
-      this.tell('The browser does not let this page copy; the link is in the address line.');
-    }
   }
 
   savePicture() {

@@ -9,12 +9,15 @@ const path = require('node:path');
 const test = require('node:test');
 const vm = require('node:vm');
 
-const PARTS = ['read', 'graph', 'fault', 'replay', 'bound', 'colours', 'charts', 'events'];
-const NAMES = 'Replay, Distances, mapOf, verdictsOf, traceOf, tracesOf, hasBridge, greatestDistance, findBound, faultText, noteOf, robotText, recentArrivals, robotColour, contrastOf, luminanceOf, luminanceOfHex';
+const PARTS = ['read', 'graph', 'fault', 'changes', 'replay', 'bound', 'colours', 'charts', 'events'];
+const NAMES = [
+  'Replay', 'Distances', 'mapOf', 'verdictsOf', 'traceOf', 'tracesOf', 'hasBridge', 'greatestDistance', 'findBound',
+  'faultText', 'noteOf', 'robotText', 'recentArrivals', 'robotColour', 'contrastOf', 'luminanceOfHex',
+];
 
 function load() {
   const texts = PARTS.map((part) => fs.readFileSync(path.join(__dirname, '..', 'script', `${part}.js`), 'utf8'));
-  return vm.runInThisContext(`(() => { ${texts.join('\n')}\nreturn { ${NAMES} }; })()`);
+  return vm.runInThisContext(`(() => { ${texts.join('\n')}\nreturn { ${NAMES.join(', ')} }; })()`);
 }
 
 const page = load();
@@ -50,15 +53,19 @@ test('a map has the floor of its letters', () => {
 });
 
 test('verdicts are read line by line', () => {
-  assert.deepStrictEqual(page.verdictsOf(['legal', 'illegal 12 4', 'illegal 0 1']), [null, { at: 12, rule: 4 }, { at: 0, rule: 1 }]);
+  const verdicts = page.verdictsOf(['legal', 'illegal 12 4', 'illegal 0 1']);
+  assert.deepStrictEqual(verdicts, [null, { at: 12, rule: 4 }, { at: 0, rule: 1 }]);
 });
 
 test('a clock beyond 2^53 is exact', () => {
-  assert.strictEqual(page.tracesOf('{"chapter":0,"entries":[],"opening":{"clients":[],"life":1,"queue":1,"robots":[],"tick":18446744073709551615},"version":2}\n')[0].clock, 18446744073709551615n);
+  const opening = '{"clients":[],"life":1,"queue":1,"robots":[],"tick":18446744073709551615}';
+  const traces = page.tracesOf(`{"chapter":0,"entries":[],"opening":${opening},"version":2}\n`);
+  assert.strictEqual(traces[0].clock, 18446744073709551615n);
 });
 
 test('robots move, arrive and wait, forward and back', () => {
-  const replay = replayOf(OPEN, [trace([robot(0), robot(8)], [go(0, 0, 2, 1), go(0, 0, 0, 2), tick([1, 8]), tick([2, 8], [[0, 0, 1, 0]]), tick([1, 7])])]);
+  const entries = [go(0, 0, 2, 1), go(0, 0, 0, 2), tick([1, 8]), tick([2, 8], [[0, 0, 1, 0]]), tick([1, 7])];
+  const replay = replayOf(OPEN, [trace([robot(0), robot(8)], entries)]);
   assert.strictEqual(replay.last, 3);
   assert.deepStrictEqual([...replay.arrivals], [0, 0, 1, 1]);
   assert.deepStrictEqual([...replay.unfinished], [2, 2, 1, 1]);
@@ -86,7 +93,9 @@ test('the path of a robot reaches to both sides', () => {
 });
 
 test('withdrawn errands leave the middle of a queue and come back to it', () => {
-  const replay = replayOf(OPEN, [trace([robot(0)], [go(0, 0, 2, 1), go(0, 0, 5, 2), go(0, 0, 8, 3), tick([1]), ['take', 0, ['withdraw', 2], ['withdrawn']]])]);
+  const withdrawal = ['take', 0, ['withdraw', 2], ['withdrawn']];
+  const entries = [go(0, 0, 2, 1), go(0, 0, 5, 2), go(0, 0, 8, 3), tick([1]), withdrawal];
+  const replay = replayOf(OPEN, [trace([robot(0)], entries)]);
   replay.seek(1);
   assert.deepStrictEqual(replay.state.queues[0].map((errand) => errand.number), [1, 3]);
   replay.seek(0);
@@ -121,7 +130,8 @@ test('the fault of an illegal step names robots and cells', () => {
   assert.deepStrictEqual([wall.robots, wall.cells], [[0], [4]]);
   // cell 3 is the first of the next row: it is no neighbour of cell 2
   assert.deepStrictEqual([far.robots, far.cells], [[0], [2, 3]]);
-  assert.strictEqual(page.faultText(both), 'illegal at entry 1: it breaks rule 4, the step is not free of conflicts: robots 0 and 1 are on cell 1');
+  const rule = 'it breaks rule 4, the step is not free of conflicts';
+  assert.strictEqual(page.faultText(both), `illegal at entry 1: ${rule}: robots 0 and 1 are on cell 1`);
 });
 
 test('the fault of what a tick tells names the robot', () => {
@@ -147,7 +157,8 @@ test('distances, bridges and the greatest distance', () => {
 });
 
 test('a bound is shown where each tick advances', () => {
-  const replay = replayOf(RING, [trace([robot(0), robot(8)], [go(0, 0, 2, 1), tick([1, 8]), tick([2, 8], [[0, 0, 1, 0]])])]);
+  const entries = [go(0, 0, 2, 1), tick([1, 8]), tick([2, 8], [[0, 0, 1, 0]])];
+  const replay = replayOf(RING, [trace([robot(0), robot(8)], entries)]);
   assert.strictEqual(boundOf(RING, replay).bound, 8);
 });
 
@@ -195,7 +206,11 @@ test('robots stand out from the floor, and digits from robots', () => {
 
 test('entries and robots are told in words', () => {
   const replay = replayOf(OPEN, [trace([robot(0)], [go(0, 0, 5, 1)])]);
-  assert.strictEqual(page.noteOf(OPEN, go(2, 0, 5, 1)), 'client 2 sends robot 0 to cell 5 (row 1, column 2): accepted as errand 1');
-  assert.strictEqual(page.noteOf(OPEN, ['take', 0, ['close'], ['refused', 1]]), 'client 0 closes: refused: client-closed');
-  assert.strictEqual(page.robotText(replay, 0), 'Robot 0 is on cell 0 (row 0, column 0). It has waited 0 ticks, and is sent to cell 5 (client 0, errand 1).');
+  const sent = 'client 2 sends robot 0 to cell 5 (row 1, column 2): accepted as errand 1';
+  assert.strictEqual(page.noteOf(OPEN, go(2, 0, 5, 1)), sent);
+  const closes = page.noteOf(OPEN, ['take', 0, ['close'], ['refused', 1]]);
+  assert.strictEqual(closes, 'client 0 closes: refused: client-closed');
+  const place = 'Robot 0 is on cell 0 (row 0, column 0).';
+  const errand = 'It has waited 0 ticks, and is sent to cell 5 (client 0, errand 1).';
+  assert.strictEqual(page.robotText(replay, 0), `${place} ${errand}`);
 });
