@@ -351,21 +351,22 @@ class _Program:
         return Chapter(int(words[1]), int(words[3]))
 
     def _end(self, timeout: Optional[float]) -> str:
-        """Lets the program end, and returns what it complained of."""
+        """Lets the program end, and returns what it complained of. Raises Late if it had to be killed."""
         self._outbox.put(None)
+        was_killed = False
         try:
             self.status = self._process.wait(timeout)
         except subprocess.TimeoutExpired:
             self._process.kill()
             self._process.wait()
-            raise Late(f"the program did not end in {timeout} seconds, and was killed") from None
-        finally:
-            self._is_closed = self._process.poll() is not None
-            if self._is_closed:
-                self._reader.join()
-                self._process.stdout.close()
+            was_killed = True
+        self._is_closed = True
+        self._reader.join()
+        self._process.stdout.close()
         complaint = self._complaint()
         self._complaints.close()
+        if was_killed:
+            raise Late(f"the program did not end in {timeout} seconds, and was killed")
         return complaint
 
     def close(self, timeout: Optional[float] = None) -> None:
@@ -751,8 +752,10 @@ class LiveFleet(_Program):
                 return
             try:
                 self._on_tick(*told)
-            except Exception:
-                threading.excepthook(threading.ExceptHookArgs((*sys.exc_info(), self._caller)))
+            except Exception as error:
+                # A tick that is told after the fleet was closed finds no fleet.
+                if not (self._is_closed and isinstance(error, Ended)):
+                    threading.excepthook(threading.ExceptHookArgs((*sys.exc_info(), self._caller)))
 
     def _end(self, timeout: Optional[float]) -> str:
         try:
