@@ -6,6 +6,8 @@ mod case;
 mod source;
 mod tray;
 
+ghost use Rattle.std.specs.Prelude.{◌≤◌, length};
+
 use case::{Case, cases_of, count_options, script_of};
 use fleet_lib::{Live, LiveEnds, TalkTexts, run_live, write_whole};
 use source::Source;
@@ -50,6 +52,17 @@ fn ends_of(
     })
 }
 
+/// The header lines, if they are as short as a script may be; no case has more.
+fn short(lines: &[u8]) -> &[u8]
+    ensures { length result.now ≤ 16777216 }
+{
+    if lines.len() <= 16_777_216 {
+        lines
+    } else {
+        &[]
+    }
+}
+
 /// Keeps the fleet of a case, and prints what comes of it.
 fn tell_case<R: Alloc<A = Global> + Clock + Threads + Sync + Wait + Copy + Send + Drop + 'static>(
     rt: &R,
@@ -75,7 +88,7 @@ fn tell_case<R: Alloc<A = Global> + Clock + Threads + Sync + Wait + Copy + Send 
     let words = words(alloc, count_options(case.options, b"+ watch") > 0)?;
     let texts = TalkTexts {
         map: MAP,
-        script: &script,
+        script: short(&script),
     };
     let status = run_live(rt, texts, &words, ends, &mut told);
     let line = format!(in alloc; "status {status}\n")?;
