@@ -1,7 +1,9 @@
 //! The limits of a fleet.
 
-ghost use Rattle.std.specs.Prelude.{◌↔◌, IsTrue};
-ghost use Rattle.fleet_book.specs.Limits.{AreValid, IsBetween};
+ghost use Rattle.std.specs.Prelude.{◌≡◌, ◌↔◌, IsTrue, MatchOption};
+ghost use Rattle.fleet_book.specs.Limits.{AreValid, IsWithin, IsFirstOut, value_of};
+
+use crate::limit::Limit;
 
 /// What bounds a fleet, besides its map, its robots and its clients.
 #[derive(Clone, Copy, Debug, PartialEq, Eq)]
@@ -40,24 +42,62 @@ impl Limits {
         chapters: 1_000,
     };
 
+    /// The value of a limit.
+    pub fn value(&self, limit: Limit) -> u64
+        ensures { result ≡ value_of self.now limit }
+    {
+        match limit {
+            Limit::Lane => u64::from(self.lane),
+            Limit::Outlet => u64::from(self.outlet),
+            Limit::Queue => u64::from(self.queue),
+            Limit::Mailbox => u64::from(self.mailbox),
+            Limit::Life => self.life,
+            Limit::Orders => self.orders,
+            Limit::Clock => self.clock,
+            Limit::Chapter => u64::from(self.chapter),
+            Limit::Chapters => u64::from(self.chapters),
+        }
+    }
+
+    /// Whether a limit is in its range.
+    fn is_within(&self, limit: Limit) -> bool
+        ensures { IsTrue result ↔ IsWithin self.now limit }
+    {
+        let value = self.value(limit);
+        limit.least() <= value && value <= limit.most()
+    }
+
+    /// The first limit, in the order of the fields, that is out of its range.
+    pub fn first_out(&self) -> Option<Limit>
+        ensures { MatchOption result (AreValid self.now) (λ limit. IsFirstOut self.now limit) }
+    {
+        if !self.is_within(Limit::Lane) {
+            Some(Limit::Lane)
+        } else if !self.is_within(Limit::Outlet) {
+            Some(Limit::Outlet)
+        } else if !self.is_within(Limit::Queue) {
+            Some(Limit::Queue)
+        } else if !self.is_within(Limit::Mailbox) {
+            Some(Limit::Mailbox)
+        } else if !self.is_within(Limit::Life) {
+            Some(Limit::Life)
+        } else if !self.is_within(Limit::Orders) {
+            Some(Limit::Orders)
+        } else if !self.is_within(Limit::Clock) {
+            Some(Limit::Clock)
+        } else if !self.is_within(Limit::Chapter) {
+            Some(Limit::Chapter)
+        } else if !self.is_within(Limit::Chapters) {
+            Some(Limit::Chapters)
+        } else {
+            None
+        }
+    }
+
     /// Whether each limit is in its range.
     pub fn is_valid(&self) -> bool
         ensures { IsTrue result ↔ AreValid self.now }
     {
-        is_between(1, 65_536, self.lane as u64)
-            && is_between(1, 65_536, self.outlet as u64)
-            && is_between(1, 65_536, self.queue as u64)
-            && is_between(2, 65_536, self.mailbox as u64)
-            && is_between(1, 1 << 40, self.life)
-            && is_between(2, 1 << 62, self.orders)
-            && is_between(1, 1 << 48, self.clock)
-            && is_between(1, 16_777_216, self.chapter as u64)
-            && is_between(1, 4_294_967_295, self.chapters as u64)
+        self.first_out().is_none()
     }
-}
-
-fn is_between(least: u64, most: u64, n: u64) -> bool
-    ensures { IsTrue result ↔ IsBetween least most n }
-{
-    least <= n && n <= most
 }

@@ -17,6 +17,12 @@ AreRobots starts = IsBetween 1 512 (length starts)
 abbrev pub AreOnFloor : Floor → List ℕ → Type 0
 AreOnFloor m starts = (r : ℕ) → r < length starts → IsFloor m (slice_index starts r)
 
+-- what an opening asks for, its hooks apart
+pub record CanStart (m : Floor) (starts : List ℕ) (clients : ℕ) (limits : Limits) : Type 0 where
+  pub range : AreInRange clients limits
+  pub robots : AreRobots starts
+  pub placed : IsPlacement m starts
+
 -- what an opening asks for
 pub record CanOpen (m : Floor) (starts : List ℕ) (clients : ℕ) (limits : Limits) (laws : HookLaws) : Type 0 where
   pub range : AreInRange clients limits

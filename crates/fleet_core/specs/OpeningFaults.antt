@@ -25,16 +25,21 @@ pub record IsFirstShared (starts : List ℕ) (i j : ℕ) : Type 0 where
   pub shared : AreShared starts i j
   pub least : (k l : ℕ) → AreShared starts k l → (i < k) ⊎ ((i ≡ k) × (j ≤ l))
 
+-- when an opening is refused for this reason, whatever its hooks
+abbrev pub IsStartRefused : Floor → List ℕ → ℕ → Limits → OpenFault → Type 0
+IsStartRefused m starts clients limits fault.Limits = AreInRange clients limits → ⊥
+IsStartRefused m starts clients limits fault.NoRobots = AreInRange clients limits × (AreRobots starts → ⊥)
+IsStartRefused m starts clients limits (fault.Start r) = AreInRange clients limits × AreRobots starts × IsFirstOffFloor m starts r
+IsStartRefused m starts clients limits (fault.Shared i j) =
+    AreInRange clients limits × AreRobots starts × AreOnFloor m starts × IsFirstShared starts i j
+IsStartRefused m starts clients limits fault.Hooks = ⊥
+IsStartRefused m starts clients limits fault.NoMemory = ⊥
+
 -- when an opening is refused for this reason, out of memory apart
 abbrev pub IsRefused : Floor → List ℕ → ℕ → Limits → HookLaws → OpenFault → Type 0
-IsRefused m starts clients limits laws fault.Limits = AreInRange clients limits → ⊥
-IsRefused m starts clients limits laws fault.NoRobots = AreInRange clients limits × (AreRobots starts → ⊥)
-IsRefused m starts clients limits laws (fault.Start r) = AreInRange clients limits × AreRobots starts × IsFirstOffFloor m starts r
-IsRefused m starts clients limits laws (fault.Shared i j) =
-    AreInRange clients limits × AreRobots starts × AreOnFloor m starts × IsFirstShared starts i j
 IsRefused m starts clients limits laws fault.Hooks =
     AreInRange clients limits × AreRobots starts × IsPlacement m starts × (HaveCount (length starts) laws → ⊥)
-IsRefused m starts clients limits laws fault.NoMemory = ⊥
+IsRefused m starts clients limits laws fault = IsStartRefused m starts clients limits fault
 
 -- a reason other than out of memory
 abbrev pub IsNamed : OpenFault → Type 0

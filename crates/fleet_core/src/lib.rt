@@ -24,6 +24,7 @@ pub use crate::hook_laws::HookLaws;
 pub use crate::kernel::Core;
 pub use crate::robot_hooks::RobotHooks;
 pub use crate::world::World;
+pub use crate::world_opening::start_fault;
 pub use fleet_book::{Limits, Notice, Order, Verdict};
 pub use fleet_history::{Arrival, Bye, Chapter, ClientState, Entry, Opening, RobotState, Row};
 pub use fleet_hooks::{Hooks, StampLaw};

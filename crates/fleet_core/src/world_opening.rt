@@ -1,8 +1,8 @@
 //! The opening of a world: why it may be refused, and what it is made of.
 
 ghost use Rattle.std.specs.Prelude.{Some, ◌≡◌, ◌≤◌, ◌<◌, ℕ, length, IfOk, MatchOption, map, IsTrue, ◌↔◌};
-ghost use Rattle.fleet_core.specs.Opening.{AreOnFloor, CanOpen};
-ghost use Rattle.fleet_core.specs.OpeningFaults.{IsFirstOffFloor, AreShared, IsFirstShared, IsRefused};
+ghost use Rattle.fleet_core.specs.Opening.{AreOnFloor, CanOpen, CanStart};
+ghost use Rattle.fleet_core.specs.OpeningFaults.{IsFirstOffFloor, AreShared, IsFirstShared, IsRefused, IsStartRefused};
 ghost use Rattle.fleet_core.specs.Hooks.{laws_of, spare_laws, HaveCount};
 
 use crate::faults::OpenFault;
@@ -65,15 +65,16 @@ fn are_enough<A: Allocator + Copy>(hooks: &Hooks<A>, robots: usize) -> bool
     hooks.ties.len() == robots && hooks.arrivals.len() == robots && hooks.farewells.len() == robots
 }
 
-/// Why a world is not opened, except out of memory.
-pub(crate) fn opening_fault<A: Allocator + Copy>(
+/// Why a world with these starts, clients and limits is not opened, whatever its hooks; out of memory apart. The reasons, in order: a
+/// limit or the number of clients is out of its range, there are not 1 to 512 robots, the first robot that does not start on floor,
+/// the least two robots that start on one cell.
+pub fn start_fault<A: Allocator + Copy>(
     grid: &Grid<A>,
     starts: &[u32],
     clients: u32,
     limits: Limits,
-    hooks: &Hooks<A>,
 ) -> Option<OpenFault>
-    ensures { MatchOption result (CanOpen grid.now starts.now clients limits (laws_of hooks.now)) (λ fault. IsRefused grid.now starts.now clients limits (laws_of hooks.now) fault) }
+    ensures { MatchOption result (CanStart grid.now starts.now clients limits) (λ fault. IsStartRefused grid.now starts.now clients limits fault) }
 {
     if !limits.is_valid() || clients < 1 || clients > MOST_CLIENTS {
         return Some(OpenFault::Limits);
@@ -86,6 +87,22 @@ pub(crate) fn opening_fault<A: Allocator + Copy>(
     }
     if let Some((i, j)) = first_shared(starts) {
         return Some(OpenFault::Shared(i, j));
+    }
+    None
+}
+
+/// Why a world is not opened, except out of memory.
+pub(crate) fn opening_fault<A: Allocator + Copy>(
+    grid: &Grid<A>,
+    starts: &[u32],
+    clients: u32,
+    limits: Limits,
+    hooks: &Hooks<A>,
+) -> Option<OpenFault>
+    ensures { MatchOption result (CanOpen grid.now starts.now clients limits (laws_of hooks.now)) (λ fault. IsRefused grid.now starts.now clients limits (laws_of hooks.now) fault) }
+{
+    if let Some(fault) = start_fault(grid, starts, clients, limits) {
+        return Some(fault);
     }
     if !are_enough(hooks, starts.len()) {
         return Some(OpenFault::Hooks);

@@ -16,7 +16,7 @@ use Rattle.fleet_explain.specs.declared.explanation.Explanation.TheVariants as e
 use Rattle.fleet_explain.specs.Lines.{fault_at}
 use Rattle.fleet_explain.specs.Explained as explained
 use Rattle.fleet_explain.specs.Explained.{floor_of_map, IsScriptExplained, IsScriptOn, IsServedAs, IsTraceExplained, IsJudgedAs}
-use Rattle.fleet_explain.specs.Starts.{AlwaysOpens}
+use Rattle.fleet_core.specs.Opening.{CanStart}
 
 pub trace_on : (map trace : List ℕ) (e : Explanation) (m : Map) (t : Trace Global) → map_of map ≡ Ok m → Tells trace t → IsJudgedAs m t.history e → IsTraceExplained map trace e
 trace_on map trace e m t read tells is = explained.on_map m t read tells is
@@ -34,7 +34,7 @@ pub script_none : (map script : List ℕ) (m : Map) (line : ℕ) (fault : LineFa
 script_none map script m line fault refused read named why is = explained.no_script m line read (script_fails refused line (script_of script) named why) (ap (λ (f : LineFault). explanation.Script line f) is)
 
 -- a script whose fleet can begin
-pub served_on : (m : Map) (p : Plan) (e : Explanation) → AlwaysOpens (floor_of_map m) p.starts p.clients p.limits → IsServedAs p e → IsScriptOn m p e
+pub served_on : (m : Map) (p : Plan) (e : Explanation) → CanStart (floor_of_map m) p.starts p.clients p.limits → IsServedAs p e → IsScriptOn m p e
 served_on m p explanation.Fine opens served = (opens, served)
 served_on m p (explanation.Unserved n clients) opens served = (opens, served)
 served_on m p (explanation.Map f) opens served = absurd served

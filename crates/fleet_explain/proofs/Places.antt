@@ -12,7 +12,8 @@ use Rattle.fleet_map.specs.declared.fault.MapFault.TheVariants as map
 use Rattle.fleet_trace.specs.declared.fault.TraceFault.{TraceFault}
 use Rattle.fleet_trace.specs.declared.fault.TraceFault.TheVariants as trace
 use Rattle.fleet_explain.specs.declared.limits.LimitKind.{LimitKind}
-use Rattle.fleet_explain.specs.declared.limits.LimitKind.TheVariants as limit
+use Rattle.fleet_explain.specs.declared.limits.LimitKind.TheVariants as kind
+use Rattle.fleet_book.specs.declared.limit.Limit.TheVariants as limit
 use Rattle.fleet_explain.specs.declared.opening.StartFault.{StartFault}
 use Rattle.fleet_explain.specs.declared.opening.StartFault.TheVariants as start
 use Rattle.fleet_explain.specs.declared.explanation.Explanation.{Explanation}
@@ -147,17 +148,17 @@ map_read (map.Trailing n) small =
 map_read map.NoMemory small = refl
 
 -- no limit's name begins as a line does
-kind_read : (kind : LimitKind) (rest : List ℕ) → place_by script_file (codes "the script: " ++ (name_of kind ++ (codes " is " ++ rest))) ≡ whole
-kind_read limit.Lane rest = refl
-kind_read limit.Outlet rest = refl
-kind_read limit.Queue rest = refl
-kind_read limit.Mailbox rest = refl
-kind_read limit.Life rest = refl
-kind_read limit.Orders rest = refl
-kind_read limit.Clock rest = refl
-kind_read limit.Chapter rest = refl
-kind_read limit.Chapters rest = refl
-kind_read limit.Clients rest = refl
+kind_read : (k : LimitKind) (rest : List ℕ) → place_by script_file (codes "the script: " ++ (name_of k ++ (codes " is " ++ rest))) ≡ whole
+kind_read (kind.Fleet limit.Lane) rest = refl
+kind_read (kind.Fleet limit.Outlet) rest = refl
+kind_read (kind.Fleet limit.Queue) rest = refl
+kind_read (kind.Fleet limit.Mailbox) rest = refl
+kind_read (kind.Fleet limit.Life) rest = refl
+kind_read (kind.Fleet limit.Orders) rest = refl
+kind_read (kind.Fleet limit.Clock) rest = refl
+kind_read (kind.Fleet limit.Chapter) rest = refl
+kind_read (kind.Fleet limit.Chapters) rest = refl
+kind_read kind.Clients rest = refl
 
 limit_parts : (a b c d e f g h : List ℕ) → a ++ (b ++ c ++ d ++ e ++ f ++ g ++ h) ≡ a ++ (b ++ (c ++ (d ++ (e ++ (f ++ (g ++ h))))))
 limit_parts a b c d e f g h = simp append_assoc

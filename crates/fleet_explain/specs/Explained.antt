@@ -15,7 +15,8 @@ use Rattle.fleet_trace.specs.Judged.{IsFirstIllegal}
 use Rattle.fleet_explain.specs.declared.explanation.Explanation.{Explanation}
 use Rattle.fleet_explain.specs.declared.explanation.Explanation.TheVariants as explanation
 use Rattle.fleet_explain.specs.Lines.{fault_at, letter_in}
-use Rattle.fleet_explain.specs.Starts.{AlwaysOpens, IsStartFault}
+use Rattle.fleet_core.specs.Opening.{CanStart}
+use Rattle.fleet_explain.specs.Starts.{IsStartFault}
 use Rattle.fleet_explain.specs.Served.{first_unserved}
 use Rattle.fleet_explain.specs.Entries.{kind_at}
 use Rattle.fleet_explain.specs.Details.{IsDetail}
@@ -47,7 +48,7 @@ IsServedAs plan _ = ⊥
 -- on the map, the fleet of a script
 abbrev pub IsScriptOn : Map → Plan → Explanation → Type 0
 IsScriptOn m plan (explanation.Start fault width) = IsStartFault (floor_of_map m) plan.starts plan.clients plan.limits fault × (width ≡ m.width)
-IsScriptOn m plan e = AlwaysOpens (floor_of_map m) plan.starts plan.clients plan.limits × IsServedAs plan e
+IsScriptOn m plan e = CanStart (floor_of_map m) plan.starts plan.clients plan.limits × IsServedAs plan e
 
 pub data IsScriptExplained (map script : List ℕ) (e : Explanation) : Type 0 where
   no_floor : IsNoMap map e → IsScriptExplained map script e

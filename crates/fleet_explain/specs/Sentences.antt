@@ -22,6 +22,7 @@ use Rattle.fleet_explain.specs.declared.line.LineFault.TheVariants as line
 use Rattle.fleet_explain.specs.declared.opening.StartFault.{StartFault}
 use Rattle.fleet_explain.specs.declared.opening.StartFault.TheVariants as start
 use Rattle.fleet_explain.specs.Keywords.{wants}
+use Rattle.fleet_explain.specs.Keywords as keywords
 use Rattle.fleet_explain.specs.Limits.{least_of, most_of, name_of}
 
 abbrev pub line_text : LineFault → List ℕ
@@ -29,7 +30,7 @@ line_text line.NoRobots = codes "the script ends without a line `robots CELL ..`
 line_text line.Unknown = codes "no line of a script begins with its first word"
 line_text line.Late = codes "a header line stands after an event line"
 line_text line.Twice = codes "a line with the same first word stands above it"
-line_text (line.Form keyword) = codes "after its first word comes " ++ wants keyword
+line_text (line.Form keyword) = codes "`" ++ keywords.name_of keyword ++ codes "` expects " ++ wants keyword
 
 abbrev pub map_text : MapFault → List ℕ
 map_text (map.Header n) = codes "line " ++ decimal n ++ codes " is missing or not in its form: the head is `type WORD`, `height N` and `width N`, and `map`"

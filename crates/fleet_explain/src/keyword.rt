@@ -1,26 +1,22 @@
 //! The words that a script's lines begin with.
 
 ghost use Rattle.std.specs.Prelude.{◌≡◌};
-ghost use Rattle.fleet_explain.specs.Keywords.{header_named, event_named, keyword_named, is_event, wants};
+ghost use Rattle.fleet_explain.specs.Keywords.{header_named, event_named, keyword_named, is_event, name_of};
 
-/// What a line of a script begins with, by what comes after it.
+use fleet_book::Limit;
+
+/// The word that a line of a script begins with.
 #[derive(Clone, Copy, Debug, PartialEq, Eq)]
 pub enum Keyword {
     Robots,
     Clients,
     Ties,
     Turns,
-    /// `lane`, `outlet` or `queue`.
-    Places,
-    Mailbox,
-    Life,
-    Orders,
-    Clock,
-    Chapter,
-    Chapters,
+    Limit(Limit),
     Post,
-    /// `take`, `give` or `collect`.
-    OfClient,
+    Take,
+    Give,
+    Collect,
     Tick,
     Shut,
 }
@@ -37,26 +33,11 @@ fn header_named(word: &[u8]) -> Option<Keyword>
         Some(Keyword::Ties)
     } else if word == b"turns".as_slice() {
         Some(Keyword::Turns)
-    } else if word == b"lane".as_slice() {
-        Some(Keyword::Places)
-    } else if word == b"outlet".as_slice() {
-        Some(Keyword::Places)
-    } else if word == b"queue".as_slice() {
-        Some(Keyword::Places)
-    } else if word == b"mailbox".as_slice() {
-        Some(Keyword::Mailbox)
-    } else if word == b"life".as_slice() {
-        Some(Keyword::Life)
-    } else if word == b"orders".as_slice() {
-        Some(Keyword::Orders)
-    } else if word == b"clock".as_slice() {
-        Some(Keyword::Clock)
-    } else if word == b"chapter".as_slice() {
-        Some(Keyword::Chapter)
-    } else if word == b"chapters".as_slice() {
-        Some(Keyword::Chapters)
     } else {
-        None
+        match Limit::named(word) {
+            Some(limit) => Some(Keyword::Limit(limit)),
+            None => None,
+        }
     }
 }
 
@@ -67,11 +48,11 @@ fn event_named(word: &[u8]) -> Option<Keyword>
     if word == b"post".as_slice() {
         Some(Keyword::Post)
     } else if word == b"take".as_slice() {
-        Some(Keyword::OfClient)
+        Some(Keyword::Take)
     } else if word == b"give".as_slice() {
-        Some(Keyword::OfClient)
+        Some(Keyword::Give)
     } else if word == b"collect".as_slice() {
-        Some(Keyword::OfClient)
+        Some(Keyword::Collect)
     } else if word == b"tick".as_slice() {
         Some(Keyword::Tick)
     } else if word == b"shut".as_slice() {
@@ -96,32 +77,33 @@ impl Keyword {
     pub(crate) fn is_event(self) -> bool
         ensures { result ≡ is_event self }
     {
-        matches!(
-            self,
-            Keyword::Post | Keyword::OfClient | Keyword::Tick | Keyword::Shut
-        )
+        match self {
+            Keyword::Post
+            | Keyword::Take
+            | Keyword::Give
+            | Keyword::Collect
+            | Keyword::Tick
+            | Keyword::Shut => true,
+            _ => false,
+        }
     }
 
-    /// What comes after it.
-    pub(crate) fn wants(self) -> &'static str
-        ensures { result.now ≡ wants self }
+    /// The word.
+    pub(crate) fn name(self) -> &'static str
+        ensures { result.now ≡ name_of self }
     {
         match self {
-            Keyword::Robots => "1 to 16 start cells",
-            Keyword::Clients => "one number, from 1 to 64",
-            Keyword::Ties => "plain or south",
-            Keyword::Turns => "one number, from 1 to 1,000,000",
-            Keyword::Places => "one number, from 1 to 65,536",
-            Keyword::Mailbox => "one number, from 2 to 65,536",
-            Keyword::Life => "one number, from 1 to 1,099,511,627,776",
-            Keyword::Orders => "one number, from 2 to 4,611,686,018,427,387,904",
-            Keyword::Clock => "one number, from 1 to 281,474,976,710,656",
-            Keyword::Chapter => "one number, from 1 to 16,777,216",
-            Keyword::Chapters => "one number, from 1 to 4,294,967,295",
-            Keyword::Post => "a client and an order: go ROBOT CELL, close, or withdraw NUMBER",
-            Keyword::OfClient => "one client",
-            Keyword::Tick => "nothing, or one number, from 1 to 1,000,000",
-            Keyword::Shut => "one robot",
+            Keyword::Robots => "robots",
+            Keyword::Clients => "clients",
+            Keyword::Ties => "ties",
+            Keyword::Turns => "turns",
+            Keyword::Limit(limit) => limit.name(),
+            Keyword::Post => "post",
+            Keyword::Take => "take",
+            Keyword::Give => "give",
+            Keyword::Collect => "collect",
+            Keyword::Tick => "tick",
+            Keyword::Shut => "shut",
         }
     }
 }

@@ -1,12 +1,14 @@
 //! Explanations as sentences.
 
 ghost use Rattle.std.specs.Prelude.{◌≡◌, Some};
+ghost use Rattle.fleet_explain.specs.Keywords.{number_from, wants};
 ghost use Rattle.fleet_explain.specs.Sentences.{line_text, map_text, cell_text, limit_text, start_text, trace_text, kind_text, rule_text, step_text, arrival_text, detail_text, unserved_text, sentence};
 
 use crate::arrival::ArrivalName;
 use crate::detail::Detail;
 use crate::entry::EntryKind;
 use crate::explanation::Explanation;
+use crate::keyword::Keyword;
 use crate::limits::LimitFault;
 use crate::line::LineFault;
 use crate::opening::StartFault;
@@ -15,6 +17,46 @@ use fleet_check::StepFault;
 use fleet_map::MapFault;
 use fleet_trace::TraceFault;
 use std::fmt::{self, Display};
+
+/// One number, with its range.
+#[derive(Clone, Copy)]
+struct NumberText(u64, u64);
+
+impl fmt::Display for NumberText {
+    ghost output = { λ t. Some (number_from t.0 t.1) };
+
+    fn fmt<W: fmt::Write>(&self, f: &mut fmt::Formatter<W>) -> fmt::Result {
+        let (least, most) = (self.0, self.1);
+        write!(f, "one number from {least} to {most}")
+    }
+}
+
+/// What comes after the first word of a line.
+#[derive(Clone, Copy)]
+struct WantsText(Keyword);
+
+impl fmt::Display for WantsText {
+    ghost output = { λ t. Some (wants t.0) };
+
+    fn fmt<W: fmt::Write>(&self, f: &mut fmt::Formatter<W>) -> fmt::Result {
+        match self.0 {
+            Keyword::Robots => f.write_str("1 to 16 start cells"),
+            Keyword::Clients => NumberText(1, 64).fmt(f),
+            Keyword::Ties => f.write_str("`plain` or `south`"),
+            Keyword::Turns => NumberText(1, 1_000_000).fmt(f),
+            Keyword::Limit(limit) => NumberText(limit.least(), limit.most()).fmt(f),
+            Keyword::Post => f.write_str(
+                "a client and an order: `go ROBOT CELL`, `close`, or `withdraw NUMBER`",
+            ),
+            Keyword::Take | Keyword::Give | Keyword::Collect => f.write_str("one client"),
+            Keyword::Tick => {
+                let ticks = NumberText(1, 1_000_000);
+                write!(f, "nothing, or {ticks}")
+            }
+            Keyword::Shut => f.write_str("one robot"),
+        }
+    }
+}
 
 impl fmt::Display for LineFault {
     ghost output = { λ f. Some (line_text f) };
@@ -28,8 +70,8 @@ impl fmt::Display for LineFault {
             LineFault::Late => f.write_str("a header line stands after an event line"),
             LineFault::Twice => f.write_str("a line with the same first word stands above it"),
             LineFault::Form(keyword) => {
-                let wants = keyword.wants();
-                write!(f, "after its first word comes {wants}")
+                let (name, wants) = (keyword.name(), WantsText(keyword));
+                write!(f, "`{name}` expects {wants}")
             }
         }
     }

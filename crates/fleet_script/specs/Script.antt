@@ -8,8 +8,9 @@ use Rattle.fleet_book.specs.declared.order.Order.TheVariants.{Go, Close, Withdra
 use Rattle.fleet_book.specs.declared.limits.Limits.{Limits}
 use Rattle.fleet_book.specs.declared.event.Event.{Event}
 use Rattle.fleet_book.specs.declared.event.Event.TheVariants.{Post, Take, Tick, Give, Collect, Shut}
-use Rattle.fleet_script.specs.declared.head.LimitName.{LimitName}
-use Rattle.fleet_script.specs.declared.head.LimitName.TheVariants.{Lane, Outlet, Queue, Mailbox, Life, Orders, Clock, Chapter, Chapters}
+use Rattle.fleet_book.specs.declared.limit.Limit.{Limit}
+use Rattle.fleet_book.specs.Limits.{limit_named}
+use Rattle.fleet_book.specs.declared.limit.Limit.TheVariants.{Lane, Outlet, Queue, Mailbox, Life, Orders, Clock, Chapter, Chapters}
 use Rattle.fleet_script.specs.declared.head.GivenLimits.{GivenLimits}
 use Rattle.fleet_script.specs.Numbers.{number_in, most32, most64, one_in, numbers_in}
 
@@ -60,26 +61,13 @@ events_of key words =
 
 -- ---- header lines
 
-abbrev pub limit_named : List ℕ → Option LimitName
-limit_named key =
-    if bytes_eq key (codes "lane") then Some Lane
-    else if bytes_eq key (codes "outlet") then Some Outlet
-    else if bytes_eq key (codes "queue") then Some Queue
-    else if bytes_eq key (codes "mailbox") then Some Mailbox
-    else if bytes_eq key (codes "life") then Some Life
-    else if bytes_eq key (codes "orders") then Some Orders
-    else if bytes_eq key (codes "clock") then Some Clock
-    else if bytes_eq key (codes "chapter") then Some Chapter
-    else if bytes_eq key (codes "chapters") then Some Chapters
-    else None
-
 -- a header line stands at most once
 abbrev pub if_new : {A : Type 0} → Option A → Option A → Option A
 if_new (Some old) said = None
 if_new None said = said
 
 -- the limits with one more of them
-abbrev pub with_limit : GivenLimits → LimitName → List (List ℕ) → Option GivenLimits
+abbrev pub with_limit : GivenLimits → Limit → List (List ℕ) → Option GivenLimits
 with_limit g Lane words = option_map (λ n. record g { lane = Some n }) (if_new g.lane (one_in most32 words))
 with_limit g Outlet words = option_map (λ n. record g { outlet = Some n }) (if_new g.outlet (one_in most32 words))
 with_limit g Queue words = option_map (λ n. record g { queue = Some n }) (if_new g.queue (one_in most32 words))
@@ -120,9 +108,9 @@ pub record Draft : Type 0 where
   pub lines : List ℕ
 
 -- the script with one more header line
-abbrev pub with_limit_line : Draft → Option LimitName → List (List ℕ) → Option Draft
+abbrev pub with_limit_line : Draft → Option Limit → List (List ℕ) → Option Draft
 with_limit_line d None words = None
-with_limit_line d (Some name) words = option_map (λ g. record d { limits = g }) (with_limit d.limits name words)
+with_limit_line d (Some limit) words = option_map (λ g. record d { limits = g }) (with_limit d.limits limit words)
 
 -- the script with one more header line, where a fleet has so many robots at most
 abbrev pub with_header_within : ℕ → Draft → List ℕ → List (List ℕ) → Option Draft

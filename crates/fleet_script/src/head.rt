@@ -3,25 +3,11 @@
 ghost use Rattle.std.specs.Prelude.{◌≡◌, Some};
 ghost use Rattle.std.specs.Option.{option_map};
 ghost use Rattle.fleet_map.specs.Text.{words_of};
-ghost use Rattle.fleet_script.specs.Script.{limit_named, ties_in, turns_in, if_new, with_limit, limits_of, limits_over};
+ghost use Rattle.fleet_script.specs.Script.{ties_in, turns_in, if_new, with_limit, limits_of, limits_over};
 
 use crate::numbers::{one_number, one_small_number};
-use fleet_book::Limits;
+use fleet_book::{Limit, Limits};
 use fleet_map::text::first_word;
-
-/// The name of a limit, as a header line begins with it.
-#[derive(Clone, Copy)]
-pub(crate) enum LimitName {
-    Lane,
-    Outlet,
-    Queue,
-    Mailbox,
-    Life,
-    Orders,
-    Clock,
-    Chapter,
-    Chapters,
-}
 
 /// The limits that header lines gave so far.
 #[derive(Clone, Copy, Debug, PartialEq, Eq)]
@@ -35,33 +21,6 @@ pub struct GivenLimits {
     pub clock: Option<u64>,
     pub chapter: Option<u32>,
     pub chapters: Option<u32>,
-}
-
-/// The limit that a header line begins with.
-pub(crate) fn limit_name(key: &[u8]) -> Option<LimitName>
-    ensures { result ≡ limit_named key.now }
-{
-    if key == b"lane".as_slice() {
-        Some(LimitName::Lane)
-    } else if key == b"outlet".as_slice() {
-        Some(LimitName::Outlet)
-    } else if key == b"queue".as_slice() {
-        Some(LimitName::Queue)
-    } else if key == b"mailbox".as_slice() {
-        Some(LimitName::Mailbox)
-    } else if key == b"life".as_slice() {
-        Some(LimitName::Life)
-    } else if key == b"orders".as_slice() {
-        Some(LimitName::Orders)
-    } else if key == b"clock".as_slice() {
-        Some(LimitName::Clock)
-    } else if key == b"chapter".as_slice() {
-        Some(LimitName::Chapter)
-    } else if key == b"chapters".as_slice() {
-        Some(LimitName::Chapters)
-    } else {
-        None
-    }
 }
 
 /// Which closures rank the cells, by the words of a line: `true` for the southern ones.
@@ -121,20 +80,20 @@ impl GivenLimits {
     };
 
     /// Takes one more limit, which these words give.
-    pub(crate) fn set(&mut self, name: LimitName, words: &[u8]) -> Option<()>
-        ensures set { option_map (λ done. self.new) result ≡ with_limit self.old name (words_of words.now) }
+    pub(crate) fn set(&mut self, limit: Limit, words: &[u8]) -> Option<()>
+        ensures set { option_map (λ done. self.new) result ≡ with_limit self.old limit (words_of words.now) }
         ensures kept { result ≡ None → self.new ≡ self.old }
     {
-        match name {
-            LimitName::Lane => set_once(&mut self.lane, one_small_number(words)),
-            LimitName::Outlet => set_once(&mut self.outlet, one_small_number(words)),
-            LimitName::Queue => set_once(&mut self.queue, one_small_number(words)),
-            LimitName::Mailbox => set_once(&mut self.mailbox, one_small_number(words)),
-            LimitName::Life => set_once(&mut self.life, one_number(words, u64::MAX)),
-            LimitName::Orders => set_once(&mut self.orders, one_number(words, u64::MAX)),
-            LimitName::Clock => set_once(&mut self.clock, one_number(words, u64::MAX)),
-            LimitName::Chapter => set_once(&mut self.chapter, one_small_number(words)),
-            LimitName::Chapters => set_once(&mut self.chapters, one_small_number(words)),
+        match limit {
+            Limit::Lane => set_once(&mut self.lane, one_small_number(words)),
+            Limit::Outlet => set_once(&mut self.outlet, one_small_number(words)),
+            Limit::Queue => set_once(&mut self.queue, one_small_number(words)),
+            Limit::Mailbox => set_once(&mut self.mailbox, one_small_number(words)),
+            Limit::Life => set_once(&mut self.life, one_number(words, u64::MAX)),
+            Limit::Orders => set_once(&mut self.orders, one_number(words, u64::MAX)),
+            Limit::Clock => set_once(&mut self.clock, one_number(words, u64::MAX)),
+            Limit::Chapter => set_once(&mut self.chapter, one_small_number(words)),
+            Limit::Chapters => set_once(&mut self.chapters, one_small_number(words)),
         }
     }
 

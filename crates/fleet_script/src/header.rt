@@ -7,8 +7,9 @@ ghost use Rattle.fleet_book.specs.declared.event.Event.{Event};
 ghost use Rattle.fleet_script.specs.Script.{starts_within, with_header_within, blank_draft};
 ghost use Rattle.fleet_script.specs.Shown.{headed, IsTaken};
 
-use crate::head::{GivenLimits, is_south, limit_name, set_once, turn_count};
+use crate::head::{GivenLimits, is_south, set_once, turn_count};
 use crate::numbers::{one_small_number, small_number};
+use fleet_book::Limit;
 use fleet_map::text::first_word;
 use std::alloc::{AllocError, Allocator, Global};
 
@@ -88,8 +89,8 @@ impl<A: Allocator + Copy> Head<A> {
             Ok(set_once(&mut self.south, is_south(words)).is_some())
         } else if key == b"turns".as_slice() {
             Ok(set_once(&mut self.turns, turn_count(words)).is_some())
-        } else if let Some(name) = limit_name(key) {
-            Ok(self.limits.set(name, words).is_some())
+        } else if let Some(limit) = Limit::named(key) {
+            Ok(self.limits.set(limit, words).is_some())
         } else {
             Ok(false)
         }
