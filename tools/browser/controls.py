@@ -62,7 +62,7 @@ class Controls:
         # at one tick a second the replay does not come to its end between two keys, even on a machine that is busy
         for _ in range(5):
             self.browser.click('#slower')
-        selectors = ('#play', '#on', '#back', '#slider', '#show-heat', '#show-heat', '#faster', '#slower', '#zoom-in',
+        selectors = ('#play', '#on', '#back', '#slider', '#show-heat', '#show-heat', '#events', '#faster', '#slower', '#zoom-in',
                      '#zoom-fit', '#map')
         for selector in selectors:
             self.click_then_keys(selector)
@@ -237,8 +237,8 @@ def touch(browser, fault):
     wait(browser, 80)
     if float(shown(browser, 'zoom')) != zoom:
         fault('the zoom stays if the height changes')
-    small = browser.run('[...document.querySelectorAll("button, label")].filter((one) => one.offsetParent !== null '
-                        '&& one.getBoundingClientRect().height < 44).map((one) => one.id || one.textContent)')
+    small = browser.run('[...document.querySelectorAll("button, select, label")].filter((one) => one.offsetParent !== null '
+                        '&& !one.closest("#events") && one.getBoundingClientRect().height < 44).map((one) => one.id || one.textContent)')
     if small:
         fault(f'controls are smaller than 44 pixels: {small}')
     browser.touch(False)

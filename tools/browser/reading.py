@@ -1,4 +1,5 @@
 """What stands before each tick of a trace, read entry by entry: a second reading, which shares nothing with the page's script."""
+import collections
 import json
 
 
@@ -14,6 +15,9 @@ class Standing:
         self.arrivals = 0
         self.moves = 0
         self.notes = 0
+        # the cells to which robots came in the tick before, and those on which robots with an errand stood
+        self.came = []
+        self.stood = []
 
     def copy(self):
         other = Standing([])
@@ -37,7 +41,9 @@ class Standing:
                 queue[:] = [errand for errand in queue if errand[:2] != (client, order[1])]
 
     def tick(self, to, arrived):
-        self.moves += sum(1 for old, new in zip(self.cells, to) if old != new)
+        self.came = [new for old, new in zip(self.cells, to) if old != new]
+        self.stood = [new for old, new, queue in zip(self.cells, to, self.queues) if old == new and queue]
+        self.moves += len(self.came)
         self.cells = list(to)
         self.arrived = [arrival[0] for arrival in arrived]
         self.arrivals += len(arrived)
@@ -65,8 +71,15 @@ class Standing:
             'unfinished': str(sum(map(len, self.queues))),
             'wait': str(max(known)) if known else 'none',
             'eldest': 'none' if eldest is None else str(eldest),
-            'heat': str(self.moves),
+            'moves': str(self.moves),
         }
+
+
+def heat_of(all_of, frame, kind, window):
+    """How often robots came to each cell, or stood on it, in the last ticks up to a frame; in all ticks if the window is 0."""
+    first = 0 if window == 0 else max(0, frame - window)
+    counts = collections.Counter(cell for now in all_of[first + 1:frame + 1] for cell in getattr(now, kind))
+    return ' '.join(f'{cell}:{counts[cell]}' for cell in sorted(counts))
 
 
 def standings(texts):

@@ -42,6 +42,12 @@ aside { display: flex; flex-direction: column; gap: 14px; min-width: 0; }
 .banner p + p { margin-top: 6px; }
 .track { position: relative; display: flex; flex: 1; min-width: 120px; }
 #marks span { position: absolute; top: -3px; bottom: -3px; left: calc(8px + (100% - 16px) * var(--part) - 1.5px); width: 3px; background: var(--fault); pointer-events: none; }
+#marks .chapter { width: 1px; background: var(--soft); }
+#marks .shutting { top: 50%; bottom: -3px; width: 2px; background: var(--ink); }
+#marks .refusal { top: auto; bottom: -3px; height: 6px; width: 2px; background: var(--mark); }
+#heat-scale { display: flex; gap: 8px; align-items: center; margin-top: 6px; font-size: 12.5px; }
+#heat-scale[hidden] { display: none; }
+.ramp { width: 120px; height: 10px; border: 1px solid var(--line); background: linear-gradient(to right, rgba(var(--heat), 0.12), rgba(var(--heat), 0.82)); }
 #speed { min-width: 108px; text-align: center; font-variant-numeric: tabular-nums; }
 .robot { display: flex; gap: 10px; align-items: center; margin-top: 4px; }
 #unpick { flex: none; white-space: nowrap; }
@@ -54,6 +60,10 @@ aside { display: flex; flex-direction: column; gap: 14px; min-width: 0; }
 .sign.goal { border: 2px solid hsl(0 62% 46%); }
 .sign.eldest { outline: 2px solid var(--ink); outline-offset: 1px; }
 .sign.arrives { outline: 2px solid hsl(0 62% 46%); outline-offset: 2px; }
+.sign.mark { width: 2px; }
+.sign.chapter { background: var(--soft); }
+.sign.shutting { background: var(--ink); }
+.sign.refusal { background: var(--mark); }
 .sign.wall { background: var(--wall); }
 .sign.shelf { background: var(--shelf); }
 dialog { color: var(--ink); background: var(--card); border: 1px solid var(--line); border-radius: 10px; max-width: 560px; }
@@ -78,9 +88,15 @@ label { display: inline-flex; gap: 5px; align-items: center; }
 .chart { cursor: pointer; display: block; width: 100%; height: 92px; }
 .scroll { overflow: auto; max-height: 170px; margin: 0; padding: 0; }
 .tall { max-height: 330px; }
-#entries { list-style: none; font-size: 12.5px; min-height: 3em; }
-#entries li { padding: 2px 0; border-bottom: 1px solid var(--line); overflow-wrap: anywhere; }
-#entries .refused { color: var(--mark); }
+#entries, #events { list-style: none; font-size: 12.5px; min-height: 3em; }
+#events { margin-top: 8px; }
+[aria-label="Events that are listed"] { margin-top: 0; gap: 6px; }
+[aria-label="Events that are listed"] select { flex: 1 1 90px; min-width: 0; padding: 3px 4px; }
+#entries li, #events li { padding: 2px 0; border-bottom: 1px solid var(--line); overflow-wrap: anywhere; }
+#entries .refused, #events .refused { color: var(--mark); }
+#events button { padding: 0; border: 0; background: none; text-align: left; color: inherit; }
+#events button:hover { text-decoration: underline; }
+#events .now { background: color-mix(in srgb, var(--accent) 14%, transparent); }
 table { width: 100%; border-collapse: collapse; font-size: 12.5px; font-variant-numeric: tabular-nums; }
 th, td { text-align: right; padding: 2px 6px; border-bottom: 1px solid var(--line); white-space: nowrap; }
 th { color: var(--soft); font-weight: 500; }
@@ -93,7 +109,8 @@ tr.picked > * { background: color-mix(in srgb, var(--accent) 30%, transparent); 
 .unseen { position: absolute; width: 1px; height: 1px; overflow: hidden; clip-path: inset(50%); }
 /* fingers need larger controls */
 @media (pointer: coarse) {
-  button, label, .together button, .pick { min-width: 44px; min-height: 44px; }
+  button, select, label, .together button, .pick { min-width: 44px; min-height: 44px; }
+  #events button { min-width: 0; }
   input[type="checkbox"] { width: 24px; height: 24px; }
   .bar input[type="range"] { height: 44px; }
 }
@@ -122,7 +139,11 @@ tr.picked > * { background: color-mix(in srgb, var(--accent) 30%, transparent); 
 <span id="speed"></span>
 <button type="button" id="faster" aria-label="Faster">+</button>
 </span>
-<label title="How often robots came to each cell up to this tick"><input type="checkbox" id="show-heat"> heat</label>
+<label title="Shades cells by what robots did there"><input type="checkbox" id="show-heat"> heat</label>
+<span class="together" role="group" aria-label="Heat">
+<select id="heat-kind" aria-label="What the heat shows"><option value="came">came to</option><option value="stood">stood on, with an errand</option></select>
+<select id="heat-window" aria-label="Ticks that the heat is of"><option value="0">up to this tick</option><option value="1000">last 1000 ticks</option><option value="100">last 100 ticks</option></select>
+</span>
 <label title="The current goal of each robot"><input type="checkbox" id="show-goals" checked> goals</label>
 <label title="From each robot to its goal"><input type="checkbox" id="show-lines" checked> lines</label>
 <label title="Keeps the picked robot in the middle"><input type="checkbox" id="follow"> follow</label>
@@ -140,6 +161,7 @@ tr.picked > * { background: color-mix(in srgb, var(--accent) 30%, transparent); 
 <p id="hover" class="soft"></p>
 <p class="robot"><span id="picked"></span> <button type="button" id="unpick" hidden>all robots</button></p>
 <p id="keys" class="soft">Space plays, arrow keys go a tick back or on, + and &minus; zoom, W A S D move the map, [ and ] pick a robot; ? shows all keys. Click a robot to follow it.</p>
+<p id="heat-scale" class="soft" hidden><span id="heat-least">0</span> <span class="ramp" aria-hidden="true"></span> <span id="heat-most"></span></p>
 <ul class="legend" aria-label="Legend">
 <li><span class="sign disc"></span>robot with an errand</li>
 <li><span class="sign disc idle"></span>idle</li>
@@ -149,6 +171,9 @@ tr.picked > * { background: color-mix(in srgb, var(--accent) 30%, transparent); 
 <li><span class="sign disc arrives"></span>arrives</li>
 <li><span class="sign wall"></span>wall</li>
 <li><span class="sign shelf"></span>tree or water</li>
+<li><span class="sign mark chapter"></span>a chapter begins</li>
+<li><span class="sign mark shutting"></span>a robot is shut</li>
+<li><span class="sign mark refusal"></span>an order is refused</li>
 </ul>
 </section>
 <aside>
@@ -165,6 +190,13 @@ tr.picked > * { background: color-mix(in srgb, var(--accent) 30%, transparent); 
 <section class="card"><h2>Idle robots <span class="told"></span></h2><canvas id="idle-chart" class="chart" role="img" aria-label="Idle robots by tick"></canvas></section>
 <section class="card"><h2>Longest wait <span class="told"></span></h2><canvas id="wait-chart" class="chart" role="img" aria-label="Longest wait by tick"></canvas></section>
 <section class="card"><h2>Entries up to the next tick</h2><ol id="entries" class="scroll" tabindex="0" aria-label="Entries up to the next tick"></ol></section>
+<section class="card"><h2>All events <span id="events-count" class="told"></span></h2>
+<div class="bar" role="group" aria-label="Events that are listed">
+<select id="events-kind" aria-label="Kind"><option value="all">all kinds</option><option value="orders">orders</option><option value="refusals">refused orders</option><option value="arrivals">arrivals</option><option value="shuts">shuts and farewells</option><option value="chapters">chapters</option></select>
+<select id="events-client" aria-label="Client"></select>
+<select id="events-robot" aria-label="Robot"></select>
+</div>
+<ol id="events" class="scroll tall" tabindex="0" aria-label="All events"></ol></section>
 <section class="card"><h2>Robots</h2><div class="scroll tall" tabindex="0" role="region" aria-label="Robots"><table><thead><tr><th scope="col">robot</th><th scope="col">cell</th><th scope="col">goal</th><th scope="col">queue</th><th scope="col">wait</th><th scope="col">state</th></tr></thead><tbody id="robots"></tbody></table></div></section>
 </aside>
 </main>
@@ -183,6 +215,7 @@ tr.picked > * { background: color-mix(in srgb, var(--accent) 30%, transparent); 
 <tr><th>F</th><td>keeps the picked robot in the middle</td></tr>
 <tr><th>Esc</th><td>all robots again</td></tr>
 <tr><th>H G L</th><td>heat, goals, lines</td></tr>
+<tr><th>J</th><td>jams: the heat of cells on which robots with an errand stood in the last 100 ticks</td></tr>
 <tr><th>Y</th><td>copies the link to what is shown</td></tr>
 <tr><th>?</th><td>shows this</td></tr>
 </table>

@@ -291,7 +291,7 @@ function openedRobot([, shut, wait, errands], frame) {
 }
 
 // What stands at the first frame.
-function openedState(map, opening) {
+function openedState(opening) {
   const robots = opening.robots.map((robot) => openedRobot(robot, 0));
   return {
     frame: 0,
@@ -299,7 +299,6 @@ function openedState(map, opening) {
     queues: robots.map((robot) => robot.queue),
     since: Float64Array.from(robots, (robot) => robot.since),
     shut: Uint8Array.from(robots, (robot) => robot.shut),
-    heat: new Uint32Array(map.floor.length),
   };
 }
 
@@ -410,6 +409,9 @@ class Replay {
     this.moveStart = new Uint32Array(ticks + 2);
     this.moveRobot = new Uint16Array(moves);
     this.moveDelta = new Int32Array(moves);
+    // by frame, a bit for each robot that stood still in the tick to it although it had an errand
+    this.stoodBytes = Math.ceil(this.robots / 8);
+    this.stood = new Uint8Array((ticks + 1) * this.stoodBytes);
     this.events = new Array(ticks + 1);
     this.arrivals = new Uint32Array(ticks + 1);
     this.unfinished = new Uint32Array(ticks + 1);
@@ -423,7 +425,7 @@ class Replay {
     this.openings = [];
     this.chapters = [];
     this.faults = [];
-    this.state = openedState(map, traces[0].opening);
+    this.state = openedState(traces[0].opening);
     this.build(traces, verdicts);
     this.seek(0);
   }
@@ -449,7 +451,6 @@ class Replay {
       trace.entries = null;
     });
     this.measure(arrived);
-    this.mostHeat = this.state.heat.reduce((most, count) => Math.max(most, count), 1);
   }
 
   openChapter(trace, verdict) {
@@ -513,12 +514,14 @@ class Replay {
     const count = Math.min(to.length, state.cells.length);
     for (let robot = 0; robot < count; robot += 1) {
       const delta = to[robot] - state.cells[robot];
-      if (delta === 0) continue;
+      if (delta === 0) {
+        if (state.queues[robot].length > 0) this.stood[state.frame * this.stoodBytes + (robot >> 3)] |= 1 << (robot & 7);
+        continue;
+      }
       this.moveRobot[at] = robot;
       this.moveDelta[at] = delta;
       at += 1;
       state.cells[robot] = to[robot];
-      state.heat[to[robot]] += 1;
     }
     this.moveStart[state.frame + 1] = at;
   }
@@ -547,9 +550,7 @@ class Replay {
     const { state } = this;
     state.frame += 1;
     for (let at = this.moveStart[state.frame]; at < this.moveStart[state.frame + 1]; at += 1) {
-      const robot = this.moveRobot[at];
-      state.cells[robot] += this.moveDelta[at];
-      state.heat[state.cells[robot]] += 1;
+      state.cells[this.moveRobot[at]] += this.moveDelta[at];
     }
     for (const event of this.events[state.frame] ?? []) EVENTS[event.kind].go(state, event);
   }
@@ -559,9 +560,7 @@ class Replay {
     const events = this.events[state.frame] ?? [];
     for (let place = events.length - 1; place >= 0; place -= 1) EVENTS[events[place].kind].back(state, events[place]);
     for (let at = this.moveStart[state.frame]; at < this.moveStart[state.frame + 1]; at += 1) {
-      const robot = this.moveRobot[at];
-      state.heat[state.cells[robot]] -= 1;
-      state.cells[robot] -= this.moveDelta[at];
+      state.cells[this.moveRobot[at]] -= this.moveDelta[at];
     }
     state.frame -= 1;
   }
@@ -885,16 +884,187 @@ class MapPlace {
   }
 }
 
+// ---- heat: what robots did on each cell, in the last ticks up to a frame
+
+const HEAT_KINDS = ['came', 'stood'];
+
+// `came` counts the ticks in which a robot came to a cell, `stood` those in which one with an errand stayed on it.
+class Heat {
+  constructor(replay) {
+    this.replay = replay;
+    this.counts = new Uint32Array(replay.map.floor.length);
+    this.choose('came', 0);
+  }
+
+  // `window` is the number of ticks that are counted, 0 for all.
+  choose(kind, window) {
+    this.kind = kind;
+    this.window = window;
+    this.frame = -1;
+  }
+
+  // Counts what was done in the tick to a frame, after which robots are on these cells; by -1 it is no longer counted.
+  count(frame, cells, by) {
+    const { replay, counts } = this;
+    if (this.kind === 'came') {
+      const end = replay.moveStart[frame + 1];
+      for (let at = replay.moveStart[frame]; at < end; at += 1) counts[cells[replay.moveRobot[at]]] += by;
+      return;
+    }
+    const { stood, stoodBytes } = replay;
+    for (let byte = 0; byte < stoodBytes; byte += 1) {
+      let bits = stood[frame * stoodBytes + byte];
+      for (let robot = byte * 8; bits !== 0; robot += 1, bits >>= 1) if (bits & 1) counts[cells[robot]] += by;
+    }
+  }
+
+  // Moves robots on these cells by the moves of the tick to a frame, or back by sign -1.
+  move(frame, cells, sign) {
+    const { moveStart, moveRobot, moveDelta } = this.replay;
+    for (let at = moveStart[frame]; at < moveStart[frame + 1]; at += 1) cells[moveRobot[at]] += sign * moveDelta[at];
+  }
+
+  // Counts up to the frame that the replay is at.
+  follow() {
+    const { frame } = this.replay.state;
+    if (this.frame === frame) return;
+    if (this.frame >= 0 && this.frame + 1 === frame) this.goOn(frame);
+    else this.countAnew(frame);
+    this.frame = frame;
+  }
+
+  countAnew(frame) {
+    const cells = this.replay.state.cells.slice();
+    const first = this.window === 0 ? 0 : Math.max(0, frame - this.window);
+    this.counts.fill(0);
+    for (let past = frame; past > first; past -= 1) {
+      this.count(past, cells, 1);
+      this.move(past, cells, -1);
+    }
+    // the cells of the robots before the first tick that is counted
+    this.before = cells;
+    this.first = first;
+  }
+
+  goOn(frame) {
+    this.count(frame, this.replay.state.cells, 1);
+    if (this.window === 0 || frame - this.window <= this.first) return;
+    this.first += 1;
+    this.move(this.first, this.before, 1);
+    this.count(this.first, this.before, -1);
+  }
+
+  most() {
+    let most = 0;
+    for (const count of this.counts) if (count > most) most = count;
+    return most;
+  }
+}
+
+// ---- what lies under the robots: letters, heat, grid
+
+class MapGround extends MapPlace {
+  constructor(canvas, replay) {
+    super(canvas, replay.map);
+    this.pen = canvas.getContext('2d');
+    this.replay = replay;
+    this.heat = new Heat(replay);
+  }
+
+  // A canvas of one pixel a cell, which is drawn larger.
+  cellCanvas() {
+    const canvas = document.createElement('canvas');
+    canvas.width = this.map.width;
+    canvas.height = this.map.height;
+    return canvas;
+  }
+
+  paintLetters(colours) {
+    const { height, width, letters, floor } = this.map;
+    this.colours = colours;
+    this.ground = this.cellCanvas();
+    this.heatCanvas = this.cellCanvas();
+    this.heatPixels = this.heatCanvas.getContext('2d').createImageData(width, height);
+    this.shades = shadesOf(colours.heat);
+    this.paintedHeat = undefined;
+    const pen = this.ground.getContext('2d');
+    pen.fillStyle = colours.floor;
+    pen.fillRect(0, 0, width, height);
+    for (let cell = 0; cell < floor.length; cell += 1) {
+      if (floor[cell]) continue;
+      pen.fillStyle = letters[cell] === 'T' || letters[cell] === 'W' ? colours.shelf : colours.wall;
+      pen.fillRect(cell % width, Math.floor(cell / width), 1, 1);
+    }
+  }
+
+  drawCells(canvas) {
+    const { view, map } = this;
+    this.pen.drawImage(canvas, view.left, view.top, map.width * view.scale, map.height * view.scale);
+  }
+
+  drawGround(numbered) {
+    const { pen, view, map, colours, canvas } = this;
+    pen.setTransform(1, 0, 0, 1, 0, 0);
+    pen.globalAlpha = 1;
+    pen.fillStyle = colours.card;
+    pen.fillRect(0, 0, canvas.width, canvas.height);
+    pen.imageSmoothingEnabled = false;
+    this.drawCells(this.ground);
+    if (this.shows.heat) this.drawHeat();
+    pen.strokeStyle = colours.line;
+    pen.lineWidth = 1;
+    pen.strokeRect(view.left, view.top, map.width * view.scale, map.height * view.scale);
+    if (numbered) this.drawGrid();
+  }
+
+  drawHeat() {
+    const { heat } = this;
+    heat.follow();
+    const painted = `${heat.kind} ${heat.window} ${heat.frame}`;
+    if (this.paintedHeat !== painted) this.paintHeat();
+    this.paintedHeat = painted;
+    this.drawCells(this.heatCanvas);
+  }
+
+  paintHeat() {
+    const { counts } = this.heat;
+    const pixels = new Uint32Array(this.heatPixels.data.buffer);
+    this.mostHeat = this.heat.most();
+    const most = Math.max(1, this.mostHeat);
+    for (let cell = 0; cell < counts.length; cell += 1) {
+      pixels[cell] = this.shades[Math.ceil(255 * Math.sqrt(counts[cell] / most))];
+    }
+    this.heatCanvas.getContext('2d').putImageData(this.heatPixels, 0, 0);
+  }
+
+  drawGrid() {
+    const { pen, view, colours } = this;
+    const { height, width } = this.map;
+    pen.strokeStyle = colours.grid;
+    pen.lineWidth = 1;
+    pen.beginPath();
+    for (let column = 0; column <= width; column += 1) {
+      const x = Math.round(view.left + column * view.scale) + 0.5;
+      pen.moveTo(x, view.top);
+      pen.lineTo(x, view.top + height * view.scale);
+    }
+    for (let row = 0; row <= height; row += 1) {
+      const y = Math.round(view.top + row * view.scale) + 0.5;
+      pen.moveTo(view.left, y);
+      pen.lineTo(view.left + width * view.scale, y);
+    }
+    pen.stroke();
+  }
+}
+
 // ---- the map on its canvas
 
 const LEAST_NUMBERED = 9;
 const PATH_FRAMES = 30;
 
-class MapView extends MapPlace {
+class MapView extends MapGround {
   constructor(canvas, replay) {
-    super(canvas, replay.map);
-    this.pen = canvas.getContext('2d');
-    this.replay = replay;
+    super(canvas, replay);
     this.shows = { heat: false, goals: true, lines: true };
     this.picked = null;
     this.follows = false;
@@ -905,28 +1075,6 @@ class MapView extends MapPlace {
     this.ys = new Float64Array(replay.robots);
   }
 
-  // Letters become one pixel a cell, which is drawn larger.
-  paintLetters(colours) {
-    const { height, width, letters, floor } = this.replay.map;
-    this.colours = colours;
-    this.ground = document.createElement('canvas');
-    this.ground.width = width;
-    this.ground.height = height;
-    this.heatCanvas = document.createElement('canvas');
-    this.heatCanvas.width = width;
-    this.heatCanvas.height = height;
-    this.heatPixels = this.heatCanvas.getContext('2d').createImageData(width, height);
-    this.shades = shadesOf(colours.heat);
-    this.heatFrame = undefined;
-    const pen = this.ground.getContext('2d');
-    pen.fillStyle = colours.floor;
-    pen.fillRect(0, 0, width, height);
-    for (let cell = 0; cell < floor.length; cell += 1) {
-      if (floor[cell]) continue;
-      pen.fillStyle = letters[cell] === 'T' || letters[cell] === 'W' ? colours.shelf : colours.wall;
-      pen.fillRect(cell % width, Math.floor(cell / width), 1, 1);
-    }
-  }
   // The robot that is drawn nearest to a point of the canvas, if one is near.
   robotAt(x, y) {
     let best = null;
@@ -937,6 +1085,7 @@ class MapView extends MapPlace {
     }
     return best;
   }
+
   // The cells between which robots are drawn: those of this frame and of the next one, or of the one before where the
   // fraction is negative.
   placeRobots(fraction) {
@@ -969,21 +1118,9 @@ class MapView extends MapPlace {
   }
 
   draw(fraction) {
-    const { pen, colours, canvas, picked } = this;
+    const { picked } = this;
     this.placeRobots(fraction);
-    const { view } = this;
-    pen.setTransform(1, 0, 0, 1, 0, 0);
-    pen.globalAlpha = 1;
-    pen.fillStyle = colours.card;
-    pen.fillRect(0, 0, canvas.width, canvas.height);
-    pen.imageSmoothingEnabled = false;
-    const { height, width } = this.replay.map;
-    pen.drawImage(this.ground, view.left, view.top, width * view.scale, height * view.scale);
-    if (this.shows.heat) this.drawHeat();
-    pen.strokeStyle = colours.line;
-    pen.lineWidth = 1;
-    pen.strokeRect(view.left, view.top, width * view.scale, height * view.scale);
-    if (view.scale >= LEAST_NUMBERED * this.ratio) this.drawGrid();
+    this.drawGround(this.view.scale >= LEAST_NUMBERED * this.ratio);
     if (picked !== null) this.drawPath(picked);
     if (this.shows.lines) this.drawLines();
     this.drawRobots(fraction);
@@ -995,50 +1132,6 @@ class MapView extends MapPlace {
   // How strongly a robot is drawn: others than the picked one are dimmed.
   strengthOf(robot) {
     return this.picked === null || this.picked === robot ? 1 : 0.25;
-  }
-
-  // How often robots came to each cell, one pixel a cell. From frame to frame only cells to which one came change.
-  paintHeat() {
-    const { replay } = this;
-    const { frame, heat, cells } = replay.state;
-    const pixels = new Uint32Array(this.heatPixels.data.buffer);
-    const shade = (cell) => {
-      pixels[cell] = this.shades[Math.ceil(255 * Math.sqrt(Math.min(1, heat[cell] / replay.mostHeat)))];
-    };
-    if (this.heatFrame === frame - 1) {
-      const end = replay.moveStart[frame + 1];
-      for (let at = replay.moveStart[frame]; at < end; at += 1) shade(cells[replay.moveRobot[at]]);
-    } else {
-      for (let cell = 0; cell < heat.length; cell += 1) shade(cell);
-    }
-    this.heatFrame = frame;
-    this.heatCanvas.getContext('2d').putImageData(this.heatPixels, 0, 0);
-  }
-
-  drawHeat() {
-    const { pen, view, replay } = this;
-    if (this.heatFrame !== replay.state.frame) this.paintHeat();
-    const { height, width } = replay.map;
-    pen.drawImage(this.heatCanvas, view.left, view.top, width * view.scale, height * view.scale);
-  }
-
-  drawGrid() {
-    const { pen, view, colours } = this;
-    const { height, width } = this.replay.map;
-    pen.strokeStyle = colours.grid;
-    pen.lineWidth = 1;
-    pen.beginPath();
-    for (let column = 0; column <= width; column += 1) {
-      const x = Math.round(view.left + column * view.scale) + 0.5;
-      pen.moveTo(x, view.top);
-      pen.lineTo(x, view.top + height * view.scale);
-    }
-    for (let row = 0; row <= height; row += 1) {
-      const y = Math.round(view.top + row * view.scale) + 0.5;
-      pen.moveTo(view.left, y);
-      pen.lineTo(view.left + width * view.scale, y);
-    }
-    pen.stroke();
   }
 
   // From each robot to its goal.
@@ -1365,13 +1458,17 @@ function noteOf(map, entry) {
   }
 }
 
+function isRefusal({ entry }) {
+  return entry[0] === 'take' && entry[3][0] === 'refused';
+}
+
 function showEntries(list, replay) {
   const { frame } = replay.state;
   const events = replay.events[frame] ?? [];
   const items = events.slice(0, MOST_ENTRIES).map((event) => {
     const item = document.createElement('li');
     item.textContent = noteOf(replay.map, event.entry);
-    item.classList.toggle('refused', event.entry[0] === 'take' && event.entry[3][0] === 'refused');
+    item.classList.toggle('refused', isRefusal(event));
     return item;
   });
   if (events.length > MOST_ENTRIES || events.length === 0) {
@@ -1458,6 +1555,152 @@ function robotText(replay, robot) {
   const more = queue.length > MOST_ERRANDS ? `, and ${queue.length - MOST_ERRANDS} more` : '';
   const cells = `${queue.length === 1 ? 'cell' : 'cells'} ${errands.slice(0, MOST_ERRANDS).join(', then ')}${more}`;
   return `${place} It has waited ${wait} tick${wait === 1 ? '' : 's'}, and is sent to ${cells}.`;
+}
+
+// ---- the list of all events
+
+const MOST_LISTED = 200;
+const LISTED_BEFORE = 20;
+
+const EVENT_KINDS = {
+  all: () => true,
+  orders: (event) => event.entry[0] === 'take',
+  refusals: isRefusal,
+  arrivals: (event) => event.entry[0] === 'arrival',
+  shuts: (event) => event.entry[0] === 'shut' || event.entry[0] === 'farewell',
+  chapters: (event) => event.entry[0] === 'chapter' || event.entry[0] === 'reopened',
+};
+
+function clientOf({ entry }) {
+  if (entry[0] === 'take') return entry[1];
+  return entry[0] === 'arrival' ? entry[3] : null;
+}
+
+function robotOf(event) {
+  const { entry } = event;
+  if (entry[0] === 'take') return entry[2][0] === 'go' ? entry[2][1] : event.robot ?? null;
+  if (entry[0] === 'arrival') return entry[2];
+  return entry[0] === 'chapter' ? null : entry[1];
+}
+
+// The events of a kind, of a client and of a robot, with their frames; null stands for all clients or robots.
+function eventsOf(replay, { kind, client, robot }) {
+  const found = [];
+  replay.events.forEach((events, frame) => {
+    for (const event of events) {
+      if (!EVENT_KINDS[kind](event)) continue;
+      if (client !== null && clientOf(event) !== client) continue;
+      if (robot !== null && robotOf(event) !== robot) continue;
+      found.push({ frame, event });
+    }
+  });
+  return found;
+}
+
+// The place of the first of these events that comes at a frame or later.
+function firstFrom(found, frame) {
+  let [low, high] = [0, found.length];
+  while (low < high) {
+    const middle = (low + high) >> 1;
+    if (found[middle].frame < frame) low = middle + 1;
+    else high = middle;
+  }
+  return low;
+}
+
+// Lists the events round the frame that is shown. A click on one goes to its frame.
+class EventList {
+  constructor(replay, jump) {
+    this.replay = replay;
+    this.list = element('events');
+    this.choices = ['kind', 'client', 'robot'].map((name) => element(`events-${name}`));
+    const clients = new Set();
+    for (const events of replay.events) for (const event of events ?? []) clients.add(clientOf(event));
+    clients.delete(null);
+    this.offer(this.choices[1], 'all clients', 'client', [...clients].sort((one, other) => one - other));
+    this.offer(this.choices[2], 'all robots', 'robot', Array.from({ length: replay.robots }, (_, robot) => robot));
+    for (const choice of this.choices) choice.addEventListener('change', () => this.choose());
+    this.list.addEventListener('click', (event) => {
+      const button = event.target.closest('button');
+      if (button !== null) jump(Number(button.dataset.frame));
+    });
+    this.choose();
+  }
+
+  offer(choice, all, word, numbers) {
+    const option = (value, text) => {
+      const made = document.createElement('option');
+      made.value = value;
+      made.textContent = text;
+      return made;
+    };
+    choice.replaceChildren(option('', all), ...numbers.map((number) => option(number, `${word} ${number}`)));
+  }
+
+  choose() {
+    const [kind, client, robot] = this.choices.map((choice) => choice.value);
+    const number = (text) => (text === '' ? null : Number(text));
+    this.found = eventsOf(this.replay, { kind, client: number(client), robot: number(robot) });
+    const count = this.found.length;
+    element('events-count').textContent = `${count} event${count === 1 ? '' : 's'}`;
+    document.body.dataset.events = count;
+    this.draw();
+  }
+
+  draw() {
+    const { frame } = this.replay.state;
+    const first = firstFrom(this.found, frame);
+    const from = Math.max(0, Math.min(first - LISTED_BEFORE, this.found.length - MOST_LISTED));
+    const items = this.found.slice(from, from + MOST_LISTED).map((one) => this.itemOf(one, frame));
+    this.list.replaceChildren(...items);
+    const near = items[Math.min(first - from, items.length - 1)];
+    if (near !== undefined) this.list.scrollTop = near.offsetTop - this.list.offsetTop - this.list.clientHeight / 3;
+  }
+
+  itemOf({ frame, event }, now) {
+    const item = document.createElement('li');
+    const button = document.createElement('button');
+    button.type = 'button';
+    button.dataset.frame = frame;
+    button.textContent = `tick ${this.replay.clockAt(frame)}: ${noteOf(this.replay.map, event.entry)}`;
+    item.classList.toggle('refused', isRefusal(event));
+    item.classList.toggle('now', frame === now);
+    item.append(button);
+    return item;
+  }
+}
+
+// ---- marks on the slider
+
+const MOST_MARKS = 400;
+
+// The marks of a replay: a kind and a part of its time, from 0 to 1. Marks of one kind that would lie on one another are one.
+function marksOf(replay) {
+  const { last } = replay;
+  const kept = new Map();
+  const add = (kind, frame) => {
+    const part = last === 0 ? 0 : frame / last;
+    const key = `${kind} ${Math.round(part * MOST_MARKS)}`;
+    if (!kept.has(key)) kept.set(key, { kind, part });
+  };
+  for (const chapter of replay.chapters.slice(1)) add('chapter', chapter.frame);
+  replay.events.forEach((events, frame) => {
+    for (const event of events) {
+      if (event.entry[0] === 'shut') add('shutting', frame);
+      else if (isRefusal(event)) add('refusal', frame);
+    }
+  });
+  for (const fault of replay.faults) add('fault', fault.frame);
+  return [...kept.values()];
+}
+
+function showMarks(place, replay) {
+  place.replaceChildren(...marksOf(replay).map(({ kind, part }) => {
+    const mark = document.createElement('span');
+    mark.className = kind;
+    mark.style.setProperty('--part', String(part));
+    return mark;
+  }));
 }
 
 // ---- time: which tick is shown, and play
@@ -1618,7 +1861,8 @@ const SHOWN = ['heat', 'goals', 'lines'];
 const ADDRESS_EVERY = 300;
 
 // `t=140` is the tick at which the clock is 140, `robot=3` the picked robot, `zoom=2.5,10,7` shows the map 2.5 times as
-// large with column 10, row 7 in the middle, and `heat=1&goals=0&lines=0` says what is drawn.
+// large with column 10, row 7 in the middle, and `heat=1&goals=0&lines=0` says what is drawn. `heat=stood-100` is the heat of
+// cells on which robots stood in the last 100 ticks.
 class Address {
   constructor(page) {
     this.page = page;
@@ -1628,6 +1872,8 @@ class Address {
     const { page } = this;
     const words = new URLSearchParams(hash.slice(1));
     for (const name of SHOWN) if (words.has(name)) page.setShown(name, words.get(name) === '1');
+    const [kind, window] = (words.get('heat') ?? '').split('-');
+    if (HEAT_KINDS.includes(kind) && /^(0|100|1000)$/.test(window)) page.chooseHeat(kind, Number(window));
     if (/^\d+$/.test(words.get('robot') ?? '')) page.setPicked(Number(words.get('robot')));
     const [zoom, x, y] = (words.get('zoom') ?? '').split(',').map(Number.parseFloat);
     if (zoom > 0) page.view.show(zoom, x >= 0 && y >= 0 ? { x, y } : page.view.middle);
@@ -1642,8 +1888,13 @@ class Address {
     const { zoom, middle } = view;
     if (zoom > 1) words.push(`zoom=${zoom.toFixed(2)},${middle.x.toFixed(1)},${middle.y.toFixed(1)}`);
     const others = SHOWN.filter((name) => view.shows[name] !== (name !== 'heat'));
-    words.push(...others.map((name) => `${name}=${view.shows[name] ? 1 : 0}`));
+    words.push(...others.map((name) => `${name}=${view.shows[name] ? this.shownText(name) : 0}`));
     return `#${words.join('&')}`;
+  }
+
+  shownText(name) {
+    const { kind, window } = this.page.view.heat;
+    return name === 'heat' && (kind !== 'came' || window !== 0) ? `${kind}-${window}` : 1;
   }
 
   // The address follows what is shown, a few times a second at most: browsers refuse more.
@@ -1669,6 +1920,7 @@ class Address {
 // ---- what the page shows
 
 const MOST_BANNERS = 5;
+const HEAT_TEXTS = { came: 'a robot came to the cell', stood: 'a robot with an errand stood on the cell' };
 
 function element(name) {
   return document.getElementById(name);
@@ -1690,6 +1942,7 @@ class Page {
       this.waitChart,
     ];
     this.table = new RobotTable(element('robots'), replay);
+    this.events = new EventList(replay, (frame) => this.player.jump(frame));
     element('slider').max = String(replay.last);
     this.describe();
     this.showVerdict();
@@ -1732,11 +1985,7 @@ class Page {
     });
     if (faults.length > MOST_BANNERS) lines.push(`${faults.length - MOST_BANNERS} more chapters are illegal.`);
     element('verdict').replaceChildren(...lines);
-    element('marks').replaceChildren(...faults.map((fault) => {
-      const mark = document.createElement('span');
-      mark.style.setProperty('--part', String(last === 0 ? 0 : fault.frame / last));
-      return mark;
-    }));
+    showMarks(element('marks'), this.replay);
   }
 
   // A new size or new colours.
@@ -1752,6 +2001,27 @@ class Page {
   draw() {
     this.view.draw(this.player.fraction);
     this.drawTexts();
+    if (this.view.shows.heat) this.showScale();
+  }
+
+  // The scale of the heat, from no robot to the most on one cell.
+  showScale() {
+    const { heat, mostHeat } = this.view;
+    element('heat-most').textContent = `${mostHeat} time${mostHeat === 1 ? '' : 's'} ${HEAT_TEXTS[heat.kind]}`;
+    if (this.player.playing) return;
+    let cells = '';
+    for (let cell = 0; cell < heat.counts.length && cells.length < 2000; cell += 1) {
+      if (heat.counts[cell] > 0) cells += ` ${cell}:${heat.counts[cell]}`;
+    }
+    document.body.dataset.heat = cells.trim();
+  }
+
+  // `window` is a number of ticks, 0 for all up to the one that is shown.
+  chooseHeat(kind, window) {
+    this.view.heat.choose(kind, window);
+    element('heat-kind').value = kind;
+    element('heat-window').value = String(window);
+    this.setShown('heat', true);
   }
 
   // The texts of a frame. While the replay plays, the table and the entries are written a few times a second.
@@ -1775,6 +2045,7 @@ class Page {
       this.listed = now;
       this.table.draw(this.colours, this.view.picked);
       showEntries(element('entries'), replay);
+      this.events.draw();
       element('picked').textContent = this.view.picked === null ? '' : robotText(replay, this.view.picked);
     }
     this.publish();
@@ -1804,7 +2075,7 @@ class Page {
     dataset.middle = `${this.view.middle.x.toFixed(2)} ${this.view.middle.y.toFixed(2)}`;
     if (!this.player.playing) {
       dataset.waits = queues.map((_, robot) => replay.waitOf(robot) ?? '-').join(' ');
-      dataset.heat = replay.state.heat.reduce((sum, count) => sum + count, 0);
+      dataset.moves = replay.moveStart[frame + 1];
     }
   }
 
@@ -1847,6 +2118,7 @@ class Page {
   setShown(name, on) {
     this.view.shows[name] = on;
     element(`show-${name}`).checked = on;
+    if (name === 'heat') element('heat-scale').hidden = !on;
   }
 
   show(name, on) {
@@ -1977,6 +2249,10 @@ function keysOf(page) {
     h: toggle('heat'),
     g: toggle('goals'),
     l: toggle('lines'),
+    j: () => {
+      page.chooseHeat('stood', 100);
+      page.draw();
+    },
     y: () => page.address.copy(),
     '?': () => element('help').showModal(),
   };
@@ -1989,8 +2265,10 @@ function listenToKeys(page) {
     const key = keys[event.key] ?? keys[event.key.toLowerCase()];
     if (key === undefined) return;
     // a button or a box that has the focus keeps the space bar
-    const own = event.target instanceof Element ? event.target.closest('button, input[type="checkbox"]') : null;
+    const own = event.target instanceof Element ? event.target.closest('button, select, input[type="checkbox"]') : null;
     if (own !== null && event.key === ' ') return;
+    // and a menu its arrows and letters
+    if (own instanceof HTMLSelectElement) return;
     event.preventDefault();
     key(event.shiftKey ? 10 : 1);
   });
@@ -2027,6 +2305,12 @@ function listenToControls(page) {
   element('slider').addEventListener('input', (event) => page.player.jump(Number(event.target.value)));
   for (const name of SHOWN) {
     element(`show-${name}`).addEventListener('change', (event) => page.show(name, event.target.checked));
+  }
+  for (const name of ['heat-kind', 'heat-window']) {
+    element(name).addEventListener('change', () => {
+      page.chooseHeat(element('heat-kind').value, Number(element('heat-window').value));
+      page.draw();
+    });
   }
   element('follow').addEventListener('change', (event) => {
     page.follow(event.target.checked);

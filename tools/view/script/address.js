@@ -4,7 +4,8 @@ const SHOWN = ['heat', 'goals', 'lines'];
 const ADDRESS_EVERY = 300;
 
 // `t=140` is the tick at which the clock is 140, `robot=3` the picked robot, `zoom=2.5,10,7` shows the map 2.5 times as
-// large with column 10, row 7 in the middle, and `heat=1&goals=0&lines=0` says what is drawn.
+// large with column 10, row 7 in the middle, and `heat=1&goals=0&lines=0` says what is drawn. `heat=stood-100` is the heat of
+// cells on which robots stood in the last 100 ticks.
 class Address {
   constructor(page) {
     this.page = page;
@@ -14,6 +15,8 @@ class Address {
     const { page } = this;
     const words = new URLSearchParams(hash.slice(1));
     for (const name of SHOWN) if (words.has(name)) page.setShown(name, words.get(name) === '1');
+    const [kind, window] = (words.get('heat') ?? '').split('-');
+    if (HEAT_KINDS.includes(kind) && /^(0|100|1000)$/.test(window)) page.chooseHeat(kind, Number(window));
     if (/^\d+$/.test(words.get('robot') ?? '')) page.setPicked(Number(words.get('robot')));
     const [zoom, x, y] = (words.get('zoom') ?? '').split(',').map(Number.parseFloat);
     if (zoom > 0) page.view.show(zoom, x >= 0 && y >= 0 ? { x, y } : page.view.middle);
@@ -28,8 +31,13 @@ class Address {
     const { zoom, middle } = view;
     if (zoom > 1) words.push(`zoom=${zoom.toFixed(2)},${middle.x.toFixed(1)},${middle.y.toFixed(1)}`);
     const others = SHOWN.filter((name) => view.shows[name] !== (name !== 'heat'));
-    words.push(...others.map((name) => `${name}=${view.shows[name] ? 1 : 0}`));
+    words.push(...others.map((name) => `${name}=${view.shows[name] ? this.shownText(name) : 0}`));
     return `#${words.join('&')}`;
+  }
+
+  shownText(name) {
+    const { kind, window } = this.page.view.heat;
+    return name === 'heat' && (kind !== 'came' || window !== 0) ? `${kind}-${window}` : 1;
   }
 
   // The address follows what is shown, a few times a second at most: browsers refuse more.

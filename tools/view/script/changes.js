@@ -11,7 +11,7 @@ function openedRobot([, shut, wait, errands], frame) {
 }
 
 // What stands at the first frame.
-function openedState(map, opening) {
+function openedState(opening) {
   const robots = opening.robots.map((robot) => openedRobot(robot, 0));
   return {
     frame: 0,
@@ -19,7 +19,6 @@ function openedState(map, opening) {
     queues: robots.map((robot) => robot.queue),
     since: Float64Array.from(robots, (robot) => robot.since),
     shut: Uint8Array.from(robots, (robot) => robot.shut),
-    heat: new Uint32Array(map.floor.length),
   };
 }
 

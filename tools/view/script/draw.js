@@ -3,11 +3,9 @@
 const LEAST_NUMBERED = 9;
 const PATH_FRAMES = 30;
 
-class MapView extends MapPlace {
+class MapView extends MapGround {
   constructor(canvas, replay) {
-    super(canvas, replay.map);
-    this.pen = canvas.getContext('2d');
-    this.replay = replay;
+    super(canvas, replay);
     this.shows = { heat: false, goals: true, lines: true };
     this.picked = null;
     this.follows = false;
@@ -18,28 +16,6 @@ class MapView extends MapPlace {
     this.ys = new Float64Array(replay.robots);
   }
 
-  // Letters become one pixel a cell, which is drawn larger.
-  paintLetters(colours) {
-    const { height, width, letters, floor } = this.replay.map;
-    this.colours = colours;
-    this.ground = document.createElement('canvas');
-    this.ground.width = width;
-    this.ground.height = height;
-    this.heatCanvas = document.createElement('canvas');
-    this.heatCanvas.width = width;
-    this.heatCanvas.height = height;
-    this.heatPixels = this.heatCanvas.getContext('2d').createImageData(width, height);
-    this.shades = shadesOf(colours.heat);
-    this.heatFrame = undefined;
-    const pen = this.ground.getContext('2d');
-    pen.fillStyle = colours.floor;
-    pen.fillRect(0, 0, width, height);
-    for (let cell = 0; cell < floor.length; cell += 1) {
-      if (floor[cell]) continue;
-      pen.fillStyle = letters[cell] === 'T' || letters[cell] === 'W' ? colours.shelf : colours.wall;
-      pen.fillRect(cell % width, Math.floor(cell / width), 1, 1);
-    }
-  }
   // The robot that is drawn nearest to a point of the canvas, if one is near.
   robotAt(x, y) {
     let best = null;
@@ -50,6 +26,7 @@ class MapView extends MapPlace {
     }
     return best;
   }
+
   // The cells between which robots are drawn: those of this frame and of the next one, or of the one before where the
   // fraction is negative.
   placeRobots(fraction) {
@@ -82,21 +59,9 @@ class MapView extends MapPlace {
   }
 
   draw(fraction) {
-    const { pen, colours, canvas, picked } = this;
+    const { picked } = this;
     this.placeRobots(fraction);
-    const { view } = this;
-    pen.setTransform(1, 0, 0, 1, 0, 0);
-    pen.globalAlpha = 1;
-    pen.fillStyle = colours.card;
-    pen.fillRect(0, 0, canvas.width, canvas.height);
-    pen.imageSmoothingEnabled = false;
-    const { height, width } = this.replay.map;
-    pen.drawImage(this.ground, view.left, view.top, width * view.scale, height * view.scale);
-    if (this.shows.heat) this.drawHeat();
-    pen.strokeStyle = colours.line;
-    pen.lineWidth = 1;
-    pen.strokeRect(view.left, view.top, width * view.scale, height * view.scale);
-    if (view.scale >= LEAST_NUMBERED * this.ratio) this.drawGrid();
+    this.drawGround(this.view.scale >= LEAST_NUMBERED * this.ratio);
     if (picked !== null) this.drawPath(picked);
     if (this.shows.lines) this.drawLines();
     this.drawRobots(fraction);
@@ -108,50 +73,6 @@ class MapView extends MapPlace {
   // How strongly a robot is drawn: others than the picked one are dimmed.
   strengthOf(robot) {
     return this.picked === null || this.picked === robot ? 1 : 0.25;
-  }
-
-  // How often robots came to each cell, one pixel a cell. From frame to frame only cells to which one came change.
-  paintHeat() {
-    const { replay } = this;
-    const { frame, heat, cells } = replay.state;
-    const pixels = new Uint32Array(this.heatPixels.data.buffer);
-    const shade = (cell) => {
-      pixels[cell] = this.shades[Math.ceil(255 * Math.sqrt(Math.min(1, heat[cell] / replay.mostHeat)))];
-    };
-    if (this.heatFrame === frame - 1) {
-      const end = replay.moveStart[frame + 1];
-      for (let at = replay.moveStart[frame]; at < end; at += 1) shade(cells[replay.moveRobot[at]]);
-    } else {
-      for (let cell = 0; cell < heat.length; cell += 1) shade(cell);
-    }
-    this.heatFrame = frame;
-    this.heatCanvas.getContext('2d').putImageData(this.heatPixels, 0, 0);
-  }
-
-  drawHeat() {
-    const { pen, view, replay } = this;
-    if (this.heatFrame !== replay.state.frame) this.paintHeat();
-    const { height, width } = replay.map;
-    pen.drawImage(this.heatCanvas, view.left, view.top, width * view.scale, height * view.scale);
-  }
-
-  drawGrid() {
-    const { pen, view, colours } = this;
-    const { height, width } = this.replay.map;
-    pen.strokeStyle = colours.grid;
-    pen.lineWidth = 1;
-    pen.beginPath();
-    for (let column = 0; column <= width; column += 1) {
-      const x = Math.round(view.left + column * view.scale) + 0.5;
-      pen.moveTo(x, view.top);
-      pen.lineTo(x, view.top + height * view.scale);
-    }
-    for (let row = 0; row <= height; row += 1) {
-      const y = Math.round(view.top + row * view.scale) + 0.5;
-      pen.moveTo(view.left, y);
-      pen.lineTo(view.left + width * view.scale, y);
-    }
-    pen.stroke();
   }
 
   // From each robot to its goal.

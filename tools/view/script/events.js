@@ -41,13 +41,17 @@ function noteOf(map, entry) {
   }
 }
 
+function isRefusal({ entry }) {
+  return entry[0] === 'take' && entry[3][0] === 'refused';
+}
+
 function showEntries(list, replay) {
   const { frame } = replay.state;
   const events = replay.events[frame] ?? [];
   const items = events.slice(0, MOST_ENTRIES).map((event) => {
     const item = document.createElement('li');
     item.textContent = noteOf(replay.map, event.entry);
-    item.classList.toggle('refused', event.entry[0] === 'take' && event.entry[3][0] === 'refused');
+    item.classList.toggle('refused', isRefusal(event));
     return item;
   });
   if (events.length > MOST_ENTRIES || events.length === 0) {

@@ -36,6 +36,10 @@ function keysOf(page) {
     h: toggle('heat'),
     g: toggle('goals'),
     l: toggle('lines'),
+    j: () => {
+      page.chooseHeat('stood', 100);
+      page.draw();
+    },
     y: () => page.address.copy(),
     '?': () => element('help').showModal(),
   };
@@ -48,8 +52,10 @@ function listenToKeys(page) {
     const key = keys[event.key] ?? keys[event.key.toLowerCase()];
     if (key === undefined) return;
     // a button or a box that has the focus keeps the space bar
-    const own = event.target instanceof Element ? event.target.closest('button, input[type="checkbox"]') : null;
+    const own = event.target instanceof Element ? event.target.closest('button, select, input[type="checkbox"]') : null;
     if (own !== null && event.key === ' ') return;
+    // and a menu its arrows and letters
+    if (own instanceof HTMLSelectElement) return;
     event.preventDefault();
     key(event.shiftKey ? 10 : 1);
   });
@@ -86,6 +92,12 @@ function listenToControls(page) {
   element('slider').addEventListener('input', (event) => page.player.jump(Number(event.target.value)));
   for (const name of SHOWN) {
     element(`show-${name}`).addEventListener('change', (event) => page.show(name, event.target.checked));
+  }
+  for (const name of ['heat-kind', 'heat-window']) {
+    element(name).addEventListener('change', () => {
+      page.chooseHeat(element('heat-kind').value, Number(element('heat-window').value));
+      page.draw();
+    });
   }
   element('follow').addEventListener('change', (event) => {
     page.follow(event.target.checked);

@@ -26,6 +26,9 @@ class Replay {
     this.moveStart = new Uint32Array(ticks + 2);
     this.moveRobot = new Uint16Array(moves);
     this.moveDelta = new Int32Array(moves);
+    // by frame, a bit for each robot that stood still in the tick to it although it had an errand
+    this.stoodBytes = Math.ceil(this.robots / 8);
+    this.stood = new Uint8Array((ticks + 1) * this.stoodBytes);
     this.events = new Array(ticks + 1);
     this.arrivals = new Uint32Array(ticks + 1);
     this.unfinished = new Uint32Array(ticks + 1);
@@ -39,7 +42,7 @@ class Replay {
     this.openings = [];
     this.chapters = [];
     this.faults = [];
-    this.state = openedState(map, traces[0].opening);
+    this.state = openedState(traces[0].opening);
     this.build(traces, verdicts);
     this.seek(0);
   }
@@ -65,7 +68,6 @@ class Replay {
       trace.entries = null;
     });
     this.measure(arrived);
-    this.mostHeat = this.state.heat.reduce((most, count) => Math.max(most, count), 1);
   }
 
   openChapter(trace, verdict) {
@@ -129,12 +131,14 @@ class Replay {
     const count = Math.min(to.length, state.cells.length);
     for (let robot = 0; robot < count; robot += 1) {
       const delta = to[robot] - state.cells[robot];
-      if (delta === 0) continue;
+      if (delta === 0) {
+        if (state.queues[robot].length > 0) this.stood[state.frame * this.stoodBytes + (robot >> 3)] |= 1 << (robot & 7);
+        continue;
+      }
       this.moveRobot[at] = robot;
       this.moveDelta[at] = delta;
       at += 1;
       state.cells[robot] = to[robot];
-      state.heat[to[robot]] += 1;
     }
     this.moveStart[state.frame + 1] = at;
   }
@@ -163,9 +167,7 @@ class Replay {
     const { state } = this;
     state.frame += 1;
     for (let at = this.moveStart[state.frame]; at < this.moveStart[state.frame + 1]; at += 1) {
-      const robot = this.moveRobot[at];
-      state.cells[robot] += this.moveDelta[at];
-      state.heat[state.cells[robot]] += 1;
+      state.cells[this.moveRobot[at]] += this.moveDelta[at];
     }
     for (const event of this.events[state.frame] ?? []) EVENTS[event.kind].go(state, event);
   }
@@ -175,9 +177,7 @@ class Replay {
     const events = this.events[state.frame] ?? [];
     for (let place = events.length - 1; place >= 0; place -= 1) EVENTS[events[place].kind].back(state, events[place]);
     for (let at = this.moveStart[state.frame]; at < this.moveStart[state.frame + 1]; at += 1) {
-      const robot = this.moveRobot[at];
-      state.heat[state.cells[robot]] -= 1;
-      state.cells[robot] -= this.moveDelta[at];
+      state.cells[this.moveRobot[at]] -= this.moveDelta[at];
     }
     state.frame -= 1;
   }

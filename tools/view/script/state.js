@@ -1,6 +1,7 @@
 // ---- what the page shows
 
 const MOST_BANNERS = 5;
+const HEAT_TEXTS = { came: 'a robot came to the cell', stood: 'a robot with an errand stood on the cell' };
 
 function element(name) {
   return document.getElementById(name);
@@ -22,6 +23,7 @@ class Page {
       this.waitChart,
     ];
     this.table = new RobotTable(element('robots'), replay);
+    this.events = new EventList(replay, (frame) => this.player.jump(frame));
     element('slider').max = String(replay.last);
     this.describe();
     this.showVerdict();
@@ -64,11 +66,7 @@ class Page {
     });
     if (faults.length > MOST_BANNERS) lines.push(`${faults.length - MOST_BANNERS} more chapters are illegal.`);
     element('verdict').replaceChildren(...lines);
-    element('marks').replaceChildren(...faults.map((fault) => {
-      const mark = document.createElement('span');
-      mark.style.setProperty('--part', String(last === 0 ? 0 : fault.frame / last));
-      return mark;
-    }));
+    showMarks(element('marks'), this.replay);
   }
 
   // A new size or new colours.
@@ -84,6 +82,27 @@ class Page {
   draw() {
     this.view.draw(this.player.fraction);
     this.drawTexts();
+    if (this.view.shows.heat) this.showScale();
+  }
+
+  // The scale of the heat, from no robot to the most on one cell.
+  showScale() {
+    const { heat, mostHeat } = this.view;
+    element('heat-most').textContent = `${mostHeat} time${mostHeat === 1 ? '' : 's'} ${HEAT_TEXTS[heat.kind]}`;
+    if (this.player.playing) return;
+    let cells = '';
+    for (let cell = 0; cell < heat.counts.length && cells.length < 2000; cell += 1) {
+      if (heat.counts[cell] > 0) cells += ` ${cell}:${heat.counts[cell]}`;
+    }
+    document.body.dataset.heat = cells.trim();
+  }
+
+  // `window` is a number of ticks, 0 for all up to the one that is shown.
+  chooseHeat(kind, window) {
+    this.view.heat.choose(kind, window);
+    element('heat-kind').value = kind;
+    element('heat-window').value = String(window);
+    this.setShown('heat', true);
   }
 
   // The texts of a frame. While the replay plays, the table and the entries are written a few times a second.
@@ -107,6 +126,7 @@ class Page {
       this.listed = now;
       this.table.draw(this.colours, this.view.picked);
       showEntries(element('entries'), replay);
+      this.events.draw();
       element('picked').textContent = this.view.picked === null ? '' : robotText(replay, this.view.picked);
     }
     this.publish();
@@ -136,7 +156,7 @@ class Page {
     dataset.middle = `${this.view.middle.x.toFixed(2)} ${this.view.middle.y.toFixed(2)}`;
     if (!this.player.playing) {
       dataset.waits = queues.map((_, robot) => replay.waitOf(robot) ?? '-').join(' ');
-      dataset.heat = replay.state.heat.reduce((sum, count) => sum + count, 0);
+      dataset.moves = replay.moveStart[frame + 1];
     }
   }
 
@@ -179,6 +199,7 @@ class Page {
   setShown(name, on) {
     this.view.shows[name] = on;
     element(`show-${name}`).checked = on;
+    if (name === 'heat') element('heat-scale').hidden = !on;
   }
 
   show(name, on) {

@@ -9,10 +9,13 @@ const path = require('node:path');
 const test = require('node:test');
 const vm = require('node:vm');
 
-const PARTS = ['read', 'graph', 'fault', 'changes', 'replay', 'bound', 'colours', 'charts', 'events'];
+const PARTS = [
+  'read', 'graph', 'fault', 'changes', 'replay', 'bound', 'colours', 'heat', 'charts', 'events', 'list', 'marks',
+];
 const NAMES = [
   'Replay', 'Distances', 'mapOf', 'verdictsOf', 'traceOf', 'tracesOf', 'hasBridge', 'greatestDistance', 'findBound',
   'faultText', 'noteOf', 'robotText', 'recentArrivals', 'robotColour', 'contrastOf', 'luminanceOfHex',
+  'Heat', 'eventsOf', 'firstFrom', 'marksOf',
 ];
 
 function load() {
@@ -79,10 +82,8 @@ test('robots move, arrive and wait, forward and back', () => {
   replay.seek(0);
   assert.deepStrictEqual([...replay.state.cells], [0, 8]);
   assert.deepStrictEqual(replay.state.queues[0].map((errand) => errand.cell), [2, 0]);
-  assert.deepStrictEqual([...replay.state.heat], [0, 0, 0, 0, 0, 0, 0, 0, 0]);
   replay.seek(2);
   assert.deepStrictEqual(replay.arrivedAt(2), [0]);
-  assert.deepStrictEqual([...replay.state.heat], [0, 1, 1, 0, 0, 0, 0, 0, 0]);
 });
 
 test('the path of a robot reaches to both sides', () => {
@@ -213,4 +214,64 @@ test('entries and robots are told in words', () => {
   const place = 'Robot 0 is on cell 0 (row 0, column 0).';
   const errand = 'It has waited 0 ticks, and is sent to cell 5 (client 0, errand 1).';
   assert.strictEqual(page.robotText(replay, 0), `${place} ${errand}`);
+});
+
+// Robot 0 goes to cell 2 by cell 1, where it stands for two ticks; robot 1 has no errand and stands on cell 8.
+const JAM = [
+  go(0, 0, 2, 1), tick([1, 8]), tick([1, 8]), tick([1, 8]), tick([2, 8], [[0, 0, 1, 0]]), tick([2, 8]), tick([5, 8]),
+];
+
+// The counts of the cells that have any, at each frame, forward and then back.
+function heatAt(kind, window) {
+  const replay = replayOf(OPEN, [trace([robot(0), robot(8)], JAM)]);
+  const heat = new page.Heat(replay);
+  heat.choose(kind, window);
+  const read = (frame) => {
+    replay.seek(frame);
+    heat.follow();
+    return [...heat.counts].flatMap((count, cell) => (count > 0 ? [`${cell}:${count}`] : [])).join(' ');
+  };
+  const frames = [0, 1, 2, 3, 4, 5, 6];
+  const forward = frames.map(read);
+  assert.deepStrictEqual([...frames].reverse().map(read).reverse(), forward);
+  return forward;
+}
+
+test('heat counts the ticks in which a robot came to a cell', () => {
+  assert.deepStrictEqual(heatAt('came', 0), ['', '1:1', '1:1', '1:1', '1:1 2:1', '1:1 2:1', '1:1 2:1 5:1']);
+  assert.deepStrictEqual(heatAt('came', 2), ['', '1:1', '1:1', '', '2:1', '2:1', '5:1']);
+});
+
+test('heat counts the ticks in which a robot with an errand stood on a cell', () => {
+  assert.deepStrictEqual(heatAt('stood', 0), ['', '', '1:1', '1:2', '1:2', '1:2', '1:2']);
+  assert.deepStrictEqual(heatAt('stood', 2), ['', '', '1:1', '1:2', '1:1', '', '']);
+});
+
+const MIXED = [
+  go(0, 0, 2, 1), ['take', 1, ['go', 1, 99], ['refused', 4]], tick([1, 8]), tick([2, 8], [[0, 0, 1, 0]]),
+  ['shut', 1, 0], ['take', 0, ['close'], ['closed']],
+];
+
+test('events are listed by kind, client and robot', () => {
+  const replay = replayOf(OPEN, [trace([robot(0), robot(8)], MIXED)]);
+  const frames = (kind, client = null, of = null) => page.eventsOf(replay, { kind, client, robot: of }).map((one) => one.frame);
+  assert.deepStrictEqual(frames('all'), [0, 0, 2, 2, 2]);
+  assert.deepStrictEqual(frames('orders'), [0, 0, 2]);
+  assert.deepStrictEqual(frames('refusals'), [0]);
+  assert.deepStrictEqual(frames('arrivals'), [2]);
+  assert.deepStrictEqual(frames('shuts'), [2]);
+  assert.deepStrictEqual(frames('chapters'), []);
+  assert.deepStrictEqual(frames('all', 0), [0, 2, 2]);
+  assert.deepStrictEqual(frames('all', 1), [0]);
+  assert.deepStrictEqual(frames('all', null, 1), [0, 2]);
+  assert.deepStrictEqual(frames('all', 0, 0), [0, 2]);
+  const found = page.eventsOf(replay, { kind: 'all', client: null, robot: null });
+  assert.deepStrictEqual([0, 1, 2, 3].map((frame) => page.firstFrom(found, frame)), [0, 2, 2, 5]);
+});
+
+test('the slider has marks for chapters, shuts, refusals and faults', () => {
+  const second = trace([robot(2), robot(8, [], null, true)], [tick([2, 5]), tick([2, 2])], 2, 1);
+  const replay = replayOf(OPEN, [trace([robot(0), robot(8)], MIXED), second], ['legal', 'illegal 2 4']);
+  const marks = page.marksOf(replay).map(({ kind, part }) => `${kind} ${part}`);
+  assert.deepStrictEqual(marks, ['chapter 0.5', 'refusal 0', 'shutting 0.5', 'fault 1']);
 });

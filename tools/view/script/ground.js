@@ -1,0 +1,95 @@
+// ---- what lies under the robots: letters, heat, grid
+
+class MapGround extends MapPlace {
+  constructor(canvas, replay) {
+    super(canvas, replay.map);
+    this.pen = canvas.getContext('2d');
+    this.replay = replay;
+    this.heat = new Heat(replay);
+  }
+
+  // A canvas of one pixel a cell, which is drawn larger.
+  cellCanvas() {
+    const canvas = document.createElement('canvas');
+    canvas.width = this.map.width;
+    canvas.height = this.map.height;
+    return canvas;
+  }
+
+  paintLetters(colours) {
+    const { height, width, letters, floor } = this.map;
+    this.colours = colours;
+    this.ground = this.cellCanvas();
+    this.heatCanvas = this.cellCanvas();
+    this.heatPixels = this.heatCanvas.getContext('2d').createImageData(width, height);
+    this.shades = shadesOf(colours.heat);
+    this.paintedHeat = undefined;
+    const pen = this.ground.getContext('2d');
+    pen.fillStyle = colours.floor;
+    pen.fillRect(0, 0, width, height);
+    for (let cell = 0; cell < floor.length; cell += 1) {
+      if (floor[cell]) continue;
+      pen.fillStyle = letters[cell] === 'T' || letters[cell] === 'W' ? colours.shelf : colours.wall;
+      pen.fillRect(cell % width, Math.floor(cell / width), 1, 1);
+    }
+  }
+
+  drawCells(canvas) {
+    const { view, map } = this;
+    this.pen.drawImage(canvas, view.left, view.top, map.width * view.scale, map.height * view.scale);
+  }
+
+  drawGround(numbered) {
+    const { pen, view, map, colours, canvas } = this;
+    pen.setTransform(1, 0, 0, 1, 0, 0);
+    pen.globalAlpha = 1;
+    pen.fillStyle = colours.card;
+    pen.fillRect(0, 0, canvas.width, canvas.height);
+    pen.imageSmoothingEnabled = false;
+    this.drawCells(this.ground);
+    if (this.shows.heat) this.drawHeat();
+    pen.strokeStyle = colours.line;
+    pen.lineWidth = 1;
+    pen.strokeRect(view.left, view.top, map.width * view.scale, map.height * view.scale);
+    if (numbered) this.drawGrid();
+  }
+
+  drawHeat() {
+    const { heat } = this;
+    heat.follow();
+    const painted = `${heat.kind} ${heat.window} ${heat.frame}`;
+    if (this.paintedHeat !== painted) this.paintHeat();
+    this.paintedHeat = painted;
+    this.drawCells(this.heatCanvas);
+  }
+
+  paintHeat() {
+    const { counts } = this.heat;
+    const pixels = new Uint32Array(this.heatPixels.data.buffer);
+    this.mostHeat = this.heat.most();
+    const most = Math.max(1, this.mostHeat);
+    for (let cell = 0; cell < counts.length; cell += 1) {
+      pixels[cell] = this.shades[Math.ceil(255 * Math.sqrt(counts[cell] / most))];
+    }
+    this.heatCanvas.getContext('2d').putImageData(this.heatPixels, 0, 0);
+  }
+
+  drawGrid() {
+    const { pen, view, colours } = this;
+    const { height, width } = this.map;
+    pen.strokeStyle = colours.grid;
+    pen.lineWidth = 1;
+    pen.beginPath();
+    for (let column = 0; column <= width; column += 1) {
+      const x = Math.round(view.left + column * view.scale) + 0.5;
+      pen.moveTo(x, view.top);
+      pen.lineTo(x, view.top + height * view.scale);
+    }
+    for (let row = 0; row <= height; row += 1) {
+      const y = Math.round(view.top + row * view.scale) + 0.5;
+      pen.moveTo(view.left, y);
+      pen.lineTo(view.left + width * view.scale, y);
+    }
+    pen.stroke();
+  }
+}
