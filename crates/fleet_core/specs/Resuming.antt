@@ -40,10 +40,14 @@ BeginsWithinBound m o = IsBridgeless (IsNeighbour m) → KeepsBound m (start o)
 pub record CanResume {A : Type 0} (m : Floor) (number : ℕ) (o : Opening A) (limits : Limits) (laws : HookLaws) : Type 0 where
   pub valid : AreValid limits
   pub order : IsInOrder m o
-  pub laws : AreLawsAt o laws
-  pub limits : AreLimitsAt o limits
+  pub hooks : AreLawsAt o laws
+  pub same : AreLimitsAt o limits
   pub within : IsOpeningWithin limits number o
   pub bounded : BeginsWithinBound m o
+
+-- a world may go on from the opening, whatever its number and its laws
+abbrev pub MayResume : {A : Type 0} → Floor → Opening A → Limits → Type 0
+MayResume m o limits = (number : ℕ) × (laws : HookLaws) × CanResume m number o limits laws
 
 -- a mailbox without notices, with room for this many and for as many as its client is owed
 abbrev pub empty_box : {A : Type 0} → History A → ℕ → ℕ → Pending

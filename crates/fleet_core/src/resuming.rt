@@ -1,8 +1,7 @@
 //! A core that goes on from the opening of a chapter.
 
-ghost use Rattle.std.specs.Prelude.{◌≡◌, ℕ, IfOk};
-ghost use Rattle.fleet_core.specs.Hooks.{HookLaws};
-ghost use Rattle.fleet_core.specs.Resuming.{CanResume, resumed_world};
+ghost use Rattle.std.specs.Prelude.{◌≡◌, IfOk};
+ghost use Rattle.fleet_core.specs.Resuming.{CanResume, MayResume, resumed_world};
 ghost use Rattle.fleet_core.specs.inside.Resumed.{AreResumed};
 
 use crate::hook_laws::HookLaws;
@@ -31,7 +30,7 @@ pub(crate) fn resumed_at<A: Allocator + Copy>(
     opening: &Opening<A>,
     limits: Limits,
 ) -> Result<Resumed<A>, AllocError>
-    requires { (number : ℕ) × (laws : HookLaws) × CanResume grid.now number opening.now limits laws }
+    requires { MayResume grid.now opening.now limits }
     ensures { IfOk result (λ b. AreResumed grid.now opening.now limits b.state b.planner b.mailboxes) }
 {
     let state = FleetState::open(alloc, opening, limits.queue)?;
