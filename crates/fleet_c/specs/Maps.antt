@@ -1,5 +1,5 @@
 -- What the calls without a handle say of a map's text.
-use Rattle.std.specs.Prelude.{ℕ, ◌≡◌, ◌≢◌, ◌<◌, List, length, slice_index, Option, None, Some, Result, IfOk, IfErr}
+use Rattle.std.specs.Prelude.{ℕ, ◌≡◌, ◌≢◌, ◌↔◌, ◌<◌, List, length, slice_index, Option, None, Some, Result, IfOk, IfErr}
 use Rattle.fleet_map.specs.Text.{lines_of}
 use Rattle.fleet_map.specs.FirstFault.{IsFirstFault}
 use Rattle.fleet_map.specs.declared.fault.MapFault.{MapFault}
@@ -22,11 +22,11 @@ pub record IsMapFault (why : MapFault) (code : ℕ) (told : Fault) : Type 0 wher
   pub fault_is : told ≡ fault_of (refusal.Map why)
   pub code_is : code ≡ told.code
 
--- the text is a map of which that is said, or its first fault is told
-pub record OnMap (bytes : List ℕ) (code : ℕ) (told : Fault) (Says : Floor → Type 0) : Type 0 where
+-- the text is a map of which that is said, or its first fault is told, and nothing else
+pub record OnMap (bytes : List ℕ) (code : ℕ) (told : Fault) (Says : Floor → Type 0) (Stays : Type 0) : Type 0 where
   pub read : Result Floor MapFault
   pub says : IfOk read (λ m. Reads bytes m × Says m)
-  pub first : IfErr read (λ why. IsFirstFault (lines_of bytes) why × IsMapFault why code told)
+  pub first : IfErr read (λ why. IsFirstFault (lines_of bytes) why × IsMapFault why code told × Stays)
 
 -- ---- steps
 
@@ -52,17 +52,19 @@ step_fault_of (step_refusal.Step (step.Vertex i j)) = fault VERTEX_CONFLICT i j
 step_fault_of (step_refusal.Step (step.Swap i j)) = fault SWAPPING_CONFLICT i j
 
 -- the step is free of conflicts, or C is told why it is refused
-pub record IsStepChecked (m : Floor) (from to : List ℕ) (code : ℕ) (told : Fault) : Type 0 where
+pub record IsStepChecked (m : Floor) (from to : List ℕ) (code : ℕ) (before told : Fault) : Type 0 where
   pub answer : Result (Unit {0}) StepRefusal
-  pub free : IfOk answer (λ _. (code ≡ DONE) × IsPlacement m from × IsConflictFree m from to)
+  pub free : IfOk answer (λ _. (code ≡ DONE) × (told ≡ before) × IsPlacement m from × IsConflictFree m from to)
   pub refused : IfErr answer (λ why. IsStepRefusal m from to why × (told ≡ step_fault_of why) × (code ≡ told.code))
 
 -- ---- bridges
 
-pub record HasBridge (m : Floor) (code : ℕ) (edge : Edge) : Type 0 where
+-- the edge stays as it was unless there is a bridge
+pub record HasBridge (m : Floor) (code : ℕ) (before edge : Edge) : Type 0 where
   pub none : code ≡ NO_BRIDGE → IsBridgeless (IsNeighbour m)
   pub first : code ≡ DONE → IsFirstBridge (IsNeighbour m) edge.lower edge.upper
   pub refused : code ≢ DONE → code ≢ NO_BRIDGE → code ≡ NO_MEMORY
+  pub stays : code ≢ DONE → edge ≡ before
 
 -- ---- distances
 
@@ -80,9 +82,11 @@ pub record IsAway (m : Floor) (goal cell away : ℕ) : Type 0 where
   pub near : away < FAR → IsDistance (IsNeighbour m) cell goal away
   pub far : away ≡ FAR → (cs : List ℕ) → Walks (IsNeighbour m) cell cs goal → length cs < FAR → ⊥
 
+-- the codes, in the order of their refusals; the list stays as it was unless the distances are written
 pub record AreAway (m : Floor) (goal : ℕ) (before after : List ℕ) (code : ℕ) : Type 0 where
-  pub blocked : code ≡ GOAL_BLOCKED → IsFloor m goal → ⊥
-  pub wrong : code ≡ WRONG_LENGTH → length before ≢ length m.letters
+  pub wrong : (code ≡ WRONG_LENGTH) ↔ (length before ≢ length m.letters)
+  pub blocked : (code ≡ GOAL_BLOCKED) ↔ ((length before ≡ length m.letters) × (IsFloor m goal → ⊥))
   pub refused : code ≢ DONE → code ≢ GOAL_BLOCKED → code ≢ WRONG_LENGTH → code ≡ NO_MEMORY
   pub counted : code ≡ DONE → length after ≡ length m.letters
   pub away : code ≡ DONE → (cell : ℕ) → cell < length m.letters → IsAway m goal cell (slice_index after cell)
+  pub stays : code ≢ DONE → after ≡ before

@@ -23,7 +23,8 @@ fn turn(core: &mut Core) -> u32
 
 /// Writes the trace of the current chapter.
 fn trace(alloc: Global, core: &mut Core, text: &mut [u8], length: &mut usize) -> u32
-    ensures { IsTold core.old result text.old text.new length.new core.new }
+    ensures told { IsTold core.old result text.old text.new length.new core.new }
+    ensures length { result ≡ NO_MEMORY → length.new ≡ length.old }
 {
     let Ok(told) = write_trace(alloc, core.chapter()) else {
         return NO_MEMORY;
@@ -49,6 +50,8 @@ pub extern "C" fn nashirudder_trace(
 ) -> u32
     ensures says { OnFleet fleet.old.owned.held fleet.new.owned.held result (λ w n. IsTold w result text.old text.new length.new n) }
     ensures untouched { (result ≢ DONE) → text.new ≡ text.old }
+    ensures closed { (result ≡ NOT_OPEN) → length.new ≡ length.old }
+    ensures memory { (result ≡ NO_MEMORY) → length.new ≡ length.old }
 {
     let Some(mut core) = fleet.take(alloc) else {
         return NOT_OPEN;

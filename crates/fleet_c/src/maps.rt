@@ -1,6 +1,6 @@
 //! Calls that need only a map.
 
-ghost use Rattle.std.specs.Prelude.{◌≡◌, ◌<◌, ◌≤◌, ◌^◌, ℕ, IfErr, OnOk, length, slice_index, slice_index_or, None};
+ghost use Rattle.std.specs.Prelude.{⊤, ◌≡◌, ◌<◌, ◌≤◌, ◌^◌, ℕ, IfErr, OnOk, length, slice_index, slice_index_or, None};
 ghost use Rattle.fleet_grid.specs.Floor.{IsFloor};
 ghost use Rattle.fleet_grid.specs.Step.{IsPlacement, IsConflictFree};
 ghost use Rattle.fleet_c.specs.Maps.{OnMap, IsMapFault, IsStepChecked, IsStepRefusal, HasBridge, AreAway, told_away};
@@ -53,7 +53,7 @@ fn step_on(alloc: Global, grid: &Grid, from: &[u32], to: &[u32]) -> Result<(), S
 
 /// Checks a step, and tells its fault.
 fn checked(alloc: Global, grid: &Grid, from: &[u32], to: &[u32], fault: &mut Fault) -> u32
-    ensures { IsStepChecked grid.now from.now to.now result fault.new }
+    ensures { IsStepChecked grid.now from.now to.now result fault.old fault.new }
 {
     match step_on(alloc, grid, from, to) {
         Ok(()) => DONE,
@@ -66,7 +66,7 @@ fn checked(alloc: Global, grid: &Grid, from: &[u32], to: &[u32], fault: &mut Fau
 
 /// The first bridge of a floor.
 fn bridge_on(alloc: Global, grid: &Grid, edge: &mut Edge) -> u32
-    ensures { HasBridge grid.now result edge.new }
+    ensures { HasBridge grid.now result edge.old edge.new }
 {
     match first_bridge(alloc, grid) {
         Ok(Some((lower, upper))) => {
@@ -127,7 +127,7 @@ pub extern "C" fn nashirudder_check_step(
     to: &[u32],
     fault: &mut Fault,
 ) -> u32
-    ensures { OnMap map.now result fault.new (λ m. IsStepChecked m from.now to.now result fault.new) }
+    ensures { OnMap map.now result fault.new (λ m. IsStepChecked m from.now to.now result fault.old fault.new) ⊤ }
 {
     match grid_of(alloc, map) {
         Ok(grid) => checked(alloc, &grid, from, to, fault),
@@ -145,7 +145,7 @@ pub extern "C" fn nashirudder_first_bridge(
     edge: &mut Edge,
     fault: &mut Fault,
 ) -> u32
-    ensures { OnMap map.now result fault.new (λ m. HasBridge m result edge.new) }
+    ensures { OnMap map.now result fault.new (λ m. HasBridge m result edge.old edge.new × (fault.new ≡ fault.old)) (edge.new ≡ edge.old) }
 {
     match grid_of(alloc, map) {
         Ok(grid) => bridge_on(alloc, &grid, edge),
@@ -165,7 +165,7 @@ pub extern "C" fn nashirudder_distances(
     distances: &mut [u32],
     fault: &mut Fault,
 ) -> u32
-    ensures { OnMap map.now result fault.new (λ m. AreAway m goal distances.old distances.new result) }
+    ensures { OnMap map.now result fault.new (λ m. AreAway m goal distances.old distances.new result × (fault.new ≡ fault.old)) (distances.new ≡ distances.old) }
 {
     match grid_of(alloc, map) {
         Ok(grid) => distances_on(alloc, &grid, goal, distances),

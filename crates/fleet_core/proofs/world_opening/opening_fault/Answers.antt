@@ -14,6 +14,8 @@ refused m starts clients limits laws fault.Limits is = is
 refused m starts clients limits laws fault.NoRobots is = is
 refused m starts clients limits laws (fault.Start r) is = is
 refused m starts clients limits laws (fault.Shared i j) is = is
+refused m starts clients limits laws fault.Hooks is = elim is [ ]
+refused m starts clients limits laws fault.NoMemory is = elim is [ ]
 
 pub returns-in-Some : goal.returns-in-Some
 returns-in-Some g c = refused c.args.grid.now c.args.starts.now c.args.clients c.args.limits (laws_of c.args.hooks.now) c.in-Some.fault c.in-Some.ensures
