@@ -1,5 +1,5 @@
 use Rattle.fleet_office.specs.Views.{rings_of}
-use Rattle.quickstart_threads.proofs.main.Given as goal
+use Rattle.quickstart.proofs.threads.play.Given as goal
 
 abbrev pub ghosts-spend_day-N-Ledger : goal.ghosts-spend_day-N-Ledger
 ghosts-spend_day-N-Ledger g a = record { name = a.desk.ledger; parts = a.desk.parts }

@@ -1,9 +1,9 @@
-//! `quickstart_threads`: two clients post errands from threads of their own while a ticker moves the robots. It is the
-//! shortest whole program on an office: copy it. It prints the same under every schedule of the threads.
-#![tactic(auto)]
+//! Two clients post errands from threads of their own while a ticker moves the robots. It is the shortest whole use of an
+//! office: copy it. It prints the same under every schedule of the threads.
 
 ghost use Rattle.fleet_office.specs.Views.{IsNamed};
 
+use crate::MAP;
 use anyhow::{Result, bail};
 use fleet_book::{Limits, Notice, Order};
 use fleet_grid::Grid;
@@ -15,9 +15,6 @@ use std::marker::Brand;
 use std::sync::Wait;
 use std::sync::atomic::{AtomicU64, Ordering};
 use std::thread::{Threads, for_each_mut, join, yield_now};
-
-/// A hall of two rows of three cells, numbered row by row from 0.
-const MAP: &[u8] = b"type octile\nheight 2\nwidth 3\nmap\n...\n...\n";
 
 /// The cells to which each of the two clients sends a robot: client c sends robot c.
 const ERRANDS: [u32; 3] = [5, 1, 3];
@@ -103,7 +100,8 @@ fn spend_day<
     Ok(())
 }
 
-fn main(rt: HostRuntime) -> Result<()> {
+/// Makes the hall, two robots and their closures, and spends a day there with two clients.
+pub(crate) fn play<R: Alloc<A = Global> + Print + Threads + Sync + Wait>(rt: &R) -> Result<()> {
     let alloc = rt.alloc();
     let grid = Grid::new(read_map(alloc, MAP)?)?;
     let starts = Vec::from_slice(alloc, &[0, 2])?;
@@ -116,5 +114,5 @@ fn main(rt: HostRuntime) -> Result<()> {
         )?;
     }
     let desk = Desk::new(alloc, 2, Limits::DEFAULT)?;
-    spend_day::<Brand, HostRuntime>(&rt, desk, grid, starts, hooks)
+    spend_day::<Brand, R>(rt, desk, grid, starts, hooks)
 }
