@@ -5,7 +5,7 @@ usage: tools/live/model.py [--watch] MAP SCRIPT < LINES
        tools/live/model.py --cases FILE
 
 Says what the first conversation says, where no client has pipes of its own: output, error text, status. SCRIPT has the header lines.
-With --cases it reads the test cases of crates/golden_live (its stdin) and prints what the program has to print of them: a shelf in
+With --cases it reads the section `live` of crates/golden_errands/stdin and prints what golden_errands has to print of it: a shelf in
 place of a folder counts the chapters that it keeps, and fails first where an option says so. Standard library only.
 """
 import importlib.util
@@ -300,7 +300,7 @@ def tell(name, options, lines):
 def main(words):
     if words[:1] == ["--cases"]:
         with open(words[1], "rb") as file:
-            for case in talk.cases(file.read()):
+            for case in talk.cases(file.read(), b"live"):
                 sys.stdout.buffer.write(tell(*case))
         return 0
     if {"--help", "-h"} & set(words) or len([word for word in words if not word.startswith("--")]) != 2:

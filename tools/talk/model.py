@@ -4,11 +4,12 @@
 usage: tools/talk/model.py [--marks] [--roll] MAP [SCRIPT] < LINES
        tools/talk/model.py --cases FILE
 
-Answers as `fleet talk` does: output, error text, status. With --cases it reads the test cases of crates/golden_talk (its stdin) and prints
-what the program has to print of them. `talk(map, script, lines, marks, roll)` returns (output, error
+Answers as `fleet talk` does: output, error text, status. With --cases it reads the section `talk` of crates/golden_errands/stdin and prints
+what golden_errands has to print of it. `talk(map, script, lines, marks, roll)` returns (output, error
 text, status). Standard library only.
 """
 import os
+import re
 import sys
 
 sys.path.insert(0, os.path.join(os.path.dirname(os.path.abspath(__file__)), "..", "reference"))
@@ -186,9 +187,10 @@ def talk(text, script, lines, marks=False, roll=False):
     return b"".join(held.out), "", 0
 
 
-def cases(text):
-    """The cases of crates/golden_talk: names, options, conversations."""
-    for block in text.split(b"case: ")[1:]:
+def cases(text, section):
+    """The cases of a section of crates/golden_errands/stdin: names, options, conversations."""
+    found = re.search(b"^== " + section + rb"\n(.*?)(?=^== |\Z)", text, re.S | re.M)
+    for block in found[1].split(b"case: ")[1:]:
         name, rest = block.split(b"\n", 1)
         options = []
         while rest.startswith(b"+ "):
@@ -241,7 +243,7 @@ def main(words):
         return 0
     if words[:1] == ["--cases"]:
         with open(words[1], "rb") as file:
-            for case in cases(file.read()):
+            for case in cases(file.read(), b"talk"):
                 sys.stdout.buffer.write(tell(*case))
         return 0
     names = [word for word in words if not word.startswith("--")]

@@ -1,6 +1,6 @@
 //! Measures the search of the first bridge.
 
-use bench_ground::{Measure, print_measure};
+use crate::measure::{Measure, print_measure};
 use fleet_bridge::first_bridge;
 use fleet_grid::Grid;
 use std::alloc::{Alloc, Global};

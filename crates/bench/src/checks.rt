@@ -2,10 +2,12 @@
 
 ghost use Rattle.std.specs.Prelude.{◌≡◌, ◌<◌, ◌≤◌, length, vec_len};
 ghost use Rattle.fleet_grid.specs.Step.{IsPlacement};
-ghost use Rattle.bench_ground.specs.Fleet.{AreWithin, Serves};
+ghost use Rattle.bench.specs.Fleet.{AreWithin, Serves};
 
+use crate::fleet::Fleet;
+use crate::measure::{Measure, print_measure};
+use crate::site::Site;
 use crate::steps::{FIELDS, FLEETS, MOST};
-use bench_ground::{Fleet, Measure, Random, Site, print_measure};
 use fleet_check::StepChecker;
 use fleet_field::Compass;
 use fleet_grid::Grid;
@@ -14,6 +16,7 @@ use fleet_pibt::Stepper;
 use std::alloc::{Alloc, Global};
 use std::io;
 use std::time::{Clock, Instant};
+use test_kit::Random;
 
 /// How often a step is checked.
 const REPEATS: u32 = 200;

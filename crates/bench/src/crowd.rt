@@ -2,9 +2,10 @@
 
 ghost use Rattle.std.specs.Prelude.{◌≡◌, ◌<◌, ◌≤◌, length, vec_len};
 ghost use Rattle.fleet_grid.specs.Step.{IsPlacement};
-ghost use Rattle.bench_ground.specs.Fleet.{AreWithin, Serves, IsUnderWay};
+ghost use Rattle.bench.specs.Fleet.{AreWithin, Serves, IsUnderWay};
 
-use bench_ground::{Fleet, Random, Site};
+use crate::fleet::Fleet;
+use crate::site::Site;
 use fleet_check::check_step;
 use fleet_field::Compass;
 use fleet_grid::Grid;
@@ -13,6 +14,7 @@ use fleet_map::MapText;
 use fleet_pibt::Stepper;
 use std::alloc::{Alloc, AllocError, Global};
 use std::io;
+use test_kit::Random;
 
 /// How many robots there are: one for each cell.
 const ROBOTS: usize = 512;

@@ -3,13 +3,15 @@
 ghost use Rattle.std.specs.Prelude.{ℕ, ◌<◌, length, slice_index};
 ghost use Rattle.fleet_grid.specs.Floor.{IsFloor};
 
-use bench_ground::{Measure, Random, Site, print_measure};
+use crate::measure::{Measure, print_measure};
+use crate::site::Site;
 use fleet_field::{Compass, Field, fields};
 use fleet_grid::Grid;
 use std::alloc::{Alloc, Global};
 use std::io;
 use std::thread::Threads;
 use std::time::{Clock, Instant};
+use test_kit::Random;
 
 /// How often one field is searched on each map.
 const REPEATS: u32 = 48;

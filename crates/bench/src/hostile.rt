@@ -1,7 +1,7 @@
 //! Whole maps of a hostile shape: read, described, and run through by one robot.
 
+use crate::shape::Shape;
 use crate::worlds::{Ground, Task, Work, measure_world};
-use bench_ground::{Random, Shape};
 use fleet_bridge::first_bridge;
 use fleet_grid::Grid;
 use fleet_map::read_map;
@@ -10,6 +10,7 @@ use std::fs::Files;
 use std::io::{self, ErrorKind};
 use std::thread::Threads;
 use std::time::{Clock, Instant};
+use test_kit::Random;
 
 /// How many ticks the robot travels.
 const TICKS: u32 = 4_096;

@@ -2,14 +2,16 @@
 
 ghost use Rattle.std.specs.Prelude.{◌<◌, length};
 
+use crate::kind::Kind;
+use crate::site::Site;
 use crate::worlds::{LIMITS, MOST_ROBOTS, Task, Work, give_one, measure_fleets, order_one};
-use bench_ground::{Kind, Random, Site};
 use fleet_world::{Notice, World};
 use std::alloc::{Alloc, Global};
 use std::fs::Files;
 use std::io;
 use std::thread::Threads;
 use std::time::{Clock, Instant};
+use test_kit::Random;
 
 /// How long a run is: the number of its ticks times the number of its robots.
 const ROBOT_TICKS: usize = 256_000;

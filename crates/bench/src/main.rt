@@ -4,23 +4,32 @@
 
 mod bridges;
 mod checks;
+mod course;
 mod crowd;
 mod fields;
+mod fleet;
 mod hostile;
+mod kernel;
+mod kind;
 mod lifelong;
 mod maps;
+mod measure;
 mod memory;
 mod opens;
+mod shape;
+mod site;
 mod sites;
 mod steps;
 mod ticks;
 mod traces;
 mod worlds;
 
-use bench_ground::{Kernel, Kind, Shape};
 use crowd::tell_crowd;
 use hostile::measure_hostile;
+use kernel::Kernel;
+use kind::Kind;
 use maps::tell_maps;
+use shape::Shape;
 use sites::measure_kinds;
 use std::alloc::{Alloc, Global};
 use std::env::Env;

@@ -1,7 +1,8 @@
 //! The maps that are measured, each with its counts.
 
 use crate::hostile::read_grid;
-use bench_ground::{Kind, Shape, grid_of};
+use crate::kind::{Kind, grid_of};
+use crate::shape::Shape;
 use fleet_grid::Grid;
 use std::alloc::{Alloc, Global};
 use std::io;

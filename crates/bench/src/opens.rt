@@ -2,14 +2,16 @@
 
 ghost use Rattle.std.specs.Prelude.{◌<◌, length};
 
+use crate::kind::{Kind, grid_of};
+use crate::site::Site;
 use crate::worlds::{Ground, MOST_ROBOTS, Task, Work, measure_world, order_one};
-use bench_ground::{Kind, Random, Site, grid_of};
 use fleet_world::World;
 use std::alloc::{Alloc, Global};
 use std::fs::Files;
 use std::io;
 use std::thread::Threads;
 use std::time::{Clock, Instant};
+use test_kit::Random;
 
 /// How many robots there are.
 const ROBOTS: usize = 512;

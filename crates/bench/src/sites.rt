@@ -3,12 +3,14 @@
 use crate::bridges::measure_bridge;
 use crate::checks::measure_check;
 use crate::fields::{measure_field, measure_fields};
+use crate::kernel::Kernel;
+use crate::kind::{Kind, grid_of};
 use crate::lifelong::measure_lifelong;
 use crate::opens::measure_open;
+use crate::site::Site;
 use crate::steps::measure_step;
 use crate::ticks::measure_tick;
 use crate::traces::measure_trace;
-use bench_ground::{Kernel, Kind, Site, grid_of};
 use std::alloc::{Alloc, Global};
 use std::fs::Files;
 use std::io;

@@ -2,15 +2,18 @@
 
 ghost use Rattle.std.specs.Prelude.{◌≡◌, ℕ, ◌<◌, ◌≤◌, length, vec_len};
 ghost use Rattle.fleet_grid.specs.Step.{IsPlacement};
-ghost use Rattle.bench_ground.specs.Fleet.{AreWithin, Serves, IsUnderWay};
+ghost use Rattle.bench.specs.Fleet.{AreWithin, Serves, IsUnderWay};
 
-use bench_ground::{Fleet, Measure, Random, Site, print_measure};
+use crate::fleet::Fleet;
+use crate::measure::{Measure, print_measure};
+use crate::site::Site;
 use fleet_field::Compass;
 use fleet_hooks::{TieHook, TieLaw, TieView};
 use fleet_pibt::Stepper;
 use std::alloc::{Alloc, Global};
 use std::io;
 use std::time::{Clock, Instant};
+use test_kit::Random;
 
 /// How many robots there are.
 pub const FLEETS: [usize; 3] = [16, 128, 512];

@@ -2,14 +2,17 @@
 
 ghost use Rattle.std.specs.Prelude.{◌<◌, length};
 
+use crate::kind::Kind;
+use crate::measure::Measure;
+use crate::site::Site;
 use crate::worlds::{LIMITS, MOST_ROBOTS, Task, Work, give_one, measure_fleets, order_one};
-use bench_ground::{Kind, Measure, Random, Site};
 use fleet_world::World;
 use std::alloc::{Alloc, Global};
 use std::fs::Files;
 use std::io;
 use std::thread::Threads;
 use std::time::{Clock, Instant};
+use test_kit::Random;
 
 /// The number of cells from which robots take their goals.
 const GOALS: usize = 64;

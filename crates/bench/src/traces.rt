@@ -2,10 +2,12 @@
 
 ghost use Rattle.std.specs.Prelude.{◌<◌, length};
 
+use crate::kind::Kind;
 use crate::lifelong::time_run;
+use crate::measure::{Measure, print_measure};
 use crate::memory::resident;
+use crate::site::Site;
 use crate::worlds::{Task, Work, measure_fleets};
-use bench_ground::{Kind, Measure, Random, Site, print_measure};
 use fleet_history::Chapter;
 use fleet_trace::{read_trace, write_trace};
 use fleet_world::World;
@@ -14,6 +16,7 @@ use std::fs::Files;
 use std::io::{self, ErrorKind};
 use std::thread::Threads;
 use std::time::{Clock, Instant};
+use test_kit::Random;
 
 /// The number of stations between which robots travel.
 const STATIONS: usize = 64;

@@ -2,12 +2,14 @@
 
 ghost use Rattle.std.specs.Prelude.{◌<◌, length};
 
+use crate::kind::{Kind, grid_of};
 use crate::lifelong::{print_run, time_run};
+use crate::measure::{Measure, print_measure};
 use crate::opens::first_tick;
+use crate::site::Site;
 use crate::steps::FLEETS;
 use crate::ticks::time_ticks;
 use crate::traces::time_trace;
-use bench_ground::{Kind, Measure, Random, Site, grid_of, print_measure};
 use fleet_grid::Grid;
 use fleet_hooks::{
     ArrivalHook, ArrivalView, Farewell, FarewellView, Hooks, StampLaw, TieHook, TieLaw, TieView,
@@ -19,6 +21,7 @@ use std::io::{self, ErrorKind};
 use std::mem;
 use std::thread::Threads;
 use std::time::{Clock, Instant};
+use test_kit::Random;
 
 /// The mailbox has room for the notices of two errands of each robot, and for those errands. The chapter has room for all ticks
 /// of several long runs.

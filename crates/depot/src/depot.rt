@@ -6,7 +6,6 @@ ghost use Rattle.fleet_office.specs.Views.{IsNamed, AreOn, cores};
 use crate::account::Account;
 use crate::tally::Tally;
 use crate::work::{Shift, TickerEnd, Worker, work_all};
-use bench_ground::Random;
 use fleet_core::OpenFault;
 use fleet_grid::Grid;
 use fleet_history::Chapter;
@@ -19,6 +18,7 @@ use std::alloc::{Alloc, AllocError, Global};
 use std::mem;
 use std::sync::Wait;
 use std::thread::Threads;
+use test_kit::Random;
 
 /// How a day at the depot ended.
 #[derive(Drop)]

@@ -3,7 +3,6 @@
 ghost use Rattle.std.specs.Prelude.{◌≡◌, ◌<◌, ◌^◌, vec_len};
 
 use crate::tally::Tally;
-use bench_ground::Random;
 use fleet_book::Order;
 use fleet_lanes::PostFault;
 use fleet_office::{Guest, Office, OfficeName, Ticker, TurnCause, side_by_side};
@@ -12,6 +11,7 @@ use std::sync::Wait;
 use std::sync::atomic::{AtomicU64, Ordering};
 use std::thread;
 use std::thread::{Threads, join};
+use test_kit::Random;
 
 /// The greatest number of times that a client looks for a free slot or a notice, and of turns that a ticker makes.
 const MOST_TRIES: u64 = 200_000_000;

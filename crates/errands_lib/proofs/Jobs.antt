@@ -5,7 +5,7 @@ use Rattle.std.specs.declared.alloc.AllocError.{AllocError}
 use Rattle.errands_words.specs.declared.words.Job.{Job}
 use Rattle.errands_text.specs.declared.said.Said.{Said}
 use Rattle.errands_text.specs.Said.{said}
-use Rattle.errands_answer.specs.Kit.{KitLaws}
+use Rattle.errands_text.specs.Kit.{KitLaws}
 use Rattle.errands_lib.specs.Outcome.{IsJobOutcome}
 
 -- what is said to the job at hand

@@ -4,7 +4,7 @@ use Rattle.std.specs.Prelude.{replicate}
 use Rattle.fleet_hooks.specs.declared.law.StampLaw.{StampLaw}
 use Rattle.fleet_hooks.specs.declared.law.TieLaw.{TieLaw}
 use Rattle.fleet_core.specs.Hooks.{HookLaws}
-use Rattle.errands_answer.specs.Kit.{KitLaws}
+use Rattle.errands_text.specs.Kit.{KitLaws}
 use Rattle.errands_lib.specs.Laws.{same_laws}
 
 -- the laws of three lists, in each of which all hooks have one law

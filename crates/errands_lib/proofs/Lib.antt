@@ -1,3 +1,4 @@
 pub mod Jobs
 pub mod KitLaws
 pub mod Services
+pub mod Outcomes

@@ -19,9 +19,9 @@ use Rattle.fleet_serve.specs.Posted.{TakesPosted, TakesAll}
 use Rattle.errands_text.specs.declared.said.Said.{Said}
 use Rattle.errands_words.specs.declared.words.Job.{Job}
 use Rattle.errands_words.specs.declared.words.Job.TheVariants as job
-use Rattle.errands_answer.specs.Kit.{KitLaws, chosen_laws}
+use Rattle.errands_text.specs.Kit.{KitLaws, chosen_laws}
 use Rattle.errands_text.specs.Outcome.{Outcome}
-use Rattle.errands_answer.specs.Answer.{limited}
+use Rattle.errands_lib.specs.Answer.{limited}
 use Rattle.errands_lib.specs.Outcome.{MayOpen, IsServed, IsServedText, IsUnserved, IsServeOutcome, IsJobOutcome, refused, ended, served}
 use Rattle.errands_text.specs.Said.{said}
 use Rattle.errands_words.specs.Asked.{is_serve}

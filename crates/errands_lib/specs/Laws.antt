@@ -4,7 +4,7 @@ use Rattle.fleet_core.specs.Hooks.{HookLaws}
 use Rattle.fleet_hooks.specs.Law.{exact_law, exact_stamp, south_first, stamps_to}
 use Rattle.fleet_hooks.specs.declared.law.StampLaw.{StampLaw}
 use Rattle.fleet_hooks.specs.declared.law.TieLaw.{TieLaw}
-use Rattle.errands_answer.specs.Kit.{KitLaws}
+use Rattle.errands_text.specs.Kit.{KitLaws}
 
 -- every rank is 0
 abbrev pub alike : TieLaw

@@ -17,9 +17,9 @@ use Rattle.errands_words.specs.declared.words.Job.{Job}
 use Rattle.errands_words.specs.declared.words.Job.TheVariants as job
 use Rattle.errands_text.specs.declared.said.Complaint.TheVariants as complaint
 use Rattle.fleet_script.specs.Script.{Plan, script_of}
-use Rattle.errands_answer.specs.Kit.{KitLaws, chosen_laws}
+use Rattle.errands_text.specs.Kit.{KitLaws, chosen_laws}
 use Rattle.errands_text.specs.Outcome.{Outcome, fault}
-use Rattle.errands_answer.specs.Answer.{IsBundleOutcome, IsJudgeOutcome, IsMapOutcome, IsPartsOutcome, floor_of_map, limited}
+use Rattle.errands_lib.specs.Answer.{IsBundleOutcome, IsJudgeOutcome, IsMapOutcome, IsPartsOutcome, floor_of_map, limited}
 
 -- ---- a script that is served on a map
 

@@ -6,7 +6,7 @@ use Rattle.errands_words.specs.declared.words.Job.TheVariants as job
 use Rattle.errands_text.specs.declared.input.InputFault.{InputFault}
 use Rattle.errands_text.specs.declared.input.InputFault.TheVariants as input_fault
 use Rattle.errands_text.specs.Complaint.{complaint_line, complaint_of, status_of}
-use Rattle.errands_answer.specs.Kit.{KitLaws}
+use Rattle.errands_text.specs.Kit.{KitLaws}
 use Rattle.errands_text.specs.Outcome.{Outcome}
 use Rattle.errands_lib.specs.Outcome.{IsJobOutcome}
 use Rattle.errands_text.specs.Transfer.{AppendsPrefix}

@@ -3,11 +3,12 @@
 ghost use Rattle.std.specs.Prelude.{◌≡◌, ◌≤◌, false, length, IfOk};
 ghost use Rattle.errands_words.specs.Asked.{is_serve};
 ghost use Rattle.errands_text.specs.Said.{said};
-ghost use Rattle.errands_answer.specs.Kit.{kit_laws};
+ghost use Rattle.errands_text.specs.Kit.{kit_laws};
 ghost use Rattle.errands_lib.specs.Outcome.{IsJobOutcome};
 
-use errands_answer::{HookKit, answer_bundle, answer_map, answer_parts, answer_trace};
-use errands_text::Said;
+use crate::judgement::answer_trace;
+use crate::texts::{answer_bundle, answer_map, answer_parts};
+use errands_text::{HookKit, Said};
 use errands_words::Job;
 use std::alloc::{Alloc, AllocError, Global};
 

@@ -6,8 +6,7 @@ ghost use Rattle.errands_lib.specs.Laws.{program_laws};
 ghost use Rattle.errands_lib.specs.Told.{IsShown, names_two};
 
 use crate::program::{fail, run_program};
-use errands_answer::HookKit;
-use errands_text::InputFault;
+use errands_text::{HookKit, InputFault};
 use errands_words::Job;
 use fleet_hooks::{ArrivalHook, Farewell, Hooks, TieHook};
 use std::alloc::{Alloc, AllocError, Global};

@@ -5,12 +5,13 @@
 mod answer;
 mod hooks;
 mod inputs;
+mod judgement;
 mod program;
 mod service;
+mod texts;
 mod words;
 
-pub use errands_answer::HookKit;
-pub use errands_text::{InputFault, read_whole, write_whole};
+pub use errands_text::{HookKit, InputFault, read_whole, write_whole};
 pub use errands_words::{Job, WordFault, parse_words};
 pub use fleet_script::{Script, ScriptFault, read_script};
 pub use fleet_serve::{Gate, ServeFault, Served, serve};

@@ -4,14 +4,13 @@ ghost use Rattle.std.specs.Prelude.{◌≡◌, ◌≤◌, false, true, IfOk, IfS
 ghost use Rattle.errands_words.specs.Asked.{is_serve};
 ghost use Rattle.errands_text.specs.Transfer.{bytes_of};
 ghost use Rattle.errands_lib.specs.Told.{Failed, IsAnswer, IsTold, IsShown, names_two};
-ghost use Rattle.errands_answer.specs.Kit.{kit_laws};
+ghost use Rattle.errands_text.specs.Kit.{kit_laws};
 ghost use Rattle.errands_text.specs.Said.{said as said_of};
 
 use crate::answer::answer;
 use crate::service::answer_job;
-use errands_answer::HookKit;
 use errands_text::{
-    Complaint, InputFault, Said, failure_line, read_other, read_whole, write_whole,
+    Complaint, HookKit, InputFault, Said, failure_line, read_other, read_whole, write_whole,
 };
 use errands_words::Job;
 use std::alloc::{Alloc, Global};

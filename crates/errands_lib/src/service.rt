@@ -10,14 +10,14 @@ ghost use Rattle.fleet_trace.specs.Trace.{trace_of};
 ghost use Rattle.fleet_trace.specs.Text.{trace_text};
 ghost use Rattle.fleet_serve.specs.Posted.{IsLine};
 ghost use Rattle.fleet_script.specs.Shown.{plan};
-ghost use Rattle.errands_answer.specs.Kit.{kit_laws};
-ghost use Rattle.errands_answer.specs.Answer.{floor_of_map, limited};
+ghost use Rattle.errands_text.specs.Kit.{kit_laws};
+ghost use Rattle.errands_lib.specs.Answer.{floor_of_map, limited};
 ghost use Rattle.errands_lib.specs.Outcome.{IsServed, IsServedScript, IsServeOutcome, IsJobOutcome, IsUnserved};
 ghost use Rattle.errands_text.specs.Said.{said};
 ghost use Rattle.errands_words.specs.Asked.{is_serve};
 
-use errands_answer::{HookKit, ended, trace_line};
-use errands_text::{Complaint, Said, faulty, map_complaint};
+use crate::texts::ended;
+use errands_text::{Complaint, HookKit, Said, faulty, map_complaint, trace_line};
 use errands_words::Job;
 use fleet_grid::Grid;
 use fleet_history::Chapter;

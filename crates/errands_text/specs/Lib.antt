@@ -4,3 +4,4 @@ pub mod Complaint
 pub mod Transfer
 pub mod Outcome
 pub mod Said
+pub mod Kit

@@ -12,8 +12,7 @@ mod view;
 
 pub use check::{MOST_PLAN_BYTES, answer_check};
 pub use convert::answer_convert;
-pub use errands_answer::trace_line;
-pub use errands_text::write_whole;
+pub use errands_text::{trace_line, write_whole};
 pub use explain::{
     MOST_SCRIPT_BYTES, answer_explain_map, answer_explain_script, answer_explain_trace,
 };

@@ -4,8 +4,7 @@ ghost use Rattle.std.specs.Prelude.{◌≤◌, length};
 
 use crate::input::InputFault;
 use crate::said::fail;
-use errands_answer::HookKit;
-use errands_text::{Complaint, write_whole};
+use errands_text::{Complaint, HookKit, write_whole};
 use fleet_grid::Grid;
 use fleet_hooks::{ArrivalHook, Farewell, Hooks, TieHook};
 use fleet_map::{MapFault, read_map};

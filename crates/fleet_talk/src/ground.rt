@@ -1,6 +1,6 @@
 //! What a conversation begins with.
 
-use errands_answer::HookKit;
+use errands_text::HookKit;
 use fleet_book::Limits;
 use fleet_grid::Grid;
 use fleet_script::Head;

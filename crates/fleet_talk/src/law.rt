@@ -10,7 +10,7 @@ ghost use Rattle.fleet_core.specs.Opening.{CanOpen};
 ghost use Rattle.fleet_script.specs.Script.{Plan, script_of};
 ghost use Rattle.fleet_world.specs.declared.reply.Reply.{Reply};
 ghost use Rattle.fleet_world.specs.Run.{State, Run, opened_state};
-ghost use Rattle.errands_answer.specs.Kit.{KitLaws, chosen_laws};
+ghost use Rattle.errands_text.specs.Kit.{KitLaws, chosen_laws};
 ghost use Rattle.errands_text.specs.Output.{run_text};
 ghost use Rattle.fleet_session.specs.Talk.{Talk, forget, opened_talk};
 ghost use Rattle.fleet_talk.specs.Act.{play};

@@ -7,12 +7,12 @@
 mod case;
 mod outcome;
 
-use crate::block::{Block, blocks_of};
 use case::Case;
 use outcome::tell_outcome;
 use std::alloc::{Alloc, AllocError, Global};
 use std::sync::Wait;
 use std::thread::Threads;
+use test_kit::{Block, blocks_of};
 
 /// Prints what came out of the case that a block tells.
 fn tell_case<R: Alloc<A = Global> + Threads + Sync + Wait>(

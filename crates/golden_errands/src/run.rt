@@ -3,11 +3,11 @@
 ghost use Rattle.std.specs.Prelude.{◌≡◌, true, IfOk};
 ghost use Rattle.errands_lib.specs.Told.{names_two};
 
-use crate::bundle::Bundle;
 use errands_lib::{Job, run_with_kit};
 use std::alloc::{Alloc, AllocError, Global};
 use std::sync::Wait;
 use std::thread::Threads;
+use test_kit::Bundle;
 
 /// The job that writes the trace of a run.
 fn trace_job(alloc: Global) -> Result<Job, AllocError>

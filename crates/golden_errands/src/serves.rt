@@ -4,17 +4,15 @@
 //! complaint of the serve, what `judge` prints of its trace, how many of the posts the trace takes (where a post met a full lane: that
 //! it takes fewer), and the arrivals.
 
-use crate::block::blocks_of;
-use crate::bundle::Bundle;
 use crate::words::words_of;
 use errands_lib::{InputFault, Inputs, run_words};
 use fleet_history::Entry;
 use fleet_trace::read_trace;
-use golden_compare::Outcome;
 use std::alloc::{Alloc, AllocError, Global};
 use std::fmt::Write;
 use std::sync::Wait;
 use std::thread::Threads;
+use test_kit::{Bundle, Outcome, blocks_of};
 
 /// The status of a serve in which a post met a full lane.
 const LIMIT: u8 = 8;

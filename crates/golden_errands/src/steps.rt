@@ -6,11 +6,11 @@
 mod find;
 mod walk;
 
-use crate::block::{Block, blocks_of};
 use find::find;
 use std::alloc::{Alloc, AllocError, Global};
 use std::sync::Wait;
 use std::thread::Threads;
+use test_kit::{Block, blocks_of};
 use walk::Finding;
 
 /// The line of a row. Without a finding the program writes no chapter of it.

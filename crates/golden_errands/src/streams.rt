@@ -4,17 +4,14 @@
 //! the judge of the trace. The program is to end with status 3, the complaint, and a prefix of what it writes otherwise.
 
 mod job;
-mod sink;
-mod source;
 mod trial;
 
-use crate::block::{Block, blocks_of};
-use crate::bundle::Bundle;
 use crate::run::trace_of;
 use job::{Streams, Task, outcome_of};
 use std::alloc::{Alloc, AllocError, Global};
 use std::sync::Wait;
 use std::thread::Threads;
+use test_kit::{Block, Bundle, blocks_of};
 use trial::{Good, Trial, is_good};
 
 /// The line of a trial.

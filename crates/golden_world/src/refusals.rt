@@ -24,12 +24,27 @@ mod shown;
 mod stage;
 mod tally;
 
-use case::next_case;
+use case::Case;
 use reruns::tell_runs;
 use rounds::tell_calls;
 use std::alloc::{Alloc, AllocError, Global};
 use std::fmt::Write;
 use std::thread::Threads;
+use test_kit::blocks_of;
+
+/// What is printed of a row.
+fn tell_row<R: Alloc<A = Global> + Threads + Sync>(
+    rt: &R,
+    case: Case<'_>,
+    told: &mut String,
+) -> Result<(), AllocError> {
+    writeln!(told, "= {}", case.name)?;
+    tell_calls(rt, case, told)?;
+    if case.is_run() {
+        tell_runs(rt, case, told)?;
+    }
+    Ok(())
+}
 
 /// What is printed of each row of the text.
 pub(crate) fn tell<R: Alloc<A = Global> + Threads + Sync>(
@@ -37,17 +52,10 @@ pub(crate) fn tell<R: Alloc<A = Global> + Threads + Sync>(
     text: &[u8],
     told: &mut String,
 ) -> Result<(), AllocError> {
-    let mut rest = text;
-    for _row in 0..text.len() {
-        let Some((case, after)) = next_case(rest) else {
-            break;
-        };
-        writeln!(told, "= {}", case.name)?;
-        tell_calls(rt, case, told)?;
-        if case.is_run() {
-            tell_runs(rt, case, told)?;
+    for block in &blocks_of(rt.alloc(), text, b"= ")? {
+        if let Some(case) = Case::of(*block) {
+            tell_row(rt, case, told)?;
         }
-        rest = after;
     }
     Ok(())
 }

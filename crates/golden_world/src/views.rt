@@ -5,11 +5,11 @@ mod note;
 mod play;
 mod row;
 
-use golden_compare::Finding;
 use play::play;
 use row::{Row, rows};
 use std::alloc::{Alloc, AllocError, Global};
 use std::fmt::Write;
+use test_kit::Finding;
 
 /// The finding in words.
 fn text_of(finding: Finding) -> &'static str {

@@ -1,6 +1,9 @@
 //! `quickstart`: two robots change sides in a small hall, and their client gets its notices. It is the shortest whole
 //! program on a world: copy it.
+//! Then two clients use the hall in threads of their own (`threads.rt`).
 #![tactic(auto)]
+
+mod threads;
 
 ghost use Rattle.std.specs.Prelude.{◌<◌, OnOk};
 ghost use Rattle.fleet_history.specs.History.{clients};
@@ -57,7 +60,8 @@ fn play<R: Alloc<A = Global> + Print>(rt: &R, world: &mut World) -> Result<()>
     Ok(())
 }
 
-fn main(rt: HostRuntime) -> Result<()> {
+/// Makes the hall, two robots and their closures, and lets them change sides.
+fn change_sides<R: Alloc<A = Global> + Print>(rt: &R) -> Result<()> {
     let alloc = rt.alloc();
     let grid = Grid::new(read_map(alloc, MAP)?)?;
     let starts = Vec::from_slice(alloc, &[0, 2])?;
@@ -76,5 +80,11 @@ fn main(rt: HostRuntime) -> Result<()> {
         )?;
     }
     let mut world = World::open(alloc, grid, starts, 1, Limits::DEFAULT, hooks)?;
-    play(&rt, &mut world)
+    play(rt, &mut world)
+}
+
+fn main(rt: HostRuntime) -> Result<()> {
+    change_sides(&rt)?;
+    threads::play(&rt)?;
+    Ok(())
 }

@@ -6,7 +6,7 @@ use fleet_bridge::{first_bridge, is_bridge};
 use fleet_grid::{Dir, Grid};
 use std::alloc::{Allocator, Global};
 use std::process::Abort;
-use test_alloc::Refusing;
+use test_kit::Refusing;
 
 /// The first bridge.
 fn first_in(rt: &impl Abort, heap: impl Allocator + Copy, grid: &Grid) -> Option<(u32, u32)> {

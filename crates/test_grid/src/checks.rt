@@ -8,7 +8,7 @@ use fleet_check::{StepChecker, StepFault, check_step};
 use fleet_grid::{Grid, is_placement};
 use std::alloc::{Allocator, Global};
 use std::process::Abort;
-use test_alloc::Refusing;
+use test_kit::Refusing;
 
 /// The map `../..`.
 fn square(rt: &impl Abort, alloc: Global) -> Grid {

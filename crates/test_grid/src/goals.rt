@@ -14,7 +14,7 @@ use fleet_pibt::{Goals, Guide};
 use fleet_planner::{Aims, GoalChange};
 use std::alloc::{AllocError, Allocator, Global};
 use std::process::Abort;
-use test_alloc::Refusing;
+use test_kit::Refusing;
 
 /// The map `.../.@./...`.
 fn ring(rt: &impl Abort, alloc: Global) -> Grid {

@@ -6,7 +6,7 @@ use fleet_grid::{Dir, FAR, Grid, WALL, place_of};
 use fleet_map::read_map;
 use std::alloc::{Alloc, Allocator, Global};
 use std::process::Abort;
-use test_alloc::Refusing;
+use test_kit::Refusing;
 
 /// How many cells, floor cells and edges there are.
 fn counts<A: Allocator + Copy>(grid: &Grid<A>) -> [u32; 3] {

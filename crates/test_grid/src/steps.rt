@@ -13,7 +13,7 @@ use std::process::Abort;
 use std::slice;
 use std::sync::Arc;
 use std::sync::atomic::{AtomicU64, Ordering};
-use test_alloc::Refusing;
+use test_kit::Refusing;
 
 /// No robot has an errand.
 struct NoGoals;

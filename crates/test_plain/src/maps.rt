@@ -5,7 +5,7 @@ use fleet_map::{MOST_SIDE, MapFault, read_map};
 use std::alloc::{AllocError, Allocator, Global};
 use std::fmt::Write;
 use std::process::Abort;
-use test_alloc::Refusing;
+use test_kit::Refusing;
 
 /// Maps that are read: the text, the height, the width and the letters.
 const MAPS: [(&[u8], u32, u32, &[u8]); 3] = [

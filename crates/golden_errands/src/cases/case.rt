@@ -1,7 +1,7 @@
 //! One case: the program's words, its standard input, and the files that the words name.
 
-use crate::block::Block;
 use std::alloc::{AllocError, Global};
+use test_kit::Block;
 
 /// A file that the words of a case name.
 #[derive(Drop)]

@@ -2,10 +2,10 @@
 
 use super::case::Case;
 use errands_lib::{InputFault, Inputs, run_words};
-use golden_compare::Outcome;
 use std::alloc::{Alloc, AllocError, Global};
 use std::sync::Wait;
 use std::thread::Threads;
+use test_kit::Outcome;
 
 /// The status of words that name no job.
 const BAD_WORDS: u8 = 2;

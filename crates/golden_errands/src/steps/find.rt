@@ -1,8 +1,6 @@
 //! What is found of a row as the program writes it down.
 
 use super::walk::{Finding, walk};
-use crate::block::split_at;
-use crate::bundle::Bundle;
 use crate::run::trace_of;
 use fleet_grid::Grid;
 use fleet_map::read_map;
@@ -10,6 +8,7 @@ use fleet_trace::read_trace;
 use std::alloc::{Alloc, AllocError, Global};
 use std::sync::Wait;
 use std::thread::Threads;
+use test_kit::{Bundle, split_at};
 
 /// The grid of a map. None where it is no map.
 fn grid_of(alloc: Global, map: &[u8]) -> Result<Option<Grid>, AllocError> {

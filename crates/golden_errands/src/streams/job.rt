@@ -1,13 +1,11 @@
 //! A job by readers and writers that may fail.
 
-use super::sink::{Room, Sink};
-use super::source::Source;
 use crate::words::words_of;
 use errands_lib::{InputFault, Inputs, run_words};
-use golden_compare::Outcome;
 use std::alloc::{Alloc, AllocError, Global};
 use std::sync::Wait;
 use std::thread::Threads;
+use test_kit::{Outcome, Room, Sink, Source};
 
 /// A job of the program that is tried.
 #[derive(Clone, Copy, PartialEq, Eq)]

@@ -1,12 +1,10 @@
 //! Trials of a job: its readers and writers fail, each in turn.
 
 use super::job::{Place, Streams, Task, outcome_of};
-use super::sink::Room;
-use super::source::Source;
-use golden_compare::Outcome;
 use std::alloc::{Alloc, AllocError, Global};
 use std::sync::Wait;
 use std::thread::Threads;
+use test_kit::{Full, Outcome, Room, Source};
 
 /// The greatest length of a file.
 const MOST: u64 = 16_777_216;
@@ -133,12 +131,12 @@ fn is_prefix(met: &Outcome, wanted: &Outcome, writes: u64) -> bool {
 fn each_write<R: Alloc<A = Global> + Threads + Sync + Wait>(
     rt: &R,
     good: Good<'_>,
-    fails: bool,
+    full: Full,
 ) -> Result<bool, AllocError> {
     let mut streams = good.streams;
     let mut named = true;
     for writes in 0..good.wanted.output.len() as u64 {
-        streams.output = Room { writes, fails };
+        streams.output = Room { writes, full };
         let met = outcome_of(rt, good.task, streams)?;
         named &= is_prefix(&met, good.wanted, writes);
     }
@@ -160,13 +158,13 @@ fn each_complaint<R: Alloc<A = Global> + Threads + Sync + Wait>(
     let mut streams = good.streams;
     streams.output = Room {
         writes: 0,
-        fails: true,
+        full: Full::Fails,
     };
     let mut named = true;
     for writes in 0..Outcome::FILE_COMPLAINT.len() as u64 {
         streams.error = Room {
             writes,
-            fails: true,
+            full: Full::Fails,
         };
         let met = outcome_of(rt, good.task, streams)?;
         named &= is_prefix_of_complaint(&met, writes);
@@ -206,8 +204,8 @@ pub(crate) fn is_good<R: Alloc<A = Global> + Threads + Sync + Wait>(
     match trial {
         Trial::ByteByByte => byte_by_byte(rt, good),
         Trial::EachRead => each_read(rt, good),
-        Trial::EachWrite => each_write(rt, good, true),
-        Trial::EachEmptyWrite => each_write(rt, good, false),
+        Trial::EachWrite => each_write(rt, good, Full::Fails),
+        Trial::EachEmptyWrite => each_write(rt, good, Full::TakesNone),
         Trial::EachComplaint => each_complaint(rt, good),
         Trial::LongFiles => long_files(rt, good),
     }

@@ -6,9 +6,9 @@ ghost use Rattle.fleet_trace.specs.declared.fault.JudgeFault.TheVariants.{Illega
 use fleet_grid::Grid;
 use fleet_history::Chapter;
 use fleet_trace::{JudgeFault, TraceFault, judge, read_trace};
-use golden_compare::Answer;
 use golden_judge::{Site, first_fault};
 use std::alloc::{AllocError, Global};
+use test_kit::Answer;
 
 /// The entry that the judge names first, and the rule that it breaks; `None` if all is legal.
 fn broken_by(said: Result<(), JudgeFault>) -> Result<Option<(u64, u8)>, AllocError>

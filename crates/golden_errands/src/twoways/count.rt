@@ -1,6 +1,6 @@
 //! What was counted of all traces.
 
-use golden_compare::Answer;
+use test_kit::Answer;
 
 /// How many traces had which answer.
 #[derive(Clone, Copy, Debug)]

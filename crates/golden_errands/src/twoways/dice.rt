@@ -1,6 +1,6 @@
 //! The random numbers of a trial: those of a seed, with bounds that may be 0.
 
-use bench_ground::Random;
+use test_kit::Random;
 
 /// A random sequence that texts are made of.
 #[derive(Clone, Copy)]

@@ -1,9 +1,9 @@
 //! Seeded maps and scripts.
 
 use super::dice::Dice;
-use crate::bundle::Bundle;
 use std::alloc::{AllocError, Global};
 use std::fmt::Write;
+use test_kit::Bundle;
 
 /// A map and a script of a seeded world.
 #[derive(Drop)]

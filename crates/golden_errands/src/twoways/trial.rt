@@ -12,11 +12,11 @@ use crate::run::trace_of;
 use fleet_grid::Grid;
 use fleet_map::{MapText, read_map};
 use fleet_trace::{read_trace, write_trace};
-use golden_compare::Answer;
 use golden_judge::{Site, later_chapter};
 use std::alloc::{Alloc, AllocError, Global};
 use std::sync::Wait;
 use std::thread::Threads;
+use test_kit::Answer;
 
 /// How often the bytes of each trace are damaged.
 const BYTE_DAMAGES: u32 = 10;

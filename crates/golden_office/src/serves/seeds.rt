@@ -3,9 +3,9 @@
 ghost use Rattle.std.specs.Prelude.{◌<◌};
 
 use crate::serves::yard::{CORRIDOR, FLOOR, RING, SHELVES, SQUARE, Yard};
-use bench_ground::Random;
 use std::alloc::AllocError;
 use std::fmt::Write;
+use test_kit::Random;
 
 fn yard_of(random: &mut Random) -> Yard {
     match random.below(4) {

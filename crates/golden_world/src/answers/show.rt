@@ -1,9 +1,9 @@
 //! What a world answers and shows, in words.
 
 use fleet_world::{Notice, ShutFault, TakeFault, TickFault, TickReport, Verdict, World};
-use golden_compare::beside_bound;
 use std::alloc::{AllocError, Allocator};
 use std::fmt::Write;
+use test_kit::beside_bound;
 
 /// The number after its name.
 fn tell_number(told: &mut String, name: &str, number: Option<u64>) -> Result<(), AllocError> {

@@ -1,6 +1,6 @@
 //! The rows of a text.
 
-use fleet_map::text::first_line;
+use test_kit::{Block, Bundle};
 
 /// A row: its name, and a bundle of a map and a script.
 #[derive(Clone, Copy)]
@@ -10,7 +10,17 @@ pub(crate) struct Case<'a> {
     pub(crate) script: &'a [u8],
 }
 
-impl Case<'_> {
+impl<'a> Case<'a> {
+    /// The row of a block; `None` if it has no script.
+    pub(crate) fn of(block: Block<'a>) -> Option<Case<'a>> {
+        let Bundle { map, script } = Bundle::of(block.text)?;
+        Some(Case {
+            name: block.name,
+            map,
+            script,
+        })
+    }
+
     /// Whether its script has no comments, which are calls that no run makes.
     pub(crate) fn is_run(&self) -> bool {
         !self.script.contains(&b'#')
@@ -24,33 +34,4 @@ pub(crate) struct Row<'a, C> {
     /// How many robots its script has.
     pub(crate) robots: usize,
     pub(crate) calls: &'a [C],
-}
-
-/// The text before the first line that begins so, that line after its beginning, and the text after the line.
-fn split_at<'a>(text: &'a [u8], start: &[u8]) -> Option<(&'a [u8], &'a [u8], &'a [u8])> {
-    let mut rest = text;
-    for _line in 0..text.len() {
-        let (line, after) = first_line(rest)?;
-        if let Some(tail) = line.strip_prefix(start) {
-            let before = text.len().saturating_sub(rest.len());
-            return Some((&text[..before.min(text.len())], tail, after));
-        }
-        rest = after;
-    }
-    None
-}
-
-/// The first row of the text, and the text after it.
-pub(crate) fn next_case(text: &[u8]) -> Option<(Case<'_>, &[u8])> {
-    let (_, name, behind) = split_at(text, b"= ")?;
-    let (map, _, rest) = split_at(behind, b"script")?;
-    let script = match split_at(rest, b"= ") {
-        Some((script, _, _)) => script,
-        None => rest,
-    };
-    let name = str::from_utf8(name).ok()?;
-    Some((
-        Case { name, map, script },
-        &rest[script.len().min(rest.len())..],
-    ))
 }

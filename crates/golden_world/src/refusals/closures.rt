@@ -15,7 +15,7 @@ use std::alloc::{Alloc, AllocError, Allocator, Global};
 use std::sync::Arc;
 use std::sync::atomic::{AtomicU64, Ordering};
 use std::thread::Threads;
-use test_alloc::Refusing;
+use test_kit::Refusing;
 
 const ALIKE: TieLaw = TieLaw {
     low: [0, 0, 0, 0],

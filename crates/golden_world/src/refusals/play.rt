@@ -6,10 +6,10 @@ use crate::refusals::making::make;
 use crate::refusals::shown::{held, shown};
 use fleet_trace::write_trace;
 use fleet_world::World;
-use golden_compare::Showing;
 use std::alloc::{Alloc, AllocError, Allocator, Global};
 use std::sync::atomic::{AtomicU64, Ordering};
 use std::thread::Threads;
+use test_kit::Showing;
 
 /// A row as far as it was played.
 #[derive(Drop)]

@@ -7,9 +7,9 @@ use crate::refusals::runs::Run;
 use crate::refusals::stage::{Stage, read};
 use crate::refusals::tally::{Sheet, Tally, tell_end};
 use fleet_world::Event;
-use golden_compare::Ending;
 use std::alloc::{Alloc, AllocError, Global};
 use std::fmt::Write;
+use test_kit::Ending;
 
 /// Whether a run over the first events, with the same allocation refused, ends without being refused memory at one of them.
 fn passes<R: Alloc<A = Global>>(

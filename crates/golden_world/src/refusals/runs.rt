@@ -3,9 +3,9 @@
 use fleet_grid::Grid;
 use fleet_trace::{JudgeFault, judge, write_trace};
 use fleet_world::{Chapter, OpenFault, Played, Reply, RunFault};
-use golden_compare::Ending;
 use std::alloc::{AllocError, Allocator, Global};
 use std::fmt::Write;
+use test_kit::Ending;
 
 /// How a run of a row ended.
 #[derive(Drop)]

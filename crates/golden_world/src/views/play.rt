@@ -8,11 +8,11 @@ use fleet_hooks::{
     ArrivalHook, ArrivalView, Farewell, FarewellView, Hooks, StampLaw, TieHook, TieLaw, TieView,
 };
 use fleet_world::{Entry, Played, RunFault, World, run};
-use golden_compare::{Finding, Noted};
 use std::alloc::{Alloc, AllocError, Allocator, Global};
 use std::mem;
 use std::sync::Arc;
 use std::sync::atomic::{AtomicU64, Ordering};
+use test_kit::{Finding, Noted};
 
 /// The rank of a direction by the robot's own closure: even robots go south first, odd ones west.
 fn rank_of(robot: u32, dir: Dir) -> u8 {

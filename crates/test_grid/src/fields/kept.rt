@@ -11,7 +11,7 @@ use fleet_grid::Grid;
 use std::alloc::{AllocError, Allocator, Global};
 use std::process::Abort;
 use std::thread::Threads;
-use test_alloc::Refusing;
+use test_kit::Refusing;
 
 /// Holds the goal, asks how far the cell is, and releases the goal.
 fn visit<A: Allocator + Copy>(

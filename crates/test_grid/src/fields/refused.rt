@@ -11,7 +11,7 @@ use fleet_grid::Grid;
 use std::alloc::Allocator;
 use std::process::Abort;
 use std::thread::Threads;
-use test_alloc::Refusing;
+use test_kit::Refusing;
 
 /// Holds cell 0 while one allocation is refused, and then once more. Returns whether one was refused.
 fn hold_twice<A: Allocator + Copy>(rt: &impl Abort, store: &mut FieldStore<A>, grid: &Grid) -> bool

@@ -1,5 +1,5 @@
 use Rattle.std.proofs.Common.{◌≡◌, length, vec_len}
-use Rattle.bench_ground.specs.Fleet.{IsUnderWay}
+use Rattle.bench.specs.Fleet.{IsUnderWay}
 use Rattle.bench.proofs.crowd.count_steps.Given as goal
 
 abbrev pub invariant-loop-tick : goal.invariant-loop-tick

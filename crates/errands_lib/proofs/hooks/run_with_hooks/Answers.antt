@@ -1,7 +1,7 @@
 -- The program's hooks have its laws.
 use Rattle.std.proofs.Common.{subst}
 use Rattle.std.specs.Prelude.{IfSome}
-use Rattle.errands_answer.specs.Kit.{KitLaws}
+use Rattle.errands_text.specs.Kit.{KitLaws}
 use Rattle.errands_text.specs.Transfer.{bytes_of}
 use Rattle.errands_lib.specs.Told.{IsShown}
 use Rattle.errands_lib.proofs.KitLaws.{laws-are, kit-is}

@@ -2,8 +2,8 @@
 use Rattle.std.proofs.Common.{ap}
 use Rattle.errands_text.specs.Outcome.{fault}
 use Rattle.errands_lib.specs.Outcome.{IsServeOutcome, map_faulty}
-use Rattle.errands_answer.specs.Kit.{kit_laws}
-use Rattle.errands_answer.proofs.Outcomes.{said_is, map_fails}
+use Rattle.errands_text.specs.Kit.{kit_laws}
+use Rattle.errands_lib.proofs.Outcomes.{said_is, map_fails}
 use Rattle.errands_lib.proofs.service.answer_serve.Goals as goal
 
 pub returns-in-Ok : goal.returns-in-Ok

@@ -4,7 +4,7 @@ use Rattle.fleet_grid.specs.Floor.{Floor}
 use Rattle.std.specs.Prelude.{IfOk}
 use Rattle.errands_text.specs.Said.{said}
 use Rattle.fleet_script.specs.Shown.{plan}
-use Rattle.errands_answer.specs.Kit.{kit_laws}
+use Rattle.errands_text.specs.Kit.{kit_laws}
 use Rattle.errands_lib.specs.Outcome.{IsServed}
 use Rattle.errands_lib.proofs.service.serve_lines.Goals as goal
 

@@ -2,7 +2,7 @@
 use Rattle.std.proofs.Common.{ℕ, List, ap, ◌∙◌}
 use Rattle.std.specs.Prelude.{nat_lt}
 use Rattle.std.proofs.lemmas.Result.{IfOk-weaker}
-use Rattle.errands_answer.specs.Answer.{limited}
+use Rattle.errands_lib.specs.Answer.{limited}
 use Rattle.errands_lib.proofs.service.served_text.Goals as goal
 
 pub returns-clause-legal : goal.returns-clause-legal

@@ -1,2 +1,0 @@
-pub mod Kits
-pub mod Outcomes

@@ -1,0 +1,10 @@
+use Rattle.fleet_map.specs.Grammar.{view}
+use Rattle.fleet_history.specs.History.{history_of}
+use Rattle.errands_lib.specs.Answer.{floor_of_map}
+use Rattle.errands_lib.proofs.Outcomes.{illegal_is}
+use Rattle.errands_lib.proofs.judgement.judge_chapter.Goals as goal
+
+pub returns-in-Err-Illegal : goal.returns-in-Err-Illegal
+returns-in-Err-Illegal c =
+    illegal_is c.illegal.result (floor_of_map (view c.args.map)) c.in_ok-grid.grid (history_of c.args.chapter.now) c.in-Err-Illegal.field-0 c.in-Err-Illegal.at c.in-Err-Illegal.rule
+    c.in_ok-grid.ensures c.in-Err-Illegal.field-0-is c.in-Err-Illegal.ensures.fault c.illegal.ensures

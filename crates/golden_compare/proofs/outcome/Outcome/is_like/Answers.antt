@@ -1,6 +1,0 @@
--- Outcomes whose status and output are the same.
-use Rattle.std.proofs.Common.{rules}
-use Rattle.golden_compare.proofs.outcome.Outcome.is_like.Goals as goal
-
-pub returns-then-eq : goal.returns-then-eq
-returns-then-eq c = search rules

@@ -1,6 +1,0 @@
--- Showings whose answers are the same.
-use Rattle.std.proofs.Common.{rules}
-use Rattle.golden_compare.proofs.showing.Showing.is_like.Goals as goal
-
-pub returns-then-eq : goal.returns-then-eq
-returns-then-eq c = search rules

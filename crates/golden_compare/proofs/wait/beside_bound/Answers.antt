@@ -1,6 +1,0 @@
--- A wait below the bound.
-use Rattle.std.proofs.Common.{rules}
-use Rattle.golden_compare.proofs.wait.beside_bound.Goals as goal
-
-pub returns-then-wait-bound : goal.returns-then-wait-bound
-returns-then-wait-bound c = search rules

@@ -1,0 +1,72 @@
+//! Options of a conversation's test case: lines `+ OPTION` before the lines of the conversation.
+
+use std::alloc::{AllocError, Global};
+use test_kit::{Block, cut_line};
+
+/// A conversation, and how it is held.
+#[derive(Clone, Copy)]
+pub(crate) struct Conversation<'a> {
+    pub(crate) name: &'a str,
+    /// The options, one a line, each after `+ `.
+    pub(crate) options: &'a [u8],
+    pub(crate) lines: &'a [u8],
+}
+
+/// The length of the lines at the front of the text that begin so.
+fn length_of_options(text: &[u8]) -> usize {
+    let mut rest = text;
+    for _line in 0..text.len() {
+        if !rest.starts_with(b"+ ") {
+            break;
+        }
+        rest = cut_line(rest).1;
+    }
+    text.len().saturating_sub(rest.len())
+}
+
+impl<'a> Conversation<'a> {
+    /// The conversation of a block.
+    pub(crate) fn of(block: Block<'a>) -> Conversation<'a> {
+        let Block { name, text } = block;
+        let (options, lines) = text.split_at(length_of_options(text).min(text.len()));
+        Conversation {
+            name,
+            options,
+            lines,
+        }
+    }
+
+    /// How many of its options are this one.
+    pub(crate) fn count(self, wanted: &[u8]) -> u64 {
+        let mut count = 0u64;
+        let mut rest = self.options;
+        for _line in 0..self.options.len() {
+            let (line, after) = cut_line(rest);
+            if line == wanted {
+                count = count.saturating_add(1);
+            }
+            rest = after;
+        }
+        count
+    }
+
+    /// Whether this is one of its options.
+    pub(crate) fn has(self, wanted: &[u8]) -> bool {
+        self.count(wanted) > 0
+    }
+
+    /// The file of header lines that its options `+ script LINE` have.
+    pub(crate) fn script(self, alloc: Global) -> Result<Vec<u8>, AllocError> {
+        let mut script = Vec::new(alloc);
+        let mut rest = self.options;
+        for _line in 0..self.options.len() {
+            let (line, after) = cut_line(rest);
+            if let Some(told) = line.strip_prefix(b"+ script") {
+                script.extend_from_slice(told.strip_prefix(b" ").unwrap_or(told))?;
+                script.push(b'\n')?;
+            }
+            rest = after;
+        }
+        Ok(script)
+    }
+}

@@ -1,0 +1,118 @@
+//! Two clients post errands from threads of their own while a ticker moves the robots. It is the shortest whole use of an
+//! office: copy it. It prints the same under every schedule of the threads.
+
+ghost use Rattle.fleet_office.specs.Views.{IsNamed};
+
+use crate::MAP;
+use anyhow::{Result, bail};
+use fleet_book::{Limits, Notice, Order};
+use fleet_grid::Grid;
+use fleet_hooks::{ArrivalHook, Farewell, Hooks, StampLaw, TieHook, TieLaw};
+use fleet_map::read_map;
+use fleet_office::{Desk, Guest, Office, OfficeName, Ticker, clients_of, guests_of};
+use std::alloc::{Alloc, Global};
+use std::marker::Brand;
+use std::sync::Wait;
+use std::sync::atomic::{AtomicU64, Ordering};
+use std::thread::{Threads, for_each_mut, join, yield_now};
+
+/// The cells to which each of the two clients sends a robot: client c sends robot c.
+const ERRANDS: [u32; 3] = [5, 1, 3];
+
+/// All loops end after this many rounds, since a proof needs a bound.
+const ROUNDS: u64 = 1_000_000_000;
+
+/// A client's thread: posts its errands, and collects until those of both clients are done.
+fn work<N: OfficeName<Global>>(guest: &mut Guest<N>, done: &AtomicU64) {
+    let robot = guest.number();
+    for cell in ERRANDS {
+        let _number = guest.post(Order::Go { robot, cell });
+    }
+    for _ in 0..ROUNDS {
+        match guest.collect() {
+            Some(Notice::Verdict { .. }) => {}
+            Some(Notice::Arrived { .. }) => {
+                done.fetch_add(1, Ordering::SeqCst);
+            }
+            None if done.load(Ordering::SeqCst) == 6 => break,
+            None => yield_now(),
+        }
+    }
+}
+
+/// The ticker's thread: makes turns until all errands are done.
+fn tick<N: OfficeName<Global>, R: Alloc<A = Global> + Wait>(
+    rt: &R,
+    office: &Office<N>,
+    ticker: &mut Ticker<N>,
+    done: &AtomicU64,
+) {
+    for _ in 0..ROUNDS {
+        if done.load(Ordering::SeqCst) == 6 || office.turn(rt, ticker).is_err() {
+            break;
+        }
+    }
+}
+
+/// Lets each client and the ticker work in a thread of its own.
+fn work_all<N: OfficeName<Global> + Send + Sync, R: Alloc<A = Global> + Threads + Sync + Wait>(
+    rt: &R,
+    office: &Office<N>,
+    guests: &mut [Guest<N>],
+    ticker: &mut Ticker<N>,
+    done: &AtomicU64,
+) {
+    join(
+        rt,
+        || for_each_mut(
+            rt,
+            guests,
+            2,
+            &|_number: usize, guest: &mut Guest<N>| work(guest, done),
+        ),
+        || tick(rt, office, ticker, done),
+    );
+}
+
+/// Opens an office over the desk, lets the clients and the ticker work, and ends it.
+fn spend_day<
+    N: OfficeName<Global> + Send + Sync,
+    R: Alloc<A = Global> + Print + Threads + Sync + Wait,
+>(rt: &R, desk: Desk, grid: Grid, starts: Vec<u32>, hooks: Hooks) -> Result<()>
+    requires { IsNamed desk N.name N.parts N.rings }
+{
+    let (office, clients, mut ticker) = Office::<N>::open(rt.alloc(), desk, grid, starts, hooks)?;
+    let Ok(mut guests) = guests_of::<N, Global>(rt.alloc(), clients) else {
+        bail!("out of memory")
+    };
+    let done = AtomicU64::new(0);
+    work_all(rt, &office, guests.as_mut_slice(), &mut ticker, &done);
+    let Ok(clients) = clients_of::<N, Global>(rt.alloc(), guests) else {
+        bail!("out of memory")
+    };
+    let Ok(end) = office.conclude(rt.alloc(), clients, vec![in rt.alloc(); ticker]?) else {
+        bail!("the office did not end")
+    };
+    println!(rt; "{} errands are done", done.load(Ordering::SeqCst))?;
+    for (client, rest) in end.rest.iter().enumerate() {
+        println!(rt; "client {client} has {} notices left", rest.len())?;
+    }
+    Ok(())
+}
+
+/// Makes the hall, two robots and their closures, and spends a day there with two clients.
+pub(crate) fn play<R: Alloc<A = Global> + Print + Threads + Sync + Wait>(rt: &R) -> Result<()> {
+    let alloc = rt.alloc();
+    let grid = Grid::new(read_map(alloc, MAP)?)?;
+    let starts = Vec::from_slice(alloc, &[0, 2])?;
+    let mut hooks = Hooks::new(alloc);
+    for _robot in 0..starts.len() {
+        hooks.push(
+            TieHook::new(TieLaw::ANY, Box::new(alloc, |_| 0)?),
+            ArrivalHook::new(StampLaw::ANY, Box::new(alloc, |_| 0)?),
+            Farewell::new(StampLaw::ANY, Box::new(alloc, |_| 0)?),
+        )?;
+    }
+    let desk = Desk::new(alloc, 2, Limits::DEFAULT)?;
+    spend_day::<Brand, R>(rt, desk, grid, starts, hooks)
+}

@@ -1,8 +1,0 @@
-use Rattle.fleet_office.specs.Views.{rings_of}
-use Rattle.quickstart_threads.proofs.main.Given as goal
-
-abbrev pub ghosts-spend_day-N-Ledger : goal.ghosts-spend_day-N-Ledger
-ghosts-spend_day-N-Ledger g a = record { name = a.desk.ledger; parts = a.desk.parts }
-
-abbrev pub ghosts-spend_day-N-OfficeName : goal.ghosts-spend_day-N-OfficeName
-ghosts-spend_day-N-OfficeName g a = record { rings = rings_of a.desk.ends }
