@@ -93,6 +93,10 @@ def kind_of(raw):
     return "header", words, mark
 
 
+# the replies to an event for whose entry the chapter has no room
+NO_ROOM = (("take-refused", 2), ("tick-refused", 2), ("shut-refused", 3))
+
+
 class Talk:
     def __init__(self, grid, head, marks, roll):
         self.grid, self.head, self.marks, self.roll = grid, head, marks, roll
@@ -112,17 +116,23 @@ class Talk:
         self.world.next_chapter()
         return told
 
+    def reply(self, event):
+        """The reply to an event, and the entry that it made, if it made one."""
+        w, before = self.world, len(self.world.entries)
+        reply = model._event(self.rings, w, event, self.head.limits, self.head.clients)
+        return reply, w.entries[before] if len(w.entries) > before else None
+
     def event(self, mark, event):
-        w = self.world
-        if self.roll and event[0] in ("take", "tick", "shut") and w.chapter_full():
+        reply, entry = self.reply(event)
+        if self.roll and reply in NO_ROOM:
             try:
                 self.say(mark, [self.turn()])
             except model.BookSpent:
                 pass
-        before = len(w.entries)
-        reply = model._event(self.rings, w, event, self.head.limits, self.head.clients)
+            else:
+                reply, entry = self.reply(event)
         self.limited |= model.limit_met([reply])
-        self.say(mark, model.event_lines(event, reply, w.entries[before] if len(w.entries) > before else None))
+        self.say(mark, model.event_lines(event, reply, entry))
 
     def line(self, number, raw):
         """Whether the conversation goes on."""

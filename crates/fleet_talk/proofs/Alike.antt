@@ -10,7 +10,7 @@ use Rattle.fleet_world.specs.declared.reply.Reply.{Reply}
 use Rattle.fleet_world.specs.Run.{State, Run, opened_state}
 use Rattle.errands_text.specs.Kit.{KitLaws, chosen_laws}
 use Rattle.errands_text.specs.Output.{run_text}
-use Rattle.fleet_session.specs.Talk.{Talk}
+use Rattle.fleet_world.specs.Talk.{Talk}
 use Rattle.fleet_talk.specs.Act.{Act, play}
 use Rattle.fleet_talk.specs.Acts.{Talks}
 use Rattle.fleet_talk.specs.Chapters.{ChapterView}

@@ -11,7 +11,7 @@ use Rattle.fleet_core.specs.declared.faults.OpenFault.{OpenFault}
 use Rattle.fleet_core.specs.declared.faults.OpenFault.TheVariants as why
 use Rattle.fleet_script.specs.Script.{Draft}
 use Rattle.errands_text.specs.Transfer.{AppendsPrefix}
-use Rattle.fleet_session.specs.Talk.{Talk}
+use Rattle.fleet_world.specs.Talk.{Talk}
 use Rattle.fleet_talk.specs.declared.ends.Settings.{Settings}
 use Rattle.fleet_talk.specs.declared.fault.TalkFault.{TalkFault}
 use Rattle.fleet_talk.specs.declared.fault.TalkFault.TheVariants.{Input, Output, Shelf, Opening as Unopened, NoMemory}

@@ -4,9 +4,11 @@ pub mod Saying
 pub mod Shelving
 pub mod Hearing
 pub mod Talking
+pub mod Rolling
 pub mod Breaking
 pub mod Onward
 pub mod Finishing
 pub mod Starting
 pub mod Runs
 pub mod Alike
+pub mod Strips

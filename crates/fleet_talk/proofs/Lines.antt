@@ -9,7 +9,7 @@ use Rattle.std.proofs.lemmas.List.Splits.{slice_split_none, slice_split_at, leng
 use Rattle.std.proofs.lemmas.Bool.{eqb-true, eqb-false, false≢true}
 use Rattle.fleet_map.specs.Text.{is_line_feed, without_empty_last}
 use Rattle.fleet_map.proofs.TextLemmas.{keeps_first}
-use Rattle.fleet_lines.proofs.Strips.{strip-none, strip-end}
+use Rattle.fleet_talk.proofs.Strips.{strip-none, strip-end}
 use Rattle.fleet_talk.specs.Heard.{heard_lines, IsNext}
 
 abbrev pub HasNoFeed : List ℕ → Type 0

@@ -18,8 +18,9 @@ use Rattle.fleet_world.specs.declared.reply.Reply.{Reply}
 use Rattle.fleet_world.specs.declared.reply.Reply.TheVariants.{Posted, LaneFull, Took, LaneEmpty, TakeRefused, Ticked, TickRefused, Gave, NothingPending, OutletFull, Collected, NothingThere, ShutDone, ShutRefused, NoClient}
 use Rattle.fleet_world.specs.Run.{State, Run, opened_state}
 use Rattle.errands_text.specs.Output.{event_text, run_text, entries_made}
-use Rattle.fleet_session.specs.Talk.{Talk, TalkStep, TalkRun, forget, opened_talk}
-use Rattle.fleet_session.proofs.TalkLaws.{run-opened}
+use Rattle.fleet_world.specs.Talk.{Talk, TalkStep, forget, opened_talk}
+use Rattle.fleet_world.specs.inside.Shown.{IsFresh}
+use Rattle.fleet_world.proofs.Sessions.{step-of, fresh-step, fresh-opened, forget-opened}
 use Rattle.fleet_talk.specs.Act.{play}
 use Rattle.fleet_talk.specs.Acts.{Talks, Rolls, stays, rolls, last_entry}
 
@@ -87,34 +88,40 @@ grows s t _ _ st = absurd st
 -- nothing was handed out unasked
 stayed : {A : Type 0} (s m : Talk A) (mark : Option (List ℕ)) (e : Event) (text : List ℕ) → Rolls false s mark e text m → (m ≡ s) × (text ≡ [])
 stayed s m mark e text (stays free same none) = (same, none)
-stayed s m mark e text (rolls turned asks full same is) = absurd (let bad : false ≡ true = turned in cc)
+stayed s m mark e text (rolls turned needs same is) = absurd (let bad : false ≡ true = turned in cc)
 
 behind : {X : Type 0} (xs made more : List X) → drop (length made) (made ++ more) ≡ more
 behind xs [] more = refl
 behind xs (x ∷ made) more = behind xs made more
 
--- what is said of events, and the entries that they made
-record IsSaid {A : Type 0} (s : Talk A) (events : List Event) (text : List ℕ) (t : Talk A) : Type 0 where
+-- what is said of events, and the entries that they made, in a run from a state that a session shows
+record IsSaid {A : Type 0} (s : State A) (events : List Event) (text : List ℕ) (t : Talk A) : Type 0 where
   pub replies : List Reply
-  pub run : TalkRun s events replies t
+  pub last : State A
+  pub run : Run s events replies last
+  pub same : forget last ≡ t
   pub made : List (Entry A)
-  pub grown : entries t ≡ entries s ++ made
+  pub grown : entries t ≡ entries (forget s) ++ made
   pub is : text ≡ run_text events replies made
 
-said : {A : Type 0} (s t : Talk A) (events : List Event) (text : List ℕ) → Talks false s (map (play None) events) text t → IsSaid s events text t
-said s t [] text (none, same) = record { replies = []; run = same; made = []; grown = same_entries s t same ∙ sym (append-nil (entries s)); is = none }
-said {A} s t (e ∷ events) text (mid, first, rest, (m, before, after, rolled, plays, parts), talks, is) =
-    let (same, none) = stayed s m None e before rolled in
-    let step : TalkStep s e plays.reply mid = subst (λ (x : Talk A). TalkStep x e plays.reply mid) same plays.step in
-    let g = grows s mid e plays.reply step in
-    let more = said mid t events rest talks in
+said : {A : Type 0} (s : State A) (t : Talk A) (events : List Event) (text : List ℕ) → IsFresh s → Talks false (forget s) (map (play None) events) text t → IsSaid s events text t
+said s t [] text f (none, same) =
+    record { replies = []; last = s; run = refl; same = sym same; made = []; grown = same_entries (forget s) t same ∙ sym (append-nil (entries (forget s))); is = none }
+said {A} s t (e ∷ events) text f (mid, first, rest, (m, before, after, rolled, plays, parts), talks, is) =
+    let (same, none) = stayed (forget s) m None e before rolled in
+    let step : TalkStep (forget s) e plays.reply mid = subst (λ (x : Talk A). TalkStep x e plays.reply mid) same plays.step in
+    let (next, done, there) = step-of s f e plays.reply mid step in
+    let g = grows (forget s) mid e plays.reply step in
+    let more = said next t events rest (fresh-step s next e plays.reply f done) (subst (λ (x : Talk A). Talks false x (map (play None) events) rest t) (sym there) talks) in
     let told : first ≡ event_text e plays.reply (slice_get (g.made ++ more.made) 0) = parts ∙ (ap (λ l. l ++ after) none ∙ (plays.said ∙ g.said more.made)) in
     let cut : more.made ≡ drop (entries_made plays.reply) (g.made ++ more.made) = sym (behind [] g.made more.made) ∙ ap (λ n. drop n (g.made ++ more.made)) g.count in
     record {
       replies = plays.reply ∷ more.replies;
-      run = (mid, step, more.run);
+      last = more.last;
+      run = (next, done, more.run);
+      same = more.same;
       made = g.made ++ more.made;
-      grown = more.grown ∙ (ap (λ l. l ++ more.made) g.grown ∙ append_assoc (entries s) g.made more.made);
+      grown = more.grown ∙ (ap (λ (x : Talk A). entries x ++ more.made) there ∙ (ap (λ l. l ++ more.made) g.grown ∙ append_assoc (entries (forget s)) g.made more.made));
       is = is ∙ (ap (λ l. l ++ rest) told ∙ ap (λ l. event_text e plays.reply (slice_get (g.made ++ more.made) 0) ++ l) (more.is ∙ ap (run_text events more.replies) cut));
     }
 
@@ -123,6 +130,7 @@ pub said-run : {A : Type 0} (m : Floor) (starts : List ℕ) (n : ℕ) (limits : 
     (replies : List Reply) × (last : State A) × Run (opened_state m starts n limits laws) events replies last × (forget last ≡ t)
     × (text ≡ run_text events replies last.world.history.entries)
 said-run {A} m starts n limits laws events text t can orderly talks =
-    let is = said (opened_talk m starts n limits laws) t events text talks in
-    let (last, run, same) = run-opened m starts n limits laws events is.replies t can orderly is.run in
-    (is.replies, last, run, same, is.is ∙ ap (run_text events is.replies) (sym is.grown ∙ ap (λ (x : Talk A). entries x) (sym same)))
+    let o : State A = opened_state m starts n limits laws in
+    let shown : Talks false (forget o) (map (play None) events) text t = subst (λ (x : Talk A). Talks false x (map (play None) events) text t) (sym (forget-opened m starts n limits laws)) talks in
+    let is = said o t events text (fresh-opened m starts n limits laws can orderly) shown in
+    (is.replies, is.last, is.run, is.same, is.is ∙ ap (run_text events is.replies) (sym is.grown ∙ ap (λ (x : Talk A). entries x) (sym is.same)))

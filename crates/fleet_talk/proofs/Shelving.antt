@@ -16,7 +16,7 @@ use Rattle.fleet_core.specs.declared.faults.ShutFault.TheVariants as shut_fault
 use Rattle.fleet_core.specs.Core.{World}
 use Rattle.fleet_world.specs.declared.reply.Reply.{Reply}
 use Rattle.fleet_world.specs.declared.reply.Reply.TheVariants.{Posted, LaneFull, Took, LaneEmpty, TakeRefused, Ticked, TickRefused, Gave, NothingPending, OutletFull, Collected, NothingThere, ShutDone, ShutRefused, NoClient}
-use Rattle.fleet_session.specs.Talk.{Talk, TalkStep, next_talk}
+use Rattle.fleet_world.specs.Talk.{Talk, TalkStep, next_talk}
 use Rattle.fleet_talk.specs.Chapters.{ChapterView, chapter_in, IsSound, Beginning, beginning, next_beginning, AreTurned, Adds, KeepsAll, KeepsLast, KeepsTurned}
 
 -- ---- lists that may be known

@@ -7,14 +7,14 @@ use Rattle.fleet_book.specs.declared.event.Event.{Event}
 use Rattle.fleet_history.specs.declared.history.Entry.{Entry}
 use Rattle.fleet_world.specs.declared.reply.Reply.{Reply}
 use Rattle.errands_text.specs.Output.{event_text}
-use Rattle.fleet_session.specs.Talk.{Talk, TalkStep}
+use Rattle.fleet_world.specs.Talk.{Talk}
 use Rattle.fleet_talk.specs.declared.ends.Settings.{Settings}
 use Rattle.fleet_talk.specs.declared.pen.Pen.{Pen}
 use Rattle.fleet_talk.specs.declared.ask.Line.{Line}
 use Rattle.fleet_talk.specs.declared.ask.Asked.{Asked}
 use Rattle.fleet_talk.specs.Ask as spec
 use Rattle.fleet_talk.specs.Act.{Act, acts_asked, acts_end, acts_on, say}
-use Rattle.fleet_talk.specs.Acts.{Does, Plays, Talks, last_entry}
+use Rattle.fleet_talk.specs.Acts.{Does, Talks, last_entry}
 use Rattle.fleet_talk.specs.Lines.{line_shown}
 use Rattle.fleet_talk.specs.Look.{IsLook}
 use Rattle.fleet_talk.specs.Said.{IsAdded, under, end_said}
@@ -83,13 +83,10 @@ pub shown : {A E : Type 0} (r : Result (Unit {0}) E) (s : Talk A) (mark : Option
     → OnOk r ((text : List ℕ) × ((l : List ℕ) × IsLook s.world l × (text ≡ marked mark l) × (s ≡ s)) × IsAdded old new text)
 shown r s mark line said old new e look = on_ok_weaker r (λ h. (marked mark said, (line, look, ap (marked mark) e, refl), h))
 
-pub played : {A E : Type 0} (r : Result (Unit {0}) E) (s t : Talk A) (mark : Option (List ℕ)) (e : Event) (reply : Reply) (text before said : List ℕ) (entry : Option (Entry A)) (old mid new : Pen) →
-    TalkStep s e reply t → before ≡ [] → text ≡ before ++ event_text e reply entry → entry ≡ last_entry t → said ≡ text →
+pub told : {A E : Type 0} (r : Result (Unit {0}) E) (t : Talk A) (mark : Option (List ℕ)) (e : Event) (reply : Reply) (text before said : List ℕ) (entry : Option (Entry A)) (old mid new : Pen) →
+    before ≡ [] → text ≡ before ++ event_text e reply entry → entry ≡ last_entry t → said ≡ text →
     mid.out ≡ old.out → mid.settings ≡ old.settings → OnOk r (IsAdded mid new (marked mark said))
-    → OnOk r ((x : List ℕ) × Plays s mark e x t × IsAdded old new x)
-played r s t mark e reply text before said entry old mid new step none is last same out settings =
-    on_ok_weaker r (λ h. (
-      marked mark said,
-      record { reply = reply; step = step; said = ap (marked mark) (same ∙ (is ∙ (ap (λ l. l ++ event_text e reply entry) none ∙ ap (event_text e reply) last))) },
-      record { out = h.out ∙ ap (λ v. v.items ++ marked mark said) out; settings = h.settings ∙ settings },
-    ))
+    → OnOk r (IsAdded old new (marked mark (event_text e reply (last_entry t))))
+told r t mark e reply text before said entry old mid new none is last same out settings =
+    let texts : said ≡ event_text e reply (last_entry t) = same ∙ (is ∙ (ap (λ l. l ++ event_text e reply entry) none ∙ ap (event_text e reply) last)) in
+    on_ok_weaker r (λ h. record { out = h.out ∙ (ap (λ v. v.items ++ marked mark said) out ∙ ap (λ l. old.out.items ++ marked mark l) texts); settings = h.settings ∙ settings })

@@ -3,20 +3,30 @@ use Rattle.std.specs.Prelude.{◌≡◌, ℕ, ◌+◌, Bool, true, false, List, 
 use Rattle.fleet_book.specs.declared.event.Event.{Event}
 use Rattle.fleet_book.specs.declared.event.Event.TheVariants as event
 use Rattle.fleet_history.specs.declared.history.Entry.{Entry}
-use Rattle.fleet_core.specs.Core.{HasNoEntries}
+use Rattle.fleet_core.specs.declared.faults.TakeFault.TheVariants as take_fault
+use Rattle.fleet_core.specs.declared.faults.TickFault.TheVariants as tick_fault
+use Rattle.fleet_core.specs.declared.faults.ShutFault.TheVariants as shut_fault
 use Rattle.fleet_world.specs.declared.reply.Reply.{Reply}
+use Rattle.fleet_world.specs.declared.reply.Reply.TheVariants.{TakeRefused, TickRefused, ShutRefused}
 use Rattle.errands_text.specs.Output.{event_text}
-use Rattle.fleet_session.specs.Talk.{Talk, TalkStep, next_talk}
+use Rattle.fleet_world.specs.Talk.{Talk, TalkStep, next_talk}
 use Rattle.fleet_talk.specs.Act.{Act, say, play, turn, show}
 use Rattle.fleet_talk.specs.Says.{marked, chapter_text, refused_text}
 use Rattle.fleet_talk.specs.Look.{IsLook}
 
--- whether an event may make an entry
-abbrev pub makes_entry : Event → Bool
-makes_entry (event.Take client) = true
-makes_entry event.Tick = true
-makes_entry (event.Shut robot) = true
-makes_entry _ = false
+-- whether this reply, where a full chapter may be handed out, is the refusal of an event for whose entry the chapter has no room
+abbrev pub wants_room : Bool → Reply → Bool
+wants_room true (TakeRefused take_fault.ChapterFull) = true
+wants_room true (TickRefused tick_fault.ChapterFull) = true
+wants_room true (ShutRefused shut_fault.ChapterFull) = true
+wants_room _ _ = false
+
+-- an event is refused, and only because the chapter has no room for its entry
+abbrev pub NeedsRoom : {A : Type 0} → Talk A → Event → Type 0
+NeedsRoom s (event.Take client) = TalkStep s (event.Take client) (TakeRefused take_fault.ChapterFull) s
+NeedsRoom s event.Tick = TalkStep s event.Tick (TickRefused tick_fault.ChapterFull) s
+NeedsRoom s (event.Shut robot) = TalkStep s (event.Shut robot) (ShutRefused shut_fault.ChapterFull) s
+NeedsRoom s _ = ⊥
 
 -- the entry that was made last in a chapter
 abbrev pub last_entry : {A : Type 0} → Talk A → Option (Entry A)
@@ -27,10 +37,15 @@ pub data HandsOut {A : Type 0} (s : Talk A) (mark : Option (List ℕ)) (text : L
   handed : t ≡ next_talk s → text ≡ marked mark (chapter_text s.world.number (length s.world.history.entries)) → HandsOut s mark text t
   spent : s.world.number + 1 ≡ s.world.limits.chapters → t ≡ s → text ≡ marked mark refused_text → HandsOut s mark text t
 
--- before an event: a full chapter was handed out unasked, if that is to be and the event asks for room
+-- the chapter was handed out and this was said, or it was the last and nothing was said
+abbrev pub Turns : {A : Type 0} → Bool → Talk A → Option (List ℕ) → List ℕ → Talk A → Type 0
+Turns true s mark text t = (t ≡ next_talk s) × (text ≡ marked mark (chapter_text s.world.number (length s.world.history.entries)))
+Turns false s mark text t = (s.world.number + 1 ≡ s.world.limits.chapters) × (t ≡ s) × (text ≡ [])
+
+-- before an event: the chapter was handed out unasked, if that is to be and the event needs the room
 pub data Rolls {A : Type 0} (roll : Bool) (s : Talk A) (mark : Option (List ℕ)) (e : Event) (text : List ℕ) (t : Talk A) : Type 0 where
-  stays : (roll ≡ true → makes_entry e ≡ true → HasNoEntries s.world → s.world.number + 1 ≡ s.world.limits.chapters) → t ≡ s → text ≡ [] → Rolls roll s mark e text t
-  rolls : roll ≡ true → makes_entry e ≡ true → HasNoEntries s.world → t ≡ next_talk s → text ≡ marked mark (chapter_text s.world.number (length s.world.history.entries)) → Rolls roll s mark e text t
+  stays : (roll ≡ true → NeedsRoom s e → s.world.number + 1 ≡ s.world.limits.chapters) → t ≡ s → text ≡ [] → Rolls roll s mark e text t
+  rolls : roll ≡ true → NeedsRoom s e → t ≡ next_talk s → text ≡ marked mark (chapter_text s.world.number (length s.world.history.entries)) → Rolls roll s mark e text t
 
 -- the event was done, and this was said of its reply
 pub record Plays {A : Type 0} (s : Talk A) (mark : Option (List ℕ)) (e : Event) (text : List ℕ) (t : Talk A) : Type 0 where

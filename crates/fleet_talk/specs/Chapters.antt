@@ -10,7 +10,7 @@ use Rattle.fleet_history.specs.Legal.{IsLegal}
 use Rattle.fleet_history.specs.Next.{next_opening}
 use Rattle.fleet_planner.specs.Planned.{IsAdvancingTick}
 use Rattle.fleet_core.specs.Core.{World}
-use Rattle.fleet_session.specs.Talk.{Talk}
+use Rattle.fleet_world.specs.Talk.{Talk}
 
 -- ---- one chapter
 

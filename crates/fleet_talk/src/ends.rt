@@ -15,7 +15,7 @@ use std::io::BufReader;
 pub struct Settings {
     /// Whether the answer to line N ends with a line `. N`.
     pub marks: bool,
-    /// Whether a full chapter is handed out unasked, before an event that would be refused because of it.
+    /// Whether a full chapter is handed out unasked, before an event whose entry has no room in it.
     pub roll: bool,
 }
 

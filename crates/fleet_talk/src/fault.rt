@@ -1,8 +1,8 @@
 //! Why a conversation breaks off.
 
 use crate::ends::ShelfFault;
+use crate::input_line::LineFault;
 use fleet_core::OpenFault;
-use fleet_lines::LineFault;
 use std::alloc::AllocError;
 
 /// Why a conversation broke off.

@@ -2,7 +2,7 @@
 
 ghost use Rattle.std.specs.Prelude.{◌≡◌, ◌≤◌, ◌∷◌, ℕ, List, OnOk, OnErr, IfErr, IfSome};
 ghost use Rattle.std.specs.Io.Buffered.{reader_remaining};
-ghost use Rattle.fleet_session.specs.Keeps.{talk};
+ghost use Rattle.fleet_world.specs.Keeps.{talk};
 ghost use Rattle.fleet_talk.specs.Act.{acts_asked, acts_from, acts_on, show};
 ghost use Rattle.fleet_talk.specs.Acts.{Does, Talks};
 ghost use Rattle.fleet_talk.specs.Chapters.{KeepsTurned};
@@ -20,7 +20,7 @@ use crate::pen::Pen;
 use crate::plays::{next_chapter, play_all};
 use crate::reading::next_line;
 use crate::writing::write_if_due;
-use fleet_session::Session;
+use fleet_world::Session;
 use std::alloc::{Alloc, AllocError, Global};
 use std::io::{Read, Write};
 

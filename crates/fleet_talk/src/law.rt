@@ -12,7 +12,7 @@ ghost use Rattle.fleet_world.specs.declared.reply.Reply.{Reply};
 ghost use Rattle.fleet_world.specs.Run.{State, Run, opened_state};
 ghost use Rattle.errands_text.specs.Kit.{KitLaws, chosen_laws};
 ghost use Rattle.errands_text.specs.Output.{run_text};
-ghost use Rattle.fleet_session.specs.Talk.{Talk, forget, opened_talk};
+ghost use Rattle.fleet_world.specs.Talk.{Talk, forget, opened_talk};
 ghost use Rattle.fleet_talk.specs.Act.{play};
 ghost use Rattle.fleet_talk.specs.Acts.{Talks};
 ghost use Rattle.fleet_talk.specs.Chapters.{ChapterView};

@@ -1,12 +1,12 @@
 //! Events and chapters of a conversation.
 
-ghost use Rattle.std.specs.Prelude.{◌≡◌, ◌≤◌, [], ◌∷◌, ℕ, List, length, replicate, OnOk, OnErr, IfErr};
+ghost use Rattle.std.specs.Prelude.{◌≡◌, ◌≤◌, [], ◌∷◌, ℕ, List, length, replicate, OnOk, OnErr, IfOk, IfErr};
 ghost use Rattle.fleet_grid.specs.Floor.{Floor};
 ghost use Rattle.fleet_history.specs.History.{history_of};
-ghost use Rattle.errands_text.specs.Output.{is_limit_met};
-ghost use Rattle.fleet_session.specs.Keeps.{talk};
+ghost use Rattle.errands_text.specs.Output.{event_text, is_limit_met};
+ghost use Rattle.fleet_world.specs.Keeps.{talk};
 ghost use Rattle.fleet_talk.specs.Act.{play};
-ghost use Rattle.fleet_talk.specs.Acts.{Does, HandsOut, Plays, Rolls, Talks, makes_entry};
+ghost use Rattle.fleet_talk.specs.Acts.{Does, HandsOut, Plays, Talks, Turns, last_entry, wants_room};
 ghost use Rattle.fleet_talk.specs.Broken.{IsMidway};
 ghost use Rattle.fleet_talk.specs.Chapters.{Adds, IsSound, KeepsTurned, beginning, chapter_shown};
 ghost use Rattle.fleet_talk.specs.Said.{IsAdded, IsKept, under};
@@ -22,8 +22,7 @@ use fleet_book::Event;
 use fleet_core::{ChapterFault, ShutFault, TakeFault, TickFault};
 use fleet_history::Chapter;
 use fleet_script::Repeat;
-use fleet_session::Session;
-use fleet_world::Reply;
+use fleet_world::{Reply, Session};
 use std::alloc::{Alloc, AllocError, Global};
 use std::io::Write;
 
@@ -40,11 +39,16 @@ fn is_limit(reply: Reply) -> bool
     )
 }
 
-/// Whether an event may make an entry.
-fn makes_entry(event: Event) -> bool
-    ensures { result ≡ makes_entry event }
+/// Whether an event was refused because the chapter has no room for its entry, and may have the chapter handed out.
+fn wants_room(roll: bool, reply: Reply) -> bool
+    ensures { result ≡ wants_room roll reply }
 {
-    matches!(event, Event::Take(_) | Event::Tick | Event::Shut(_))
+    roll && matches!(
+        reply,
+        Reply::TakeRefused(TakeFault::ChapterFull)
+            | Reply::TickRefused(TickFault::ChapterFull)
+            | Reply::ShutRefused(ShutFault::ChapterFull)
+    )
 }
 
 /// Keeps a chapter that was handed out, and says so.
@@ -68,6 +72,30 @@ fn keep<S: Shelf>(
     Ok(pen.say(alloc, mark, text.as_str())?)
 }
 
+/// Hands out the chapter and says so, or says nothing if it is the last. Returns whether it was handed out.
+fn hand_out<S: Shelf>(
+    alloc: Global,
+    session: &mut Session,
+    shelf: &mut S,
+    pen: &mut Pen,
+    mark: Option<&[u8]>,
+) -> Result<bool, TalkFault>
+    requires { 0 ≤ session.old.world.core.number }
+    ensures ok { IfOk result (λ handed. (text : List ℕ) × Turns handed (talk session.old) (under mark.entry) text (talk session.new) × IsAdded pen.old pen.new text) }
+    ensures kept { OnOk result (KeepsTurned (S.kept shelf.old) (S.kept shelf.new) (talk session.old) (talk session.new)) }
+    ensures err { OnErr result (IsKept pen.old pen.new) }
+    ensures midway { IfErr result (λ fault. IsMidway fault) }
+{
+    match session.next_chapter() {
+        Ok(chapter) => {
+            keep(alloc, &chapter, shelf, pen, mark)?;
+            Ok(true)
+        }
+        Err(ChapterFault::BookSpent) => Ok(false),
+        Err(ChapterFault::NoMemory) => Err(TalkFault::NoMemory),
+    }
+}
+
 /// Returns the current chapter and begins the next, or says that it is the last.
 pub(crate) fn next_chapter<S: Shelf>(
     alloc: Global,
@@ -82,42 +110,30 @@ pub(crate) fn next_chapter<S: Shelf>(
     ensures err { OnErr result (IsKept pen.old pen.new) }
     ensures midway { IfErr result (λ fault. IsMidway fault) }
 {
-    match session.next_chapter() {
-        Ok(chapter) => keep(alloc, &chapter, shelf, pen, mark),
-        Err(ChapterFault::BookSpent) => Ok(pen.say(alloc, mark, "chapter-refused 1 book-spent\n")?),
-        Err(ChapterFault::NoMemory) => Err(TalkFault::NoMemory),
+    if hand_out(alloc, session, shelf, pen, mark)? {
+        return Ok(());
     }
+    Ok(pen.say(alloc, mark, "chapter-refused 1 book-spent\n")?)
 }
 
-/// Hands out the chapter if it is full, the event needs room for an entry, and another chapter may begin.
-fn roll<S: Shelf>(
+/// Says what is replied to an event that was done.
+fn tell(
     alloc: Global,
-    session: &mut Session,
-    shelf: &mut S,
+    session: &Session,
     pen: &mut Pen,
     mark: Option<&[u8]>,
     event: Event,
-) -> Result<(), TalkFault>
-    requires { 0 ≤ session.old.world.core.number }
-    ensures ok { OnOk result ((text : List ℕ) × Rolls pen.old.settings.roll (talk session.old) (under mark.entry) event text (talk session.new) × IsAdded pen.old pen.new text) }
-    ensures kept { OnOk result (KeepsTurned (S.kept shelf.old) (S.kept shelf.new) (talk session.old) (talk session.new)) }
+    reply: Reply,
+) -> Result<(), AllocError>
+    requires { 0 ≤ session.now.world.core.number }
+    ensures ok { OnOk result (IsAdded pen.old pen.new (marked (under mark.entry) (event_text event reply (last_entry (talk session.now))))) }
     ensures err { OnErr result (IsKept pen.old pen.new) }
-    ensures midway { IfErr result (λ fault. IsMidway fault) }
 {
-    if !pen.settings.roll {
-        return Ok(());
-    }
-    if !makes_entry(event) {
-        return Ok(());
-    }
-    if !session.is_full() {
-        return Ok(());
-    }
-    match session.next_chapter() {
-        Ok(chapter) => keep(alloc, &chapter, shelf, pen, mark),
-        Err(ChapterFault::BookSpent) => Ok(()),
-        Err(ChapterFault::NoMemory) => Err(TalkFault::NoMemory),
-    }
+    pen.limited |= is_limit(reply);
+    let mut text = String::new(alloc);
+    let entry = session.world.chapter().entries.last();
+    write_event(&mut text, event, reply, entry)?;
+    pen.say(alloc, mark, text.as_str())
 }
 
 /// Does one event, and says what is replied.
@@ -134,11 +150,7 @@ fn play<R: Alloc<A = Global>>(
     ensures err { OnErr result (IsKept pen.old pen.new) }
 {
     let reply = session.step(rt, event)?;
-    pen.limited |= is_limit(reply);
-    let mut text = String::new(rt.alloc());
-    let entry = session.world.chapter().entries.last();
-    write_event(&mut text, event, reply, entry)?;
-    pen.say(rt.alloc(), mark, text.as_str())
+    tell(rt.alloc(), session, pen, mark, event, reply)
 }
 
 /// `play_on`, which may have said that a chapter was handed out where the event itself fails.
@@ -156,12 +168,18 @@ fn play_in_room<R: Alloc<A = Global>, S: Shelf>(
     ensures err { OnErr result ((text : List ℕ) × IsAdded pen.old pen.new text) }
     ensures midway { IfErr result (λ fault. IsMidway fault) }
 {
-    roll(rt.alloc(), session, shelf, pen, mark, event)?;
-    Ok(play(rt, session, pen, mark, event)?)
+    let reply = session.step(rt, event)?;
+    if !wants_room(pen.settings.roll, reply) {
+        return Ok(tell(rt.alloc(), session, pen, mark, event, reply)?);
+    }
+    if hand_out(rt.alloc(), session, shelf, pen, mark)? {
+        return Ok(play(rt, session, pen, mark, event)?);
+    }
+    Ok(tell(rt.alloc(), session, pen, mark, event, reply)?)
 }
 
-/// Does one event, in the next chapter if the current one is full and may be handed out unasked. If it fails, nothing
-/// is answered.
+/// Does one event. If it is refused because the chapter is full, and that may be handed out unasked, it is done in the
+/// next chapter. If it fails, nothing is answered.
 fn play_on<R: Alloc<A = Global>, S: Shelf>(
     rt: &R,
     session: &mut Session,

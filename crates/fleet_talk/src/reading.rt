@@ -7,7 +7,7 @@ ghost use Rattle.fleet_talk.specs.Heard.{IsNext};
 
 use crate::fault::TalkFault;
 use crate::ground::MOST_LINE;
-use fleet_lines::read_line;
+use crate::input_line::read_line;
 use std::io::{BufReader, Read};
 
 /// Reads the next line, and returns whether there was one.

@@ -1,6 +1,9 @@
-pub mod Fronts
+pub mod Counts
 pub mod StepLaws
 pub mod RunLaws
 pub mod Rings
 pub mod FinalLists
 pub mod Refusals
+pub mod Sessions
+pub mod Collecting
+pub mod Leaving

@@ -1,3 +1,3 @@
 -- What only proofs and private functions use.
 pub mod Leftovers
-pub mod RunState
+pub mod Shown

@@ -1,58 +1,60 @@
-//! What all clients' lists leave at the end of a run.
+//! What the clients leave at the end of a run.
 
-ghost use Rattle.std.specs.Prelude.{◌≡◌, IfOk, map, vec_len};
+ghost use Rattle.std.specs.Prelude.{◌≡◌, [], ℕ, List, IfOk, map, replicate, vec_len};
+ghost use Rattle.fleet_book.specs.declared.notice.Notice.{Notice};
 ghost use Rattle.fleet_world.specs.inside.Leftovers.{HasRoomFor};
-ghost use Rattle.fleet_world.specs.Run.{lane, outlet};
 
-use crate::lists::ClientLists;
+use crate::waiting::Waiting;
 use fleet_book::{Notice, Order};
 use std::alloc::{AllocError, Allocator};
 
-/// By client, what is left in its lane and in its outlet, and what it collected.
+/// By client, what is left in its lane and in its outlet.
 #[derive(Drop)]
 pub(crate) struct Leftovers<A: Allocator + Copy> {
     pub(crate) lanes: Vec<Vec<Order, A>, A>,
     pub(crate) outlets: Vec<Vec<Notice, A>, A>,
-    pub(crate) collected: Vec<Vec<Notice, A>, A>,
 }
 
 impl<A: Allocator + Copy> Leftovers<A> {
-    /// Nothing yet, with room for this many clients.
+    /// Nothing yet, with room for this many clients, so that the end of a run takes no memory.
     pub(crate) fn with_room(alloc: A, clients: usize) -> Result<Leftovers<A>, AllocError>
         ensures { IfOk result (λ l. HasRoomFor l clients) }
     {
         let lanes = Vec::with_capacity(alloc, clients)?;
         let outlets = Vec::with_capacity(alloc, clients)?;
-        let collected = Vec::with_capacity(alloc, clients)?;
-        Ok(Leftovers {
-            lanes,
-            outlets,
-            collected,
-        })
+        Ok(Leftovers { lanes, outlets })
     }
 
-    /// Takes the clients' lists apart, within the room.
-    pub(crate) fn filled(self, lists: Vec<ClientLists<A>, A>) -> Leftovers<A>
-        requires { HasRoomFor self (vec_len lists) }
-        ensures lanes { map (λ v. v.items) result.lanes.items ≡ map lane lists.items }
-        ensures outlets { map (λ v. v.items) result.outlets.items ≡ map outlet lists.items }
-        ensures collected { map (λ v. v.items) result.collected.items ≡ map (λ l. l.collected) lists.items }
+    /// Takes apart what waits of the clients, within the room.
+    pub(crate) fn filled(self, waiting: Vec<Waiting<A>, A>) -> Leftovers<A>
+        requires { HasRoomFor self (vec_len waiting) }
+        ensures lanes { map (λ v. v.items) result.lanes.items ≡ map (λ w. w.lane) waiting.items }
+        ensures outlets { map (λ v. v.items) result.outlets.items ≡ map (λ w. w.outlet) waiting.items }
     {
         let Leftovers {
             mut lanes,
             mut outlets,
-            mut collected,
         } = self;
-        for list in lists {
-            let left = list.leave();
-            lanes.push_reserved(left.lane);
-            outlets.push_reserved(left.outlet);
-            collected.push_reserved(left.collected);
+        for client in waiting {
+            let (lane, outlet) = client.leave();
+            lanes.push_reserved(lane);
+            outlets.push_reserved(outlet);
         }
-        Leftovers {
-            lanes,
-            outlets,
-            collected,
-        }
+        Leftovers { lanes, outlets }
     }
+}
+
+/// What clients collected that did nothing.
+pub(crate) fn none_collected<A: Allocator + Copy>(
+    alloc: A,
+    count: usize,
+) -> Result<Vec<Vec<Notice, A>, A>, AllocError>
+    ensures items { IfOk result (λ all. map (λ v. v.items) all.items ≡ replicate count []) }
+    ensures len { IfOk result (λ all. vec_len all ≡ count) }
+{
+    let mut all = Vec::with_capacity(alloc, count)?;
+    for _i in 0..count {
+        all.push_reserved(Vec::new(alloc));
+    }
+    Ok(all)
 }

@@ -1,17 +1,20 @@
-//! The world of a fleet, and the pure core that runs a list of events from its opening.
+//! The world of a fleet with the lanes and outlets of its clients, event by event, and the pure core that runs a list of events
+//! from its opening.
 #![tactic(auto)]
 
 mod faults;
 mod leftovers;
-mod lists;
 mod play;
 mod reply;
-mod run_state;
+mod session;
 mod steps;
+mod waiting;
 
 pub use crate::faults::RunFault;
 pub use crate::play::{Played, run};
 pub use crate::reply::Reply;
+pub use crate::session::Session;
+pub use crate::waiting::Waiting;
 pub use fleet_book::{Event, Limits, Notice, Order, Verdict};
 pub use fleet_core::{
     ChapterFault, Core, OpenFault, RobotHooks, ShutFault, TakeFault, TickFault, TickReport, World,

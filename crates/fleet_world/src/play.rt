@@ -1,6 +1,6 @@
 //! The pure core over a list of events.
 
-ghost use Rattle.std.specs.Prelude.{◌≡◌, ◌<◌, ◌^◌, ◌↔◌, ℕ, Err, IfOk, length, vec_len};
+ghost use Rattle.std.specs.Prelude.{◌≡◌, ◌<◌, ◌^◌, ◌↔◌, ℕ, [], Err, IfOk, IfErr, OnOk, length, map, replicate, vec_len};
 ghost use Rattle.fleet_bound.specs.Bound.{WaitsAreBounded};
 ghost use Rattle.fleet_grid.specs.Floor.{IsNeighbour};
 ghost use Rattle.fleet_grid.specs.Walk.{IsBridgeless};
@@ -11,18 +11,22 @@ ghost use Rattle.fleet_planner.specs.Planned.{IsPlanned, IsAdvancingTick};
 ghost use Rattle.fleet_core.specs.Hooks.{laws_of};
 ghost use Rattle.fleet_core.specs.OpeningFaults.{IsRefused, IsNamed};
 ghost use Rattle.fleet_core.specs.Core.{opened_world};
-ghost use Rattle.fleet_world.specs.Run.{Run, opened_state};
+ghost use Rattle.fleet_world.specs.Keeps.{talk};
+ghost use Rattle.fleet_world.specs.Run.{Run, IsAtEvent, opened_state};
 ghost use Rattle.fleet_world.specs.Laws.{KeepsRings, KeepsEachRing, CollectsInOrder, IsSameGround};
 ghost use Rattle.fleet_world.specs.Played.{collected_of, end_of};
+ghost use Rattle.fleet_world.specs.inside.Leftovers.{HasRoomFor};
+ghost use Rattle.fleet_world.specs.inside.Shown.{Leads, with_reply};
 
 use crate::faults::RunFault;
+use crate::leftovers::{Leftovers, none_collected};
 use crate::reply::Reply;
-use crate::run_state::RunState;
+use crate::session::Session;
 use fleet_book::{Event, Limits, Notice, Order};
-use fleet_core::World;
+use fleet_core::{OpenFault, World};
 use fleet_grid::Grid;
 use fleet_hooks::Hooks;
-use std::alloc::{Alloc, Allocator, Global};
+use std::alloc::{Alloc, AllocError, Allocator, Global};
 
 /// What a run leaves, by client where a list is one of lists.
 #[derive(Drop)]
@@ -72,15 +76,111 @@ pub fn run<A: Allocator + Copy, R: Alloc<A = A>>(
     ensures advancing { IfOk result (λ p. IsBridgeless (IsNeighbour p.world.core.floor) → EachTick (IsAdvancingTick p.world.core.floor) p.world.core.history) }
     ensures bounded { IfOk result (λ p. IsBridgeless (IsNeighbour p.world.core.floor) → WaitsAreBounded p.world.core.floor p.world.core.history) }
 {
-    let mut session = match RunState::open(rt.alloc(), grid, starts, clients, limits, hooks) {
+    let mut session = match Session::open(rt.alloc(), grid, starts, clients, limits, hooks) {
         Ok(session) => session,
         Err(fault) => return Err(RunFault::Opening(fault)),
     };
-    match session.play(rt, events) {
-        Ok(replies) => Ok(session.close(replies)),
+    let (leftovers, mut collected) = match rooms(rt.alloc(), clients as usize) {
+        Ok(rooms) => rooms,
+        Err(AllocError) => {
+            abandon(session);
+            return Err(RunFault::Opening(OpenFault::NoMemory));
+        }
+    };
+    match play(rt, &mut session, &mut collected, events) {
+        Ok(replies) => Ok(close(session, leftovers, collected, replies)),
         Err(fault) => {
-            session.abandon();
+            abandon(session);
             Err(fault)
         }
+    }
+}
+
+/// Room for what this many clients leave, and what they collected before any event.
+fn rooms<A: Allocator + Copy>(
+    alloc: A,
+    clients: usize,
+) -> Result<(Leftovers<A>, Vec<Vec<Notice, A>, A>), AllocError>
+    ensures room { IfOk result (λ r. HasRoomFor r.0 clients) }
+    ensures collected { IfOk result (λ r. map (λ v. v.items) r.1.items ≡ replicate clients []) }
+{
+    let leftovers = Leftovers::with_room(alloc, clients)?;
+    let collected = none_collected(alloc, clients)?;
+    Ok((leftovers, collected))
+}
+
+/// Lets a session go by its own end: a drop would be proved again here, for each type that lies in it.
+fn abandon<A: Allocator + Copy>(session: Session<A>) {
+    let _left = session.finish();
+}
+
+/// Plays events, one after another, and adds what is collected. Out of memory ends it at the index of its event.
+fn play<A: Allocator + Copy, R: Alloc<A = A>>(
+    rt: &R,
+    session: &mut Session<A>,
+    collected: &mut Vec<Vec<Notice, A>, A>,
+    events: &[Event],
+) -> Result<Vec<Reply, A>, RunFault>
+    ensures leads { IfOk result (λ replies. Leads (talk session.old) (map (λ v. v.items) collected.old.items) events.now replies.items (talk session.new) (map (λ v. v.items) collected.new.items)) }
+    ensures fault { IfErr result (λ fault. IsAtEvent (length events.now) fault) }
+{
+    let mut replies = Vec::new(rt.alloc());
+    for i in 0..events.len() {
+        let Ok(reply) = session.step(rt, events[i]) else {
+            return Err(RunFault::NoMemory(i));
+        };
+        let Ok(()) = add_collected(collected, events[i], reply) else {
+            return Err(RunFault::NoMemory(i));
+        };
+        if replies.push(reply).is_err() {
+            return Err(RunFault::NoMemory(i));
+        }
+    }
+    Ok(replies)
+}
+
+/// Adds the notice that was collected at an event, if one was, to what its client collected.
+fn add_collected<A: Allocator + Copy>(
+    collected: &mut Vec<Vec<Notice, A>, A>,
+    event: Event,
+    reply: Reply,
+) -> Result<(), AllocError>
+    ensures { OnOk result (map (λ v. v.items) collected.new.items ≡ with_reply event reply (map (λ v. v.items) collected.old.items)) }
+{
+    let Event::Collect(client) = event else {
+        return Ok(());
+    };
+    let Reply::Collected(notice) = reply else {
+        return Ok(());
+    };
+    let client = client as usize;
+    if client < collected.len() {
+        collected[client].push(notice)?;
+    }
+    Ok(())
+}
+
+/// What a session leaves, with what was collected and the replies to its events.
+fn close<A: Allocator + Copy>(
+    session: Session<A>,
+    leftovers: Leftovers<A>,
+    collected: Vec<Vec<Notice, A>, A>,
+    replies: Vec<Reply, A>,
+) -> Played<A>
+    requires { HasRoomFor leftovers (vec_len session.waiting) }
+    ensures world { result.world.core ≡ session.world.core }
+    ensures lanes { map (λ v. v.items) result.lanes.items ≡ map (λ w. w.lane) session.waiting.items }
+    ensures outlets { map (λ v. v.items) result.outlets.items ≡ map (λ w. w.outlet) session.waiting.items }
+    ensures collected { result.collected ≡ collected }
+    ensures replies { result.replies ≡ replies }
+{
+    let Session { world, waiting } = session;
+    let left = leftovers.filled(waiting);
+    Played {
+        world,
+        lanes: left.lanes,
+        outlets: left.outlets,
+        collected,
+        replies,
     }
 }

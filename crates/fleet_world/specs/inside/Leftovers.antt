@@ -1,4 +1,4 @@
--- Room for what all clients' lists leave.
+-- Room for what all clients leave.
 use Rattle.std.specs.Prelude.{ℕ, ◌≡◌, ◌≤◌, vec_len, vec_capacity}
 use Rattle.fleet_world.specs.declared.leftovers.Leftovers.{Leftovers}
 
@@ -6,7 +6,5 @@ use Rattle.fleet_world.specs.declared.leftovers.Leftovers.{Leftovers}
 pub record HasRoomFor {A : Type 0} (l : Leftovers A) (n : ℕ) : Type 0 where
   pub no_lanes : vec_len l.lanes ≡ 0
   pub no_outlets : vec_len l.outlets ≡ 0
-  pub none_collected : vec_len l.collected ≡ 0
   pub lanes : n ≤ vec_capacity l.lanes
   pub outlets : n ≤ vec_capacity l.outlets
-  pub collected : n ≤ vec_capacity l.collected

@@ -5,7 +5,7 @@ use Rattle.std.specs.declared.alloc.Global.{Global}
 use Rattle.std.specs.Io.Buffered.{reader_remaining}
 use Rattle.errands_text.specs.Kit.{kit_laws}
 use Rattle.fleet_history.specs.History.{history_of}
-use Rattle.fleet_session.specs.Keeps.{talk}
+use Rattle.fleet_world.specs.Keeps.{talk}
 use Rattle.fleet_talk.specs.declared.fault.TalkFault.{TalkFault}
 use Rattle.fleet_talk.specs.Chapters.{ChapterView, KeepsTurned}
 use Rattle.fleet_talk.specs.Conversation.{ComesTo, Shelved, Terms}

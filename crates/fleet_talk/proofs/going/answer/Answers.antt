@@ -1,6 +1,6 @@
 -- What a line asks is done, and then its answer ends.
 use Rattle.std.proofs.Common.{◌∙◌, ◌++◌, ap}
-use Rattle.fleet_session.specs.Keeps.{talk}
+use Rattle.fleet_world.specs.Keeps.{talk}
 use Rattle.fleet_talk.specs.declared.ends.Settings.{Settings}
 use Rattle.fleet_talk.specs.Said.{end_said}
 use Rattle.fleet_talk.specs.declared.fault.TalkFault.TheVariants.{NoMemory}

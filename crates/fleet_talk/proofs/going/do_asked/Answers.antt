@@ -1,7 +1,7 @@
 -- What each kind of line asks.
 use Rattle.std.proofs.Common.{List, IfErr, refl, sym, ap, subst}
 use Rattle.std.proofs.lemmas.Result.{on_ok_weaker}
-use Rattle.fleet_session.specs.Keeps.{talk}
+use Rattle.fleet_world.specs.Keeps.{talk}
 use Rattle.fleet_talk.specs.declared.ask.Asked.TheVariants.{Chapter, Look}
 use Rattle.fleet_talk.specs.Act.{Act, acts_asked, show, turn}
 use Rattle.fleet_talk.specs.Acts.{Talks}

@@ -2,7 +2,7 @@
 use Rattle.std.proofs.Common.{◌∙◌, ◌∷◌, ℕ, List, Option, IfSome, refl, sym, ap, subst}
 use Rattle.std.specs.Io.Buffered.{reader_remaining}
 use Rattle.std.specs.declared.alloc.Global.{Global}
-use Rattle.fleet_session.specs.Keeps.{talk}
+use Rattle.fleet_world.specs.Keeps.{talk}
 use Rattle.fleet_talk.specs.declared.ends.Settings.{Settings}
 use Rattle.fleet_talk.specs.declared.fault.TalkFault.TheVariants.{Input}
 use Rattle.fleet_talk.specs.Act.{acts_from, acts_on}

@@ -1,7 +1,7 @@
 -- The lines before the one at hand were answered.
 use Rattle.std.proofs.Common.{◌≡◌, ◌∷◌, IfSome}
 use Rattle.std.specs.Io.Buffered.{reader_remaining}
-use Rattle.fleet_session.specs.Keeps.{talk}
+use Rattle.fleet_world.specs.Keeps.{talk}
 use Rattle.fleet_talk.specs.Act.{acts_from}
 use Rattle.fleet_talk.specs.Chapters.{KeepsTurned}
 use Rattle.fleet_talk.specs.Heard.{heard_lines}

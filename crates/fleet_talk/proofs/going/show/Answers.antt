@@ -1,6 +1,6 @@
 -- What is shown is a look.
 use Rattle.std.proofs.Common.{string_bytes}
-use Rattle.fleet_session.specs.Keeps.{talk}
+use Rattle.fleet_world.specs.Keeps.{talk}
 use Rattle.fleet_talk.specs.Said.{under}
 use Rattle.fleet_talk.proofs.Talking.{shown}
 use Rattle.fleet_talk.proofs.going.show.Goals as goal

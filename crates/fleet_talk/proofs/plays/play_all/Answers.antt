@@ -1,7 +1,7 @@
 -- One more event of a line, and all of them.
 use Rattle.std.proofs.Common.{◌∙◌, [], ◌++◌, refl, subst}
 use Rattle.fleet_talk.specs.declared.ends.Settings.{Settings}
-use Rattle.fleet_session.specs.Keeps.{talk}
+use Rattle.fleet_world.specs.Keeps.{talk}
 use Rattle.fleet_talk.specs.Act.{play}
 use Rattle.fleet_talk.specs.Acts.{Does}
 use Rattle.fleet_talk.specs.Said.{under}

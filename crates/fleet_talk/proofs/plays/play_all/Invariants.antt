@@ -1,7 +1,7 @@
 -- So many of the events were done.
 use Rattle.std.proofs.Common.{◌≡◌, ℕ, List}
 use Rattle.std.specs.Prelude.{replicate}
-use Rattle.fleet_session.specs.Keeps.{talk}
+use Rattle.fleet_world.specs.Keeps.{talk}
 use Rattle.fleet_talk.specs.Act.{play}
 use Rattle.fleet_talk.specs.Acts.{Talks}
 use Rattle.fleet_talk.specs.Chapters.{KeepsTurned}

@@ -1,20 +1,51 @@
--- A chapter that was handed out, if one was, and the event.
-use Rattle.std.proofs.Common.{◌++◌, refl}
-use Rattle.fleet_session.specs.Keeps.{talk}
-use Rattle.fleet_talk.proofs.Shelving.{keeps-same, keeps-then}
-use Rattle.fleet_talk.proofs.Talking.{added-then}
+-- The event was done in the chapter as it was, in the next one, or not for want of one.
+use Rattle.std.proofs.Common.{◌∙◌, Bool, subst, sym}
+use Rattle.fleet_world.specs.Keeps.{talk}
+use Rattle.fleet_talk.specs.Acts.{Turns}
+use Rattle.fleet_talk.specs.Said.{under}
+use Rattle.fleet_talk.proofs.Rolling.{plays-here, plays-last, plays-next}
+use Rattle.fleet_talk.proofs.Shelving.{keeps-same, keeps-then, step-beginning}
 use Rattle.fleet_talk.proofs.plays.play_in_room.Goals as goal
+
+pub returns-then-not-wants_room-clause-ok : goal.returns-then-not-wants_room-clause-ok
+returns-then-not-wants_room-clause-ok g c =
+    plays-here c.args.pen.now.settings.roll (talk c.args.session.now) (talk c.step.new.self) (under c.args.mark) c.args.event c.in_ok-reply.reply c.args.pen.now c.tell.new.pen
+    c.in_ok-reply.ensures.step (sym c.wants_room.ensures ∙ c.if-not-wants_room.true) c.in_ok-tell.ensures.ok
+
+pub returns-then-branch-clause-ok : goal.returns-then-branch-clause-ok
+returns-then-branch-clause-ok g c =
+    let mid = talk c.step.new.self in
+    let next = talk c.hand_out.new.session in
+    let mark = under c.args.mark in
+    let (first, turned, added) = c.in_ok-hand_out.ensures.ok in
+    let (rest, plays, more) = c.in_ok-play.ensures.ok in
+    plays-next c.args.pen.now.settings.roll (talk c.args.session.now) mid next (talk c.play.new.session) mark c.args.event c.in_ok-reply.reply first rest c.args.pen.now c.hand_out.new.pen c.play.new.pen
+    c.in_ok-reply.ensures.step (sym c.wants_room.ensures ∙ c.if-not-wants_room.false) (subst (λ (handed : Bool). Turns handed mid mark first next) c.if-branch.true turned) plays added more
+
+pub returns-then-branch-clause-kept : goal.returns-then-branch-clause-kept
+returns-then-branch-clause-kept g c =
+    let start = talk c.args.session.now in
+    let mid = talk c.step.new.self in
+    let next = talk c.hand_out.new.session in
+    let end = talk c.play.new.session in
+    let old = g.S.Shelf.kept c.args.shelf.now in
+    let kept = g.S.Shelf.kept c.hand_out.new.shelf in
+    let stepped = keeps-same old start mid (step-beginning start mid c.args.event c.in_ok-reply.reply c.in_ok-reply.ensures.step) in
+    keeps-then old kept kept start next end (keeps-then old old kept start mid next stepped c.in_ok-hand_out.ensures.kept) (keeps-same kept next end c.in_ok-play.ensures.same)
 
 pub returns-clause-ok : goal.returns-clause-ok
 returns-clause-ok g c =
-    let (before, rolled, first) = c.in_ok-roll.ensures.ok in
-    let (after, plays, rest) = c.in_ok-play.ensures.ok in
-    (before ++ after, (talk c.roll.new.session, before, after, rolled, plays, refl), added-then c.args.pen.now c.roll.new.pen c.play.new.pen before after first rest)
+    let mid = talk c.step.new.self in
+    let next = talk c.hand_out.new.session in
+    let mark = under c.args.mark in
+    let (first, turned, added) = c.in_ok-hand_out.ensures.ok in
+    plays-last c.args.pen.now.settings.roll (talk c.args.session.now) mid next mark c.args.event c.in_ok-reply.reply first c.args.pen.now c.hand_out.new.pen c.tell-2.new.pen
+    c.in_ok-reply.ensures.step (sym c.wants_room.ensures ∙ c.if-not-wants_room.false) (subst (λ (handed : Bool). Turns handed mid mark first next) c.if-branch.false turned) added c.in_ok-tell-2.ensures.ok
 
 pub returns-clause-kept : goal.returns-clause-kept
 returns-clause-kept g c =
     let start = talk c.args.session.now in
-    let mid = talk c.roll.new.session in
-    let end = talk c.play.new.session in
-    let kept = g.S.Shelf.kept c.roll.new.shelf in
-    keeps-then (g.S.Shelf.kept c.args.shelf.now) kept kept start mid end c.in_ok-roll.ensures.kept (keeps-same kept mid end c.in_ok-play.ensures.same)
+    let mid = talk c.step.new.self in
+    let old = g.S.Shelf.kept c.args.shelf.now in
+    let stepped = keeps-same old start mid (step-beginning start mid c.args.event c.in_ok-reply.reply c.in_ok-reply.ensures.step) in
+    keeps-then old old (g.S.Shelf.kept c.hand_out.new.shelf) start mid (talk c.hand_out.new.session) stepped c.in_ok-hand_out.ensures.kept

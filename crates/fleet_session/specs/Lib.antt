@@ -1,2 +1,0 @@
-pub mod Talk
-pub mod Keeps

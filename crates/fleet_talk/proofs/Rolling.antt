@@ -1,0 +1,107 @@
+-- When a chapter is handed out unasked.
+use Rattle.std.proofs.Common.{◌≡◌, ◌∙◌, ℕ, ◌+◌, Bool, true, false, List, [], ◌++◌, length, Option, refl, sym, ap, subst, arith}
+use Rattle.fleet_book.specs.declared.event.Event.{Event}
+use Rattle.fleet_book.specs.declared.event.Event.TheVariants.{Post, Take, Tick, Give, Collect, Shut}
+use Rattle.fleet_core.specs.declared.faults.TakeFault.TheVariants as take_fault
+use Rattle.fleet_core.specs.declared.faults.TickFault.TheVariants as tick_fault
+use Rattle.fleet_core.specs.declared.faults.ShutFault.TheVariants as shut_fault
+use Rattle.fleet_world.specs.declared.reply.Reply.{Reply}
+use Rattle.fleet_world.specs.declared.reply.Reply.TheVariants.{Posted, LaneFull, Took, LaneEmpty, TakeRefused, Ticked, TickRefused, Gave, NothingPending, OutletFull, Collected, NothingThere, ShutDone, ShutRefused, NoClient}
+use Rattle.fleet_world.specs.Talk.{Talk, TalkStep}
+use Rattle.errands_text.specs.Output.{event_text}
+use Rattle.fleet_talk.specs.declared.pen.Pen.{Pen}
+use Rattle.fleet_talk.specs.Act.{play}
+use Rattle.fleet_talk.specs.Acts.{Does, NeedsRoom, Plays, Turns, last_entry, rolls, stays, wants_room}
+use Rattle.fleet_talk.specs.Said.{IsAdded}
+use Rattle.fleet_talk.specs.Says.{marked}
+use Rattle.fleet_talk.proofs.Talking.{added-then}
+
+is_false : {P : Type 0} → false ≡ true → P
+is_false bad = cc
+
+is_true : {P : Type 0} → true ≡ false → P
+is_true bad = cc
+
+module _ {A : Type 0} where
+  -- an event that was answered otherwise does not need the room
+  not_full : (s t : Talk A) (e : Event) (reply : Reply) → TalkStep s e reply t → wants_room true reply ≡ false → NeedsRoom s e → ⊥
+  not_full s t (Take c) NoClient st other needs = omega (arith, st.0, needs.0)
+  not_full s t (Take c) LaneEmpty st other needs = let none = ap length st.1 in omega (arith, none, needs.1)
+  not_full s t (Take c) (TakeRefused take_fault.MailboxFull) st other needs = omega (arith, st.2, needs.2)
+  not_full s t (Take c) (TakeRefused take_fault.ChapterFull) st other needs = is_true other
+  not_full s t (Take c) (Took order_no v) st other needs = omega (arith, st.2, needs.3)
+  not_full s t Tick (TickRefused tick_fault.ClockSpent) st other needs = omega (arith, st.0, needs.0)
+  not_full s t Tick (TickRefused tick_fault.ChapterFull) st other needs = is_true other
+  not_full s t Tick (Ticked report) st other needs = omega (arith, st.1, needs.1)
+  not_full s t (Shut r) (ShutRefused shut_fault.NoRobot) st other needs = omega (arith, st.0, needs.0)
+  not_full s t (Shut r) (ShutRefused shut_fault.Already) st other needs = is_true (sym st.1 ∙ needs.1)
+  not_full s t (Shut r) (ShutRefused shut_fault.ChapterFull) st other needs = is_true other
+  not_full s t (Shut r) (ShutDone farewell) st other needs = omega (arith, st.0, needs.2)
+  not_full s t (Post c o) _ st other needs = needs
+  not_full s t (Give c) _ st other needs = needs
+  not_full s t (Collect c) _ st other needs = needs
+  not_full s t _ _ st other needs = absurd st
+
+  not_needed : (roll : Bool) (s t : Talk A) (e : Event) (reply : Reply) → TalkStep s e reply t → wants_room roll reply ≡ false → roll ≡ true → NeedsRoom s e → ⊥
+  not_needed true s t e reply st other on needs = not_full s t e reply st other needs
+  not_needed false s t e reply st other on needs = is_false on
+
+  -- an event that was refused so needs the room, and changed nothing
+  full : (s t : Talk A) (e : Event) (reply : Reply) → TalkStep s e reply t → wants_room true reply ≡ true → NeedsRoom s e × (t ≡ s)
+  full s t (Take c) (TakeRefused take_fault.ChapterFull) st is = ((st.0, st.1, st.2, st.3, refl), st.4)
+  full s t Tick (TickRefused tick_fault.ChapterFull) st is = ((st.0, st.1, refl), st.2)
+  full s t (Shut r) (ShutRefused shut_fault.ChapterFull) st is = ((st.0, st.1, st.2, refl), st.3)
+  full s t (Post c o) NoClient st is = is_false is
+  full s t (Post c o) LaneFull st is = is_false is
+  full s t (Post c o) (Posted n) st is = is_false is
+  full s t (Take c) NoClient st is = is_false is
+  full s t (Take c) LaneEmpty st is = is_false is
+  full s t (Take c) (TakeRefused take_fault.MailboxFull) st is = is_false is
+  full s t (Take c) (Took order_no v) st is = is_false is
+  full s t Tick (TickRefused tick_fault.ClockSpent) st is = is_false is
+  full s t Tick (Ticked report) st is = is_false is
+  full s t (Shut r) (ShutRefused shut_fault.NoRobot) st is = is_false is
+  full s t (Shut r) (ShutRefused shut_fault.Already) st is = is_false is
+  full s t (Shut r) (ShutDone farewell) st is = is_false is
+  full s t (Give c) NoClient st is = is_false is
+  full s t (Give c) NothingPending st is = is_false is
+  full s t (Give c) OutletFull st is = is_false is
+  full s t (Give c) (Gave seq) st is = is_false is
+  full s t (Collect c) NoClient st is = is_false is
+  full s t (Collect c) NothingThere st is = is_false is
+  full s t (Collect c) (Collected notice) st is = is_false is
+  full s t _ _ st is = absurd st
+
+  needed : (roll : Bool) (s t : Talk A) (e : Event) (reply : Reply) → TalkStep s e reply t → wants_room roll reply ≡ true → (roll ≡ true) × NeedsRoom s e × (t ≡ s)
+  needed true s t e reply st is = let found = full s t e reply st is in (refl, found.0, found.1)
+  needed false s t e reply st is = is_false is
+
+  -- the event was done in the chapter as it was
+  pub plays-here : (roll : Bool) (s t : Talk A) (mark : Option (List ℕ)) (e : Event) (reply : Reply) (old new : Pen) → TalkStep s e reply t → wants_room roll reply ≡ false
+      → IsAdded old new (marked mark (event_text e reply (last_entry t))) → (text : List ℕ) × Does roll s (play mark e) text t × IsAdded old new text
+  plays-here roll s t mark e reply old new step other added =
+      let said = marked mark (event_text e reply (last_entry t)) in (
+        said,
+        (s, [], said, stays (λ on needs. absurd (not_needed roll s t e reply step other on needs)) refl refl, record { reply = reply; step = step; said = refl }, refl),
+        added,
+      )
+
+  -- the chapter was handed out, and the event was done in the next
+  pub plays-next : (roll : Bool) (s m n t : Talk A) (mark : Option (List ℕ)) (e : Event) (reply : Reply) (first rest : List ℕ) (old mid new : Pen) → TalkStep s e reply m → wants_room roll reply ≡ true
+      → Turns true m mark first n → Plays n mark e rest t → IsAdded old mid first → IsAdded mid new rest → (text : List ℕ) × Does roll s (play mark e) text t × IsAdded old new text
+  plays-next roll s m n t mark e reply first rest old mid new step is turned plays added more =
+      let (on, needs, same) = needed roll s m e reply step is in
+      let (next, said) = subst (λ (x : Talk A). Turns true x mark first n) same turned in
+      (first ++ rest, (n, first, rest, rolls on needs next said, plays, refl), added-then old mid new first rest added more)
+
+  -- the chapter is the last
+  pub plays-last : (roll : Bool) (s m n : Talk A) (mark : Option (List ℕ)) (e : Event) (reply : Reply) (first : List ℕ) (old mid new : Pen) → TalkStep s e reply m → wants_room roll reply ≡ true
+      → Turns false m mark first n → IsAdded old mid first → IsAdded mid new (marked mark (event_text e reply (last_entry n))) → (text : List ℕ) × Does roll s (play mark e) text n × IsAdded old new text
+  plays-last roll s m n mark e reply first old mid new step is (spent, stayed, none) added more =
+      let (on, needs, same) = needed roll s m e reply step is in
+      let said = marked mark (event_text e reply (last_entry n)) in
+      let last : s.world.number + 1 ≡ s.world.limits.chapters = subst (λ (x : Talk A). x.world.number + 1 ≡ x.world.limits.chapters) same spent in (
+        said,
+        (s, [], said, stays (λ on needs. last) refl refl, record { reply = reply; step = subst (λ (x : Talk A). TalkStep s e reply x) (sym stayed) step; said = refl }, refl),
+        subst (λ (x : List ℕ). IsAdded old new (x ++ said)) none (added-then old mid new first said added more),
+      )
