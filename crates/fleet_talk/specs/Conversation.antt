@@ -8,13 +8,8 @@ use Rattle.fleet_core.specs.Opening.{CanOpen}
 use Rattle.fleet_core.specs.OpeningFaults.{IsRefused}
 use Rattle.fleet_core.specs.declared.faults.OpenFault.{OpenFault}
 use Rattle.fleet_script.specs.Script.{Draft, blank_draft, limits_over}
-<<<<<<< HEAD
 use Rattle.errands_text.specs.Kit.{KitLaws, cut_laws}
-use Rattle.fleet_session.specs.Talk.{Talk, opened_talk}
-=======
-use Rattle.errands_answer.specs.Kit.{KitLaws, cut_laws}
 use Rattle.fleet_world.specs.Talk.{Talk, opened_talk}
->>>>>>> 01b936e4910370bad56c34279cbfc2c301b5508c
 use Rattle.fleet_talk.specs.declared.ends.Settings.{Settings}
 use Rattle.fleet_talk.specs.declared.fault.TalkFault.{TalkFault}
 use Rattle.fleet_talk.specs.declared.fault.TalkFault.TheVariants.{Input, Output, Shelf, Opening as Unopened, NoMemory}

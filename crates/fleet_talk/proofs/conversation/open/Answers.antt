@@ -5,17 +5,10 @@ use Rattle.fleet_core.specs.Hooks.{AreOrderly, laws_of}
 use Rattle.fleet_core.specs.Opening.{CanOpen}
 use Rattle.fleet_core.specs.OpeningFaults.{IsRefused}
 use Rattle.fleet_script.specs.Script.{plan_from}
-<<<<<<< HEAD
 use Rattle.errands_text.specs.Kit.{kit_laws}
 use Rattle.errands_text.proofs.Kits.{first_laws, chosen_is}
-use Rattle.fleet_session.specs.Keeps.{talk}
-use Rattle.fleet_session.specs.Talk.{opened_talk}
-=======
-use Rattle.errands_answer.specs.Kit.{kit_laws}
-use Rattle.errands_answer.proofs.Kits.{first_laws, chosen_is}
 use Rattle.fleet_world.specs.Keeps.{talk}
 use Rattle.fleet_world.specs.Talk.{opened_talk}
->>>>>>> 01b936e4910370bad56c34279cbfc2c301b5508c
 use Rattle.fleet_talk.specs.Conversation.{clients_in, laws_in, limits_in}
 use Rattle.fleet_talk.specs.Heading.{drafted}
 use Rattle.fleet_talk.proofs.Starting.{unwrapped, in-terms}
