@@ -1,6 +1,7 @@
 //! Shows traces: a page that replays a trace, and a picture of it, both as text.
 #![tactic(auto)]
 
+mod arrivals;
 mod cells;
 mod chapters;
 mod fault;

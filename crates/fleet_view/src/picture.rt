@@ -1,12 +1,13 @@
 //! The picture of traces.
 
-ghost use Rattle.std.specs.Prelude.{◌≡◌, ◌++◌, ◌+◌, ◌*◌, ◌<◌, ◌≤◌, ◌^◌, map, length, OnOk, IfOk, string_bytes, slice_index, codes, decimal, max};
+ghost use Rattle.std.specs.Prelude.{◌≡◌, ◌++◌, ◌+◌, ◌*◌, ◌%◌, ◌<◌, ◌≤◌, ◌^◌, map, length, OnOk, IfOk, string_bytes, slice_index, codes, decimal, max};
 ghost use Rattle.fleet_map.specs.Form.{HasSides};
 ghost use Rattle.fleet_map.specs.Grammar.{view};
 ghost use Rattle.fleet_trace.specs.Trace.{trace_of};
 ghost use Rattle.fleet_view.specs.declared.shapes.TheConstants.{WALL, BAR, BAR_END};
-ghost use Rattle.fleet_view.specs.Picture.{point_text, is_floor_letter, walls_from, head_text, walls_text, cells_over, cells_in, points_text, values_text, disc_text, moving_text, cell_behind, still_text, shape_text, shapes_from, robots_in, bar_text, picture_text};
+ghost use Rattle.fleet_view.specs.Picture.{point_text, is_floor_letter, walls_from, head_text, walls_text, cells_over, cells_in, points_text, values_text, disc_text, moving_text, cell_behind, still_text, shape_text, shapes_from, flags_in, robots_in, bar_text, picture_text};
 
+use crate::arrivals::{write_goals_of, write_ring};
 use crate::shapes::{
     BAR, BAR_END, DISC, NUMBER, SHAPE_END, STILL, STILL_END, SVG_BEGIN, SVG_END, SVG_SIZE,
     SVG_STYLE, TRACK, TRACK_END, TRACK_TIME, WALL, WALLS, WALLS_END,
@@ -17,7 +18,7 @@ use std::alloc::{AllocError, Global};
 use std::fmt::Write;
 
 /// The upper left corner of a cell in the picture.
-fn write_point(out: &mut String, width: u32, cell: u32) -> Result<(), AllocError>
+pub(crate) fn write_point(out: &mut String, width: u32, cell: u32) -> Result<(), AllocError>
     requires { 1 ≤ width }
     ensures { OnOk result (string_bytes out.new ≡ string_bytes out.old ++ point_text width cell) }
 {
@@ -70,7 +71,7 @@ fn write_head(out: &mut String, height: u32, width: u32) -> Result<(), AllocErro
 }
 
 /// The robot's cell in a placement.
-fn cell_of(to: &[u32], robot: usize) -> u32
+pub(crate) fn cell_of(to: &[u32], robot: usize) -> u32
     ensures { result ≡ slice_index to.now robot }
 {
     if robot < to.len() { to[robot] } else { 0 }
@@ -120,11 +121,18 @@ fn write_values(out: &mut String, width: u32, start: u32, cells: &[u32]) -> Resu
     write_points(out, width, cells)
 }
 
-/// A disc in the robot's colour, which is that of the page, and its number.
+/// The hue of the robot's colour, which is that of the page, in thousandths of a degree.
+pub(crate) fn hue_of(robot: usize) -> usize
+    ensures { result ≡ robot % 30000 * 137508 % 360000 }
+{
+    robot % 30_000 * 137_508 % 360_000
+}
+
+/// A disc in the robot's colour, and its number.
 fn write_disc(out: &mut String, robot: usize) -> Result<(), AllocError>
     ensures { OnOk result (string_bytes out.new ≡ string_bytes out.old ++ disc_text robot) }
 {
-    let hue = robot % 30_000 * 137_508 % 360_000;
+    let hue = hue_of(robot);
     write!(out, "{DISC}{hue}{NUMBER}{robot}{SHAPE_END}")
 }
 
@@ -142,14 +150,16 @@ fn write_moving(
     robot: usize,
     start: u32,
     cells: &[u32],
+    chapters: &[Chapter],
 ) -> Result<(), AllocError>
     requires { 1 ≤ width }
-    ensures { OnOk result (string_bytes out.new ≡ string_bytes out.old ++ moving_text width robot start cells.now) }
+    ensures { OnOk result (string_bytes out.new ≡ string_bytes out.old ++ moving_text width robot start cells.now (flags_in robot (map trace_of chapters.now))) }
 {
     let time = time_of(cells);
     out.push_str(TRACK)?;
     write_values(out, width, start, cells)?;
     write!(out, "{TRACK_TIME}{time}{TRACK_END}")?;
+    write_ring(out, robot, chapters, time)?;
     write_disc(out, robot)
 }
 
@@ -176,21 +186,32 @@ fn write_still(out: &mut String, width: u32, robot: usize, cell: u32) -> Result<
     write_disc(out, robot)
 }
 
+/// Where a robot starts, and its cells after each tick.
+#[derive(Clone, Copy)]
+struct Track<'a> {
+    robot: usize,
+    start: u32,
+    cells: &'a [u32],
+}
+
 /// A robot's shape.
 fn write_shape(
     out: &mut String,
     width: u32,
     tick: Option<u32>,
-    robot: usize,
-    start: u32,
-    cells: &[u32],
+    track: &Track<'_>,
+    chapters: &[Chapter],
 ) -> Result<(), AllocError>
     requires { 1 ≤ width }
-    ensures { OnOk result (string_bytes out.new ≡ string_bytes out.old ++ shape_text width tick robot start cells.now) }
+    ensures { OnOk result (string_bytes out.new ≡ string_bytes out.old
+        ++ shape_text width tick track.now.robot track.now.start track.now.cells.now (flags_in track.now.robot (map trace_of chapters.now))) }
 {
     match tick {
-        None => write_moving(out, width, robot, start, cells),
-        Some(tick) => write_still(out, width, robot, cell_behind(tick, start, cells)),
+        None => write_moving(out, width, track.robot, track.start, track.cells, chapters),
+        Some(tick) => {
+            let cell = cell_behind(tick, track.start, track.cells);
+            write_still(out, width, track.robot, cell)
+        }
     }
 }
 
@@ -218,7 +239,12 @@ fn write_shapes(
 {
     for (robot, state) in robots.iter().enumerate() {
         let cells = cells_in(alloc, robot, chapters)?;
-        write_shape(out, width, tick, robot, state.cell, &cells)?;
+        let track = Track {
+            robot,
+            start: state.cell,
+            cells: &cells,
+        };
+        write_shape(out, width, tick, &track, chapters)?;
     }
     Ok(())
 }
@@ -275,6 +301,7 @@ pub fn picture_of(
     let mut out = String::new(alloc);
     write_floor(&mut out, floor)?;
     let robots = robots_in(chapters);
+    write_goals_of(&mut out, floor.width, chapters, robots.len())?;
     write_shapes(alloc, &mut out, floor.width, tick, chapters, robots)?;
     write_bar(alloc, &mut out, tick, chapters)?;
     out.push_str(SVG_END)?;

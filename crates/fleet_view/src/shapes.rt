@@ -7,9 +7,9 @@ pub(crate) const SVG_SIZE: &str = "\" width=\"";
 
 /// The colours of the page, light and dark, then the floor with a line round each cell.
 pub(crate) const SVG_STYLE: &str =
-    "\">\n<style>.floor{fill:#ffffff}.wall{fill:#6b7789}.grid{fill:none;stroke:#e6eaf0}.edge{fill:none;stroke:#6b7789;stroke-width:2}.bar{fill:#2563eb}\
+    "\">\n<style>.floor{fill:#ffffff}.wall{fill:#6b7789}.grid{fill:none;stroke:#e6eaf0}.edge{fill:none;stroke:#6b7789;stroke-width:2}.bar{fill:#2563eb}.goal{fill:none;stroke-width:1.5}.ring{fill:none;stroke:#1b2430;stroke-width:1.5}\
     text{fill:#ffffff;stroke:#000000;stroke-opacity:.6;stroke-width:1.4px;paint-order:stroke;font:600 7px system-ui,sans-serif;text-anchor:middle}\
-    @media(prefers-color-scheme:dark){.floor{fill:#1b222c}.wall{fill:#68758a}.grid{stroke:#262f3b}.edge{stroke:#68758a}.bar{fill:#7aa7ff}}</style>\n\
+    @media(prefers-color-scheme:dark){.floor{fill:#1b222c}.wall{fill:#68758a}.grid{stroke:#262f3b}.edge{stroke:#68758a}.bar{fill:#7aa7ff}.ring{stroke:#e7eaf0}}</style>\n\
     <pattern id=\"cell\" width=\"16\" height=\"16\" patternUnits=\"userSpaceOnUse\"><path class=\"grid\" d=\"M16 0v16h-16\"/></pattern>\n\
     <rect class=\"floor\" width=\"100%\" height=\"100%\"/>\n<rect fill=\"url(#cell)\" width=\"100%\" height=\"100%\"/>\n";
 
@@ -18,6 +18,21 @@ pub(crate) const WALLS: &str = "<path class=\"wall\" d=\"";
 pub(crate) const WALL: &str = "M";
 
 pub(crate) const WALLS_END: &str = "\"/>\n";
+
+/// The beginning of a robot's goals: a square in its colour on each cell at which it arrives.
+pub(crate) const GOALS: &str = "<path class=\"goal\" transform=\"translate(2 2)\" stroke=\"hsl(";
+
+pub(crate) const GOALS_PATH: &str = "e-3 62% 46%)\" d=\"";
+
+pub(crate) const GOAL: &str = "M";
+
+pub(crate) const GOALS_END: &str = "\"/>\n";
+
+/// The beginning of a ring round a robot, which shows when the robot arrives.
+pub(crate) const RING: &str =
+    "<circle class=\"ring\" cx=\"8\" cy=\"8\" r=\"7.2\" opacity=\"0\"><animate attributeName=\"opacity\" values=\"0";
+
+pub(crate) const RING_END: &str = "00ms\" repeatCount=\"indefinite\"/></circle>";
 
 /// The beginning of a shape that moves.
 pub(crate) const TRACK: &str =
