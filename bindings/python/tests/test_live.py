@@ -15,7 +15,8 @@ from nashirudder import Ended, LiveFleet, Refused, Waiting  # noqa: E402
 
 PROGRAM = os.environ.get("FLEET", "fleet")
 
-PICTURE = os.path.join(os.path.dirname(os.path.abspath(__file__)), "..", "..", "..", "tools", "live", "picture")
+TOOLS = os.path.join(os.path.dirname(os.path.abspath(__file__)), "..", "..", "..", "tools", "live")
+PICTURE, RUN = os.path.join(TOOLS, "picture"), os.path.join(TOOLS, "run")
 
 RING = "type octile\nheight 3\nwidth 3\nmap\n...\n.@.\n...\n"
 
@@ -241,6 +242,133 @@ class LiveTest(unittest.TestCase):
         self.assertTrue(lines[-1].startswith("ended "))
         self.assertEqual(set(complaint.splitlines()), {"fleet: file chapter-1.json", "fleet: file"})
         self.assertEqual(sorted(os.listdir(folder)), ["chapter-0.json", "chapter-1.part"])
+
+    def test_the_end_is_seen_while_nobody_reads(self):
+        for quits in (True, False):
+            folder = self.traces()
+            words = ["--robots", "0,8", "--period", "2ms", "--traces", folder]
+            with subprocess.Popen([PROGRAM, "live", *words, self.map], stdin=subprocess.PIPE, stdout=subprocess.PIPE) as process:
+                # Each answer has more than 50 bytes, so that more wait than a pipe and a conversation have room for.
+                process.stdin.write(b"@m look\n" * 4000 + b"post 0 go 0 1\n" + b"quit\n" * quits)
+                process.stdin.flush()
+                if not quits:
+                    process.stdin.close()
+                last = os.path.join(folder, "chapter-0.json")
+                for _ in range(1000):
+                    if os.path.exists(last):
+                        break
+                    time.sleep(0.01)
+                with open(last) as file:
+                    entries = json.load(file)["entries"]
+                time.sleep(0.1)
+                lines = process.stdout.read().decode().splitlines()
+                process.stdin.close()
+            self.assertEqual(process.returncode, 0)
+            self.assertEqual(self.chapters_in(folder), [len(entries)])
+            self.assertEqual(len([line for line in lines if line.startswith("@m look tick ")]), 4000)
+            self.assertIn("posted 0 1", lines)
+            self.assertIn("collected 0 1 verdict 1 accepted 1", lines)
+            self.assertEqual(lines[-1], f"ended {len([entry for entry in entries if entry[0] == 'tick'])}")
+            os.remove(last), os.rmdir(folder)
+
+    def test_quit_ends_a_tick_that_takes_long(self):
+        with subprocess.Popen([PROGRAM, "live", "--robots", "0,8", self.map], stdin=subprocess.PIPE, stdout=subprocess.PIPE) as process:
+            process.stdin.write(b"@t tick 1000000\nquit\n")
+            process.stdin.flush()
+            lines = process.stdout.read().decode().splitlines()
+        self.assertEqual(process.returncode, 0)
+        self.assertEqual(len(lines), 2)
+        tick = int(lines[1].split()[1])
+        self.assertEqual(lines, [f"@t tick {tick}: 0 8", f"ended {tick}"])
+        self.assertTrue(65536 <= tick < 1000000)
+
+    def test_signals_end_the_fleet(self):
+        for number in (signal.SIGTERM, signal.SIGINT):
+            folder = self.traces()
+            words = [RUN, PROGRAM, "live", "--robots", "0,8", "--period", "2ms", "--traces", folder, self.map]
+            with subprocess.Popen(words, stdin=subprocess.PIPE, stdout=subprocess.PIPE) as process:
+                process.stdin.write(b"post 0 go 0 1\n")
+                process.stdin.flush()
+                lines = [process.stdout.readline().decode() for _ in range(3)]
+                process.send_signal(number)
+                lines += process.stdout.read().decode().splitlines()
+                process.stdin.close()
+            self.assertEqual(process.returncode, 0)
+            self.assertTrue(lines[2].startswith("collected 0 2 arrived 1 "))
+            entries = sum(self.chapters_in(folder))
+            self.assertEqual(lines[3:], [f"ended {entries - 1}"])
+            os.remove(os.path.join(folder, "chapter-0.json")), os.rmdir(folder)
+        done = subprocess.run([RUN, PROGRAM, "live", "--robots", "0,8", self.map], input=b"tick 3\n", capture_output=True)
+        self.assertEqual((done.returncode, done.stdout), (0, b"tick 3: 0 8\nended 3\n"))
+        done = subprocess.run([RUN, PROGRAM, "live", "--robots", "4", self.map], stdin=subprocess.DEVNULL, capture_output=True)
+        self.assertEqual((done.returncode, done.stdout), (5, b""))
+
+    def test_closed_descriptors(self):
+        ways = [("<&-", "fleet: file standard input is closed\n"), (">&-", "fleet: file standard output is closed\n"), ("2>&-", "")]
+        for word, head in (("live", ["--robots", "0,8"]), ("talk", [])):
+            for way, complaint in ways:
+                line = f'"$@" {way}'
+                done = subprocess.run(["sh", "-c", line, "sh", PROGRAM, word, *head, self.map], input=b"look\n", capture_output=True)
+                self.assertEqual((done.returncode, done.stdout, done.stderr.decode()), (3, b"", complaint))
+
+    def figures(self, name):
+        with open(name) as file:
+            lines = [line for line in file.read().splitlines() if not line.startswith("#")]
+        return dict(line.rsplit(" ", 1) for line in lines)
+
+    def test_figures(self):
+        name = os.path.join(self.folder.name, "figures")
+        for period in ([], ["--period", "5ms"]):
+            words = ["--traces", self.traces(), "--metrics", name, *period, self.map, self.head("robots 0 8\nchapter 20\n")]
+            with subprocess.Popen([PROGRAM, "live", *words], stdin=subprocess.PIPE, stdout=subprocess.PIPE) as process:
+                process.stdin.write(b"post 0 go 0 1\npost 0 go 0 4\n" + b"tick 50\n" * (not period))
+                process.stdin.flush()
+                seen, begun = {}, time.monotonic()
+                while seen.get("fleet_arrivals_total") != "1" and time.monotonic() - begun < 10:
+                    time.sleep(0.05)
+                    seen = self.figures(name)
+                process.stdin.close()
+                process.stdout.read()
+            self.assertEqual(process.returncode, 0)
+            verdicts = {name.split('"')[1]: count for name, count in seen.items() if name.startswith("fleet_verdicts_total")}
+            self.assertEqual(len(verdicts), 13)
+            self.assertEqual({verdict: count for verdict, count in verdicts.items() if count != "0"}, {"accepted": "1", "blocked": "1"})
+            # 8 cells and 2 robots: no wait reaches 2 times 7.
+            wanted = {"fleet_orders_total": "2", "fleet_errands_open": "0", "fleet_wait_ticks": "0", "fleet_wait_limit_ticks": "14", "fleet_chapters_waiting": "0"}
+            if not period:
+                wanted.update({"fleet_ticks_total": "50", "fleet_turns_late_total": "0", "fleet_turn_latest_microseconds": "0", "fleet_chapters_kept_total": "2"})
+            self.assertEqual({name: seen[name] for name in wanted}, wanted)
+            self.assertGreater(int(seen["fleet_ticks_total"]), 0)
+            self.assertEqual(os.path.exists(name + ".part"), False)
+            for chapter in os.listdir(os.path.join(self.folder.name, "traces")):
+                os.remove(os.path.join(self.folder.name, "traces", chapter))
+            os.rmdir(os.path.join(self.folder.name, "traces"))
+        name = os.path.join(self.folder.name, "missing", "figures")
+        self.assertEqual(self.run_lines("look\n", "--robots", "0,8", "--metrics", name), (3, "", f"fleet: file {name} cannot be written\n"))
+
+    def test_a_client_whose_output_fails(self):
+        way = os.path.join(self.folder.name, "in0")
+        os.mkfifo(way)
+        words = ["--robots", "0,8", "--clients", "2", "--period", "5ms", "--client", f"{way},/dev/full", self.map]
+        with subprocess.Popen([PROGRAM, "live", *words], stdin=subprocess.PIPE, stdout=subprocess.PIPE) as process:
+            mine = os.open(way, os.O_RDWR | os.O_NONBLOCK)
+            taken, last = 0, time.monotonic()
+            while time.monotonic() - last < 1:
+                try:
+                    taken += os.write(mine, b"post 0 go 0 1\n" * 100)
+                    last = time.monotonic()
+                except BlockingIOError:
+                    time.sleep(0.01)
+                self.assertLess(taken, 1000000)
+            process.stdin.write(b"post 1 go 1 7\n")
+            process.stdin.flush()
+            lines = [process.stdout.readline().decode() for _ in range(3)]
+            process.stdin.close()
+            lines += process.stdout.read().decode().splitlines()
+            os.close(mine)
+        self.assertEqual(process.returncode, 0)
+        self.assertEqual(lines[:2], ["posted 1 1\n", "collected 1 1 verdict 1 accepted 1\n"])
+        self.assertTrue(lines[2].startswith("collected 1 2 arrived 1 robot 1 cell 7 ") and lines[-1].startswith("ended "))
 
     def test_a_client_comes_again(self):
         names = [os.path.join(self.folder.name, way) for way in ("in", "out")]

@@ -7,8 +7,10 @@
 mod chapters;
 mod check;
 mod convert;
+mod descriptors;
 mod ends;
 mod explain;
+mod figures;
 mod folder;
 mod live;
 mod talk;
@@ -17,12 +19,14 @@ mod view;
 use chapters::TraceFolder;
 use check::run_check;
 use convert::run_convert;
+use descriptors::are_open;
 use explain::run_explain;
 use fleet_lib::{InputFault, Job, WordFault, fail, parse_words, write_whole};
 use folder::{complain_of_folder, hold_folder};
 use live::hold_live;
 use std::alloc::{Alloc, Global};
 use std::env::{self, Env};
+use std::fs::Files;
 use std::io::{self, ErrorKind, Write};
 use std::process::ExitCode;
 use talk::hold_talk;
@@ -61,10 +65,23 @@ fn job_given<E: Write>(rt: &(impl Env + Alloc<A = Global>), error: &mut E) -> Re
     }
 }
 
+/// The job that can be done, or the status where none can: a conversation needs its input and its output.
+fn job_open<E: Write>(
+    rt: &(impl Env + Files + Alloc<A = Global>),
+    error: &mut E,
+) -> Result<Job, u8> {
+    let job = job_given(rt, error)?;
+    let talks = matches!(&job, Job::Talk(_) | Job::Live(_));
+    if talks && !are_open(rt, error) {
+        return Err(3);
+    }
+    Ok(job)
+}
+
 fn main(rt: HostRuntime) -> ExitCode {
     let mut output = rt.stdout();
     let mut error = rt.stderr();
-    let status = match job_given(&rt, &mut error) {
+    let status = match job_open(&rt, &mut error) {
         Ok(Job::View(view)) => run_view(&rt, &view, &mut output, &mut error),
         Ok(Job::Check(check)) => run_check(&rt, &check, &mut output, &mut error),
         Ok(Job::Talk(talk)) => {

@@ -1,3 +1,2 @@
-pub mod Keeping
+pub mod Handing
 pub mod Refusing
-pub mod Telling

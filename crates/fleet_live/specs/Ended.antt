@@ -7,8 +7,8 @@ use Rattle.fleet_core.specs.declared.faults.OpenFault.TheVariants as fault
 use Rattle.fleet_script.specs.Script.{Draft}
 use Rattle.errands_text.specs.Kit.{KitLaws}
 use Rattle.fleet_talk.specs.Conversation.{clients_in, laws_in, limits_in}
-use Rattle.fleet_live.specs.declared.bell.Stop.{Stop}
-use Rattle.fleet_live.specs.declared.bell.Stop.TheVariants.{Quit, Limit, Input, Output, Shelf, NoMemory}
+use Rattle.live_parts.specs.declared.stop.Stop.{Stop}
+use Rattle.live_parts.specs.declared.stop.Stop.TheVariants.{Quit, Limit, Input, Output, Shelf, NoMemory}
 use Rattle.fleet_talk.specs.declared.fault.TalkFault.{TalkFault}
 use Rattle.fleet_talk.specs.declared.fault.TalkFault.TheVariants as talk
 

@@ -1,8 +1,2 @@
-pub mod Counts
-pub mod Demand
 pub mod Ended
-pub mod Kept
-pub mod Page
-pub mod Period
-pub mod Posted
-pub mod Said
+pub mod Handed

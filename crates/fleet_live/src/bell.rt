@@ -1,33 +1,11 @@
 //! Requests of conversations to the keeper.
 
-use crate::demand::Wanted;
+use live_parts::{Stop, Wanted};
 use std::alloc::{AllocError, Global};
 use std::collections::VecDeque;
 use std::mem;
 use std::sync::{Condvar, CondvarTimeouts, Mutex, Wait};
 use std::time::{Clock, Duration};
-
-/// Why the fleet stops.
-#[derive(Clone, Copy, Debug, PartialEq, Eq)]
-pub(crate) enum Stop {
-    /// The first conversation ended.
-    Quit,
-    /// A line of the first conversation could not be read.
-    Input,
-    /// The reader of the first conversation's output went away.
-    Output,
-    /// A chapter could not be kept.
-    Shelf,
-    /// No tick can follow.
-    Limit,
-    NoMemory,
-}
-
-impl From<AllocError> for Stop {
-    fn from(_error: AllocError) -> Stop {
-        Stop::NoMemory
-    }
-}
 
 /// A request of a conversation, and the mark of its answer.
 #[derive(Drop)]
@@ -46,6 +24,8 @@ pub(crate) enum Call {
     /// Judge what was posted.
     Settle,
     Tell,
+    /// Say all figures.
+    Show,
 }
 
 /// Requests that are not done yet.
@@ -55,18 +35,25 @@ struct Asks {
     stop: Option<Stop>,
     settle: bool,
     tell: bool,
+    show: bool,
+    /// Whether the first conversation's `quit` was read.
+    quits: bool,
 }
 
 impl Asks {
     /// Whether nothing is asked.
     fn is_quiet(&self) -> bool {
-        self.stop.is_none() && self.wishes.is_empty() && !self.settle && !self.tell
+        self.stop.is_none() && self.wishes.is_empty() && !self.settle && !self.tell && !self.show
     }
 
     /// What is to be done next.
     fn next(&mut self) -> Call {
         if let Some(stop) = self.stop {
             return Call::Stop(stop);
+        }
+        if self.show {
+            self.show = false;
+            return Call::Show;
         }
         if let Some(wish) = self.wishes.pop_front() {
             return Call::Grant(wish);
@@ -98,6 +85,8 @@ impl Bell {
                 stop: None,
                 settle: false,
                 tell: false,
+                show: false,
+                quits: false,
             }),
             rung: Condvar::new(),
         }
@@ -134,6 +123,15 @@ impl Bell {
         self.rung.notify_all();
     }
 
+    /// Asks to say all figures.
+    pub(crate) fn ask_to_show<R: Wait>(&self, rt: &R) {
+        let mut held = self.asks.lock(rt);
+        let asks = &mut *held;
+        asks.show = true;
+        mem::drop(held);
+        self.rung.notify_all();
+    }
+
     /// Asks to stop. The first reason counts.
     pub(crate) fn ask_to_stop<R: Wait>(&self, rt: &R, stop: Stop) {
         let mut held = self.asks.lock(rt);
@@ -143,6 +141,19 @@ impl Bell {
         }
         mem::drop(held);
         self.rung.notify_all();
+    }
+
+    /// Notes that the first conversation's `quit` was read. What stands before it is done first.
+    pub(crate) fn note_quit<R: Wait>(&self, rt: &R) {
+        let mut held = self.asks.lock(rt);
+        let asks = &mut *held;
+        asks.quits = true;
+    }
+
+    /// Whether the first conversation's `quit` was read.
+    pub(crate) fn has_quit<R: Wait>(&self, rt: &R) -> bool {
+        let held = self.asks.lock(rt);
+        held.quits
     }
 
     /// Why the fleet is to stop, if it is.

@@ -1,11 +1,9 @@
 //! A conversation: the clients for which it speaks, and the text that is printed in it.
 
-use crate::demand::Rights;
-use crate::said::post_text;
-use crate::told::post_in;
 use crate::voice::Voice;
 use fleet_book::Order;
 use fleet_office::{Guest, OfficeName};
+use live_parts::{Rights, post_in, post_text};
 use std::alloc::{AllocError, Global};
 use std::mem;
 use std::sync::atomic::{AtomicU64, Ordering};

@@ -3,10 +3,10 @@
 ghost use Rattle.fleet_office.specs.Views.{AreOn, cores};
 
 use crate::conversation::Conversation;
-use crate::demand::Rights;
 use crate::voice::Voice;
 use fleet_lanes::Client;
 use fleet_office::{Guest, OfficeName, guests_of};
+use live_parts::Rights;
 use std::alloc::{AllocError, Global};
 use std::sync::Arc;
 

@@ -1,18 +1,27 @@
 //! What the keeper answers to what conversations wish.
 
-use crate::bell::{Stop, Wish};
-use crate::demand::Wanted;
+use crate::bell::Wish;
 use crate::keeper::{Keeper, Turned};
-use crate::said::{look_text, shut_text, tick_text};
 use crate::stage::{Round, Work};
 use fleet_core::{ChapterFault, ShutFault};
 use fleet_office::OfficeName;
 use fleet_talk::Shelf;
+use live_parts::{Stop, Wanted, look_text, shut_text, tick_text};
 use std::alloc::{Alloc, AllocError, Global};
 use std::sync::Wait;
 
+/// How many turns of a `tick` are made although `quit` was read after it. So what a conversation is told does not depend on when
+/// its `quit` was read, if no `tick` asks for more.
+const SURE_TURNS: u32 = 65_536;
+
 impl<N: OfficeName<Global>, S: Shelf> Keeper<'_, N, S> {
-    /// Makes this many turns, at least one. The result is the answer's line.
+    /// Whether the turn after `made` turns is the last of the `times` that were asked for: `quit` ends those that take long.
+    fn is_last_turn<R: Wait>(&self, rt: &R, made: u32, times: u32) -> bool {
+        times.saturating_sub(made) <= 1
+            || (made.saturating_add(1) >= SURE_TURNS && self.stage.bell.has_quit(rt))
+    }
+
+    /// Makes this many turns, at least one, or fewer where `quit` was read. The result is the answer's line.
     fn tick_line<R: Alloc<A = Global> + Wait>(
         &self,
         rt: &R,
@@ -22,7 +31,8 @@ impl<N: OfficeName<Global>, S: Shelf> Keeper<'_, N, S> {
     ) -> Result<String, Stop> {
         let alloc = rt.alloc();
         for time in 0..times {
-            match self.turn(rt, round, work, time + 1 < times)? {
+            let is_last = self.is_last_turn(rt, time, times);
+            match self.turn(rt, round, work, !is_last)? {
                 Turned::Made => {}
                 Turned::ClockSpent => {
                     return Ok(String::from_str(alloc, "tick-refused 1 clock-spent\n")?);
@@ -30,6 +40,9 @@ impl<N: OfficeName<Global>, S: Shelf> Keeper<'_, N, S> {
                 Turned::ChapterFull => {
                     return Ok(String::from_str(alloc, "tick-refused 2 chapter-full\n")?);
                 }
+            }
+            if is_last {
+                break;
             }
         }
         Ok(tick_text(alloc, &work.made)?)

@@ -1,17 +1,30 @@
-//! The thread that reads a conversation's lines.
+//! What a conversation's lines ask, line by line.
 
-use crate::bell::{Bell, Stop, Wish};
+use crate::bell::{Bell, Wish};
 use crate::conversation::Conversation;
-use crate::demand::{Demand, Wanted, demand_of};
+use crate::inbox::Inbox;
 use fleet_book::Order;
 use fleet_office::OfficeName;
-use fleet_talk::{Line, LineFault, MOST_LINE, line_of, read_line};
+use fleet_talk::{Line, MOST_LINE, line_of};
+use live_parts::{Demand, Stop, Wanted, demand_of};
 use std::alloc::{AllocError, Global};
 use std::io::{BufReader, Read};
 use std::sync::Wait;
 
 /// The bytes that are read at most at once.
-const PIECE: usize = 65_536;
+pub(crate) const PIECE: usize = 65_536;
+
+/// Reads the next line, and returns whether there was one.
+pub(crate) fn next_line<I: Read>(
+    input: &mut BufReader<I>,
+    bytes: &mut Vec<u8>,
+) -> Result<bool, Stop> {
+    match read_line(input, MOST_LINE + 1, bytes) {
+        Ok(found) => Ok(found),
+        Err(LineFault::Read) => Err(Stop::Input),
+        Err(LineFault::NoMemory) => Err(Stop::NoMemory),
+    }
+}
 
 /// A conversation with what its reader needs.
 #[derive(Drop)]
@@ -24,7 +37,16 @@ struct Hearing<'a, N: OfficeName<Global>> {
     wishes: u64,
 }
 
-impl<N: OfficeName<Global>> Hearing<'_, N> {
+impl<'a, N: OfficeName<Global>> Hearing<'a, N> {
+    fn new(here: &'a Conversation<N>, bell: &'a Bell, paced: bool) -> Hearing<'a, N> {
+        Hearing {
+            here,
+            bell,
+            paced,
+            wishes: 0,
+        }
+    }
+
     /// Asks the keeper, and waits until that is granted.
     fn ask<R: Wait>(
         &mut self,
@@ -92,7 +114,7 @@ impl<N: OfficeName<Global>> Hearing<'_, N> {
         Ok(false)
     }
 
-    /// Hears all lines, and returns why the conversation ended.
+    /// Does what the lines of a client's pipe ask, until they end, its output fails, or memory runs out.
     fn hear_lines<R: Wait, I: Read>(
         &mut self,
         rt: &R,
@@ -101,22 +123,42 @@ impl<N: OfficeName<Global>> Hearing<'_, N> {
     ) -> Result<(), Stop> {
         let mut bytes = Vec::new(alloc);
         for number in 1..u64::MAX {
-            match read_line(input, MOST_LINE + 1, &mut bytes) {
-                Ok(true) => {}
-                Ok(false) => return Ok(()),
-                Err(LineFault::Read) => return Err(Stop::Input),
-                Err(LineFault::NoMemory) => return Err(Stop::NoMemory),
+            if !next_line(input, &mut bytes)? {
+                return Ok(());
             }
             if self.obey(rt, alloc, line_of(number, &bytes))? {
                 return Ok(());
             }
             self.here.voice.wait_for_room(rt);
+            if self.here.voice.is_gone(rt) {
+                return Ok(());
+            }
         }
-        Err(Stop::Input)
+        Ok(())
+    }
+
+    /// Does what the lines of the first conversation ask, and returns why it ended.
+    fn hear_inbox<R: Wait>(
+        &mut self,
+        rt: &R,
+        alloc: Global,
+        inbox: &Inbox,
+    ) -> Result<Stop, AllocError> {
+        for _ in rt.forever() {
+            let heard = match inbox.take(rt) {
+                Ok(heard) => heard,
+                Err(stop) => return Ok(stop),
+            };
+            if self.obey(rt, alloc, line_of(heard.number, &heard.bytes))? {
+                return Ok(Stop::Quit);
+            }
+            self.here.voice.wait_for_room(rt);
+        }
+        unreachable!()
     }
 }
 
-/// Hears a conversation to its end. The fleet stops where the first one ended, or where memory ran out.
+/// Hears a client that has pipes, to its end. The fleet stops where memory ran out.
 pub(crate) fn hear<N: OfficeName<Global>, R: Wait, I: Read + Drop>(
     rt: &R,
     alloc: Global,
@@ -125,20 +167,28 @@ pub(crate) fn hear<N: OfficeName<Global>, R: Wait, I: Read + Drop>(
     paced: bool,
     input: I,
 ) {
-    let mut hearing = Hearing {
-        here,
-        bell,
-        paced,
-        wishes: 0,
+    let mut hearing = Hearing::new(here, bell, paced);
+    let heard = match BufReader::with_capacity(alloc, PIECE, input) {
+        Ok(mut input) => hearing.hear_lines(rt, alloc, &mut input),
+        Err(_) => Err(Stop::NoMemory),
     };
-    let stop = match BufReader::with_capacity(alloc, PIECE, input) {
-        Ok(mut input) => match hearing.hear_lines(rt, alloc, &mut input) {
-            Ok(()) => Stop::Quit,
-            Err(stop) => stop,
-        },
-        Err(_) => Stop::NoMemory,
-    };
-    if here.rights.rules || stop == Stop::NoMemory {
-        bell.ask_to_stop(rt, stop);
+    if heard == Err(Stop::NoMemory) {
+        bell.ask_to_stop(rt, Stop::NoMemory);
+    }
+}
+
+/// Does what the first conversation asks, to its end. Then the fleet stops.
+pub(crate) fn hear_first<N: OfficeName<Global>, R: Wait>(
+    rt: &R,
+    alloc: Global,
+    here: &Conversation<N>,
+    inbox: &Inbox,
+    bell: &Bell,
+    paced: bool,
+) {
+    let mut hearing = Hearing::new(here, bell, paced);
+    match hearing.hear_inbox(rt, alloc, inbox) {
+        Ok(stop) => bell.ask_to_stop(rt, stop),
+        Err(AllocError) => bell.ask_to_stop(rt, Stop::NoMemory),
     }
 }

@@ -1,15 +1,15 @@
 //! The keeper: the ticker that makes turns and tells clients what became of their orders.
 
 ghost use Rattle.std.specs.Prelude.{◌≡◌, Ok, true};
-ghost use Rattle.fleet_live.specs.Kept.{IsTurned};
+ghost use Rattle.fleet_live.specs.Handed.{IsTurned};
 
-use crate::bell::{Call, Stop};
+use crate::bell::Call;
 use crate::conversation::Conversation;
-use crate::said::tick_text;
 use crate::stage::{Round, Stage, Work};
 use fleet_core::ChapterFault;
 use fleet_office::{Office, OfficeName, TurnCause};
 use fleet_talk::Shelf;
+use live_parts::{Stop, tick_text};
 use std::alloc::{Alloc, AllocError, Global};
 use std::sync::Wait;
 
@@ -181,6 +181,20 @@ impl<N: OfficeName<Global>, S: Shelf> Keeper<'_, N, S> {
         Ok(self.tell_all(rt)?)
     }
 
+    /// Says all figures, unless those before them are not written yet.
+    fn show_figures<R: Alloc<A = Global> + Wait>(
+        &self,
+        rt: &R,
+        round: &Round,
+    ) -> Result<(), AllocError> {
+        let Some(voice) = &self.stage.figures else {
+            return Ok(());
+        };
+        let figures = self.stage.figures(rt, round.all, self.office.waits(rt));
+        let text = figures.text(rt.alloc())?;
+        voice.say_alone(rt, text.as_str())
+    }
+
     /// Does what is to be done. The error is why the fleet stops.
     pub(crate) fn heed<R: Alloc<A = Global> + Wait>(
         &self,
@@ -200,6 +214,7 @@ impl<N: OfficeName<Global>, S: Shelf> Keeper<'_, N, S> {
             Call::Grant(wish) => self.grant(rt, round, work, wish),
             Call::Settle => self.settle(rt, round, work),
             Call::Tell => Ok(self.tell_all(rt)?),
+            Call::Show => Ok(self.show_figures(rt, round)?),
         }
     }
 }

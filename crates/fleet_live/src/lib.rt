@@ -2,30 +2,22 @@
 //! or on demand.
 #![tactic(auto)]
 
-mod archive;
 mod bell;
 mod conversation;
 mod conversations;
-mod demand;
 mod ending;
-mod ends;
 mod granting;
 mod hearing;
+mod inbox;
 mod keeper;
+mod listening;
 mod live;
 mod pace;
-mod page;
-mod period;
-mod said;
 mod serving;
 mod stage;
-mod tally;
 mod threads;
 mod tickers;
-mod told;
-mod unkept;
 mod voice;
 
-pub use ends::{LiveEnds, LiveSettings, Pipes};
 pub use live::keep_live;
-pub use period::read_period;
+pub use live_parts::{LiveEnds, LiveSettings, Pipes, read_period};

@@ -8,10 +8,8 @@ ghost use Rattle.fleet_office.specs.Views.{IsNamed};
 ghost use Rattle.fleet_talk.specs.Heading.{drafted};
 ghost use Rattle.fleet_live.specs.Ended.{IsEnded, IsRefusedHead, ended_by, unopened};
 
-use crate::bell::Stop;
 use crate::conversation::Conversation;
 use crate::ending::finish;
-use crate::ends::{LiveEnds, LiveSettings};
 use crate::serving::{Left, Site, serve};
 use crate::stage::Stage;
 use fleet_book::Limits;
@@ -20,6 +18,7 @@ use fleet_grid::Grid;
 use fleet_hooks::Hooks;
 use fleet_office::{Desk, Office, OfficeName};
 use fleet_talk::{Ground, Shelf, TALK_LIMITS, TalkFault};
+use live_parts::{LiveEnds, LiveSettings, Stop};
 use std::alloc::{Alloc, AllocError, Global};
 use std::io::{Read, Write};
 use std::marker::Brand;
@@ -132,12 +131,14 @@ fn end_fleet<N: OfficeName<Global>, R: Alloc<A = Global> + Clock + Threads + Wai
         conversations,
         bell: _,
         counts,
+        figures: _,
         paced: _,
         chapter: _,
         searches: _,
         round,
         archive,
-        behind: _,
+        waiting: _,
+        kept: _,
     } = stage;
     let limited = round.into_inner().limited;
     let mut archive = archive.into_inner();

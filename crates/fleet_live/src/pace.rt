@@ -2,13 +2,12 @@
 
 ghost use Rattle.std.specs.Prelude.{◌<◌, ◌^◌};
 
-use crate::bell::{Call, Stop};
+use crate::bell::Call;
 use crate::keeper::{Keeper, Turned};
-use crate::period::next_due;
 use crate::stage::{Round, Work};
-use crate::tally::Tally;
 use fleet_office::OfficeName;
 use fleet_talk::Shelf;
+use live_parts::{Stop, Tally, next_due};
 use std::alloc::{Alloc, Global};
 use std::mem;
 use std::sync::Wait;
@@ -94,19 +93,19 @@ fn say_counts<N: OfficeName<Global>, R: Alloc<A = Global> + Wait, S: Shelf>(
     Ok(())
 }
 
-/// Does what is to be done at once: grants one wish of each conversation at most, and judges once what was posted. So none of them holds up
-/// the turns, and turns that are all late hold up none of them.
+/// Does what is to be done at once: says the figures, grants one wish of each conversation at most, and judges once what was posted. So none
+/// of them holds up the turns, and turns that are all late hold up none of them.
 fn heed_some<N: OfficeName<Global>, R: Alloc<A = Global> + Wait, S: Shelf>(
     rt: &R,
     keeper: &Keeper<'_, N, S>,
     round: &mut Round,
     work: &mut Work<N>,
 ) -> Result<(), Stop> {
-    for _ in 0..=keeper.stage.conversations.len() {
+    for _ in 0..=keeper.stage.conversations.len().saturating_add(1) {
         let call = keeper.stage.bell.poll(rt);
         let is_last = match call {
             Call::Nothing | Call::Settle | Call::Tell => true,
-            Call::Grant(_) | Call::Stop(_) => false,
+            Call::Grant(_) | Call::Show | Call::Stop(_) => false,
         };
         keeper.heed(rt, round, work, call)?;
         if is_last {
@@ -127,9 +126,7 @@ fn turn_now<N: OfficeName<Global>, R: Alloc<A = Global> + Clock + Wait, S: Shelf
 ) -> Result<(), Stop> {
     let mut deadlines = deadlines;
     let period = length_of(deadlines.period);
-    round
-        .tally
-        .note_lateness(now.saturating_sub(deadlines.turn), period);
+    round.note_lateness(now.saturating_sub(deadlines.turn), period);
     if keeper.turn(rt, round, work, true)? != Turned::Made {
         return Err(Stop::Limit);
     }

@@ -2,18 +2,17 @@
 
 ghost use Rattle.fleet_office.specs.Views.{AreOn, cores};
 
-use crate::archive::Archive;
-use crate::bell::{Bell, Stop};
+use crate::bell::Bell;
 use crate::conversation::Conversation;
 use crate::conversations::{conversations_of, new_voice};
-use crate::ends::{LiveEnds, LiveSettings, Pipes};
 use crate::pace::Deadlines;
 use crate::stage::{Round, Stage};
-use crate::threads::{start_reader, start_writer};
+use crate::threads::{start_listener, start_reader, start_ringer, start_writer};
 use crate::tickers::work_all;
 use fleet_lanes::Client;
 use fleet_office::{Office, OfficeName, Ticker};
 use fleet_talk::Shelf;
+use live_parts::{Archive, LiveEnds, LiveSettings, Pipes, Stop};
 use std::alloc::{Alloc, AllocError, Global};
 use std::io::{Read, Write};
 use std::sync::atomic::AtomicU64;
@@ -74,12 +73,14 @@ fn stage_of<N: OfficeName<Global>, R: Alloc<A = Global> + Clock, S: Shelf + Drop
         conversations,
         bell,
         counts,
+        figures: None,
         paced,
         chapter: site.chapter,
         searches: paced && site.cells >= LARGE,
         round: Mutex::new(Round::new(deadlines)),
         archive: Mutex::new(Archive::new(alloc, shelf)),
-        behind: AtomicU64::new(0),
+        waiting: AtomicU64::new(0),
+        kept: AtomicU64::new(0),
     })
 }
 
@@ -133,8 +134,25 @@ fn start_all<
     let writer = start_writer(rt, &first.voice, bell, output)?;
     let _scribe = start_writer(rt, &stage.counts, bell, counts)?;
     start_pipes(rt, &stage.conversations, bell, paced, pipes)?;
-    start_reader(rt, first, bell, paced, input)?;
+    start_listener(rt, first, bell, paced, input)?;
     Ok(writer)
+}
+
+/// Starts the threads of the figures, if they are wanted: one asks for them each second, and one writes them.
+fn start_figures<
+    N: OfficeName<Global>,
+    R: Alloc<A = Global> + Clock + Threads + Wait + Copy + Send + Drop + 'static,
+    E: Write + Send + Drop + 'static,
+    S,
+>(rt: &R, stage: &mut Stage<N, S>, figures: Option<E>) -> Result<(), AllocError> {
+    let Some(output) = figures else {
+        return Ok(());
+    };
+    let voice = new_voice(rt.alloc())?;
+    let _writer = start_writer(rt, &voice, &stage.bell, output)?;
+    start_ringer(rt, &stage.bell)?;
+    stage.figures = Some(voice);
+    Ok(())
 }
 
 /// Lets the clients talk and makes turns, until the fleet is to stop.
@@ -162,10 +180,12 @@ pub(crate) fn serve<
         output,
         pipes,
         counts,
+        figures,
         shelf,
     } = ends;
     let LiveSettings { watch, tickers, .. } = site.settings;
-    let stage = stage_of(rt, clients, pipes.len(), site, shelf)?;
+    let mut stage = stage_of(rt, clients, pipes.len(), site, shelf)?;
+    start_figures(rt, &mut stage, figures)?;
     let writer = start_all(rt, &stage, watch, (input, output), pipes, counts)?;
     let two = stage.paced && tickers > 1;
     let (tickers, stop) = work_all(rt, office, &stage, ticker, two)?;

@@ -2,15 +2,13 @@
 
 ghost use Rattle.std.specs.Prelude.{◌≡◌, [], OnOk};
 
-use crate::archive::Archive;
-use crate::bell::{Bell, Stop};
+use crate::bell::Bell;
 use crate::conversation::Conversation;
 use crate::pace::Deadlines;
-use crate::tally::Tally;
-use crate::unkept::Unkept;
 use crate::voice::Voice;
-use fleet_office::{OfficeName, TickRecord, Ticker, TurnReport};
+use fleet_office::{OfficeName, TickRecord, Ticker, TurnReport, WaitReport};
 use fleet_talk::Shelf;
+use live_parts::{Archive, Figures, Notices, Stop, Tally, Unkept};
 use std::alloc::{Alloc, AllocError, Global};
 use std::sync::atomic::{AtomicU64, Ordering};
 use std::sync::{Arc, Mutex, Wait};
@@ -23,7 +21,10 @@ const SECOND: u64 = 1_000_000;
 pub(crate) struct Round {
     /// When turns are due, where they come by themselves.
     pub(crate) deadlines: Option<Deadlines>,
+    /// What was counted since the last line of counts.
     pub(crate) tally: Tally,
+    /// What was counted since the start.
+    pub(crate) all: Tally,
     /// Whether a limit was met.
     pub(crate) limited: bool,
     /// Whether a chapter that waits is to be tried again.
@@ -41,6 +42,7 @@ impl Round {
         Round {
             deadlines,
             tally: Tally::NONE,
+            all: Tally::NONE,
             limited: false,
             retries: false,
             retry: 0,
@@ -52,7 +54,14 @@ impl Round {
     /// Counts orders that were taken.
     pub(crate) fn count_orders(&mut self, orders: u32) {
         self.tally.count_orders(orders);
+        self.all.count_orders(orders);
         self.news |= orders > 0;
+    }
+
+    /// Notes how many microseconds after its deadline a turn begins.
+    pub(crate) fn note_lateness(&mut self, micros: u64, period: u64) {
+        self.tally.note_lateness(micros, period);
+        self.all.note_lateness(micros, period);
     }
 
     /// Lets a chapter that waits be tried again, once in a second.
@@ -66,6 +75,7 @@ impl Round {
     /// Counts a turn.
     pub(crate) fn count_turn(&mut self, report: &TurnReport) {
         self.tally.count_tick();
+        self.all.count_tick();
         self.count_orders(report.taken);
         self.search = self.news || report.arrived > 0;
         self.news = false;
@@ -79,6 +89,8 @@ pub(crate) struct Stage<N: OfficeName<Global>, S> {
     pub(crate) bell: Arc<Bell>,
     /// The voice of the counts.
     pub(crate) counts: Arc<Voice>,
+    /// The voice of the figures, if they are wanted.
+    pub(crate) figures: Option<Arc<Voice>>,
     /// Whether turns come by themselves.
     pub(crate) paced: bool,
     /// How many entries a full chapter has.
@@ -89,14 +101,38 @@ pub(crate) struct Stage<N: OfficeName<Global>, S> {
     pub(crate) round: Mutex<Round>,
     /// Held by the ticker that keeps a chapter. It is locked while the round is held, so chapters come in order.
     pub(crate) archive: Mutex<Archive<S>>,
-    /// 1 if a chapter could not be kept and waits.
-    pub(crate) behind: AtomicU64,
+    /// How many chapters could not be kept and wait.
+    pub(crate) waiting: AtomicU64,
+    /// How many chapters were kept.
+    pub(crate) kept: AtomicU64,
 }
 
 impl<N: OfficeName<Global>, S: Shelf> Stage<N, S> {
     /// Whether a chapter could not be kept and waits.
     pub(crate) fn is_behind(&self) -> bool {
-        self.behind.load(Ordering::SeqCst) != 0
+        self.waiting.load(Ordering::SeqCst) != 0
+    }
+
+    /// Notes how many chapters waited, and how many wait now: the others were kept.
+    fn note_kept(&self, before: usize, after: usize) {
+        let kept = before.saturating_sub(after) as u64;
+        self.kept.fetch_add(kept, Ordering::SeqCst);
+        self.waiting.store(after as u64, Ordering::SeqCst);
+    }
+
+    /// What a fleet did and how it stands, with these counts and waits.
+    pub(crate) fn figures<R: Wait>(&self, rt: &R, tally: Tally, waits: WaitReport) -> Figures {
+        let mut notices = Notices::NONE;
+        for one in &self.conversations {
+            notices.add(&one.voice.notices(rt));
+        }
+        Figures {
+            tally,
+            notices,
+            waits,
+            kept: self.kept.load(Ordering::SeqCst),
+            waiting: self.waiting.load(Ordering::SeqCst),
+        }
     }
 
     /// Says which chapter could not be kept.
@@ -123,12 +159,12 @@ impl<N: OfficeName<Global>, S: Shelf> Stage<N, S> {
         ensures none { OnOk result (pages.new ≡ []) }
     {
         archive.waiting.append(pages)?;
+        let all = archive.waiting.len();
         let kept = archive.keep();
+        self.note_kept(all, archive.waiting.len());
         if kept == Ok(true) {
-            self.behind.store(0, Ordering::SeqCst);
             return Ok(());
         }
-        self.behind.store(1, Ordering::SeqCst);
         self.say_unkept(rt, archive)?;
         match kept {
             Ok(_) => Ok(()),

@@ -2,13 +2,16 @@
 
 use crate::bell::Bell;
 use crate::conversation::Conversation;
-use crate::hearing::hear;
+use crate::hearing::{hear, hear_first};
+use crate::inbox::Inbox;
+use crate::listening::listen;
 use crate::voice::Voice;
 use fleet_office::OfficeName;
 use std::alloc::{Alloc, AllocError, Global};
 use std::io::{Read, Write};
 use std::sync::{Arc, Wait};
 use std::thread::{self, JoinHandle, Threads};
+use std::time::{Clock, Duration};
 
 /// Starts the thread that writes what a voice says.
 pub(crate) fn start_writer<
@@ -27,8 +30,8 @@ pub(crate) fn start_writer<
     }
 }
 
-/// Starts the thread that reads a conversation's lines. It may be in the middle of a read when the fleet has ended, so nobody waits
-/// for it.
+/// Starts the thread that reads the lines of a client's pipe and does what they ask. It may be in the middle of a read when the
+/// fleet has ended, so nobody waits for it.
 pub(crate) fn start_reader<
     N: OfficeName<Global> + Send + Sync + 'static,
     R: Alloc<A = Global> + Threads + Wait + Copy + Send + Drop + 'static,
@@ -44,6 +47,72 @@ pub(crate) fn start_reader<
     let (here, bell, own) = (Arc::try_clone(here)?, Arc::try_clone(bell)?, *rt);
     match thread::spawn(rt, move || hear(&own, alloc, &here, &bell, paced, input)) {
         Ok(_reader) => Ok(()),
+        Err(_) => Err(AllocError),
+    }
+}
+
+/// Starts the thread that does what the lines in the inbox ask.
+fn start_first<
+    N: OfficeName<Global> + Send + Sync + 'static,
+    R: Alloc<A = Global> + Threads + Wait + Copy + Send + Drop + 'static,
+>(
+    rt: &R,
+    here: &Arc<Conversation<N>>,
+    inbox: &Arc<Inbox>,
+    bell: &Arc<Bell>,
+    paced: bool,
+) -> Result<(), AllocError> {
+    let alloc = rt.alloc();
+    let (here, bell, own) = (Arc::try_clone(here)?, Arc::try_clone(bell)?, *rt);
+    let inbox = Arc::try_clone(inbox)?;
+    match thread::spawn(rt, move || {
+        hear_first(&own, alloc, &here, &inbox, &bell, paced)
+    }) {
+        Ok(_first) => Ok(()),
+        Err(_) => Err(AllocError),
+    }
+}
+
+/// Starts the threads of the first conversation: one reads its lines, and another does what they ask. Nobody waits for them.
+pub(crate) fn start_listener<
+    N: OfficeName<Global> + Send + Sync + 'static,
+    R: Alloc<A = Global> + Threads + Wait + Copy + Send + Drop + 'static,
+    I: Read + Send + Drop + 'static,
+>(
+    rt: &R,
+    here: &Arc<Conversation<N>>,
+    bell: &Arc<Bell>,
+    paced: bool,
+    input: I,
+) -> Result<(), AllocError> {
+    let alloc = rt.alloc();
+    let Ok(inbox) = Arc::new(alloc, Inbox::new(alloc)) else {
+        return Err(AllocError);
+    };
+    start_first(rt, here, &inbox, bell, paced)?;
+    let (here, bell, own) = (Arc::try_clone(here)?, Arc::try_clone(bell)?, *rt);
+    match thread::spawn(rt, move || listen(&own, alloc, &here, &inbox, &bell, input)) {
+        Ok(_listener) => Ok(()),
+        Err(_) => Err(AllocError),
+    }
+}
+
+/// Asks for the figures each second.
+fn ring<R: Clock + Threads + Wait>(rt: &R, bell: &Bell) {
+    for _ in rt.forever() {
+        bell.ask_to_show(rt);
+        thread::sleep(rt, Duration::from_secs(1));
+    }
+}
+
+/// Starts the thread that asks for the figures each second. Nobody waits for it.
+pub(crate) fn start_ringer<R: Clock + Threads + Wait + Copy + Send + Drop + 'static>(
+    rt: &R,
+    bell: &Arc<Bell>,
+) -> Result<(), AllocError> {
+    let (bell, own) = (Arc::try_clone(bell)?, *rt);
+    match thread::spawn(rt, move || ring(&own, &bell)) {
+        Ok(_ringer) => Ok(()),
         Err(_) => Err(AllocError),
     }
 }

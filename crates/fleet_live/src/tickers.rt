@@ -2,12 +2,12 @@
 
 ghost use Rattle.std.specs.Prelude.{◌+◌, ◌≤◌, vec_capacity, vec_len};
 
-use crate::bell::Stop;
 use crate::keeper::Keeper;
 use crate::pace::keep_on;
 use crate::stage::{Stage, Work};
 use fleet_office::{Office, OfficeName, Ticker, side_by_side};
 use fleet_talk::Shelf;
+use live_parts::Stop;
 use std::alloc::{Alloc, AllocError, Global};
 use std::sync::Wait;
 use std::thread::Threads;

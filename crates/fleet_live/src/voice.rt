@@ -1,10 +1,9 @@
 //! The text of a conversation, shared by the threads that add to it and the thread that writes it.
 
 use crate::bell::Bell;
-use crate::page::Page;
-use crate::told::tell_each;
 use errands_text::write_whole;
 use fleet_office::{Guest, OfficeName};
+use live_parts::{MOST_TEXT, Notices, Page, tell_each};
 use std::alloc::{AllocError, Global};
 use std::io::Write;
 use std::mem;
@@ -59,6 +58,26 @@ impl Voice {
         done
     }
 
+    /// Says a text, unless another waits to be written.
+    pub(crate) fn say_alone<R: Wait>(&self, rt: &R, text: &str) -> Result<(), AllocError> {
+        let mut held = self.page.lock(rt);
+        let page = &mut *held;
+        let done = if page.gone || !page.text.is_empty() {
+            Ok(())
+        } else {
+            page.say(None, text)
+        };
+        mem::drop(held);
+        self.filled.notify_all();
+        done
+    }
+
+    /// How many notices were told.
+    pub(crate) fn notices<R: Wait>(&self, rt: &R) -> Notices {
+        let held = self.page.lock(rt);
+        held.notices
+    }
+
     /// Tells what these clients find while there is room, and returns whether that was all.
     pub(crate) fn tell_all<N: OfficeName<Global>, R: Wait>(
         &self,
@@ -92,12 +111,21 @@ impl Voice {
         held.gone
     }
 
-    /// Waits until there is room, or the reader of the output went away.
+    /// Waits until there is room, nobody waits for it any more, or the reader of the output went away.
     pub(crate) fn wait_for_room<R: Wait>(&self, rt: &R) {
         let held = self.drained.wait_while(rt, self.page.lock(rt), |page| {
-            !page.gone && page.is_full()
+            !page.gone && !page.hurried && page.is_full()
         });
         mem::drop(held);
+    }
+
+    /// Says that nobody waits for room any more.
+    pub(crate) fn hurry<R: Wait>(&self, rt: &R) {
+        let mut held = self.page.lock(rt);
+        let page = &mut *held;
+        page.hurried = true;
+        mem::drop(held);
+        self.drained.notify_all();
     }
 
     /// Waits for something to write, and takes it. `None` if nothing will follow.
@@ -136,7 +164,7 @@ impl Voice {
                 break;
             }
             // What was kept back, since there was no room, can be told now.
-            if text.len() >= crate::page::MOST_TEXT {
+            if text.len() >= MOST_TEXT {
                 bell.ask_to_tell(rt);
             }
         }

@@ -75,6 +75,7 @@ pub record IsLive (rows : List Row) (live : LiveJob) : Type 0 where
   pub period : first_of (codes "period") rows ≡ option_map (λ s. string_bytes s) live.period
   pub tickers : first_of (codes "tickers") rows ≡ option_map (λ s. string_bytes s) live.tickers
   pub traces : first_of (codes "traces") rows ≡ option_map (λ s. string_bytes s) live.traces
+  pub metrics : first_of (codes "metrics") rows ≡ option_map (λ s. string_bytes s) live.metrics
   pub pipes : or_none (all_of (codes "client") rows) ≡ map (λ s. string_bytes s) live.pipes.items
   pub watch : live.watch ≡ has_flag (codes "watch") rows
 

@@ -25,11 +25,11 @@ convert_app = with_rules (new_app (codes "convert")) (required_value_rule (codes
 abbrev pub explain_app : App
 explain_app = with_rules (new_app (codes "explain")) (file_rule (codes "MAP") ∷ new_rule (codes "INPUT") ∷ [])
 
--- live [--robots CELLS] [--clients N] [--period TIME] [--tickers N] [--client IN,OUT].. [--watch] [--traces DIR] MAP [SCRIPT]
+-- live [--robots CELLS] [--clients N] [--period TIME] [--tickers N] [--client IN,OUT].. [--watch] [--traces DIR] [--metrics FILE] MAP [SCRIPT]
 abbrev pub live_app : App
 live_app = with_rules (new_app (codes "live"))
     (value_rule (codes "robots") ∷ value_rule (codes "clients") ∷ value_rule (codes "period") ∷ value_rule (codes "tickers") ∷ values_rule (codes "client")
-    ∷ flag_rule (codes "watch") ∷ value_rule (codes "traces") ∷ file_rule (codes "MAP") ∷ new_rule (codes "SCRIPT") ∷ [])
+    ∷ flag_rule (codes "watch") ∷ value_rule (codes "traces") ∷ value_rule (codes "metrics") ∷ file_rule (codes "MAP") ∷ new_rule (codes "SCRIPT") ∷ [])
 
 -- fleet, which tells its version and wants a word
 abbrev pub fleet_app : App

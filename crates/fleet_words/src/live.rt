@@ -25,6 +25,8 @@ pub struct Live {
     pub tickers: Option<String>,
     /// The folder for the traces of chapters.
     pub traces: Option<String>,
+    /// The file for figures.
+    pub metrics: Option<String>,
     /// The pipes of clients 0, 1, ..: the pipe from which their lines come, a comma, and the pipe for what is printed
     /// for them.
     pub pipes: Vec<String>,
@@ -32,8 +34,8 @@ pub struct Live {
     pub watch: bool,
 }
 
-/// `live [--robots CELLS] [--clients N] [--period TIME] [--tickers N] [--client IN,OUT].. [--watch] [--traces DIR] MAP
-/// [SCRIPT]`.
+/// `live [--robots CELLS] [--clients N] [--period TIME] [--tickers N] [--client IN,OUT].. [--watch] [--traces DIR]
+/// [--metrics FILE] MAP [SCRIPT]`.
 pub(crate) const LIVE: Word<'static> = Word {
     name: "live",
     about: "Keeps a fleet in real time for clients that post errands and are told what became of them",
@@ -70,6 +72,11 @@ pub(crate) const LIVE: Word<'static> = Word {
             help: "Say where the robots stand after each tick",
         },
         TRACES,
+        Argument {
+            name: "metrics",
+            kind: Kind::Value("FILE"),
+            help: "Write figures into FILE each second, as Prometheus reads them",
+        },
         MAP,
         SCRIPT,
     ],
@@ -86,6 +93,7 @@ pub(crate) fn live_in(alloc: Global, matches: &ArgMatches<'_>) -> Result<Live, A
     let period = some_word_for(alloc, matches, "period")?;
     let tickers = some_word_for(alloc, matches, "tickers")?;
     let traces = some_word_for(alloc, matches, "traces")?;
+    let metrics = some_word_for(alloc, matches, "metrics")?;
     let pipes = some_words_for(alloc, matches, "client")?;
     Ok(Live {
         map,
@@ -95,6 +103,7 @@ pub(crate) fn live_in(alloc: Global, matches: &ArgMatches<'_>) -> Result<Live, A
         period,
         tickers,
         traces,
+        metrics,
         pipes,
         watch: has_flag(matches, "watch"),
     })

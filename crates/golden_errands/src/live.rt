@@ -34,6 +34,7 @@ fn words(alloc: Global, watch: bool) -> Result<Live, AllocError> {
         period: None,
         tickers: None,
         traces: None,
+        metrics: None,
         pipes: Vec::new(alloc),
         watch,
     })
@@ -52,6 +53,7 @@ fn ends_of(
         output: output.0,
         pipes: Vec::new(alloc),
         counts: output.1,
+        figures: None,
         shelf,
     })
 }

@@ -1,5 +1,5 @@
 -- One more chapter was handed out, and is kept or waits.
-use Rattle.fleet_live.proofs.Keeping.{handed-none, handed-then}
+use Rattle.fleet_live.proofs.Handing.{handed-none, handed-then}
 use Rattle.fleet_live.proofs.ending.conclude.Goals as goal
 
 pub loop-init : goal.loop-init

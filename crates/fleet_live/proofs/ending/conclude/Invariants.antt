@@ -1,6 +1,6 @@
 -- The clients are on the office's rings, and the chapters that were handed out are kept or wait.
 use Rattle.fleet_office.specs.Views.{AreOn, cores}
-use Rattle.fleet_live.specs.Kept.{KeepsHanded}
+use Rattle.fleet_live.specs.Handed.{KeepsHanded}
 use Rattle.fleet_live.proofs.ending.conclude.Given as goal
 
 abbrev pub invariant-loop : goal.invariant-loop

@@ -1,7 +1,7 @@
 -- The last chapter was kept, after those that waited.
 use Rattle.std.proofs.lemmas.Result.{on_ok_weaker}
 use Rattle.fleet_talk.specs.Chapters.{chapter_shown}
-use Rattle.fleet_live.proofs.Keeping.{to-end}
+use Rattle.fleet_live.proofs.Handing.{to-end}
 use Rattle.fleet_live.proofs.ending.finish.Goals as goal
 
 pub returns-in-Ok-conclude : goal.returns-in-Ok-conclude

@@ -6,7 +6,7 @@ use Rattle.fleet_history.specs.History.{history_of}
 use Rattle.fleet_office.specs.Chapters.{IsChapterOf}
 use Rattle.fleet_office.specs.Hall.{HallView}
 use Rattle.fleet_talk.specs.Chapters.{chapter_shown}
-use Rattle.fleet_live.specs.Kept.{early, handed}
+use Rattle.fleet_live.specs.Handed.{early, handed}
 use Rattle.fleet_live.proofs.keeper.Keeper.turn_page.Goals as goal
 
 pub returns-in-Ok-None : goal.returns-in-Ok-None

@@ -1,0 +1,102 @@
+//! What a line asks of a fleet in real time.
+
+ghost use Rattle.std.specs.Prelude.{◌≡◌};
+ghost use Rattle.fleet_map.specs.Text.{words_of};
+ghost use Rattle.live_parts.specs.Demand.{demand_of, event_asked, watch_asked, where_granted};
+
+use fleet_book::{Event, Order};
+use fleet_map::text::first_word;
+use fleet_talk::{Asked, Line};
+
+/// What the keeper is asked for.
+#[derive(Clone, Copy, Debug, PartialEq, Eq)]
+pub enum Wanted {
+    Shut(u32),
+    Look,
+    Chapter,
+    Tick(u32),
+    /// To judge what was posted; it has no answer of its own.
+    Settle,
+}
+
+/// What a line asks.
+#[derive(Clone, Copy, Debug, PartialEq, Eq)]
+pub enum Demand {
+    /// Nothing: it is blank, or a comment.
+    Nothing,
+    Post(u32, Order),
+    Ask(Wanted),
+    Watch(bool),
+    Quit,
+    /// It is no line of this conversation.
+    Bad,
+}
+
+/// What a conversation may ask for.
+#[derive(Clone, Copy, Debug, PartialEq, Eq)]
+pub struct Rights {
+    /// Whether it shuts robots, hands out chapters, watches, and ends the fleet.
+    pub rules: bool,
+    /// Whether it makes ticks.
+    pub ticks: bool,
+}
+
+/// A demand, if the conversation may make it.
+fn where_granted(granted: bool, demand: Demand) -> Demand
+    ensures { result ≡ where_granted granted demand }
+{
+    if granted { demand } else { Demand::Bad }
+}
+
+/// What an event line asks.
+fn event_asked(rights: Rights, event: Event, times: u32) -> Demand
+    ensures { result ≡ event_asked rights event times }
+{
+    match event {
+        Event::Post(client, order) => Demand::Post(client, order),
+        Event::Tick => where_granted(rights.ticks, Demand::Ask(Wanted::Tick(times))),
+        Event::Shut(robot) => where_granted(rights.rules, Demand::Ask(Wanted::Shut(robot))),
+        Event::Take(_) | Event::Give(_) | Event::Collect(_) => Demand::Bad,
+    }
+}
+
+/// Whether to watch, where a line says that.
+fn watch_asked(line: &[u8]) -> Demand
+    ensures { result ≡ watch_asked (words_of line.now) }
+{
+    let Some((word, rest)) = first_word(line) else {
+        return Demand::Bad;
+    };
+    let Some((state, rest)) = first_word(rest) else {
+        return Demand::Bad;
+    };
+    if first_word(rest).is_some() {
+        return Demand::Bad;
+    }
+    if word == b"watch".as_slice() {
+        if state == b"on".as_slice() {
+            Demand::Watch(true)
+        } else if state == b"off".as_slice() {
+            Demand::Watch(false)
+        } else {
+            Demand::Bad
+        }
+    } else {
+        Demand::Bad
+    }
+}
+
+/// What a line asks.
+pub fn demand_of(rights: Rights, line: Line<'_>) -> Demand
+    ensures { result ≡ demand_of rights line.entry.asked line.entry.told.now }
+{
+    match line.asked {
+        Asked::Nothing => Demand::Nothing,
+        Asked::Events(more) => event_asked(rights, more.event, more.times),
+        Asked::Look => Demand::Ask(Wanted::Look),
+        Asked::Chapter => where_granted(rights.rules, Demand::Ask(Wanted::Chapter)),
+        Asked::Quit => where_granted(rights.rules, Demand::Quit),
+        Asked::Other => where_granted(rights.rules, watch_asked(line.told)),
+        Asked::Long => Demand::Bad,
+    }
+}

@@ -1,0 +1,31 @@
+//! Where a fleet's lines come from, and where its output goes.
+
+/// How a fleet is kept.
+#[derive(Clone, Copy, Debug, PartialEq, Eq)]
+pub struct LiveSettings {
+    /// The microseconds between two turns; `None` if turns are made only when a line asks for one.
+    pub period: Option<u32>,
+    /// How many tickers keep the fleet in turn where there is a period: with two, one keeps it while the other keeps a chapter.
+    pub tickers: u32,
+    /// Whether the first conversation watches from the start.
+    pub watch: bool,
+}
+
+/// The pipes of a client that has its own.
+#[derive(Drop)]
+pub struct Pipes<P, Q> {
+    pub input: P,
+    pub output: Q,
+}
+
+/// The reader and the writer of the first conversation, the pipes of clients 0, 1, .., the writer of the counts, the writer that takes
+/// all figures at once, each second anew, and the shelf of the chapters.
+#[derive(Drop)]
+pub struct LiveEnds<I, W, P, Q, E, S> {
+    pub input: I,
+    pub output: W,
+    pub pipes: Vec<Pipes<P, Q>>,
+    pub counts: E,
+    pub figures: Option<E>,
+    pub shelf: S,
+}

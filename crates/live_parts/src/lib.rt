@@ -1,0 +1,29 @@
+//! What a fleet in real time is asked, what it says and what it keeps: lines, texts, notices, counts and chapters, as values that no
+//! thread shares.
+#![tactic(auto)]
+
+mod archive;
+mod demand;
+mod ends;
+mod figures;
+mod notices;
+mod page;
+mod period;
+mod said;
+mod stop;
+mod tally;
+mod told;
+mod unkept;
+
+pub use archive::Archive;
+pub use demand::{Demand, Rights, Wanted, demand_of};
+pub use ends::{LiveEnds, LiveSettings, Pipes};
+pub use figures::Figures;
+pub use notices::Notices;
+pub use page::{MOST_TEXT, Page};
+pub use period::{next_due, read_period};
+pub use said::{look_text, notice_text, post_text, shut_text, tick_text};
+pub use stop::Stop;
+pub use tally::Tally;
+pub use told::{post_in, tell_each};
+pub use unkept::Unkept;

@@ -1,0 +1,74 @@
+//! How many notices were told, by kind.
+
+ghost use Rattle.std.specs.Prelude.{◌≡◌, ◌<◌};
+
+use fleet_book::{Notice, Verdict};
+
+/// How many kinds of verdicts there are.
+const KINDS: usize = 13;
+
+/// How many notices were told: verdicts by kind, and arrivals.
+#[derive(Clone, Copy, Debug, PartialEq, Eq)]
+pub struct Notices {
+    verdicts: [u64; KINDS],
+    pub arrived: u64,
+}
+
+/// The place of a verdict's kind.
+fn place_of(verdict: Verdict) -> usize
+    ensures { result < 13 }
+{
+    match verdict {
+        Verdict::Accepted(_) => 0,
+        Verdict::Closed => 1,
+        Verdict::Withdrawn => 2,
+        Verdict::ClientClosed => 3,
+        Verdict::NoRobot => 4,
+        Verdict::RobotShut => 5,
+        Verdict::NoCell => 6,
+        Verdict::Blocked => 7,
+        Verdict::Unreachable => 8,
+        Verdict::QueueFull => 9,
+        Verdict::LifeSpent => 10,
+        Verdict::NoErrand => 11,
+        Verdict::TooLate => 12,
+    }
+}
+
+impl Notices {
+    pub const NONE: Notices = Notices {
+        verdicts: [0; KINDS],
+        arrived: 0,
+    };
+
+    /// Counts a notice that was told.
+    pub(crate) fn count(&mut self, notice: Notice) {
+        match notice {
+            Notice::Verdict { verdict, .. } => {
+                let place = place_of(verdict);
+                self.verdicts[place] = self.verdicts[place].saturating_add(1);
+            }
+            Notice::Arrived { .. } => self.arrived = self.arrived.saturating_add(1),
+        }
+    }
+
+    /// Adds others.
+    pub fn add(&mut self, others: &Notices) {
+        for place in 0..KINDS {
+            self.verdicts[place] = self.verdicts[place].saturating_add(others.verdicts[place]);
+        }
+        self.arrived = self.arrived.saturating_add(others.arrived);
+    }
+
+    /// How many verdicts of this kind were told.
+    pub(crate) fn count_of(&self, verdict: Verdict) -> u64 {
+        self.verdicts[place_of(verdict)]
+    }
+
+    /// How many errands were accepted and neither withdrawn nor done, by the notices that were told.
+    pub(crate) fn open(&self) -> u64 {
+        self.verdicts[0]
+            .saturating_sub(self.verdicts[2])
+            .saturating_sub(self.arrived)
+    }
+}
