@@ -1,7 +1,6 @@
 //! What the clients leave at the end of a run.
 
-ghost use Rattle.std.specs.Prelude.{◌≡◌, [], ℕ, List, IfOk, map, replicate, vec_len};
-ghost use Rattle.fleet_book.specs.declared.notice.Notice.{Notice};
+ghost use Rattle.std.specs.Prelude.{◌≡◌, [], IfOk, map, replicate, vec_len};
 ghost use Rattle.fleet_world.specs.inside.Leftovers.{HasRoomFor};
 
 use crate::waiting::Waiting;
