@@ -1,6 +1,6 @@
 //! Where a fleet's counts and figures go.
 
-use fleet_lib::write_whole;
+use fleet_lib::{InputFault, fail, write_whole};
 use std::alloc::{Alloc, AllocError, Global};
 use std::fs::{self, File, Files};
 use std::io::{self, Write};
@@ -57,5 +57,29 @@ impl<E: Write, R: Files + Alloc<A = Global> + Copy> Write for Outlet<E, R> {
             Outlet::Error(error) => error.flush(),
             Outlet::Figures(_) => Ok(()),
         }
+    }
+}
+
+/// Where the figures go, if a file is named. It is there from now on. The error is the status, and is said.
+pub(crate) fn figures_of<E: Write, R: Files + Alloc<A = Global> + Copy>(
+    rt: &R,
+    name: &Option<String>,
+    error: &mut E,
+) -> Result<Option<Outlet<E, R>>, u8> {
+    let Some(name) = name else {
+        return Ok(None);
+    };
+    let Ok(file) = FigureFile::new(rt, name.as_str()) else {
+        return Err(fail(InputFault::NoMemory, error));
+    };
+    if file.put(b"") {
+        return Ok(Some(Outlet::Figures(file)));
+    }
+    match format!(in rt.alloc(); "fleet: file {name} cannot be written\n") {
+        Ok(line) => {
+            write_whole(error, line.as_bytes());
+            Err(3)
+        }
+        Err(AllocError) => Err(fail(InputFault::NoMemory, error)),
     }
 }

@@ -1,9 +1,8 @@
 //! The word `live`.
 
-use crate::figures::{FigureFile, Outlet};
 use crate::talk::texts_of;
-use fleet_lib::{InputFault, Live, LiveEnds, Pipes, Shelf, TalkTexts, fail, run_live, write_whole};
-use std::alloc::{Alloc, AllocError, Global};
+use fleet_lib::{InputFault, Live, LiveEnds, Pipes, Shelf, TalkTexts, fail, run_live};
+use std::alloc::{Alloc, Global};
 use std::fs::{File, Files, OpenOptions};
 use std::io::{Read, Write};
 use std::sync::Wait;
@@ -43,30 +42,6 @@ fn pipes_of<R: Files<File = File> + Alloc<A = Global>>(
     Ok(all)
 }
 
-/// Where the figures go, if a file is named. It is there from now on. The error is the status, and is said.
-fn figures_of<E: Write, R: Files + Alloc<A = Global> + Copy>(
-    rt: &R,
-    name: &Option<String>,
-    error: &mut E,
-) -> Result<Option<Outlet<E, R>>, u8> {
-    let Some(name) = name else {
-        return Ok(None);
-    };
-    let Ok(file) = FigureFile::new(rt, name.as_str()) else {
-        return Err(fail(InputFault::NoMemory, error));
-    };
-    if file.put(b"") {
-        return Ok(Some(Outlet::Figures(file)));
-    }
-    match format!(in rt.alloc(); "fleet: file {name} cannot be written\n") {
-        Ok(line) => {
-            write_whole(error, line.as_bytes());
-            Err(3)
-        }
-        Err(AllocError) => Err(fail(InputFault::NoMemory, error)),
-    }
-}
-
 /// Keeps a fleet in real time, or on demand. Returns the status, as of `run_live`, or 3 where a file failed.
 pub(crate) fn hold_live<
     R: Files<File = File>
@@ -81,9 +56,17 @@ pub(crate) fn hold_live<
         + 'static,
     I: Read + Send + Drop + 'static,
     W: Write + Send + Drop + 'static,
-    E: Write + Copy + Send + Drop + 'static,
+    F: Write + Send + Drop + 'static,
+    E: Write,
     S: Shelf + Send + Drop,
->(rt: &R, live: &Live, (input, output): (I, W), error: &mut E, shelf: S) -> u8 {
+>(
+    rt: &R,
+    live: &Live,
+    (input, output): (I, W),
+    (counts, figures): (F, Option<F>),
+    error: &mut E,
+    shelf: S,
+) -> u8 {
     let (map, script) = match texts_of(rt, live.map.as_str(), &live.script) {
         Ok(texts) => texts,
         Err(fault) => return fail(fault, error),
@@ -92,15 +75,11 @@ pub(crate) fn hold_live<
         Ok(pipes) => pipes,
         Err(fault) => return fail(fault, error),
     };
-    let figures = match figures_of(rt, &live.metrics, error) {
-        Ok(figures) => figures,
-        Err(status) => return status,
-    };
     let ends = LiveEnds {
         input,
         output,
         pipes,
-        counts: Outlet::Error(*error),
+        counts,
         figures,
         shelf,
     };

@@ -21,6 +21,7 @@ use check::run_check;
 use convert::run_convert;
 use descriptors::are_open;
 use explain::run_explain;
+use figures::{Outlet, figures_of};
 use fleet_lib::{InputFault, Job, WordFault, fail, parse_words, write_whole};
 use folder::{complain_of_folder, hold_folder};
 use live::hold_live;
@@ -103,7 +104,14 @@ fn main(rt: HostRuntime) -> ExitCode {
                 Ok(folder) => {
                     // Made here, where it is known of the runtime that threads may share it.
                     let shelf = TraceFolder { rt: &rt, name };
-                    let status = hold_live(&rt, &live, (rt.stdin(), output), &mut error, shelf);
+                    let status = match figures_of(&rt, &live.metrics, &mut error) {
+                        Ok(figures) => {
+                            let talk = (rt.stdin(), output);
+                            let told = (Outlet::Error(error), figures);
+                            hold_live(&rt, &live, talk, told, &mut error, shelf)
+                        }
+                        Err(status) => status,
+                    };
                     folder.let_go(&rt);
                     status
                 }
