@@ -13,3 +13,4 @@ pub mod Refusals
 pub mod FaultCases
 pub mod Fronts
 pub mod OpeningRefusals
+pub mod ResumingFacts

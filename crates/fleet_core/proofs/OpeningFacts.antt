@@ -17,12 +17,12 @@ use Rattle.fleet_hooks.specs.declared.law.StampLaw.{StampLaw}
 use Rattle.fleet_history.specs.declared.history.Opening.{Opening}
 use Rattle.fleet_history.specs.declared.history.RobotState.{RobotState}
 use Rattle.fleet_history.specs.declared.history.ClientState.{ClientState}
-use Rattle.fleet_history.specs.History.{History, start, clients, unknown_client, unfinished, owed}
+use Rattle.fleet_history.specs.History.{History, start, robots, clients, unknown_client, unfinished, owed}
 use Rattle.fleet_history.specs.Notices.{noticed_count}
 use Rattle.fleet_history.proofs.Chapters.{chapters-begin}
 use Rattle.fleet_state.proofs.Parts.{listed}
 use Rattle.fleet_state.proofs.Ranges.{map-range_more}
-use Rattle.fleet_history.specs.Legal.{IsLegal, IsRobotInOrder, IsClientInOrder, owed_at, opened, no_law}
+use Rattle.fleet_history.specs.Legal.{farewell_law, IsLegal, IsRobotInOrder, IsClientInOrder, owed_at, opened, no_law}
 use Rattle.fleet_history.proofs.Withdrawals.{unfinished-start}
 use Rattle.fleet_core.specs.Hooks.{HookLaws, law_at, HaveCount, AreOrderly, AreArrivals, AreFarewells}
 use Rattle.fleet_core.specs.Pending.{Pending, no_pending}
@@ -250,6 +250,19 @@ farewells-opened {A = A} starts n limits laws have =
           sym s ∙ sym (farewell_laws A starts laws.arrivals laws.farewells r (subst (λ (k : ℕ). r < k) have.farewells l));
       unspent = λ r l d. ap (λ (o : Option StampLaw). is_some o) (map_some_at laws.farewells r (subst (λ (k : ℕ). r < k) (robots ∙ sym have.farewells) l));
     }
+
+-- closures with their robots' laws, of which none was called yet
+pub farewells-unspent : {A : Type 0} (h : History A) (laws : List StampLaw) → length laws ≡ robots h → ((r : ℕ) → r < robots h → law_at laws r ≡ farewell_law h r) →
+    AreFarewells h (map Some laws)
+farewells-unspent h laws count each = record {
+  count = length-map laws Some ∙ count;
+  each = λ r law e.
+      let l : r < length laws = some_within (map Some laws) r (length laws) law e (length-map laws Some) in
+      let q : Some (law_at laws r) ≡ Some law = sym (map_some_at laws r l) ∙ e in
+      let s : law_at laws r ≡ law = cc in
+      sym s ∙ each r (subst (λ (k : ℕ). r < k) count l);
+  unspent = λ r l d. ap (λ (o : Option StampLaw). is_some o) (map_some_at laws r (subst (λ (k : ℕ). r < k) (sym count) l));
+}
 
 pub some_laws : {X : Type 0} (law : X → StampLaw) (xs : List X) → map Some (map law xs) ≡ map (λ x. Some (law x)) xs
 some_laws law [] = refl

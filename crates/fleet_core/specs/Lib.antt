@@ -5,5 +5,6 @@ pub mod Pending
 pub mod Opening
 pub mod OpeningFaults
 pub mod Core
+pub mod Resuming
 pub mod Calls
 pub mod inside

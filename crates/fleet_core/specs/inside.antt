@@ -5,3 +5,4 @@ pub mod Spent
 pub mod Stamped
 pub mod Kept
 pub mod Mailboxes
+pub mod Resumed

@@ -1,9 +1,11 @@
 //! The laws of a fleet's closures, apart from the closures.
 
-ghost use Rattle.std.specs.Prelude.{All, ◌≡◌, IfOk, OnOk, map};
+ghost use Rattle.std.specs.Prelude.{All, ◌≡◌, ◌↔◌, IfOk, OnOk, IsTrue, map};
 ghost use Rattle.fleet_hooks.specs.Law.{IsStampLaw};
 ghost use Rattle.fleet_core.specs.Hooks.{laws_of, AreOrderly};
+ghost use Rattle.fleet_core.specs.Resuming.{AreLawsAt};
 
+use fleet_history::{Opening, RobotState};
 use fleet_hooks::{ArrivalHook, Farewell, Hooks, StampLaw, TieHook, TieLaw};
 use std::alloc::{AllocError, Allocator, Global};
 use std::marker::Model;
@@ -46,6 +48,48 @@ impl<A: Allocator + Copy> HookLaws<A> {
             farewells: farewell_laws(alloc, hooks.farewells.as_slice())?,
         })
     }
+
+    /// Whether these are the laws of the opening's robots.
+    pub fn are_at(&self, opening: &Opening<A>) -> bool
+        ensures { IsTrue result ↔ AreLawsAt opening.now self.now }
+    {
+        let robots = opening.robots.as_slice();
+        if self.ties.len() != robots.len() {
+            return false;
+        }
+        are_arrivals(self.arrivals.as_slice(), robots)
+            && are_farewells(self.farewells.as_slice(), robots)
+    }
+}
+
+/// Whether these are the laws of the robots' arrivals.
+fn are_arrivals<A: Allocator + Copy>(laws: &[StampLaw], robots: &[RobotState<A>]) -> bool
+    ensures { IsTrue result ↔ (laws.now ≡ map (λ x. x.arrival_law) robots.now) }
+{
+    if laws.len() != robots.len() {
+        return false;
+    }
+    for r in 0..laws.len() {
+        if laws[r] != robots[r].arrival_law {
+            return false;
+        }
+    }
+    true
+}
+
+/// Whether these are the laws of the robots' farewells.
+fn are_farewells<A: Allocator + Copy>(laws: &[StampLaw], robots: &[RobotState<A>]) -> bool
+    ensures { IsTrue result ↔ (laws.now ≡ map (λ x. x.farewell_law) robots.now) }
+{
+    if laws.len() != robots.len() {
+        return false;
+    }
+    for r in 0..laws.len() {
+        if laws[r] != robots[r].farewell_law {
+            return false;
+        }
+    }
+    true
 }
 
 fn tie_laws<A: Allocator + Copy>(alloc: A, hooks: &[TieHook]) -> Result<Vec<TieLaw, A>, AllocError>

@@ -12,6 +12,7 @@ mod kernel;
 mod longest;
 mod mailbox;
 mod opening;
+mod resuming;
 mod robot_hooks;
 mod stamps;
 mod tick_draft;

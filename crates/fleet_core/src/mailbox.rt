@@ -1,11 +1,16 @@
 //! The clients' mailboxes. Each has the notices that were not given yet, in a ring of fixed size.
 
-ghost use Rattle.std.specs.Prelude.{◌≡◌, ◌+◌, ◌<◌, ◌≤◌, ◌^◌, ◌==◌, [], ◌∷◌, ◌++◌, ℕ, All, count_by, length, drop, replicate, slice_get, slice_index, IfOk, OnOk, OnErr};
+ghost use Rattle.std.specs.Prelude.{◌≡◌, ◌+◌, ◌<◌, ◌≤◌, ◌^◌, ◌==◌, [], ◌∷◌, ◌++◌, ℕ, All, count_by, length, drop, map, max, replicate, slice_get, slice_index, IfOk, OnOk, OnErr};
+ghost use Rattle.fleet_grid.specs.Floor.{Floor};
+ghost use Rattle.fleet_history.specs.History.{History};
+ghost use Rattle.fleet_state.specs.State.{IsStateOf, Of, by_client, client_count};
+ghost use Rattle.fleet_core.specs.Resuming.{empty_box};
 ghost use Rattle.fleet_core.specs.inside.Mailboxes.{box_at, with_notice, with_box, AreDelivered};
 
 use circular_buffer::HeapCircularBuffer;
 use fleet_book::{Notice, Verdict};
-use fleet_history::Arrival;
+use fleet_history::{Arrival, ClientState};
+use fleet_state::FleetState;
 use std::alloc::{AllocError, Allocator};
 use std::marker::Model;
 
@@ -28,7 +33,7 @@ impl<A: Allocator + Copy> Model for Mailbox<A> {
 
 impl<A: Allocator + Copy> Mailbox<A> {
     /// An empty mailbox with room for this many notices.
-    pub(crate) fn new(alloc: A, limit: u32) -> Result<Self, AllocError>
+    pub(crate) fn new(alloc: A, limit: u64) -> Result<Self, AllocError>
         ensures { IfOk result (λ b. b ≡ record { notices = []; limit = limit }) }
     {
         let notices = HeapCircularBuffer::with_capacity(alloc, limit as usize)?;
@@ -96,12 +101,45 @@ fn empty_boxes<A: Allocator + Copy>(
 {
     let mut boxes = Vec::with_capacity(alloc, count)?;
     for _i in 0..count {
+        boxes.push_reserved(Mailbox::new(alloc, u64::from(limit))?);
+    }
+    Ok(boxes)
+}
+
+fn greater(a: u64, b: u64) -> u64
+    ensures { result ≡ max a b }
+{
+    if a < b { b } else { a }
+}
+
+/// Mailboxes without notices of the clients of a state, each with room for this many and for what its client is owed.
+fn owed_boxes<A: Allocator + Copy>(
+    alloc: A,
+    state: &FleetState<A>,
+    room: u32,
+) -> Result<Vec<Mailbox<A>, A>, AllocError>
+    requires { client_count state.now ≤ 64 }
+    ensures { IfOk result (λ boxes. Of state.now (λ h. boxes.items ≡ by_client h (empty_box h room))) }
+{
+    let mut boxes = Vec::with_capacity(alloc, state.clients())?;
+    for c in 0..state.clients() {
+        let limit = greater(u64::from(room), state.owed(c as u32));
         boxes.push_reserved(Mailbox::new(alloc, limit)?);
     }
     Ok(boxes)
 }
 
-/// The clients' mailboxes, by number, and how many notices were made for each client. Only `open` and `widen` allocate.
+/// How many notices were made for each of these clients.
+fn noticed_of<A: Allocator + Copy>(
+    alloc: A,
+    clients: &[ClientState],
+) -> Result<Vec<u64, A>, AllocError>
+    ensures { IfOk result (λ noticed. noticed.items ≡ map (λ c. c.noticed) clients.now) }
+{
+    clients.iter().map(|client| client.noticed).collect(alloc)
+}
+
+/// The clients' mailboxes, by number, and how many notices were made for each client. Only `open`, `resume` and `widen` allocate.
 #[derive(Drop)]
 pub(crate) struct Mailboxes<A: Allocator + Copy> {
     boxes: Vec<Mailbox<A>, A>,
@@ -127,6 +165,25 @@ impl<A: Allocator + Copy> Mailboxes<A> {
     {
         let noticed = vec![in alloc; 0u64; count]?;
         let boxes = empty_boxes(alloc, count, limit)?;
+        Ok(Mailboxes { boxes, noticed })
+    }
+
+    /// Mailboxes without notices of these clients, of whom this is the state: each has room for this many notices and for
+    /// what its client is owed, and goes on with its client's numbers.
+    pub(crate) fn resume(
+        alloc: A,
+        clients: &[ClientState],
+        state: &FleetState<A>,
+        room: u32,
+    ) -> Result<Self, AllocError>
+        requires few { client_count state.now ≤ 64 }
+        requires is { (m : Floor) × (h : History A) × IsStateOf m h state.now }
+        requires same { length clients.now ≡ client_count state.now }
+        ensures boxes { IfOk result (λ x. Of state.now (λ h. x.boxes ≡ by_client h (empty_box h room))) }
+        ensures noticed { IfOk result (λ x. x.noticed ≡ map (λ c. c.noticed) clients.now) }
+    {
+        let noticed = noticed_of(alloc, clients)?;
+        let boxes = owed_boxes(alloc, state, room)?;
         Ok(Mailboxes { boxes, noticed })
     }
 

@@ -13,6 +13,7 @@ ghost use Rattle.fleet_planner.specs.Planned.{IsPlanned, IsAdvancingTick};
 ghost use Rattle.fleet_core.specs.Hooks.{laws_of, spare_laws, AreOrderly, AreArrivals, AreFarewells};
 ghost use Rattle.fleet_core.specs.Opening.{CanOpen};
 ghost use Rattle.fleet_core.specs.OpeningFaults.{IsRefused, IsNamed};
+ghost use Rattle.fleet_core.specs.Resuming.{CanResume, resumed_world};
 ghost use Rattle.fleet_core.specs.Core.{Takes, Ticks, Shuts, pending, without_first, widened, next_world, opened_world, HasRoom, HasNoRoom, HasEntries, HasNoEntries};
 
 use crate::faults::{ChapterFault, OpenFault, ShutFault, TakeFault, TickFault, TickReport};
@@ -22,7 +23,7 @@ use crate::robot_hooks::RobotHooks;
 use crate::world_opening::{opening_fault, robots_of};
 use fleet_book::{Limits, Notice, Order, Verdict};
 use fleet_grid::Grid;
-use fleet_history::Chapter;
+use fleet_history::{Chapter, Opening};
 use fleet_hooks::Hooks;
 use std::alloc::{Alloc, AllocError, Allocator, Global};
 
@@ -80,6 +81,26 @@ impl<A: Allocator + Copy> World<A> {
         let robots = robots_of(alloc, hooks)?;
         // Last, so that no path lets a core go.
         let core = Core::open(alloc, grid, starts, clients, limits, laws)?;
+        Ok(World { core, robots })
+    }
+
+    /// The world that goes on with the chapter of this number, from its opening and with its robots' closures. Its mailboxes are
+    /// empty.
+    pub fn resume(
+        alloc: A,
+        grid: Grid<A>,
+        number: u32,
+        opening: Opening<A>,
+        limits: Limits,
+        hooks: Hooks<A>,
+    ) -> Result<World<A>, AllocError>
+        requires { CanResume grid number opening limits (laws_of hooks) }
+        ensures { IfOk result (λ w. w.core ≡ resumed_world grid number opening limits (laws_of hooks)) }
+    {
+        let laws = HookLaws::of(alloc, &hooks)?;
+        let robots = robots_of(alloc, hooks)?;
+        // Last, so that no path lets a core go.
+        let core = Core::resume(alloc, grid, number, opening, limits, laws)?;
         Ok(World { core, robots })
     }
 

@@ -11,3 +11,4 @@ pub mod Ticked
 pub mod Refused
 pub mod GoalsKept
 pub mod GoalChanges
+pub mod FirstGoals

@@ -78,6 +78,14 @@ turn_on robot cell (f ∷ rest) = if f.cell == cell then record { robot = robot;
 abbrev pub turns_ticked : List Queue → List ℕ → List GoalChange
 turns_ticked queues to = flat_map (λ r. turn_on r (slice_index to r) (queue_at queues r).items) (range_with_len 0 (length queues))
 
+-- the goal that a robot's queue gives it: the cell of its first errand
+abbrev pub first_goal : List Queue → ℕ → Option ℕ
+first_goal queues r = cell_of (slice_get (queue_at queues r).items 0)
+
+-- the goals that the queues give, by robot
+abbrev pub first_goals : List Queue → List (Option ℕ)
+first_goals queues = map (first_goal queues) (range_with_len 0 (length queues))
+
 -- nobody has an errand
 abbrev pub IsIdle : {A : Type 0} → History A → Type 0
 IsIdle h = (r : ℕ) → r < robots h → front h r ≡ None

@@ -1,6 +1,6 @@
 //! What the robots need from tick to tick: their goals, and the step by priority inheritance with backtracking.
 
-ghost use Rattle.std.specs.Prelude.{◌≡◌, ◌<◌, ◌≤◌, ◌^◌, ◌↔◌, ℕ, IsTrue, None, slice_get, length, map, vec_capacity, IfOk, OnOk, OnErr};
+ghost use Rattle.std.specs.Prelude.{◌≡◌, ◌<◌, ◌≤◌, ◌^◌, ◌↔◌, ℕ, IsTrue, None, slice_get, length, map, replicate, vec_capacity, IfOk, OnOk, OnErr};
 ghost use Rattle.fleet_field.specs.Store.{Keeps};
 ghost use Rattle.fleet_grid.specs.Floor.{Floor, IsNeighbour};
 ghost use Rattle.fleet_grid.specs.Step.{IsConflictFree};
@@ -9,8 +9,9 @@ ghost use Rattle.fleet_planner.specs.Aims.{goals_of, AreOn};
 ghost use Rattle.fleet_pibt.specs.Order.{wait_of};
 ghost use Rattle.fleet_planner.specs.Planned.{IsPlannedBy, cell_of};
 ghost use Rattle.fleet_state.specs.Robots.{queue_at};
-ghost use Rattle.fleet_state.specs.State.{robot_count};
-ghost use Rattle.fleet_planner.specs.Aimed.{MayPlan, MayBegin, begun, begun_goals, goals_ticked, turns_ticked};
+ghost use Rattle.fleet_state.specs.State.{IsStateOf, robot_count};
+ghost use Rattle.fleet_history.specs.History.{History};
+ghost use Rattle.fleet_planner.specs.Aimed.{IsAimed, MayPlan, MayBegin, begun, begun_goals, first_goals, goals_ticked, turns_ticked};
 ghost use Rattle.fleet_planner.specs.Aimed.{IsNewPlanner};
 
 use crate::ahead::goals_ahead;
@@ -70,6 +71,16 @@ impl<A: Allocator + Copy> Planner<A> {
             shelf: Shelf::new(alloc, KEPT_BYTES),
             turns,
         })
+    }
+
+    /// A planner of the fleet of this state: each robot has the cell of its first errand as its goal.
+    pub fn resume(alloc: A, grid: &Grid<A>, state: &FleetState<A>) -> Result<Self, AllocError>
+        requires { (h : History A) × IsStateOf grid.now h state.now }
+        ensures { IfOk result (λ p. (h : History A) → IsStateOf grid.now h state.now → IsAimed grid.now h p) }
+    {
+        let mut planner = Planner::open(alloc, grid, state.robots())?;
+        aim_fronts(&mut planner.aims, &mut planner.shelf, grid, state)?;
+        Ok(planner)
     }
 
     /// Keeps the fields of goals that no robot has any more, up to this many bytes.
@@ -176,6 +187,31 @@ impl<A: Allocator + Copy + Send + Sync> Planner<A> {
         let _have_all_place = search_goals(rt, alloc, grid, state, &mut self.shelf)?;
         Ok(())
     }
+}
+
+/// Gives each robot, of which none has a goal yet, the cell of its first errand.
+fn aim_fronts<A: Allocator + Copy>(
+    aims: &mut Aims<A>,
+    shelf: &mut Shelf<A>,
+    grid: &Grid<A>,
+    state: &FleetState<A>,
+) -> Result<(), AllocError>
+    requires is { (h : History A) × IsStateOf grid.now h state.now }
+    requires none { aims.old ≡ replicate (robot_count state.now) None }
+    requires on { AreOn grid.now aims.old }
+    requires keeps { Keeps grid.now shelf.old }
+    ensures goals { OnOk result (goals_of aims.new ≡ first_goals state.now.queues) }
+    ensures count { length aims.new ≡ length aims.old }
+    ensures on { AreOn grid.now aims.new }
+    ensures keeps { Keeps grid.now shelf.new }
+{
+    for r in 0..state.robots() {
+        let robot = r as u32;
+        if let Some(front) = state.front(robot) {
+            aims.aim(shelf, grid, robot, front.cell)?;
+        }
+    }
+    Ok(())
 }
 
 /// Searches the fields of the robots' next goals side by side, and answers whether all fit on the shelf.

@@ -10,7 +10,7 @@ pub loop-i-preserved : goal.loop-i-preserved
 loop-i-preserved g c =
     let empty : Pending = record { notices = []; limit = c.args.limit } in
     record {
-      boxes = c.push_reserved.ensures.items ∙ (ap (λ (b : Pending). c.loop-i.boxes.items ++ b ∷ []) c.in_ok-new.ensures ∙ (ap (λ (xs : List Pending). xs ++ empty ∷ []) c.loop-i.invariant.boxes ∙ replicate_more c.loop-i._i empty));
+      boxes = c.push_reserved.ensures.items ∙ (ap (λ (b : Pending). c.loop-i.boxes.items ++ b ∷ []) (rw c.from.ensures at c.in_ok-new.ensures) ∙ (ap (λ (xs : List Pending). xs ++ empty ∷ []) c.loop-i.invariant.boxes ∙ replicate_more c.loop-i._i empty));
       len = c.push_reserved.ensures.len ∙ ap (λ (n : ℕ). n + 1) c.loop-i.invariant.len;
       room = omega (arith, c.push_reserved.ensures.capacity, c.loop-i.invariant.room);
     }
