@@ -1,0 +1,5 @@
+pub mod Replayed
+pub mod Rooms
+pub mod Far
+pub mod Ends
+pub mod Chain

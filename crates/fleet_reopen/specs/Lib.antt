@@ -1,0 +1,4 @@
+pub mod Room
+pub mod Reopening
+pub mod Chapters
+pub mod inside

@@ -1,0 +1,30 @@
+-- Whether waits leave room for the walks that robots may have to wait for.
+use Rattle.std.specs.Prelude.{ℕ, ◌≡◌, ◌+◌, ◌*◌, ◌≤◌, List, Option, Some, None, max, length, count_by, slice_index_or}
+use Rattle.std.specs.List.{range_with_len}
+use Rattle.fleet_grid.specs.Floor.{Floor, IsNeighbour}
+use Rattle.fleet_grid.specs.Walk.{IsBridgeless}
+use Rattle.fleet_history.specs.History.{History}
+use Rattle.fleet_planner.specs.Planned.{waits}
+use Rattle.fleet_bound.specs.Reach.{reach}
+use Rattle.fleet_bound.specs.Waiting.{comes_before}
+
+-- how many robots come before the robot r, which has waited w
+abbrev pub count_before : List (Option ℕ) → ℕ → ℕ → ℕ
+count_before waits r w = count_by (λ q. comes_before (slice_index_or waits q None) q w r) (range_with_len 0 (length waits))
+
+-- each robot has room to wait while the eldest walks this far, and each robot that comes before it a longest way
+abbrev pub HaveRoom : List (Option ℕ) → ℕ → ℕ → Type 0
+HaveRoom waits far reach = (r w : ℕ) → slice_index_or waits r None ≡ Some w →
+    w + max 1 far + count_before waits r w * reach ≤ length waits * reach
+
+-- the waits leave no room for the walks of the robots that come before, if no two cells are further apart than two searches
+-- found: some are so far apart
+pub record HasNoRoom {A : Type 0} (m : Floor) (h : History A) : Type 0 where
+  pub far : ℕ
+  pub apart : ℕ
+  pub within : apart ≤ reach m
+  pub full : HaveRoom (waits h) far apart → ⊥
+
+-- so it is on a map without bridges
+abbrev pub WaitTooLong : {A : Type 0} → Floor → History A → Type 0
+WaitTooLong m h = IsBridgeless (IsNeighbour m) × HasNoRoom m h
