@@ -2,11 +2,11 @@
 
 ghost use Rattle.std.specs.Prelude.{◌≡◌, ◌+◌, IfOk};
 
+use fleet_book::Limits;
 use fleet_core::{Core, HookLaws};
 use fleet_grid::Grid;
 use fleet_history::Chapter;
 use fleet_reopen::{ReopenFault, reopen};
-use fleet_book::Limits;
 use std::alloc::Global;
 
 /// The fleet that goes on from a chapter that was kept, with the limits that the chapter was made with.

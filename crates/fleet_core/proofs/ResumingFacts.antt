@@ -1,5 +1,5 @@
 -- What holds of a world that goes on from an opening.
-use Rattle.std.proofs.Common.{arith, ◌≡◌, ℕ, ◌+◌, ◌<◌, ◌≤◌, List, [], length, map, get_or, Some, sym, ap, subst, ◌∙◌, add-zero}
+use Rattle.std.proofs.Common.{arith, ◌≡◌, ℕ, ◌+◌, ◌<◌, ◌≤◌, List, length, map, get_or, Some, sym, ap, subst, ◌∙◌, add-zero}
 use Rattle.std.specs.Prelude.{max}
 use Rattle.std.proofs.lemmas.List.{length-map, get_or-map}
 use Rattle.fleet_grid.specs.Floor.{Floor}

@@ -3,16 +3,16 @@ use Rattle.std.proofs.Common.{◌≡◌, ℕ, zero, suc, ◌+◌, ◌<◌, ◌�
 use Rattle.std.specs.Prelude.{IsTrue, slice_get, slice_set, slice_index_or}
 use Rattle.std.specs.List.{range_with_len}
 use Rattle.std.proofs.lemmas.Bool.{cases_eq}
-use Rattle.std.proofs.lemmas.List.{length-map, length-replicate, length-set, get_or-set_same, get_or-set_other}
+use Rattle.std.proofs.lemmas.List.{length-replicate, length-set, get_or-set_same, get_or-set_other}
 use Rattle.fleet_grid.specs.Floor.{Floor, IsFloor, IsNeighbour}
 use Rattle.fleet_grid.specs.Walk.{IsBridgeless}
 use Rattle.fleet_field.specs.Field.{Aim}
 use Rattle.fleet_field.specs.Store.{Keeps}
 use Rattle.fleet_queue.specs.declared.errand.Errand.{Errand}
 use Rattle.fleet_queue.specs.Queue.{Queue}
-use Rattle.fleet_history.specs.History.{History, robots, unfinished, front}
+use Rattle.fleet_history.specs.History.{History, robots, front}
 use Rattle.fleet_history.proofs.Reach.{front-reach}
-use Rattle.fleet_planner.specs.Aims.{goals_of, goal_in, AreOn}
+use Rattle.fleet_planner.specs.Aims.{goals_of, AreOn}
 use Rattle.fleet_planner.specs.Planned.{goals, cell_of}
 use Rattle.fleet_state.specs.Robots.{queue_at}
 use Rattle.fleet_state.specs.State.{State, IsStateOf}

@@ -25,7 +25,8 @@ pub enum ReopenFault {
     /// Within the limits no chapter follows this one: its ticks, its entries, its number, or its clients' orders are too many.
     #[error("within the limits no chapter follows")]
     Spent,
-    /// The map has no bridge, and a robot has waited longer than it may on such a map.
+    /// The map has no bridge, and a robot has waited longer than it may on such a map, if no two of its cells are further
+    /// apart than two searches find.
     #[error("a robot has waited longer than it may")]
     Waits,
     /// Memory ran out.

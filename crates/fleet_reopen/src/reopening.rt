@@ -78,8 +78,8 @@ fn opening_after<A: Allocator + Copy>(
 /// chapter; its mailboxes are empty.
 ///
 /// Refused in this order: a limit out of its range, a chapter that is not legal on the map, laws that are not those of the
-/// chapter's robots, limits that are not the chapter's, no further chapter within the limits, waits that a map without
-/// bridges does not let come about. Out of memory may come at any point.
+/// chapter's robots, limits that are not the chapter's, no further chapter within the limits, waits that are too long for a
+/// map without bridges whose cells are as far apart as two searches find. Out of memory may come at any point.
 pub fn reopen<A: Allocator + Copy>(
     alloc: A,
     grid: Grid<A>,

@@ -1,6 +1,6 @@
-use Rattle.std.proofs.Common.{◌∙◌, ◌<◌, length, refl, sym, ap, arith}
+use Rattle.std.proofs.Common.{◌∙◌, ◌<◌, length, refl, sym, arith}
 use Rattle.fleet_planner.specs.Aims.{goals_of}
-use Rattle.fleet_state.proofs.Parts.{queue-count, robots-few}
+use Rattle.fleet_state.proofs.Parts.{robots-few}
 use Rattle.fleet_planner.proofs.FirstGoals.{none-count, aimed-none, aimed-more, aimed-idle, aimed-all, first-floor}
 use Rattle.fleet_planner.proofs.planner.aim_fronts.Goals as goal
 use Rattle.fleet_planner.proofs.planner.aim_fronts.Goals.{in-Some+in_ok-aim, in_default}

@@ -1,4 +1,4 @@
-use Rattle.std.proofs.Common.{◌∙◌, ap, sym, subst, arith}
+use Rattle.std.proofs.Common.{ap, sym, subst, arith}
 use Rattle.fleet_field.specs.Store.{Keeps}
 use Rattle.fleet_planner.specs.Aims.{AreOn}
 use Rattle.fleet_planner.specs.Aimed.{Planner, IsNewPlanner}
