@@ -5,7 +5,7 @@ use crate::conversation::Conversation;
 use crate::inbox::Inbox;
 use fleet_book::Order;
 use fleet_office::OfficeName;
-use fleet_talk::{Line, MOST_LINE, line_of};
+use fleet_talk::{Line, LineFault, MOST_LINE, line_of, read_line};
 use live_parts::{Demand, Stop, Wanted, demand_of};
 use std::alloc::{AllocError, Global};
 use std::io::{BufReader, Read};
