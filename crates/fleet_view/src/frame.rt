@@ -35,7 +35,7 @@ aside { display: flex; flex-direction: column; gap: 14px; min-width: 0; }
 #map { display: block; width: 100%; border-radius: 6px; background: var(--floor); cursor: grab; }
 #map.held { cursor: grabbing; }
 :focus-visible { outline: 2px solid var(--accent); outline-offset: 2px; }
-.together { display: inline-flex; gap: 4px; align-items: center; }
+.together { display: inline-flex; flex-wrap: wrap; gap: 4px; align-items: center; max-width: 100%; }
 .together button { padding: 1px 9px; }
 .banner { max-width: 1568px; margin: 14px auto 0; padding: 10px 14px; border: 2px solid var(--fault); border-radius: 10px; background: var(--card); }
 @media (max-width: 1600px) { .banner { margin: 14px 16px 0; } }
@@ -78,7 +78,7 @@ dialog form { margin-top: 10px; }
 #clock { font-variant-numeric: tabular-nums; min-width: 130px; text-align: right; }
 #hover { min-height: 1.45em; margin-top: 8px; font-variant-numeric: tabular-nums; }
 #keys { margin-top: 8px; font-size: 12.5px; }
-button, select { font: inherit; padding: 3px 11px; border: 1px solid var(--line); border-radius: 7px; background: var(--page); color: var(--ink); cursor: pointer; }
+button, select { max-width: 100%; font: inherit; padding: 3px 11px; border: 1px solid var(--line); border-radius: 7px; background: var(--page); color: var(--ink); cursor: pointer; }
 button:hover { border-color: var(--accent); }
 label { display: inline-flex; gap: 5px; align-items: center; }
 .figures { display: grid; grid-template-columns: 1fr 1fr; gap: 8px 12px; margin: 0; }
