@@ -10,6 +10,9 @@ use test_kit::Outcome;
 /// The status of words that name no job.
 const BAD_WORDS: u8 = 2;
 
+/// A file that cannot be opened, since memory runs out.
+const OUT_OF_MEMORY: &str = "no-memory";
+
 /// The files and the standard input of a case.
 #[derive(Clone, Copy)]
 struct CaseInputs<'a> {
@@ -26,6 +29,9 @@ impl<'a> Inputs for CaseInputs<'a> {
     ghost reads = { λ _ _ _. Unit {0} };
 
     fn open(&mut self, name: &str) -> Result<&'a [u8], InputFault> {
+        if name == OUT_OF_MEMORY {
+            return Err(InputFault::NoMemory);
+        }
         self.case.file(name).ok_or(InputFault::File)
     }
 
