@@ -783,7 +783,7 @@ function shadesOf(heat) {
 
 // ---- where the map lies on its canvas
 
-// a cell is at most so many pixels wide, but even a small map may be zoomed so far
+// the greatest width of a cell in pixels, and how far even a small map may be zoomed
 const MOST_CELL = 120;
 const LEAST_MOST_ZOOM = 4;
 
@@ -901,20 +901,40 @@ class Heat {
     this.kind = kind;
     this.window = window;
     this.frame = -1;
+    this.startAnew();
+  }
+
+  // By count, how many cells have it; the greatest count; and the cells whose count changed, null for all.
+  startAnew() {
+    this.counts.fill(0);
+    this.tally = [this.counts.length];
+    this.most = 0;
+    this.changed = null;
+  }
+
+  change(cell, by) {
+    const before = this.counts[cell];
+    const now = before + by;
+    this.counts[cell] = now;
+    this.tally[before] -= 1;
+    this.tally[now] = (this.tally[now] ?? 0) + 1;
+    if (now > this.most) this.most = now;
+    while (this.most > 0 && this.tally[this.most] === 0) this.most -= 1;
+    if (this.changed !== null) this.changed.push(cell);
   }
 
   // Counts what was done in the tick to a frame, after which robots are on these cells; by -1 it is no longer counted.
   count(frame, cells, by) {
-    const { replay, counts } = this;
+    const { replay } = this;
     if (this.kind === 'came') {
       const end = replay.moveStart[frame + 1];
-      for (let at = replay.moveStart[frame]; at < end; at += 1) counts[cells[replay.moveRobot[at]]] += by;
+      for (let at = replay.moveStart[frame]; at < end; at += 1) this.change(cells[replay.moveRobot[at]], by);
       return;
     }
     const { stood, stoodBytes } = replay;
     for (let byte = 0; byte < stoodBytes; byte += 1) {
       let bits = stood[frame * stoodBytes + byte];
-      for (let robot = byte * 8; bits !== 0; robot += 1, bits >>= 1) if (bits & 1) counts[cells[robot]] += by;
+      for (let robot = byte * 8; bits !== 0; robot += 1, bits >>= 1) if (bits & 1) this.change(cells[robot], by);
     }
   }
 
@@ -924,40 +944,47 @@ class Heat {
     for (let at = moveStart[frame]; at < moveStart[frame + 1]; at += 1) cells[moveRobot[at]] += sign * moveDelta[at];
   }
 
-  // Counts up to the frame that the replay is at.
+  // Counts up to the frame that the replay is at: tick by tick, unless all ticks that are counted are fewer.
   follow() {
     const { frame } = this.replay.state;
-    if (this.frame === frame) return;
-    if (this.frame >= 0 && this.frame + 1 === frame) this.goOn(frame);
-    else this.countAnew(frame);
-    this.frame = frame;
+    const counted = this.window === 0 ? frame : Math.min(this.window, frame);
+    if (this.frame < 0 || Math.abs(frame - this.frame) > counted) this.countAnew(frame);
+    while (this.frame < frame) this.goOn();
+    while (this.frame > frame) this.goBack();
   }
 
   countAnew(frame) {
     const cells = this.replay.state.cells.slice();
-    const first = this.window === 0 ? 0 : Math.max(0, frame - this.window);
-    this.counts.fill(0);
-    for (let past = frame; past > first; past -= 1) {
+    this.startAnew();
+    this.frame = frame;
+    this.cells = cells.slice();
+    this.first = this.window === 0 ? 0 : Math.max(0, frame - this.window);
+    for (let past = frame; past > this.first; past -= 1) {
       this.count(past, cells, 1);
       this.move(past, cells, -1);
     }
     // the cells of the robots before the first tick that is counted
     this.before = cells;
-    this.first = first;
   }
 
-  goOn(frame) {
-    this.count(frame, this.replay.state.cells, 1);
-    if (this.window === 0 || frame - this.window <= this.first) return;
+  goOn() {
+    this.frame += 1;
+    this.move(this.frame, this.cells, 1);
+    this.count(this.frame, this.cells, 1);
+    if (this.window === 0 || this.frame - this.window <= this.first) return;
     this.first += 1;
     this.move(this.first, this.before, 1);
     this.count(this.first, this.before, -1);
   }
 
-  most() {
-    let most = 0;
-    for (const count of this.counts) if (count > most) most = count;
-    return most;
+  goBack() {
+    this.count(this.frame, this.cells, -1);
+    this.move(this.frame, this.cells, -1);
+    this.frame -= 1;
+    if (this.window === 0 || this.first === 0) return;
+    this.count(this.first, this.before, 1);
+    this.move(this.first, this.before, -1);
+    this.first -= 1;
   }
 }
 
@@ -1026,14 +1053,19 @@ class MapGround extends MapPlace {
     this.drawCells(this.heatCanvas);
   }
 
+  // From frame to frame only cells whose count changed are painted, unless the greatest count, which is the scale, did.
   paintHeat() {
-    const { counts } = this.heat;
+    const { heat } = this;
     const pixels = new Uint32Array(this.heatPixels.data.buffer);
-    this.mostHeat = this.heat.most();
-    const most = Math.max(1, this.mostHeat);
-    for (let cell = 0; cell < counts.length; cell += 1) {
-      pixels[cell] = this.shades[Math.ceil(255 * Math.sqrt(counts[cell] / most))];
+    const most = Math.max(1, heat.most);
+    const shades = Uint32Array.from({ length: most + 1 }, (_, count) => this.shades[Math.ceil(255 * Math.sqrt(count / most))]);
+    if (heat.changed === null || this.mostHeat !== heat.most || this.paintedHeat === undefined) {
+      for (let cell = 0; cell < pixels.length; cell += 1) pixels[cell] = shades[heat.counts[cell]];
+    } else {
+      for (const cell of heat.changed) pixels[cell] = shades[heat.counts[cell]];
     }
+    heat.changed = [];
+    this.mostHeat = heat.most;
     this.heatCanvas.getContext('2d').putImageData(this.heatPixels, 0, 0);
   }
 
@@ -2007,7 +2039,8 @@ class Page {
   // The scale of the heat, from no robot to the most on one cell.
   showScale() {
     const { heat, mostHeat } = this.view;
-    element('heat-most').textContent = `${mostHeat} time${mostHeat === 1 ? '' : 's'} ${HEAT_TEXTS[heat.kind]}`;
+    const text = `${mostHeat} time${mostHeat === 1 ? '' : 's'} ${HEAT_TEXTS[heat.kind]}`;
+    if (element('heat-most').textContent !== text) element('heat-most').textContent = text;
     if (this.player.playing) return;
     let cells = '';
     for (let cell = 0; cell < heat.counts.length && cells.length < 2000; cell += 1) {
@@ -2024,7 +2057,8 @@ class Page {
     this.setShown('heat', true);
   }
 
-  // The texts of a frame. While the replay plays, the table and the entries are written a few times a second.
+  // The texts of a frame. While the replay plays, the table and the entries are written a few times a second, and the list
+  // of all events when it stands.
   drawTexts() {
     const { replay } = this;
     const { frame } = replay.state;
@@ -2045,7 +2079,7 @@ class Page {
       this.listed = now;
       this.table.draw(this.colours, this.view.picked);
       showEntries(element('entries'), replay);
-      this.events.draw();
+      if (!this.player.playing) this.events.draw();
       element('picked').textContent = this.view.picked === null ? '' : robotText(replay, this.view.picked);
     }
     this.publish();

@@ -63,14 +63,19 @@ class MapGround extends MapPlace {
     this.drawCells(this.heatCanvas);
   }
 
+  // From frame to frame only cells whose count changed are painted, unless the greatest count, which is the scale, did.
   paintHeat() {
-    const { counts } = this.heat;
+    const { heat } = this;
     const pixels = new Uint32Array(this.heatPixels.data.buffer);
-    this.mostHeat = this.heat.most();
-    const most = Math.max(1, this.mostHeat);
-    for (let cell = 0; cell < counts.length; cell += 1) {
-      pixels[cell] = this.shades[Math.ceil(255 * Math.sqrt(counts[cell] / most))];
+    const most = Math.max(1, heat.most);
+    const shades = Uint32Array.from({ length: most + 1 }, (_, count) => this.shades[Math.ceil(255 * Math.sqrt(count / most))]);
+    if (heat.changed === null || this.mostHeat !== heat.most || this.paintedHeat === undefined) {
+      for (let cell = 0; cell < pixels.length; cell += 1) pixels[cell] = shades[heat.counts[cell]];
+    } else {
+      for (const cell of heat.changed) pixels[cell] = shades[heat.counts[cell]];
     }
+    heat.changed = [];
+    this.mostHeat = heat.most;
     this.heatCanvas.getContext('2d').putImageData(this.heatPixels, 0, 0);
   }
 

@@ -15,20 +15,40 @@ class Heat {
     this.kind = kind;
     this.window = window;
     this.frame = -1;
+    this.startAnew();
+  }
+
+  // By count, how many cells have it; the greatest count; and the cells whose count changed, null for all.
+  startAnew() {
+    this.counts.fill(0);
+    this.tally = [this.counts.length];
+    this.most = 0;
+    this.changed = null;
+  }
+
+  change(cell, by) {
+    const before = this.counts[cell];
+    const now = before + by;
+    this.counts[cell] = now;
+    this.tally[before] -= 1;
+    this.tally[now] = (this.tally[now] ?? 0) + 1;
+    if (now > this.most) this.most = now;
+    while (this.most > 0 && this.tally[this.most] === 0) this.most -= 1;
+    if (this.changed !== null) this.changed.push(cell);
   }
 
   // Counts what was done in the tick to a frame, after which robots are on these cells; by -1 it is no longer counted.
   count(frame, cells, by) {
-    const { replay, counts } = this;
+    const { replay } = this;
     if (this.kind === 'came') {
       const end = replay.moveStart[frame + 1];
-      for (let at = replay.moveStart[frame]; at < end; at += 1) counts[cells[replay.moveRobot[at]]] += by;
+      for (let at = replay.moveStart[frame]; at < end; at += 1) this.change(cells[replay.moveRobot[at]], by);
       return;
     }
     const { stood, stoodBytes } = replay;
     for (let byte = 0; byte < stoodBytes; byte += 1) {
       let bits = stood[frame * stoodBytes + byte];
-      for (let robot = byte * 8; bits !== 0; robot += 1, bits >>= 1) if (bits & 1) counts[cells[robot]] += by;
+      for (let robot = byte * 8; bits !== 0; robot += 1, bits >>= 1) if (bits & 1) this.change(cells[robot], by);
     }
   }
 
@@ -38,39 +58,46 @@ class Heat {
     for (let at = moveStart[frame]; at < moveStart[frame + 1]; at += 1) cells[moveRobot[at]] += sign * moveDelta[at];
   }
 
-  // Counts up to the frame that the replay is at.
+  // Counts up to the frame that the replay is at: tick by tick, unless all ticks that are counted are fewer.
   follow() {
     const { frame } = this.replay.state;
-    if (this.frame === frame) return;
-    if (this.frame >= 0 && this.frame + 1 === frame) this.goOn(frame);
-    else this.countAnew(frame);
-    this.frame = frame;
+    const counted = this.window === 0 ? frame : Math.min(this.window, frame);
+    if (this.frame < 0 || Math.abs(frame - this.frame) > counted) this.countAnew(frame);
+    while (this.frame < frame) this.goOn();
+    while (this.frame > frame) this.goBack();
   }
 
   countAnew(frame) {
     const cells = this.replay.state.cells.slice();
-    const first = this.window === 0 ? 0 : Math.max(0, frame - this.window);
-    this.counts.fill(0);
-    for (let past = frame; past > first; past -= 1) {
+    this.startAnew();
+    this.frame = frame;
+    this.cells = cells.slice();
+    this.first = this.window === 0 ? 0 : Math.max(0, frame - this.window);
+    for (let past = frame; past > this.first; past -= 1) {
       this.count(past, cells, 1);
       this.move(past, cells, -1);
     }
     // the cells of the robots before the first tick that is counted
     this.before = cells;
-    this.first = first;
   }
 
-  goOn(frame) {
-    this.count(frame, this.replay.state.cells, 1);
-    if (this.window === 0 || frame - this.window <= this.first) return;
+  goOn() {
+    this.frame += 1;
+    this.move(this.frame, this.cells, 1);
+    this.count(this.frame, this.cells, 1);
+    if (this.window === 0 || this.frame - this.window <= this.first) return;
     this.first += 1;
     this.move(this.first, this.before, 1);
     this.count(this.first, this.before, -1);
   }
 
-  most() {
-    let most = 0;
-    for (const count of this.counts) if (count > most) most = count;
-    return most;
+  goBack() {
+    this.count(this.frame, this.cells, -1);
+    this.move(this.frame, this.cells, -1);
+    this.frame -= 1;
+    if (this.window === 0 || this.first === 0) return;
+    this.count(this.first, this.before, 1);
+    this.move(this.first, this.before, -1);
+    this.first -= 1;
   }
 }

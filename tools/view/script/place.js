@@ -1,6 +1,6 @@
 // ---- where the map lies on its canvas
 
-// a cell is at most so many pixels wide, but even a small map may be zoomed so far
+// the greatest width of a cell in pixels, and how far even a small map may be zoomed
 const MOST_CELL = 120;
 const LEAST_MOST_ZOOM = 4;
 

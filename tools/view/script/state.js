@@ -88,7 +88,8 @@ class Page {
   // The scale of the heat, from no robot to the most on one cell.
   showScale() {
     const { heat, mostHeat } = this.view;
-    element('heat-most').textContent = `${mostHeat} time${mostHeat === 1 ? '' : 's'} ${HEAT_TEXTS[heat.kind]}`;
+    const text = `${mostHeat} time${mostHeat === 1 ? '' : 's'} ${HEAT_TEXTS[heat.kind]}`;
+    if (element('heat-most').textContent !== text) element('heat-most').textContent = text;
     if (this.player.playing) return;
     let cells = '';
     for (let cell = 0; cell < heat.counts.length && cells.length < 2000; cell += 1) {
@@ -105,7 +106,8 @@ class Page {
     this.setShown('heat', true);
   }
 
-  // The texts of a frame. While the replay plays, the table and the entries are written a few times a second.
+  // The texts of a frame. While the replay plays, the table and the entries are written a few times a second, and the list
+  // of all events when it stands.
   drawTexts() {
     const { replay } = this;
     const { frame } = replay.state;
@@ -126,7 +128,7 @@ class Page {
       this.listed = now;
       this.table.draw(this.colours, this.view.picked);
       showEntries(element('entries'), replay);
-      this.events.draw();
+      if (!this.player.playing) this.events.draw();
       element('picked').textContent = this.view.picked === null ? '' : robotText(replay, this.view.picked);
     }
     this.publish();
