@@ -2,7 +2,7 @@
 use Rattle.std.proofs.Common.{◌≡◌, ℕ, Option, Some, None, List, Result, Ok, Err, sym, subst}
 use Rattle.std.specs.Prelude.{IfOk, IfSome}
 use Rattle.std.specs.declared.alloc.AllocError.{AllocError}
-use Rattle.errands_words.specs.declared.words.Job.{Job}
+use Rattle.errands_lib.specs.declared.job.Job.{Job}
 use Rattle.errands_text.specs.declared.said.Said.{Said}
 use Rattle.errands_text.specs.Said.{said}
 use Rattle.errands_text.specs.Kit.{KitLaws}

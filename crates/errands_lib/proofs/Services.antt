@@ -17,14 +17,14 @@ use Rattle.fleet_serve.specs.declared.served.ServeFault.{ServeFault}
 use Rattle.fleet_serve.specs.declared.served.ServeFault.TheVariants as serve_fault
 use Rattle.fleet_serve.specs.Posted.{TakesPosted, TakesAll}
 use Rattle.errands_text.specs.declared.said.Said.{Said}
-use Rattle.errands_words.specs.declared.words.Job.{Job}
-use Rattle.errands_words.specs.declared.words.Job.TheVariants as job
+use Rattle.errands_lib.specs.declared.job.Job.{Job}
+use Rattle.errands_lib.specs.declared.job.Job.TheVariants as job
 use Rattle.errands_text.specs.Kit.{KitLaws, chosen_laws}
 use Rattle.errands_text.specs.Outcome.{Outcome}
 use Rattle.errands_lib.specs.Answer.{limited}
 use Rattle.errands_lib.specs.Outcome.{MayOpen, IsServed, IsServedText, IsUnserved, IsServeOutcome, IsJobOutcome, refused, ended, served}
 use Rattle.errands_text.specs.Said.{said}
-use Rattle.errands_words.specs.Asked.{is_serve}
+use Rattle.errands_lib.specs.Asked.{is_serve}
 
 module _ (kit : KitLaws) (laws : HookLaws) (m g : Floor) (p : Plan) (same : g ≡ m) (chosen : laws ≡ chosen_laws kit p) where
   moved : (f : OpenFault) → IsRefused g p.starts p.clients p.limits laws f → IsRefused m p.starts p.clients p.limits (chosen_laws kit p) f

@@ -1,10 +1,10 @@
 -- What the program does with its words, with the files that they name, and with standard input.
 use Rattle.std.specs.Prelude.{◌≡◌, ◌⊎◌, ℕ, List, [], Option, Result, Ok, Err, IfSome, string_bytes}
-use Rattle.errands_words.specs.declared.words.Job.{Job}
+use Rattle.errands_lib.specs.declared.job.Job.{Job}
 use Rattle.command_words.specs.declared.words.WordFault.{WordFault}
 use Rattle.command_words.specs.declared.words.WordFault.TheVariants as word_fault
-use Rattle.errands_words.specs.Asked.{files_of, none, one, two}
-use Rattle.errands_words.specs.Named.{AreTaken, Names}
+use Rattle.errands_lib.specs.Asked.{files_of, none, one, two}
+use Rattle.errands_lib.specs.Named.{AreTaken, Names}
 use Rattle.errands_text.specs.declared.input.InputFault.{InputFault}
 use Rattle.errands_text.specs.declared.input.InputFault.TheVariants as input_fault
 use Rattle.errands_text.specs.Transfer.{AppendsPrefix}

@@ -1,3 +1,6 @@
+pub mod Command
+pub mod Asked
+pub mod Named
 pub mod Answer
 pub mod Inputs
 pub mod Laws

@@ -13,8 +13,8 @@ use Rattle.fleet_trace.specs.Text.{trace_text}
 use Rattle.fleet_serve.specs.declared.served.ServeFault.{ServeFault}
 use Rattle.fleet_serve.specs.declared.served.ServeFault.TheVariants as serve_fault
 use Rattle.fleet_serve.specs.Posted.{IsLine, IsFirstOther, TakesPosted, TakesAll}
-use Rattle.errands_words.specs.declared.words.Job.{Job}
-use Rattle.errands_words.specs.declared.words.Job.TheVariants as job
+use Rattle.errands_lib.specs.declared.job.Job.{Job}
+use Rattle.errands_lib.specs.declared.job.Job.TheVariants as job
 use Rattle.errands_text.specs.declared.said.Complaint.TheVariants as complaint
 use Rattle.fleet_script.specs.Script.{Plan, script_of}
 use Rattle.errands_text.specs.Kit.{KitLaws, chosen_laws}

@@ -1,8 +1,8 @@
 -- What the program leaves on its two writers.
 use Rattle.std.specs.Prelude.{◌≡◌, ℕ, ◌≤◌, Bool, true, false, List, length, Option}
 use Rattle.std.specs.Io.KnownBytes.{Appends}
-use Rattle.errands_words.specs.declared.words.Job.{Job}
-use Rattle.errands_words.specs.declared.words.Job.TheVariants as job
+use Rattle.errands_lib.specs.declared.job.Job.{Job}
+use Rattle.errands_lib.specs.declared.job.Job.TheVariants as job
 use Rattle.errands_text.specs.declared.input.InputFault.{InputFault}
 use Rattle.errands_text.specs.declared.input.InputFault.TheVariants as input_fault
 use Rattle.errands_text.specs.Complaint.{complaint_line, complaint_of, status_of}

@@ -7,7 +7,7 @@ ghost use Rattle.errands_lib.specs.Told.{IsShown, names_two};
 
 use crate::program::{fail, run_program};
 use errands_text::{HookKit, InputFault};
-use errands_words::Job;
+use crate::job::Job;
 use fleet_hooks::{ArrivalHook, Farewell, Hooks, TieHook};
 use std::alloc::{Alloc, AllocError, Global};
 use std::io::{Read, Write};

@@ -1,7 +1,7 @@
 //! The program, with any readers and writers.
 
 ghost use Rattle.std.specs.Prelude.{◌≡◌, ◌≤◌, false, true, IfOk, IfSome, is_some, vec_len};
-ghost use Rattle.errands_words.specs.Asked.{is_serve};
+ghost use Rattle.errands_lib.specs.Asked.{is_serve};
 ghost use Rattle.errands_text.specs.Transfer.{bytes_of};
 ghost use Rattle.errands_lib.specs.Told.{Failed, IsAnswer, IsTold, IsShown, names_two};
 ghost use Rattle.errands_text.specs.Kit.{kit_laws};
@@ -12,7 +12,7 @@ use crate::service::answer_job;
 use errands_text::{
     Complaint, HookKit, InputFault, Said, failure_line, read_other, read_whole, write_whole,
 };
-use errands_words::Job;
+use crate::job::Job;
 use std::alloc::{Alloc, Global};
 use std::io::{Read, Write};
 use std::sync::Wait;

@@ -14,11 +14,11 @@ ghost use Rattle.errands_text.specs.Kit.{kit_laws};
 ghost use Rattle.errands_lib.specs.Answer.{floor_of_map, limited};
 ghost use Rattle.errands_lib.specs.Outcome.{IsServed, IsServedScript, IsServeOutcome, IsJobOutcome, IsUnserved};
 ghost use Rattle.errands_text.specs.Said.{said};
-ghost use Rattle.errands_words.specs.Asked.{is_serve};
+ghost use Rattle.errands_lib.specs.Asked.{is_serve};
 
 use crate::texts::ended;
 use errands_text::{Complaint, HookKit, Said, faulty, map_complaint, trace_line};
-use errands_words::Job;
+use crate::job::Job;
 use fleet_grid::Grid;
 use fleet_history::Chapter;
 use fleet_map::{MapText, read_map};

@@ -13,34 +13,20 @@ ghost use Rattle.fleet_script.specs.Shown.{plan};
 ghost use Rattle.errands_text.specs.declared.said.Complaint.{Complaint};
 
 use errands_text::{
-    Complaint, HookKit, Said, faulty, line_of, map_complaint, map_report, report, trace_line,
+    Complaint, HookKit, Said, faulty, is_limit_met, line_of, map_complaint, map_report, report,
+    trace_line,
 };
 use fleet_grid::Grid;
 use fleet_map::{MapText, read_map};
 use fleet_script::{Script, ScriptFault, read_script, split_bundle};
-use fleet_world::{
-    Event, OpenFault, Played, Reply, RunFault, ShutFault, TakeFault, TickFault, run,
-};
+use fleet_world::{Event, OpenFault, Played, Reply, RunFault, run};
 use std::alloc::{Alloc, AllocError, Global};
-
-/// Whether a limit was met.
-fn is_limit(reply: Reply) -> bool
-    ensures { result ≡ is_limit_met reply }
-{
-    matches!(
-        reply,
-        Reply::TakeRefused(TakeFault::ChapterFull)
-            | Reply::TickRefused(TickFault::ClockSpent)
-            | Reply::TickRefused(TickFault::ChapterFull)
-            | Reply::ShutRefused(ShutFault::ChapterFull)
-    )
-}
 
 /// Whether a limit was met at any event.
 fn meets_limit(replies: &[Reply]) -> bool
     ensures { result ≡ list_any is_limit_met replies.now }
 {
-    replies.iter().any(|reply| is_limit(*reply))
+    replies.iter().any(|reply| is_limit_met(*reply))
 }
 
 /// The complaint about a world that was not opened for this reason; an error for out of memory.

@@ -10,7 +10,7 @@ use crate::hooks::run_with_kit;
 use crate::inputs::{Inputs, open_both};
 use crate::program::fail;
 use errands_text::{InputFault, write_whole};
-use errands_words::{Job, JobFiles, WordFault, parse_words};
+use crate::job::{Job, JobFiles, parse_words};
 use std::alloc::{Alloc, Global};
 use std::io::{Read, Write};
 use std::sync::Wait;

@@ -16,6 +16,6 @@ pub use input::{InputFault, read_other, read_whole};
 pub use kit::HookKit;
 pub use maps::map_report;
 pub use output::write_whole;
-pub use runs::{report, write_event};
+pub use runs::{is_limit_met, report, write_event};
 pub use said::{Complaint, Said, failure_line, faulty, line_of, map_complaint};
 pub use trace::trace_line;

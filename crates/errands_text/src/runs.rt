@@ -2,7 +2,7 @@
 
 ghost use Rattle.std.specs.Prelude.{◌≡◌, ◌++◌, ◌∷◌, [], OnOk, IfOk, string_bytes, drop, codes, decimal, option_copied, Option, Some, None, slice_get, length, ◌≤◌};
 ghost use Rattle.fleet_history.specs.declared.history.Entry.{Entry};
-ghost use Rattle.errands_text.specs.Output.{parting_text, event_text, run_text, entries_made};
+ghost use Rattle.errands_text.specs.Output.{parting_text, event_text, run_text, entries_made, is_limit_met};
 
 use crate::texts::{
     FarewellLine, NoticeText, ShutFaultText, TakeFaultText, TickFaultText, VerdictText,
@@ -10,9 +10,22 @@ use crate::texts::{
 use crate::ticks::write_tick;
 use fleet_book::Order;
 use fleet_history::Entry;
-use fleet_world::{Event, Reply};
+use fleet_world::{Event, Reply, ShutFault, TakeFault, TickFault};
 use std::alloc::{AllocError, Allocator};
 use std::fmt::Write;
+
+/// Whether a reply says that a limit of the chapter or of the clock was met.
+pub fn is_limit_met(reply: Reply) -> bool
+    ensures value { result ≡ is_limit_met reply }
+{
+    matches!(
+        reply,
+        Reply::TakeRefused(TakeFault::ChapterFull)
+            | Reply::TickRefused(TickFault::ClockSpent)
+            | Reply::TickRefused(TickFault::ChapterFull)
+            | Reply::ShutRefused(ShutFault::ChapterFull)
+    )
+}
 
 /// The farewell that a shut robot takes at once, if it does.
 fn write_parting<A: Allocator + Copy>(

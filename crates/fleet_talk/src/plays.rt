@@ -3,7 +3,7 @@
 ghost use Rattle.std.specs.Prelude.{◌≡◌, ◌≤◌, [], ◌∷◌, ℕ, List, length, replicate, OnOk, OnErr, IfOk, IfErr};
 ghost use Rattle.fleet_grid.specs.Floor.{Floor};
 ghost use Rattle.fleet_history.specs.History.{history_of};
-ghost use Rattle.errands_text.specs.Output.{event_text, is_limit_met};
+ghost use Rattle.errands_text.specs.Output.{event_text};
 ghost use Rattle.fleet_world.specs.Keeps.{talk};
 ghost use Rattle.fleet_talk.specs.Act.{play};
 ghost use Rattle.fleet_talk.specs.Acts.{Does, HandsOut, Plays, Talks, Turns, last_entry, wants_room};
@@ -17,7 +17,7 @@ use crate::ends::{Ends, Shelf};
 use crate::fault::TalkFault;
 use crate::pen::Pen;
 use crate::writing::write_if_full;
-use errands_text::write_event;
+use errands_text::{is_limit_met, write_event};
 use fleet_book::Event;
 use fleet_core::{ChapterFault, ShutFault, TakeFault, TickFault};
 use fleet_history::Chapter;
@@ -25,19 +25,6 @@ use fleet_script::Repeat;
 use fleet_world::{Reply, Session};
 use std::alloc::{Alloc, AllocError, Global};
 use std::io::Write;
-
-/// Whether a limit was met.
-fn is_limit(reply: Reply) -> bool
-    ensures { result ≡ is_limit_met reply }
-{
-    matches!(
-        reply,
-        Reply::TakeRefused(TakeFault::ChapterFull)
-            | Reply::TickRefused(TickFault::ClockSpent)
-            | Reply::TickRefused(TickFault::ChapterFull)
-            | Reply::ShutRefused(ShutFault::ChapterFull)
-    )
-}
 
 /// Whether an event was refused because the chapter has no room for its entry, and may have the chapter handed out.
 fn wants_room(roll: bool, reply: Reply) -> bool
@@ -129,7 +116,7 @@ fn tell(
     ensures ok { OnOk result (IsAdded pen.old pen.new (marked (under mark.entry) (event_text event reply (last_entry (talk session.now))))) }
     ensures err { OnErr result (IsKept pen.old pen.new) }
 {
-    pen.limited |= is_limit(reply);
+    pen.limited |= is_limit_met(reply);
     let mut text = String::new(alloc);
     let entry = session.world.chapter().entries.last();
     write_event(&mut text, event, reply, entry)?;

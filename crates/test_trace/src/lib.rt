@@ -15,4 +15,6 @@ mod plan_texts;
 #[cfg(test)]
 mod planted;
 #[cfg(test)]
+mod reopened;
+#[cfg(test)]
 mod texts;

@@ -2,11 +2,11 @@
 
 ghost use Rattle.std.specs.Prelude.{◌≡◌, [], IfOk, IfErr, Some, true, map, codes, string_bytes};
 ghost use Rattle.clap.specs.Words.{fault_of, first_of, found_of, rows_of, subcommand_of, subcommand_rows_of, takes};
-ghost use Rattle.errands_words.specs.Command.{errands_app};
-ghost use Rattle.errands_words.specs.Asked.{asked, job_of, is_serve, files_of, files_named};
+ghost use Rattle.errands_lib.specs.Command.{errands_app};
+ghost use Rattle.errands_lib.specs.Asked.{asked, job_of, is_serve, files_of, files_named};
 ghost use Rattle.command_words.specs.declared.words.WordFault.TheVariants.{NoMemory};
 
-use crate::program::program;
+use crate::command::command;
 use clap::ArgMatches;
 use command_words::{WordFault, has_flag, matches_for, word_for};
 use std::alloc::{AllocError, Global};
@@ -122,7 +122,7 @@ pub fn parse_words(alloc: Global, words: &[String]) -> Result<Job, WordFault>
     // Words that `clap` takes are refused where memory ran out alone.
     ensures refused { IfErr result (λ f. takes errands_app (map (λ w. string_bytes w) words.now) ≡ true → f ≡ NoMemory) }
 {
-    match matches_for(alloc, &program(), words) {
+    match matches_for(alloc, &command(), words) {
         Ok(matches) => Ok(job_from(alloc, &matches)?),
         Err(fault) => Err(fault),
     }

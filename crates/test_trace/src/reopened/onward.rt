@@ -2,7 +2,7 @@
 
 ghost use Rattle.std.specs.Prelude.{◌≤◌};
 
-use crate::ground::{hall, limits};
+use super::ground::{hall, limits};
 use fleet_book::Order;
 use fleet_core::World;
 use fleet_hooks::{ArrivalHook, Farewell, Hooks, TieHook};

@@ -1,8 +1,8 @@
-//! The program `errands` and its words.
+//! The command line of `errands`: its words with their arguments.
 
 ghost use Rattle.std.specs.Prelude.{◌≡◌};
 ghost use Rattle.command_words.specs.Table.{program_app};
-ghost use Rattle.errands_words.specs.Command.{errands_app};
+ghost use Rattle.errands_lib.specs.Command.{errands_app};
 
 use command_words::{Argument, Kind, Program, Word};
 
@@ -88,7 +88,7 @@ const ERRANDS: Program<'static> = Program {
 };
 
 /// The program with its words. Only this function names the constant, since a proof has it at each step of the function.
-pub(crate) fn program() -> Program<'static>
+pub(crate) fn command() -> Program<'static>
     ensures { program_app result ≡ errands_app }
 {
     ERRANDS

@@ -1,9 +1,9 @@
 -- Which words name which job. The first word is the program's own name.
 use Rattle.std.specs.Prelude.{◌≡◌, List, [], Some, true}
 use Rattle.clap.specs.Words.{Text, fault_of, subcommand_of, takes}
-use Rattle.errands_words.specs.declared.words.Job.{Job}
-use Rattle.errands_words.specs.Asked.{asked, job_of}
-use Rattle.errands_words.specs.Command.{errands_app}
+use Rattle.errands_lib.specs.declared.job.Job.{Job}
+use Rattle.errands_lib.specs.Asked.{asked, job_of}
+use Rattle.errands_lib.specs.Command.{errands_app}
 
 -- `clap` takes the words
 abbrev pub AreTaken : List Text → Type 0

@@ -3,8 +3,8 @@ use Rattle.std.proofs.Common.{◌≡◌, ◌∙◌, sym, refl, Bool, false, List
 use Rattle.std.specs.Str.{bytes_eq}
 use Rattle.clap.specs.Words.{Row, Text, first_of, found_of, rows_of}
 use Rattle.command_words.specs.Values.{has_flag}
-use Rattle.errands_words.specs.Asked.{job_of, run}
-use Rattle.errands_words.proofs.words.job_from.Goals as goal
+use Rattle.errands_lib.specs.Asked.{job_of, run}
+use Rattle.errands_lib.proofs.job.job_from.Goals as goal
 
 -- the subcommand by its name and by its rows
 abbrev pair : {B : Type 0} → (B → Text) → (B → List Row) → B → Text × List Row

@@ -1,6 +1,6 @@
 //! What a world does not go on from, one reason each.
 
-use crate::ground::{limits, reopened};
+use super::ground::{limits, reopened};
 use fleet_book::Limits;
 use fleet_reopen::ReopenFault;
 use std::alloc::Global;

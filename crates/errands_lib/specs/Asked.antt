@@ -4,10 +4,10 @@ use Rattle.std.specs.Option.{option_and_then, option_map}
 use Rattle.std.specs.Str.{bytes_eq}
 use Rattle.clap.specs.Words.{Text, Row, first_of}
 use Rattle.command_words.specs.Values.{has_flag}
-use Rattle.errands_words.specs.declared.words.Job.{Job}
-use Rattle.errands_words.specs.declared.words.Job.TheVariants.{Bundle, Map, Run, Judge, Serve}
-use Rattle.errands_words.specs.declared.words.JobFiles.{JobFiles}
-use Rattle.errands_words.specs.declared.words.JobFiles.TheVariants as job_files
+use Rattle.errands_lib.specs.declared.job.Job.{Job}
+use Rattle.errands_lib.specs.declared.job.Job.TheVariants.{Bundle, Map, Run, Judge, Serve}
+use Rattle.errands_lib.specs.declared.job.JobFiles.{JobFiles}
+use Rattle.errands_lib.specs.declared.job.JobFiles.TheVariants as job_files
 
 -- a job without where its words lie in memory
 pub data Asked : Type 0 where

@@ -1,3 +1,0 @@
-pub mod Command
-pub mod Asked
-pub mod Named
