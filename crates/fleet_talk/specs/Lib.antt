@@ -5,6 +5,7 @@ pub mod Act
 pub mod Heard
 pub mod Broken
 pub mod Heading
+pub mod HeadFile
 pub mod Look
 pub mod Acts
 pub mod Chapters

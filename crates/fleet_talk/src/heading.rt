@@ -2,9 +2,10 @@
 
 ghost use Rattle.std.specs.Prelude.{◌≡◌, ◌≤◌, ◌^◌, ◌<◌, true, false, List, [], length, None, OnOk, OnErr, IfOk, IfErr, IfSome, is_some};
 ghost use Rattle.std.specs.Io.Buffered.{reader_remaining};
-ghost use Rattle.fleet_map.specs.Text.{words_of};
+ghost use Rattle.fleet_map.specs.Text.{lines_of, words_of};
 ghost use Rattle.fleet_script.specs.Shown.{IsTaken};
 ghost use Rattle.fleet_talk.specs.Heard.{all_of, header_texts, opens, with_head_line, with_words};
+ghost use Rattle.fleet_talk.specs.HeadFile.{IsHeadFault, SaysHead, with_file_line};
 ghost use Rattle.fleet_talk.specs.Heading.{Follows, HearsAll, HearsUntil, IsOfHead, IsPartly, drafted, is_good, texts_at};
 ghost use Rattle.fleet_talk.specs.Lines.{line_shown};
 ghost use Rattle.fleet_talk.specs.Said.{IsAdded, IsKept};
@@ -126,22 +127,32 @@ pub(crate) fn hear_head<I: Read, W: Write, S>(
     Err(TalkFault::Input)
 }
 
+/// Adds a line of a file, and returns whether it is allowed in a head.
+fn add_file_line(alloc: Global, head: &mut Head, line: &[u8]) -> Result<bool, AllocError>
+    ensures { IfOk result (λ taken. IsTaken taken (with_file_line (drafted head.old) line.now) (drafted head.old) (drafted head.new)) }
+{
+    if line.len() > MOST_LINE {
+        return Ok(false);
+    }
+    match asked_in(line) {
+        Asked::Nothing => Ok(true),
+        Asked::Other => add_line(alloc, head, line),
+        _ => Ok(false),
+    }
+}
+
 /// The head that a file gives: header lines, blank lines and comments. The fault is the first line, counted from 1,
 /// that is none of these or repeats a keyword.
 pub fn read_head(alloc: Global, bytes: &[u8]) -> Result<Head, ScriptFault>
     requires { length bytes.now ≤ 16777216 }
+    ensures head { IfOk result (λ head. SaysHead (lines_of bytes.now) (drafted head)) }
+    ensures fault { IfErr result (IsHeadFault (lines_of bytes.now)) }
 {
     let mut head = Head::new();
     let mut number = 1;
     let mut rest = bytes;
     while let Some((line, after)) = first_line(rest) {
-        let is_good = line.len() <= MOST_LINE
-            && match asked_in(line) {
-                Asked::Nothing => true,
-                Asked::Other => add_line(alloc, &mut head, line)?,
-                _ => false,
-            };
-        if !is_good {
+        if !add_file_line(alloc, &mut head, line)? {
             return Err(ScriptFault::Line(number));
         }
         number += 1;
