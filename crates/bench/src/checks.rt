@@ -7,11 +7,11 @@ ghost use Rattle.bench.specs.Fleet.{AreWithin, Serves};
 use crate::fleet::Fleet;
 use crate::measure::{Measure, print_measure};
 use crate::site::Site;
-use crate::steps::{FIELDS, FLEETS, MOST};
+use crate::steps::{FLEETS, MOST};
 use fleet_check::StepChecker;
 use fleet_field::Compass;
 use fleet_grid::Grid;
-use fleet_hooks::{TieHook, TieLaw, TieView};
+use fleet_hooks::TieHook;
 use fleet_pibt::Stepper;
 use std::alloc::{Alloc, Global};
 use std::io;
@@ -22,23 +22,7 @@ use test_kit::Random;
 const REPEATS: u32 = 200;
 
 /// The check of a step for each number of robots: the time for each robot.
-pub(crate) fn measure_check<R: Alloc<A = Global> + Clock + Print>(
-    rt: &R,
-    map: &str,
-    site: &Site,
-) -> io::Result<()> {
-    let alloc = rt.alloc();
-    let mut ties = Vec::with_capacity(alloc, MOST)?;
-    for _ in 0..MOST {
-        ties.push(TieHook::new(TieLaw::ANY, Box::new(alloc, |_view: TieView| 0)?))?;
-    }
-    let mut random = Random::from_seed(11);
-    let fields = site.fields(alloc, FIELDS, &mut random)?;
-    check_each(rt, map, site, &fields, &ties, &mut random)
-}
-
-/// The check of a step for each number of robots: the time for each robot.
-fn check_each<R: Alloc<A = Global> + Clock + Print>(
+pub(crate) fn check_each<R: Alloc<A = Global> + Clock + Print>(
     rt: &R,
     map: &str,
     site: &Site,

@@ -1,14 +1,13 @@
 //! The kernels that are measured on one map after another.
 
 use crate::bridges::measure_bridge;
-use crate::checks::measure_check;
 use crate::fields::{measure_field, measure_fields};
 use crate::kernel::Kernel;
 use crate::kind::{Kind, grid_of};
 use crate::lifelong::measure_lifelong;
 use crate::opens::measure_open;
 use crate::site::Site;
-use crate::steps::measure_step;
+use crate::steps::measure_steps;
 use crate::ticks::measure_tick;
 use crate::traces::measure_trace;
 use std::alloc::{Alloc, Global};
@@ -52,8 +51,7 @@ fn measure_on<R: Alloc<A = Global> + Clock + Files + Print + Threads + Sync>(
         Kernel::Field => measure_field(rt, kind.name(), site),
         Kernel::Fields => measure_fields(rt, kind.name(), site),
         Kernel::Bridge => measure_bridge(rt, kind.name(), &site.grid),
-        Kernel::Check => measure_check(rt, kind.name(), site),
-        Kernel::Step => measure_step(rt, kind.name(), site),
+        Kernel::Check | Kernel::Step => measure_steps(rt, kernel, kind.name(), site),
         Kernel::Tick => measure_tick(rt, kind, site),
         Kernel::Lifelong => measure_lifelong(rt, kind, site),
         Kernel::Open => measure_open(rt, kind, site),

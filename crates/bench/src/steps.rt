@@ -4,7 +4,9 @@ ghost use Rattle.std.specs.Prelude.{◌≡◌, ℕ, ◌<◌, ◌≤◌, length, 
 ghost use Rattle.fleet_grid.specs.Step.{IsPlacement};
 ghost use Rattle.bench.specs.Fleet.{AreWithin, Serves, IsUnderWay};
 
+use crate::checks::check_each;
 use crate::fleet::Fleet;
+use crate::kernel::Kernel;
 use crate::measure::{Measure, print_measure};
 use crate::site::Site;
 use fleet_field::Compass;
@@ -22,16 +24,17 @@ pub const FLEETS: [usize; 3] = [16, 128, 512];
 pub const MOST: usize = 512;
 
 /// The number of fields from which robots take theirs.
-pub const FIELDS: usize = 64;
+const FIELDS: usize = 64;
 
 /// How many ticks are timed together, and how many times.
 const TICKS: u32 = 20;
 
 const REPEATS: u32 = 100;
 
-/// A step for each number of robots: the time for each robot.
-pub(crate) fn measure_step<R: Alloc<A = Global> + Clock + Print>(
+/// A step for each number of robots, or the check of one: the time for each robot.
+pub(crate) fn measure_steps<R: Alloc<A = Global> + Clock + Print>(
     rt: &R,
+    kernel: Kernel,
     map: &str,
     site: &Site,
 ) -> io::Result<()> {
@@ -42,6 +45,9 @@ pub(crate) fn measure_step<R: Alloc<A = Global> + Clock + Print>(
     }
     let mut random = Random::from_seed(11);
     let fields = site.fields(alloc, FIELDS, &mut random)?;
+    if kernel == Kernel::Check {
+        return check_each(rt, map, site, &fields, &ties, &mut random);
+    }
     measure_each(rt, map, site, &fields, &ties, &mut random)
 }
 

@@ -12,7 +12,7 @@ mod texts;
 mod ticks;
 mod trace;
 
-pub use input::{InputFault, read_other, read_whole};
+pub use input::{InputFault, read_other, read_up_to, read_whole};
 pub use kit::HookKit;
 pub use maps::map_report;
 pub use output::write_whole;

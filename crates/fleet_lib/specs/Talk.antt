@@ -23,7 +23,7 @@ use Rattle.fleet_talk.specs.HeadFile.{IsHeadFault, SaysHead}
 use Rattle.fleet_talk.specs.declared.ends.Settings.{Settings}
 use Rattle.fleet_talk.specs.declared.fault.TalkFault.{TalkFault}
 use Rattle.fleet_talk.specs.declared.fault.TalkFault.TheVariants as fault
-use Rattle.fleet_lib.specs.declared.input.InputFault.TheVariants as input_fault
+use Rattle.errands_text.specs.declared.input.InputFault.TheVariants as input_fault
 use Rattle.fleet_lib.specs.Said.{Failed}
 
 -- ---- complaints

@@ -4,7 +4,6 @@
 mod check;
 mod convert;
 mod explain;
-mod input;
 mod live;
 mod said;
 mod talk;
@@ -12,7 +11,7 @@ mod view;
 
 pub use check::{MOST_PLAN_BYTES, answer_check};
 pub use convert::answer_convert;
-pub use errands_text::{trace_line, write_whole};
+pub use errands_text::{InputFault, read_up_to, trace_line, write_whole};
 pub use explain::{
     MOST_SCRIPT_BYTES, answer_explain_map, answer_explain_script, answer_explain_trace,
 };
@@ -22,7 +21,6 @@ pub use fleet_talk::{Ends, Settings, Shelf, ShelfFault};
 pub use fleet_words::{
     Check, Convert, Explain, Form, Job, Live, Shown, Talk, View, WordFault, parse_words,
 };
-pub use input::{InputFault, read_up_to};
 pub use live::run_live;
 pub use said::{Said, fail, tell};
 pub use talk::{TalkTexts, run_talk};

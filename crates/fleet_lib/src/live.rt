@@ -3,10 +3,9 @@
 ghost use Rattle.std.specs.Prelude.{◌≡◌, ◌≤◌, ◌<◌, ◌⊎◌, ◌==◌, ℕ, Some, if◌then◌else◌, IfOk, IfSome, IfNone, length, map};
 ghost use Rattle.fleet_map.specs.Text.{number_of};
 
-use crate::input::InputFault;
 use crate::said::fail;
 use crate::talk::{TalkTexts, complain, complaint_of, grounds};
-use errands_text::{Complaint, HookKit, write_whole};
+use errands_text::{Complaint, HookKit, InputFault, write_whole};
 use fleet_grid::Grid;
 use fleet_hooks::{ArrivalHook, Farewell, Hooks, TieHook};
 use fleet_live::{LiveEnds, LiveSettings, keep_live, read_period};

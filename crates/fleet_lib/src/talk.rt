@@ -12,9 +12,8 @@ ghost use Rattle.fleet_talk.specs.Conversation.{IsBegun, IsConversation, IsRefus
 ghost use Rattle.fleet_talk.specs.Heading.{drafted};
 ghost use Rattle.fleet_lib.specs.Talk.{Complains, IsGround, IsGroundFault, IsTalkLeft, complaint_of, terms_of};
 
-use crate::input::InputFault;
 use crate::said::fail;
-use errands_text::{Complaint, HookKit, write_whole};
+use errands_text::{Complaint, HookKit, InputFault, write_whole};
 use fleet_grid::Grid;
 use fleet_hooks::{ArrivalHook, Farewell, Hooks, TieHook};
 use fleet_map::{MapFault, read_map};
