@@ -14,3 +14,4 @@ pub mod FaultCases
 pub mod Fronts
 pub mod OpeningRefusals
 pub mod ResumingFacts
+pub mod OpenFacts

@@ -7,4 +7,5 @@ pub mod OpeningFaults
 pub mod Core
 pub mod Resuming
 pub mod Calls
+pub mod OpenErrands
 pub mod inside

@@ -16,6 +16,8 @@ mod leftovers;
 mod look;
 mod names;
 mod office;
+mod open_errands;
+mod queues;
 mod report;
 mod settle;
 mod taking;

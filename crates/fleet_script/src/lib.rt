@@ -14,4 +14,5 @@ pub use head::GivenLimits;
 pub use header::Head;
 pub use law::reading_is_by_grammar;
 pub use lines::{EventLine, Repeat, event_line};
+pub use numbers::one_small_number;
 pub use script::{Script, ScriptFault, read_script};

@@ -58,7 +58,7 @@ pub(crate) fn small_number(word: &[u8]) -> Option<u32>
 }
 
 /// The number of 32 bits that the text says, if the text is exactly one word.
-pub(crate) fn one_small_number(words: &[u8]) -> Option<u32>
+pub fn one_small_number(words: &[u8]) -> Option<u32>
     ensures { result ≡ one_in most32 (words_of words.now) }
 {
     let number = one_number(words, u64::from(u32::MAX))?;

@@ -1,0 +1,33 @@
+//! How long an office's queues are.
+
+ghost use Rattle.std.specs.Prelude.{◌≤◌};
+ghost use Rattle.fleet_core.specs.Core.{World};
+ghost use Rattle.fleet_office.specs.Shown.{ShowsQueues};
+
+use crate::hall_state::HallState;
+use crate::names::OfficeName;
+use crate::office::Office;
+use fleet_core::QueueReport;
+use std::alloc::Allocator;
+use std::sync::Wait;
+
+impl<N: OfficeName<A>, A: Allocator + Copy> HallState<N, A> {
+    /// How long its robots' queues are.
+    pub fn queues(&self) -> QueueReport
+        ensures { ShowsQueues self.now.world result }
+    {
+        self.recall_laws();
+        self.core.queues()
+    }
+}
+
+impl<N: OfficeName<A>, A: Allocator + Copy> Office<N, A> {
+    /// Returns how long the robots' queues are, as it is when the lock is held.
+    pub fn queues<R: Wait>(&self, rt: &R) -> QueueReport
+        requires { 0 ≤ 1 }
+        ensures { (w : World A) × ShowsQueues w result }
+    {
+        let hall = self.hall.lock(rt);
+        hall.state.queues()
+    }
+}
