@@ -16,6 +16,10 @@ loop-line-preserved c =
     let taken = subst (λ (t : Bool). IsTaken t (with_file_line (drafted c.loop-line.head) line) (drafted c.loop-line.head) (drafted c.add_file_line.new.head)) c.if-not-branch.false c.in_ok-add_file_line.ensures in
     record {
       few = omega (arith, c.loop-line.invariant.few, c.in-Some.ensures.shorter);
-      said = (before ++ line ∷ [], at ∙ ap (λ (ls : List (List ℕ)). before ++ ls) c.in-Some.ensures.cut ∙ sym (append_assoc before (line ∷ []) (lines_of c.in-Some.after.now)),
-          omega (arith, counted, length-append before (line ∷ [])), next line says taken refl);
+      said = (
+        before ++ line ∷ [],
+        at ∙ ap (λ (ls : List (List ℕ)). before ++ ls) c.in-Some.ensures.cut ∙ sym (append_assoc before (line ∷ []) (lines_of c.in-Some.after.now)),
+        omega (arith, counted, length-append before (line ∷ [])),
+        next line says taken refl,
+      );
     }
