@@ -1,4 +1,4 @@
-"""What the class Fleet in this process does where a call does not go as it should. `tests/both` has what both classes do."""
+"""What a fleet in this process does where a call does not go as it should. `tests/both` has what both classes do."""
 
 import gc
 import pathlib

@@ -1,6 +1,7 @@
-"""Words, numbers and exceptions: what needs neither program nor library. Structs and numbers are compared with nashirudder.h."""
+"""Words, numbers and exceptions: what needs neither program nor library. Structs are compared with nashirudder.h."""
 
 import array
+import contextlib
 import ctypes
 import os
 import pathlib
@@ -19,12 +20,12 @@ HEADER = (TOP / "bindings" / "c" / "nashirudder.h").read_text()
 BARE = re.sub(r"/\*.*?\*/", " ", HEADER, flags=re.S)
 
 KINDS = {
-    "uint8_t": ctypes.c_uint8, "uint32_t": ctypes.c_uint32, "uint64_t": ctypes.c_uint64, "size_t": ctypes.c_size_t, "bool": ctypes.c_bool,
-    "void *": ctypes.c_void_p,
+    "uint8_t": ctypes.c_uint8, "uint32_t": ctypes.c_uint32, "uint64_t": ctypes.c_uint64, "size_t": ctypes.c_size_t,
+    "bool": ctypes.c_bool, "void *": ctypes.c_void_p,
 }
 STRUCTS = {
-    "fleet": calls.CFleet, "setup": calls.CSetup, "robot": calls.CRobot, "fault": calls.CFault, "judgement": calls.CJudgement,
-    "report": calls.CReport, "note": calls.CNote, "edge": calls.CEdge,
+    "fleet": calls.CFleet, "setup": calls.CSetup, "robot": calls.CRobot, "fault": calls.CFault,
+    "judgement": calls.CJudgement, "report": calls.CReport, "note": calls.CNote, "edge": calls.CEdge,
 }
 
 
@@ -66,7 +67,8 @@ class HeaderTest(unittest.TestCase):
 
     def test_every_refusal_has_a_sentence(self):
         answers = {"done", "no-memory", "already-open", "no-notice", "idle", "has-bridge", "no-bridge"}
-        words = {code.word for code in names.Code} - answers | {verdict.word for verdict in names.Verdict} - {"accepted", "closed"}
+        words = {code.word for code in names.Code} - answers
+        words |= {verdict.word for verdict in names.Verdict} - {"accepted", "closed"}
         self.assertEqual(words | {"lane-full", "numbers-spent"}, set(names.SENTENCES))
 
     def test_version(self):
@@ -79,9 +81,10 @@ class ExceptionsTest(unittest.TestCase):
         kinds = [kind for kind in vars(errors).values() if isinstance(kind, type) and issubclass(kind, BaseException)]
         self.assertEqual(len(kinds), 10)
         self.assertTrue(all(issubclass(kind, FleetError) for kind in kinds))
-        for kind, known in (("OutOfRange", ValueError), ("Late", TimeoutError), ("FileFailed", OSError), ("NoMemory", MemoryError),
-                            ("Missing", FileNotFoundError), ("OrderRefused", Refused)):
-            self.assertTrue(issubclass(getattr(errors, kind), known), kind)
+        known = {"OutOfRange": ValueError, "Late": TimeoutError, "FileFailed": OSError, "NoMemory": MemoryError,
+                 "Missing": FileNotFoundError, "OrderRefused": Refused}
+        for name, kind in known.items():
+            self.assertTrue(issubclass(getattr(errors, name), kind), name)
 
     def test_texts(self):
         self.assertEqual(str(errors.refusal("start", (1, 0))), "start-blocked (1, 0): a robot does not start on floor")
@@ -89,18 +92,20 @@ class ExceptionsTest(unittest.TestCase):
         self.assertEqual(str(Refused("something-new")), "something-new")
 
     def test_pickled(self):
-        for error in (OrderRefused("blocked", 8), Refused("start-shared", 33, (0, 2)), errors.Ended(3, "fleet: file"), FileFailed("no")):
+        refusals = OrderRefused("blocked", 8), Refused("start-shared", 33, (0, 2))
+        for error in (*refusals, errors.Ended(3, "fleet: file"), FileFailed("no")):
             again = pickle.loads(pickle.dumps(error))
             self.assertEqual((type(again), str(again), vars(again)), (type(error), str(error), vars(error)))
 
 
 class NumbersTest(unittest.TestCase):
     def test_cells_for_c(self):
-        for items in ([3, 0, 7], (3, 0, 7), array.array("I", [3, 0, 7]), array.array("q", [3, 0, 7]), memoryview(array.array("I", [3, 9, 0, 9, 7]))[::2]):
+        arrays_of_them = array.array("I", [3, 0, 7]), array.array("q", [3, 0, 7])
+        for items in ([3, 0, 7], (3, 0, 7), *arrays_of_them, memoryview(array.array("I", [3, 9, 0, 9, 7]))[::2]):
             self.assertEqual(list(arrays.c_cells("a cell", items)), [3, 0, 7])
         self.assertEqual(len(arrays.c_cells("a cell", [])), 1)
-        for items in ([-1], [2**32], [1.0], array.array("d", [1.0]), array.array("q", [-1]), array.array("Q", [2**32 + 3]),
-                      memoryview(bytes(4)).cast("B", (2, 2))):
+        wrong = array.array("d", [1.0]), array.array("q", [-1]), array.array("Q", [2**32 + 3])
+        for items in ([-1], [2**32], [1.0], *wrong, memoryview(bytes(4)).cast("B", (2, 2))):
             with self.subTest(items=items), self.assertRaises(OutOfRange):
                 arrays.c_cells("a cell", items)
 
@@ -109,7 +114,8 @@ class NumbersTest(unittest.TestCase):
             self.assertEqual(arrays.as_cells((ctypes.c_uint32 * 2)(2**32 - 1, 0)), [2**32 - 1, 0])
 
     def test_limits(self):
-        self.assertEqual(ranges.checked_limits({"queue": 2**32 - 1, "clock": 2**64 - 1}), {"queue": 2**32 - 1, "clock": 2**64 - 1})
+        limits = {"queue": 2**32 - 1, "clock": 2**64 - 1}
+        self.assertEqual(ranges.checked_limits(limits), limits)
         for limits in ({"queue": 2**32}, {"clock": 2**64}, {"life": -1}, {"chapter": None}):
             with self.assertRaises(OutOfRange):
                 ranges.checked_limits(limits)
@@ -131,7 +137,7 @@ class FilesTest(unittest.TestCase):
             for robots in ([], range(513)):
                 with self.assertRaises(Refused) as caught:
                     kind(self.path / "ring.map", robots)
-                self.assertEqual((caught.exception.name, caught.exception.code), ("robot-count", names.Code.ROBOT_COUNT))
+                self.assertEqual(caught.exception.code, names.Code.ROBOT_COUNT)
         with self.assertRaises(OutOfRange):
             library.Fleet(self.path / "ring.map", [0], ties="south")
 
@@ -147,11 +153,19 @@ class FilesTest(unittest.TestCase):
             path.touch()
         return str(paths[0])
 
+    @contextlib.contextmanager
+    def places(self, named, prefix, path):
+        """The places that are looked at; the package is part of no clone."""
+        with mock.patch.dict(os.environ, {finding.VARIABLE: named, "PATH": path}), \
+                mock.patch.object(finding.sys, "prefix", prefix), mock.patch.object(finding, "__file__", "/a/b/c/d.py"):
+            yield
+
     def test_arguments_come_first(self):
-        program, shared = self.place("made/bin/fleet"), self.place("made/lib/libnashirudder.so.0", "made/lib/libnashirudder.so")
+        made, program = self.path / "made", self.place("made/bin/fleet")
+        shared = self.place("made/lib/libnashirudder.so.0", "made/lib/libnashirudder.so")
         with mock.patch.dict(os.environ, {finding.VARIABLE: "/none"}):
             self.assertEqual((finding.program(program), finding.library(shared)), (program, shared))
-            self.assertEqual((finding.program(self.path / "made"), finding.library(self.path / "made")), (program, shared))
+            self.assertEqual((finding.program(made), finding.library(made)), (program, shared))
             for built in (self.path, self.path / "none"):
                 for find in (finding.program, finding.library):
                     with self.assertRaises(Missing):
@@ -166,15 +180,13 @@ class FilesTest(unittest.TestCase):
             libraries = {way: self.place(f"{count}/{way}/lib/libnashirudder.so.0") for way in left}
             for path in programs.values():
                 os.chmod(path, 0o755)
-            told = {finding.VARIABLE: str(self.path / str(count) / finding.VARIABLE), "PATH": str(self.path / str(count) / "PATH" / "bin")}
-            with mock.patch.dict(os.environ, told), mock.patch.object(finding.sys, "prefix", str(self.path / str(count) / "prefix")), \
-                    mock.patch.object(finding, "__file__", "/a/b/c/d.py"):
+            folder = self.path / str(count)
+            with self.places(str(folder / finding.VARIABLE), str(folder / "prefix"), str(folder / "PATH" / "bin")):
                 self.assertEqual(finding.program(), programs[left[0]])
                 self.assertEqual(finding.library(), libraries[left[0]] if left[0] != "PATH" else finding.SONAME)
 
     def test_what_is_missing(self):
-        with mock.patch.dict(os.environ, {finding.VARIABLE: "/nowhere", "PATH": ""}), mock.patch.object(finding.sys, "prefix", "/none"), \
-                mock.patch.object(finding, "__file__", "/a/b/c/d.py"):
+        with self.places("/nowhere", "/none", ""):
             with self.assertRaises(Missing) as caught:
                 finding.program()
             for word in ("/nowhere", "/none", "tools/install --quick fleet", finding.VARIABLE, "PATH"):
