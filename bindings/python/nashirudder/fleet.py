@@ -9,6 +9,7 @@ from .names import Verdict
 from .orders import Errand, Ledger, Order, need_own
 from .ranges import whole_number
 from .records import Arrival, Chapter, Farewell, Look
+from .turns import Turns
 
 if TYPE_CHECKING:
     from .arrays import Cells
@@ -29,17 +30,15 @@ class AnyFleet(abc.ABC):
     fleet is closed or its program ended.
     """
 
-    def __init__(self) -> None:
+    def __init__(self, timeout: Optional[float]) -> None:
+        self._timeout = timeout
+        self._turns = Turns()
         self._ledger = Ledger()
         self._arrivals: List[Arrival] = []
         self._farewells: List[Farewell] = []
         self._cells: List[int] = []
 
     # ---- what each class does in its own way
-
-    @abc.abstractmethod
-    def _in_turn(self, call: Callable[[], T]) -> T:
-        """Makes a call while no other one is made."""
 
     @abc.abstractmethod
     def _post(self, order: Order) -> None:
@@ -87,6 +86,10 @@ class AnyFleet(abc.ABC):
         "chapter-full", or 3 if a chapter could not be written; over pipes it is the program's exit status
         (docs/PROTOCOL.md).
         """
+
+    def _in_turn(self, call: Callable[[], T]) -> T:
+        """Makes a call while no other one is made, and whole whatever happens to the caller."""
+        return self._turns.make(call, self._timeout)
 
     # ---- orders
 

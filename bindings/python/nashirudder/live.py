@@ -254,7 +254,7 @@ class LiveFleet:
         if self._program.is_closed:
             return
         try:
-            self._program.close(timeout)
+            self._program.close(self._program.timeout if timeout is None else timeout)
         finally:
             if self._program.is_closed:
                 self._let_go(timeout)

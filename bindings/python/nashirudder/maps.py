@@ -21,8 +21,8 @@ _MOST = 1024
 
 def _count_of(text: bytes) -> int:
     """How many cells the head of a map says that it has; 0 if the head is at fault, of which the library says more."""
-    form = rb"^%s[ \t]+0*(\d{1,4})[ \t]*\r?$"
-    sides = [re.search(form % word, text[:200], re.M) for word in (b"height", b"width")]
+    form, head = rb"^%s[ \t]+0*(\d{1,4})\r?$", b"\n".join(text.split(b"\n", 4)[:4])
+    sides = [re.search(form % word, head, re.M) for word in (b"height", b"width")]
     numbers = [int(side[1]) for side in sides if side is not None and int(side[1]) <= _MOST]
     return numbers[0] * numbers[1] if len(numbers) == 2 else 0
 

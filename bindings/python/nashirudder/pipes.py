@@ -1,8 +1,7 @@
 """A fleet that the program `fleet talk` keeps, spoken to over two pipes."""
 
-import threading
 from collections import deque
-from typing import Callable, Deque, Dict, List, Optional, Sequence, TypeVar
+from typing import Deque, Dict, List, Optional, Sequence
 
 from . import finding, opening
 from .errors import refusal
@@ -12,8 +11,6 @@ from .names import verdict_in
 from .orders import Order
 from .process import Asked, Program, chapter_in, look_in, silently
 from .records import Arrival, Chapter, Farewell, Look
-
-T = TypeVar("T")
 
 
 class Fleet(AnyFleet):
@@ -57,14 +54,13 @@ class Fleet(AnyFleet):
             words.append("--roll")
         if told.traces is not None:
             words += ["--traces", told.traces]
-        super().__init__()
-        self._turn = threading.RLock()
+        super().__init__(timeout)
         self._pending: Deque[Asked] = deque()
         self._lanes: Dict[int, Deque[Order]] = {}
         self._now = 0
-        self._program = Program(words + [told.map], timeout, self._noted, self._hear_line)
+        self._program = Program(words + [told.map], None, self._noted, self._hear_line)
         try:
-            self._program.ask(*told.head())
+            self._in_turn(lambda: self._program.ask(*told.head()))
             self._cells = self.look().cells
         except BaseException:
             silently(lambda: self._program.end(timeout))
@@ -105,10 +101,6 @@ class Fleet(AnyFleet):
             self._farewells.append(Farewell(int(words[2]), int(words[4])))
 
     # ---- what AnyFleet asks for
-
-    def _in_turn(self, call: Callable[[], T]) -> T:
-        with self._turn:
-            return call()
 
     def _post(self, order: Order) -> None:
         answer = self._program.ask(f"post {order.client} {order._line}", order=order)[0][-1]
@@ -154,7 +146,7 @@ class Fleet(AnyFleet):
         return self._program.reply("chapter", chapter_in)
 
     def close(self, timeout: Optional[float] = None) -> None:
-        self._program.close(timeout)
+        self._program.close(self._timeout if timeout is None else timeout)
 
     @staticmethod
     def _raise_refusal(answer: List[List[str]], word: str) -> None:

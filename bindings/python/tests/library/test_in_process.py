@@ -55,10 +55,10 @@ class InProcessTest(unittest.TestCase):
             begun.set()
             time.sleep(0.5)
 
-        thread = threading.Thread(target=lambda: fleet._turns.submit(busy))
+        thread = threading.Thread(target=lambda: fleet._turns.make(busy, None))
         thread.start()
         begun.wait()
-        for call in (fleet.look, fleet.tick, fleet.chapter, lambda: fleet.go(0, 1), lambda: fleet.shut(1)):
+        for call in (fleet.look, lambda: fleet.go(0, 1), fleet.tick, fleet.chapter, lambda: fleet.shut(1)):
             with self.assertRaises(Late):
                 call()
         with self.assertRaises(Late):

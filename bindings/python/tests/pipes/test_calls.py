@@ -147,7 +147,7 @@ class CallsTest(OnRing):
                     with self.assertRaises(Late):
                         call()
                 fleet._program.process.send_signal(signal.SIGCONT)
-                fleet._program.timeout = 10
+                fleet._timeout = fleet._program.timeout = 10
                 # What was asked is done all the same, and each answer is the call's own.
                 self.assertEqual((fleet.look().tick, fleet.tick()[0]), (1, 1))
             stopped = self.fleet(kind)
