@@ -85,6 +85,21 @@ class InProcessTest(unittest.TestCase):
             part.rmdir()
             self.assertEqual(fleet.chapter().entries, 1)
 
+    def test_an_order_that_stands_since_a_chapter_cannot_be_written(self):
+        folder = self.path / "traces"
+        folder.mkdir()
+        with Fleet(self.map, [0, 8], traces=folder, chapter=1) as fleet:
+            first = fleet.go(0, 2)
+            part = folder / "chapter-0.part"
+            part.mkdir()
+            second = fleet.go(0, 1)
+            self.assertEqual((first.state, second.state), ("accepted", "posted"))
+            for call in (second.accepted, fleet.tick):
+                with self.assertRaises(FileFailed):
+                    call()
+            part.rmdir()
+            self.assertEqual((second.accepted(), fleet.tick()), (2, [1, 8]))
+
     def test_a_fleet_that_is_left(self):
         fleet = Fleet(self.map, [0, 8])
         fleet.tick()
