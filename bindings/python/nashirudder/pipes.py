@@ -4,7 +4,7 @@ from collections import deque
 from typing import Deque, Dict, List, Optional, Sequence
 
 from . import finding, opening
-from .errors import refusal
+from .errors import Refused, refusal
 from .finding import Place
 from .fleet import AnyFleet
 from .names import verdict_in
@@ -62,8 +62,10 @@ class Fleet(AnyFleet):
         try:
             self._in_turn(lambda: self._program.ask(*told.head()))
             self._cells = self.look().cells
-        except BaseException:
+        except BaseException as error:
             silently(lambda: self._program.end(timeout))
+            if isinstance(error, Refused):
+                raise told.named(error) from None
             raise
 
     # ---- lines

@@ -171,9 +171,15 @@ class Programs:
         self.assertEqual(fleet.status, 8)
 
     def test_openings(self):
-        blocked, shared = Code.START_BLOCKED, Code.START_SHARED
-        for robots, code in (([0, 0], shared), ([99], blocked), ([5], blocked), ([], Code.ROBOT_COUNT)):
-            self.refused(Refused, code.word, lambda: self.fleet("ring", robots), code)
+        starts = (
+            ([0, 0], Code.START_SHARED, (0, 1)),
+            ([7, 3, 0, 4, 0, 3], Code.START_SHARED, (1, 5)),
+            ([99], Code.START_BLOCKED, (0, 0)),
+            ([0, 0, 5], Code.START_BLOCKED, (2, 0)),
+            ([], Code.ROBOT_COUNT, (0, 0)),
+        )
+        for robots, code, numbers in starts:
+            self.refused(Refused, code.word, lambda: self.fleet("ring", robots), code, numbers)
         sizes = (("queue", 0), ("clients", 0), ("clients", 65), ("mailbox", 1), ("clock", 2**48 + 1), ("lane", 65537))
         for name, number in sizes:
             with self.subTest(name):

@@ -8,9 +8,9 @@ import threading
 import time
 import unittest
 
-from nashirudder import Ended, FileFailed, Fleet, FleetError, Late, LiveFleet, Missing, OutOfRange, Refused
+from nashirudder import Ended, FileFailed, Fleet, FleetError, Late, LiveFleet, Missing, OutOfRange, Refused, finding
 
-PROGRAM = os.environ.get("FLEET", "fleet")
+PROGRAM = finding.program(os.environ.get("FLEET"))
 
 RING = "type octile\nheight 3\nwidth 3\nmap\n...\n.@.\n...\n"
 

@@ -141,6 +141,18 @@ class FilesTest(unittest.TestCase):
         with self.assertRaises(OutOfRange):
             library.Fleet(self.path / "ring.map", [0], ties="south")
 
+    def test_who_is_named(self):
+        (self.path / "crlf.map").write_bytes(b"type octile\r\nwidth 03 \r\nheight 2\r\nmap\r\n.GS\r\n@TW\r\n")
+        self.assertEqual(opening.sides_of((self.path / "crlf.map").read_bytes()), (2, 3))
+        for head in (b"", b"type octile\nheight 2\n", b"type octile\nheight 2\nwidth 1025\nmap\n"):
+            self.assertEqual(opening.sides_of(head), (0, 0) if b"width" in head else (2 * (b"height" in head), 0))
+        for robots, name, numbers in (([2, 1, 0, 1, 2], "start-shared", (0, 4)), ([0, 1, 2, 4], "start-blocked", (3, 0)),
+                                      ([2, 6], "start-blocked", (1, 0)), ([0], "bad-setup", ())):
+            told = opening.checked(self.path / "crlf.map", robots, 1, "plain", None, {})
+            self.assertEqual(told.named(errors.refusal(name)).numbers, numbers)
+        os.remove(self.path / "crlf.map")
+        self.assertEqual(told.named(errors.refusal("start-blocked")).numbers, ())
+
     def test_head(self):
         told = opening.checked(self.path / "ring.map", [0, 8], 2, "south", None, {"queue": 3})
         self.assertEqual(told.head(), ["robots 0 8", "clients 2", "ties south", "queue 3"])
