@@ -127,14 +127,8 @@ pub fn run_talk<R: Alloc<A = Global>, I: Read, W: Write, S: Shelf, E: Write>(
 ) -> u8
     requires { length texts.script.now ≤ 16777216 }
     ensures { IfSome (reader_remaining I.remaining ends.old.input) (λ bytes. IsTalkLeft texts.map.now texts.script.now settings bytes
-        (record {
-          old_out = W.contents ends.old.output;
-          new_out = W.contents ends.new.output;
-          old_err = E.contents error.old;
-          new_err = E.contents error.new;
-          old_kept = S.kept ends.old.shelf;
-          new_kept = S.kept ends.new.shelf;
-        }) result) }
+        (record { old_out = W.contents ends.old.output; new_out = W.contents ends.new.output; old_err = E.contents error.old; new_err = E.contents error.new;
+            old_kept = S.kept ends.old.shelf; new_kept = S.kept ends.new.shelf }) result) }
 {
     let alloc = rt.alloc();
     let (grid, head) = match grounds(alloc, texts) {

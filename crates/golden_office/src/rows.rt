@@ -7,6 +7,7 @@ mod case;
 mod faults;
 mod hall;
 mod live;
+mod meter;
 mod onward;
 mod opening;
 mod plan;
@@ -16,6 +17,7 @@ mod stage;
 mod table;
 
 use case::Case;
+use meter::Meter;
 use opening::perform;
 use plan::Plan;
 use refused::{find_lanes, tell_refused, tell_spared};
@@ -24,12 +26,11 @@ use std::fmt::Write;
 use std::sync::Wait;
 use std::thread::Threads;
 use table::{refused_rows, rows};
-use test_kit::Refusing;
 
 /// Prints a test case, after its name.
 fn tell_row<R: Alloc<A = Global> + Threads + Sync + Wait>(
     rt: &R,
-    meter: &Refusing<Global>,
+    meter: &Meter<Global>,
     case: &Case<'_>,
     told: &mut String,
 ) -> Result<(), AllocError> {
@@ -40,7 +41,7 @@ fn tell_row<R: Alloc<A = Global> + Threads + Sync + Wait>(
 /// Prints all cases.
 fn tell_rows<R: Alloc<A = Global> + Threads + Sync + Wait>(
     rt: &R,
-    meter: &Refusing<Global>,
+    meter: &Meter<Global>,
     told: &mut String,
 ) -> Result<(), AllocError> {
     for case in rows() {
@@ -52,7 +53,7 @@ fn tell_rows<R: Alloc<A = Global> + Threads + Sync + Wait>(
 /// Prints the cases in which allocations are refused.
 fn tell_refused_rows<R: Alloc<A = Global> + Threads + Sync + Wait>(
     rt: &R,
-    meter: &Refusing<Global>,
+    meter: &Meter<Global>,
     told: &mut String,
 ) -> Result<(), AllocError> {
     for case in refused_rows() {
@@ -64,7 +65,7 @@ fn tell_refused_rows<R: Alloc<A = Global> + Threads + Sync + Wait>(
 /// What is printed of the cases over this heap.
 fn tell_over<R: Alloc<A = Global> + Threads + Sync + Wait>(
     rt: &R,
-    meter: &Refusing<Global>,
+    meter: &Meter<Global>,
     told: &mut String,
 ) -> Result<(), AllocError> {
     tell_rows(rt, meter, told)?;
@@ -79,5 +80,5 @@ pub(crate) fn tell<R: Alloc<A = Global> + Threads + Sync + Wait>(
     rt: &R,
     told: &mut String,
 ) -> Result<(), AllocError> {
-    tell_over(rt, &Refusing::never(rt.alloc()), told)
+    tell_over(rt, &Meter::new(rt.alloc()), told)
 }

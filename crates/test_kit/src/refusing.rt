@@ -1,10 +1,7 @@
-//! An allocator that refuses one allocation, and can be told which.
+//! An allocator that refuses one allocation.
 
 use std::alloc::{AllocError, Allocator};
 use std::sync::atomic::{AtomicU64, Ordering};
-
-/// More allocations before the refused one than any test case makes.
-const FAR: u64 = 1 << 62;
 
 /// Passes each call on to `inner`, except one allocation: the one that comes after a given number of others.
 pub struct Refusing<B: Allocator> {
@@ -19,35 +16,6 @@ impl<B: Allocator> Refusing<B> {
             inner,
             left: AtomicU64::new(before),
         }
-    }
-
-    /// Refuses nothing yet.
-    pub fn never(inner: B) -> Refusing<B> {
-        Refusing::after(inner, FAR)
-    }
-
-    /// Refuses the allocation that comes after this many others from now on, if none was refused yet.
-    pub fn refuse(&self, before: u64) {
-        if !self.has_refused() {
-            self.left.store(before, Ordering::SeqCst);
-        }
-    }
-
-    /// Refuses nothing from now on.
-    pub fn rest(&self) {
-        if !self.has_refused() {
-            self.left.store(FAR, Ordering::SeqCst);
-        }
-    }
-
-    /// Forgets what was refused.
-    pub fn forget(&self) {
-        self.left.store(FAR, Ordering::SeqCst);
-    }
-
-    /// Whether an allocation was refused.
-    pub fn has_refused(&self) -> bool {
-        self.left.load(Ordering::SeqCst) > FAR
     }
 }
 

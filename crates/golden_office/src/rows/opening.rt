@@ -4,6 +4,7 @@ ghost use Rattle.std.specs.Prelude.{◌≡◌};
 
 use crate::floor::grid_of;
 use crate::rows::case::Case;
+use crate::rows::meter::Meter;
 use crate::rows::plan::{Call, Plan};
 use crate::rows::play::play;
 use crate::rows::stage::Fleet;
@@ -12,17 +13,22 @@ use fleet_grid::Grid;
 use fleet_hooks::{
     ArrivalHook, ArrivalView, Farewell, FarewellView, Hooks, StampLaw, TieHook, TieLaw, TieView,
 };
-use fleet_office::Desk;
+use fleet_office::{Desk, OfficeName};
 use std::alloc::{Alloc, AllocError, Allocator, Global};
 use std::fmt::Write;
 use std::marker::Brand;
 use std::mem;
 use std::sync::Wait;
 use std::thread::Threads;
-use test_kit::Refusing;
 
 /// What all of an office lies on.
-type Heap<'a> = &'a Refusing<Global>;
+type Heap<'a> = &'a Meter<Global>;
+
+impl<'a> OfficeName<Heap<'a>> for Brand {
+    ghost use Rattle.std.specs.Prelude.{[]};
+
+    ghost rings = { [] };
+}
 
 /// A case's desk.
 fn desk_of<A: Allocator + Copy>(

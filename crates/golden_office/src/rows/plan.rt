@@ -1,7 +1,7 @@
 //! Which allocation is refused.
 
+use crate::rows::meter::Meter;
 use std::alloc::Global;
-use test_kit::Refusing;
 
 /// A call of a case.
 #[derive(Clone, Copy, PartialEq, Eq)]
@@ -17,14 +17,14 @@ pub(crate) enum Call {
 /// The call that meets a refused allocation, and how many allocations come before that one in it.
 #[derive(Clone, Copy)]
 pub(crate) struct Plan<'a> {
-    pub(crate) meter: &'a Refusing<Global>,
+    pub(crate) meter: &'a Meter<Global>,
     pub(crate) call: Call,
     pub(crate) before: u64,
 }
 
 impl<'a> Plan<'a> {
     /// No allocation is refused.
-    pub(crate) fn none(meter: &'a Refusing<Global>) -> Plan<'a> {
+    pub(crate) fn none(meter: &'a Meter<Global>) -> Plan<'a> {
         Plan {
             meter,
             call: Call::None,

@@ -3,6 +3,7 @@
 ghost use Rattle.std.specs.Prelude.{◌≡◌};
 
 use crate::rows::case::{Case, Step};
+use crate::rows::meter::Meter;
 use crate::rows::onward::{SEARCHED_AHEAD, SEARCHED_LATE};
 use crate::rows::opening::perform;
 use crate::rows::plan::{Call, Plan};
@@ -12,7 +13,6 @@ use std::alloc::{Alloc, AllocError, Global};
 use std::fmt::Write;
 use std::sync::Wait;
 use std::thread::Threads;
-use test_kit::Refusing;
 
 /// No call of a case has more allocations.
 const MOST: u64 = 1_000;
@@ -53,7 +53,7 @@ fn is_as<R: Alloc<A = Global> + Threads + Sync + Wait>(
 /// play ended as the case.
 fn growths<R: Alloc<A = Global> + Threads + Sync + Wait>(
     rt: &R,
-    meter: &Refusing<Global>,
+    meter: &Meter<Global>,
     case: &Case<'_>,
     call: Call,
     row: &str,
@@ -78,7 +78,7 @@ fn growths<R: Alloc<A = Global> + Threads + Sync + Wait>(
 /// What becomes of a case with each allocation of a call refused in turn.
 fn find<R: Alloc<A = Global> + Threads + Sync + Wait>(
     rt: &R,
-    meter: &Refusing<Global>,
+    meter: &Meter<Global>,
     case: &Case<'_>,
     call: Call,
     row: &str,
@@ -92,7 +92,7 @@ fn find<R: Alloc<A = Global> + Threads + Sync + Wait>(
 /// Prints each call of a case that took memory, and was refused it.
 fn tell_findings<R: Alloc<A = Global> + Threads + Sync + Wait>(
     rt: &R,
-    meter: &Refusing<Global>,
+    meter: &Meter<Global>,
     case: &Case<'_>,
     row: &str,
     told: &mut String,
@@ -114,7 +114,7 @@ fn tell_findings<R: Alloc<A = Global> + Threads + Sync + Wait>(
 /// What a case prints without a refusal.
 fn text_of<R: Alloc<A = Global> + Threads + Sync + Wait>(
     rt: &R,
-    meter: &Refusing<Global>,
+    meter: &Meter<Global>,
     case: &Case<'_>,
 ) -> Result<String, AllocError> {
     let mut row = String::new(rt.alloc());
@@ -126,7 +126,7 @@ fn text_of<R: Alloc<A = Global> + Threads + Sync + Wait>(
 /// Plays a case, and prints its calls whose allocations are refused, after its name.
 pub(crate) fn tell_refused<R: Alloc<A = Global> + Threads + Sync + Wait>(
     rt: &R,
-    meter: &Refusing<Global>,
+    meter: &Meter<Global>,
     case: &Case<'_>,
     told: &mut String,
 ) -> Result<(), AllocError> {
@@ -138,7 +138,7 @@ pub(crate) fn tell_refused<R: Alloc<A = Global> + Threads + Sync + Wait>(
 /// The allocations of the case's first turn.
 fn growths_of_turn<R: Alloc<A = Global> + Threads + Sync + Wait>(
     rt: &R,
-    meter: &Refusing<Global>,
+    meter: &Meter<Global>,
     case: &Case<'_>,
 ) -> Result<Option<u64>, AllocError> {
     let row = text_of(rt, meter, case)?;
@@ -153,7 +153,7 @@ fn growths_of_turn<R: Alloc<A = Global> + Threads + Sync + Wait>(
 /// Prints whether a turn allocates less where the field that it needs was searched before.
 pub(crate) fn tell_spared<R: Alloc<A = Global> + Threads + Sync + Wait>(
     rt: &R,
-    meter: &Refusing<Global>,
+    meter: &Meter<Global>,
     told: &mut String,
 ) -> Result<(), AllocError> {
     let late = growths_of_turn(rt, meter, &SEARCHED_LATE)?;
@@ -167,7 +167,7 @@ pub(crate) fn tell_spared<R: Alloc<A = Global> + Threads + Sync + Wait>(
 }
 
 /// Whether a lane is made, and takes its first order.
-fn is_laned(meter: &Refusing<Global>, limits: Limits) -> bool {
+fn is_laned(meter: &Meter<Global>, limits: Limits) -> bool {
     if !limits.is_valid() {
         return false;
     }
@@ -178,7 +178,7 @@ fn is_laned(meter: &Refusing<Global>, limits: Limits) -> bool {
 }
 
 /// Makes a lane with each allocation refused in turn, and made again.
-pub(crate) fn find_lanes(meter: &Refusing<Global>) -> Finding {
+pub(crate) fn find_lanes(meter: &Meter<Global>) -> Finding {
     for before in 0..MOST {
         meter.forget();
         meter.refuse(before);
