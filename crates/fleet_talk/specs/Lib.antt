@@ -6,6 +6,7 @@ pub mod Heard
 pub mod Broken
 pub mod Heading
 pub mod Look
+pub mod Listed
 pub mod Acts
 pub mod Chapters
 pub mod Talked
