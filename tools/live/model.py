@@ -198,6 +198,11 @@ class Live:
             return True
         if kind == "look":
             self.say(mark, talk.look_line(self.world))
+        elif kind == "open":
+            if what < self.head.clients:
+                self.settle()
+            for line in talk.open_lines(self.world, what):
+                self.say(mark, line)
         elif kind == "chapter":
             told = f"chapter {self.world.number} entries {len(self.world.entries)}"
             try:

@@ -30,6 +30,19 @@ def look_line(w):
     return told + " at " + " ".join(map(str, w.place))
 
 
+def open_lines(w, client):
+    """The lines of a client's open errands."""
+    if client >= len(w.mail):
+        return [f"no-client {client}"]
+    lines = [
+        f"open {client} number {number} robot {robot} cell {cell} place {place}"
+        for robot, queue in enumerate(w.queues)
+        for place, (owner, number, cell) in enumerate(queue, 1)
+        if owner == client
+    ]
+    return lines + [f"open {client} end {len(lines)}"]
+
+
 class Head:
     def __init__(self):
         self.seen, self.starts, self.clients, self.south = set(), None, 1, False
@@ -90,6 +103,8 @@ def kind_of(raw):
         return "events", script.events, mark
     if len(words) == 1 and words[0] in (b"look", b"chapter", b"quit"):
         return words[0].decode(), None, mark
+    if len(words) == 2 and words[0] == b"open" and model._number(words[1], model.U32) is not None:
+        return "open", model._number(words[1], model.U32), mark
     return "header", words, mark
 
 
@@ -139,7 +154,7 @@ class Talk:
         kind, what, mark = kind_of(raw)
         if kind == "quit":
             return False
-        if self.world is None and kind in ("events", "look", "chapter"):
+        if self.world is None and kind in ("events", "look", "open", "chapter"):
             if self.head.starts is None:
                 kind = "bad"
             else:
@@ -153,6 +168,8 @@ class Talk:
                 self.event(mark, event)
         elif kind == "look":
             self.say(mark, [look_line(self.world)])
+        elif kind == "open":
+            self.say(mark, open_lines(self.world, what))
         elif kind == "chapter":
             try:
                 self.say(mark, [self.turn()])

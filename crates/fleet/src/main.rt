@@ -13,6 +13,7 @@ mod explain;
 mod figures;
 mod folder;
 mod live;
+mod pipes;
 mod talk;
 mod view;
 

@@ -67,6 +67,12 @@ impl<N: OfficeName<Global>> Conversation<N> {
         }
     }
 
+    /// Whether it speaks for this client.
+    pub(crate) fn speaks_for<R: Wait>(&self, rt: &R, client: u32) -> bool {
+        let held = self.guests.lock(rt);
+        held.iter().any(|guest| guest.number() == client)
+    }
+
     /// Prints the notices that the clients find while there is room. Returns whether those were all.
     pub(crate) fn tell<R: Wait>(&self, rt: &R, alloc: Global) -> Result<bool, AllocError> {
         let mut held = self.guests.lock(rt);

@@ -5,7 +5,7 @@ use crate::keeper::{Keeper, Turned};
 use crate::stage::{Round, Work};
 use fleet_core::{ChapterFault, ShutFault};
 use fleet_office::OfficeName;
-use fleet_talk::Shelf;
+use fleet_talk::{Shelf, open_text};
 use live_parts::{Stop, Wanted, look_text, shut_text, tick_text};
 use std::alloc::{Alloc, AllocError, Global};
 use std::sync::Wait;
@@ -86,6 +86,19 @@ impl<N: OfficeName<Global>, S: Shelf> Keeper<'_, N, S> {
         Ok(shut_text(rt.alloc(), robot, done)?)
     }
 
+    /// Judges what was posted, and lists a client's open errands.
+    fn open_lines<R: Alloc<A = Global> + Wait>(
+        &self,
+        rt: &R,
+        round: &mut Round,
+        work: &mut Work<N>,
+        client: u32,
+    ) -> Result<String, Stop> {
+        self.settle(rt, round, work)?;
+        let errands = self.office.open_errands(rt, client)?;
+        Ok(open_text(rt.alloc(), client, &errands)?)
+    }
+
     /// What a wish is answered.
     fn answer<R: Alloc<A = Global> + Wait>(
         &self,
@@ -101,6 +114,7 @@ impl<N: OfficeName<Global>, S: Shelf> Keeper<'_, N, S> {
                 let look = self.office.look(rt, &work.ticker)?;
                 Ok(look_text(alloc, &look)?)
             }
+            Wanted::Open(client) => self.open_lines(rt, round, work, client),
             Wanted::Chapter => self.chapter_line(rt, work),
             Wanted::Tick(times) => self.tick_line(rt, round, work, times),
             Wanted::Settle => {

@@ -93,12 +93,28 @@ impl<'a, N: OfficeName<Global>> Hearing<'a, N> {
         }
     }
 
+    /// Asks for a client's open errands, if the conversation speaks for it.
+    fn list<R: Wait>(
+        &mut self,
+        rt: &R,
+        alloc: Global,
+        mark: Option<&[u8]>,
+        client: u32,
+    ) -> Result<(), AllocError> {
+        if self.here.speaks_for(rt, client) {
+            return self.ask(rt, alloc, mark, Wanted::Open(client));
+        }
+        let text = format!(in alloc; "no-client {client}\n")?;
+        self.here.voice.say(rt, mark, text.as_str())
+    }
+
     /// Does what a line asks, and returns whether it ends the conversation.
     fn obey<R: Wait>(&mut self, rt: &R, alloc: Global, line: Line<'_>) -> Result<bool, AllocError> {
         match demand_of(self.here.rights, line) {
             Demand::Nothing => {}
             Demand::Quit => return Ok(true),
             Demand::Post(client, order) => self.post(rt, alloc, line.mark, client, order)?,
+            Demand::Open(client) => self.list(rt, alloc, line.mark, client)?,
             Demand::Ask(wanted) => self.ask(rt, alloc, line.mark, wanted)?,
             Demand::Watch(on) => {
                 self.here.watch(on);

@@ -190,7 +190,8 @@ impl<N: OfficeName<Global>, S: Shelf> Keeper<'_, N, S> {
         let Some(voice) = &self.stage.figures else {
             return Ok(());
         };
-        let figures = self.stage.figures(rt, round.all, self.office.waits(rt));
+        let (waits, queues) = (self.office.waits(rt), self.office.queues(rt));
+        let figures = self.stage.figures(rt, round.all, waits, queues);
         let text = figures.text(rt.alloc())?;
         voice.say_alone(rt, text.as_str())
     }

@@ -23,6 +23,14 @@ use std::time::Clock;
 /// From this many cells on fields are searched between turns: a turn does few others sooner than it would find them.
 const LARGE: u32 = 65_536;
 
+/// For how many goals fields are kept that no robot needs now: those of two for each robot of the greatest fleet.
+const KEPT_GOALS: usize = 1024;
+
+/// The bytes of such fields, at least and at most: 64 MiB and 256 MiB.
+const LEAST_KEPT: usize = 64 << 20;
+
+const MOST_KEPT: usize = 256 << 20;
+
 /// What clients' threads and tickers leave.
 #[derive(Drop)]
 pub(crate) struct Left<N: OfficeName<Global>, S> {
@@ -40,6 +48,11 @@ pub(crate) struct Site {
     pub(crate) cells: u32,
     /// How many entries a full chapter has.
     pub(crate) chapter: u32,
+}
+
+/// How many bytes of fields are kept on a map of so many cells, each of which takes a byte of a field.
+fn kept_bytes(cells: u32) -> usize {
+    (KEPT_GOALS * cells as usize).max(LEAST_KEPT).min(MOST_KEPT)
 }
 
 /// A shared bell.
@@ -184,6 +197,7 @@ pub(crate) fn serve<
         shelf,
     } = ends;
     let LiveSettings { watch, tickers, .. } = site.settings;
+    office.keep(rt, kept_bytes(site.cells));
     let mut stage = stage_of(rt, clients, pipes.len(), site, shelf)?;
     start_figures(rt, &mut stage, figures)?;
     let writer = start_all(rt, &stage, watch, (input, output), pipes, counts)?;

@@ -6,6 +6,7 @@ use crate::bell::Bell;
 use crate::conversation::Conversation;
 use crate::pace::Deadlines;
 use crate::voice::Voice;
+use fleet_core::QueueReport;
 use fleet_office::{OfficeName, TickRecord, Ticker, TurnReport, WaitReport};
 use fleet_talk::Shelf;
 use live_parts::{Archive, Figures, Notices, Stop, Tally, Unkept};
@@ -120,8 +121,14 @@ impl<N: OfficeName<Global>, S: Shelf> Stage<N, S> {
         self.waiting.store(after as u64, Ordering::SeqCst);
     }
 
-    /// What a fleet did and how it stands, with these counts and waits.
-    pub(crate) fn figures<R: Wait>(&self, rt: &R, tally: Tally, waits: WaitReport) -> Figures {
+    /// What a fleet did and how it stands, with these counts, waits and queues.
+    pub(crate) fn figures<R: Wait>(
+        &self,
+        rt: &R,
+        tally: Tally,
+        waits: WaitReport,
+        queues: QueueReport,
+    ) -> Figures {
         let mut notices = Notices::NONE;
         for one in &self.conversations {
             notices.add(&one.voice.notices(rt));
@@ -130,6 +137,7 @@ impl<N: OfficeName<Global>, S: Shelf> Stage<N, S> {
             tally,
             notices,
             waits,
+            queues,
             kept: self.kept.load(Ordering::SeqCst),
             waiting: self.waiting.load(Ordering::SeqCst),
         }

@@ -2,7 +2,7 @@
 use Rattle.std.proofs.Common.{◌≡◌, ◌∙◌, ℕ, ◌+◌, Bool, true, false, cond, List, [], ◌∷◌, ◌++◌, Option, Some, None, IfSome, refl, sym, ap, subst, append_assoc, append-nil, unwrap_or}
 use Rattle.fleet_script.specs.Script.{Draft}
 use Rattle.fleet_talk.specs.declared.ask.Asked.{Asked}
-use Rattle.fleet_talk.specs.declared.ask.Asked.TheVariants.{Nothing, Events, Chapter, Look, Quit, Other, Long}
+use Rattle.fleet_talk.specs.declared.ask.Asked.TheVariants.{Nothing, Events, Chapter, Look, Open, Quit, Other, Long}
 use Rattle.fleet_talk.specs.declared.ends.Settings.{Settings}
 use Rattle.fleet_talk.specs.declared.fault.TalkFault.{TalkFault}
 use Rattle.fleet_talk.specs.declared.fault.TalkFault.TheVariants.{NoMemory}
@@ -27,6 +27,7 @@ opens-starts : (d : Draft) (asked : Asked) (starts : List ℕ) → opens d asked
 opens-starts d (Events more) starts is = is
 opens-starts d Chapter starts is = is
 opens-starts d Look starts is = is
+opens-starts d (Open client) starts is = is
 opens-starts d Nothing starts is = absurd cc
 opens-starts d Quit starts is = absurd cc
 opens-starts d Other starts is = absurd cc

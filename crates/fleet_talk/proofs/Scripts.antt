@@ -1,5 +1,5 @@
 -- A script in form, as a conversation hears it.
-use Rattle.std.proofs.Common.{◌≡◌, ◌∙◌, ℕ, zero, suc, ◌+◌, ◌≤◌, Bool, true, false, cond, ◌&&◌, leb, ltb, eqb, List, [], ◌∷◌, ◌++◌, length, map, take, take_all, replicate, Option, Some, None, Result, Ok, refl, sym, ap, subst, arith, codes, option_map, unwrap_or, is_some, append-nil, inl, inr, append_assoc, true≢false}
+use Rattle.std.proofs.Common.{◌≡◌, ◌∙◌, ℕ, zero, suc, ◌+◌, ◌≤◌, Bool, true, false, bytes_eq, cond, ◌&&◌, leb, ltb, eqb, List, [], ◌∷◌, ◌++◌, length, map, take, take_all, replicate, Option, Some, None, Result, Ok, refl, sym, ap, subst, arith, codes, option_map, unwrap_or, is_some, append-nil, inl, inr, append_assoc, true≢false}
 use Rattle.std.specs.List.{AllByRecursion, slice_split, onto_first}
 use Rattle.std.specs.Str.Lines.{strip_carriage_return}
 use Rattle.std.proofs.lemmas.Bool.{cases_Bool, leb-true, le-leb, le-ltb, eqb-true, and_parts}
@@ -83,19 +83,19 @@ more_robots d key words m = at_word (IsMore d words m) key (codes "robots")
     (new_more d d.starts (starts_within 16 words) (starts_within 512 words) m (more_starts words))
     (λ e h. rw e (rw e at h))
 
-abbrev IsOther : List ℕ → Type 0
-IsOther key = is_header key [] ≡ true → word_asked (key ∷ []) ≡ Other
+abbrev IsOther : List (List ℕ) → List ℕ → Type 0
+IsOther words key = is_header key words ≡ true → word_asked (key ∷ words) ≡ Other
 
 -- a header line is no word of a conversation
-no_word : (key : List ℕ) → IsOther key
-no_word key = at_word IsOther key (codes "chapter") (λ h. absurd (true≢false (sym h)))
-    (λ a. at_word IsOther key (codes "look") (λ h. absurd (true≢false (sym h)))
-    (λ b. at_word IsOther key (codes "quit") (λ h. absurd (true≢false (sym h)))
-    (λ c h. rw (a, b, c) refl)))
+no_word : (key : List ℕ) → bytes_eq key (codes "open") ≡ false → IsOther [] key
+no_word key o = at_word (IsOther []) key (codes "chapter") (λ h. absurd (true≢false (sym h)))
+    (λ a. at_word (IsOther []) key (codes "look") (λ h. absurd (true≢false (sym h)))
+    (λ b. at_word (IsOther []) key (codes "quit") (λ h. absurd (true≢false (sym h)))
+    (λ c h. rw (o, a, b, c) refl)))
 
-not_asked : (key : List ℕ) (words : List (List ℕ)) → is_header key words ≡ true → word_asked (key ∷ words) ≡ Other
-not_asked key (word ∷ words) h = refl
-not_asked key [] h = no_word key h
+not_asked : (key : List ℕ) (words : List (List ℕ)) → IsOther words key
+not_asked key (word ∷ words) = at_word (IsOther (word ∷ words)) key (codes "open") (λ h. absurd (true≢false (sym h))) (λ o h. rw o refl)
+not_asked key [] = at_word (IsOther []) key (codes "open") (λ h. absurd (true≢false (sym h))) (no_word key)
 
 data Means (d : Draft) (n : ℕ) (text : List ℕ) (m : Draft) : Type 0 where
   nothing : asked_in text ≡ Nothing → m ≡ d → Means d n text m

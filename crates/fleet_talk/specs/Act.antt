@@ -2,7 +2,7 @@
 use Rattle.std.specs.Prelude.{ℕ, ◌+◌, Bool, true, false, List, [], ◌∷◌, ◌++◌, replicate, Option, if◌then◌else◌}
 use Rattle.fleet_book.specs.declared.event.Event.{Event}
 use Rattle.fleet_talk.specs.declared.ask.Asked.{Asked}
-use Rattle.fleet_talk.specs.declared.ask.Asked.TheVariants.{Nothing, Events, Chapter, Look, Quit, Other, Long}
+use Rattle.fleet_talk.specs.declared.ask.Asked.TheVariants.{Nothing, Events, Chapter, Look, Open, Quit, Other, Long}
 use Rattle.fleet_talk.specs.declared.ends.Settings.{Settings}
 use Rattle.fleet_talk.specs.Ask.{Line, line_in}
 use Rattle.fleet_talk.specs.Says.{bad_line, end_line}
@@ -17,12 +17,15 @@ pub data Act : Type 0 where
   turn : Option (List ℕ) → Act
   -- the fleet is looked at
   show : Option (List ℕ) → Act
+  -- a client's open errands are listed
+  list : Option (List ℕ) → ℕ → Act
 
 abbrev pub acts_asked : Line → Asked → List Act
 acts_asked line Nothing = []
 acts_asked line (Events more) = replicate more.times (play line.mark more.event)
 acts_asked line Chapter = turn line.mark ∷ []
 acts_asked line Look = show line.mark ∷ []
+acts_asked line (Open client) = list line.mark client ∷ []
 acts_asked line Quit = []
 acts_asked line Other = say line.mark (bad_line line.number) ∷ []
 acts_asked line Long = say line.mark (bad_line line.number) ∷ []

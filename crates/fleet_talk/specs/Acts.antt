@@ -10,9 +10,10 @@ use Rattle.fleet_world.specs.declared.reply.Reply.{Reply}
 use Rattle.fleet_world.specs.declared.reply.Reply.TheVariants.{TakeRefused, TickRefused, ShutRefused}
 use Rattle.errands_text.specs.Output.{event_text}
 use Rattle.fleet_world.specs.Talk.{Talk, TalkStep, next_talk}
-use Rattle.fleet_talk.specs.Act.{Act, say, play, turn, show}
+use Rattle.fleet_talk.specs.Act.{Act, say, play, turn, show, list}
 use Rattle.fleet_talk.specs.Says.{marked, chapter_text, refused_text}
 use Rattle.fleet_talk.specs.Look.{IsLook}
+use Rattle.fleet_talk.specs.Listed.{listed_text}
 
 -- whether this reply, where a full chapter may be handed out, is the refusal of an event for whose entry the chapter has no room
 abbrev pub wants_room : Bool → Reply → Bool
@@ -59,6 +60,7 @@ Does roll s (say mark line) text t = (text ≡ marked mark line) × (t ≡ s)
 Does {A} roll s (play mark e) text t = (mid : Talk A) × (before : List ℕ) × (after : List ℕ) × Rolls roll s mark e before mid × Plays mid mark e after t × (text ≡ before ++ after)
 Does roll s (turn mark) text t = HandsOut s mark text t
 Does roll s (show mark) text t = (line : List ℕ) × IsLook s.world line × (text ≡ marked mark line) × (t ≡ s)
+Does roll s (list mark client) text t = (text ≡ marked mark (listed_text s.world client)) × (t ≡ s)
 
 -- acts one after another, and all that is said of them
 abbrev pub Talks : {A : Type 0} → Bool → Talk A → List Act → List ℕ → Talk A → Type 0

@@ -6,17 +6,32 @@ use Rattle.std.specs.Str.Lines.{strip_carriage_return}
 use Rattle.fleet_map.specs.Text.{is_blank, words_of}
 use Rattle.fleet_script.specs.Event.{Said, event_line_in}
 use Rattle.fleet_script.specs.Event as said
+use Rattle.fleet_script.specs.Numbers.{most32, one_in}
 use Rattle.fleet_talk.specs.declared.ask.Asked.{Asked}
-use Rattle.fleet_talk.specs.declared.ask.Asked.TheVariants.{Nothing, Events, Chapter, Look, Quit, Other, Long}
+use Rattle.fleet_talk.specs.declared.ask.Asked.TheVariants.{Nothing, Events, Chapter, Look, Open, Quit, Other, Long}
 
--- what one word asks that is no event line
-abbrev pub word_asked : List (List ℕ) → Asked
-word_asked (word ∷ []) =
+-- what a line `open` asks, by its client
+abbrev pub open_asked : Option ℕ → Asked
+open_asked None = Other
+open_asked (Some client) = Open client
+
+-- what one word asks
+abbrev pub alone_asked : List ℕ → Asked
+alone_asked word =
     if bytes_eq word (codes "chapter") then Chapter
     else if bytes_eq word (codes "look") then Look
     else if bytes_eq word (codes "quit") then Quit
     else Other
-word_asked words = Other
+
+-- what a line asks that begins with this word, and is neither an event line nor a line `open`
+abbrev pub first_asked : List ℕ → List (List ℕ) → Asked
+first_asked word [] = alone_asked word
+first_asked word words = Other
+
+-- what the words of a line ask that is no event line
+abbrev pub word_asked : List (List ℕ) → Asked
+word_asked [] = Other
+word_asked (word ∷ words) = if bytes_eq word (codes "open") then open_asked (one_in most32 words) else first_asked word words
 
 abbrev pub asked_on : Said → List (List ℕ) → Asked
 asked_on said.nothing words = Nothing

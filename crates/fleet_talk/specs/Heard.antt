@@ -4,7 +4,7 @@ use Rattle.std.specs.List.{AllByRecursion, slice_split}
 use Rattle.fleet_map.specs.Text.{is_line_feed, without_empty_last, words_of}
 use Rattle.fleet_script.specs.Script.{Draft, with_header_within}
 use Rattle.fleet_talk.specs.declared.ask.Asked.{Asked}
-use Rattle.fleet_talk.specs.declared.ask.Asked.TheVariants.{Nothing, Events, Chapter, Look, Other}
+use Rattle.fleet_talk.specs.declared.ask.Asked.TheVariants.{Nothing, Events, Chapter, Look, Open, Other}
 use Rattle.fleet_talk.specs.declared.ends.Settings.{Settings}
 use Rattle.fleet_talk.specs.Ask.{Line, line_in}
 use Rattle.fleet_talk.specs.Act.{is_quit}
@@ -46,6 +46,7 @@ abbrev pub opens : Draft → Asked → Option (List ℕ)
 opens d (Events more) = d.starts
 opens d Chapter = d.starts
 opens d Look = d.starts
+opens d (Open client) = d.starts
 opens d _ = None
 
 -- what is said to a line of the head: whether it is one, and that it was answered

@@ -7,6 +7,7 @@ pub mod Broken
 pub mod Heading
 pub mod HeadFile
 pub mod Look
+pub mod Listed
 pub mod Acts
 pub mod Chapters
 pub mod Talked

@@ -5,13 +5,14 @@ ghost use Rattle.std.specs.List.{position};
 ghost use Rattle.std.specs.Option.{option_map};
 ghost use Rattle.std.specs.Str.Lines.{strip_carriage_return};
 ghost use Rattle.fleet_map.specs.Text.{is_blank, words_of};
+ghost use Rattle.fleet_script.specs.Numbers.{most32, one_in};
 ghost use Rattle.fleet_talk.specs.Act.{is_quit};
-ghost use Rattle.fleet_talk.specs.Ask.{word_asked, asked_in, asked_within, mark_in, told_in, line_in};
+ghost use Rattle.fleet_talk.specs.Ask.{alone_asked, open_asked, word_asked, asked_in, asked_within, mark_in, told_in, line_in};
 ghost use Rattle.fleet_talk.specs.Lines.{line_shown};
 
 use crate::ground::MOST_LINE;
 use fleet_map::text::{first_word, is_blank_byte};
-use fleet_script::{EventLine, Repeat, event_line};
+use fleet_script::{EventLine, Repeat, event_line, one_small_number};
 
 /// What a line asks for, without its mark.
 #[derive(Clone, Copy)]
@@ -21,6 +22,8 @@ pub enum Asked {
     Events(Repeat),
     Chapter,
     Look,
+    /// A client's open errands.
+    Open(u32),
     Quit,
     /// A header line, or no line of a conversation.
     Other,
@@ -80,16 +83,20 @@ fn told_of(line: &[u8]) -> &[u8]
     }
 }
 
-/// What a line asks that is no event line.
-fn word_asked(line: &[u8]) -> Asked
-    ensures { result ≡ word_asked (words_of line.now) }
+/// What a line `open` asks, by its other words.
+fn open_asked(words: &[u8]) -> Asked
+    ensures { result ≡ open_asked (one_in most32 (words_of words.now)) }
 {
-    let Some((word, rest)) = first_word(line) else {
-        return Asked::Other;
-    };
-    if first_word(rest).is_some() {
-        return Asked::Other;
+    match one_small_number(words) {
+        Some(client) => Asked::Open(client),
+        None => Asked::Other,
     }
+}
+
+/// What one word asks.
+fn alone_asked(word: &[u8]) -> Asked
+    ensures { result ≡ alone_asked word.now }
+{
     if word == b"chapter".as_slice() {
         Asked::Chapter
     } else if word == b"look".as_slice() {
@@ -98,6 +105,22 @@ fn word_asked(line: &[u8]) -> Asked
         Asked::Quit
     } else {
         Asked::Other
+    }
+}
+
+/// What a line asks that is no event line.
+fn word_asked(line: &[u8]) -> Asked
+    ensures { result ≡ word_asked (words_of line.now) }
+{
+    let Some((word, words)) = first_word(line) else {
+        return Asked::Other;
+    };
+    if word == b"open".as_slice() {
+        return open_asked(words);
+    }
+    match first_word(words) {
+        Some(_) => Asked::Other,
+        None => alone_asked(word),
     }
 }
 

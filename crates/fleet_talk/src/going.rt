@@ -8,13 +8,15 @@ ghost use Rattle.fleet_talk.specs.Acts.{Does, Talks};
 ghost use Rattle.fleet_talk.specs.Chapters.{KeepsTurned};
 ghost use Rattle.fleet_talk.specs.Heard.{heard_lines};
 ghost use Rattle.fleet_talk.specs.Lines.{line_shown};
+ghost use Rattle.fleet_talk.specs.Listed.{listed_text};
 ghost use Rattle.fleet_talk.specs.Said.{IsAdded, IsKept, under};
-ghost use Rattle.fleet_talk.specs.Says.{Says};
+ghost use Rattle.fleet_talk.specs.Says.{Says, marked};
 ghost use Rattle.fleet_talk.specs.Talked.{TalksUntil};
 
 use crate::ask::{Asked, Line, is_quit, line_of};
 use crate::ends::{Ends, Shelf};
 use crate::fault::TalkFault;
+use crate::listed::listed_text;
 use crate::look::look_line;
 use crate::pen::Pen;
 use crate::plays::{next_chapter, play_all};
@@ -39,6 +41,22 @@ fn show(
     pen.say(alloc, mark, line.as_str())
 }
 
+/// Lists a client's open errands.
+fn list(
+    alloc: Global,
+    session: &Session,
+    pen: &mut Pen,
+    mark: Option<&[u8]>,
+    client: u32,
+) -> Result<(), AllocError>
+    requires { 0 ≤ session.now.world.core.number }
+    ensures ok { OnOk result (IsAdded pen.old pen.new (marked (under mark.entry) (listed_text session.now.world.core client))) }
+    ensures err { OnErr result (IsKept pen.old pen.new) }
+{
+    let lines = listed_text(alloc, &session.world, client)?;
+    pen.say(alloc, mark, lines.as_str())
+}
+
 /// Does what a line asks.
 fn do_asked<R: Alloc<A = Global>, I, W: Write, S: Shelf>(
     rt: &R,
@@ -61,6 +79,7 @@ fn do_asked<R: Alloc<A = Global>, I, W: Write, S: Shelf>(
         Asked::Events(more) => play_all(rt, session, ends, pen, line.mark, more),
         Asked::Chapter => next_chapter(rt.alloc(), session, &mut ends.shelf, pen, line.mark),
         Asked::Look => Ok(show(rt.alloc(), session, pen, line.mark)?),
+        Asked::Open(client) => Ok(list(rt.alloc(), session, pen, line.mark, client)?),
         Asked::Other | Asked::Long => Ok(pen.say_bad(rt.alloc(), line)?),
     }
 }

@@ -50,7 +50,12 @@ fn hear_line(alloc: Global, head: &mut Head, line: Line<'_>) -> Result<bool, All
     match line.asked {
         Asked::Nothing => Ok(true),
         Asked::Other => add_line(alloc, head, line.told),
-        Asked::Events(_) | Asked::Chapter | Asked::Look | Asked::Quit | Asked::Long => Ok(false),
+        Asked::Events(_)
+        | Asked::Chapter
+        | Asked::Look
+        | Asked::Open(_)
+        | Asked::Quit
+        | Asked::Long => Ok(false),
     }
 }
 
@@ -70,7 +75,7 @@ fn opens_fleet(head: &Head, asked: Asked) -> bool
     ensures { result ≡ is_some (opens (drafted head.now) asked) }
 {
     match asked {
-        Asked::Events(_) | Asked::Chapter | Asked::Look => head.starts.is_some(),
+        Asked::Events(_) | Asked::Chapter | Asked::Look | Asked::Open(_) => head.starts.is_some(),
         Asked::Nothing | Asked::Quit | Asked::Other | Asked::Long => false,
     }
 }

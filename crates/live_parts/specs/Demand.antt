@@ -35,6 +35,7 @@ abbrev pub demand_of : Rights → Asked → List ℕ → Demand
 demand_of rights asked.Nothing told = demand.Nothing
 demand_of rights (asked.Events more) told = event_asked rights more.event more.times
 demand_of rights asked.Look told = demand.Ask wanted.Look
+demand_of rights (asked.Open client) told = demand.Open client
 demand_of rights asked.Chapter told = where_granted rights.rules (demand.Ask wanted.Chapter)
 demand_of rights asked.Quit told = where_granted rights.rules demand.Quit
 demand_of rights asked.Other told = where_granted rights.rules (watch_asked (words_of told))

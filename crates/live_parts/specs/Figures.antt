@@ -1,11 +1,68 @@
 -- The figures of a fleet, in the text form that Prometheus reads.
-use Rattle.std.specs.Prelude.{ℕ, List, ◌++◌, codes, decimal}
+use Rattle.std.specs.Prelude.{ℕ, List, [], ◌∷◌, ◌++◌, Option, Some, None, codes, decimal, unwrap_or}
+use Rattle.std.specs.List.{flat_map}
+use Rattle.fleet_book.specs.Refusals.{verdict_name}
+use Rattle.fleet_book.specs.declared.verdict.Verdict.{Verdict}
+use Rattle.fleet_book.specs.declared.verdict.Verdict.TheVariants.{Accepted, Closed, Withdrawn, ClientClosed, NoRobot, RobotShut, NoCell, Blocked, Unreachable, QueueFull, LifeSpent, NoErrand, TooLate}
+use Rattle.live_parts.specs.declared.figures.Figures.{Figures}
+use Rattle.live_parts.specs.declared.notices.Notices.{Notices}
+use Rattle.live_parts.specs.Notices.{open_count, told_count}
 
 -- a figure, after what it is
 abbrev pub figure_text : List ℕ → List ℕ → List ℕ → ℕ → List ℕ
 figure_text name kind help value =
     codes "# HELP " ++ (name ++ (codes " " ++ (help ++ (codes "\n# TYPE " ++ (name ++ (codes " " ++ (kind ++ (codes "\n" ++ (name ++ (codes " " ++ (decimal value ++ codes "\n")))))))))))
 
+-- a figure that never falls
+abbrev pub counter : List ℕ → List ℕ → ℕ → List ℕ
+counter name help value = figure_text name (codes "counter") help value
+
+-- a figure that rises and falls
+abbrev pub gauge : List ℕ → List ℕ → ℕ → List ℕ
+gauge name help value = figure_text name (codes "gauge") help value
+
+-- ---- verdicts
+
+-- one of each kind
+abbrev pub all_verdicts : List Verdict
+all_verdicts =
+    Accepted 0 ∷ Closed ∷ Withdrawn ∷ ClientClosed ∷ NoRobot ∷ RobotShut ∷ NoCell ∷ Blocked ∷ Unreachable ∷ QueueFull ∷ LifeSpent ∷ NoErrand ∷ TooLate ∷ []
+
 -- how many verdicts of a name were told
 abbrev pub verdict_line : List ℕ → ℕ → List ℕ
 verdict_line name count = codes "fleet_verdicts_total{verdict=\"" ++ (name ++ (codes "\"} " ++ (decimal count ++ codes "\n")))
+
+-- how many of the kind of this verdict were told
+abbrev pub kind_line : Notices → Verdict → List ℕ
+kind_line n verdict = verdict_line (verdict_name verdict) (told_count n verdict)
+
+abbrev pub verdicts_text : Notices → List ℕ
+verdicts_text n = codes "# HELP fleet_verdicts_total Verdicts told.\n# TYPE fleet_verdicts_total counter\n" ++ flat_map (kind_line n) all_verdicts
+
+-- ---- all figures
+
+abbrev pub counters_text : Figures → List ℕ
+counters_text f =
+    counter (codes "fleet_ticks_total") (codes "Ticks made.") f.tally.ticks
+    ++ counter (codes "fleet_orders_total") (codes "Orders judged.") f.tally.orders
+    ++ counter (codes "fleet_turns_late_total") (codes "Turns that began a period or more after their deadline.") f.tally.late
+    ++ counter (codes "fleet_arrivals_total") (codes "Arrivals told.") f.notices.arrived
+    ++ counter (codes "fleet_chapters_kept_total") (codes "Chapters kept.") f.kept
+
+-- the limit of all waits, where there is one
+abbrev pub limit_text : Option ℕ → List ℕ
+limit_text None = []
+limit_text (Some most) = gauge (codes "fleet_wait_limit_ticks") (codes "A number that no wait reaches.") most
+
+abbrev pub gauges_text : Figures → List ℕ
+gauges_text f =
+    gauge (codes "fleet_turn_latest_microseconds") (codes "How long after its deadline a turn began at most.") f.tally.latest
+    ++ gauge (codes "fleet_errands_open") (codes "Errands by a verdict that was told, without an arrival that was told.") (open_count f.notices)
+    ++ gauge (codes "fleet_queued_errands") (codes "Errands in the robots' queues.") f.queues.total
+    ++ gauge (codes "fleet_queue_longest") (codes "Errands in the longest queue.") f.queues.longest
+    ++ gauge (codes "fleet_wait_ticks") (codes "How long the robot has waited that has waited longest; 0 if none has an errand.") (unwrap_or f.waits.longest 0)
+    ++ gauge (codes "fleet_chapters_waiting") (codes "Chapters that could not be kept yet.") f.waiting
+    ++ limit_text f.waits.limit
+
+abbrev pub figures_text : Figures → List ℕ
+figures_text f = counters_text f ++ verdicts_text f.notices ++ gauges_text f

@@ -2,6 +2,7 @@ pub mod Counts
 pub mod Demand
 pub mod Figures
 pub mod Kept
+pub mod Notices
 pub mod Page
 pub mod Period
 pub mod Posted

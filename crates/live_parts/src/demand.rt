@@ -13,6 +13,8 @@ use fleet_talk::{Asked, Line};
 pub enum Wanted {
     Shut(u32),
     Look,
+    /// To list a client's open errands.
+    Open(u32),
     Chapter,
     Tick(u32),
     /// To judge what was posted; it has no answer of its own.
@@ -25,6 +27,8 @@ pub enum Demand {
     /// Nothing: it is blank, or a comment.
     Nothing,
     Post(u32, Order),
+    /// A client's open errands.
+    Open(u32),
     Ask(Wanted),
     Watch(bool),
     Quit,
@@ -94,6 +98,7 @@ pub fn demand_of(rights: Rights, line: Line<'_>) -> Demand
         Asked::Nothing => Demand::Nothing,
         Asked::Events(more) => event_asked(rights, more.event, more.times),
         Asked::Look => Demand::Ask(Wanted::Look),
+        Asked::Open(client) => Demand::Open(client),
         Asked::Chapter => where_granted(rights.rules, Demand::Ask(Wanted::Chapter)),
         Asked::Quit => where_granted(rights.rules, Demand::Quit),
         Asked::Other => where_granted(rights.rules, watch_asked(line.told)),

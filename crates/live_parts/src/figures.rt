@@ -1,11 +1,13 @@
 //! The figures of a fleet, in the text form that Prometheus reads.
 
-ghost use Rattle.std.specs.Prelude.{◌≡◌, ◌++◌, OnOk, string_bytes};
-ghost use Rattle.live_parts.specs.Figures.{figure_text, verdict_line};
+ghost use Rattle.std.specs.Prelude.{◌≡◌, ◌++◌, IfOk, OnOk, string_bytes};
+ghost use Rattle.std.specs.List.{flat_map};
+ghost use Rattle.live_parts.specs.Figures.{counter, counters_text, figure_text, figures_text, gauge, gauges_text, kind_line, limit_text, verdict_line, verdicts_text};
 
 use crate::notices::Notices;
 use crate::tally::Tally;
 use fleet_book::Verdict;
+use fleet_core::QueueReport;
 use fleet_office::WaitReport;
 use std::alloc::{AllocError, Global};
 use std::fmt::Write;
@@ -34,6 +36,7 @@ pub struct Figures {
     /// The notices that clients were told.
     pub notices: Notices,
     pub waits: WaitReport,
+    pub queues: QueueReport,
     /// How many chapters were kept.
     pub kept: u64,
     /// How many chapters wait to be kept.
@@ -57,6 +60,35 @@ fn add_figure(
     Ok(())
 }
 
+/// Adds a figure that never falls.
+fn add_counter(text: &mut String, name: &str, help: &str, value: u64) -> Result<(), AllocError>
+    ensures { OnOk result (string_bytes text.new ≡ string_bytes text.old ++ counter name.now help.now value) }
+{
+    add_figure(text, name, "counter", help, value)
+}
+
+/// Adds a figure that rises and falls.
+fn add_gauge(text: &mut String, name: &str, help: &str, value: u64) -> Result<(), AllocError>
+    ensures { OnOk result (string_bytes text.new ≡ string_bytes text.old ++ gauge name.now help.now value) }
+{
+    add_figure(text, name, "gauge", help, value)
+}
+
+/// Adds the limit of all waits, if there is one.
+fn add_limit(text: &mut String, limit: Option<u64>) -> Result<(), AllocError>
+    ensures { OnOk result (string_bytes text.new ≡ string_bytes text.old ++ limit_text limit) }
+{
+    match limit {
+        Some(most) => add_gauge(
+            text,
+            "fleet_wait_limit_ticks",
+            "A number that no wait reaches.",
+            most,
+        ),
+        None => Ok(()),
+    }
+}
+
 /// Adds how many verdicts of a kind were told.
 fn add_verdict(text: &mut String, name: &str, count: u64) -> Result<(), AllocError>
     ensures { OnOk result (string_bytes text.new ≡ string_bytes text.old ++ verdict_line name.now count) }
@@ -65,92 +97,101 @@ fn add_verdict(text: &mut String, name: &str, count: u64) -> Result<(), AllocErr
     Ok(())
 }
 
+/// Adds how many verdicts of the kinds of these were told.
+fn add_kinds(text: &mut String, notices: &Notices, verdicts: &[Verdict]) -> Result<(), AllocError>
+    ensures { OnOk result (string_bytes text.new ≡ string_bytes text.old ++ flat_map (kind_line notices.now) verdicts.now) }
+{
+    for verdict in verdicts {
+        add_verdict(text, verdict.name(), notices.count_of(*verdict))?;
+    }
+    Ok(())
+}
+
+/// Adds how many verdicts of each kind were told.
+fn add_verdicts(text: &mut String, notices: &Notices) -> Result<(), AllocError>
+    ensures { OnOk result (string_bytes text.new ≡ string_bytes text.old ++ verdicts_text notices.now) }
+{
+    text.push_str(
+        "# HELP fleet_verdicts_total Verdicts told.\n# TYPE fleet_verdicts_total counter\n",
+    )?;
+    add_kinds(text, notices, &VERDICTS)
+}
+
 impl Figures {
     /// Adds what the keeper counts.
-    fn add_counts(&self, text: &mut String) -> Result<(), AllocError> {
+    fn add_counters(&self, text: &mut String) -> Result<(), AllocError>
+        ensures { OnOk result (string_bytes text.new ≡ string_bytes text.old ++ counters_text self.now) }
+    {
         let tally = &self.tally;
-        let counters = [
-            ("fleet_ticks_total", "Ticks made.", tally.ticks),
-            ("fleet_orders_total", "Orders judged.", tally.orders),
-            (
-                "fleet_turns_late_total",
-                "Turns that began a period or more after their deadline.",
-                tally.late,
-            ),
-            (
-                "fleet_arrivals_total",
-                "Arrivals told.",
-                self.notices.arrived,
-            ),
-            ("fleet_chapters_kept_total", "Chapters kept.", self.kept),
-        ];
-        for (name, help, value) in counters {
-            add_figure(text, name, "counter", help, value)?;
-        }
-        Ok(())
+        add_counter(text, "fleet_ticks_total", "Ticks made.", tally.ticks)?;
+        add_counter(text, "fleet_orders_total", "Orders judged.", tally.orders)?;
+        add_counter(
+            text,
+            "fleet_turns_late_total",
+            "Turns that began a period or more after their deadline.",
+            tally.late,
+        )?;
+        let arrived = self.notices.arrived;
+        add_counter(text, "fleet_arrivals_total", "Arrivals told.", arrived)?;
+        add_counter(
+            text,
+            "fleet_chapters_kept_total",
+            "Chapters kept.",
+            self.kept,
+        )
     }
 
     /// Adds how the fleet stands.
-    fn add_gauges(&self, text: &mut String) -> Result<(), AllocError> {
-        let gauges = [
-            (
-                "fleet_turn_latest_microseconds",
-                "How long after its deadline a turn began at most.",
-                self.tally.latest,
-            ),
-            (
-                "fleet_errands_open",
-                "Errands by a verdict that was told, without an arrival that was told.",
-                self.notices.open(),
-            ),
-            (
-                "fleet_wait_ticks",
-                "How long the robot has waited that has waited longest; 0 if none has an errand.",
-                self.waits.longest.unwrap_or(0),
-            ),
-            (
-                "fleet_chapters_waiting",
-                "Chapters that could not be kept yet.",
-                self.waiting,
-            ),
-        ];
-        for (name, help, value) in gauges {
-            add_figure(text, name, "gauge", help, value)?;
-        }
-        match self.waits.limit {
-            Some(limit) => add_figure(
-                text,
-                "fleet_wait_limit_ticks",
-                "gauge",
-                "A number that no wait reaches.",
-                limit,
-            ),
-            None => Ok(()),
-        }
-    }
-
-    /// Adds how many verdicts of each kind were told.
-    fn add_verdicts(&self, text: &mut String) -> Result<(), AllocError> {
-        text.push_str(
-            "# HELP fleet_verdicts_total Verdicts told.\n# TYPE fleet_verdicts_total counter\n",
+    fn add_gauges(&self, text: &mut String) -> Result<(), AllocError>
+        ensures { OnOk result (string_bytes text.new ≡ string_bytes text.old ++ gauges_text self.now) }
+    {
+        add_gauge(
+            text,
+            "fleet_turn_latest_microseconds",
+            "How long after its deadline a turn began at most.",
+            self.tally.latest,
         )?;
-        for verdict in VERDICTS {
-            add_verdict(text, verdict.name(), self.notices.count_of(verdict))?;
-        }
-        Ok(())
-    }
-
-    /// All figures.
-    fn add_to(&self, text: &mut String) -> Result<(), AllocError> {
-        self.add_counts(text)?;
-        self.add_verdicts(text)?;
-        self.add_gauges(text)
+        add_gauge(
+            text,
+            "fleet_errands_open",
+            "Errands by a verdict that was told, without an arrival that was told.",
+            self.notices.open(),
+        )?;
+        add_gauge(
+            text,
+            "fleet_queued_errands",
+            "Errands in the robots' queues.",
+            self.queues.total,
+        )?;
+        add_gauge(
+            text,
+            "fleet_queue_longest",
+            "Errands in the longest queue.",
+            self.queues.longest,
+        )?;
+        add_gauge(
+            text,
+            "fleet_wait_ticks",
+            "How long the robot has waited that has waited longest; 0 if none has an errand.",
+            self.waits.longest.unwrap_or(0),
+        )?;
+        add_gauge(
+            text,
+            "fleet_chapters_waiting",
+            "Chapters that could not be kept yet.",
+            self.waiting,
+        )?;
+        add_limit(text, self.waits.limit)
     }
 
     /// The text of all figures.
-    pub fn text(&self, alloc: Global) -> Result<String, AllocError> {
+    pub fn text(&self, alloc: Global) -> Result<String, AllocError>
+        ensures { IfOk result (λ text. string_bytes text ≡ figures_text self.now) }
+    {
         let mut text = String::new(alloc);
-        self.add_to(&mut text)?;
+        self.add_counters(&mut text)?;
+        add_verdicts(&mut text, &self.notices)?;
+        self.add_gauges(&mut text)?;
         Ok(text)
     }
 }

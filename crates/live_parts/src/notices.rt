@@ -1,6 +1,7 @@
 //! How many notices were told, by kind.
 
 ghost use Rattle.std.specs.Prelude.{◌≡◌, ◌<◌};
+ghost use Rattle.live_parts.specs.Notices.{AreTogether, counted, kind, open_count, told_count};
 
 use fleet_book::{Notice, Verdict};
 
@@ -10,13 +11,15 @@ const KINDS: usize = 13;
 /// How many notices were told: verdicts by kind, and arrivals.
 #[derive(Clone, Copy, Debug, PartialEq, Eq)]
 pub struct Notices {
-    verdicts: [u64; KINDS],
+    /// Accepted, closed, withdrawn, and then the refusals by their numbers.
+    pub verdicts: [u64; KINDS],
     pub arrived: u64,
 }
 
 /// The place of a verdict's kind.
 fn place_of(verdict: Verdict) -> usize
-    ensures { result < 13 }
+    ensures place { result ≡ kind verdict }
+    ensures within { result < 13 }
 {
     match verdict {
         Verdict::Accepted(_) => 0,
@@ -42,7 +45,9 @@ impl Notices {
     };
 
     /// Counts a notice that was told.
-    pub(crate) fn count(&mut self, notice: Notice) {
+    pub(crate) fn count(&mut self, notice: Notice)
+        ensures { self.new ≡ counted self.old notice }
+    {
         match notice {
             Notice::Verdict { verdict, .. } => {
                 let place = place_of(verdict);
@@ -53,7 +58,9 @@ impl Notices {
     }
 
     /// Adds others.
-    pub fn add(&mut self, others: &Notices) {
+    pub fn add(&mut self, others: &Notices)
+        ensures { AreTogether self.old others.now self.new }
+    {
         for place in 0..KINDS {
             self.verdicts[place] = self.verdicts[place].saturating_add(others.verdicts[place]);
         }
@@ -61,12 +68,16 @@ impl Notices {
     }
 
     /// How many verdicts of this kind were told.
-    pub(crate) fn count_of(&self, verdict: Verdict) -> u64 {
+    pub(crate) fn count_of(&self, verdict: Verdict) -> u64
+        ensures { result ≡ told_count self.now verdict }
+    {
         self.verdicts[place_of(verdict)]
     }
 
     /// How many errands were accepted and neither withdrawn nor done, by the notices that were told.
-    pub(crate) fn open(&self) -> u64 {
+    pub(crate) fn open(&self) -> u64
+        ensures { result ≡ open_count self.now }
+    {
         self.verdicts[0]
             .saturating_sub(self.verdicts[2])
             .saturating_sub(self.arrived)

@@ -2,12 +2,14 @@
 use Rattle.std.proofs.Common.{List, IfErr, refl, sym, ap, subst}
 use Rattle.std.proofs.lemmas.Result.{on_ok_weaker}
 use Rattle.fleet_world.specs.Keeps.{talk}
-use Rattle.fleet_talk.specs.declared.ask.Asked.TheVariants.{Chapter, Look}
-use Rattle.fleet_talk.specs.Act.{Act, acts_asked, show, turn}
+use Rattle.fleet_talk.specs.declared.ask.Asked.TheVariants.{Chapter, Look, Open}
+use Rattle.fleet_talk.specs.Act.{Act, acts_asked, list, show, turn}
 use Rattle.fleet_talk.specs.Acts.{Talks}
 use Rattle.fleet_talk.specs.Lines.{line_shown}
+use Rattle.fleet_talk.specs.Listed.{listed_text}
 use Rattle.fleet_talk.specs.declared.fault.TalkFault.TheVariants.{NoMemory}
 use Rattle.fleet_talk.specs.Said.{under}
+use Rattle.fleet_talk.specs.Says.{marked}
 use Rattle.fleet_talk.specs.Talked.{TalksUntil}
 use Rattle.fleet_talk.proofs.Breaking.{until-kept, until-none}
 use Rattle.fleet_talk.proofs.Saying.{at-fault}
@@ -18,6 +20,12 @@ pub returns-in_ok-show-in-Look-clause-talks : goal.returns-in_ok-show-in-Look-cl
 returns-in_ok-show-in-Look-clause-talks g c =
     let (text, does, added) = c.in_ok-show-in-Look.ensures.ok in
     asked_one c.args.pen.now.settings.roll (talk c.args.session.now) (talk c.args.session.now) (line_shown c.args.line) c.args.line.asked Look (show (under c.args.line.mark)) text _ _ _ c.in-Look.is refl does added.out
+
+pub returns-in_ok-list-in-Open-clause-talks : goal.returns-in_ok-list-in-Open-clause-talks
+returns-in_ok-list-in-Open-clause-talks g c =
+    asked_one c.args.pen.now.settings.roll (talk c.args.session.now) (talk c.args.session.now) (line_shown c.args.line) c.args.line.asked (Open c.in-Open.client) (list (under c.args.line.mark) c.in-Open.client)
+    (marked (under c.args.line.mark) (listed_text c.args.session.now.world.core c.in-Open.client)) _ _ _ c.in-Open.is refl (refl, refl)
+    c.in_ok-list-in-Open.ensures.ok.out
 
 pub returns-in-Chapter-clause-talks : goal.returns-in-Chapter-clause-talks
 returns-in-Chapter-clause-talks g c =
@@ -47,6 +55,11 @@ returns-in-Chapter-clause-broken g c = until-kept c.args.pen.now.settings.roll c
 pub returns-in_err-show-in-Look-clause-broken : goal.returns-in_err-show-in-Look-clause-broken
 returns-in_err-show-in-Look-clause-broken g c =
     at-fault _ NoMemory _ c.from_residual.ensures.1 (until-none NoMemory c.args.pen.now.settings.roll (talk c.args.session.now) (acts_asked (line_shown c.args.line) c.args.line.asked) (g.W.Write.contents c.args.ends.now.output) c.args.pen.now.out.items c.show.new.pen.out.items tt c.in_err-show-in-Look.ensures.err.out)
+
+pub returns-in_err-list-in-Open-clause-broken : goal.returns-in_err-list-in-Open-clause-broken
+returns-in_err-list-in-Open-clause-broken g c =
+    at-fault _ NoMemory _ c.from_residual-in_err-list-in-Open.ensures.1
+    (until-none NoMemory c.args.pen.now.settings.roll (talk c.args.session.now) (acts_asked (line_shown c.args.line) c.args.line.asked) (g.W.Write.contents c.args.ends.now.output) c.args.pen.now.out.items c.list.new.pen.out.items tt c.in_err-list-in-Open.ensures.err.out)
 
 pub returns-in_err-say_bad-in-Other-clause-broken : goal.returns-in_err-say_bad-in-Other-clause-broken
 returns-in_err-say_bad-in-Other-clause-broken g c =

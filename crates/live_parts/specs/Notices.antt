@@ -1,0 +1,45 @@
+-- How many notices were told.
+use Rattle.std.specs.Prelude.{◌≡◌, ℕ, ◌+◌, ◌-◌, ◌^◌, ◌<◌, min, slice_index, slice_set}
+use Rattle.fleet_book.specs.declared.notice.Notice.{Notice}
+use Rattle.fleet_book.specs.declared.notice.Notice.TheVariants as notice
+use Rattle.fleet_book.specs.declared.verdict.Verdict.{Verdict}
+use Rattle.fleet_book.specs.declared.verdict.Verdict.TheVariants as verdict
+use Rattle.live_parts.specs.declared.notices.Notices.{Notices}
+
+-- the place of a verdict's kind among the 13
+abbrev pub kind : Verdict → ℕ
+kind (verdict.Accepted number) = 0
+kind verdict.Closed = 1
+kind verdict.Withdrawn = 2
+kind verdict.ClientClosed = 3
+kind verdict.NoRobot = 4
+kind verdict.RobotShut = 5
+kind verdict.NoCell = 6
+kind verdict.Blocked = 7
+kind verdict.Unreachable = 8
+kind verdict.QueueFull = 9
+kind verdict.LifeSpent = 10
+kind verdict.NoErrand = 11
+kind verdict.TooLate = 12
+
+-- how many verdicts of this one's kind were told
+abbrev pub told_count : Notices → Verdict → ℕ
+told_count n v = slice_index n.verdicts (kind v)
+
+-- how many errands were accepted and neither withdrawn nor done, by what was told
+abbrev pub open_count : Notices → ℕ
+open_count n = told_count n (verdict.Accepted 0) - told_count n verdict.Withdrawn - n.arrived
+
+-- a sum that stops at the greatest number of 64 bits
+abbrev pub capped : ℕ → ℕ → ℕ
+capped a b = min (a + b) (2 ^ 64 - 1)
+
+-- with one more notice
+abbrev pub counted : Notices → Notice → Notices
+counted n (notice.Verdict seq order_no v) = record n { verdicts = slice_set n.verdicts (kind v) (capped (told_count n v) 1) }
+counted n (notice.Arrived seq number robot cell tick stamp) = record n { arrived = capped n.arrived 1 }
+
+-- the third counts what the first and the second count
+pub record AreTogether (a b all : Notices) : Type 0 where
+  pub verdicts : (k : ℕ) → k < 13 → slice_index all.verdicts k ≡ capped (slice_index a.verdicts k) (slice_index b.verdicts k)
+  pub arrived : all.arrived ≡ capped a.arrived b.arrived
