@@ -5,9 +5,9 @@ ghost use Rattle.errands_text.specs.Transfer.{bytes_of};
 ghost use Rattle.errands_lib.specs.Laws.{program_laws};
 ghost use Rattle.errands_lib.specs.Told.{IsShown, names_two};
 
+use crate::job::Job;
 use crate::program::{fail, run_program};
 use errands_text::{HookKit, InputFault};
-use crate::job::Job;
 use fleet_hooks::{ArrivalHook, Farewell, Hooks, TieHook};
 use std::alloc::{Alloc, AllocError, Global};
 use std::io::{Read, Write};

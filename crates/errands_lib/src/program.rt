@@ -8,11 +8,11 @@ ghost use Rattle.errands_text.specs.Kit.{kit_laws};
 ghost use Rattle.errands_text.specs.Said.{said as said_of};
 
 use crate::answer::answer;
+use crate::job::Job;
 use crate::service::answer_job;
 use errands_text::{
     Complaint, HookKit, InputFault, Said, failure_line, read_other, read_whole, write_whole,
 };
-use crate::job::Job;
 use std::alloc::{Alloc, Global};
 use std::io::{Read, Write};
 use std::sync::Wait;

@@ -16,9 +16,9 @@ ghost use Rattle.errands_lib.specs.Outcome.{IsServed, IsServedScript, IsServeOut
 ghost use Rattle.errands_text.specs.Said.{said};
 ghost use Rattle.errands_lib.specs.Asked.{is_serve};
 
+use crate::job::Job;
 use crate::texts::ended;
 use errands_text::{Complaint, HookKit, Said, faulty, map_complaint, trace_line};
-use crate::job::Job;
 use fleet_grid::Grid;
 use fleet_history::Chapter;
 use fleet_map::{MapText, read_map};

@@ -8,10 +8,10 @@ ghost use Rattle.errands_lib.specs.Told.{IsShown, names_two};
 
 use crate::hooks::run_with_kit;
 use crate::inputs::{Inputs, open_both};
+use crate::job::{Job, JobFiles, parse_words};
 use crate::program::fail;
 use command_words::WordFault;
 use errands_text::{InputFault, write_whole};
-use crate::job::{Job, JobFiles, parse_words};
 use std::alloc::{Alloc, Global};
 use std::io::{Read, Write};
 use std::sync::Wait;
