@@ -1,2 +1,3 @@
+pub mod Figuring
 pub mod Keeping
 pub mod Telling

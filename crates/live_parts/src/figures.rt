@@ -97,12 +97,19 @@ fn add_verdict(text: &mut String, name: &str, count: u64) -> Result<(), AllocErr
     Ok(())
 }
 
+/// Adds how many verdicts of this one's kind were told.
+fn add_kind(text: &mut String, notices: &Notices, verdict: Verdict) -> Result<(), AllocError>
+    ensures { OnOk result (string_bytes text.new ≡ string_bytes text.old ++ kind_line notices.now verdict) }
+{
+    add_verdict(text, verdict.name(), notices.count_of(verdict))
+}
+
 /// Adds how many verdicts of the kinds of these were told.
 fn add_kinds(text: &mut String, notices: &Notices, verdicts: &[Verdict]) -> Result<(), AllocError>
     ensures { OnOk result (string_bytes text.new ≡ string_bytes text.old ++ flat_map (kind_line notices.now) verdicts.now) }
 {
     for verdict in verdicts {
-        add_verdict(text, verdict.name(), notices.count_of(*verdict))?;
+        add_kind(text, notices, *verdict)?;
     }
     Ok(())
 }
