@@ -33,7 +33,7 @@ abbrev pub verdict_line : List ℕ → ℕ → List ℕ
 verdict_line name count = codes "fleet_verdicts_total{verdict=\"" ++ (name ++ (codes "\"} " ++ (decimal count ++ codes "\n")))
 
 -- how many of the kind of this verdict were told
-abbrev pub kind_line : Notices → Verdict → List ℕ
+unfoldable pub kind_line : Notices → Verdict → List ℕ
 kind_line n verdict = verdict_line (verdict_name verdict) (told_count n verdict)
 
 abbrev pub verdicts_text : Notices → List ℕ

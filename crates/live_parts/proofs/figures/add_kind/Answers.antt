@@ -2,10 +2,11 @@
 use Rattle.std.proofs.Common.{◌∙◌, ℕ, List, ◌++◌, ap, string_bytes}
 use Rattle.std.proofs.lemmas.Result.{on_ok_weaker}
 use Rattle.fleet_book.specs.Refusals.{verdict_name}
-use Rattle.live_parts.specs.Figures.{verdict_line}
+use Rattle.live_parts.specs.Figures.{kind_line, verdict_line}
 use Rattle.live_parts.proofs.figures.add_kind.Goals as goal
 
 pub returns : goal.returns
+unfolding kind_line
 returns c =
     on_ok_weaker c.add_verdict.result
     (λ h. h
