@@ -22,8 +22,12 @@ pub fn is_valid(alloc: Global, map: &[u8], plan: &[u8]) -> Result<bool, AllocErr
         PlanAnswer::Valid(_report) => Ok(true),
         PlanAnswer::Map(_fault) => Ok(false),
         PlanAnswer::Text(_fault) => Ok(false),
+        PlanAnswer::Cut(_line) => Ok(false),
+        PlanAnswer::Scenario(_line) => Ok(false),
         PlanAnswer::Json(_fault) => Ok(false),
+        PlanAnswer::Head(_fault) => Ok(false),
         PlanAnswer::Invalid(_fault) => Ok(false),
+        PlanAnswer::Goals { time: _, fault: _ } => Ok(false),
     }
 }
 

@@ -1,4 +1,3 @@
 pub mod Jobs
-pub mod KitLaws
 pub mod Services
 pub mod Outcomes

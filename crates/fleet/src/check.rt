@@ -10,11 +10,16 @@ use std::io::Write;
 fn answer_files<R: Files + Alloc<A = Global>>(rt: &R, check: &Check) -> Result<Said, InputFault> {
     let map = file_bytes(rt, check.map.as_str(), MOST_MAP_BYTES)?;
     let plan = file_bytes(rt, check.plan.as_str(), MOST_PLAN_BYTES)?;
-    Ok(answer_check(rt.alloc(), &map, &plan)?)
+    let Some(name) = &check.goals else {
+        return Ok(answer_check(rt.alloc(), check.strict, None, &map, &plan)?);
+    };
+    let goals = file_bytes(rt, name.as_str(), MOST_PLAN_BYTES)?;
+    let scenario = Some(goals.as_slice());
+    Ok(answer_check(rt.alloc(), check.strict, scenario, &map, &plan)?)
 }
 
-/// Judges the plan. Returns the status: 0 the plan is valid, 3 a file failed, 4 the map is refused, 6 the plan cannot
-/// be read or is not valid, 7 memory ran out.
+/// Judges the plan. Returns the status: 0 the plan is valid, 3 a file failed, 4 the map or 5 the scenario is refused, 6 the plan
+/// cannot be read or is not valid, 7 memory ran out.
 pub(crate) fn run_check<R: Files + Alloc<A = Global>, W: Write, E: Write>(
     rt: &R,
     check: &Check,

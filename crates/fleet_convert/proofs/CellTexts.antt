@@ -1,10 +1,10 @@
 -- The text of cells, read as cells.
-use Rattle.std.proofs.Common.{◌≡◌, ◌≢◌, ℕ, ◌+◌, ◌-◌, ◌*◌, ◌/◌, ◌%◌, ◌<◌, ◌≤◌, ◌^◌, inl, inr, List, [], ◌∷◌, ◌++◌, length, take, slice_index, min, All, Option, Some, decimal, option_map, option_and_then, refl, sym, ap, ◌∙◌, subst, arith}
+use Rattle.std.proofs.Common.{◌≡◌, ◌≢◌, ℕ, ◌+◌, ◌-◌, ◌*◌, ◌/◌, ◌%◌, ◌<◌, ◌≤◌, ◌^◌, inl, inr, false, List, [], ◌∷◌, ◌++◌, length, take, slice_index, min, All, Option, Some, decimal, option_map, option_and_then, refl, sym, ap, ◌∙◌, subst, arith}
 use Rattle.std.proofs.lemmas.Bool.{cases_eq, lt-ltb}
 use Rattle.std.proofs.lemmas.Nat.{div-add-mod', mod_below, div_below}
 use Rattle.std.proofs.lemmas.List.{append_assoc, length_push, get_or_push, take_at}
 use Rattle.std.proofs.lemmas.List.Elements.{All-nil, All-cons, All-head, All-tail, All-append, All-weaker}
-use Rattle.fleet_plans.specs.Cells.{parts_of, coordinate, column_in, row_in, cell_at, pair_in, cells_in}
+use Rattle.fleet_plans.specs.Cells.{parts_of, coordinate, column_in, row_in, cell_at, pair_in, cells_in, is_faced, listed_in}
 use Rattle.fleet_convert.specs.Cells.{cell_text, cells_text}
 use Rattle.fleet_convert.proofs.Bytes.{IsLow, IsDigit, decimal_digits, number_reads, part_more}
 
@@ -59,11 +59,17 @@ module _ (w h c : ℕ) (slim : w ≤ 1024) (low : h ≤ 1024) (inside : c < h * 
   column_is : column_in (40 ∷ decimal (c % w)) ≡ Some (c % w)
   column_is = coordinate_is (c % w) (omega (arith, column_small, slim))
 
+  last_is : slice_index (decimal (c / w) ++ 41 ∷ []) (length (decimal (c / w) ++ 41 ∷ []) - 1) ≡ 41
+  last_is =
+      let ds = decimal (c / w) in
+      let long : length (ds ++ 41 ∷ []) - 1 ≡ length ds = omega (arith, length_push ds 41) in
+      get_or_push ds 41 0 (length (ds ++ 41 ∷ []) - 1) (sym long)
+
   row_is : row_in (decimal (c / w) ++ 41 ∷ []) ≡ Some (c / w)
   row_is =
       let ds = decimal (c / w) in
       let long : length (ds ++ 41 ∷ []) - 1 ≡ length ds = omega (arith, length_push ds 41) in
-      let last : slice_index (ds ++ 41 ∷ []) (length (ds ++ 41 ∷ []) - 1) ≡ 41 = get_or_push ds 41 0 (length (ds ++ 41 ∷ []) - 1) (sym long) in
+      let last = last_is in
       let front : take (length (ds ++ 41 ∷ []) - 1) (ds ++ 41 ∷ []) ≡ ds = take_at ds (41 ∷ []) (length (ds ++ 41 ∷ []) - 1) (sym long) in
       rw (last, front) (coordinate_is (c / w) (omega (arith, row_small, low)))
 
@@ -90,6 +96,9 @@ module _ (w h c : ℕ) (slim : w ≤ 1024) (low : h ≤ 1024) (inside : c < h * 
       ∙ (part_more (40 ∷ decimal (c % w)) ((decimal (c / w) ++ 41 ∷ []) ++ 44 ∷ rest) first_free
       ∙ ap (λ (ps : List (List ℕ)). (40 ∷ decimal (c % w)) ∷ ps) (part_more (decimal (c / w) ++ 41 ∷ []) rest second_free))
 
+  pub is_plain : (rest : List ℕ) → is_faced (parts_of (cell_text w c ++ rest)) ≡ false
+  is_plain rest = rw (parts_are rest, last_is) refl
+
   pub cell_more : (rest cells : List ℕ) → cells_in w h (parts_of rest) ≡ Some cells → cells_in w h (parts_of (cell_text w c ++ rest)) ≡ Some (c ∷ cells)
   cell_more rest cells read = rw (parts_are rest, pair_is, read) refl
 
@@ -99,6 +108,12 @@ cells_read w h [] slim low inside = refl
 cells_read w h (c ∷ cs) slim low inside =
     let here = All-head (λ x. x < h * w) c cs inside in
     cell_more w h c slim low here (cells_text w cs) cs (cells_read w h cs slim low (All-tail (λ x. x < h * w) c cs inside))
+
+-- they have no directions
+pub listed_read : (w h : ℕ) (cells : List ℕ) → w ≤ 1024 → h ≤ 1024 → All (λ c. c < h * w) cells → listed_in w h (parts_of (cells_text w cells)) ≡ Some cells
+listed_read w h [] slim low inside = refl
+listed_read w h (c ∷ cs) slim low inside =
+    rw (is_plain w h c slim low (All-head (λ x. x < h * w) c cs inside) (cells_text w cs)) (cells_read w h (c ∷ cs) slim low inside)
 
 pub cells_low : (w h : ℕ) (cells : List ℕ) → w ≤ 1024 → h ≤ 1024 → All (λ c. c < h * w) cells → All IsLow (cells_text w cells)
 cells_low w h [] slim low inside = All-nil IsLow

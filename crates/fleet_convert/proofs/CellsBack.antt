@@ -6,7 +6,7 @@ use Rattle.std.proofs.lemmas.List.{append_assoc, append-nil, length_push}
 use Rattle.std.proofs.lemmas.List.Elements.{All-head, All-tail, All-append, All-weaker, All-get_or}
 use Rattle.std.proofs.lemmas.Slice.Eq.{bytes_eq-Decides}
 use Rattle.fleet_map.specs.Text.{number_of, lines_of}
-use Rattle.fleet_plans.specs.Cells.{parts_of, cells_in}
+use Rattle.fleet_plans.specs.Cells.{parts_of, listed_in}
 use Rattle.fleet_plans.specs.Head.{Head, Opened, blank_head, split_once, head_of, and_then}
 use Rattle.fleet_plans.specs.Places.{is_number, place_in, begins, with_place, with_step, places_of}
 use Rattle.fleet_plans.specs.Text.{placed, after, source_after, source_of, IsReadAs}
@@ -14,7 +14,7 @@ use Rattle.fleet_grid.specs.Floor.{Floor, HasForm}
 use Rattle.fleet_plans.specs.Valid.{place_at, HasSize, IsValidPlan}
 use Rattle.fleet_convert.specs.Cells.{cells_text, place_line, places_text, last_place, cells_head, cells_plan}
 use Rattle.fleet_convert.proofs.Bytes.{IsDigit, decimal_digits, number_reads, line_more, splits}
-use Rattle.fleet_convert.proofs.CellTexts.{cells_read, cells_low}
+use Rattle.fleet_convert.proofs.CellTexts.{listed_read, cells_low}
 use Rattle.fleet_convert.proofs.Placed.{one_fleet, all_inside, every_inside}
 use Rattle.fleet_convert.proofs.Heads.{plain_of, plain_low, plain_digits, line_front, head_more, head_end, agents_line, starts_line, goals_line, keyed_plain}
 
@@ -41,7 +41,7 @@ module _ (w h : ℕ) (slim : w ≤ 1024) (low : h ≤ 1024) where
   step_is head places time place count small inside =
       let free : All (λ b. b ≢ 58) (decimal time) = All-weaker IsDigit (λ b. b ≢ 58) (λ b d e. omega (arith, d.1, e)) (decimal time) (decimal_digits time (omega (arith, small))) in
       with_text w h head places (decimal time) (58 ∷ cells_text w place) (decimal_nonempty time (omega (arith, small)))
-      ∙ rw (splits 58 (decimal time) (cells_text w place) free, count, number_is time small, cells_read w h place slim low inside) refl
+      ∙ rw (splits 58 (decimal time) (cells_text w place) free, count, number_is time small, listed_read w h place slim low inside) refl
 
   later_place : (head : Head) (places : List (List ℕ)) (place : List ℕ) → 1 ≤ length places → with_place head places place ≡ Some (places ++ place ∷ [])
   later_place head [] place some = absurd (omega arith)

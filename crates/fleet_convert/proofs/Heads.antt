@@ -6,11 +6,11 @@ use Rattle.std.proofs.lemmas.List.{append_assoc}
 use Rattle.std.proofs.lemmas.List.Elements.{All-append, All-weaker}
 use Rattle.std.proofs.lemmas.List.Sums.{AllPass-from_list_all}
 use Rattle.fleet_map.specs.Text.{lines_of}
-use Rattle.fleet_plans.specs.Cells.{parts_of, cells_in}
+use Rattle.fleet_plans.specs.Cells.{parts_of, listed_in}
 use Rattle.fleet_plans.specs.Head.{Head, blank_head, if_new, with_value, with_line, head_of}
 use Rattle.fleet_convert.specs.Cells.{cells_text}
 use Rattle.fleet_convert.proofs.Bytes.{IsLow, IsDigit, decimal_digits, line_more, splits}
-use Rattle.fleet_convert.proofs.CellTexts.{cells_read, cells_low}
+use Rattle.fleet_convert.proofs.CellTexts.{listed_read, cells_low}
 
 -- ---- constant texts
 
@@ -58,12 +58,12 @@ module _ (w h : ℕ) (slim : w ≤ 1024) (low : h ≤ 1024) where
 
   pub starts_line : (head : Head) (cells : List ℕ) → head.starts ≡ None → All (λ c. c < h * w) cells → with_line w h head (codes "starts=" ++ cells_text w cells) ≡ Some (record head { starts = Some cells })
   starts_line head cells new inside =
-      let takes : with_value w h head (codes "starts") (cells_text w cells) ≡ Some (record head { starts = Some cells }) = rw (new, cells_read w h cells slim low inside) refl in
+      let takes : with_value w h head (codes "starts") (cells_text w cells) ≡ Some (record head { starts = Some cells }) = rw (new, listed_read w h cells slim low inside) refl in
       keyed w h head (record head { starts = Some cells }) (codes "starts") (cells_text w cells) (omega arith) (free_of 61 (codes "starts") refl) takes
 
   pub goals_line : (head : Head) (cells : List ℕ) → head.goals ≡ None → All (λ c. c < h * w) cells → with_line w h head (codes "goals=" ++ cells_text w cells) ≡ Some (record head { goals = Some cells })
   goals_line head cells new inside =
-      let takes : with_value w h head (codes "goals") (cells_text w cells) ≡ Some (record head { goals = Some cells }) = rw (new, cells_read w h cells slim low inside) refl in
+      let takes : with_value w h head (codes "goals") (cells_text w cells) ≡ Some (record head { goals = Some cells }) = rw (new, listed_read w h cells slim low inside) refl in
       keyed w h head (record head { goals = Some cells }) (codes "goals") (cells_text w cells) (omega arith) (free_of 61 (codes "goals") refl) takes
 
   pub form_line : (head : Head) → head.is_moves ≡ None → with_line w h head (codes "form=moves") ≡ Some (record head { is_moves = Some true })

@@ -1,4 +1,4 @@
--- A plan as the JSON of the League of Robot Runners: where each robot starts, `[ROW,COLUMN]`, and its path, the letters of
+-- A plan as the JSON of the League of Robot Runners: where each robot starts, `[ROW,COLUMN,"E"]`, and its path, the letters of
 -- its steps separated by commas, of the action model MAPF, in which robots do not turn.
 use Rattle.std.specs.Prelude.{ℕ, ◌+◌, ◌/◌, ◌%◌, List, [], ◌∷◌, ◌++◌, length, codes, decimal, ◌==◌, if◌then◌else◌}
 use Rattle.fleet_plans.specs.Valid.{place_at}
@@ -25,7 +25,7 @@ path_from place (step ∷ steps) = (comma_before place ++ capital step) ++ path_
 -- the starts, from this robot on
 abbrev pub starts_from : ℕ → ℕ → List ℕ → List ℕ
 starts_from width robot [] = []
-starts_from width robot (cell ∷ cells) = (comma_before robot ++ codes "[" ++ decimal (cell / width) ++ codes "," ++ decimal (cell % width) ++ codes "]") ++ starts_from width (robot + 1) cells
+starts_from width robot (cell ∷ cells) = (comma_before robot ++ codes "[" ++ decimal (cell / width) ++ codes "," ++ decimal (cell % width) ++ codes ",\"E\"]") ++ starts_from width (robot + 1) cells
 
 -- the paths, from this robot on
 abbrev pub paths_from : ℕ → List (List ℕ) → ℕ → List ℕ → List ℕ

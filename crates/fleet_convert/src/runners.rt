@@ -34,14 +34,14 @@ fn write_path(
     Ok(())
 }
 
-/// A robot's row and column, as the next item of a list.
+/// A robot's row, column and direction, as the next item of a list. Robots do not turn; viewers still want a direction.
 fn write_start(out: &mut String, width: u32, robot: usize, cell: u32) -> Result<(), AllocError>
     requires { 1 ≤ width }
-    ensures { OnOk result (string_bytes out.new ≡ string_bytes out.old ++ (comma_before robot ++ codes "[" ++ decimal (cell / width) ++ codes "," ++ decimal (cell % width) ++ codes "]")) }
+    ensures { OnOk result (string_bytes out.new ≡ string_bytes out.old ++ (comma_before robot ++ codes "[" ++ decimal (cell / width) ++ codes "," ++ decimal (cell % width) ++ codes ",\"E\"]")) }
 {
     let (row, column) = (cell / width, cell % width);
     out.push_str(comma_before(robot))?;
-    write!(out, "[{row},{column}]")
+    write!(out, "[{row},{column},\"E\"]")
 }
 
 /// The robots' start cells.
@@ -81,7 +81,7 @@ fn write_paths(out: &mut String, width: u32, places: &Placements) -> Result<(), 
 }
 
 /// The text of a plan on a map of this width, as the JSON of the League of Robot Runners, in the action model MAPF:
-/// `start` has each robot's row and column, and `actualPaths` its steps, as letters U, D, L, R, W separated by commas.
+/// `start` has each robot's row, column and direction E, and `actualPaths` its steps, as letters U, D, L, R, W separated by commas.
 /// The only error is out of memory.
 pub fn runners_plan(alloc: Global, width: u32, places: &Placements) -> Result<String, AllocError>
     requires { 1 ≤ width }

@@ -1,11 +1,17 @@
 -- What the word `check` prints.
-use Rattle.std.specs.Prelude.{◌≡◌, ℕ, List, [], ◌++◌, codes, decimal}
+use Rattle.std.specs.Prelude.{◌≡◌, ℕ, Bool, true, false, List, [], ◌++◌, Option, Some, None, codes, decimal}
 use Rattle.errands_text.specs.declared.said.Complaint.TheVariants as complaint
 use Rattle.errands_text.specs.Complaint.{complaint_text}
 use Rattle.fleet_plans.specs.declared.answer.PlanAnswer.{PlanAnswer}
 use Rattle.fleet_plans.specs.declared.answer.PlanAnswer.TheVariants as answer
 use Rattle.fleet_plans.specs.declared.judging.PlanFault.{PlanFault}
-use Rattle.fleet_plans.specs.Answer.{IsPlanAnswer, fault_text, report_text}
+use Rattle.fleet_plans.specs.declared.goals.GoalFault.{GoalFault}
+use Rattle.fleet_plans.specs.declared.goals.GoalFault.TheVariants.{NoGoals, OffStart, OffGoal}
+use Rattle.fleet_plans.specs.declared.misspelt.Misspelt.{Misspelt}
+use Rattle.fleet_plans.specs.Answer.{IsPlanAnswer, IsSolutionAnswer, IsScenarioAnswer, fault_text, report_text}
+use Rattle.fleet_plans.specs.Claims.{head_text}
+use Rattle.fleet_plans.specs.Misspelt.{misspelt_of, misspelt_text}
+use Rattle.fleet_plans.specs.Reading.{head_lines}
 use Rattle.fleet_plans.specs.Told.{told_text}
 use Rattle.fleet_lib.specs.Said.{Outcome}
 
@@ -19,14 +25,36 @@ refused complaint status = record { output = []; status = status; complaint = co
 abbrev pub invalid_text : PlanFault → List ℕ
 invalid_text fault = codes "invalid " ++ decimal fault.time ++ codes " " ++ fault_text fault.fault ++ codes "\n"
 
--- a report with status 0; the first fault of a plan with 6; a text that is no plan with 6, and its line or its key; a map with 4
+-- the line of a robot that does not begin on its start or end on its goal; a plan without goals is none that is asked for
+abbrev pub goals_outcome : ℕ → GoalFault → Outcome
+goals_outcome time NoGoals = refused (codes "fleet: plan goals\n") 6
+goals_outcome time (OffStart robot) = good (codes "invalid 0 off-start " ++ (decimal robot ++ codes "\n")) 6
+goals_outcome time (OffGoal robot) = good (codes "invalid " ++ (decimal time ++ (codes " off-goal " ++ (decimal robot ++ codes "\n")))) 6
+
+-- a report with status 0; the first fault of a plan with 6; a text that is no plan, is cut, or says another plan in its head, with 6
+-- and its line or its key; a scenario with 5, and a map with 4
 abbrev pub outcome_of : PlanAnswer → Outcome
 outcome_of (answer.Map fault) = refused (codes "fleet: " ++ complaint_text (complaint.Map fault) ++ codes "\n") 4
 outcome_of (answer.Text line) = refused (codes "fleet: plan " ++ decimal line ++ codes "\n") 6
+outcome_of (answer.Cut line) = refused (codes "fleet: plan " ++ decimal line ++ codes " cut\n") 6
+outcome_of (answer.Scenario line) = refused (codes "fleet: scenario " ++ decimal line ++ codes "\n") 5
 outcome_of (answer.Json fault) = refused (codes "fleet: plan " ++ told_text fault ++ codes "\n") 6
+outcome_of (answer.Head fault) = refused (codes "fleet: plan " ++ head_text fault ++ codes "\n") 6
 outcome_of (answer.Valid report) = good (report_text report) 0
 outcome_of (answer.Invalid fault) = good (invalid_text fault) 6
+outcome_of (answer.Goals time fault) = goals_outcome time fault
 
--- what is said to a map and a plan
-abbrev pub IsCheckOutcome : List ℕ → List ℕ → Outcome → Type 0
-IsCheckOutcome map plan o = (a : PlanAnswer) × IsPlanAnswer map plan a × (o ≡ outcome_of a)
+-- a line of the head whose key says nothing and is like one that does is said first
+abbrev pub noted : Option Misspelt → Outcome → Outcome
+noted None o = o
+noted (Some m) o = record o { complaint = codes "fleet: " ++ (misspelt_text m ++ (codes "\n" ++ o.complaint)) }
+
+-- a scenario asks for more than the goals that the plan names
+abbrev pub IsAnswerBy : Bool → Option (List ℕ) → List ℕ → List ℕ → PlanAnswer → Type 0
+IsAnswerBy strict (Some scenario) map plan a = IsScenarioAnswer map scenario plan a
+IsAnswerBy false None map plan a = IsPlanAnswer map plan a
+IsAnswerBy true None map plan a = IsSolutionAnswer map plan a
+
+-- what is said to a map and a plan, of which it may be asked that each robot ends on its goal, or does what a scenario says
+abbrev pub IsCheckOutcome : Bool → Option (List ℕ) → List ℕ → List ℕ → Outcome → Type 0
+IsCheckOutcome strict scenario map plan o = (a : PlanAnswer) × IsAnswerBy strict scenario map plan a × (o ≡ noted (misspelt_of 1 (head_lines plan)) (outcome_of a))

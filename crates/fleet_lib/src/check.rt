@@ -1,13 +1,16 @@
 //! The word `check`.
 
-ghost use Rattle.std.specs.Prelude.{◌≡◌, ◌≤◌, Some, length, IfOk};
-ghost use Rattle.fleet_plans.specs.Answer.{IsPlanAnswer};
+ghost use Rattle.std.specs.Prelude.{◌≡◌, ◌≤◌, Some, length, string_bytes, IfOk, IfSome};
+ghost use Rattle.std.specs.Option.{option_copied};
 ghost use Rattle.fleet_lib.specs.Said.{said_of};
-ghost use Rattle.fleet_lib.specs.Check.{IsCheckOutcome, good, outcome_of, invalid_text};
+ghost use Rattle.fleet_lib.specs.Check.{IsAnswerBy, IsCheckOutcome, good, refused, outcome_of, goals_outcome, noted, invalid_text};
 
 use crate::said::Said;
 use errands_text::Complaint;
-use fleet_plans::{FaultText, PlanAnswer, PlanFault, check_texts};
+use fleet_plans::{
+    FaultText, GoalFault, Misspelt, PlanAnswer, PlanFault, check_scenario, check_solution,
+    check_texts, first_misspelt,
+};
 use std::alloc::{AllocError, Global};
 use std::fmt;
 
@@ -38,6 +41,44 @@ pub(crate) fn printed(alloc: Global, text: &str, status: u8) -> Result<Said, All
     })
 }
 
+/// The answer to a plan that is not valid, with this line.
+fn invalid(alloc: Global, line: &str) -> Result<Said, AllocError>
+    ensures { IfOk result (λ s. said_of s ≡ good line.now 6) }
+{
+    printed(alloc, line, 6)
+}
+
+/// An answer with this text for the error writer and this status.
+fn refused(alloc: Global, complaint: String, status: u8) -> Said
+    ensures { said_of result ≡ refused (string_bytes complaint) status }
+{
+    Said {
+        output: Vec::new(alloc),
+        status,
+        complaint,
+    }
+}
+
+/// The answer where a plan does not lead the robots to their goals.
+fn said_of_goals(alloc: Global, time: u32, fault: GoalFault) -> Result<Said, AllocError>
+    ensures { IfOk result (λ s. said_of s ≡ goals_outcome time fault) }
+{
+    match fault {
+        GoalFault::NoGoals => {
+            let text = String::from_str(alloc, "fleet: plan goals\n")?;
+            Ok(refused(alloc, text, 6))
+        }
+        GoalFault::OffStart(robot) => {
+            let text = format!(in alloc; "invalid 0 off-start {robot}\n")?;
+            invalid(alloc, &text)
+        }
+        GoalFault::OffGoal(robot) => {
+            let text = format!(in alloc; "invalid {time} off-goal {robot}\n")?;
+            invalid(alloc, &text)
+        }
+    }
+}
+
 /// The program's answer, made from the result for a map and a plan.
 fn said_of_answer(alloc: Global, answer: PlanAnswer) -> Result<Said, AllocError>
     ensures { IfOk result (λ s. said_of s ≡ outcome_of answer) }
@@ -45,22 +86,29 @@ fn said_of_answer(alloc: Global, answer: PlanAnswer) -> Result<Said, AllocError>
     match answer {
         PlanAnswer::Map(fault) => {
             let complaint = Complaint::Map(fault);
-            Ok(Said {
-                output: Vec::new(alloc),
-                status: 4,
-                complaint: format!(in alloc; "fleet: {complaint}\n")?,
-            })
+            let text = format!(in alloc; "fleet: {complaint}\n")?;
+            Ok(refused(alloc, text, 4))
         }
-        PlanAnswer::Text(line) => Ok(Said {
-            output: Vec::new(alloc),
-            status: 6,
-            complaint: format!(in alloc; "fleet: plan {line}\n")?,
-        }),
-        PlanAnswer::Json(fault) => Ok(Said {
-            output: Vec::new(alloc),
-            status: 6,
-            complaint: format!(in alloc; "fleet: plan {fault}\n")?,
-        }),
+        PlanAnswer::Text(line) => {
+            let text = format!(in alloc; "fleet: plan {line}\n")?;
+            Ok(refused(alloc, text, 6))
+        }
+        PlanAnswer::Cut(line) => {
+            let text = format!(in alloc; "fleet: plan {line} cut\n")?;
+            Ok(refused(alloc, text, 6))
+        }
+        PlanAnswer::Scenario(line) => {
+            let text = format!(in alloc; "fleet: scenario {line}\n")?;
+            Ok(refused(alloc, text, 5))
+        }
+        PlanAnswer::Json(fault) => {
+            let text = format!(in alloc; "fleet: plan {fault}\n")?;
+            Ok(refused(alloc, text, 6))
+        }
+        PlanAnswer::Head(fault) => {
+            let text = format!(in alloc; "fleet: plan {fault}\n")?;
+            Ok(refused(alloc, text, 6))
+        }
         PlanAnswer::Valid(report) => {
             let text = format!(in alloc; "{report}")?;
             printed(alloc, &text, 0)
@@ -68,16 +116,69 @@ fn said_of_answer(alloc: Global, answer: PlanAnswer) -> Result<Said, AllocError>
         PlanAnswer::Invalid(fault) => {
             let line = InvalidText(fault);
             let text = format!(in alloc; "{line}")?;
-            printed(alloc, &text, 6)
+            invalid(alloc, &text)
+        }
+        PlanAnswer::Goals { time, fault } => said_of_goals(alloc, time, fault),
+    }
+}
+
+/// The answer with what is said first of a line whose key is like one that says something.
+fn noted(alloc: Global, found: Option<Misspelt>, said: Said) -> Result<Said, AllocError>
+    ensures { IfOk result (λ s. said_of s ≡ noted found (said_of said)) }
+{
+    let Some(line) = found else {
+        return Ok(said);
+    };
+    let Said {
+        output,
+        status,
+        complaint,
+    } = said;
+    let text = format!(in alloc; "fleet: {line}\n{complaint}")?;
+    Ok(Said {
+        output,
+        status,
+        complaint: text,
+    })
+}
+
+/// What there is to say of a map and a plan.
+fn check_plan(
+    alloc: Global,
+    strict: bool,
+    scenario: Option<&[u8]>,
+    map: &[u8],
+    plan: &[u8],
+) -> Result<PlanAnswer, AllocError>
+    requires scenario { IfSome scenario (λ text. length text.now ≤ 16777216) }
+    requires plan { length plan.now ≤ 16777216 }
+    ensures { IfOk result (λ answer. IsAnswerBy strict (option_copied scenario.entry) map.now plan.now answer) }
+{
+    match scenario {
+        Some(text) => check_scenario(alloc, map, text, plan),
+        None => {
+            if strict {
+                check_solution(alloc, map, plan)
+            } else {
+                check_texts(alloc, map, plan)
+            }
         }
     }
 }
 
-/// The answer to a map and a plan: what `check_texts` answers, as text.
-pub fn answer_check(alloc: Global, map: &[u8], plan: &[u8]) -> Result<Said, AllocError>
-    requires { length plan.now ≤ 16777216 }
-    ensures { IfOk result (λ s. IsCheckOutcome map.now plan.now (said_of s)) }
+/// The answer to a map and a plan: what `check_texts`, `check_solution` or `check_scenario` answers, as text.
+pub fn answer_check(
+    alloc: Global,
+    strict: bool,
+    scenario: Option<&[u8]>,
+    map: &[u8],
+    plan: &[u8],
+) -> Result<Said, AllocError>
+    requires scenario { IfSome scenario (λ text. length text.now ≤ 16777216) }
+    requires plan { length plan.now ≤ 16777216 }
+    ensures { IfOk result (λ s. IsCheckOutcome strict (option_copied scenario.entry) map.now plan.now (said_of s)) }
 {
-    let answer = check_texts(alloc, map, plan)?;
-    said_of_answer(alloc, answer)
+    let answer = check_plan(alloc, strict, scenario, map, plan)?;
+    let said = said_of_answer(alloc, answer)?;
+    noted(alloc, first_misspelt(plan), said)
 }

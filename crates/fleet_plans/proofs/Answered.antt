@@ -4,44 +4,32 @@ use Rattle.std.proofs.lemmas.List.{append_assoc}
 use Rattle.fleet_map.specs.declared.fault.MapFault.{MapFault}
 use Rattle.fleet_map.specs.declared.fault.MapFault.TheVariants as map_fault
 use Rattle.fleet_map.specs.Grammar.{Map, Fails}
-use Rattle.fleet_grid.specs.Floor.{Floor, floor_of}
-use Rattle.fleet_plans.specs.Shown.{FailsAt}
-use Rattle.fleet_plans.specs.Text.{source_of, IsReadAs}
-use Rattle.fleet_plans.specs.Answer.{IsJudged, IsLinesAnswer, no_plan, judged, IsJsonAnswer, no_plan_told, told_judged}
-use Rattle.fleet_plans.specs.Runners.{IsRunnersPlan, IsRunnersFault}
-use Rattle.fleet_plans.specs.declared.runners.fault.RunnersFault.{RunnersFault}
-use Rattle.fleet_plans.specs.declared.runners.fault.RunnersFault.TheVariants as told
+use Rattle.fleet_map.specs.Text.{lines_of}
+use Rattle.fleet_grid.specs.Floor.{Floor}
+use Rattle.fleet_plans.specs.Goals.{Asked}
+use Rattle.fleet_plans.specs.Answer.{IsNamed, IsJudged, IsTextAnswer, no_plan, judged}
+use Rattle.fleet_plans.specs.Reading.{IsTextPlan, IsTextFault, head_lines}
 use Rattle.fleet_plans.specs.declared.answer.PlanAnswer.{PlanAnswer}
-use Rattle.fleet_plans.specs.declared.answer.PlanAnswer.TheVariants as answer
+use Rattle.fleet_plans.specs.declared.text.TextFault.{TextFault}
 use Rattle.fleet_plans.specs.declared.fault.PlanTextFault.{PlanTextFault}
 use Rattle.fleet_plans.specs.declared.fault.PlanTextFault.TheVariants.{Line}
+use Rattle.fleet_plans.specs.Shown.{FailsAt}
+use Rattle.fleet_plans.specs.inside.Answered.{IsOf}
 
 pub line_fails : {Y : Type 0} (fault : PlanTextFault) (line : ℕ) (read : Result Y ℕ) → fault ≡ Line line → FailsAt fault read → read ≡ Err line
 line_fails {Y} fault line read is fails = let P : PlanTextFault → Type 0 = λ f. FailsAt {Y = Y} f read in subst P is fails
 
-pub text_is_none : (m : Map) (w h line : ℕ) (text : List ℕ) (fault : PlanTextFault) → w ≡ m.width → h ≡ m.height → fault ≡ Line line → FailsAt fault (source_of w h text) → IsLinesAnswer m text (answer.Text line)
-text_is_none m w h line text fault wide tall is fails =
-    let read = line_fails fault line (source_of w h text) is fails in
-    let P : ℕ → ℕ → Type 0 = λ a b. source_of a b text ≡ Err line in
-    no_plan line (subst (λ (a : ℕ). P a m.height) wide (subst (λ (b : ℕ). P w b) tall read)) refl
+module _ (m : Map) (w h : ℕ) (floor : Floor) (of : IsOf m w h floor) (asked : Asked) (text : List ℕ) (a : PlanAnswer) where
+  pub text_is_none : (fault : TextFault) → IsTextFault w h text fault → IsNamed (lines_of text) fault a → IsTextAnswer asked m text a
+  text_is_none fault fails named =
+      let P : ℕ → ℕ → Type 0 = λ x y. IsTextFault x y text fault in
+      no_plan fault (subst (λ (x : ℕ). P x m.height) of.wide (subst (λ (y : ℕ). P w y) of.tall fails)) named
 
-pub text_is_judged : (m : Map) (w h : ℕ) (text : List ℕ) (goals : Option (List ℕ)) (places : List (List ℕ)) (grid : Floor) (a : PlanAnswer) → w ≡ m.width → h ≡ m.height
-    → IsReadAs w h (source_of w h text) goals places → grid ≡ floor_of m.height m.width m.cells → IsJudged grid goals places a → IsLinesAnswer m text a
-text_is_judged m w h text goals places grid a wide tall read on_grid is =
-    let P : ℕ → ℕ → Type 0 = λ x y. IsReadAs x y (source_of x y text) goals places in
-    judged goals places (subst (λ (x : ℕ). P x m.height) wide (subst (λ (y : ℕ). P w y) tall read)) (subst (λ (f : Floor). IsJudged f goals places a) on_grid is)
-
-pub json_is_none : (m : Map) (w h : ℕ) (text : List ℕ) (fault named : RunnersFault) → w ≡ m.width → h ≡ m.height → named ≡ fault → named ≢ told.NoMemory
-    → IsRunnersFault w h text fault → IsJsonAnswer m text (answer.Json named)
-json_is_none m w h text fault named wide tall is ne fails =
-    let P : ℕ → ℕ → Type 0 = λ a b. IsRunnersFault a b text named in
-    no_plan_told named (subst (λ (a : ℕ). P a m.height) wide (subst (λ (b : ℕ). P w b) tall (subst (λ (f : RunnersFault). IsRunnersFault w h text f) (sym is) fails))) ne refl
-
-pub json_is_judged : (m : Map) (w h : ℕ) (text : List ℕ) (goals : Option (List ℕ)) (places : List (List ℕ)) (grid : Floor) (a : PlanAnswer) → w ≡ m.width → h ≡ m.height
-    → IsRunnersPlan w h text goals places → grid ≡ floor_of m.height m.width m.cells → IsJudged grid goals places a → IsJsonAnswer m text a
-json_is_judged m w h text goals places grid a wide tall read on_grid is =
-    let P : ℕ → ℕ → Type 0 = λ x y. IsRunnersPlan x y text goals places in
-    told_judged goals places (subst (λ (x : ℕ). P x m.height) wide (subst (λ (y : ℕ). P w y) tall read)) (subst (λ (f : Floor). IsJudged f goals places a) on_grid is)
+  pub text_is_judged : (goals : Option (List ℕ)) (places : List (List ℕ)) → IsTextPlan w h text goals places → IsJudged floor asked (head_lines text) goals places a → IsTextAnswer asked m text a
+  text_is_judged goals places read is =
+      let P : ℕ → ℕ → Type 0 = λ x y. IsTextPlan x y text goals places in
+      judged goals places (subst (λ (x : ℕ). P x m.height) of.wide (subst (λ (y : ℕ). P w y) of.tall read))
+      (subst (λ (f : Floor). IsJudged f asked (head_lines text) goals places a) of.on is)
 
 pub map_fails : {X : Type 0} (fault named : MapFault) (read : Result X MapFault) → Fails fault read → named ≡ fault → named ≢ map_fault.NoMemory → read ≡ Err named
 map_fails {X} fault named read fails same ne =

@@ -27,7 +27,7 @@ module _ (m : Floor) (places : List (List ℕ)) (place : List ℕ) where
       (subst (λ (q : List ℕ). IsConflictFree m (place_at places t) q) (sym (same_at (t + 1) (omega (arith, less, inner)))) (free t less))
 
   -- the step to the new placement
-  module _ (last costs : List ℕ) (some : 1 ≤ length places) (was : HasPassed m places last costs) where
+  module _ (first last costs : List ℕ) (some : 1 ≤ length places) (was : HasPassed m places first last costs) where
     from_is : place_at (places ++ place ∷ []) (length places - 1) ≡ last
     from_is = same_at (length places - 1) (omega (arith, some)) ∙ sym was.last_one
 
@@ -35,12 +35,13 @@ module _ (m : Floor) (places : List (List ℕ)) (place : List ℕ) where
     starts_are = same_at 0 (omega (arith, some))
 
     pub passed_more : (new : List ℕ) → IsConflictFree m last place → length new ≡ length costs
-        → ((r : ℕ) → r < length costs → IsNoted last place (length places) r (slice_index costs r) (slice_index new r)) → HasPassed m (places ++ place ∷ []) place new
+        → ((r : ℕ) → r < length costs → IsNoted last place (length places) r (slice_index costs r) (slice_index new r)) → HasPassed m (places ++ place ∷ []) first place new
     passed_more new free count noted =
         let size = length_more places place in
         let ends : length (places ++ place ∷ []) - 1 ≡ length places = omega (arith, size) in
         let to_is = last_at (length places) refl in
         record {
+          first_one = was.first_one ∙ sym starts_are;
           starts = subst (λ (q : List ℕ). IsPlacement m q) (sym starts_are) was.starts;
           steps = λ t less. elim (cases_eq t (length places - 1)) [
             | inl same ↦
@@ -115,14 +116,14 @@ module _ (m : Floor) (places : List (List ℕ)) (place : List ℕ) (old new : Ju
   count_more : new.count ≡ length (places ++ place ∷ [])
   count_more = omega (arith, counted, was.count_is, length_more places place)
 
-  so_far_is : (fault : Option PlanFault) → old.fault ≡ fault → IsSoFar m places old.last old.costs fault
-  so_far_is fault is = subst (λ (o : Option PlanFault). IsSoFar m places old.last old.costs o) is was.so_far
+  so_far_is : (fault : Option PlanFault) → old.fault ≡ fault → IsSoFar m places old.first old.last old.costs fault
+  so_far_is fault is = subst (λ (o : Option PlanFault). IsSoFar m places old.first old.last old.costs o) is was.so_far
 
-  judged_by : (fault : Option PlanFault) → new.fault ≡ fault → IsSoFar m (places ++ place ∷ []) new.last new.costs fault → HasJudged m (places ++ place ∷ []) new
+  judged_by : (fault : Option PlanFault) → new.fault ≡ fault → IsSoFar m (places ++ place ∷ []) new.first new.last new.costs fault → HasJudged m (places ++ place ∷ []) new
   judged_by fault is far = record {
     on = on ∙ was.on;
     count_is = count_more;
-    so_far = subst (λ (o : Option PlanFault). IsSoFar m (places ++ place ∷ []) new.last new.costs o) (sym is) far;
+    so_far = subst (λ (o : Option PlanFault). IsSoFar m (places ++ place ∷ []) new.first new.last new.costs o) (sym is) far;
   }
 
   pub judged_on : (f : PlanFault) → old.fault ≡ Some f → new.fault ≡ Some f → HasJudged m (places ++ place ∷ []) new
@@ -132,17 +133,18 @@ module _ (m : Floor) (places : List (List ℕ)) (place : List ℕ) (old new : Ju
       → HasJudged m (places ++ place ∷ []) new
   judged_at_fault f some before after when first =
       judged_by (Some f) after
-      (failed_now m places place old.last old.costs (omega (arith, some, was.count_is)) (so_far_is None before) f (when ∙ was.count_is)
+      (failed_now m places place old.first old.last old.costs (omega (arith, some, was.count_is)) (so_far_is None before) f (when ∙ was.count_is)
       (subst (λ (x : Floor). IsFirstFault x old.last place f.fault) was.on first))
 
-  pub judged_free : 1 ≤ old.count → old.fault ≡ None → new.fault ≡ None → new.last ≡ place → IsConflictFree old.floor old.last place → length new.costs ≡ length old.costs
+  pub judged_free : 1 ≤ old.count → old.fault ≡ None → new.fault ≡ None → new.first ≡ old.first → new.last ≡ place → IsConflictFree old.floor old.last place → length new.costs ≡ length old.costs
       → ((r : ℕ) → r < length old.costs → IsNoted old.last place old.count r (slice_index old.costs r) (slice_index new.costs r)) → HasJudged m (places ++ place ∷ []) new
-  judged_free some before after last free count noted =
+  judged_free some before after first last free count noted =
       let noted_then : (r : ℕ) → r < length old.costs → IsNoted old.last place (length places) r (slice_index old.costs r) (slice_index new.costs r) =
       subst (λ (t : ℕ). (r : ℕ) → r < length old.costs → IsNoted old.last place t r (slice_index old.costs r) (slice_index new.costs r)) was.count_is noted in
-      let passed = passed_more m places place old.last old.costs (omega (arith, some, was.count_is)) (so_far_is None before) new.costs
+      let passed = passed_more m places place old.first old.last old.costs (omega (arith, some, was.count_is)) (so_far_is None before) new.costs
       (subst (λ (x : Floor). IsConflictFree x old.last place) was.on free) count noted_then in
-      judged_by None after (subst (λ (p : List ℕ). HasPassed m (places ++ place ∷ []) p new.costs) (sym last) passed)
+      judged_by None after (subst (λ (p : List ℕ). HasPassed m (places ++ place ∷ []) new.first p new.costs) (sym last)
+      (subst (λ (q : List ℕ). HasPassed m (places ++ place ∷ []) q place new.costs) (sym first) passed))
 
 -- what is known of a judge is known of its fields
 pub known : (m : Floor) (places : List (List ℕ)) (inside judge : Judged) → inside ≡ judge → HasJudged m places judge → HasJudged m places inside

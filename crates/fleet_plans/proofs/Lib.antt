@@ -7,3 +7,6 @@ mod Answered
 mod Judgings
 mod Lines
 mod Givings
+mod Follows
+pub mod Pieces
+mod Turns

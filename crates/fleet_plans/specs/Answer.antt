@@ -1,52 +1,90 @@
 -- What there is to say of a map and a plan's text, and what it prints as.
-use Rattle.std.specs.Prelude.{◌≡◌, ◌≢◌, ℕ, List, [], ◌++◌, Option, Some, None, Ok, Err, codes, decimal, Bool, true, false}
+use Rattle.std.specs.Prelude.{◌≡◌, ◌≢◌, ℕ, List, [], ◌++◌, length, Option, Some, None, Ok, Err, codes, decimal, nat_lt, if◌then◌else◌}
 use Rattle.fleet_map.specs.declared.fault.MapFault.{MapFault}
 use Rattle.fleet_map.specs.Grammar.{Map, map_of}
+use Rattle.fleet_map.specs.Text.{lines_of}
 use Rattle.fleet_grid.specs.Floor.{Floor, floor_of}
 use Rattle.fleet_check.specs.declared.fault.StepFault.{StepFault}
 use Rattle.fleet_check.specs.declared.fault.StepFault.TheVariants.{Length, OffFloor, NotAdjacent, NoMemory, Vertex, Swap}
 use Rattle.fleet_plans.specs.declared.answer.PlanAnswer.{PlanAnswer}
 use Rattle.fleet_plans.specs.declared.answer.PlanAnswer.TheVariants as answer
+use Rattle.fleet_plans.specs.declared.claims.HeadFault.{HeadFault}
+use Rattle.fleet_plans.specs.declared.goals.GoalFault.{GoalFault}
+use Rattle.fleet_plans.specs.declared.judging.PlanFault.{PlanFault}
 use Rattle.fleet_plans.specs.declared.report.PlanReport.{PlanReport}
-use Rattle.fleet_plans.specs.Text.{source_of, IsReadAs}
-use Rattle.fleet_plans.specs.Valid.{IsValidPlan, IsPlanFault}
-use Rattle.fleet_plans.specs.Report.{IsReportOf}
-use Rattle.fleet_plans.specs.declared.runners.fault.RunnersFault.{RunnersFault}
+use Rattle.fleet_plans.specs.declared.fault.PlanTextFault.TheVariants as line_fault
 use Rattle.fleet_plans.specs.declared.runners.fault.RunnersFault.TheVariants as told
-use Rattle.fleet_plans.specs.Runners.{is_json, IsRunnersPlan, IsRunnersFault}
+use Rattle.fleet_plans.specs.declared.text.TextFault.{TextFault}
+use Rattle.fleet_plans.specs.declared.text.TextFault.TheVariants as fault
+use Rattle.fleet_plans.specs.Valid.{place_at, last_of, IsValidPlan, IsPlanFault}
+use Rattle.fleet_plans.specs.Report.{IsReportOf}
+use Rattle.fleet_plans.specs.Claims.{unmet}
+use Rattle.fleet_plans.specs.Scenario.{scenario_of, Trips}
+use Rattle.fleet_plans.specs.Goals.{Asked, Nothing, OwnGoals, OfTrips, undone}
+use Rattle.fleet_plans.specs.Reading.{IsTextPlan, IsTextFault, head_lines}
 
--- a plan on a map is valid, with this report, or this is its first fault
-abbrev pub IsJudged : Floor → Option (List ℕ) → List (List ℕ) → PlanAnswer → Type 0
-IsJudged m goals places (answer.Valid report) = IsValidPlan m places × IsReportOf goals places report
-IsJudged m goals places (answer.Invalid fault) = IsPlanFault m places fault.time fault.fault
-IsJudged m goals places (answer.Map fault) = ⊥
-IsJudged m goals places (answer.Text line) = ⊥
-IsJudged m goals places (answer.Json fault) = ⊥
+-- ---- a text that is no plan
 
--- the lines first, then the plan
-pub data IsLinesAnswer (m : Map) (text : List ℕ) (a : PlanAnswer) : Type 0 where
-  no_plan : (line : ℕ) → source_of m.width m.height text ≡ Err line → a ≡ answer.Text line → IsLinesAnswer m text a
-  judged : (goals : Option (List ℕ)) (places : List (List ℕ)) → IsReadAs m.width m.height (source_of m.width m.height text) goals places
-      → IsJudged (floor_of m.height m.width m.cells) goals places a → IsLinesAnswer m text a
+-- a text without the line that is at fault is cut
+abbrev pub at_line : List (List ℕ) → ℕ → PlanAnswer
+at_line lines line = if nat_lt (length lines) line then answer.Cut line else answer.Text line
 
--- the value first, then the plan
-pub data IsJsonAnswer (m : Map) (text : List ℕ) (a : PlanAnswer) : Type 0 where
-  no_plan_told : (fault : RunnersFault) → IsRunnersFault m.width m.height text fault → fault ≢ told.NoMemory → a ≡ answer.Json fault → IsJsonAnswer m text a
-  told_judged : (goals : Option (List ℕ)) (places : List (List ℕ)) → IsRunnersPlan m.width m.height text goals places
-      → IsJudged (floor_of m.height m.width m.cells) goals places a → IsJsonAnswer m text a
+-- the fault is named by its line or its key
+abbrev pub IsNamed : List (List ℕ) → TextFault → PlanAnswer → Type 0
+IsNamed lines (fault.Lines line_fault.NoMemory) a = ⊥
+IsNamed lines (fault.Lines (line_fault.Line line)) a = a ≡ at_line lines line
+IsNamed lines (fault.Json f) a = (f ≢ told.NoMemory) × (a ≡ answer.Json f)
 
--- by whether the text is one of JSON
-abbrev pub IsAnswerBy : Bool → Map → List ℕ → PlanAnswer → Type 0
-IsAnswerBy true m text a = IsJsonAnswer m text a
-IsAnswerBy false m text a = IsLinesAnswer m text a
+-- ---- a plan that is free of conflicts
 
-abbrev pub IsTextAnswer : Map → List ℕ → PlanAnswer → Type 0
-IsTextAnswer m text a = IsAnswerBy (is_json text) m text a
+abbrev pub or_off_goal : PlanReport → Option GoalFault → PlanAnswer
+or_off_goal r None = answer.Valid r
+or_off_goal r (Some f) = answer.Goals r.steps f
+
+abbrev pub or_unmet : PlanReport → Option HeadFault → Option GoalFault → PlanAnswer
+or_unmet r None goal = or_off_goal r goal
+or_unmet r (Some f) goal = answer.Head f
+
+-- what its head says comes first, then what is asked of its robots
+abbrev pub valid_answer : Asked → List (List ℕ) → Option (List ℕ) → List ℕ → List ℕ → PlanReport → PlanAnswer
+valid_answer asked head goals first last r = or_unmet r (unmet head r) (undone asked goals first last)
+
+-- ---- a plan
+
+-- a plan on a map is free of conflicts, with this report, or this is its first fault
+pub data IsJudged (m : Floor) (asked : Asked) (head : List (List ℕ)) (goals : Option (List ℕ)) (places : List (List ℕ)) (a : PlanAnswer) : Type 0 where
+  free : (report : PlanReport) → IsValidPlan m places → IsReportOf goals places report
+      → a ≡ valid_answer asked head goals (place_at places 0) (last_of places) report → IsJudged m asked head goals places a
+  conflict : (fault : PlanFault) → IsPlanFault m places fault.time fault.fault → a ≡ answer.Invalid fault → IsJudged m asked head goals places a
+
+-- the text first, then the plan
+pub data IsTextAnswer (asked : Asked) (m : Map) (text : List ℕ) (a : PlanAnswer) : Type 0 where
+  no_plan : (fault : TextFault) → IsTextFault m.width m.height text fault → IsNamed (lines_of text) fault a → IsTextAnswer asked m text a
+  judged : (goals : Option (List ℕ)) (places : List (List ℕ)) → IsTextPlan m.width m.height text goals places
+      → IsJudged (floor_of m.height m.width m.cells) asked (head_lines text) goals places a → IsTextAnswer asked m text a
 
 -- the map before both
-pub data IsPlanAnswer (map text : List ℕ) (a : PlanAnswer) : Type 0 where
-  no_map : (fault : MapFault) → map_of map ≡ Err fault → a ≡ answer.Map fault → IsPlanAnswer map text a
-  on_map : (m : Map) → map_of map ≡ Ok m → IsTextAnswer m text a → IsPlanAnswer map text a
+pub data IsAnswerTo (asked : Asked) (map text : List ℕ) (a : PlanAnswer) : Type 0 where
+  no_map : (fault : MapFault) → map_of map ≡ Err fault → a ≡ answer.Map fault → IsAnswerTo asked map text a
+  on_map : (m : Map) → map_of map ≡ Ok m → IsTextAnswer asked m text a → IsAnswerTo asked map text a
+
+-- nothing is asked of the robots' last cells
+abbrev pub IsPlanAnswer : List ℕ → List ℕ → PlanAnswer → Type 0
+IsPlanAnswer map text a = IsAnswerTo Nothing map text a
+
+-- each robot has to end on its goal
+abbrev pub IsSolutionAnswer : List ℕ → List ℕ → PlanAnswer → Type 0
+IsSolutionAnswer map text a = IsAnswerTo OwnGoals map text a
+
+-- the scenario, then the plan, whose robots have to begin and end as the scenario says
+pub data IsOnScenario (m : Map) (scenario text : List ℕ) (a : PlanAnswer) : Type 0 where
+  without_trips : (line : ℕ) → scenario_of m.width m.height (lines_of scenario) ≡ Err line → a ≡ answer.Scenario line → IsOnScenario m scenario text a
+  with_trips : (trips : Trips) → scenario_of m.width m.height (lines_of scenario) ≡ Ok trips → IsTextAnswer (OfTrips trips) m text a → IsOnScenario m scenario text a
+
+-- the map before both
+pub data IsScenarioAnswer (map scenario text : List ℕ) (a : PlanAnswer) : Type 0 where
+  without_map : (fault : MapFault) → map_of map ≡ Err fault → a ≡ answer.Map fault → IsScenarioAnswer map scenario text a
+  with_map : (m : Map) → map_of map ≡ Ok m → IsOnScenario m scenario text a → IsScenarioAnswer map scenario text a
 
 -- the kind of a fault, with its robots
 abbrev pub fault_text : StepFault → List ℕ

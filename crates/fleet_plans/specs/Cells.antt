@@ -1,7 +1,9 @@
--- The cells in a plan's text: (X,Y), with X the column and Y the row, separated by commas. One comma may follow the last.
-use Rattle.std.specs.Prelude.{ℕ, ◌+◌, ◌-◌, ◌*◌, Bool, List, [], ◌∷◌, length, take, slice_index, Option, Some, None, min, nat_lt, ◌==◌, ◌&&◌, if◌then◌else◌}
+-- The cells in a plan's text: (X,Y), with X the column and Y the row, separated by commas. One comma may follow the last. Each may have a
+-- direction, as (X,Y,X_PLUS), which says nothing here; then all of them have.
+use Rattle.std.specs.Prelude.{ℕ, ◌+◌, ◌-◌, ◌*◌, Bool, List, [], ◌∷◌, length, take, slice_index, Option, Some, None, min, nat_lt, ◌==◌, ◌&&◌, ◌||◌, not, false, if◌then◌else◌, codes}
 use Rattle.std.specs.List.{slice_split}
 use Rattle.std.specs.Option.{option_map, option_and_then}
+use Rattle.std.specs.Str.{bytes_eq}
 use Rattle.fleet_map.specs.Text.{number_of, without_empty_last}
 
 abbrev pub is_comma : ℕ → Bool
@@ -37,3 +39,31 @@ abbrev pub cells_in : ℕ → ℕ → List (List ℕ) → Option (List ℕ)
 cells_in width height [] = Some []
 cells_in width height (part ∷ []) = None
 cells_in width height (a ∷ b ∷ parts) = option_and_then (λ c. option_map (λ cs. c ∷ cs) (cells_in width height parts)) (pair_in width height a b)
+
+-- ---- with directions
+
+-- a part that is a direction, and ends a cell
+abbrev pub is_direction : List ℕ → Bool
+is_direction part =
+    bytes_eq part (codes "X_PLUS)") || bytes_eq part (codes "X_MINUS)") || bytes_eq part (codes "Y_PLUS)") || bytes_eq part (codes "Y_MINUS)")
+
+-- the cell of three parts (X, Y and DIRECTION)
+abbrev pub faced_in : ℕ → ℕ → List ℕ → List ℕ → List ℕ → Option ℕ
+faced_in width height a b direction =
+    if is_direction direction then option_and_then (λ x. option_map (λ y. cell_at width height x y) (coordinate b)) (column_in a) else None
+
+abbrev pub faced_cells : ℕ → ℕ → List (List ℕ) → Option (List ℕ)
+faced_cells width height [] = Some []
+faced_cells width height (part ∷ []) = None
+faced_cells width height (a ∷ b ∷ []) = None
+faced_cells width height (a ∷ b ∷ c ∷ parts) = option_and_then (λ cell. option_map (λ cells. cell ∷ cells) (faced_cells width height parts)) (faced_in width height a b c)
+
+-- whether cells have directions: the second part ends no cell
+abbrev pub is_faced : List (List ℕ) → Bool
+is_faced [] = false
+is_faced (part ∷ []) = false
+is_faced (a ∷ b ∷ parts) = not (slice_index b (length b - 1) == 41)
+
+-- the cells of a list of parts, with or without directions
+abbrev pub listed_in : ℕ → ℕ → List (List ℕ) → Option (List ℕ)
+listed_in width height parts = if is_faced parts then faced_cells width height parts else cells_in width height parts

@@ -3,7 +3,7 @@ use Rattle.std.specs.Prelude.{ℕ, ◌+◌, Bool, true, false, List, [], ◌∷�
 use Rattle.std.specs.List.{position}
 use Rattle.std.specs.Option.{option_map}
 use Rattle.std.specs.Str.{bytes_eq}
-use Rattle.fleet_plans.specs.Cells.{parts_of, cells_in}
+use Rattle.fleet_plans.specs.Cells.{parts_of, listed_in}
 
 pub record Head : Type 0 where
   -- the robots' cells before the first step, by number
@@ -31,8 +31,8 @@ form_in value = if bytes_eq value (codes "moves") then Some true else if bytes_e
 
 abbrev pub with_value : ℕ → ℕ → Head → List ℕ → List ℕ → Option Head
 with_value w h head key value =
-    if bytes_eq key (codes "starts") then option_map (λ cells. record head { starts = Some cells }) (if_new head.starts (cells_in w h (parts_of value)))
-    else if bytes_eq key (codes "goals") then option_map (λ cells. record head { goals = Some cells }) (if_new head.goals (cells_in w h (parts_of value)))
+    if bytes_eq key (codes "starts") then option_map (λ cells. record head { starts = Some cells }) (if_new head.starts (listed_in w h (parts_of value)))
+    else if bytes_eq key (codes "goals") then option_map (λ cells. record head { goals = Some cells }) (if_new head.goals (listed_in w h (parts_of value)))
     else if bytes_eq key (codes "form") then option_map (λ form. record head { is_moves = Some form }) (if_new head.is_moves (form_in value))
     else Some head
 

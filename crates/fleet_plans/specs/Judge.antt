@@ -11,14 +11,16 @@ pub record Judged : Type 0 where
   pub floor : Floor
   -- the number of placements
   pub count : ℕ
-  -- the last placement before a fault, and each robot's cost up to it
+  -- the first placement, the last before a fault, and each robot's cost up to it
+  pub first : List ℕ
   pub last : List ℕ
   pub costs : List ℕ
   -- the first fault
   pub fault : Option PlanFault
 
--- no placement is at fault, this is the last, and these are the costs
-pub record HasPassed (m : Floor) (places : List (List ℕ)) (last costs : List ℕ) : Type 0 where
+-- no placement is at fault, these are the first and the last, and these are the costs
+pub record HasPassed (m : Floor) (places : List (List ℕ)) (first last costs : List ℕ) : Type 0 where
+  pub first_one : first ≡ place_at places 0
   pub starts : IsPlacement m (place_at places 0)
   pub steps : AreStepsFree m places (length places - 1)
   pub last_one : last ≡ place_at places (length places - 1)
@@ -29,12 +31,12 @@ pub record HasFailed (m : Floor) (places : List (List ℕ)) (f : PlanFault) : Ty
   pub inside : f.time < length places
   pub first : IsPlanFault m places f.time f.fault
 
-abbrev pub IsSoFar : Floor → List (List ℕ) → List ℕ → List ℕ → Option PlanFault → Type 0
-IsSoFar m places last costs None = HasPassed m places last costs
-IsSoFar m places last costs (Some f) = HasFailed m places f
+abbrev pub IsSoFar : Floor → List (List ℕ) → List ℕ → List ℕ → List ℕ → Option PlanFault → Type 0
+IsSoFar m places first last costs None = HasPassed m places first last costs
+IsSoFar m places first last costs (Some f) = HasFailed m places f
 
 -- the judge has been given exactly these placements, on this map
 pub record HasJudged (m : Floor) (places : List (List ℕ)) (judge : Judged) : Type 0 where
   pub on : judge.floor ≡ m
   pub count_is : judge.count ≡ length places
-  pub so_far : IsSoFar m places judge.last judge.costs judge.fault
+  pub so_far : IsSoFar m places judge.first judge.last judge.costs judge.fault

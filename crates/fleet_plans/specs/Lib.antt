@@ -8,8 +8,17 @@ pub mod Tracks
 pub mod Shown
 pub mod Text
 pub mod Told
+pub mod Turning
 pub mod Runners
 pub mod Report
+pub mod Form
+pub mod Claims
+pub mod Scenario
+pub mod Goals
+pub mod Paths
+pub mod Agents
+pub mod Reading
+pub mod Misspelt
 pub mod Answer
 pub mod Cut
 pub mod inside

@@ -3,7 +3,7 @@ use Rattle.std.specs.Prelude.{ℕ, ◌+◌, Bool, true, false, List, [], ◌∷�
 use Rattle.std.specs.Option.{option_and_then}
 use Rattle.std.specs.Str.{bytes_eq}
 use Rattle.fleet_map.specs.Text.{number_of}
-use Rattle.fleet_plans.specs.Cells.{parts_of, cells_in}
+use Rattle.fleet_plans.specs.Cells.{parts_of, listed_in}
 use Rattle.fleet_plans.specs.Head.{Head, split_once, or_line, and_then}
 
 -- whether that is this number; those from 2^32 on are alike, since no text has as many lines
@@ -14,7 +14,7 @@ is_number n (Some x) = min x 4294967296 == n
 -- the cells of a line of this time
 abbrev pub place_in : ℕ → ℕ → ℕ → Option (List ℕ × List ℕ) → Option (List ℕ)
 place_in w h time None = None
-place_in w h time (Some p) = if is_number time (number_of p.0) then cells_in w h (parts_of p.1) else None
+place_in w h time (Some p) = if is_number time (number_of p.0) then listed_in w h (parts_of p.1) else None
 
 -- where the head names the starts, the robots are there at time 0
 abbrev pub agrees : Option (List ℕ) → List ℕ → Bool

@@ -1,5 +1,6 @@
--- The plan that a JSON value is, as the League of Robot Runners has plans, of the action model MAPF, in which robots do not
--- turn: `start` has each robot's row and column, `actualPaths` the letters of its steps, separated by commas.
+-- The plan that a JSON value is, as the League of Robot Runners has plans: `start` has each robot's row and column, `actualPaths` the
+-- letters of its steps, separated by commas. In the action model MAPF robots do not turn; in MAPF_T they do (`Turning`), and `start`
+-- has each robot's direction too.
 use Rattle.std.specs.Prelude.{◌≡◌, ℕ, Bool, true, false, List, [], ◌∷◌, ◌++◌, length, slice_index, Option, Some, None, Result, Ok, Err, min, nat_lt, nat_le, not, ◌==◌, ◌&&◌, if◌then◌else◌, codes}
 use Rattle.std.specs.List.{position}
 use Rattle.std.specs.Option.{option_map, option_and_then}
@@ -9,7 +10,9 @@ use Rattle.serde_json.specs.Find.{get, at, as_str, as_array, as_number, as_u64}
 use Rattle.fleet_plans.specs.declared.runners.fault.RunnersKey.TheVariants.{ActionModel, Start, TeamSize, ActualPaths}
 use Rattle.fleet_plans.specs.declared.runners.fault.RunnersFault.{RunnersFault}
 use Rattle.fleet_plans.specs.declared.runners.fault.RunnersFault.TheVariants.{NotJson, Key, Item, NoMemory}
+use Rattle.fleet_grid.specs.declared.dir.Dir.{Dir}
 use Rattle.fleet_plans.specs.Cells.{parts_of, cell_at}
+use Rattle.fleet_plans.specs.Turning.{dirs_in, turned_paths}
 use Rattle.fleet_plans.specs.Text.{Source, Walked, IsPlanOf}
 use Rattle.fleet_plans.specs.Told.{or_fault, if_told, IsJson}
 
@@ -92,14 +95,15 @@ paths_in robots d = if_told (or_fault (Key ActualPaths) (option_and_then as_arra
 
 -- ---- the plan
 
-abbrev pub says_mapf : Option (List ℕ) → Bool
-says_mapf None = false
-says_mapf (Some text) = bytes_eq text (codes "MAPF")
+-- whether robots turn in an action model of this name
+abbrev pub turns_named : Option (List ℕ) → Option Bool
+turns_named None = None
+turns_named (Some text) = if bytes_eq text (codes "MAPF") then Some false else if bytes_eq text (codes "MAPF_T") then Some true else None
 
--- the action model, where one is named
-abbrev pub is_mapf : Option Data → Bool
-is_mapf None = true
-is_mapf (Some d) = says_mapf (as_str d)
+-- whether robots turn in the action model; where none is named, they do not
+abbrev pub turns_in : Option Data → Option Bool
+turns_in None = Some false
+turns_in (Some d) = turns_named (as_str d)
 
 abbrev pub says_count : ℕ → Option ℕ → Bool
 says_count robots None = false
@@ -113,18 +117,28 @@ has_size robots (Some d) = says_count robots (long_in d)
 abbrev pub walked_from : List ℕ → List (List ℕ) → Source
 walked_from starts tracks = record { goals = None; solution = Walked starts tracks }
 
-abbrev pub with_paths : List ℕ → Data → Result Source RunnersFault
-with_paths starts d =
-    if has_size (length starts) (get (codes "teamSize") d)
-    then if_told (paths_in (length starts) d) (λ tracks. Ok (walked_from starts tracks))
-    else Err (Key TeamSize)
+-- as many robots as starts, where a number is named
+abbrev pub sized : List ℕ → Data → Result (List (List ℕ)) RunnersFault → Result Source RunnersFault
+sized starts d told = if has_size (length starts) (get (codes "teamSize") d) then if_told told (λ tracks. Ok (walked_from starts tracks)) else Err (Key TeamSize)
+
+-- the directions of robots that turn
+abbrev pub dirs_by : Bool → Data → Result (List Dir) RunnersFault
+dirs_by false d = Ok []
+dirs_by true d = dirs_in d
+
+-- the tracks of n robots
+abbrev pub tracks_by : Bool → ℕ → List Dir → Data → Result (List (List ℕ)) RunnersFault
+tracks_by false robots dirs d = paths_in robots d
+tracks_by true robots dirs d = turned_paths dirs d
+
+-- by whether robots turn
+abbrev pub runners_by : ℕ → ℕ → Data → Option Bool → Result Source RunnersFault
+runners_by w h d None = Err (Key ActionModel)
+runners_by w h d (Some turns) = if_told (starts_in w h d) (λ starts. if_told (dirs_by turns d) (λ dirs. sized starts d (tracks_by turns (length starts) dirs d)))
 
 -- what a value is, or the first fault; it names no goals
 abbrev pub runners_of : ℕ → ℕ → Data → Result Source RunnersFault
-runners_of w h d =
-    if is_mapf (get (codes "actionModel") d)
-    then if_told (starts_in w h d) (λ starts. with_paths starts d)
-    else Err (Key ActionModel)
+runners_of w h d = runners_by w h d (turns_in (get (codes "actionModel") d))
 
 -- what was told is such a plan
 abbrev pub IsToldAs : ℕ → ℕ → Result Source RunnersFault → Option (List ℕ) → List (List ℕ) → Type 0

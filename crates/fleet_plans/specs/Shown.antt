@@ -8,12 +8,17 @@ use Rattle.fleet_plans.specs.declared.fault.PlanTextFault.TheVariants.{Line, NoM
 use Rattle.fleet_plans.specs.declared.head.Head.{Head}
 use Rattle.fleet_plans.specs.declared.head.Opened.{Opened}
 use Rattle.fleet_plans.specs.Head as spec
+use Rattle.fleet_plans.specs.declared.scenario.Scenario.{Scenario}
+use Rattle.fleet_plans.specs.Scenario.{Trips}
 
 abbrev pub shown : {A : Type 0} → Head A → spec.Head
 shown d = record { starts = d.starts; goals = d.goals; is_moves = d.is_moves }
 
 abbrev pub opened : {A : Type 0} → Opened A → spec.Opened
 opened x = record { head = shown x.head; number = x.number; lines = lines_of x.rest.now }
+
+abbrev pub trips : Scenario → Trips
+trips s = record { starts = s.starts; goals = s.goals }
 
 -- what the texts are
 abbrev pub texts : List (Bor (List ℕ)) → List (List ℕ)

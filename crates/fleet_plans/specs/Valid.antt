@@ -1,5 +1,5 @@
 -- Valid plans, and what is at fault in others. Item t of a plan's placements has the robots' cells at time t.
-use Rattle.std.specs.Prelude.{◌≡◌, ℕ, ◌+◌, ◌^◌, ◌<◌, ◌≤◌, ◌⊎◌, List, [], length, slice_index_or}
+use Rattle.std.specs.Prelude.{◌≡◌, ℕ, ◌+◌, ◌-◌, ◌^◌, ◌<◌, ◌≤◌, ◌⊎◌, List, [], length, slice_index_or}
 use Rattle.fleet_grid.specs.Floor.{Floor}
 use Rattle.fleet_grid.specs.Step.{IsPlacement, IsConflictFree}
 use Rattle.fleet_check.specs.Fault.{IsPlacementFault, IsFirstFault}
@@ -8,6 +8,10 @@ use Rattle.fleet_check.specs.declared.fault.StepFault.{StepFault}
 -- the robots' cells at a time
 abbrev pub place_at : List (List ℕ) → ℕ → List ℕ
 place_at places t = slice_index_or places t []
+
+-- the robots' cells at the end
+abbrev pub last_of : List (List ℕ) → List ℕ
+last_of places = place_at places (length places - 1)
 
 -- the first n steps are conflict-free
 abbrev pub AreStepsFree : Floor → List (List ℕ) → ℕ → Type 0

@@ -6,3 +6,4 @@ pub mod Kept
 pub mod Figures
 pub mod Given
 pub mod Answered
+pub mod Follow

@@ -1,21 +1,27 @@
 //! The answer to the text of a map and of a plan.
 
-ghost use Rattle.std.specs.Prelude.{◌≡◌, ◌≢◌, ◌≤◌, ℕ, List, [], Some, length, IfOk};
+ghost use Rattle.std.specs.Prelude.{◌≡◌, ◌≢◌, ◌≤◌, ◌<◌, ◌^◌, ℕ, List, [], Some, length, false, true, IfOk};
 ghost use Rattle.fleet_grid.specs.Floor.{Floor};
 ghost use Rattle.fleet_map.specs.Form.{HasSides};
 ghost use Rattle.fleet_map.specs.Grammar.{Map, view};
+ghost use Rattle.fleet_map.specs.Text.{lines_of};
+ghost use Rattle.fleet_plans.specs.Goals.{asked_by, OfTrips};
 ghost use Rattle.fleet_plans.specs.Judge.{HasJudged};
+ghost use Rattle.fleet_plans.specs.Reading.{head_lines};
 ghost use Rattle.fleet_plans.specs.Shown.{goals_in};
 ghost use Rattle.fleet_plans.specs.inside.Answered.{IsOf};
-ghost use Rattle.fleet_plans.specs.Answer.{IsJudged, IsLinesAnswer, IsJsonAnswer, IsTextAnswer, IsPlanAnswer, fault_text, goals_text, report_text};
+ghost use Rattle.fleet_plans.specs.Answer.{at_line, valid_answer, IsNamed, IsJudged, IsTextAnswer, IsAnswerTo, IsPlanAnswer, IsSolutionAnswer, IsOnScenario, IsScenarioAnswer, fault_text, goals_text, report_text};
 
+use crate::claims::{HeadFault, line_count, unmet};
 use crate::fault::PlanTextFault;
+use crate::goals::{Demand, GoalFault, undone};
 use crate::judge::PlanJudge;
 use crate::judging::PlanFault;
-use crate::plan::read_plan;
 use crate::report::PlanReport;
-use crate::runners::{RunnersFault, is_json, read_runners};
+use crate::runners::RunnersFault;
+use crate::scenario::{Scenario, read_scenario};
 use crate::sides::Sides;
+use crate::text::{TextFault, headed, read_text};
 use fleet_check::StepFault;
 use fleet_grid::Grid;
 use fleet_history::Row;
@@ -30,12 +36,25 @@ pub enum PlanAnswer {
     Map(MapFault),
     /// The text is no plan. This is the number, from 1, of the first line that is not allowed where it is.
     Text(u32),
+    /// The text ends before the plan does. This is the number of the line after the last.
+    Cut(u32),
+    /// The scenario is none of the map. This is the number of its first line that is not allowed where it is.
+    Scenario(u32),
     /// The text begins as JSON and is not a plan.
     Json(RunnersFault),
+    /// The plan is valid, and not the one that the head of its text says.
+    Head(HeadFault),
     /// The plan is valid.
     Valid(PlanReport),
     /// The plan is not valid.
     Invalid(PlanFault),
+    /// The plan is free of conflicts, and does not lead the robots to their goals.
+    Goals {
+        /// The last time.
+        time: u32,
+        /// What is wrong there.
+        fault: GoalFault,
+    },
 }
 
 /// The sides of a map.
@@ -60,17 +79,58 @@ fn lent<A: Allocator + Copy>(goals: &Option<Row<u32, A>>) -> Option<&[u32]>
     }
 }
 
-/// The verdict on the plan that a judge was given.
-fn answer_of<A: Allocator + Copy, B: Allocator + Copy>(
-    judge: &PlanJudge<A, B>,
+/// The answer to a plan that is free of conflicts, after the head of this text, from this first placement to this last one.
+fn valid_answer(
+    demand: Demand<'_>,
+    head: &[u8],
     goals: Option<&[u32]>,
+    first: &[u32],
+    last: &[u32],
+    report: PlanReport,
 ) -> PlanAnswer
-    requires { 1 ≤ judge.now.count }
-    ensures { (m : Floor) (places : List (List ℕ)) → HasJudged m places judge.now → IsJudged m (goals_in goals.entry) places result }
+    requires short { length head.now ≤ 16777216 }
+    requires begins { length first.now < 2 ^ 32 }
+    requires ends { length last.now < 2 ^ 32 }
+    ensures { result ≡ valid_answer (asked_by demand.entry) (lines_of head.now) (goals_in goals.entry) first.now last.now report }
+{
+    if let Some(fault) = unmet(head, report) {
+        return PlanAnswer::Head(fault);
+    }
+    match undone(demand, goals, first, last) {
+        Some(fault) => PlanAnswer::Goals {
+            time: report.steps,
+            fault,
+        },
+        None => PlanAnswer::Valid(report),
+    }
+}
+
+/// The verdict on the plan that a judge was given, after the head of this text.
+fn answer_of<A: Allocator + Copy, B: Allocator + Copy>(
+    demand: Demand<'_>,
+    head: &[u8],
+    goals: Option<&[u32]>,
+    judge: &PlanJudge<A, B>,
+) -> PlanAnswer
+    requires short { length head.now ≤ 16777216 }
+    requires some { 1 ≤ judge.now.count }
+    ensures { (m : Floor) (places : List (List ℕ)) → HasJudged m places judge.now → IsJudged m (asked_by demand.entry) (lines_of head.now) (goals_in goals.entry) places result }
 {
     match judge.verdict(goals) {
-        Ok(report) => PlanAnswer::Valid(report),
+        Ok(report) => valid_answer(demand, head, goals, judge.first(), judge.last(), report),
         Err(fault) => PlanAnswer::Invalid(fault),
+    }
+}
+
+/// The answer where this line is at fault: the text is cut if it has no such line.
+fn at_line(text: &[u8], line: u32) -> PlanAnswer
+    requires { length text.now ≤ 16777216 }
+    ensures { result ≡ at_line (lines_of text.now) line }
+{
+    if line > line_count(text) {
+        PlanAnswer::Cut(line)
+    } else {
+        PlanAnswer::Text(line)
     }
 }
 
@@ -95,66 +155,55 @@ fn json_fault(fault: RunnersFault) -> Result<RunnersFault, AllocError>
     }
 }
 
-/// The answer to a plan's lines on the map of a new judge.
-fn answer_lines(
-    alloc: Global,
-    sides: Sides,
-    text: &[u8],
-    judge: &mut PlanJudge,
-) -> Result<PlanAnswer, AllocError>
-    requires short { length text.now ≤ 16777216 }
-    requires fresh { HasJudged judge.old.floor [] judge.old }
-    ensures { (m : Map) → IsOf m sides.width sides.height judge.old.floor → IfOk result (λ answer. IsLinesAnswer m text.now answer) }
+/// The answer to a text that is no plan; an error for out of memory.
+fn named(text: &[u8], fault: TextFault) -> Result<PlanAnswer, AllocError>
+    requires { length text.now ≤ 16777216 }
+    ensures { IfOk result (λ answer. IsNamed (lines_of text.now) fault answer) }
 {
-    match read_plan(alloc, sides, text, judge) {
-        Ok(goals) => Ok(answer_of(judge, lent(&goals))),
-        Err(fault) => Ok(PlanAnswer::Text(line_of(fault)?)),
-    }
-}
-
-/// The answer to a plan in JSON on the map of a new judge.
-fn answer_json(
-    alloc: Global,
-    sides: Sides,
-    text: &[u8],
-    judge: &mut PlanJudge,
-) -> Result<PlanAnswer, AllocError>
-    requires fresh { HasJudged judge.old.floor [] judge.old }
-    ensures { (m : Map) → IsOf m sides.width sides.height judge.old.floor → IfOk result (λ answer. IsJsonAnswer m text.now answer) }
-{
-    match read_runners(alloc, sides, text, judge) {
-        Ok(()) => Ok(answer_of(judge, None)),
-        Err(fault) => Ok(PlanAnswer::Json(json_fault(fault)?)),
+    match fault {
+        TextFault::Lines(fault) => Ok(at_line(text, line_of(fault)?)),
+        TextFault::Json(fault) => Ok(PlanAnswer::Json(json_fault(fault)?)),
     }
 }
 
 /// The answer to a plan's text on the map of a new judge.
 fn answer_text(
     alloc: Global,
+    demand: Demand<'_>,
     sides: Sides,
     text: &[u8],
     judge: &mut PlanJudge,
 ) -> Result<PlanAnswer, AllocError>
     requires short { length text.now ≤ 16777216 }
     requires fresh { HasJudged judge.old.floor [] judge.old }
-    ensures { (m : Map) → IsOf m sides.width sides.height judge.old.floor → IfOk result (λ answer. IsTextAnswer m text.now answer) }
+    ensures { (m : Map) → IsOf m sides.width sides.height judge.old.floor → IfOk result (λ answer. IsTextAnswer (asked_by demand.entry) m text.now answer) }
 {
-    if is_json(text) {
-        answer_json(alloc, sides, text, judge)
-    } else {
-        answer_lines(alloc, sides, text, judge)
+    match read_text(alloc, sides, text, judge) {
+        Ok(goals) => Ok(answer_of(demand, headed(text), lent(&goals), judge)),
+        Err(fault) => named(text, fault),
     }
 }
 
 /// The answer to a plan's text on a map.
-fn answer_on(alloc: Global, map: MapText, text: &[u8]) -> Result<PlanAnswer, AllocError>
+fn answer_on(
+    alloc: Global,
+    demand: Demand<'_>,
+    map: MapText,
+    text: &[u8],
+) -> Result<PlanAnswer, AllocError>
     requires sides { HasSides (view map) }
     requires short { length text.now ≤ 16777216 }
-    ensures { IfOk result (λ answer. IsTextAnswer (view map) text.now answer) }
+    ensures { IfOk result (λ answer. IsTextAnswer (asked_by demand.entry) (view map) text.now answer) }
 {
     let sides = sides_of(&map);
     let grid = Grid::new(map)?;
-    answer_text(alloc, sides, text, &mut PlanJudge::new(alloc, &grid))
+    answer_text(
+        alloc,
+        demand,
+        sides,
+        text,
+        &mut PlanJudge::new(alloc, &grid),
+    )
 }
 
 /// The fault of a map; an error for out of memory.
@@ -168,14 +217,78 @@ fn map_fault(fault: MapFault) -> Result<MapFault, AllocError>
     }
 }
 
+/// The answer to the text of a map and of a plan, of which it may be asked that it leads the robots to their goals.
+fn answer_to(
+    alloc: Global,
+    demand: Demand<'_>,
+    map: &[u8],
+    text: &[u8],
+) -> Result<PlanAnswer, AllocError>
+    requires { length text.now ≤ 16777216 }
+    ensures { IfOk result (λ answer. IsAnswerTo (asked_by demand.entry) map.now text.now answer) }
+{
+    match read_map(alloc, map) {
+        Ok(map) => answer_on(alloc, demand, map, text),
+        Err(fault) => Ok(PlanAnswer::Map(map_fault(fault)?)),
+    }
+}
+
 /// The answer to the text of a map and of a plan: a fault of the map; if there is none, a fault of the plan's text; if
-/// there is none, the verdict on the plan.
+/// there is none, the verdict on the plan. A plan is cut, or not the one of its head, only if it is free of conflicts.
 pub fn check_texts(alloc: Global, map: &[u8], text: &[u8]) -> Result<PlanAnswer, AllocError>
     requires { length text.now ≤ 16777216 }
     ensures { IfOk result (λ answer. IsPlanAnswer map.now text.now answer) }
 {
+    answer_to(alloc, Demand::Nothing, map, text)
+}
+
+/// The answer of `check_texts`, where a plan is valid only if each robot ends on its goal.
+pub fn check_solution(alloc: Global, map: &[u8], text: &[u8]) -> Result<PlanAnswer, AllocError>
+    requires { length text.now ≤ 16777216 }
+    ensures { IfOk result (λ answer. IsSolutionAnswer map.now text.now answer) }
+{
+    answer_to(alloc, Demand::OwnGoals, map, text)
+}
+
+/// The answer to a scenario and a plan's text on a map.
+fn scenario_on(
+    alloc: Global,
+    map: MapText,
+    scenario: &[u8],
+    text: &[u8],
+) -> Result<PlanAnswer, AllocError>
+    requires sides { HasSides (view map) }
+    requires scenario { length scenario.now ≤ 16777216 }
+    requires short { length text.now ≤ 16777216 }
+    ensures { IfOk result (λ answer. IsOnScenario (view map) scenario.now text.now answer) }
+{
+    match read_scenario(alloc, sides_of(&map), scenario) {
+        Ok(trips) => {
+            let Scenario { starts, goals } = trips;
+            let demand = Demand::Trips {
+                starts: starts.as_slice(),
+                goals: goals.as_slice(),
+            };
+            answer_on(alloc, demand, map, text)
+        }
+        Err(fault) => Ok(PlanAnswer::Scenario(line_of(fault)?)),
+    }
+}
+
+/// The answer of `check_texts`, where a plan is valid only if its robots begin and end as this scenario says: robot k as its
+/// line k + 2. A fault of the scenario is named before one of the plan.
+pub fn check_scenario(
+    alloc: Global,
+    map: &[u8],
+    scenario: &[u8],
+    text: &[u8],
+) -> Result<PlanAnswer, AllocError>
+    requires scenario { length scenario.now ≤ 16777216 }
+    requires short { length text.now ≤ 16777216 }
+    ensures { IfOk result (λ answer. IsScenarioAnswer map.now scenario.now text.now answer) }
+{
     match read_map(alloc, map) {
-        Ok(map) => answer_on(alloc, map, text),
+        Ok(map) => scenario_on(alloc, map, scenario, text),
         Err(fault) => Ok(PlanAnswer::Map(map_fault(fault)?)),
     }
 }

@@ -1,10 +1,13 @@
 //! Cells in a plan's text.
 
-ghost use Rattle.std.specs.Prelude.{◌≡◌, ◌∷◌, [], ◌<◌, ◌≤◌, ◌+◌, length, MatchOption, IfOk, IfSome, Some, None};
+ghost use Rattle.std.specs.Prelude.{◌≡◌, ◌∷◌, [], ◌<◌, ◌≤◌, ◌+◌, ◌-◌, ◌==◌, length, slice_index, MatchOption, IfOk, IfSome, Some, None};
 ghost use Rattle.std.specs.List.{position};
 ghost use Rattle.std.specs.Option.{option_map};
-ghost use Rattle.fleet_plans.specs.Cells.{is_comma, parts_of, coordinate, column_in, row_in, pair_in, cells_in};
+ghost use Rattle.fleet_plans.specs.Cells.{is_comma, parts_of, coordinate, column_in, row_in, pair_in, cells_in, is_direction, faced_in, faced_cells, is_faced, listed_in};
+ghost use Rattle.fleet_plans.specs.Head.{split_once};
+ghost use Rattle.fleet_plans.specs.Agents.{cell_in};
 
+use crate::head::split_once;
 use crate::sides::Sides;
 use fleet_history::Row;
 use fleet_map::text::number_up_to;
@@ -32,7 +35,7 @@ pub(crate) fn first_part(text: &[u8]) -> Option<(&[u8], &[u8])>
 }
 
 /// A coordinate; 1,024 if it is greater.
-fn coordinate_of(word: &[u8]) -> Option<u32>
+pub(crate) fn coordinate_of(word: &[u8]) -> Option<u32>
     ensures exact { result ≡ coordinate word.now }
     ensures small { IfSome result (λ n. n ≤ 1024) }
 {
@@ -42,7 +45,8 @@ fn coordinate_of(word: &[u8]) -> Option<u32>
 
 /// The column of a part `(X`.
 fn column_of(part: &[u8]) -> Option<u32>
-    ensures { result ≡ column_in part.now }
+    ensures exact { result ≡ column_in part.now }
+    ensures small { IfSome result (λ n. n ≤ 1024) }
 {
     if part.is_empty() || part[0] != b'(' {
         return None;
@@ -71,8 +75,18 @@ fn cell_of(sides: Sides, first: &[u8], second: &[u8]) -> Option<u32>
     Some(sides.cell_at(x, y))
 }
 
+/// The cell of a text `(R,C)`, whose first number is the row.
+pub(crate) fn cell_by_row(sides: Sides, text: &[u8]) -> Option<u32>
+    ensures { result ≡ cell_in sides.width sides.height (split_once 44 text.now) }
+{
+    let (first, second) = split_once(text, b',')?;
+    let row = column_of(first)?;
+    let column = row_of(second)?;
+    Some(sides.cell_at(column, row))
+}
+
 /// The cells of a list `(X,Y),(X,Y),..`; `None` if the text is not such a list.
-pub(crate) fn cells_of<A: Allocator + Copy>(
+fn cells_of<A: Allocator + Copy>(
     alloc: A,
     sides: Sides,
     text: &[u8],
@@ -93,4 +107,92 @@ pub(crate) fn cells_of<A: Allocator + Copy>(
         rest = after;
     }
     Ok(Some(Row::from_vec(cells)))
+}
+
+/// Whether a part is a direction, and ends a cell.
+fn is_direction(part: &[u8]) -> bool
+    ensures { result ≡ is_direction part.now }
+{
+    part == b"X_PLUS)".as_slice()
+        || part == b"X_MINUS)".as_slice()
+        || part == b"Y_PLUS)".as_slice()
+        || part == b"Y_MINUS)".as_slice()
+}
+
+/// The cell of three parts `(X`, `Y` and a direction.
+fn faced_of(sides: Sides, first: &[u8], second: &[u8], third: &[u8]) -> Option<u32>
+    ensures { result ≡ faced_in sides.width sides.height first.now second.now third.now }
+{
+    if !is_direction(third) {
+        return None;
+    }
+    let x = column_of(first)?;
+    let y = coordinate_of(second)?;
+    Some(sides.cell_at(x, y))
+}
+
+/// The cells of a list `(X,Y,DIRECTION),..`; `None` if the text is not such a list.
+fn faced_cells<A: Allocator + Copy>(
+    alloc: A,
+    sides: Sides,
+    text: &[u8],
+) -> Result<Option<Row<u32, A>>, AllocError>
+    ensures read { IfOk result (λ cells. cells ≡ faced_cells sides.width sides.height (parts_of text.now)) }
+    ensures few { IfOk result (λ cells. IfSome cells (λ list. length list ≤ length text.now)) }
+{
+    let mut cells = Vec::new(alloc);
+    let mut rest = text;
+    while let Some((first, after)) = first_part(rest) {
+        let Some((second, after)) = first_part(after) else {
+            return Ok(None);
+        };
+        let Some((third, after)) = first_part(after) else {
+            return Ok(None);
+        };
+        let Some(cell) = faced_of(sides, first, second, third) else {
+            return Ok(None);
+        };
+        cells.push(cell)?;
+        rest = after;
+    }
+    Ok(Some(Row::from_vec(cells)))
+}
+
+/// Whether a part ends with a bracket.
+pub(crate) fn is_closed(part: &[u8]) -> bool
+    ensures { result ≡ (slice_index part.now (length part.now - 1) == 41) }
+{
+    match part.last() {
+        Some(byte) => *byte == b')',
+        None => false,
+    }
+}
+
+/// Whether the cells of a list have directions: the second part ends no cell.
+fn is_faced(text: &[u8]) -> bool
+    ensures { result ≡ is_faced (parts_of text.now) }
+{
+    let Some((_, after)) = first_part(text) else {
+        return false;
+    };
+    match first_part(after) {
+        Some((second, _)) => !is_closed(second),
+        None => false,
+    }
+}
+
+/// The cells of a list, with or without directions; `None` if the text is not such a list.
+pub(crate) fn listed_cells<A: Allocator + Copy>(
+    alloc: A,
+    sides: Sides,
+    text: &[u8],
+) -> Result<Option<Row<u32, A>>, AllocError>
+    ensures read { IfOk result (λ cells. cells ≡ listed_in sides.width sides.height (parts_of text.now)) }
+    ensures few { IfOk result (λ cells. IfSome cells (λ list. length list ≤ length text.now)) }
+{
+    if is_faced(text) {
+        faced_cells(alloc, sides, text)
+    } else {
+        cells_of(alloc, sides, text)
+    }
 }

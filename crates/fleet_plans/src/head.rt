@@ -8,7 +8,7 @@ ghost use Rattle.fleet_plans.specs.Head.{blank_head, split_once, if_new, form_in
 ghost use Rattle.fleet_plans.specs.inside.Few.{HasFewStarts};
 ghost use Rattle.fleet_plans.specs.Shown.{shown, opened, Gives};
 
-use crate::cells::cells_of;
+use crate::cells::listed_cells;
 use crate::fault::PlanTextFault;
 use crate::sides::Sides;
 use fleet_history::Row;
@@ -68,7 +68,7 @@ fn is_form_of_moves(value: &[u8]) -> Option<bool>
 
 impl<A: Allocator + Copy> Head<A> {
     /// The head before any line.
-    fn new() -> Head<A>
+    pub(crate) fn new() -> Head<A>
         ensures { shown result ≡ blank_head }
     {
         Head {
@@ -92,10 +92,10 @@ impl<A: Allocator + Copy> Head<A> {
     {
         let fault = PlanTextFault::Line(number);
         if key == b"starts".as_slice() {
-            let starts = cells_of(alloc, sides, value)?;
+            let starts = listed_cells(alloc, sides, value)?;
             set_once(&mut self.starts, starts).ok_or(fault)
         } else if key == b"goals".as_slice() {
-            let goals = cells_of(alloc, sides, value)?;
+            let goals = listed_cells(alloc, sides, value)?;
             set_once(&mut self.goals, goals).ok_or(fault)
         } else if key == b"form".as_slice() {
             set_once(&mut self.is_moves, is_form_of_moves(value)).ok_or(fault)

@@ -2,7 +2,7 @@
 
 ghost use Rattle.std.specs.Prelude.{◌≡◌, ◌≤◌, ◌<◌, ◌+◌, ◌++◌, ◌∷◌, ◌^◌, ℕ, List, [], length, slice_index, None, MatchOption, OnOk, IfOk, IfErr, IsOk, IsSome};
 ghost use Rattle.fleet_grid.specs.Floor.{Floor};
-ghost use Rattle.fleet_plans.specs.Valid.{IsValidPlan, IsPlanFault};
+ghost use Rattle.fleet_plans.specs.Valid.{IsValidPlan, IsPlanFault, place_at, last_of};
 ghost use Rattle.fleet_plans.specs.Report.{IsReportOf};
 ghost use Rattle.fleet_plans.specs.Costs.{IsNoted};
 ghost use Rattle.fleet_plans.specs.Judge.{HasJudged};
@@ -25,6 +25,7 @@ pub struct PlanJudge<'a, A: Allocator + Copy = Global, B: Allocator + Copy = Glo
     grid: &'a Grid<B>,
     checker: StepChecker<A>,
     count: usize,
+    first: Vec<u32, A>,
     last: Vec<u32, A>,
     costs: Vec<u32, A>,
     fault: Option<PlanFault>,
@@ -36,9 +37,9 @@ impl<'a, A: Allocator + Copy, B: Allocator + Copy> Model for PlanJudge<'a, A, B>
 
     ghost Value = { Judged };
 
-    ghost view = { λ j. record { floor = j.grid.now; count = j.count; last = j.last.items; costs = j.costs.items; fault = j.fault } };
+    ghost view = { λ j. record { floor = j.grid.now; count = j.count; first = j.first.items; last = j.last.items; costs = j.costs.items; fault = j.fault } };
 
-    ghost invariant = { λ j. IsKept j.grid.now j.count j.last.items j.costs.items };
+    ghost invariant = { λ j. IsKept j.grid.now j.count j.first.items j.last.items j.costs.items };
 }
 
 /// Writes the placement over the last one, and this time at the robots that moved to it.
@@ -68,6 +69,7 @@ impl<'a, A: Allocator + Copy, B: Allocator + Copy> PlanJudge<'a, A, B> {
             grid,
             checker: StepChecker::new(alloc, 0),
             count: 0,
+            first: Vec::new(alloc),
             last: Vec::new(alloc),
             costs: Vec::new(alloc),
             fault: None,
@@ -110,9 +112,11 @@ impl<'a, A: Allocator + Copy, B: Allocator + Copy> PlanJudge<'a, A, B> {
         match first_fault(self.alloc, self.grid, place)? {
             Some(fault) => self.fault = Some(PlanFault { time: 0, fault }),
             None => {
+                let first = Vec::from_slice(self.alloc, place)?;
                 let last = Vec::from_slice(self.alloc, place)?;
                 self.costs = zeros(self.alloc, place.len())?;
                 self.checker = StepChecker::new(self.alloc, place.len());
+                self.first = first;
                 self.last = last;
             }
         }
@@ -155,6 +159,22 @@ impl<'a, A: Allocator + Copy, B: Allocator + Copy> PlanJudge<'a, A, B> {
         self.fault
     }
 
+    /// The first placement, unless it is at fault.
+    pub(crate) fn first(&self) -> &[u32]
+        ensures exact { result.now ≡ self.now.first }
+        ensures few { length result.now < 2 ^ 32 }
+    {
+        self.first.as_slice()
+    }
+
+    /// The last placement before the first fault.
+    pub(crate) fn last(&self) -> &[u32]
+        ensures exact { result.now ≡ self.now.last }
+        ensures few { length result.now < 2 ^ 32 }
+    {
+        self.last.as_slice()
+    }
+
     /// The report on the plan of all placements taken, with the number of robots that end on these goals; or the first
     /// placement at fault. Without goals it says nothing of them.
     pub fn verdict(&self, goals: Option<&[u32]>) -> Result<PlanReport, PlanFault>
@@ -163,6 +183,9 @@ impl<'a, A: Allocator + Copy, B: Allocator + Copy> PlanJudge<'a, A, B> {
         ensures report { (m : Floor) (places : List (List ℕ)) → HasJudged m places self.now → IfOk result (λ report. IsReportOf (goals_in goals.entry) places report) }
         ensures fault { (m : Floor) (places : List (List ℕ)) → HasJudged m places self.now → IfErr result (λ f. IsPlanFault m places f.time f.fault) }
         ensures lawful { (m : Floor) (places : List (List ℕ)) → HasJudged m places self.now → IsValidPlan m places → IsOk result }
+        // The judge has the first and the last placement of a valid plan.
+        ensures first { (m : Floor) (places : List (List ℕ)) → HasJudged m places self.now → OnOk result (self.now.first ≡ place_at places 0) }
+        ensures last { (m : Floor) (places : List (List ℕ)) → HasJudged m places self.now → OnOk result (self.now.last ≡ last_of places) }
     {
         match self.fault {
             Some(fault) => Err(fault),

@@ -1,28 +1,39 @@
 //! Plans of other planners: reads the texts that tools of the field write, and judges the plans step by step.
 #![tactic(auto)]
 
+mod agents;
 mod answer;
 mod cells;
+mod claims;
 mod costs;
 mod fault;
+mod follow;
+mod form;
+mod goals;
 mod head;
 mod judge;
 mod judging;
 mod law;
+mod misspelt;
 mod placements;
 mod places;
 mod plan;
 mod report;
 mod runners;
+mod scenario;
 mod sides;
+mod text;
 mod tracks;
 mod walk;
 
-pub use answer::{FaultText, PlanAnswer, check_texts};
+pub use answer::{FaultText, PlanAnswer, check_scenario, check_solution, check_texts};
+pub use claims::{HeadFault, HeadKey};
 pub use fault::PlanTextFault;
+pub use goals::GoalFault;
 pub use judge::PlanJudge;
 pub use judging::PlanFault;
 pub use law::robots_stay_apart;
+pub use misspelt::{KnownKey, Misspelt, first_misspelt};
 pub use placements::Placements;
 pub use report::PlanReport;
 pub use runners::{RunnersFault, RunnersKey};

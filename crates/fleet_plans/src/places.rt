@@ -10,7 +10,7 @@ ghost use Rattle.fleet_plans.specs.Shown.{shown, FailsAt};
 ghost use Rattle.fleet_plans.specs.inside.Given.{IsGiven, IsGivenAs};
 ghost use Rattle.fleet_plans.specs.inside.Fits.{fits};
 
-use crate::cells::cells_of;
+use crate::cells::listed_cells;
 use crate::fault::PlanTextFault;
 use crate::head::{Head, split_once};
 use crate::judge::PlanJudge;
@@ -20,7 +20,7 @@ use fleet_map::text::{first_line, number_up_to};
 use std::alloc::{AllocError, Allocator};
 
 /// Whether the word is this number.
-fn is_number(number: usize, word: &[u8]) -> bool
+pub(crate) fn is_number(number: usize, word: &[u8]) -> bool
     ensures { result ≡ is_number number (number_of word.now) }
 {
     match number_up_to(word, 1 << 32) {
@@ -40,7 +40,7 @@ fn place_of<A: Allocator + Copy>(
     ensures few { IfOk result (λ place. IfSome place (λ cells. length cells ≤ length line.now)) }
 {
     match split_once(line, b':') {
-        Some((number, cells)) if is_number(time, number) => cells_of(alloc, sides, cells),
+        Some((number, cells)) if is_number(time, number) => listed_cells(alloc, sides, cells),
         _ => Ok(None),
     }
 }

@@ -3,14 +3,15 @@
 mod fault;
 mod paths;
 mod starts;
+mod turning;
 
-ghost use Rattle.std.specs.Prelude.{◌≡◌, ◌≤◌, ◌<◌, ◌==◌, ◌||◌, ℕ, map, not, length, codes, [], None, IfOk, IfErr};
+ghost use Rattle.std.specs.Prelude.{◌≡◌, ◌≤◌, ◌<◌, ◌==◌, ◌||◌, ℕ, map, not, length, slice_index_or, codes, [], None, IfOk, IfErr};
 ghost use Rattle.std.specs.List.{position};
 ghost use Rattle.serde_json.specs.Find.{get};
 ghost use Rattle.serde_json.specs.View.{view};
-ghost use Rattle.fleet_plans.specs.Runners.{is_mark, is_json, is_mapf, has_size, runners_of, IsToldAs, IsRunnersPlan, IsRunnersFault};
+ghost use Rattle.fleet_plans.specs.Runners.{is_mark, is_json, turns_in, dirs_by, tracks_by, has_size, runners_of, IsToldAs, IsRunnersPlan, IsRunnersFault};
 ghost use Rattle.fleet_plans.specs.Shown.{texts};
-ghost use Rattle.fleet_plans.specs.Told.{IsToldFault};
+ghost use Rattle.fleet_plans.specs.Told.{IsToldFault, Tells};
 ghost use Rattle.fleet_plans.specs.Judge.{HasJudged};
 ghost use Rattle.fleet_plans.specs.inside.Given.{IsGiven};
 
@@ -18,11 +19,13 @@ use crate::judge::PlanJudge;
 use crate::sides::Sides;
 use crate::walk::walk;
 pub use fault::{RunnersFault, RunnersKey};
+use fleet_grid::Dir;
 use fleet_history::Row;
 use paths::read_paths;
 use serde_json::Value;
 use starts::read_starts;
 use std::alloc::{AllocError, Allocator, Global};
+use turning::{read_dirs, read_turned};
 
 /// Whether the byte is not white space of JSON.
 fn is_mark(byte: u8) -> bool
@@ -48,16 +51,20 @@ pub(crate) fn is_json(text: &[u8]) -> bool
     }
 }
 
-/// Whether the plan's action model is MAPF or is missing.
-fn is_mapf(plan: &Value) -> bool
-    ensures { result ≡ is_mapf (get (codes "actionModel") (view plan.now)) }
+/// Whether robots turn in the plan's action model, which is MAPF if it is missing; `None` for another model.
+fn turns(plan: &Value) -> Option<bool>
+    ensures { result ≡ turns_in (get (codes "actionModel") (view plan.now)) }
 {
     let Some(model) = plan.get("actionModel") else {
-        return true;
+        return Some(false);
     };
-    match model.as_str() {
-        Some(name) => name == "MAPF",
-        None => false,
+    let name = model.as_str()?;
+    if name == "MAPF" {
+        Some(false)
+    } else if name == "MAPF_T" {
+        Some(true)
+    } else {
+        None
     }
 }
 
@@ -85,6 +92,38 @@ fn lent(alloc: Global, tracks: &[Row<u8>]) -> Result<Vec<&[u8]>, AllocError>
     Ok(lent)
 }
 
+/// The directions of robots that turn.
+fn dirs_by(alloc: Global, turns: bool, plan: &Value) -> Result<Row<Dir>, RunnersFault>
+    ensures read { Tells (λ dirs. dirs) result (dirs_by turns (view plan.now)) }
+    ensures few { IfOk result (λ dirs. length dirs ≤ 16777216) }
+{
+    if turns {
+        read_dirs(alloc, plan)
+    } else {
+        Ok(Row::new(alloc))
+    }
+}
+
+/// The robots' tracks.
+fn tracks_by(
+    alloc: Global,
+    turns: bool,
+    robots: usize,
+    dirs: &[Dir],
+    plan: &Value,
+) -> Result<Vec<Row<u8>>, RunnersFault>
+    requires robots { robots ≤ 16777216 }
+    requires few { length dirs.now ≤ 16777216 }
+    ensures read { Tells (λ tracks. tracks.items) result (tracks_by turns robots dirs.now (view plan.now)) }
+    ensures short { IfOk result (λ tracks. (r : ℕ) → length (slice_index_or tracks.items r []) ≤ 16777216) }
+{
+    if turns {
+        read_turned(alloc, dirs, plan)
+    } else {
+        read_paths(alloc, robots, plan)
+    }
+}
+
 /// Gives the judge the placements of the plan that a JSON value says.
 fn judge_value<B: Allocator + Copy>(
     alloc: Global,
@@ -96,21 +135,22 @@ fn judge_value<B: Allocator + Copy>(
     ensures read { IfOk result (λ _. IsGiven judge.old.floor (IsToldAs sides.width sides.height (runners_of sides.width sides.height (view value.now)) None) judge.new) }
     ensures fault { IfErr result (λ fault. IsToldFault fault (runners_of sides.width sides.height (view value.now))) }
 {
-    if !is_mapf(value) {
+    let Some(turns) = turns(value) else {
         return Err(RunnersFault::Key(RunnersKey::ActionModel));
-    }
+    };
     let starts = read_starts(alloc, sides, value)?;
+    let dirs = dirs_by(alloc, turns, value)?;
     if !has_size(value, starts.len()) {
         return Err(RunnersFault::Key(RunnersKey::TeamSize));
     }
-    let tracks = read_paths(alloc, starts.len(), value)?;
+    let tracks = tracks_by(alloc, turns, starts.len(), dirs.as_slice(), value)?;
     let lent = lent(alloc, &tracks)?;
     Ok(walk(alloc, sides, starts.as_slice(), &lent, judge)?)
 }
 
-/// Gives the judge the placements of a plan in JSON, in the form of the League of Robot Runners, for robots that do not
-/// turn: `start` has each robot's row and column, and `actualPaths` its steps, as letters U, D, L, R, W separated by
-/// commas. Such a plan names no goals.
+/// Gives the judge the placements of a plan in JSON, in the form of the League of Robot Runners: `start` has each
+/// robot's row and column, and `actualPaths` its steps, as letters U, D, L, R, W separated by commas; for robots that
+/// turn, `start` has the direction as well, and the letters are F, R, C, W. Such a plan names no goals.
 ///
 /// The fault is the first one, with the keys in the order of `RunnersKey`.
 pub(crate) fn read_runners<B: Allocator + Copy>(

@@ -32,6 +32,8 @@ pub record IsView (rows : List Row) (view : ViewJob) : Type 0 where
 
 -- what the words after `check` ask for
 pub record IsCheck (rows : List Row) (check : CheckJob) : Type 0 where
+  pub strict : check.strict ≡ has_flag (codes "strict") rows
+  pub goals : first_of (codes "goals") rows ≡ option_map (λ s. string_bytes s) check.goals
   pub floor : first_of (codes "MAP") rows ≡ Some (string_bytes check.map)
   pub plan : first_of (codes "PLAN") rows ≡ Some (string_bytes check.plan)
 

@@ -8,9 +8,9 @@ abbrev pub view_app : App
 view_app = with_rules (new_app (codes "view"))
     (flag_rule (codes "svg") ∷ number_rule (codes "tick") ∷ file_rule (codes "MAP") ∷ files_rule (codes "TRACE") ∷ [])
 
--- check MAP PLAN
+-- check [--strict] [--goals SCENARIO] MAP PLAN
 abbrev pub check_app : App
-check_app = with_rules (new_app (codes "check")) (file_rule (codes "MAP") ∷ file_rule (codes "PLAN") ∷ [])
+check_app = with_rules (new_app (codes "check")) (flag_rule (codes "strict") ∷ value_rule (codes "goals") ∷ file_rule (codes "MAP") ∷ file_rule (codes "PLAN") ∷ [])
 
 -- talk [--marks] [--roll] [--traces DIR] MAP [SCRIPT]
 abbrev pub talk_app : App

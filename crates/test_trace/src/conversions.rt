@@ -17,7 +17,7 @@ const CELLS: &str =
 const MOVES: &str = "form=moves\nstarts=(0,0),(2,2),\nsolution=\nrrw\nllw\n";
 
 const RUNNERS: &str =
-    "{\"actionModel\":\"MAPF\",\"teamSize\":2,\"start\":[[0,0],[2,2]],\"actualPaths\":[\"R,R,W\",\"L,L,W\"]}\n";
+    "{\"actionModel\":\"MAPF\",\"teamSize\":2,\"start\":[[0,0,\"E\"],[2,2,\"E\"]],\"actualPaths\":[\"R,R,W\",\"L,L,W\"]}\n";
 
 /// The plan in this form; an empty text if there is none.
 fn plan(alloc: Global, form: PlanForm) -> String {

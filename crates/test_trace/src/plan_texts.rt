@@ -1,6 +1,9 @@
 //! Plans in each form, valid and with each kind of fault. The expected values were worked out by hand.
 
-use fleet_plans::{FaultText, PlanAnswer, check_texts};
+use fleet_plans::{
+    FaultText, GoalFault, KnownKey, Misspelt, PlanAnswer, check_scenario, check_solution,
+    check_texts, first_misspelt,
+};
 use std::alloc::{AllocError, Global};
 
 /// Two rows of three cells; the middle of the second is a wall.
@@ -41,23 +44,79 @@ const RUNNERS_VERTEX: &str = r#" {"start":[[0,1],[0,0]],"actualPaths":["R,L","R"
 
 const MISSING_PATH: &str = r#"{"start":[[0,1],[0,0]],"actualPaths":["R,L"]}"#;
 
-const TURNING: &str = r#"{"actionModel":"MAPF_T","start":[[0,1]],"actualPaths":["F"]}"#;
+/// Robot 0 goes two cells east, turns and goes south; robot 1 turns left, goes north, turns right, waits and goes east.
+const TURNING: &str =
+    r#"{"actionModel":"MAPF_T","start":[[0,0,"E"],[1,0,"E"]],"actualPaths":["F,F,R,F,W","C,F,R,W,F"]}"#;
 
-/// The answer to a plan on the map, as it is printed; `plan N` for a text that is no plan.
-fn answer(alloc: Global, plan: &str) -> Result<String, AllocError> {
-    if plan.len() > 4096 {
-        return Err(AllocError);
-    }
-    match check_texts(alloc, MAP.as_bytes(), plan.as_bytes())? {
+/// Robot 1 turns right instead, and leaves the map by its south side.
+const TURNING_OFF: &str =
+    r#"{"actionModel":"MAPF_T","start":[[0,0,"E"],[1,0,"E"]],"actualPaths":["F,F","R,F"]}"#;
+
+const NO_DIRECTION: &str =
+    r#"{"actionModel":"MAPF_T","start":[[0,0,"E"],[1,0]],"actualPaths":["F,F","R,F"]}"#;
+
+const OTHER_MODEL: &str = r#"{"actionModel":"MAPF-T","start":[[0,1]],"actualPaths":["F"]}"#;
+
+/// The first plan without its head.
+const BARE: &str = "0:(0,0),(0,1),\n1:(1,0),(0,0),\n2:(2,0),(0,0),\n3:(2,1),(1,0),\n";
+
+/// The same with directions.
+const FACED: &str =
+    "0:(0,0,X_PLUS),(0,1,Y_MINUS),\n1:(1,0,X_PLUS),(0,0,Y_MINUS),\n2:(2,0,Y_PLUS),(0,0,X_PLUS),\n3:(2,1,Y_PLUS),(1,0,X_PLUS),\n";
+
+/// Robot 1 has no direction at time 0.
+const HALF_FACED: &str = "0:(0,0,X_PLUS),(0,1),\n";
+
+/// The first plan as paths of agents, with rows before columns.
+const AGENTS: &str =
+    "Agent 0: (0,0)->(0,1)->(0,2)->(1,2)->\nAgent 1: (1,0)->(0,0)->(0,0)->(0,1)->\n";
+
+/// Robot 1 stays on the second cell of its path.
+const AGENTS_STAY: &str = "Agent 0: (0,0)->(0,1)->(0,2)->(1,2)\nAgent 1: (1,0)->(0,0)\n";
+
+const AGENTS_SWAP: &str = "Agent 0: (0,0)->(1,0)->\nAgent 1: (1,0)->(0,0)->\n";
+
+const AGENT_TWO: &str = "Agent 0: (0,0)->\nAgent 2: (1,0)->\n";
+
+/// What is said of an answer; `plan N` for a text that is no plan.
+fn said(alloc: Global, answer: PlanAnswer) -> Result<String, AllocError> {
+    match answer {
         PlanAnswer::Map(_) => String::from_str(alloc, "map"),
         PlanAnswer::Text(line) => format!(in alloc; "plan {line}"),
+        PlanAnswer::Cut(line) => format!(in alloc; "cut {line}"),
+        PlanAnswer::Scenario(line) => format!(in alloc; "scenario {line}"),
         PlanAnswer::Json(fault) => format!(in alloc; "plan {fault}"),
+        PlanAnswer::Head(fault) => format!(in alloc; "head {fault}"),
+        PlanAnswer::Goals { time, fault } => match fault {
+            GoalFault::NoGoals => String::from_str(alloc, "no goals"),
+            GoalFault::OffStart(robot) => format!(in alloc; "off-start {robot}"),
+            GoalFault::OffGoal(robot) => format!(in alloc; "{time} off-goal {robot}"),
+        },
         PlanAnswer::Valid(report) => format!(in alloc; "{report}"),
         PlanAnswer::Invalid(found) => {
             let (time, fault) = (found.time, FaultText(found.fault));
             format!(in alloc; "{time} {fault}")
         }
     }
+}
+
+/// The answer to a plan on the map.
+fn answer(alloc: Global, plan: &str) -> Result<String, AllocError> {
+    if plan.len() > 4096 {
+        return Err(AllocError);
+    }
+    said(alloc, check_texts(alloc, MAP.as_bytes(), plan.as_bytes())?)
+}
+
+/// The answer to a plan on the map, of which it is asked that each robot ends on its goal.
+fn strict_answer(alloc: Global, plan: &str) -> Result<String, AllocError> {
+    if plan.len() > 4096 {
+        return Err(AllocError);
+    }
+    said(
+        alloc,
+        check_solution(alloc, MAP.as_bytes(), plan.as_bytes())?,
+    )
 }
 
 #[test]
@@ -73,12 +132,22 @@ fn plans_are_judged(rt: HostRuntime) {
         (SHORT, "1 length"),
         (NO_TIME_ONE, "plan 3"),
         (TWO_STARTS, "plan 2"),
-        ("solution=\n", "plan 2"),
+        ("solution=\n", "cut 2"),
         ("no key\n", "plan 1"),
         (RUNNERS, "valid 3 2\nsum-of-costs 6\nmakespan 3\n"),
         (RUNNERS_VERTEX, "2 vertex 0 1"),
         (MISSING_PATH, "plan actualPaths"),
-        (TURNING, "plan actionModel"),
+        (TURNING, "valid 5 2\nsum-of-costs 9\nmakespan 5\n"),
+        (TURNING_OFF, "2 off-floor 1"),
+        (NO_DIRECTION, "plan start 1"),
+        (OTHER_MODEL, "plan actionModel"),
+        (BARE, "valid 3 2\nsum-of-costs 6\nmakespan 3\n"),
+        (FACED, "valid 3 2\nsum-of-costs 6\nmakespan 3\n"),
+        (HALF_FACED, "plan 1"),
+        (AGENTS, "valid 3 2\nsum-of-costs 6\nmakespan 3\n"),
+        (AGENTS_STAY, "valid 3 2\nsum-of-costs 4\nmakespan 3\n"),
+        (AGENTS_SWAP, "1 swap 0 1"),
+        (AGENT_TWO, "plan 2"),
         ("{\"start\":[[0,1],[0]]}", "plan start 1"),
         ("{\"start\":[]", "plan json"),
     ];
@@ -86,4 +155,95 @@ fn plans_are_judged(rt: HostRuntime) {
         let said = answer(rt.alloc(), plan).expect(&rt, "memory for an answer");
         assert_eq!(rt; said.as_str(), *expected);
     }
+}
+
+#[test]
+fn heads_are_compared(rt: HostRuntime) {
+    let cases = [
+        (
+            "agents=1\nsoc=1\nmakespan=1\nsolution=\n0:(0,0)\n1:(1,0)\n",
+            "valid 1 1\nsum-of-costs 1\nmakespan 1\n",
+        ),
+        ("agents=2\nsolution=\n0:(0,0)\n1:(1,0)\n", "head agents"),
+        ("makespan=2\nsolution=\n0:(0,0)\n1:(1,0)\n", "head 5 cut"),
+        ("makespan=0\nsolution=\n0:(0,0)\n1:(1,0)\n", "head makespan"),
+        ("soc=2\nsolution=\n0:(0,0)\n1:(1,0)\n", "head soc"),
+        // robot 0 stays in the second step: the makespan is 2 by the lines, and 1 by the costs
+        (
+            "makespan=1\nsolution=\n0:(0,0)\n1:(1,0)\n2:(1,0)\n",
+            "valid 2 1\nsum-of-costs 1\nmakespan 1\n",
+        ),
+        (
+            "makespan=9\nsolution=\n0:(0,0)\n1:(2,0)\n",
+            "1 not-adjacent 0",
+        ),
+    ];
+    for (plan, expected) in &cases {
+        let said = answer(rt.alloc(), plan).expect(&rt, "memory for an answer");
+        assert_eq!(rt; said.as_str(), *expected);
+    }
+}
+
+#[test]
+fn robots_end_on_their_goals(rt: HostRuntime) {
+    let cases = [
+        (CELLS, "valid 3 2\nsum-of-costs 6\nmakespan 3\non-goals 2\n"),
+        (MOVES, "no goals"),
+        (
+            "goals=(0,0),(2,0)\nsolution=\n0:(0,0),(1,0)\n",
+            "0 off-goal 1",
+        ),
+        (JUMP, "1 not-adjacent 0"),
+    ];
+    for (plan, expected) in &cases {
+        let said = strict_answer(rt.alloc(), plan).expect(&rt, "memory for an answer");
+        assert_eq!(rt; said.as_str(), *expected);
+    }
+}
+
+/// The robots of the first plan, and one more.
+const SCENARIO: &str =
+    "version 1\n0\tarena.map\t3\t2\t0\t0\t2\t1\t3\n0\tarena.map\t3\t2\t0\t1\t1\t0\t2.41\n9\tarena.map\t3\t2\t2\t0\t0\t0\t2\n";
+
+/// The answer to a plan for a scenario on the map.
+fn scenario_answer(alloc: Global, scenario: &str, plan: &str) -> Result<String, AllocError> {
+    if plan.len() > 4096 || scenario.len() > 4096 {
+        return Err(AllocError);
+    }
+    said(
+        alloc,
+        check_scenario(alloc, MAP.as_bytes(), scenario.as_bytes(), plan.as_bytes())?,
+    )
+}
+
+#[test]
+fn robots_do_what_a_scenario_says(rt: HostRuntime) {
+    let cases = [
+        (SCENARIO, AGENTS, "valid 3 2\nsum-of-costs 6\nmakespan 3\n"),
+        (SCENARIO, AGENTS_STAY, "3 off-goal 1"),
+        (SCENARIO, "0:(0,0),(2,0)\n", "off-start 1"),
+        (SCENARIO, SWAP, "2 swap 0 1"),
+        ("version 1\n", BARE, "no goals"),
+        (
+            "version 1\n0\tarena.map\t2\t3\t0\t0\t2\t1\t3\n",
+            BARE,
+            "scenario 2",
+        ),
+        ("0\tarena.map\t3\t2\t0\t0\t2\t1\t3\n", BARE, "scenario 1"),
+    ];
+    for (scenario, plan, expected) in &cases {
+        let said = scenario_answer(rt.alloc(), scenario, plan).expect(&rt, "memory for an answer");
+        assert_eq!(rt; said.as_str(), *expected);
+    }
+}
+
+#[test]
+fn misspelt_keys_are_found(rt: HostRuntime) {
+    let goals = Misspelt {
+        line: 2,
+        key: KnownKey::Goals,
+    };
+    let found = first_misspelt(b"starts=(0,0)\n Goal =(0,0)\nsolution=\n");
+    assert_eq!(rt; found, Some(goals));
+    assert_eq!(rt; first_misspelt(CELLS.as_bytes()), None);
 }

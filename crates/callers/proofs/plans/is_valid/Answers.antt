@@ -18,3 +18,15 @@ returns-in-Json-clause-invalid c = λ no. (c.in_ok-_report.field-0, c.in_ok-_rep
 
 pub returns-in-Invalid-clause-invalid : goal.returns-in-Invalid-clause-invalid
 returns-in-Invalid-clause-invalid c = λ no. (c.in_ok-_report.field-0, c.in_ok-_report.ensures, λ report e. cc (e, c.in-Invalid.is))
+
+pub returns-in-Cut-clause-invalid : goal.returns-in-Cut-clause-invalid
+returns-in-Cut-clause-invalid c = λ no. (c.in_ok-_report.field-0, c.in_ok-_report.ensures, λ report e. cc (e, c.in-Cut.is))
+
+pub returns-in-Head-clause-invalid : goal.returns-in-Head-clause-invalid
+returns-in-Head-clause-invalid c = λ no. (c.in_ok-_report.field-0, c.in_ok-_report.ensures, λ report e. cc (e, c.in-Head.is))
+
+pub returns-in-Goals-clause-invalid : goal.returns-in-Goals-clause-invalid
+returns-in-Goals-clause-invalid c = λ no. (c.in_ok-_report.field-0, c.in_ok-_report.ensures, λ report e. cc (e, c.in-Goals.is))
+
+pub returns-in-Scenario-clause-invalid : goal.returns-in-Scenario-clause-invalid
+returns-in-Scenario-clause-invalid c = λ no. (c.in_ok-_report.field-0, c.in_ok-_report.ensures, λ report e. cc (e, c.in-Scenario.is))

@@ -1,6 +1,20 @@
--- What is said is that of the answer.
+-- What is said is that of the answer, after what is said of the head.
+use Rattle.std.proofs.Common.{◌≡◌, Option, ap, ◌∙◌}
 use Rattle.std.proofs.lemmas.Result.{IfOk-weaker}
+use Rattle.fleet_lib.specs.Said.{Outcome, said_of}
+use Rattle.fleet_lib.specs.Check.{noted, outcome_of}
+use Rattle.fleet_plans.specs.declared.misspelt.Misspelt.{Misspelt}
+use Rattle.fleet_plans.specs.Misspelt.{misspelt_of}
+use Rattle.fleet_plans.specs.Reading.{head_lines}
 use Rattle.fleet_lib.proofs.check.answer_check.Goals as goal
 
+after_head : (o is : Outcome) (found line : Option Misspelt) (said : Outcome) → o ≡ noted found said → found ≡ line → said ≡ is → o ≡ noted line is
+after_head o is found line said first head answer = first ∙ (ap (λ (f : Option Misspelt). noted f said) head ∙ ap (λ (x : Outcome). noted line x) answer)
+
 pub returns : goal.returns
-returns c = IfOk-weaker c.said_of_answer.result _ _ (λ s e. (c.in_ok-answer.answer, c.in_ok-answer.ensures, e)) c.said_of_answer.ensures
+returns c =
+    let answer = c.in_ok-answer.answer in
+    let line = misspelt_of 1 (head_lines c.args.plan.now) in
+    IfOk-weaker c.noted.result _ _
+    (λ s e. (answer, c.in_ok-answer.ensures, after_head (said_of s) (outcome_of answer) c.first_misspelt.result line (said_of c.in_ok-said.said) e c.first_misspelt.ensures c.in_ok-said.ensures))
+    c.noted.ensures

@@ -1,12 +1,30 @@
--- What is said, by the form of the text.
-use Rattle.std.proofs.Common.{Bool, IfOk, subst}
-use Rattle.fleet_plans.specs.Answer.{IsAnswerBy}
+-- What is said of a plan that is read, and of a text that is none.
+use Rattle.std.proofs.Common.{List, ℕ, Option, subst}
+use Rattle.fleet_map.specs.Text.{lines_of}
+use Rattle.fleet_plans.specs.Answer.{IsNamed, IsJudged, IsTextAnswer}
+use Rattle.fleet_plans.specs.Goals.{asked_by}
+use Rattle.fleet_plans.specs.Reading.{head_lines}
+use Rattle.fleet_plans.proofs.Answered.{text_is_none, text_is_judged}
+use Rattle.fleet_plans.proofs.Givings.{if_ok_then}
 use Rattle.fleet_plans.proofs.answer.answer_text.Goals as goal
 
-pub returns-then-is_json : goal.returns-then-is_json
-returns-then-is_json c = λ m is.
-    subst (λ (json : Bool). IfOk c.answer_json.result (λ a. IsAnswerBy json m c.args.text.now a)) c.if-is_json.ensures (c.answer_json.ensures m is)
+pub returns-in-Err : goal.returns-in-Err
+returns-in-Err c = λ m is.
+    let text = c.args.text.now in
+    let fault = c.in-Err.fault in
+    if_ok_then c.named.result (IsNamed (lines_of text) fault) (IsTextAnswer (asked_by c.args.demand) m text)
+    (λ a named. text_is_none m c.args.sides.width c.args.sides.height c.args.judge.now.floor is (asked_by c.args.demand) text a fault c.in-Err.ensures.fault named) c.named.ensures
 
-pub returns-else-is_json : goal.returns-else-is_json
-returns-else-is_json c = λ m is.
-    subst (λ (json : Bool). IfOk c.answer_lines.result (λ a. IsAnswerBy json m c.args.text.now a)) c.if-is_json.ensures (c.answer_lines.ensures m is)
+pub returns-in-Ok : goal.returns-in-Ok
+returns-in-Ok c = λ m is.
+    let text = c.args.text.now in
+    let asks = asked_by c.args.demand in
+    let floor = c.args.judge.now.floor in
+    let goals = c.in-Ok.goals in
+    let read = c.in-Ok.ensures.read in
+    let a = c.answer_of.result in
+    let lent : IsJudged floor asks (lines_of c.headed.result.now) goals read.places a =
+    subst (λ (gs : Option (List ℕ)). IsJudged floor asks (lines_of c.headed.result.now) gs read.places a) c.lent.ensures (c.answer_of.ensures floor read.places read.given) in
+    let here : IsJudged floor asks (head_lines text) goals read.places a =
+    subst (λ (ls : List (List ℕ)). IsJudged floor asks ls goals read.places a) c.headed.ensures.lines lent in
+    text_is_judged m c.args.sides.width c.args.sides.height floor is asks text a goals read.places read.holds here

@@ -1,0 +1,48 @@
+-- The plan that a text has, by its form, and why it has none.
+use Rattle.std.specs.Prelude.{◌≡◌, ℕ, List, [], Option, None, Ok}
+use Rattle.fleet_map.specs.Text.{lines_of}
+use Rattle.fleet_plans.specs.declared.form.TextForm.{TextForm}
+use Rattle.fleet_plans.specs.declared.form.TextForm.TheVariants.{Headed, Bare, Agents, Json}
+use Rattle.fleet_plans.specs.declared.text.TextFault.{TextFault}
+use Rattle.fleet_plans.specs.declared.text.TextFault.TheVariants as fault
+use Rattle.fleet_plans.specs.Form.{form_of}
+use Rattle.fleet_plans.specs.Head.{blank_head}
+use Rattle.fleet_plans.specs.Places.{places_of}
+use Rattle.fleet_plans.specs.Text.{source_of, IsReadAs}
+use Rattle.fleet_plans.specs.Agents.{IsAgentsPlan, IsNoAgents}
+use Rattle.fleet_plans.specs.Runners.{IsRunnersPlan, IsRunnersFault}
+use Rattle.fleet_plans.specs.Shown.{FailsAt}
+
+-- a text in this form has these goals and these placements; without a head it names no goals
+abbrev pub IsPlanBy : TextForm → ℕ → ℕ → List ℕ → Option (List ℕ) → List (List ℕ) → Type 0
+IsPlanBy Headed w h text goals places = IsReadAs w h (source_of w h text) goals places
+IsPlanBy Bare w h text goals places = (goals ≡ None) × (places_of w h blank_head [] 1 (lines_of text) ≡ Ok places)
+IsPlanBy Agents w h text goals places = (goals ≡ None) × IsAgentsPlan w h text places
+IsPlanBy Json w h text goals places = IsRunnersPlan w h text goals places
+
+-- why a text in this form is no plan, unless memory ran out
+abbrev pub IsFaultBy : TextForm → ℕ → ℕ → List ℕ → TextFault → Type 0
+IsFaultBy Headed w h text (fault.Lines f) = FailsAt f (source_of w h text)
+IsFaultBy Headed w h text (fault.Json f) = ⊥
+IsFaultBy Bare w h text (fault.Lines f) = FailsAt f (places_of w h blank_head [] 1 (lines_of text))
+IsFaultBy Bare w h text (fault.Json f) = ⊥
+IsFaultBy Agents w h text (fault.Lines f) = IsNoAgents w h text f
+IsFaultBy Agents w h text (fault.Json f) = ⊥
+IsFaultBy Json w h text (fault.Lines f) = ⊥
+IsFaultBy Json w h text (fault.Json f) = IsRunnersFault w h text f
+
+abbrev pub IsTextPlan : ℕ → ℕ → List ℕ → Option (List ℕ) → List (List ℕ) → Type 0
+IsTextPlan w h text goals places = IsPlanBy (form_of text) w h text goals places
+
+abbrev pub IsTextFault : ℕ → ℕ → List ℕ → TextFault → Type 0
+IsTextFault w h text f = IsFaultBy (form_of text) w h text f
+
+-- the lines of a text's head; only a text in the form of one has them
+abbrev pub head_by : TextForm → List ℕ → List (List ℕ)
+head_by Headed text = lines_of text
+head_by Bare text = []
+head_by Agents text = []
+head_by Json text = []
+
+abbrev pub head_lines : List ℕ → List (List ℕ)
+head_lines text = head_by (form_of text) text
