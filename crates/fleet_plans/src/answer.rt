@@ -5,12 +5,12 @@ ghost use Rattle.fleet_grid.specs.Floor.{Floor};
 ghost use Rattle.fleet_map.specs.Form.{HasSides};
 ghost use Rattle.fleet_map.specs.Grammar.{Map, view};
 ghost use Rattle.fleet_map.specs.Text.{lines_of};
-ghost use Rattle.fleet_plans.specs.Goals.{asked_by, OfTrips};
+ghost use Rattle.fleet_plans.specs.Goals.{asked_by};
 ghost use Rattle.fleet_plans.specs.Judge.{HasJudged};
 ghost use Rattle.fleet_plans.specs.Reading.{head_lines};
 ghost use Rattle.fleet_plans.specs.Shown.{goals_in};
 ghost use Rattle.fleet_plans.specs.inside.Answered.{IsOf};
-ghost use Rattle.fleet_plans.specs.Answer.{at_line, valid_answer, IsNamed, IsJudged, IsTextAnswer, IsAnswerTo, IsPlanAnswer, IsSolutionAnswer, IsOnScenario, IsScenarioAnswer, fault_text, goals_text, report_text};
+ghost use Rattle.fleet_plans.specs.Answer.{at_line, valid_answer, IsNamed, IsJudged, IsTextAnswer, IsAnswerTo, IsPlanAnswer, IsSolutionAnswer, fault_text, goals_text, report_text};
 
 use crate::claims::{HeadFault, line_count, unmet};
 use crate::fault::PlanTextFault;
@@ -19,7 +19,6 @@ use crate::judge::PlanJudge;
 use crate::judging::PlanFault;
 use crate::report::PlanReport;
 use crate::runners::RunnersFault;
-use crate::scenario::{Scenario, read_scenario};
 use crate::sides::Sides;
 use crate::text::{TextFault, headed, read_text};
 use fleet_check::StepFault;
@@ -58,7 +57,7 @@ pub enum PlanAnswer {
 }
 
 /// The sides of a map.
-fn sides_of<A: Allocator + Copy>(map: &MapText<A>) -> Sides
+pub(crate) fn sides_of<A: Allocator + Copy>(map: &MapText<A>) -> Sides
     requires { HasSides (view map.now) }
     ensures width { result.width ≡ map.now.width }
     ensures height { result.height ≡ map.now.height }
@@ -135,7 +134,7 @@ fn at_line(text: &[u8], line: u32) -> PlanAnswer
 }
 
 /// The line of a fault; an error for out of memory.
-fn line_of(fault: PlanTextFault) -> Result<u32, AllocError>
+pub(crate) fn line_of(fault: PlanTextFault) -> Result<u32, AllocError>
     ensures { IfOk result (λ line. fault ≡ PlanTextFault.Line line) }
 {
     match fault {
@@ -185,7 +184,7 @@ fn answer_text(
 }
 
 /// The answer to a plan's text on a map.
-fn answer_on(
+pub(crate) fn answer_on(
     alloc: Global,
     demand: Demand<'_>,
     map: MapText,
@@ -207,7 +206,7 @@ fn answer_on(
 }
 
 /// The fault of a map; an error for out of memory.
-fn map_fault(fault: MapFault) -> Result<MapFault, AllocError>
+pub(crate) fn map_fault(fault: MapFault) -> Result<MapFault, AllocError>
     ensures same { IfOk result (λ named. named ≡ fault) }
     ensures named { IfOk result (λ named. named ≢ MapFault.NoMemory) }
 {
@@ -248,49 +247,6 @@ pub fn check_solution(alloc: Global, map: &[u8], text: &[u8]) -> Result<PlanAnsw
     ensures { IfOk result (λ answer. IsSolutionAnswer map.now text.now answer) }
 {
     answer_to(alloc, Demand::OwnGoals, map, text)
-}
-
-/// The answer to a scenario and a plan's text on a map.
-fn scenario_on(
-    alloc: Global,
-    map: MapText,
-    scenario: &[u8],
-    text: &[u8],
-) -> Result<PlanAnswer, AllocError>
-    requires sides { HasSides (view map) }
-    requires scenario { length scenario.now ≤ 16777216 }
-    requires short { length text.now ≤ 16777216 }
-    ensures { IfOk result (λ answer. IsOnScenario (view map) scenario.now text.now answer) }
-{
-    match read_scenario(alloc, sides_of(&map), scenario) {
-        Ok(trips) => {
-            let Scenario { starts, goals } = trips;
-            let demand = Demand::Trips {
-                starts: starts.as_slice(),
-                goals: goals.as_slice(),
-            };
-            answer_on(alloc, demand, map, text)
-        }
-        Err(fault) => Ok(PlanAnswer::Scenario(line_of(fault)?)),
-    }
-}
-
-/// The answer of `check_texts`, where a plan is valid only if its robots begin and end as this scenario says: robot k as its
-/// line k + 2. A fault of the scenario is named before one of the plan.
-pub fn check_scenario(
-    alloc: Global,
-    map: &[u8],
-    scenario: &[u8],
-    text: &[u8],
-) -> Result<PlanAnswer, AllocError>
-    requires scenario { length scenario.now ≤ 16777216 }
-    requires short { length text.now ≤ 16777216 }
-    ensures { IfOk result (λ answer. IsScenarioAnswer map.now scenario.now text.now answer) }
-{
-    match read_map(alloc, map) {
-        Ok(map) => scenario_on(alloc, map, scenario, text),
-        Err(fault) => Ok(PlanAnswer::Map(map_fault(fault)?)),
-    }
 }
 
 /// A step's fault as it is printed: its kind, and its robots.

@@ -3,6 +3,7 @@
 
 mod agents;
 mod answer;
+mod asked;
 mod cells;
 mod claims;
 mod costs;
@@ -26,7 +27,8 @@ mod text;
 mod tracks;
 mod walk;
 
-pub use answer::{FaultText, PlanAnswer, check_scenario, check_solution, check_texts};
+pub use answer::{FaultText, PlanAnswer, check_solution, check_texts};
+pub use asked::check_scenario;
 pub use claims::{HeadFault, HeadKey};
 pub use fault::PlanTextFault;
 pub use goals::GoalFault;

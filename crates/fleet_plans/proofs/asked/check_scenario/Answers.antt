@@ -4,7 +4,7 @@ use Rattle.fleet_map.specs.Grammar.{view, map_of}
 use Rattle.fleet_plans.specs.Answer.{IsOnScenario, IsScenarioAnswer, without_map, with_map}
 use Rattle.fleet_plans.proofs.Answered.{map_fails}
 use Rattle.fleet_plans.proofs.Givings.{if_ok_then}
-use Rattle.fleet_plans.proofs.answer.check_scenario.Goals as goal
+use Rattle.fleet_plans.proofs.asked.check_scenario.Goals as goal
 
 pub returns-in-Ok : goal.returns-in-Ok
 returns-in-Ok c =

@@ -7,7 +7,7 @@ use Rattle.fleet_plans.specs.Goals.{Asked, OfTrips}
 use Rattle.fleet_plans.specs.Scenario.{Trips, scenario_of}
 use Rattle.fleet_plans.proofs.Answered.{line_fails}
 use Rattle.fleet_plans.proofs.Givings.{if_ok_then}
-use Rattle.fleet_plans.proofs.answer.scenario_on.Goals as goal
+use Rattle.fleet_plans.proofs.asked.scenario_on.Goals as goal
 
 -- what was read is the scenario of the map
 module _ (m : Map) (w h : ℕ) (wide : w ≡ m.width) (tall : h ≡ m.height) (lines : List (List ℕ)) (told : Result Trips ℕ) where

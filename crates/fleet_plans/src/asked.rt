@@ -1,0 +1,55 @@
+//! The answer to the text of a map, of a scenario and of a plan.
+
+ghost use Rattle.std.specs.Prelude.{◌≤◌, length, IfOk};
+ghost use Rattle.fleet_map.specs.Form.{HasSides};
+ghost use Rattle.fleet_map.specs.Grammar.{view};
+ghost use Rattle.fleet_plans.specs.Answer.{IsOnScenario, IsScenarioAnswer};
+
+use crate::answer::{PlanAnswer, answer_on, line_of, map_fault, sides_of};
+use crate::goals::Demand;
+use crate::scenario::{Scenario, read_scenario};
+use fleet_map::{MapText, read_map};
+use std::alloc::{AllocError, Global};
+
+/// The answer to a scenario and a plan's text on a map.
+fn scenario_on(
+    alloc: Global,
+    map: MapText,
+    scenario: &[u8],
+    text: &[u8],
+) -> Result<PlanAnswer, AllocError>
+    requires sides { HasSides (view map) }
+    requires scenario { length scenario.now ≤ 16777216 }
+    requires short { length text.now ≤ 16777216 }
+    ensures { IfOk result (λ answer. IsOnScenario (view map) scenario.now text.now answer) }
+{
+    match read_scenario(alloc, sides_of(&map), scenario) {
+        Ok(trips) => {
+            let Scenario { starts, goals } = trips;
+            let demand = Demand::Trips {
+                starts: starts.as_slice(),
+                goals: goals.as_slice(),
+            };
+            answer_on(alloc, demand, map, text)
+        }
+        Err(fault) => Ok(PlanAnswer::Scenario(line_of(fault)?)),
+    }
+}
+
+/// The answer of `check_texts`, where a plan is valid only if its robots begin and end as this scenario says: robot k as its
+/// line k + 2. A fault of the scenario is named before one of the plan.
+pub fn check_scenario(
+    alloc: Global,
+    map: &[u8],
+    scenario: &[u8],
+    text: &[u8],
+) -> Result<PlanAnswer, AllocError>
+    requires scenario { length scenario.now ≤ 16777216 }
+    requires short { length text.now ≤ 16777216 }
+    ensures { IfOk result (λ answer. IsScenarioAnswer map.now scenario.now text.now answer) }
+{
+    match read_map(alloc, map) {
+        Ok(map) => scenario_on(alloc, map, scenario, text),
+        Err(fault) => Ok(PlanAnswer::Map(map_fault(fault)?)),
+    }
+}
