@@ -3,7 +3,7 @@ to a folder, and no loop waits for an idle fleet. usage: controller.py MAP TICKS
 import random
 import sys
 
-from nashirudder import Fleet, Refused
+from nashirudder import Fleet, OrderRefused
 
 PATIENCE = 1000  # ticks after which an operator has to look at a robot
 
@@ -20,7 +20,7 @@ def main(site: str, ticks: int, folder: str) -> None:
                 errand = fleet.go(robot, draw.randrange(45), client=robot % 2)
                 try:
                     errand.accepted()  # at most two errands of a client are unfinished, so its mailbox has room
-                except Refused:
+                except OrderRefused:
                     counts["refused"] += 1  # a shelf ("blocked"), say: the next turn tries another cell
                     continue
                 counts["accepted"] += 1

@@ -1,21 +1,19 @@
-"""Tests of LiveFleet in nashirudder.py, and of `fleet live`, against a built program: FLEET names it."""
+"""Tests of LiveFleet, and of `fleet live`, against a built program: FLEET names it."""
 
 import json
 import os
 import signal
 import subprocess
-import sys
 import tempfile
 import time
 import unittest
 
-sys.path.insert(0, os.path.join(os.path.dirname(__file__), ".."))
-
-from nashirudder import Ended, LiveFleet, Refused, Waiting  # noqa: E402
+from nashirudder import Ended, LiveFleet, Refused, Waiting
+from nashirudder.names import Verdict
 
 PROGRAM = os.environ.get("FLEET", "fleet")
 
-TOOLS = os.path.join(os.path.dirname(os.path.abspath(__file__)), "..", "..", "..", "tools", "live")
+TOOLS = os.path.join(os.path.dirname(os.path.abspath(__file__)), "..", "..", "..", "..", "tools", "live")
 PICTURE, RUN = os.path.join(TOOLS, "picture"), os.path.join(TOOLS, "run")
 
 RING = "type octile\nheight 3\nwidth 3\nmap\n...\n.@.\n...\n"
@@ -30,7 +28,7 @@ class LiveTest(unittest.TestCase):
             file.write(RING)
 
     def fleet(self, robots, **words):
-        fleet = LiveFleet(self.map, robots=robots, program=PROGRAM, **words)
+        fleet = LiveFleet(self.map, robots=robots, built=PROGRAM, **words)
         self.addCleanup(fleet.close)
         return fleet
 
@@ -91,13 +89,13 @@ class LiveTest(unittest.TestCase):
     def test_refusals(self):
         with self.assertRaises(Refused) as caught:
             self.fleet([0, 4])
-        self.assertEqual(caught.exception.name, "start")
+        self.assertEqual(caught.exception.name, "start-blocked")
         with self.fleet([0, 8]) as fleet:
             errand = fleet.go(0, 4)
             fleet.tick()
             with self.assertRaises(Refused) as caught:
                 errand.accepted()
-            self.assertEqual((caught.exception.code, caught.exception.name), (5, "blocked"))
+            self.assertEqual((caught.exception.code, caught.exception.name), (Verdict.BLOCKED, "blocked"))
             with self.assertRaises(Refused):
                 fleet.go(0, 1, client=1)
         with self.assertRaises(Ended):

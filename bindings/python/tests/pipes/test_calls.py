@@ -1,17 +1,14 @@
-"""What Fleet and LiveFleet of nashirudder.py do where a call does not go as it should. FLEET names the built program."""
+"""What Fleet and LiveFleet do where a call does not go as it should. FLEET names the built program."""
 
 import os
 import shutil
 import signal
-import sys
 import tempfile
 import threading
 import time
 import unittest
 
-sys.path.insert(0, os.path.join(os.path.dirname(__file__), ".."))
-
-from nashirudder import Ended, Fleet, FleetError, Late, LiveFleet, OutOfRange, Refused  # noqa: E402
+from nashirudder import Ended, FileFailed, Fleet, FleetError, Late, LiveFleet, Missing, OutOfRange, Refused
 
 PROGRAM = os.environ.get("FLEET", "fleet")
 
@@ -32,8 +29,8 @@ class OnRing(unittest.TestCase):
             file.write(RING)
 
     def fleet(self, kind=Fleet, **words):
-        fleet = kind(self.map, robots=words.pop("robots", [0, 8]), program=PROGRAM, **words)
-        self.addCleanup(lambda: fleet._is_closed or fleet._process.kill())
+        fleet = kind(self.map, robots=words.pop("robots", [0, 8]), built=PROGRAM, **words)
+        self.addCleanup(lambda: fleet._program.is_closed or fleet._program.process.kill())
         return fleet
 
 
@@ -51,19 +48,34 @@ class CallsTest(OnRing):
                 look = fleet.look()
                 self.assertEqual((look.tick, look.entries, look.cells), (0, 0, [0, 8]))
             for number in WRONG:
-                for words in ({"robots": [number]}, {"clients": number}, {"queue": number}) if number != 2**32 else ({"robots": [number]}, {"clients": number}):
+                for words in ({"robots": [number]}, {"clients": number}, {"queue": number}):
                     with self.subTest(kind.__name__, words=words), self.assertRaises(OutOfRange):
                         self.fleet(kind, **words)
             with self.assertRaises(TypeError):
                 self.fleet(kind, speed=2)
-            with self.assertRaises(OutOfRange):
-                self.fleet(kind, ties="north")
+            for words in ({"ties": "north"}, {"traces": ""}, {"clock": 2**64}):
+                with self.subTest(kind.__name__, words=words), self.assertRaises(OutOfRange):
+                    self.fleet(kind, **words)
 
     def test_no_program(self):
         for kind in (Fleet, LiveFleet):
-            with self.assertRaises(Ended) as caught:
-                kind(self.map, robots=[0], program=os.path.join(self.folder.name, "none"))
+            with self.assertRaises(Missing) as caught:
+                kind(self.map, robots=[0], built=os.path.join(self.folder.name, "none"))
+            self.assertIn("is not there: `tools/install --quick fleet`", str(caught.exception))
+            # A file that is no program
+            with self.assertRaises(Missing) as caught:
+                kind(self.map, robots=[0], built=self.map)
             self.assertIn("cannot be started", str(caught.exception))
+
+    def test_another_program(self):
+        other = os.path.join(self.folder.name, "fleet")
+        with open(other, "w") as file:
+            file.write("#!/bin/sh\nread line; echo tick x: 1; echo @x look; exec sleep 60\n")
+        os.chmod(other, 0o755)
+        for kind in (Fleet, LiveFleet):
+            with self.subTest(kind.__name__), self.assertRaises(Ended) as caught:
+                kind(self.map, robots=[0], built=other)
+            self.assertIn("no line of the protocol", str(caught.exception))
 
     def test_a_last_chapter_that_is_lost(self):
         for kind in (Fleet, LiveFleet):
@@ -72,9 +84,9 @@ class CallsTest(OnRing):
             fleet = self.fleet(kind, traces=traces)
             fleet.tick(3)
             shutil.rmtree(traces)
-            with self.assertRaises(Ended) as caught:
+            with self.assertRaises(FileFailed):
                 fleet.close()
-            self.assertEqual((caught.exception.status, fleet.status), (3, 3))
+            self.assertEqual(fleet.status, 3)
             fleet.close()
 
     def test_what_happened_within_a_block_is_not_hidden(self):
@@ -125,21 +137,21 @@ class CallsTest(OnRing):
     def test_a_terminal_stops_python_alone(self):
         for kind in (Fleet, LiveFleet):
             with self.fleet(kind) as fleet:
-                self.assertNotEqual(os.getpgid(fleet._process.pid), os.getpgid(0))
+                self.assertNotEqual(os.getpgid(fleet._program.process.pid), os.getpgid(0))
 
     def test_a_program_that_does_not_answer(self):
         for kind in (Fleet, LiveFleet):
             with self.fleet(kind, timeout=0.3) as fleet:
-                fleet._process.send_signal(signal.SIGSTOP)
+                fleet._program.process.send_signal(signal.SIGSTOP)
                 for call in (fleet.look, lambda: fleet.go(0, 1), fleet.tick, lambda: fleet.shut(1), fleet.chapter):
                     with self.assertRaises(Late):
                         call()
-                fleet._process.send_signal(signal.SIGCONT)
-                fleet._timeout = 10
+                fleet._program.process.send_signal(signal.SIGCONT)
+                fleet._program.timeout = 10
                 # What was asked is done all the same, and each answer is the call's own.
                 self.assertEqual((fleet.look().tick, fleet.tick()[0]), (1, 1))
             stopped = self.fleet(kind)
-            stopped._process.send_signal(signal.SIGSTOP)
+            stopped._program.process.send_signal(signal.SIGSTOP)
             with self.assertRaises(Late):
                 stopped.close(timeout=0.2)
 
@@ -172,7 +184,7 @@ class CallsTest(OnRing):
                 errand = fleet.go(0, 1)
                 fleet.withdraw(errand)
                 self.assertEqual(errand.state, "withdrawn")
-            self.assertEqual(len(fleet._errands), 1)
+            self.assertEqual(len(fleet._ledger), 1)
         with self.fleet(LiveFleet, clients=2) as fleet:
             first, second = fleet.go(0, 2), fleet.go(0, 1)
             fleet.withdraw(second, timeout=10)

@@ -1,15 +1,13 @@
-"""Tests of nashirudder.py against a built program: FLEET names it."""
+"""Tests of Fleet over pipes against a built program: FLEET names it."""
 
 import json
 import os
 import subprocess
-import sys
 import tempfile
 import unittest
 
-sys.path.insert(0, os.path.join(os.path.dirname(__file__), ".."))
-
-from nashirudder import Ended, Fleet, Refused, Waiting  # noqa: E402
+from nashirudder import Ended, Fleet, OrderRefused, Refused, Waiting
+from nashirudder.names import Verdict
 
 PROGRAM = os.environ.get("FLEET", "fleet")
 
@@ -30,7 +28,7 @@ class FleetTest(unittest.TestCase):
         return path
 
     def fleet(self, text, robots, **words):
-        fleet = Fleet(self.map(text), robots=robots, program=PROGRAM, **words)
+        fleet = Fleet(self.map(text), robots=robots, built=PROGRAM, **words)
         self.addCleanup(fleet.close)
         return fleet
 
@@ -56,8 +54,8 @@ class FleetTest(unittest.TestCase):
 
     def test_verdicts(self):
         with self.fleet(CORRIDOR, [0], queue=1) as fleet:
-            for robot, cell, name, code in ((1, 0, "no-robot", 2), (0, 3, "no-cell", 4)):
-                with self.assertRaises(Refused) as caught:
+            for robot, cell, name, code in ((1, 0, "no-robot", Verdict.NO_ROBOT), (0, 3, "no-cell", Verdict.NO_CELL)):
+                with self.assertRaises(OrderRefused) as caught:
                     fleet.go(robot, cell).accepted()
                 self.assertEqual((caught.exception.name, caught.exception.code), (name, code))
             fleet.go(0, 2)
@@ -91,7 +89,7 @@ class FleetTest(unittest.TestCase):
             self.assertEqual([farewell.robot for farewell in fleet.farewells], [0])
             with self.assertRaises(Refused) as caught:
                 fleet.shut(0)
-            self.assertEqual(caught.exception.name, "already")
+            self.assertEqual(caught.exception.name, "already-shut")
 
     def test_mailbox_makes_room(self):
         with self.fleet(CORRIDOR, [0], mailbox=2, queue=9) as fleet:
@@ -120,15 +118,15 @@ class FleetTest(unittest.TestCase):
             self.assertEqual([len(text["entries"]) for text in texts], [4, 4, 3, 0])
 
     def test_refused_opening(self):
-        for robots, name in (([0, 0], "shared"), ([9], "start"), ([4], "start")):
+        for robots, name in (([0, 0], "start-shared"), ([9], "start-blocked"), ([4], "start-blocked")):
             with self.assertRaises(Refused) as caught:
                 self.fleet(RING, robots)
             self.assertEqual(caught.exception.name, name)
 
     def test_no_map(self):
-        with self.assertRaises(Ended) as caught:
+        with self.assertRaises(Refused) as caught:
             self.fleet("no map\n", [0])
-        self.assertEqual((caught.exception.status, caught.exception.complaint), (4, "fleet: map header 1"))
+        self.assertEqual((caught.exception.name, caught.exception.numbers), ("map-header", (1, 0)))
 
     def test_clock_is_spent(self):
         with self.fleet(CORRIDOR, [0], clock=2) as fleet:

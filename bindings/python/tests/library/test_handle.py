@@ -1,11 +1,17 @@
-"""Tests of nashirudder_c. What is wanted is worked out by hand."""
+"""Tests of Handle, and of what is asked of a map alone, against the library. What is wanted is worked out by hand."""
+
 import copy
 import json
-import pathlib
-import tempfile
+import threading
 import unittest
 
-from nashirudder_c import Arrival, Chapter, Farewell, Fleet, Handle, Notice, OutOfRange, Refused, Waiting, check_step, distances, first_bridge
+from nashirudder import OutOfRange, Refused
+from nashirudder.library import FAR, Handle, Notice, check_step, distances, first_bridge
+
+try:
+    import numpy
+except ImportError:
+    numpy = None
 
 RING = "type octile\nheight 3\nwidth 4\nmap\n....\n.@..\n....\n"
 ROW = "type octile\nheight 1\nwidth 3\nmap\n...\n"
@@ -24,7 +30,6 @@ class Numbers(unittest.TestCase):
             "go": (lambda n: fleet.go(n, 1), lambda n: fleet.go(0, n), lambda n: fleet.go(0, 1, client=n)),
             "close_client": (fleet.close_client,),
             "withdraw": (lambda n: fleet.withdraw(1, client=n),),
-            "tick": (fleet.tick,),
             "shut": (fleet.shut,),
             "give": (fleet.give,),
             "pending_count": (fleet.pending_count,),
@@ -40,9 +45,7 @@ class Numbers(unittest.TestCase):
             for number in (-1, 2**64, 2**64 + 1, 0.5):
                 with self.assertRaises(OutOfRange):
                     way(number)
-        with self.assertRaises(OutOfRange):
-            fleet.tick(0)
-        self.assertEqual((fleet.placement(), fleet.clock(), fleet.pending_count(), fleet.pending_count(1), fleet.is_idle()), ([0, 3], 0, 0, 0, True))
+        self.assertEqual((list(fleet.placement()), fleet.clock(), fleet.pending_count(), fleet.pending_count(1), fleet.is_idle()), ([0, 3], 0, 0, 0, True))
 
     def test_openings(self):
         for number in WRONG:
@@ -61,8 +64,7 @@ class Numbers(unittest.TestCase):
 
     def test_maps(self):
         for number in WRONG:
-            for way in (lambda n: check_step(RING, [0, n], [1, 2]), lambda n: check_step(RING, [0, 3], [1, n]), lambda n: distances(RING, n, 12),
-                        lambda n: distances(RING, 0, n)):
+            for way in (lambda n: check_step(RING, [0, n], [1, 2]), lambda n: check_step(RING, [0, 3], [1, n]), lambda n: distances(RING, n)):
                 with self.subTest(number=number), self.assertRaises(OutOfRange):
                     way(number)
 
@@ -78,8 +80,8 @@ class Calls(unittest.TestCase):
             judged = fleet.go(0, 2)
             self.assertEqual((judged.verdict, judged.number), ("accepted", 1))
             self.assertEqual(fleet.wait_of(0), 0)
-            self.assertEqual(fleet.tick(2).arrived, 1)
-            self.assertEqual((fleet.placement(), fleet.clock(), fleet.pending_count(), fleet.is_idle()), ([2], 2, 2, True))
+            self.assertEqual([fleet.tick().arrived for _ in range(2)], [0, 1])
+            self.assertEqual((list(fleet.placement()), fleet.clock(), fleet.pending_count(), fleet.is_idle()), ([2], 2, 2, True))
             self.assertEqual(fleet.give(), Notice(1, 1, "accepted", 1))
             self.assertEqual(fleet.give(), Notice(2, None, None, 1, 0, 2, 2, 0))
             self.assertIsNone(fleet.give())
@@ -124,7 +126,8 @@ class Calls(unittest.TestCase):
     def test_chapters(self):
         fleet = Handle(ROW, robots=[0], chapters=2)
         fleet.go(0, 2)
-        fleet.tick(2)
+        fleet.tick()
+        fleet.tick()
         trace = json.loads(fleet.trace())
         self.assertEqual([entry[0] for entry in trace["entries"]], ["take", "tick", "tick"])
         fleet.next_chapter()
@@ -142,10 +145,14 @@ class Calls(unittest.TestCase):
         self.assertEqual(first_bridge(ROW), (0, 1))
         self.assertIsNone(first_bridge(RING))
         self.refused("map-header", lambda: first_bridge(""), (1, 0))
-        self.assertEqual(distances(ROW.replace("...", ".@."), 0, 3), [0, None, None])
-        self.assertEqual(distances(RING, 4, 12), [1, 2, 3, 4, 0, None, 4, 5, 1, 2, 3, 4])
-        self.refused("goal-blocked", lambda: distances(RING, 5, 12))
-        self.refused("wrong-length", lambda: distances(RING, 4, 11))
+        self.assertEqual(list(distances(ROW.replace("...", ".@."), 0)), [0, FAR, FAR])
+        self.assertEqual(list(distances(RING, 4)), [1, 2, 3, 4, 0, FAR, 4, 5, 1, 2, 3, 4])
+        self.assertEqual(list(distances(RING.replace("\n", "\r\n"), 4)), [1, 2, 3, 4, 0, FAR, 4, 5, 1, 2, 3, 4])
+        for goal in (5, 12):
+            self.refused("goal-blocked", lambda: distances(RING, goal))
+        for head, line in (("", 1), ("type octile\n", 2), ("type octile\nheight 3\nwidth\n", 3)):
+            self.refused("map-header", lambda: distances(head, 0), (line, 0))
+        self.refused("map-size", lambda: distances(RING.replace("height 3", "height 1025"), 0), (0, 0))
         check_step(RING, [0, 3], [1, 2])
         check_step(RING, [0, 1], [1, 2])
         self.refused("swapping-conflict", lambda: check_step(RING, [0, 1], [1, 0]), (0, 1))
@@ -157,58 +164,43 @@ class Calls(unittest.TestCase):
         self.refused("from-shared", lambda: check_step(RING, [0, 0], [0, 1]), (0, 1))
         self.refused("too-many", lambda: check_step(ROW, [0, 1, 2, 0], [0, 1, 2, 0]), (0, 0))
 
+    def test_threads(self):
+        fleet, failed = Handle(RING, robots=[0, 3], clients=4, queue=1000, mailbox=1000), []
 
-class Fleets(unittest.TestCase):
-    def setUp(self):
-        self.folder = tempfile.TemporaryDirectory()
-        self.addCleanup(self.folder.cleanup)
-        self.path = pathlib.Path(self.folder.name)
-        (self.path / "ring.map").write_text(RING)
-        (self.path / "row.map").write_text(ROW)
+        def work(client):
+            try:
+                for _ in range(200):
+                    fleet.go(client % 2, 0, client)
+                    fleet.clock(), fleet.placement(), fleet.eldest()
+            except Exception as error:
+                failed.append(error)
 
-    def test_errands(self):
-        with Fleet(self.path / "ring.map", robots=[0, 3], clients=2) as fleet:
-            first, second = fleet.go(robot=0, cell=2), fleet.go(robot=1, cell=7, client=1)
-            self.assertEqual((first.accepted(), second.accepted()), (1, 1))
-            self.assertEqual(fleet.tick(), [1, 7])
-            self.assertEqual(fleet.arrivals, [Arrival(1, 1, 1, 7, 1, 0)])
-            self.assertEqual((first.arrived(), second.arrived()), (None, Arrival(1, 1, 1, 7, 1, 0)))
-            self.assertEqual(fleet.tick(), [2, 7])
-            self.assertEqual(first.arrived(), Arrival(0, 0, 1, 2, 2, 0))
-            look = fleet.look()
-            self.assertEqual((look.tick, look.chapter, look.entries, look.eldest, look.within, look.idle), (2, 0, 4, None, 0, True))
+        threads = [threading.Thread(target=work, args=(client,)) for client in range(4)]
+        for thread in threads:
+            thread.start()
+        for thread in threads:
+            thread.join(60)
+        self.assertEqual((failed, [fleet.pending_count(client) for client in range(4)]), ([], [200] * 4))
 
-    def test_refusals(self):
-        with Fleet(self.path / "ring.map", robots=[0]) as fleet:
-            with self.assertRaises(Refused) as caught:
-                fleet.go(0, 5).accepted()
-            self.assertEqual(caught.exception.name, "blocked")
-            front, behind = fleet.go(0, 11), fleet.go(0, 1)
-            with self.assertRaises(Refused) as caught:
-                fleet.withdraw(front)
-            self.assertEqual(caught.exception.name, "too-late")
-            fleet.withdraw(behind)
-            self.assertIsNone(fleet.shut(0))
-            fleet.tick(5)
-            self.assertEqual(fleet.farewells, [Farewell(0, 0)])
 
-    def test_mailbox(self):
-        with Fleet(self.path / "row.map", robots=[0], mailbox=2) as fleet:
-            first, second = fleet.go(0, 2), fleet.go(0, 0)
-            self.assertEqual(first.accepted(), 1)
-            with self.assertRaises(Waiting):
-                second.accepted()
-            fleet.tick(2)
-            self.assertEqual((first.arrived().tick, second.accepted()), (2, 2))
+@unittest.skipIf(numpy is None, "NumPy is not there")
+class Arrays(unittest.TestCase):
+    """With NumPy, placements and distances are arrays, and steps may be."""
 
-    def test_chapters(self):
-        with Fleet(self.path / "row.map", robots=[0], chapter=2, traces=self.path) as fleet:
-            fleet.go(0, 2)
-            fleet.tick(2)
-            self.assertEqual(fleet.look().chapter, 1)
-            self.assertEqual(fleet.chapter(), Chapter(1, 1))
-        told = [json.loads((self.path / f"chapter-{number}.json").read_text())["entries"] for number in range(3)]
-        self.assertEqual([[entry[0] for entry in entries] for entries in told], [["take", "tick"], ["tick"], []])
+    def test_what_comes_back(self):
+        for array, wanted in ((Handle(RING, robots=[0, 3]).placement(), [0, 3]), (distances(ROW.replace("...", ".@."), 0), [0, FAR, FAR])):
+            self.assertEqual((type(array), array.dtype, array.shape, array.tolist()), (numpy.ndarray, numpy.uint32, (len(wanted),), wanted))
+            array[0] = 1  # it is the caller's own
+
+    def test_steps(self):
+        for kind in ("uint32", "int64", "uint8", ">i4"):
+            check_step(RING, numpy.array([0, 3], kind), numpy.array([1, 2], kind))
+            with self.assertRaises(Refused):
+                check_step(RING, numpy.array([0, 1], kind), numpy.array([1, 0], kind))
+        check_step(RING, numpy.array([0, 9, 3, 9], "uint32")[::2], [1, 2])
+        for cells in (numpy.array([0, 2**32 + 3]), numpy.array([0, -1]), numpy.array([0.0, 3.0]), numpy.array([[0, 3]])):
+            with self.subTest(cells=cells), self.assertRaises(OutOfRange):
+                check_step(RING, cells, [1, 2])
 
 
 if __name__ == "__main__":

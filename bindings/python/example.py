@@ -1,5 +1,5 @@
 """Plays the stored run of the program errands: the same events, and the same lines."""
-from nashirudder_c import Handle
+from nashirudder.library import Handle
 
 with Handle("type octile\nheight 1\nwidth 3\nmap\n...\n", robots=[0]) as fleet:
     print("posted 0 1")

@@ -1,0 +1,111 @@
+"""The functions and structs of nashirudder.h, for ctypes."""
+
+import ctypes
+import functools
+from ctypes import POINTER, c_bool, c_char_p, c_size_t, c_uint8, c_uint32, c_uint64, c_void_p
+from typing import Any, Optional
+
+from . import finding
+from .errors import NoMemory, refusal
+from .finding import Place
+from .names import Code
+
+FAR = 2**32 - 1
+"""What stands for a cell from which no walk leads to the goal: greater than every distance."""
+
+
+class CFleet(ctypes.Structure):
+    _fields_ = [("at", c_void_p), ("is_open", c_bool)]
+
+
+class CSetup(ctypes.Structure):
+    _fields_ = [
+        ("life", c_uint64), ("orders", c_uint64), ("clock", c_uint64), ("clients", c_uint32), ("lane", c_uint32),
+        ("outlet", c_uint32), ("queue", c_uint32), ("mailbox", c_uint32), ("chapter", c_uint32), ("chapters", c_uint32),
+    ]
+
+
+class CRobot(ctypes.Structure):
+    _fields_ = [("cell", c_uint32), ("ranks", c_uint8 * 4)]
+
+
+class CFault(ctypes.Structure):
+    _fields_ = [("first", c_uint64), ("second", c_uint64), ("code", c_uint32)]
+
+
+class CJudgement(ctypes.Structure):
+    _fields_ = [("number", c_uint64), ("verdict", c_uint32)]
+
+
+class CReport(ctypes.Structure):
+    _fields_ = [("tick", c_uint64), ("arrived", c_uint32), ("farewells", c_uint32)]
+
+
+class CNote(ctypes.Structure):
+    _fields_ = [
+        ("seq", c_uint64), ("order", c_uint64), ("number", c_uint64), ("tick", c_uint64), ("verdict", c_uint32),
+        ("robot", c_uint32), ("cell", c_uint32), ("stamp", c_uint32),
+    ]
+
+
+class CEdge(ctypes.Structure):
+    _fields_ = [("lower", c_uint32), ("upper", c_uint32)]
+
+
+_FLEET, _TEXT = POINTER(CFleet), (c_char_p, c_size_t)
+
+# Each function's parameters. All but the first and the third answer a code.
+FUNCTIONS = {
+    "setup_default": (c_uint32, POINTER(CSetup)),
+    "open": (*_TEXT, POINTER(CRobot), c_size_t, POINTER(CSetup), _FLEET, POINTER(CFault)),
+    "close": (_FLEET,),
+    "go": (_FLEET, c_uint32, c_uint32, c_uint32, POINTER(CJudgement)),
+    "close_client": (_FLEET, c_uint32, POINTER(CJudgement)),
+    "withdraw": (_FLEET, c_uint32, c_uint64, POINTER(CJudgement)),
+    "tick": (_FLEET, POINTER(CReport)),
+    "shut": (_FLEET, c_uint32, POINTER(c_bool)),
+    "give": (_FLEET, c_uint32, POINTER(CNote)),
+    "pending_count": (_FLEET, c_uint32, POINTER(c_uint64)),
+    "widen": (_FLEET, c_uint32, c_uint64),
+    "placement": (_FLEET, POINTER(c_uint32), c_size_t),
+    "clock": (_FLEET, POINTER(c_uint64)),
+    "wait_of": (_FLEET, c_uint32, POINTER(c_uint64)),
+    "eldest": (_FLEET, POINTER(c_uint32)),
+    "is_idle": (_FLEET, POINTER(c_bool)),
+    "idle_within": (_FLEET, POINTER(c_uint64)),
+    "is_bridgeless": (_FLEET, POINTER(c_bool)),
+    "trace": (_FLEET, POINTER(c_uint8), c_size_t, POINTER(c_size_t)),
+    "next_chapter": (_FLEET,),
+    "keep": (_FLEET, c_size_t),
+    "check_step": (*_TEXT, POINTER(c_uint32), c_size_t, POINTER(c_uint32), c_size_t, POINTER(CFault)),
+    "first_bridge": (*_TEXT, POINTER(CEdge), POINTER(CFault)),
+    "distances": (*_TEXT, c_uint32, POINTER(c_uint32), c_size_t, POINTER(CFault)),
+}
+
+
+@functools.lru_cache(maxsize=None)
+def _loaded(path: str) -> Any:
+    try:
+        library = ctypes.CDLL(path)
+        for name, types in FUNCTIONS.items():
+            call = getattr(library, "nashirudder_" + name)
+            call.argtypes = types
+            call.restype = None if name in ("setup_default", "close") else c_uint32
+    except (OSError, AttributeError) as error:
+        raise finding.no_library(path, error) from error
+    return library
+
+
+def load(built: Optional[Place] = None) -> Any:
+    """The library, with the types of its functions. Raises Missing if it is not found, or is another one."""
+    return _loaded(finding.library(built))
+
+
+def check(code: int, fault: Optional[CFault] = None) -> None:
+    """Raises what a call's code says, if that is not DONE: NoMemory, or Refused with the numbers that `fault` names."""
+    if code == Code.DONE:
+        return
+    if code == Code.NO_MEMORY:
+        raise NoMemory("there is not enough memory; the fleet is as it was")
+    numbers = (fault.first, fault.second) if fault is not None and fault.code == code else ()
+    raise refusal(Code(code).word if code in iter(Code) else "unknown", numbers)

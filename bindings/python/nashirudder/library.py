@@ -1,0 +1,255 @@
+"""Fleets in this process, over the library that `tools/build_c` builds; and the calls of nashirudder.h one by one.
+
+    from nashirudder.library import Fleet
+
+`Fleet` has the names, arguments and exceptions of `nashirudder.Fleet`, so that a program runs with either. `Handle` has
+the calls of nashirudder.h. `check_step`, `first_bridge` and `distances` are questions about a map.
+`nashirudder.finding` says where the library is looked for.
+"""
+
+import concurrent.futures
+from collections import deque
+from typing import Callable, Deque, Dict, List, Optional, Sequence, Set, TypeVar
+
+from . import opening
+from .calls import FAR
+from .errors import Ended, FileFailed, Late, NoMemory, OutOfRange, OrderRefused, Refused, refusal
+from .finding import Place
+from .fleet import AnyFleet
+from .folder import ChapterFolder
+from .handle import Handle, Judgement, Notice, Report
+from .maps import check_step, distances, first_bridge
+from .names import VERDICT_OF, Code, Verdict
+from .orders import Errand, Order
+from .records import Arrival, Chapter, Farewell, Look
+
+__all__ = [
+    "FAR", "Arrival", "Chapter", "Code", "Errand", "Farewell", "Fleet", "Handle", "Judgement", "Look", "Notice",
+    "OrderRefused", "Refused", "Report", "Verdict", "check_step", "distances", "first_bridge",
+]
+
+T = TypeVar("T")
+
+# The orders of a client that may wait to be judged, as in the program
+_LANE = 64
+
+
+def _arrival_of(client: int, notice: Notice) -> Arrival:
+    """The arrival that a notice tells a client."""
+    robot, number, cell, tick = (value or 0 for value in (notice.robot, notice.number, notice.cell, notice.tick))
+    return Arrival(robot, client, number, cell, tick, notice.stamp or 0)
+
+
+class Fleet(AnyFleet):
+    """A fleet in this process. It has the names, arguments and exceptions of `nashirudder.Fleet`, and the same limits
+    if none are given.
+
+    `built` is the library, or a folder that has it. `ties` is "plain": "south" is refused by OutOfRange. (A robot's own
+    ranks, by which "south" chooses, are for `Handle`.) Calls are made by a thread of the fleet, one after the other: so
+    a call that is left by an exception, as Ctrl-C raises it, is made whole. A call that takes longer than `timeout`
+    seconds, with the calls of other threads before it, raises Late.
+    """
+
+    def __init__(
+        self,
+        map: Place,
+        robots: Sequence[int],
+        clients: int = 1,
+        *,
+        ties: str = "plain",
+        traces: Optional[Place] = None,
+        roll: bool = True,
+        built: Optional[Place] = None,
+        timeout: Optional[float] = None,
+        **limits: int,
+    ) -> None:
+        told = opening.checked(map, robots, clients, ties, traces, limits)
+        if told.ties != "plain":
+            raise OutOfRange(f'ties {told.ties!r} are for nashirudder.Fleet alone; in this process they are "plain"')
+        super().__init__()
+        self._timeout = timeout
+        self._roll = roll
+        self._clients = told.clients
+        self._lane = told.limits.get("lane", _LANE)
+        self._number = self._entries = 0
+        self._lanes: Dict[int, Deque[Order]] = {client: deque() for client in range(told.clients)}
+        self._leaving: Set[int] = set()
+        self._status: Optional[int] = None
+        self._is_closed = self._is_limited = False
+        self._folder = None if told.traces is None else ChapterFolder(told.traces)
+        try:
+            limits = {**opening.ENDLESS, **told.limits}
+            self._handle = Handle(opening.read_map(told.map), told.robots, told.clients, built=built, **limits)
+        except BaseException:
+            if self._folder is not None:
+                self._folder.let_go()
+            raise
+        self._cells = told.robots
+        self._turns = concurrent.futures.ThreadPoolExecutor(1, "fleet")
+
+    # ---- what AnyFleet asks for
+
+    def _in_turn(self, call: Callable[[], T]) -> T:
+        if self._is_closed:
+            raise Ended(self._status, "the fleet is closed")
+        try:
+            made = self._turns.submit(call)
+        except RuntimeError:
+            # Another thread has closed it just now.
+            raise Ended(self._status, "the fleet is closed") from None
+        concurrent.futures.wait([made], self._timeout)
+        if not made.done():
+            raise Late(f"not done in {self._timeout} seconds")
+        return made.result()
+
+    def _entered(self, call: Callable[[], T]) -> T:
+        """Makes a call that is an entry of the history; if the chapter is full, in the next one, if there is one and
+        chapters roll.
+        """
+        try:
+            result = self._tried(call)
+        except Refused as refused:
+            self._is_limited = self._is_limited or refused.name in ("chapter-full", "clock-spent")
+            raise
+        self._entries += 1
+        return result
+
+    def _tried(self, call: Callable[[], T]) -> T:
+        try:
+            return call()
+        except Refused as refused:
+            if refused.name != "chapter-full" or not self._roll:
+                raise
+            full = refused
+        try:
+            self._turn_page()
+        except Refused:
+            # It was the last of all chapters.
+            raise full from None
+        return call()
+
+    def _post(self, order: Order) -> None:
+        if order.client not in self._lanes:
+            raise refusal("no-client")
+        if len(self._lanes[order.client]) >= self._lane:
+            raise refusal("lane-full")
+        self._lanes[order.client].append(order)
+
+    def _judge(self, order: Order) -> Judgement:
+        """Has the library judge an order."""
+        client, numbers = order.client, order._numbers
+        if order._kind == "go":
+            return self._handle.go(numbers[0], numbers[1], client)
+        if order._kind == "withdraw":
+            return self._handle.withdraw(numbers[0], client)
+        return self._handle.close_client(client)
+
+    def _take(self, client: int) -> None:
+        lane = self._lanes[client]
+        while lane:
+            order = lane[0]
+            try:
+                judged = self._entered(lambda: self._judge(order))
+            except Refused as refused:
+                if refused.name != "mailbox-full":
+                    raise
+                # There may be room once notices are collected that were not before.
+                if not self._collect(client):
+                    return
+                continue
+            lane.popleft()
+            self._ledger.judged(order, VERDICT_OF[judged.verdict], judged.number)
+            self._collect(client)
+
+    def _collect(self, client: int) -> bool:
+        """Takes in all notices of a client; whether there were some."""
+        some = False
+        while True:
+            notice = self._handle.give(client)
+            if notice is None:
+                return some
+            some = True
+            if notice.verdict is None:
+                arrival = _arrival_of(client, notice)
+                self._arrivals.append(arrival)
+                self._ledger.arrived(arrival)
+
+    def _waiting_clients(self) -> List[int]:
+        return [client for client, lane in self._lanes.items() if lane]
+
+    def _make_ticks(self, count: int) -> None:
+        try:
+            for _ in range(count):
+                did = self._entered(self._handle.tick)
+                if did.arrived:
+                    for client in range(self._clients):
+                        self._collect(client)
+                if did.farewells:
+                    self._say_farewells()
+        finally:
+            self._arrivals.sort(key=lambda arrival: (arrival.tick, arrival.robot))
+            self._cells = [int(cell) for cell in self._handle.placement()]
+
+    def _say_farewells(self) -> None:
+        gone = sorted(robot for robot in self._leaving if self._handle.wait_of(robot) is None)
+        self._farewells += [Farewell(robot, 0) for robot in gone]
+        self._leaving.difference_update(gone)
+
+    def _make_shut(self, robot: int) -> None:
+        if self._entered(lambda: self._handle.shut(robot)):
+            self._farewells.append(Farewell(robot, 0))
+        else:
+            self._leaving.add(robot)
+
+    def _look_now(self) -> Look:
+        tick, eldest, within = self._handle.clock(), self._handle.eldest(), self._handle.idle_within()
+        return Look(tick, self._number, self._entries, eldest, within, list(self._cells))
+
+    def _turn_page(self) -> Chapter:
+        if self._folder is not None:
+            self._folder.write(self._number, self._handle.trace())
+        try:
+            self._handle.next_chapter()
+        except (Refused, NoMemory):
+            if self._folder is not None:
+                self._folder.drop(self._number)
+            raise
+        handed = Chapter(self._number, self._entries)
+        self._number, self._entries = self._number + 1, 0
+        if self._folder is not None:
+            self._folder.keep(handed.number)
+        return handed
+
+    # ---- the end
+
+    @property
+    def status(self) -> Optional[int]:
+        return self._status
+
+    def _end(self) -> None:
+        """Writes the last chapter, and frees all."""
+        if self._is_closed:
+            return
+        status = 8 if self._is_limited else 0
+        try:
+            if self._folder is not None:
+                self._folder.write(self._number, self._handle.trace())
+                self._folder.keep(self._number)
+        except FileFailed:
+            status = 3
+            raise
+        finally:
+            self._status, self._is_closed = status, True
+            self._handle.close()
+            if self._folder is not None:
+                self._folder.let_go()
+
+    def close(self, timeout: Optional[float] = None) -> None:
+        if self._is_closed:
+            return
+        made = self._turns.submit(self._end)
+        self._turns.shutdown(wait=False)
+        concurrent.futures.wait([made], self._timeout if timeout is None else timeout)
+        if not made.done():
+            raise Late("the fleet is not closed yet: calls of other threads are made before")
+        made.result()

@@ -1,0 +1,71 @@
+"""Questions about a map, without a fleet. A map is the text of a .map file, not its path."""
+
+import ctypes
+import re
+from ctypes import byref
+from typing import TYPE_CHECKING, Optional, Sequence, Tuple
+
+from .arrays import as_cells, c_cells
+from .calls import CEdge, CFault, check, load
+from .finding import Place
+from .handle import Text, text_of
+from .names import Code
+from .ranges import whole_number
+
+if TYPE_CHECKING:
+    from .arrays import Cells
+
+# The most that a map has: 1,024 rows of 1,024 cells
+_MOST = 1024
+
+
+def _count_of(text: bytes) -> int:
+    """How many cells the head of a map says that it has; 0 if the head is at fault, of which the library says more."""
+    form = rb"^%s[ \t]+0*(\d{1,4})[ \t]*\r?$"
+    sides = [re.search(form % word, text[:200], re.M) for word in (b"height", b"width")]
+    numbers = [int(side[1]) for side in sides if side is not None and int(side[1]) <= _MOST]
+    return numbers[0] * numbers[1] if len(numbers) == 2 else 0
+
+
+def check_step(map: Text, before: Sequence[int], after: Sequence[int], *, built: Optional[Place] = None) -> None:
+    """Returns if the step is free of conflicts: each robot stays or crosses an edge, no two come to one cell, and no
+    two exchange their cells.
+
+    `before` and `after` have the robots' cells, by number: lists, or arrays with one dimension. Otherwise Refused is
+    raised with the first fault, and the robots in `numbers`: "too-many", "from-blocked", "from-shared", "to-length",
+    "off-floor", "not-adjacent", "vertex-conflict" or "swapping-conflict"; or with a fault of the map. Raises OutOfRange
+    if a cell is no number from 0 to 2^32 - 1.
+    """
+    library, text, fault = load(built), text_of(map), CFault()
+    cells = c_cells("a cell before the step", before), c_cells("a cell after the step", after)
+    code = library.nashirudder_check_step(text, len(text), cells[0], len(before), cells[1], len(after), byref(fault))
+    check(code, fault)
+
+
+def first_bridge(map: Text, *, built: Optional[Place] = None) -> Optional[Tuple[int, int]]:
+    """The two cells of a bridge, the lower one first, or None if the map has none.
+
+    Of several bridges it is the one whose lower cell is least, and then the one whose upper cell is least. Raises
+    Refused with a fault of the map.
+    """
+    library, text, edge, fault = load(built), text_of(map), CEdge(), CFault()
+    code = library.nashirudder_first_bridge(text, len(text), byref(edge), byref(fault))
+    if code == Code.NO_BRIDGE:
+        return None
+    check(code, fault)
+    return edge.lower, edge.upper
+
+
+def distances(map: Text, goal: int, *, built: Optional[Place] = None) -> "Cells":
+    """For each cell of the map, row by row, the number of edges of a shortest walk to the goal, or FAR (2^32 - 1) if
+    there is none.
+
+    Returns an array of `numpy.uint32` with height times width items, or a list if NumPy is not there. Raises Refused
+    with a fault of the map, or "goal-blocked" if the goal is not floor or not on the map.
+    """
+    library, text, fault = load(built), text_of(map), CFault()
+    count = _count_of(text)
+    told = (ctypes.c_uint32 * max(1, count))()
+    code = library.nashirudder_distances(text, len(text), whole_number("goal", goal), told, count, byref(fault))
+    check(code, fault)
+    return as_cells(told)

@@ -1,0 +1,136 @@
+"""The words for what a fleet refuses: those of nashirudder.h, which both forms of the package use."""
+
+import enum
+from typing import Dict, List, Optional, Tuple
+
+
+def _word_of(name: str) -> str:
+    return name.lower().replace("_", "-")
+
+
+class Code(enum.IntEnum):
+    """What a call of the library answers, by its number in nashirudder.h. `word` is its word, such as "chapter-full".
+    """
+
+    DONE = 0
+    NO_MEMORY = 1
+    NOT_OPEN = 2
+    ALREADY_OPEN = 3
+    NO_CLIENT = 4
+    NO_ROBOT = 5
+    MAILBOX_FULL = 6
+    CHAPTER_FULL = 7
+    CLOCK_SPENT = 8
+    ALREADY_SHUT = 9
+    BOOK_SPENT = 10
+    NO_NOTICE = 11
+    TOO_WIDE = 12
+    IDLE = 13
+    HAS_BRIDGE = 14
+    WRONG_LENGTH = 15
+    MAP_HEADER = 20
+    MAP_SIZE = 21
+    MAP_ROW = 22
+    MAP_CELL = 23
+    MAP_TRAILING = 24
+    BAD_SETUP = 30
+    ROBOT_COUNT = 31
+    START_BLOCKED = 32
+    START_SHARED = 33
+    TOO_MANY = 40
+    FROM_BLOCKED = 41
+    FROM_SHARED = 42
+    TO_LENGTH = 43
+    OFF_FLOOR = 44
+    NOT_ADJACENT = 45
+    VERTEX_CONFLICT = 46
+    SWAPPING_CONFLICT = 47
+    NO_BRIDGE = 48
+    GOAL_BLOCKED = 49
+
+    @property
+    def word(self) -> str:
+        return _word_of(self.name)
+
+
+class Verdict(enum.IntEnum):
+    """What an order is answered, by its number in nashirudder.h. `word` is its word, such as "too-late"."""
+
+    ACCEPTED = 1
+    CLOSED = 2
+    WITHDRAWN = 3
+    CLIENT_CLOSED = 4
+    NO_ROBOT = 5
+    ROBOT_SHUT = 6
+    NO_CELL = 7
+    BLOCKED = 8
+    UNREACHABLE = 9
+    QUEUE_FULL = 10
+    LIFE_SPENT = 11
+    NO_ERRAND = 12
+    TOO_LATE = 13
+
+    @property
+    def word(self) -> str:
+        return _word_of(self.name)
+
+
+CODE_OF: Dict[str, Code] = {code.word: code for code in Code}
+VERDICT_OF: Dict[str, Verdict] = {verdict.word: verdict for verdict in Verdict}
+
+# Words of the lines that the program writes (docs/PROTOCOL.md), where they are other ones
+OF_PROTOCOL = {
+    "limits": "bad-setup", "no-robots": "robot-count", "start": "start-blocked", "shared": "start-shared",
+    "already": "already-shut", "closed": "client-closed",
+}
+
+SENTENCES = {
+    "not-open": "the handle is closed",
+    "no-client": "there is no client of this number",
+    "no-robot": "there is no robot of this number",
+    "mailbox-full": "the client's notices and unfinished errands leave no room for two more",
+    "chapter-full": "the chapter has all the entries that it may have",
+    "clock-spent": "all the ticks were made that may be made",
+    "already-shut": "the robot is shut already",
+    "book-spent": "this is the last chapter that there may be",
+    "too-wide": "the mailbox may not hold so much",
+    "wrong-length": "the list does not have the length that is asked for",
+    "map-header": "this line of the map's head is missing or not in its form",
+    "map-size": "the map's height or width is not from 1 to 1,024",
+    "map-row": "this row of the map is missing or not as long as the width",
+    "map-cell": "the byte in this row and column is no letter of a map",
+    "map-trailing": "this line after the map's rows is not blank",
+    "bad-setup": "a limit or the number of clients is out of its range",
+    "robot-count": "there are not 1 to 512 robots",
+    "start-blocked": "a robot does not start on floor",
+    "start-shared": "two robots start on one cell",
+    "too-many": "more robots are named than the map has cells",
+    "from-blocked": "before the step a robot is not on floor",
+    "from-shared": "before the step two robots are on one cell",
+    "to-length": "the new cells are not as many as the old ones",
+    "off-floor": "a robot leaves the floor",
+    "not-adjacent": "a robot neither stays nor crosses an edge",
+    "vertex-conflict": "two robots come to one cell",
+    "swapping-conflict": "two robots exchange their cells",
+    "goal-blocked": "the goal is not floor",
+    "client-closed": "the client is closed",
+    "robot-shut": "the robot takes no further errands",
+    "no-cell": "the map has no cell of this number",
+    "blocked": "the cell is not floor",
+    "unreachable": "the cell is in another part of the floor than the robot",
+    "queue-full": "the robot's queue is full",
+    "life-spent": "the client has had all the errands accepted that it may have",
+    "no-errand": "no unfinished errand of the client has this number",
+    "too-late": "the robot is heading for the errand's cell already",
+    "withdrawn": "the errand was withdrawn",
+    "lane-full": "the client's lane has all the orders that may wait in it",
+    "numbers-spent": "the client has sent all the orders that it may send",
+}
+"""What each word of a refusal means."""
+
+
+def verdict_in(words: List[str]) -> Tuple[Verdict, Optional[int]]:
+    """The verdict that words of a line say, and the errand's number if it was accepted."""
+    if words[0] == "refused":
+        return VERDICT_OF[words[2]], None
+    return VERDICT_OF[words[0]], int(words[1]) if len(words) > 1 else None

@@ -1,0 +1,75 @@
+"""What a fleet is opened with, as its caller says it: the same checks for each kind of fleet."""
+
+import os
+import stat
+from dataclasses import dataclass
+from typing import Dict, List, Optional, Sequence
+
+from .errors import FileFailed, OutOfRange, refusal
+from .finding import Place
+from .ranges import checked_limits, whole_number
+
+MOST_ROBOTS = 512
+
+# Limits that are so great, if none are given, that no fleet meets them
+ENDLESS = {"life": 2**40, "orders": 2**62, "clock": 2**48, "chapters": 2**32 - 1}
+
+
+@dataclass(frozen=True)
+class Opening:
+    """The words of a fleet's constructor, checked."""
+
+    map: str
+    robots: List[int]
+    clients: int
+    ties: str
+    traces: Optional[str]
+    limits: Dict[str, int]
+
+    def head(self) -> List[str]:
+        """The header lines of a conversation."""
+        lines = ["robots " + " ".join(map(str, self.robots)), f"clients {self.clients}", f"ties {self.ties}"]
+        return lines + [f"{name} {number}" for name, number in self.limits.items()]
+
+
+def _no_map(path: Place, why: object) -> FileFailed:
+    return FileFailed(f"the map {os.fsdecode(path)!r} cannot be read: {why}")
+
+
+def need_file(path: Place) -> None:
+    """Raises FileFailed if there is no file that can be read. It is not read here: it may be a pipe."""
+    try:
+        kind = os.stat(path).st_mode
+    except (OSError, ValueError) as error:
+        raise _no_map(path, error) from error
+    if stat.S_ISDIR(kind) or not os.access(path, os.R_OK):
+        raise _no_map(path, "it is a folder, or may not be read")
+
+
+def read_map(path: Place) -> bytes:
+    """The bytes of a map's file. Raises FileFailed if it cannot be read."""
+    try:
+        with open(path, "rb") as file:
+            return file.read()
+    except OSError as error:
+        raise _no_map(path, error) from error
+
+
+def checked(
+    map: Place, robots: Sequence[int], clients: int, ties: str, traces: Optional[Place], limits: Dict[str, int]
+) -> Opening:
+    """The words, checked. Raises OutOfRange, Refused with "robot-count", TypeError for a limit that there is not, and
+    FileFailed.
+    """
+    if ties not in ("plain", "south"):
+        raise OutOfRange(f'ties are "plain" or "south", and not {ties!r}')
+    folder = None if traces is None else os.fsdecode(traces)
+    if folder is not None and (not folder or "\0" in folder):
+        raise OutOfRange(f"this is no name of a folder for traces: {folder!r}")
+    cells = [whole_number("a start cell", cell) for cell in robots]
+    number = whole_number("clients", clients)
+    told = Opening(os.fsdecode(map), cells, number, ties, folder, checked_limits(limits))
+    if not 1 <= len(cells) <= MOST_ROBOTS:
+        raise refusal("robot-count", (0, 0))
+    need_file(map)
+    return told

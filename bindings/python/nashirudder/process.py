@@ -1,0 +1,221 @@
+"""The program `fleet`, spoken to over two pipes: what `Fleet` and `LiveFleet` share."""
+
+import queue
+import subprocess
+import tempfile
+import threading
+from typing import IO, Any, Callable, List, Optional, Sequence, TypeVar, cast
+
+from .errors import Ended, FileFailed, FleetError, Late, Missing, NoMemory, refusal
+from .orders import Order
+from .records import Chapter, Look
+
+T = TypeVar("T")
+
+
+class Asked:
+    """Commands that are sent together, the order that they post, if they do, and what was answered so far: lines, as
+    words.
+    """
+
+    def __init__(self, commands: Sequence[str], order: Optional[Order] = None) -> None:
+        self.commands = commands
+        self.order = order
+        self.answers: List[List[List[str]]] = [[]]
+        self.is_done = False
+
+
+def look_in(words: Sequence[str]) -> Look:
+    """What a line `look ..` says."""
+    at = words.index("at")
+    named = dict(zip(words, words[1:at]))
+    return Look(
+        tick=int(named["tick"]),
+        chapter=int(named["chapter"]),
+        entries=int(named["entries"]),
+        eldest=int(named["eldest"]) if "eldest" in named else None,
+        within=int(named["within"]) if "within" in named else None,
+        cells=[int(word) for word in words[at + 1 :]],
+    )
+
+
+def chapter_in(words: Sequence[str]) -> Chapter:
+    """What a line `chapter ..` says. Raises Refused if it is a refusal."""
+    if words[0] == "chapter-refused":
+        raise refusal(words[-1])
+    return Chapter(int(words[1]), int(words[3]))
+
+
+def end_of(status: Optional[int], complaint: str) -> FleetError:
+    """What there is to raise if the program ended with this status, and wrote this on its error output."""
+    words = complaint.split()
+    if words[:2] == ["fleet:", "opening"]:
+        return refusal(words[-1])
+    if status == 4 and words[:2] == ["fleet:", "map"]:
+        numbers = [int(word) for word in words[3:]] + [0, 0]
+        return refusal(f"map-{words[2]}", (numbers[0], numbers[1]))
+    if status == 3:
+        return FileFailed(f"a file could not be read or written: {complaint}")
+    if status == 7:
+        return NoMemory(complaint)
+    return Ended(status, complaint)
+
+
+class Program:
+    """The program, and the lines that it is asked and answers.
+
+    A thread writes, and another reads and takes in what is said. Python's signal handlers run in the main thread alone,
+    so no exception of theirs can leave half a line written, or an answer half read.
+    """
+
+    def __init__(
+        self,
+        words: Sequence[str],
+        timeout: Optional[float],
+        noted: Callable[[Asked], str],
+        hear: Callable[[List[str]], None],
+    ) -> None:
+        """Starts it. `noted` notes what is about to be asked, and returns its text; `hear` takes in a line."""
+        self.timeout = timeout
+        self.status: Optional[int] = None
+        self.is_closed = False
+        self.changed = threading.Condition()
+        self._noted, self._hear = noted, hear
+        self._is_over = False
+        self._misheard: Optional[str] = None
+        self._complaints = tempfile.TemporaryFile()
+        try:
+            # A session of its own: Ctrl-C in a terminal is for Python, which then closes the fleet.
+            self.process = subprocess.Popen(
+                words, stdin=subprocess.PIPE, stdout=subprocess.PIPE, stderr=self._complaints, start_new_session=True
+            )
+        except (OSError, ValueError) as error:
+            self._complaints.close()
+            raise Missing(f"{words[0]} cannot be started: {error}") from error
+        self._outbox: "queue.SimpleQueue[Optional[Asked]]" = queue.SimpleQueue()
+        self._writer = threading.Thread(target=self._write, daemon=True)
+        self._reader = threading.Thread(target=self._read, daemon=True)
+        self._writer.start()
+        self._reader.start()
+
+    # ---- the two threads
+
+    def _write(self) -> None:
+        """Writes what is asked, to the end."""
+        stdin = cast(IO[bytes], self.process.stdin)
+        while True:
+            asked = self._outbox.get()
+            try:
+                if asked is None:
+                    stdin.close()
+                    return
+                with self.changed:
+                    text = self._noted(asked)
+                stdin.write(text.encode())
+                stdin.flush()
+            except (OSError, ValueError):
+                # Nobody reads any more. The reader meets the end of what is said, and that is what callers are told.
+                if asked is None:
+                    return
+
+    def _read(self) -> None:
+        """Takes in what the program says, to the end."""
+        stdout = cast(IO[bytes], self.process.stdout)
+        line = b""
+        try:
+            for line in stdout:
+                if not line.endswith(b"\n"):
+                    break
+                with self.changed:
+                    self._hear(line.decode().split())
+                    self.changed.notify_all()
+        except (ValueError, LookupError):
+            # Another program, or one of another version.
+            self._misheard = f"it said what is no line of the protocol: {line[:200]!r}"
+            self.process.kill()
+        finally:
+            with self.changed:
+                self._is_over = True
+                self.changed.notify_all()
+
+    # ---- calls
+
+    def wait(self, done: Callable[[], bool], timeout: Optional[float] = None) -> bool:
+        """Waits until that is so. Returns False if the time went by. Raises what the program ended with."""
+        with self.changed:
+            self.changed.wait_for(lambda: done() or self._is_over, timeout)
+            if done():
+                return True
+            if not self._is_over:
+                return False
+        raise self._ended()
+
+    def ask(self, *commands: str, order: Optional[Order] = None) -> List[List[List[str]]]:
+        """Sends commands, and returns for each the lines of its answer, as words."""
+        if self.is_closed:
+            raise Ended(self.status, "the fleet is closed")
+        asked = Asked(commands, order)
+        self._outbox.put(asked)
+        if not self.wait(lambda: asked.is_done, self.timeout):
+            raise Late(f"no answer in {self.timeout} seconds")
+        for command, answer in zip(commands, asked.answers):
+            if any(words[0] == "bad-line" for words in answer):
+                raise FleetError(f"the program does not take the line {command!r}")
+        return asked.answers
+
+    def reply(self, command: str, read: Callable[[List[str]], T]) -> T:
+        """Sends a command that is answered by one line, and returns what its words say by `read`."""
+        words = self.ask(command)[0][:1]
+        try:
+            return read(words[0])
+        except (ValueError, LookupError):
+            raise Ended(None, f"to {command!r} it said what is no line of the protocol: {words}") from None
+
+    def _complaint(self) -> str:
+        if self._misheard is not None:
+            return self._misheard
+        self._complaints.seek(0)
+        return self._complaints.read().decode(errors="replace").strip()
+
+    def _ended(self) -> FleetError:
+        """What there is to raise if the program ended."""
+        if self.is_closed:
+            return Ended(self.status, "the fleet is closed")
+        self.status = self.process.wait()
+        return end_of(self.status, self._complaint())
+
+    def end(self, timeout: Optional[float]) -> str:
+        """Lets the program end, and returns what it complained of. Raises Late if it had to be killed."""
+        self._outbox.put(None)
+        was_killed = False
+        try:
+            self.status = self.process.wait(timeout)
+        except subprocess.TimeoutExpired:
+            self.process.kill()
+            self.status = self.process.wait()
+            was_killed = True
+        self.is_closed = True
+        self._reader.join()
+        cast(IO[bytes], self.process.stdout).close()
+        complaint = self._complaint()
+        self._complaints.close()
+        if was_killed:
+            raise Late(f"the program did not end in {timeout} seconds, and was killed")
+        return complaint
+
+    def close(self, timeout: Optional[float]) -> None:
+        """Ends the program, if it was not ended before. Raises Late, and what it ended with if that is neither 0 nor 8.
+        """
+        if self.is_closed:
+            return
+        complaint = self.end(self.timeout if timeout is None else timeout)
+        if self.status not in (0, 8):
+            raise end_of(self.status, complaint)
+
+
+def silently(call: Callable[[], Any]) -> None:
+    """Makes a call in whose failure nobody is interested, since there is a reason before it."""
+    try:
+        call()
+    except FleetError:
+        pass

@@ -1,0 +1,60 @@
+"""What a fleet tells: arrivals, farewells, looks and chapters."""
+
+from dataclasses import dataclass
+from typing import List, Optional
+
+
+@dataclass(frozen=True)
+class Arrival:
+    """A robot arrived at the cell of an errand.
+
+    `robot` and `client` count from 0. `number` is the errand's number among its client's accepted ones, from 1. `cell`
+    counts row by row from 0. `tick`, from 1, is the tick after which the robot stood on the cell. `stamp` is 0 with
+    ties "plain", and the tick modulo 1,000 with "south".
+    """
+
+    robot: int
+    client: int
+    number: int
+    cell: int
+    tick: int
+    stamp: int
+
+
+@dataclass(frozen=True)
+class Farewell:
+    """A robot that is shut has no errand left. `stamp` is 0 with ties "plain", and its cell with "south"."""
+
+    robot: int
+    stamp: int
+
+
+@dataclass(frozen=True)
+class Look:
+    """How the fleet stands.
+
+    `tick` is the number of ticks made so far. `chapter` is the number of the present chapter, from 0, and `entries` how
+    many takes, ticks and shuts it has. `eldest` is the robot that has waited longest, None if no robot has an errand.
+    `within` is the number of ticks within which all errands are done if none is added, None on a map with a bridge.
+    `cells` has each robot's cell, by the robot's number.
+    """
+
+    tick: int
+    chapter: int
+    entries: int
+    eldest: Optional[int]
+    within: Optional[int]
+    cells: List[int]
+
+    @property
+    def idle(self) -> bool:
+        """Whether no robot has an errand."""
+        return self.eldest is None
+
+
+@dataclass(frozen=True)
+class Chapter:
+    """A chapter that was handed out: its number, from 0, and how many entries it has."""
+
+    number: int
+    entries: int

@@ -1,0 +1,193 @@
+"""Words, numbers and exceptions: what needs neither program nor library. Structs and numbers are compared with nashirudder.h."""
+
+import array
+import ctypes
+import os
+import pathlib
+import pickle
+import re
+import tempfile
+import unittest
+from unittest import mock
+
+import nashirudder
+from nashirudder import arrays, calls, errors, finding, library, names, opening, ranges
+from nashirudder.errors import FileFailed, FleetError, Missing, OrderRefused, OutOfRange, Refused
+
+TOP = pathlib.Path(__file__).resolve().parents[4]
+HEADER = (TOP / "bindings" / "c" / "nashirudder.h").read_text()
+BARE = re.sub(r"/\*.*?\*/", " ", HEADER, flags=re.S)
+
+KINDS = {
+    "uint8_t": ctypes.c_uint8, "uint32_t": ctypes.c_uint32, "uint64_t": ctypes.c_uint64, "size_t": ctypes.c_size_t, "bool": ctypes.c_bool,
+    "void *": ctypes.c_void_p,
+}
+STRUCTS = {
+    "fleet": calls.CFleet, "setup": calls.CSetup, "robot": calls.CRobot, "fault": calls.CFault, "judgement": calls.CJudgement,
+    "report": calls.CReport, "note": calls.CNote, "edge": calls.CEdge,
+}
+
+
+def kind_of(spelled):
+    """The ctypes type of a C type."""
+    spelled = " ".join(spelled.replace("const ", "").replace("*", " * ").split())
+    if spelled in KINDS:
+        return KINDS[spelled]
+    if spelled.endswith(" *"):
+        return ctypes.POINTER(kind_of(spelled[:-2]))
+    return STRUCTS[spelled.removeprefix("nashirudder_")]
+
+
+def is_same(ours, theirs):
+    """Whether two types are the same for a call; bytes may be handed as text."""
+    return ours is theirs or (ours is ctypes.c_char_p and theirs is ctypes.POINTER(ctypes.c_uint8))
+
+
+class HeaderTest(unittest.TestCase):
+    def test_structs(self):
+        found = re.findall(r"typedef struct \w+ \{(.*?)\} nashirudder_(\w+);", BARE, re.S)
+        self.assertEqual({name for _, name in found}, set(STRUCTS))
+        for body, name in found:
+            fields = []
+            for field in filter(None, (" ".join(field.split()) for field in body.split(";"))):
+                spelled, field_name, count = re.fullmatch(r"(.*?[ *])(\w+)(?:\[(\d+)\])?", field).groups()
+                kind = kind_of(spelled)
+                fields.append((field_name, kind * int(count) if count else kind))
+            self.assertEqual(fields, list(STRUCTS[name]._fields_), name)
+
+    def test_functions(self):
+        found = re.findall(r"^(?:NASHIRUDDER_MUST_USE )?(uint32_t|void) nashirudder_(\w+)\(([^)]*)\);", BARE, re.M)
+        self.assertEqual({name for _, name, _ in found}, set(calls.FUNCTIONS))
+        for _, name, parameters in found:
+            wanted = [kind_of(re.sub(r"\w+$", "", " ".join(parameter.split()))) for parameter in parameters.split(",")]
+            self.assertEqual(len(wanted), len(calls.FUNCTIONS[name]), name)
+            for ours, theirs in zip(calls.FUNCTIONS[name], wanted):
+                self.assertTrue(is_same(ours, theirs), (name, ours, theirs))
+
+    def test_every_refusal_has_a_sentence(self):
+        answers = {"done", "no-memory", "already-open", "no-notice", "idle", "has-bridge", "no-bridge"}
+        words = {code.word for code in names.Code} - answers | {verdict.word for verdict in names.Verdict} - {"accepted", "closed"}
+        self.assertEqual(words | {"lane-full", "numbers-spent"}, set(names.SENTENCES))
+
+    def test_version(self):
+        cargo = (TOP / "bindings" / "rust" / "Cargo.toml").read_text()
+        self.assertEqual(nashirudder.__version__, re.search(r'^version = "(.*)"', cargo, re.M)[1])
+
+
+class ExceptionsTest(unittest.TestCase):
+    def test_one_tree(self):
+        kinds = [kind for kind in vars(errors).values() if isinstance(kind, type) and issubclass(kind, BaseException)]
+        self.assertEqual(len(kinds), 10)
+        self.assertTrue(all(issubclass(kind, FleetError) for kind in kinds))
+        for kind, known in (("OutOfRange", ValueError), ("Late", TimeoutError), ("FileFailed", OSError), ("NoMemory", MemoryError),
+                            ("Missing", FileNotFoundError), ("OrderRefused", Refused)):
+            self.assertTrue(issubclass(getattr(errors, kind), known), kind)
+
+    def test_texts(self):
+        self.assertEqual(str(errors.refusal("start", (1, 0))), "start-blocked (1, 0): a robot does not start on floor")
+        self.assertEqual(str(errors.order_refusal(names.Verdict.BLOCKED)), "blocked: the cell is not floor")
+        self.assertEqual(str(Refused("something-new")), "something-new")
+
+    def test_pickled(self):
+        for error in (OrderRefused("blocked", 8), Refused("start-shared", 33, (0, 2)), errors.Ended(3, "fleet: file"), FileFailed("no")):
+            again = pickle.loads(pickle.dumps(error))
+            self.assertEqual((type(again), str(again), vars(again)), (type(error), str(error), vars(error)))
+
+
+class NumbersTest(unittest.TestCase):
+    def test_cells_for_c(self):
+        for items in ([3, 0, 7], (3, 0, 7), array.array("I", [3, 0, 7]), array.array("q", [3, 0, 7]), memoryview(array.array("I", [3, 9, 0, 9, 7]))[::2]):
+            self.assertEqual(list(arrays.c_cells("a cell", items)), [3, 0, 7])
+        self.assertEqual(len(arrays.c_cells("a cell", [])), 1)
+        for items in ([-1], [2**32], [1.0], array.array("d", [1.0]), array.array("q", [-1]), array.array("Q", [2**32 + 3]),
+                      memoryview(bytes(4)).cast("B", (2, 2))):
+            with self.subTest(items=items), self.assertRaises(OutOfRange):
+                arrays.c_cells("a cell", items)
+
+    def test_lists_without_numpy(self):
+        with mock.patch.object(arrays, "_numpy", lambda: None):
+            self.assertEqual(arrays.as_cells((ctypes.c_uint32 * 2)(2**32 - 1, 0)), [2**32 - 1, 0])
+
+    def test_limits(self):
+        self.assertEqual(ranges.checked_limits({"queue": 2**32 - 1, "clock": 2**64 - 1}), {"queue": 2**32 - 1, "clock": 2**64 - 1})
+        for limits in ({"queue": 2**32}, {"clock": 2**64}, {"life": -1}, {"chapter": None}):
+            with self.assertRaises(OutOfRange):
+                ranges.checked_limits(limits)
+        with self.assertRaises(TypeError):
+            ranges.checked_limits({"speed": 1})
+
+
+class FilesTest(unittest.TestCase):
+    def setUp(self):
+        folder = tempfile.TemporaryDirectory()
+        self.addCleanup(folder.cleanup)
+        self.path = pathlib.Path(folder.name)
+        (self.path / "ring.map").write_text("")
+
+    def test_openings(self):
+        for kind in (nashirudder.Fleet, library.Fleet, nashirudder.LiveFleet):
+            with self.assertRaises(FileFailed):
+                kind(self.path / "none.map", [0])
+            for robots in ([], range(513)):
+                with self.assertRaises(Refused) as caught:
+                    kind(self.path / "ring.map", robots)
+                self.assertEqual((caught.exception.name, caught.exception.code), ("robot-count", names.Code.ROBOT_COUNT))
+        with self.assertRaises(OutOfRange):
+            library.Fleet(self.path / "ring.map", [0], ties="south")
+
+    def test_head(self):
+        told = opening.checked(self.path / "ring.map", [0, 8], 2, "south", None, {"queue": 3})
+        self.assertEqual(told.head(), ["robots 0 8", "clients 2", "ties south", "queue 3"])
+
+    def place(self, *names):
+        """Makes files of these names, and returns the first one's path."""
+        paths = [self.path / name for name in names]
+        for path in paths:
+            path.parent.mkdir(parents=True, exist_ok=True)
+            path.touch()
+        return str(paths[0])
+
+    def test_arguments_come_first(self):
+        program, shared = self.place("made/bin/fleet"), self.place("made/lib/libnashirudder.so.0", "made/lib/libnashirudder.so")
+        with mock.patch.dict(os.environ, {finding.VARIABLE: "/none"}):
+            self.assertEqual((finding.program(program), finding.library(shared)), (program, shared))
+            self.assertEqual((finding.program(self.path / "made"), finding.library(self.path / "made")), (program, shared))
+            for built in (self.path, self.path / "none"):
+                for find in (finding.program, finding.library):
+                    with self.assertRaises(Missing):
+                        find(built)
+
+    def test_places_in_turn(self):
+        ways = [finding.VARIABLE, "prefix", "PATH"]
+        for count in range(len(ways), 0, -1):
+            # Those that are left, of which the first is found.
+            left = ways[-count:]
+            programs = {way: self.place(f"{count}/{way}/bin/fleet") for way in left}
+            libraries = {way: self.place(f"{count}/{way}/lib/libnashirudder.so.0") for way in left}
+            for path in programs.values():
+                os.chmod(path, 0o755)
+            told = {finding.VARIABLE: str(self.path / str(count) / finding.VARIABLE), "PATH": str(self.path / str(count) / "PATH" / "bin")}
+            with mock.patch.dict(os.environ, told), mock.patch.object(finding.sys, "prefix", str(self.path / str(count) / "prefix")), \
+                    mock.patch.object(finding, "__file__", "/a/b/c/d.py"):
+                self.assertEqual(finding.program(), programs[left[0]])
+                self.assertEqual(finding.library(), libraries[left[0]] if left[0] != "PATH" else finding.SONAME)
+
+    def test_what_is_missing(self):
+        with mock.patch.dict(os.environ, {finding.VARIABLE: "/nowhere", "PATH": ""}), mock.patch.object(finding.sys, "prefix", "/none"), \
+                mock.patch.object(finding, "__file__", "/a/b/c/d.py"):
+            with self.assertRaises(Missing) as caught:
+                finding.program()
+            for word in ("/nowhere", "/none", "tools/install --quick fleet", finding.VARIABLE, "PATH"):
+                self.assertIn(word, str(caught.exception))
+            text = str(finding.no_library(finding.SONAME, "not there"))
+            for word in ("/nowhere", "/none", "tools/build_c --quick", "tools/install_c PREFIX", finding.VARIABLE):
+                self.assertIn(word, text)
+
+    def test_a_file_that_is_no_library(self):
+        with self.assertRaises(Missing) as caught:
+            calls.load(self.place("libnashirudder.so"))
+        self.assertIn("cannot be loaded", str(caught.exception))
+
+
+if __name__ == "__main__":
+    unittest.main()
