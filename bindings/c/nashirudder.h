@@ -54,7 +54,7 @@
 ** library of another major version (before 1.0.0: of another minor version) has other structs and numbers.
 */
 #define NASHIRUDDER_VERSION_MAJOR 0
-#define NASHIRUDDER_VERSION_MINOR 2
+#define NASHIRUDDER_VERSION_MINOR 1
 #define NASHIRUDDER_VERSION_PATCH 0
 #define NASHIRUDDER_VERSION (NASHIRUDDER_VERSION_MAJOR * 10000 + NASHIRUDDER_VERSION_MINOR * 100 + NASHIRUDDER_VERSION_PATCH)
 

@@ -31,7 +31,7 @@ const NO_BRIDGE: u32 = 48;
 const FAR: u32 = u32::MAX;
 
 /// The version of the header that this crate was made with. The library's has to have the same major and minor numbers.
-const VERSION: u32 = 200;
+const VERSION: u32 = 100;
 
 /// Why a call was refused.
 #[non_exhaustive]
