@@ -21,10 +21,11 @@ fn main(rt: HostRuntime) {{
 """
 # Makes a handle for `main`, which may not see what a handle is made of
 HANDLE = """
-pub fn quick_handle(alloc: Global) -> Handle {
-    Handle::closed(alloc)
-}
+pub fn quick_handle(alloc: Global) -> {name} {{
+    {name}::closed(alloc)
+}}
 """
+HANDLES = {"Handle": "handle", "MapHandle": "map_handle"}
 
 
 def value(rust, structs):
@@ -50,7 +51,7 @@ def call(module, name, parameters, structs):
             words.append(value(rust, structs))
         else:
             kind = re.sub(r"^\[(\w+)\]$", r"[\1; 1]", borrowed[2])
-            made = "crate::handle::quick_handle(alloc)" if kind == "Handle" else value(kind, structs)
+            made = f"crate::{HANDLES[kind]}::quick_handle(alloc)" if kind in HANDLES else value(kind, structs)
             lines.append(f"let {borrowed[1] or ''}value_{at} = {made};")
             words.append(f"&{borrowed[1] or ''}value_{at}")
     lines.append(f"let _ = crate::{module}::{name}({', '.join(words)});")
@@ -67,8 +68,9 @@ def as_program(room):
         shutil.copy(TOP / "HANDLES", room / "HANDLES")
     sources = c_sources.sources_of(copy)
     structs, exports = c_sources.structs_of(sources), c_sources.exports_of(sources)
-    with open(copy / "src" / "handle.rt", "a") as text:
-        text.write(HANDLE)
+    for name, module in HANDLES.items():
+        with open(copy / "src" / f"{module}.rt", "a") as text:
+            text.write(HANDLE.format(name=name))
     calls = "".join(call(module, name, parameters, structs) for module, name, parameters, _ in exports)
     (copy / "src" / "lib.rt").unlink()
     (copy / "src" / "main.rt").write_text(MAIN.format(library=sources["lib"], calls=calls))

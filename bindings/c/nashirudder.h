@@ -264,6 +264,14 @@ typedef struct nashirudder_fleet {
 #define NASHIRUDDER_CLOSED {0, false}
 
 /*
+** A handle to a map that was read once. As with a fleet's, the caller owns its 16 bytes, which begin all zero.
+*/
+typedef struct nashirudder_map {
+    void *at;
+    bool is_open;
+} nashirudder_map;
+
+/*
 ** The number of clients and the limits of a fleet. nashirudder_setup_default fills it in; it begins with its size, so that a
 ** library that reads another form of it refuses it (NASHIRUDDER_WRONG_SIZE).
 */
@@ -360,6 +368,17 @@ typedef struct nashirudder_edge {
     uint32_t lower;
     uint32_t upper;
 } nashirudder_edge;
+
+/*
+** How large a map is.
+*/
+typedef struct nashirudder_shape {
+    uint32_t height;
+    uint32_t width;
+    uint32_t cells;     /* height times width */
+    uint32_t floor;     /* the cells that are floor */
+    uint32_t edges;     /* the pairs of floor cells that share a side */
+} nashirudder_shape;
 
 /* ---- version and messages ---- */
 
@@ -640,6 +659,40 @@ NASHIRUDDER_MUST_USE nashirudder_code nashirudder_first_bridge(const uint8_t *ma
 NASHIRUDDER_MUST_USE nashirudder_code nashirudder_distances(const uint8_t *map, size_t map_length, uint32_t goal, uint32_t *distances,
                                size_t distances_length, nashirudder_fault *fault);
 
+/* ---- a map that is read once ---- */
+
+/*
+** Opens a closed handle to a map: reads its text once, for any number of calls. The text is not needed after the call.
+**
+** Refused: NASHIRUDDER_ALREADY_OPEN, where `fault` stays as it was; a map's first fault; and NASHIRUDDER_NO_MEMORY at any time.
+*/
+NASHIRUDDER_MUST_USE nashirudder_code nashirudder_map_open(const uint8_t *text, size_t text_length, nashirudder_map *map, nashirudder_fault *fault);
+
+/*
+** Closes a handle to a map: frees what an open one owns. A closed one stays closed.
+*/
+void nashirudder_map_close(nashirudder_map *map);
+
+/*
+** How large the map is: a list of distances has `cells` places. Refused: NASHIRUDDER_NOT_OPEN.
+*/
+NASHIRUDDER_MUST_USE nashirudder_code nashirudder_map_shape(const nashirudder_map *map, nashirudder_shape *shape);
+
+/*
+** Whether both cells are floor, and a walk joins them. Refused: NASHIRUDDER_NOT_OPEN.
+*/
+NASHIRUDDER_MUST_USE nashirudder_code nashirudder_map_joins(const nashirudder_map *map, uint32_t a, uint32_t b, bool *joins);
+
+/*
+** As nashirudder_check_step, nashirudder_first_bridge and nashirudder_distances, without reading the map again. Refused as
+** these, but by NASHIRUDDER_NOT_OPEN in the place of a map's fault.
+*/
+NASHIRUDDER_MUST_USE nashirudder_code nashirudder_map_check_step(const nashirudder_map *map, const uint32_t *from, size_t from_length,
+                               const uint32_t *to, size_t to_length, nashirudder_fault *fault);
+NASHIRUDDER_MUST_USE nashirudder_code nashirudder_map_first_bridge(const nashirudder_map *map, nashirudder_edge *edge);
+NASHIRUDDER_MUST_USE nashirudder_code nashirudder_map_distances(const nashirudder_map *map, uint32_t goal, uint32_t *distances,
+                               size_t distances_length);
+
 /* ---- nulls: what a program calls by the names above ---- */
 
 #ifndef NASHIRUDDER_UNCHECKED
@@ -880,6 +933,46 @@ NASHIRUDDER_MUST_USE static inline nashirudder_code nashirudder_checked_distance
         distances), distances_length, fault ? fault : &unread_fault);
 }
 
+NASHIRUDDER_MUST_USE static inline nashirudder_code nashirudder_checked_map_open(const uint8_t *text, size_t text_length, nashirudder_map *map, nashirudder_fault *fault) {
+    nashirudder_fault unread_fault;
+    if ((!text && text_length) || !map) return NASHIRUDDER_NULL_POINTER;
+    return nashirudder_map_open(NASHIRUDDER_LIST(const uint8_t, text), text_length, map, fault ? fault : &unread_fault);
+}
+
+static inline void nashirudder_checked_map_close(nashirudder_map *map) {
+    if (!map) return;
+    nashirudder_map_close(map);
+}
+
+NASHIRUDDER_MUST_USE static inline nashirudder_code nashirudder_checked_map_shape(const nashirudder_map *map, nashirudder_shape *shape) {
+    if (!map || !shape) return NASHIRUDDER_NULL_POINTER;
+    return nashirudder_map_shape(map, shape);
+}
+
+NASHIRUDDER_MUST_USE static inline nashirudder_code nashirudder_checked_map_joins(const nashirudder_map *map, uint32_t a, uint32_t b, bool *joins) {
+    if (!map || !joins) return NASHIRUDDER_NULL_POINTER;
+    return nashirudder_map_joins(map, a, b, joins);
+}
+
+NASHIRUDDER_MUST_USE static inline nashirudder_code nashirudder_checked_map_check_step(const nashirudder_map *map, const uint32_t *from, size_t from_length,
+        const uint32_t *to, size_t to_length, nashirudder_fault *fault) {
+    nashirudder_fault unread_fault;
+    if (!map || (!from && from_length) || (!to && to_length)) return NASHIRUDDER_NULL_POINTER;
+    return nashirudder_map_check_step(map, NASHIRUDDER_LIST(const uint32_t, from), from_length, NASHIRUDDER_LIST(const uint32_t, to), to_length,
+        fault ? fault : &unread_fault);
+}
+
+NASHIRUDDER_MUST_USE static inline nashirudder_code nashirudder_checked_map_first_bridge(const nashirudder_map *map, nashirudder_edge *edge) {
+    if (!map || !edge) return NASHIRUDDER_NULL_POINTER;
+    return nashirudder_map_first_bridge(map, edge);
+}
+
+NASHIRUDDER_MUST_USE static inline nashirudder_code nashirudder_checked_map_distances(const nashirudder_map *map, uint32_t goal,
+        uint32_t *distances, size_t distances_length) {
+    if (!map || (!distances && distances_length)) return NASHIRUDDER_NULL_POINTER;
+    return nashirudder_map_distances(map, goal, NASHIRUDDER_LIST(uint32_t, distances), distances_length);
+}
+
 #define nashirudder_message nashirudder_checked_message
 #define nashirudder_setup_default nashirudder_checked_setup_default
 #define nashirudder_open nashirudder_checked_open
@@ -915,6 +1008,13 @@ NASHIRUDDER_MUST_USE static inline nashirudder_code nashirudder_checked_distance
 #define nashirudder_check_step nashirudder_checked_check_step
 #define nashirudder_first_bridge nashirudder_checked_first_bridge
 #define nashirudder_distances nashirudder_checked_distances
+#define nashirudder_map_open nashirudder_checked_map_open
+#define nashirudder_map_close nashirudder_checked_map_close
+#define nashirudder_map_shape nashirudder_checked_map_shape
+#define nashirudder_map_joins nashirudder_checked_map_joins
+#define nashirudder_map_check_step nashirudder_checked_map_check_step
+#define nashirudder_map_first_bridge nashirudder_checked_map_first_bridge
+#define nashirudder_map_distances nashirudder_checked_map_distances
 
 #endif
 

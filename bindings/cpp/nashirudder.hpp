@@ -41,6 +41,7 @@ using Note = nashirudder_note;
 using Edge = nashirudder_edge;
 using Order = nashirudder_order;
 using Arrival = nashirudder_arrival;
+using Shape = nashirudder_shape;
 
 /* What a call answers, as by nashirudder.h. */
 enum class Code : std::uint32_t {
@@ -365,6 +366,67 @@ private:
 
     nashirudder_fleet handle = NASHIRUDDER_CLOSED;
     std::size_t count = 0;
+};
+
+/* A map that is read once, for any number of questions. Any number of threads may ask at once. */
+class Map {
+public:
+    explicit Map(std::string_view text) {
+        detail::check_version();
+        Fault fault{};
+        detail::check(nashirudder_map_open(detail::address(text), text.size(), &handle, &fault), fault);
+    }
+    Map(const Map &) = delete;
+    Map &operator=(const Map &) = delete;
+    Map(Map &&other) noexcept : handle(std::exchange(other.handle, nashirudder_map NASHIRUDDER_CLOSED)) {}
+    Map &operator=(Map &&other) noexcept {
+        if (this != &other) {
+            nashirudder_map_close(&handle);
+            handle = std::exchange(other.handle, nashirudder_map NASHIRUDDER_CLOSED);
+        }
+        return *this;
+    }
+    ~Map() { nashirudder_map_close(&handle); }
+
+    [[nodiscard]] Shape shape() const {
+        Shape shape{};
+        detail::check(nashirudder_map_shape(&handle, &shape));
+        return shape;
+    }
+    /* Whether both cells are floor, and a walk joins them. */
+    [[nodiscard]] bool joins(std::uint32_t a, std::uint32_t b) const {
+        bool joins = false;
+        detail::check(nashirudder_map_joins(&handle, a, b, &joins));
+        return joins;
+    }
+    /* Nothing where the step is free of conflicts, else its first fault. */
+    [[nodiscard]] std::optional<Fault> check_step(std::span<const std::uint32_t> from, std::span<const std::uint32_t> to) const {
+        Fault fault{};
+        nashirudder_code code = nashirudder_map_check_step(&handle, from.data(), from.size(), to.data(), to.size(), &fault);
+        if (code == NASHIRUDDER_NO_MEMORY) throw std::bad_alloc();
+        if (code == NASHIRUDDER_NOT_OPEN) throw Refused(code);
+        if (code == NASHIRUDDER_DONE) return std::nullopt;
+        return fault;
+    }
+    /* The first bridge, or nothing where there is none. */
+    [[nodiscard]] std::optional<Edge> first_bridge() const {
+        Edge edge{};
+        if (!detail::is_there(nashirudder_map_first_bridge(&handle, &edge), NASHIRUDDER_NO_BRIDGE)) return std::nullopt;
+        return edge;
+    }
+    /* The length of a shortest walk from each cell to the goal, NASHIRUDDER_FAR where there is none; into a list that has one
+       place a cell. */
+    void distances(std::uint32_t goal, std::span<std::uint32_t> told) const {
+        detail::check(nashirudder_map_distances(&handle, goal, told.data(), told.size()));
+    }
+    [[nodiscard]] std::vector<std::uint32_t> distances(std::uint32_t goal) const {
+        std::vector<std::uint32_t> told(shape().cells);
+        distances(goal, told);
+        return told;
+    }
+
+private:
+    nashirudder_map handle = NASHIRUDDER_CLOSED;
 };
 
 /* Nothing where the step is free of conflicts, else its first fault. */

@@ -17,7 +17,7 @@
 
 mod raw;
 
-use raw::{Handle, RawArrival, RawEdge, RawFault, RawJudgement, RawNote, RawOrder, RawSetup};
+use raw::{Handle, RawArrival, RawEdge, RawFault, RawJudgement, RawNote, RawOrder, RawSetup, RawShape};
 use std::error::Error;
 use std::fmt;
 
@@ -945,6 +945,104 @@ impl Notice {
     }
 }
 
+/// How large a map is.
+#[derive(Clone, Copy, Debug, PartialEq, Eq)]
+pub struct Shape {
+    pub height: u32,
+    pub width: u32,
+    /// Height times width.
+    pub cells: u32,
+    /// The cells that are floor.
+    pub floor: u32,
+    /// The pairs of floor cells that share a side.
+    pub edges: u32,
+}
+
+fn ways_of(told: Vec<u32>) -> Vec<Option<u32>> {
+    told.into_iter().map(|away| if away == FAR { None } else { Some(away) }).collect()
+}
+
+/// A map that is read once, for any number of questions.
+pub struct Map {
+    handle: Handle,
+}
+
+// SAFETY: the library proves that what a handle owns may move between threads, and that several may look at it at once.
+unsafe impl Send for Map {}
+unsafe impl Sync for Map {}
+
+impl Drop for Map {
+    fn drop(&mut self) {
+        // SAFETY: the handle is what the library left.
+        unsafe { raw::nashirudder_map_close(&mut self.handle) };
+    }
+}
+
+impl Map {
+    /// The map of the text of a .map file.
+    pub fn open(text: &[u8]) -> Result<Map, Refused> {
+        check_version()?;
+        let mut map = Map { handle: Handle::CLOSED };
+        let mut fault = RawFault::default();
+        // SAFETY: a slice's pointer is never null, and its length is true.
+        let code = unsafe {
+            raw::nashirudder_map_open(text.as_ptr(), text.len(), &mut map.handle, &mut fault)
+        };
+        check_told(code, &fault).map(|()| map)
+    }
+
+    /// How large it is.
+    pub fn shape(&self) -> Result<Shape, Refused> {
+        let mut shape = RawShape::default();
+        check(unsafe { raw::nashirudder_map_shape(&self.handle, &mut shape) })?;
+        let RawShape { height, width, cells, floor, edges } = shape;
+        Ok(Shape { height, width, cells, floor, edges })
+    }
+
+    /// Whether both cells are floor, and a walk joins them.
+    pub fn joins(&self, a: u32, b: u32) -> Result<bool, Refused> {
+        let mut joins = false;
+        check(unsafe { raw::nashirudder_map_joins(&self.handle, a, b, &mut joins) })?;
+        Ok(joins)
+    }
+
+    /// Whether a step is free of conflicts, or its first fault.
+    pub fn check_step(&self, from: &[u32], to: &[u32]) -> Result<(), Refused> {
+        let mut fault = RawFault::default();
+        // SAFETY: a slice's pointer is never null, and its length is true.
+        let code = unsafe {
+            raw::nashirudder_map_check_step(
+                &self.handle,
+                from.as_ptr(),
+                from.len(),
+                to.as_ptr(),
+                to.len(),
+                &mut fault,
+            )
+        };
+        check_told(code, &fault)
+    }
+
+    /// The first bridge, if there is one.
+    pub fn first_bridge(&self) -> Result<Option<(u32, u32)>, Refused> {
+        let mut edge = RawEdge::default();
+        match unsafe { raw::nashirudder_map_first_bridge(&self.handle, &mut edge) } {
+            NO_BRIDGE => Ok(None),
+            code => check(code).map(|()| Some((edge.lower, edge.upper))),
+        }
+    }
+
+    /// For each cell, the length of a shortest walk to the goal.
+    pub fn distances(&self, goal: u32) -> Result<Vec<Option<u32>>, Refused> {
+        let mut told = vec![0; self.shape()?.cells as usize];
+        // SAFETY: a vector's pointer is never null, and its length is true.
+        check(unsafe {
+            raw::nashirudder_map_distances(&self.handle, goal, told.as_mut_ptr(), told.len())
+        })?;
+        Ok(ways_of(told))
+    }
+}
+
 /// Whether a step is free of conflicts, or its first fault.
 pub fn check_step(map: &[u8], from: &[u32], to: &[u32]) -> Result<(), Refused> {
     let mut fault = RawFault::default();
@@ -990,8 +1088,5 @@ pub fn distances(map: &[u8], goal: u32, cells: usize) -> Result<Vec<Option<u32>>
         )
     };
     check_told(code, &fault)?;
-    Ok(told
-        .into_iter()
-        .map(|away| if away == FAR { None } else { Some(away) })
-        .collect())
+    Ok(ways_of(told))
 }

@@ -50,6 +50,16 @@ pub(crate) struct RawArrival {
 
 #[repr(C)]
 #[derive(Default)]
+pub(crate) struct RawShape {
+    pub height: u32,
+    pub width: u32,
+    pub cells: u32,
+    pub floor: u32,
+    pub edges: u32,
+}
+
+#[repr(C)]
+#[derive(Default)]
 pub(crate) struct RawJudgement {
     pub number: u64,
     pub verdict: u32,
@@ -188,6 +198,35 @@ extern "C" {
     ) -> u32;
     pub(crate) fn nashirudder_next_chapter(fleet: *mut Handle) -> u32;
     pub(crate) fn nashirudder_keep(fleet: *mut Handle, bytes: usize) -> u32;
+    pub(crate) fn nashirudder_map_open(
+        text: *const u8,
+        text_length: usize,
+        map: *mut Handle,
+        fault: *mut RawFault,
+    ) -> u32;
+    pub(crate) fn nashirudder_map_close(map: *mut Handle);
+    pub(crate) fn nashirudder_map_shape(map: *const Handle, shape: *mut RawShape) -> u32;
+    pub(crate) fn nashirudder_map_joins(
+        map: *const Handle,
+        a: u32,
+        b: u32,
+        joins: *mut bool,
+    ) -> u32;
+    pub(crate) fn nashirudder_map_check_step(
+        map: *const Handle,
+        from: *const u32,
+        from_length: usize,
+        to: *const u32,
+        to_length: usize,
+        fault: *mut RawFault,
+    ) -> u32;
+    pub(crate) fn nashirudder_map_first_bridge(map: *const Handle, edge: *mut RawEdge) -> u32;
+    pub(crate) fn nashirudder_map_distances(
+        map: *const Handle,
+        goal: u32,
+        distances: *mut u32,
+        distances_length: usize,
+    ) -> u32;
     pub(crate) fn nashirudder_check_step(
         map: *const u8,
         map_length: usize,

@@ -1,8 +1,8 @@
 //! Calls of the library. What is wanted is worked out by hand.
 
 use nashirudder::{
-    check_step, distances, first_bridge, Arrival, Code, Fleet, Notice, Order, Refused, Report, Robot,
-    Setup, Shown, Verdict,
+    check_step, distances, first_bridge, Arrival, Code, Fleet, Map, Notice, Order, Refused, Report, Robot,
+    Setup, Shape, Shown, Verdict,
 };
 
 const RING: &[u8] = b"type octile\nheight 3\nwidth 4\nmap\n....\n.@..\n....\n";
@@ -166,5 +166,19 @@ fn asks_of_maps() -> Result<(), Refused> {
     assert_eq!(distances(ROW, 0, 3)?, [Some(0), Some(1), Some(2)]);
     check_step(RING, &[0, 3], &[1, 2])?;
     assert_eq!(name_of(check_step(RING, &[0, 1], &[1, 0])), ("swapping-conflict", (0, 1)));
+    Ok(())
+}
+
+#[test]
+fn asks_a_map_that_is_read_once() -> Result<(), Refused> {
+    let (row, ring) = (Map::open(ROW)?, Map::open(RING)?);
+    assert_eq!(ring.shape()?, Shape { height: 3, width: 4, cells: 12, floor: 11, edges: 13 });
+    assert!(ring.joins(0, 11)? && !ring.joins(0, 5)?);
+    assert_eq!((row.first_bridge()?, ring.first_bridge()?), (Some((0, 1)), None));
+    assert_eq!(row.distances(0)?, [Some(0), Some(1), Some(2)]);
+    assert_eq!(name_of(ring.distances(5)), ("goal-blocked", (0, 0)));
+    ring.check_step(&[0, 3], &[1, 2])?;
+    assert_eq!(name_of(ring.check_step(&[0, 1], &[1, 0])), ("swapping-conflict", (0, 1)));
+    assert_eq!(name_of(Map::open(b"type octile\n")), ("map-header", (2, 0)));
     Ok(())
 }

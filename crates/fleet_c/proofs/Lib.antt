@@ -1,4 +1,6 @@
 mod AsBox
 mod Lends
+mod AsMapBox
+mod LendsMap
 mod Counted
 mod Shown

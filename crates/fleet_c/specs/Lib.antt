@@ -6,5 +6,7 @@ pub mod Views
 pub mod Answers
 pub mod Batches
 pub mod Owns
+pub mod OwnsMap
 pub mod Handles
 pub mod Maps
+pub mod Floors

@@ -25,7 +25,8 @@ KINDS = {
 }
 STRUCTS = {
     "fleet": calls.CFleet, "setup": calls.CSetup, "robot": calls.CRobot, "fault": calls.CFault, "judgement": calls.CJudgement,
-    "report": calls.CReport, "note": calls.CNote, "order": calls.COrder, "arrival": calls.CArrival, "edge": calls.CEdge,
+    "report": calls.CReport, "note": calls.CNote, "order": calls.COrder, "arrival": calls.CArrival, "edge": calls.CEdge, "map": calls.CMap,
+    "shape": calls.CShape,
 }
 
 
