@@ -52,11 +52,13 @@ fn show(core: &Core, cells: &mut [u32], arrivals: &mut [Landing], farewells: &mu
 {
     let _ = placement(core, cells);
     let entries = core.chapter().entries.as_slice();
-    let Some(Entry::Tick {
-        to: _,
-        arrived,
-        farewells: said,
-    }) = entries.last()
+    let Some(
+        Entry::Tick {
+            to: _,
+            arrived,
+            farewells: said,
+        },
+    ) = entries.last()
     else {
         return;
     };
