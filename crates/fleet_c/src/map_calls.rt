@@ -116,7 +116,11 @@ pub extern "C" fn nashirudder_map_check_step(
 
 /// The map's first bridge, as `nashirudder_first_bridge` says it of a text. Refused first where the handle is closed.
 #[unsafe(no_mangle)]
-pub extern "C" fn nashirudder_map_first_bridge(alloc: Global, map: &MapHandle, edge: &mut Edge) -> u32
+pub extern "C" fn nashirudder_map_first_bridge(
+    alloc: Global,
+    map: &MapHandle,
+    edge: &mut Edge,
+) -> u32
     ensures says { OfMap map.now.owned.held result (λ m. HasBridge m result edge.old edge.new) }
     ensures closed { map.now.owned.held ≡ None → edge.new ≡ edge.old }
 {

@@ -52,7 +52,13 @@ fn step_on(alloc: Global, grid: &Grid, from: &[u32], to: &[u32]) -> Result<(), S
 }
 
 /// Checks a step, and tells its fault.
-pub(crate) fn checked(alloc: Global, grid: &Grid, from: &[u32], to: &[u32], fault: &mut Fault) -> u32
+pub(crate) fn checked(
+    alloc: Global,
+    grid: &Grid,
+    from: &[u32],
+    to: &[u32],
+    fault: &mut Fault,
+) -> u32
     ensures { IsStepChecked grid.now from.now to.now result fault.old fault.new }
 {
     match step_on(alloc, grid, from, to) {
