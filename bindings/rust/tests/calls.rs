@@ -61,7 +61,7 @@ fn refuses() -> Result<(), Refused> {
 #[test]
 fn moves_to_a_thread() -> Result<(), Refused> {
     let mut fleet = Fleet::open(RING, &[Robot::at(0)], &Setup::new(1))?;
-    fleet.go(0, 0, 1)?;
+    assert_eq!(fleet.go(0, 0, 1)?, Verdict::Accepted(1));
     let mut fleet = std::thread::spawn(move || fleet.tick().map(|_| fleet)).join().expect("no panic")?;
     assert_eq!(fleet.placement()?, [1]);
     Ok(())
@@ -103,7 +103,7 @@ fn says_what_it_is() -> Result<(), Refused> {
     let mut fleet = Fleet::open(RING, &[Robot::at(0)], &setup)?;
     assert_eq!((fleet.robots(), fleet.clients()?, fleet.limits()?), (1, 2, setup));
     assert_eq!((fleet.longest_wait()?, fleet.wait_limit()?), (None, Some(10)));
-    fleet.go(0, 0, 11)?;
+    assert_eq!(fleet.go(0, 0, 11)?, Verdict::Accepted(1));
     fleet.tick()?;
     assert_eq!(fleet.longest_wait()?, Some(1));
     assert_eq!(Fleet::open(ROW, &[Robot::at(0)], &setup)?.wait_limit()?, None);
@@ -120,7 +120,7 @@ fn prints_a_sentence() {
 #[test]
 fn is_looked_at_by_several() -> Result<(), Refused> {
     let mut fleet = Fleet::open(RING, &[Robot::at(0)], &Setup::new(1))?;
-    fleet.go(0, 0, 11)?;
+    assert_eq!(fleet.go(0, 0, 11)?, Verdict::Accepted(1));
     fleet.tick()?;
     let fleet = &fleet;
     std::thread::scope(|threads| {
