@@ -98,12 +98,27 @@ def with_c_names(module, names):
     return changed
 
 
-def build(room, say):
-    """Makes the object file in the folder `room`; returns its path."""
+def watched(module):
+    """The same bitcode as text, in which the thread sanitizer is to watch each function."""
+    changed = module.with_suffix(".watched.ll")
+    with open(module) as lines, open(changed, "w") as out:
+        for line in lines:
+            if line.startswith("define "):
+                line, count = re.subn(r" #(\d+)", r" #\1 sanitize_thread", line, count=1)
+                line = line if count else line.replace(" {", " sanitize_thread {", 1)
+            out.write(line)
+    return changed
+
+
+def build(room, say, for_threads=None):
+    """Makes the object file in the folder `room`; returns its path. Makes a second one at the path `for_threads`, if that is
+    given, which the thread sanitizer watches."""
     copy, names = as_program(room / "copy")
     say("rt try translates the library")
     module = quick.bitcode(copy, room)
     say(f"bitcode of {module.stat().st_size / 1e6:.1f} MB, clang -O2 compiles it")
-    made = room / "nashirudder.o"
-    quick.clang(with_c_names(module, names), made, "-c")
+    made, text = room / "nashirudder.o", with_c_names(module, names)
+    quick.clang(text, made, "-c")
+    if for_threads is not None:
+        quick.clang(watched(text), for_threads, "-fsanitize=thread", "-c")
     return made

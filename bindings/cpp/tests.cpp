@@ -442,8 +442,8 @@ static void limits() {
     CHECK(!Fleet(ROW, {{.cell = 0, .ranks = {}}}).wait_limit());
 }
 
-/* Several threads look at one fleet at once, and each sees the same. The thread sanitizer is to find nothing. */
-static void lookers() {
+/* Several threads look at one fleet at once, so often, and each sees the same. The thread sanitizer is to find nothing. */
+static void lookers(int looks) {
     Fleet made(RING, {{.cell = 0, .ranks = {}}, {.cell = 3, .ranks = {}}});
     CHECK(made.go(0, 0, 11).verdict == NASHIRUDDER_ACCEPTED);
     made.tick();
@@ -452,8 +452,8 @@ static void lookers() {
     std::atomic<bool> same = true;
     std::vector<std::thread> threads;
     for (int at = 0; at < 4; at++) {
-        threads.emplace_back([&] {
-            for (int look = 0; look < 500; look++) {
+        threads.emplace_back([&, looks] {
+            for (int look = 0; look < looks; look++) {
                 bool good = fleet.clock() == 1 && fleet.placement() == std::vector<std::uint32_t>{1, 3} && fleet.trace() == trace;
                 good = good && fleet.wait_of(0) == 1 && fleet.eldest() == 0 && fleet.longest_wait() == 1 && !fleet.is_idle() && fleet.is_bridgeless();
                 good = good && fleet.idle_within().has_value() && fleet.wait_limit() == 20 && fleet.peek(0).value().seq == 1 && fleet.pending_count(0) == 1;
@@ -551,7 +551,12 @@ static void opened_maps() {
     CHECK(!map.is_open);
 }
 
-int main() {
+/* With a word: the threads alone, for a tool that takes long. */
+int main(int count, char **) {
+    if (count > 1) {
+        lookers(5);
+        return 0;
+    }
     closed();
     openings();
     orders();
@@ -565,7 +570,7 @@ int main() {
     chapters();
     reopenings();
     limits();
-    lookers();
+    lookers(500);
     moves();
     maps();
     opened_maps();
