@@ -1,6 +1,6 @@
 //! Calls that look at a fleet. None of them changes it.
 
-ghost use Rattle.std.specs.Prelude.{◌≡◌, ◌↔◌, ◌≢◌, IsTrue, MatchOption};
+ghost use Rattle.std.specs.Prelude.{◌≡◌, ◌↔◌, ◌≢◌, IsTrue};
 ghost use Rattle.fleet_planner.specs.Aimed.{IsIdle};
 ghost use Rattle.fleet_grid.specs.Floor.{IsNeighbour};
 ghost use Rattle.fleet_grid.specs.Walk.{IsBridgeless};
@@ -11,19 +11,6 @@ ghost use Rattle.fleet_c.specs.Handles.{OfFleet};
 use crate::codes::{DONE, HAS_BRIDGE, IDLE, NO_ROBOT, NOT_OPEN, WRONG_LENGTH};
 use crate::handle::Handle;
 use fleet_core::Core;
-
-/// Writes a number if there is one.
-fn told(number: Option<u64>, nothing: u32, to: &mut u64) -> u32
-    ensures { MatchOption number ((result ≡ nothing) × (to.new ≡ to.old)) (λ n. (result ≡ DONE) × (to.new ≡ n)) }
-{
-    match number {
-        Some(number) => {
-            *to = number;
-            DONE
-        }
-        None => nothing,
-    }
-}
 
 /// Copies the robots' cells.
 pub(crate) fn placement(core: &Core, cells: &mut [u32]) -> u32
@@ -45,7 +32,13 @@ fn wait_of(core: &Core, robot: u32, ticks: &mut u64) -> u32
     if robot as usize >= core.robots() {
         return NO_ROBOT;
     }
-    told(core.wait_of(robot), IDLE, ticks)
+    match core.wait_of(robot) {
+        Some(wait) => {
+            *ticks = wait;
+            DONE
+        }
+        None => IDLE,
+    }
 }
 
 /// The eldest robot.
@@ -67,7 +60,13 @@ fn longest_wait(core: &Core, ticks: &mut u64) -> u32
     ensures says { HasLongest core.now result ticks.new }
     ensures untouched { (result ≢ DONE) → ticks.new ≡ ticks.old }
 {
-    told(core.longest_wait(), IDLE, ticks)
+    match core.longest_wait() {
+        Some(longest) => {
+            *ticks = longest;
+            DONE
+        }
+        None => IDLE,
+    }
 }
 
 /// Within how many ticks no robot has an errand.
@@ -75,7 +74,13 @@ fn idle_within(core: &Core, ticks: &mut u64) -> u32
     ensures says { HasIdle core.now result ticks.new }
     ensures untouched { (result ≢ DONE) → ticks.new ≡ ticks.old }
 {
-    told(core.idle_within(), HAS_BRIDGE, ticks)
+    match core.idle_within() {
+        Some(most) => {
+            *ticks = most;
+            DONE
+        }
+        None => HAS_BRIDGE,
+    }
 }
 
 /// How many ticks no wait reaches.
@@ -83,7 +88,13 @@ fn wait_limit(core: &Core, ticks: &mut u64) -> u32
     ensures says { HasLimit core.now result ticks.new }
     ensures untouched { (result ≢ DONE) → ticks.new ≡ ticks.old }
 {
-    told(core.wait_limit(), HAS_BRIDGE, ticks)
+    match core.wait_limit() {
+        Some(limit) => {
+            *ticks = limit;
+            DONE
+        }
+        None => HAS_BRIDGE,
+    }
 }
 
 /// The robots' cells, by number.
