@@ -4,3 +4,4 @@ mod AsMapBox
 mod LendsMap
 mod Counted
 mod Shown
+mod Batches

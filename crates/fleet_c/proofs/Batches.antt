@@ -1,0 +1,38 @@
+-- Orders that are taken, and notices that are given, one after the other.
+use Rattle.std.proofs.Common.{◌≡◌, ◌≢◌, ℕ, zero, suc, ◌+◌, ◌<◌, ◌≤◌, List, [], ◌∷◌, length, get_or, set, sym, refl, ap, ◌∙◌, subst, arith, Option, Some, None, get_or-set_same, get_or-set_other}
+use Rattle.std.specs.Prelude.{IsSomeAnd, slice_get, slice_index_or}
+use Rattle.fleet_core.specs.Core.{World}
+use Rattle.fleet_book.specs.declared.notice.Notice.{Notice}
+use Rattle.fleet_c.specs.Batches.{Requested, TookMany}
+use Rattle.fleet_c.specs.declared.codes.TheConstants.{DONE}
+use Rattle.fleet_c.specs.declared.judgement.Judgement.{Judgement}
+use Rattle.fleet_c.specs.declared.request.Request.{Request}
+
+-- the item at a place, and none past the end
+pub item-at : {X : Type 0} (xs : List X) (k : ℕ) (x : X) → k < length xs → x ≡ get_or xs k x → slice_get xs k ≡ Some x
+item-at [] k x l e = absurd (omega arith)
+item-at (y ∷ ys) zero x l e = ap Some (sym e)
+item-at (y ∷ ys) (suc k) x l e = item-at ys k x (omega arith) e
+
+pub none-past : {X : Type 0} (xs : List X) (k : ℕ) → length xs ≤ k → slice_get xs k ≡ None
+none-past [] k l = refl
+none-past (y ∷ ys) zero l = absurd (omega arith)
+none-past (y ∷ ys) (suc k) l = none-past ys k (omega arith)
+
+some-is : {X : Type 0} (x y : X) → Some x ≡ Some y → x ≡ y
+some-is x y e = cc
+
+module _ {A : Type 0} (w : World A) (requests : List Request) where
+  -- what is taken says nothing of the judgements after it
+  took-frame : (told told' : List Judgement) (k : ℕ) (n : World A) → ((j : ℕ) (d : Judgement) → j < k → slice_index_or told' j d ≡ slice_index_or told j d)
+      → TookMany w requests told k n → TookMany w requests told' k n
+  took-frame told told' zero n same t = t
+  took-frame told told' (suc k) n same (mid, (before, each)) =
+      (mid, (took-frame told told' k mid (λ j d l. same j d (omega arith)) before, λ r d e. subst (λ j. Requested mid r DONE j n) (sym (same k d (omega arith))) (each r d e)))
+
+  pub took-next : (n next : World A) (told : List Judgement) (k : ℕ) (r : Request) (judged : Judgement) → k < length told → slice_get requests k ≡ Some r
+      → Requested n r DONE judged next → TookMany w requests told k n → TookMany w requests (set told k judged) (suc k) next
+  took-next n next told k r judged l at did before =
+      (n, (took-frame told (set told k judged) k n (λ j d less. let ne : j ≢ k = omega arith in get_or-set_other told k j judged d ne) before,
+      λ r' d at'. let same : r ≡ r' = some-is r r' (sym at ∙ at') in
+      subst (λ j. Requested n r' DONE j next) (sym (get_or-set_same told k judged d l)) (subst (λ x. Requested n x DONE judged next) same did)))
