@@ -5,3 +5,4 @@ mod LendsMap
 mod Counted
 mod Shown
 mod Batches
+mod Written
