@@ -25,7 +25,7 @@ set-past (y ∷ ys) (suc k) x l = ap (λ l. y ∷ l) (set-past ys k x (omega ari
 
 -- the byte at the place after the text is written
 pub over-next : (before told bytes now : List ℕ) (index byte : ℕ) → index < length bytes → byte ≡ get_or bytes index 0 → now ≡ over before (told ++ take index bytes)
-    → set now (length told + index) byte ≡ over before (told ++ take (suc index) bytes)
+    → set now (length told + index) byte ≡ over before (told ++ take (index + 1) bytes)
 over-next before told bytes now index byte l e is =
     let text = told ++ take index bytes in
     let place : length told + index ≡ length text = omega (arith, length-append told (take index bytes), short bytes index l) in
