@@ -8,5 +8,6 @@ pub mod Batches
 pub mod Owns
 pub mod OwnsMap
 pub mod Handles
+pub mod Sentences
 pub mod Maps
 pub mod Floors
