@@ -1,7 +1,5 @@
 mod AsBox
-mod Lends
 mod AsMapBox
-mod LendsMap
 mod Counted
 mod Shown
 mod Batches

@@ -7,10 +7,10 @@ use Rattle.fleet_c.specs.OwnsMap.{HeldValue}
 use Rattle.fleet_c.specs.declared.codes.TheConstants.{NOT_OPEN}
 use Rattle.fleet_c.specs.declared.map_shape.MapShape.{MapShape}
 
--- a closed handle is refused; this is said of the floor of an open one
-abbrev pub OfMap : Option HeldValue → ℕ → (Floor → Type 0) → Type 0
-OfMap None code Says = code ≡ NOT_OPEN
-OfMap (Some m) code Says = Says m
+-- a closed handle is refused and stays closed; this is said of the floor of an open one, which stays as it is
+abbrev pub OfMap : Option HeldValue → Option HeldValue → ℕ → (Floor → Type 0) → Type 0
+OfMap None new code Says = (code ≡ NOT_OPEN) × (new ≡ None)
+OfMap (Some m) new code Says = (new ≡ Some m) × Says m
 
 pub record IsShape (m : Floor) (shape : MapShape) : Type 0 where
   pub height : shape.height ≡ m.height

@@ -1,4 +1,4 @@
--- What a handle to a map owns, and what who looks at one has.
+-- What a handle to a map owns.
 use Rattle.std.specs.Prelude.{Option, None, Some}
 use Rattle.std.specs.Coded.{coded_option}
 use Rattle.std.specs.Box.Ownership.{box_owns}
@@ -6,12 +6,10 @@ use Rattle.std.specs.Global.{Global}
 use Rattle.std_heap.specs.contracts.GlobalAllocator.TheImpl.{ghosts}
 use Rattle.std_heap.specs.contracts.Global as heap
 use Rattle.fleet_grid.specs.contracts.grid.Grid as grid
-use base.Fml.{Fml, Lft, ftrue}
+use base.Fml.{Fml, ftrue}
 use base.Stored.{Coded}
 use denote.RattleType.{RattleType}
 use denote.RawPtr.{Ptr}
-use denote.Sharing.{nothing}
-use denote.Struct.Lending.{lent_at}
 
 abbrev pub held_row : RattleType
 held_row = grid.the_row heap.the_row ghosts
@@ -26,8 +24,3 @@ owned_code = coded_option held_row.coded
 abbrev pub owns : Global → Ptr → Option HeldValue → Fml
 owns alloc p None = ftrue
 owns alloc p (Some x) = box_owns (ghosts.dealloc_token alloc) held_row p x
-
--- nothing, or a `&` to the value at the pointer
-abbrev pub lends : Ptr → Option HeldValue → Lft → Fml
-lends p None = nothing
-lends p (Some x) = lent_at held_row p x

@@ -151,28 +151,42 @@ pub extern "C" fn nashirudder_give_many(
 ///
 /// Refused in this order: the handle is closed, there is no such client, all its notices were handed out.
 #[unsafe(no_mangle)]
-pub extern "C" fn nashirudder_peek(fleet: &Handle, client: u32, note: &mut Note) -> u32
-    ensures says { OfFleet fleet.now.owned.held result (λ w. Peeks w client result note.new) }
+pub extern "C" fn nashirudder_peek(
+    alloc: Global,
+    fleet: &mut Handle,
+    client: u32,
+    note: &mut Note,
+) -> u32
+    ensures says { OfFleet fleet.old.owned.held fleet.new.owned.held result (λ w. Peeks w client result note.new) }
     ensures untouched { (result ≢ DONE) → note.new ≡ note.old }
 {
-    let Some(core) = fleet.core() else {
+    let Some(core) = fleet.take(alloc) else {
         return NOT_OPEN;
     };
-    peek(core, client, note)
+    let code = peek(&core, client, note);
+    fleet.put(core);
+    code
 }
 
 /// The number of notices in a client's mailbox.
 ///
 /// Refused in this order: the handle is closed, there is no such client.
 #[unsafe(no_mangle)]
-pub extern "C" fn nashirudder_pending_count(fleet: &Handle, client: u32, count: &mut u64) -> u32
-    ensures says { OfFleet fleet.now.owned.held result (λ w. Counts w client result count.new) }
+pub extern "C" fn nashirudder_pending_count(
+    alloc: Global,
+    fleet: &mut Handle,
+    client: u32,
+    count: &mut u64,
+) -> u32
+    ensures says { OfFleet fleet.old.owned.held fleet.new.owned.held result (λ w. Counts w client result count.new) }
     ensures untouched { (result ≢ DONE) → count.new ≡ count.old }
 {
-    let Some(core) = fleet.core() else {
+    let Some(core) = fleet.take(alloc) else {
         return NOT_OPEN;
     };
-    pending_count(core, client, count)
+    let code = pending_count(&core, client, count);
+    fleet.put(core);
+    code
 }
 
 /// Lets a client's mailbox hold this many more notices and unfinished errands.

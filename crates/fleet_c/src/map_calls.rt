@@ -70,27 +70,39 @@ pub extern "C" fn nashirudder_map_close(alloc: Global, map: &mut MapHandle)
 
 /// How large the map is. Refused where the handle is closed.
 #[unsafe(no_mangle)]
-pub extern "C" fn nashirudder_map_shape(map: &MapHandle, shape: &mut MapShape) -> u32
-    ensures says { OfMap map.now.owned.held result (λ m. (result ≡ DONE) × IsShape m shape.new) }
+pub extern "C" fn nashirudder_map_shape(
+    alloc: Global,
+    map: &mut MapHandle,
+    shape: &mut MapShape,
+) -> u32
+    ensures says { OfMap map.old.owned.held map.new.owned.held result (λ m. (result ≡ DONE) × IsShape m shape.new) }
     ensures untouched { (result ≢ DONE) → shape.new ≡ shape.old }
 {
-    let Some(grid) = map.grid() else {
+    let Some(grid) = map.take(alloc) else {
         return NOT_OPEN;
     };
-    *shape = MapShape::of(grid);
+    *shape = MapShape::of(&grid);
+    map.put(grid);
     DONE
 }
 
 /// Whether both cells are floor, and a walk joins them. Refused where the handle is closed.
 #[unsafe(no_mangle)]
-pub extern "C" fn nashirudder_map_joins(map: &MapHandle, a: u32, b: u32, joins: &mut bool) -> u32
-    ensures says { OfMap map.now.owned.held result (λ m. (result ≡ DONE) × (IsTrue joins.new ↔ AreOnePart m a b)) }
+pub extern "C" fn nashirudder_map_joins(
+    alloc: Global,
+    map: &mut MapHandle,
+    a: u32,
+    b: u32,
+    joins: &mut bool,
+) -> u32
+    ensures says { OfMap map.old.owned.held map.new.owned.held result (λ m. (result ≡ DONE) × (IsTrue joins.new ↔ AreOnePart m a b)) }
     ensures untouched { (result ≢ DONE) → joins.new ≡ joins.old }
 {
-    let Some(grid) = map.grid() else {
+    let Some(grid) = map.take(alloc) else {
         return NOT_OPEN;
     };
     *joins = grid.is_floor(a) && grid.is_floor(b) && grid.same_part(a, b);
+    map.put(grid);
     DONE
 }
 
@@ -100,49 +112,55 @@ pub extern "C" fn nashirudder_map_joins(map: &MapHandle, a: u32, b: u32, joins: 
 #[unsafe(no_mangle)]
 pub extern "C" fn nashirudder_map_check_step(
     alloc: Global,
-    map: &MapHandle,
+    map: &mut MapHandle,
     from: &[u32],
     to: &[u32],
     fault: &mut Fault,
 ) -> u32
-    ensures says { OfMap map.now.owned.held result (λ m. IsStepChecked m from.now to.now result fault.old fault.new) }
-    ensures closed { map.now.owned.held ≡ None → fault.new ≡ fault.old }
+    ensures says { OfMap map.old.owned.held map.new.owned.held result (λ m. IsStepChecked m from.now to.now result fault.old fault.new) }
+    ensures closed { map.old.owned.held ≡ None → fault.new ≡ fault.old }
 {
-    let Some(grid) = map.grid() else {
+    let Some(grid) = map.take(alloc) else {
         return NOT_OPEN;
     };
-    checked(alloc, grid, from, to, fault)
+    let code = checked(alloc, &grid, from, to, fault);
+    map.put(grid);
+    code
 }
 
 /// The map's first bridge, as `nashirudder_first_bridge` says it of a text. Refused first where the handle is closed.
 #[unsafe(no_mangle)]
 pub extern "C" fn nashirudder_map_first_bridge(
     alloc: Global,
-    map: &MapHandle,
+    map: &mut MapHandle,
     edge: &mut Edge,
 ) -> u32
-    ensures says { OfMap map.now.owned.held result (λ m. HasBridge m result edge.old edge.new) }
-    ensures closed { map.now.owned.held ≡ None → edge.new ≡ edge.old }
+    ensures says { OfMap map.old.owned.held map.new.owned.held result (λ m. HasBridge m result edge.old edge.new) }
+    ensures closed { map.old.owned.held ≡ None → edge.new ≡ edge.old }
 {
-    let Some(grid) = map.grid() else {
+    let Some(grid) = map.take(alloc) else {
         return NOT_OPEN;
     };
-    bridge_on(alloc, grid, edge)
+    let code = bridge_on(alloc, &grid, edge);
+    map.put(grid);
+    code
 }
 
 /// The distances to a goal, as `nashirudder_distances` says them of a text. Refused first where the handle is closed.
 #[unsafe(no_mangle)]
 pub extern "C" fn nashirudder_map_distances(
     alloc: Global,
-    map: &MapHandle,
+    map: &mut MapHandle,
     goal: u32,
     distances: &mut [u32],
 ) -> u32
-    ensures says { OfMap map.now.owned.held result (λ m. AreAway m goal distances.old distances.new result) }
-    ensures closed { map.now.owned.held ≡ None → distances.new ≡ distances.old }
+    ensures says { OfMap map.old.owned.held map.new.owned.held result (λ m. AreAway m goal distances.old distances.new result) }
+    ensures closed { map.old.owned.held ≡ None → distances.new ≡ distances.old }
 {
-    let Some(grid) = map.grid() else {
+    let Some(grid) = map.take(alloc) else {
         return NOT_OPEN;
     };
-    distances_on(alloc, grid, goal, distances)
+    let code = distances_on(alloc, &grid, goal, distances);
+    map.put(grid);
+    code
 }

@@ -1,7 +1,7 @@
 //! A pointer that owns the grid of a map, or nothing.
 
 ghost use Rattle.std.specs.Prelude.{◌≡◌, Option, None, Some, IsSome};
-ghost use Rattle.fleet_c.specs.OwnsMap.{HeldValue, owned_code, owns, lends};
+ghost use Rattle.fleet_c.specs.OwnsMap.{HeldValue, owned_code, owns};
 
 use box_parts::Parts;
 use fleet_grid::Grid;
@@ -19,8 +19,6 @@ pub struct OwnedMap {
 
 impl Model for OwnedMap {
     ghost also_owns = { λ o. owns o.alloc o.at o.held };
-
-    ghost also_shares = { λ o _ κ. lends o.at o.held κ };
 }
 
 impl OwnedMap {
@@ -37,14 +35,6 @@ impl OwnedMap {
         ensures { self.held ≡ Some result.value }
     {
         self.into_parts().into_box()
-    }
-
-    /// The grid that it owns.
-    pub fn grid(&self) -> &Grid
-        requires { IsSome self.now.held }
-        ensures { self.now.held ≡ Some result.now }
-    {
-        unsafe { &*(self.at as *const Grid) }
     }
 
     /// One that owns nothing.
@@ -80,5 +70,3 @@ impl OwnedMap {
 }
 
 unsafe impl Send for OwnedMap {}
-
-unsafe impl Sync for OwnedMap {}

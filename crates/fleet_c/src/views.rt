@@ -11,6 +11,7 @@ ghost use Rattle.fleet_c.specs.Handles.{OfFleet};
 use crate::codes::{DONE, HAS_BRIDGE, IDLE, NO_ROBOT, NOT_OPEN, WRONG_LENGTH};
 use crate::handle::Handle;
 use fleet_core::Core;
+use std::alloc::Global;
 
 /// Copies the robots' cells.
 pub(crate) fn placement(core: &Core, cells: &mut [u32]) -> u32
@@ -101,26 +102,29 @@ fn wait_limit(core: &Core, ticks: &mut u64) -> u32
 ///
 /// Refused in this order: the handle is closed, the list's length is not the number of robots.
 #[unsafe(no_mangle)]
-pub extern "C" fn nashirudder_placement(fleet: &Handle, cells: &mut [u32]) -> u32
-    ensures says { OfFleet fleet.now.owned.held result (λ w. Places w result cells.old cells.new) }
+pub extern "C" fn nashirudder_placement(alloc: Global, fleet: &mut Handle, cells: &mut [u32]) -> u32
+    ensures says { OfFleet fleet.old.owned.held fleet.new.owned.held result (λ w. Places w result cells.old cells.new) }
     ensures untouched { (result ≢ DONE) → cells.new ≡ cells.old }
 {
-    let Some(core) = fleet.core() else {
+    let Some(core) = fleet.take(alloc) else {
         return NOT_OPEN;
     };
-    placement(core, cells)
+    let code = placement(&core, cells);
+    fleet.put(core);
+    code
 }
 
 /// The ticks made so far. Refused where the handle is closed.
 #[unsafe(no_mangle)]
-pub extern "C" fn nashirudder_clock(fleet: &Handle, ticks: &mut u64) -> u32
-    ensures says { OfFleet fleet.now.owned.held result (λ w. (result ≡ DONE) × (ticks.new ≡ clock w.history)) }
+pub extern "C" fn nashirudder_clock(alloc: Global, fleet: &mut Handle, ticks: &mut u64) -> u32
+    ensures says { OfFleet fleet.old.owned.held fleet.new.owned.held result (λ w. (result ≡ DONE) × (ticks.new ≡ clock w.history)) }
     ensures untouched { (result ≢ DONE) → ticks.new ≡ ticks.old }
 {
-    let Some(core) = fleet.core() else {
+    let Some(core) = fleet.take(alloc) else {
         return NOT_OPEN;
     };
     *ticks = core.clock();
+    fleet.put(core);
     DONE
 }
 
@@ -128,54 +132,70 @@ pub extern "C" fn nashirudder_clock(fleet: &Handle, ticks: &mut u64) -> u32
 ///
 /// Refused in this order: the handle is closed, there is no such robot, it has no errand.
 #[unsafe(no_mangle)]
-pub extern "C" fn nashirudder_wait_of(fleet: &Handle, robot: u32, ticks: &mut u64) -> u32
-    ensures says { OfFleet fleet.now.owned.held result (λ w. Waits w robot result ticks.new) }
+pub extern "C" fn nashirudder_wait_of(
+    alloc: Global,
+    fleet: &mut Handle,
+    robot: u32,
+    ticks: &mut u64,
+) -> u32
+    ensures says { OfFleet fleet.old.owned.held fleet.new.owned.held result (λ w. Waits w robot result ticks.new) }
     ensures untouched { (result ≢ DONE) → ticks.new ≡ ticks.old }
 {
-    let Some(core) = fleet.core() else {
+    let Some(core) = fleet.take(alloc) else {
         return NOT_OPEN;
     };
-    wait_of(core, robot, ticks)
+    let code = wait_of(&core, robot, ticks);
+    fleet.put(core);
+    code
 }
 
 /// The robot with the longest wait; on a tie, the one with the lowest number.
 ///
 /// Refused in this order: the handle is closed, no robot has an errand.
 #[unsafe(no_mangle)]
-pub extern "C" fn nashirudder_eldest(fleet: &Handle, robot: &mut u32) -> u32
-    ensures says { OfFleet fleet.now.owned.held result (λ w. HasEldest w result robot.new) }
+pub extern "C" fn nashirudder_eldest(alloc: Global, fleet: &mut Handle, robot: &mut u32) -> u32
+    ensures says { OfFleet fleet.old.owned.held fleet.new.owned.held result (λ w. HasEldest w result robot.new) }
     ensures untouched { (result ≢ DONE) → robot.new ≡ robot.old }
 {
-    let Some(core) = fleet.core() else {
+    let Some(core) = fleet.take(alloc) else {
         return NOT_OPEN;
     };
-    eldest(core, robot)
+    let code = eldest(&core, robot);
+    fleet.put(core);
+    code
 }
 
 /// How many ticks the eldest robot has waited.
 ///
 /// Refused in this order: the handle is closed, no robot has an errand.
 #[unsafe(no_mangle)]
-pub extern "C" fn nashirudder_longest_wait(fleet: &Handle, ticks: &mut u64) -> u32
-    ensures says { OfFleet fleet.now.owned.held result (λ w. HasLongest w result ticks.new) }
+pub extern "C" fn nashirudder_longest_wait(
+    alloc: Global,
+    fleet: &mut Handle,
+    ticks: &mut u64,
+) -> u32
+    ensures says { OfFleet fleet.old.owned.held fleet.new.owned.held result (λ w. HasLongest w result ticks.new) }
     ensures untouched { (result ≢ DONE) → ticks.new ≡ ticks.old }
 {
-    let Some(core) = fleet.core() else {
+    let Some(core) = fleet.take(alloc) else {
         return NOT_OPEN;
     };
-    longest_wait(core, ticks)
+    let code = longest_wait(&core, ticks);
+    fleet.put(core);
+    code
 }
 
 /// Whether no robot has an errand. Refused where the handle is closed.
 #[unsafe(no_mangle)]
-pub extern "C" fn nashirudder_is_idle(fleet: &Handle, is_idle: &mut bool) -> u32
-    ensures says { OfFleet fleet.now.owned.held result (λ w. (result ≡ DONE) × (IsTrue is_idle.new ↔ IsIdle w.history)) }
+pub extern "C" fn nashirudder_is_idle(alloc: Global, fleet: &mut Handle, is_idle: &mut bool) -> u32
+    ensures says { OfFleet fleet.old.owned.held fleet.new.owned.held result (λ w. (result ≡ DONE) × (IsTrue is_idle.new ↔ IsIdle w.history)) }
     ensures untouched { (result ≢ DONE) → is_idle.new ≡ is_idle.old }
 {
-    let Some(core) = fleet.core() else {
+    let Some(core) = fleet.take(alloc) else {
         return NOT_OPEN;
     };
     *is_idle = core.is_idle();
+    fleet.put(core);
     DONE
 }
 
@@ -183,39 +203,48 @@ pub extern "C" fn nashirudder_is_idle(fleet: &Handle, is_idle: &mut bool) -> u32
 ///
 /// Refused in this order: the handle is closed, the map has a bridge.
 #[unsafe(no_mangle)]
-pub extern "C" fn nashirudder_idle_within(fleet: &Handle, ticks: &mut u64) -> u32
-    ensures says { OfFleet fleet.now.owned.held result (λ w. HasIdle w result ticks.new) }
+pub extern "C" fn nashirudder_idle_within(alloc: Global, fleet: &mut Handle, ticks: &mut u64) -> u32
+    ensures says { OfFleet fleet.old.owned.held fleet.new.owned.held result (λ w. HasIdle w result ticks.new) }
     ensures untouched { (result ≢ DONE) → ticks.new ≡ ticks.old }
 {
-    let Some(core) = fleet.core() else {
+    let Some(core) = fleet.take(alloc) else {
         return NOT_OPEN;
     };
-    idle_within(core, ticks)
+    let code = idle_within(&core, ticks);
+    fleet.put(core);
+    code
 }
 
 /// A number of ticks that no wait reaches, whatever is ordered.
 ///
 /// Refused in this order: the handle is closed, the map has a bridge.
 #[unsafe(no_mangle)]
-pub extern "C" fn nashirudder_wait_limit(fleet: &Handle, ticks: &mut u64) -> u32
-    ensures says { OfFleet fleet.now.owned.held result (λ w. HasLimit w result ticks.new) }
+pub extern "C" fn nashirudder_wait_limit(alloc: Global, fleet: &mut Handle, ticks: &mut u64) -> u32
+    ensures says { OfFleet fleet.old.owned.held fleet.new.owned.held result (λ w. HasLimit w result ticks.new) }
     ensures untouched { (result ≢ DONE) → ticks.new ≡ ticks.old }
 {
-    let Some(core) = fleet.core() else {
+    let Some(core) = fleet.take(alloc) else {
         return NOT_OPEN;
     };
-    wait_limit(core, ticks)
+    let code = wait_limit(&core, ticks);
+    fleet.put(core);
+    code
 }
 
 /// Whether the map has no bridge. Refused where the handle is closed.
 #[unsafe(no_mangle)]
-pub extern "C" fn nashirudder_is_bridgeless(fleet: &Handle, is_bridgeless: &mut bool) -> u32
-    ensures says { OfFleet fleet.now.owned.held result (λ w. (result ≡ DONE) × (IsTrue is_bridgeless.new ↔ IsBridgeless (IsNeighbour w.floor))) }
+pub extern "C" fn nashirudder_is_bridgeless(
+    alloc: Global,
+    fleet: &mut Handle,
+    is_bridgeless: &mut bool,
+) -> u32
+    ensures says { OfFleet fleet.old.owned.held fleet.new.owned.held result (λ w. (result ≡ DONE) × (IsTrue is_bridgeless.new ↔ IsBridgeless (IsNeighbour w.floor))) }
     ensures untouched { (result ≢ DONE) → is_bridgeless.new ≡ is_bridgeless.old }
 {
-    let Some(core) = fleet.core() else {
+    let Some(core) = fleet.take(alloc) else {
         return NOT_OPEN;
     };
     *is_bridgeless = core.is_bridgeless();
+    fleet.put(core);
     DONE
 }
