@@ -1,6 +1,6 @@
 mod AsBox
 mod AsMapBox
 mod Counted
-mod Shown
-mod Batches
+mod Listed
+mod InTurn
 mod Written

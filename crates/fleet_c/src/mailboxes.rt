@@ -2,7 +2,8 @@
 
 ghost use Rattle.std.specs.Prelude.{◌≡◌, ◌≢◌, ◌<◌};
 ghost use Rattle.fleet_history.specs.History.{clients};
-ghost use Rattle.fleet_c.specs.Answers.{Gives, GivesMany, AreGiven, Widens};
+ghost use Rattle.fleet_c.specs.Answers.{Gives, Widens};
+ghost use Rattle.fleet_c.specs.Batches.{GivesMany, AreGiven};
 ghost use Rattle.fleet_c.specs.Views.{Counts, Peeks};
 ghost use Rattle.fleet_c.specs.Handles.{OfFleet, OnFleet};
 
