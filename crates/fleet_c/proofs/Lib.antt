@@ -1,6 +1,8 @@
 mod AsBox
 mod AsMapBox
 mod Counted
-mod Listed
 mod InTurn
+mod Listed
+mod Refused
+mod Shows
 mod Written

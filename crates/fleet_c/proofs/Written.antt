@@ -4,34 +4,44 @@ use Rattle.std.specs.List.{flat_map}
 use Rattle.std.proofs.lemmas.List.{take_more}
 use Rattle.fleet_c.specs.Sentences.{over}
 
-take-nil : (n : ℕ) → take n ([] : List ℕ) ≡ []
-take-nil zero = refl
-take-nil (suc n) = refl
+take-nil : (n : ℕ) (none : List ℕ) → length none ≡ 0 → take n none ≡ none
+take-nil zero [] l = refl
+take-nil (suc n) [] l = refl
+take-nil n (y ∷ ys) l = absurd (omega arith)
 
 pub over-nil : (before : List ℕ) → before ≡ over before []
-over-nil before = sym (ap (λ t. t ++ before) (take-nil (length before)))
+over-nil before = sym (ap (λ t. t ++ before) (take-nil (length before) [] refl))
 
 -- one more byte
 over-push : (before text : List ℕ) (byte : ℕ) → over before (text ++ byte ∷ []) ≡ set (over before text) (length text) byte
 over-push [] [] byte = refl
 over-push [] (t ∷ ts) byte = refl
-over-push (y ∷ ys) [] byte = ap (λ t. byte ∷ (t ++ ys)) (take-nil (length ys))
+over-push (y ∷ ys) [] byte = ap (λ t. byte ∷ (t ++ ys)) (take-nil (length ys) [] refl)
 over-push (y ∷ ys) (t ∷ ts) byte = ap (λ l. t ∷ l) (over-push ys ts byte)
 
-pub set-past : (xs : List ℕ) (k x : ℕ) → length xs ≤ k → set xs k x ≡ xs
+set-past : (xs : List ℕ) (k x : ℕ) → length xs ≤ k → set xs k x ≡ xs
 set-past [] k x l = refl
 set-past (y ∷ ys) zero x l = absurd (omega arith)
 set-past (y ∷ ys) (suc k) x l = ap (λ l. y ∷ l) (set-past ys k x (omega arith))
 
+short : (xs : List ℕ) (k : ℕ) → k < length xs → length (take k xs) ≡ k
+short [] k l = absurd (omega arith)
+short (x ∷ xs) zero l = refl
+short (x ∷ xs) (suc k) l = ap suc (short xs k (omega arith))
+
 -- the byte at the place after the text is written
-pub over-next : (before told bytes now : List ℕ) (index byte : ℕ) → index < length bytes → byte ≡ get_or bytes index 0 → now ≡ over before (told ++ take index bytes)
-    → set now (length told + index) byte ≡ over before (told ++ take (index + 1) bytes)
-over-next before told bytes now index byte l e is =
+over-next : (before told bytes now : List ℕ) (index : ℕ) → index < length bytes → now ≡ over before (told ++ take index bytes)
+    → set now (length told + index) (get_or bytes index 0) ≡ over before (told ++ take (index + 1) bytes)
+over-next before told bytes now index l is =
     let text = told ++ take index bytes in
     let place : length told + index ≡ length text = omega (arith, length-append told (take index bytes), short bytes index l) in
-    rw (is, place) (sym (over-push before text byte) ∙ ap (over before) (append_assoc told (take index bytes) (byte ∷ []) ∙ ap (λ t. told ++ t) (ap (λ b. take index bytes ++ b ∷ []) e ∙ sym (take_more bytes index 0 l))))
-  where
-    short : (xs : List ℕ) (k : ℕ) → k < length xs → length (take k xs) ≡ k
-    short [] k l = absurd (omega arith)
-    short (x ∷ xs) zero l = refl
-    short (x ∷ xs) (suc k) l = ap suc (short xs k (omega arith))
+    rw (is, place) (sym (over-push before text (get_or bytes index 0)) ∙ ap (over before) (append_assoc told (take index bytes) (get_or bytes index 0 ∷ []) ∙ ap (λ t. told ++ t) (sym (take_more bytes index 0 l))))
+
+pub over-at : (before told bytes now : List ℕ) (at index : ℕ) → at ≡ length told → index < length bytes → now ≡ over before (told ++ take index bytes)
+    → set now (at + index) (get_or bytes index 0) ≡ over before (told ++ take (index + 1) bytes)
+over-at before told bytes now at index e l is = rw e (over-next before told bytes now index l is)
+
+-- past the end of the list nothing is written
+pub over-past : (before told bytes now : List ℕ) (at index : ℕ) → at ≡ length told → index < length bytes → now ≡ over before (told ++ take index bytes) → length now ≤ at + index
+    → now ≡ over before (told ++ take (index + 1) bytes)
+over-past before told bytes now at index e l is past = sym (set-past now (at + index) (get_or bytes index 0) past) ∙ over-at before told bytes now at index e l is

@@ -38,9 +38,10 @@ fn give_all(core: &mut Core, client: u32, notes: &mut [Note]) -> usize
     ensures { AreGiven core.old client notes.old notes.new result core.new }
 {
     for at in 0..notes.len() {
-        let Some(notice) = core.give(client) else {
+        let Some(notice) = core.next_notice(client) else {
             return at;
         };
+        core.give(client);
         notes[at] = Note::of(notice);
     }
     notes.len()

@@ -63,6 +63,37 @@ fn write_shown(
     write_farewells(said, farewells);
 }
 
+/// Writes what the entry shows, if it is a tick.
+fn show_entry(
+    entry: &Entry,
+    cells: &[u32],
+    arrivals: &mut [Landing],
+    farewells: &mut [u32],
+)
+    ensures arrivals { (to : List ℕ) (arrived : List Arrival) (said : List Bye) → entry.now ≡ Tick to arrived said →
+        length arrived ≤ length arrivals.old → length said ≤ length farewells.old →
+        arrivals.new ≡ map (arrival_of cells.now) arrived ++ drop (length arrived) arrivals.old }
+    ensures farewells { (to : List ℕ) (arrived : List Arrival) (said : List Bye) → entry.now ≡ Tick to arrived said →
+        length arrived ≤ length arrivals.old → length said ≤ length farewells.old →
+        farewells.new ≡ map (λ b. b.robot) said ++ drop (length said) farewells.old }
+{
+    match entry {
+        Entry::Tick {
+            to: _,
+            arrived,
+            farewells: said,
+        } => write_shown(
+            arrived.as_slice(),
+            said.as_slice(),
+            cells,
+            arrivals,
+            farewells,
+        ),
+        Entry::Take { .. } => {}
+        Entry::Shut { .. } => {}
+    }
+}
+
 /// Writes what the tick shows that is the core's last entry.
 fn show(core: &Core, cells: &mut [u32], arrivals: &mut [Landing], farewells: &mut [u32])
     requires { length cells.old ≡ robots core.now.history }
@@ -74,23 +105,10 @@ fn show(core: &Core, cells: &mut [u32], arrivals: &mut [Landing], farewells: &mu
         length arrived ≤ length arrivals.old → length said ≤ length farewells.old →
         farewells.new ≡ map (λ b. b.robot) said ++ drop (length said) farewells.old }
 {
-    let entries = core.chapter().entries.as_slice();
     let _ = placement(core, cells);
-    if let Some(
-        Entry::Tick {
-            to: _,
-            arrived,
-            farewells: said,
-        },
-    ) = entries.last()
-    {
-        write_shown(
-            arrived.as_slice(),
-            said.as_slice(),
-            cells,
-            arrivals,
-            farewells,
-        );
+    match core.chapter().entries.as_slice().last() {
+        Some(entry) => show_entry(entry, cells, arrivals, farewells),
+        None => {}
     }
 }
 
