@@ -1,9 +1,8 @@
 -- Orders that are taken, and notices that are given, one after the other.
-use Rattle.std.proofs.Common.{◌≡◌, ◌≢◌, ℕ, zero, suc, ◌+◌, ◌<◌, ◌≤◌, List, [], ◌∷◌, length, get_or, set, sym, refl, ap, ◌∙◌, subst, arith, Option, Some, None, get_or-set_same, get_or-set_other}
-use Rattle.std.specs.Prelude.{IsSomeAnd, slice_get, slice_index_or}
+use Rattle.std.proofs.Common.{◌≡◌, ◌≢◌, ℕ, zero, suc, ◌+◌, ◌<◌, ◌≤◌, List, [], ◌∷◌, length, get_or, set, sym, refl, ◌∙◌, subst, arith, Some, None, get_or-set_same, get_or-set_other}
+use Rattle.std.specs.Prelude.{slice_get, slice_index_or}
 use Rattle.std.proofs.Math.Numerals.{add-one}
 use Rattle.fleet_core.specs.Core.{World}
-use Rattle.fleet_book.specs.declared.notice.Notice.{Notice}
 use Rattle.fleet_c.specs.Batches.{Requested, TookMany}
 use Rattle.fleet_c.specs.declared.codes.TheConstants.{DONE}
 use Rattle.fleet_c.specs.declared.judgement.Judgement.{Judgement}
@@ -33,10 +32,12 @@ module _ {A : Type 0} (w : World A) (requests : List Request) where
 
   took-one : (n next : World A) (told : List Judgement) (k : ℕ) (r : Request) (judged : Judgement) → k < length told → slice_get requests k ≡ Some r
       → Requested n r DONE judged next → TookMany w requests told k n → TookMany w requests (set told k judged) (suc k) next
-  took-one n next told k r judged l at did before =
-      (n, took-frame told (set told k judged) k n (λ j d less. let ne : j ≢ k = omega arith in get_or-set_other told k j judged d ne) before,
-      λ r' d at'. let same : r ≡ r' = some-is r r' (sym at ∙ at') in
-      subst (λ j. Requested n r' DONE j next) (sym (get_or-set_same told k judged d l)) (subst (λ x. Requested n x DONE judged next) same did))
+  took-one n next told k r judged l at did before = (
+    n,
+    took-frame told (set told k judged) k n (λ j d less. let ne : j ≢ k = omega arith in get_or-set_other told k j judged d ne) before,
+    λ r' d at'. let same : r ≡ r' = some-is r r' (sym at ∙ at') in
+        subst (λ j. Requested n r' DONE j next) (sym (get_or-set_same told k judged d l)) (subst (λ x. Requested n x DONE judged next) same did),
+  )
 
   pub took-next : (n next : World A) (told : List Judgement) (k : ℕ) (r : Request) (judged : Judgement) → k < length told → k < length requests
       → Requested n (get_or requests k r) DONE judged next → TookMany w requests told k n → TookMany w requests (set told k judged) (k + 1) next

@@ -1,5 +1,5 @@
 -- What is refused for one reason by a part is refused for it by the whole.
-use Rattle.std.specs.Prelude.{ℕ, List, ◌≡◌}
+use Rattle.std.specs.Prelude.{ℕ, List}
 use Rattle.std.specs.declared.alloc.Global.{Global}
 use Rattle.fleet_grid.specs.Floor.{Floor}
 use Rattle.fleet_trace.specs.Trace.{Trace}

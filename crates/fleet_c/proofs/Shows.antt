@@ -1,11 +1,11 @@
 -- A tick that was made shows what its entry has.
-use Rattle.std.proofs.Common.{◌≡◌, ℕ, List, [], ◌∷◌, ◌++◌, length, map, drop, ◌≤◌, sym, refl, subst, arith, Result, Ok, Err}
+use Rattle.std.proofs.Common.{◌≡◌, ℕ, List, ◌++◌, length, map, drop, ◌≤◌, sym, refl, subst, arith, Result, Ok, Err}
 use Rattle.std.specs.Prelude.{IfOk}
 use Rattle.fleet_history.specs.declared.history.Arrival.{Arrival}
 use Rattle.fleet_history.specs.declared.history.Bye.{Bye}
 use Rattle.fleet_history.specs.declared.history.Entry.TheVariants as entry
 use Rattle.fleet_history.specs.History.{place}
-use Rattle.fleet_core.specs.Core.{World, Ticks, grown}
+use Rattle.fleet_core.specs.Core.{World, Ticks}
 use Rattle.fleet_core.specs.declared.faults.TickReport.{TickReport}
 use Rattle.fleet_core.specs.declared.faults.TickFault.{TickFault}
 use Rattle.fleet_core.specs.declared.faults.TickFault.TheVariants as tick
@@ -26,9 +26,9 @@ is-done w n code report (Err tick.NoMemory) is done t = absurd (omega (arith, is
 
 pub shown : {A : Type 0} (w n : World A) (code : ℕ) (report : Report) (before after : Lists) → HavePlaces w before → IsTicked w code report n → code ≡ DONE → after.cells ≡ place n.history
     → ((to : List ℕ) (arrived : List Arrival) (said : List Bye) → IsLast n (entry.Tick to arrived said) → length arrived ≤ length before.arrivals → length said ≤ length before.farewells
-        → after.arrivals ≡ map (arrival_of after.cells) arrived ++ drop (length arrived) before.arrivals)
+    → after.arrivals ≡ map (arrival_of after.cells) arrived ++ drop (length arrived) before.arrivals)
     → ((to : List ℕ) (arrived : List Arrival) (said : List Bye) → IsLast n (entry.Tick to arrived said) → length arrived ≤ length before.arrivals → length said ≤ length before.farewells
-        → after.farewells ≡ map (λ b. b.robot) said ++ drop (length said) before.farewells)
+    → after.farewells ≡ map (λ b. b.robot) said ++ drop (length said) before.farewells)
     → AreShown w before after n
 shown w n code report before after places is done cells arrivals farewells =
     let t = (is-done w n code report is.answer is.code_is done is.ticks).1 in
@@ -43,4 +43,5 @@ shown w n code report before after places is done cells arrivals farewells =
       fit = (few, left);
       cells_are = cells;
       arrivals_are = arrivals t.to t.arrived t.farewells last few left;
-      farewells_are = farewells t.to t.arrived t.farewells last few left }
+      farewells_are = farewells t.to t.arrived t.farewells last few left;
+    }

@@ -64,12 +64,7 @@ fn write_shown(
 }
 
 /// Writes what the entry shows, if it is a tick.
-fn show_entry(
-    entry: &Entry,
-    cells: &[u32],
-    arrivals: &mut [Landing],
-    farewells: &mut [u32],
-)
+fn show_entry(entry: &Entry, cells: &[u32], arrivals: &mut [Landing], farewells: &mut [u32])
     ensures arrivals { (to : List ℕ) (arrived : List Arrival) (said : List Bye) → entry.now ≡ Tick to arrived said →
         length arrived ≤ length arrivals.old → length said ≤ length farewells.old →
         arrivals.new ≡ map (arrival_of cells.now) arrived ++ drop (length arrived) arrivals.old }

@@ -1,6 +1,5 @@
-use Rattle.std.proofs.Common.{◌≡◌, refl, sym, ◌∙◌, subst, ap}
+use Rattle.std.proofs.Common.{sym, ◌∙◌}
 use Rattle.fleet_history.proofs.Legal.{length-place}
-use Rattle.fleet_c.proofs.Listed.{last-entry}
 use Rattle.fleet_c.proofs.shown.show.Goals as goal
 
 pub returns-in-Some-clause-cells : goal.returns-in-Some-clause-cells
