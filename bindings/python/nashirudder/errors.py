@@ -31,9 +31,8 @@ class Refused(FleetError):
     """The fleet refused, and is as it was.
 
     `name` is the word for the reason, such as "chapter-full" or "start-blocked". `code` is its number in nashirudder.h,
-    0 for a reason that is not there ("lane-full", "numbers-spent"). `numbers` are two numbers that the refusal names,
-    such as a line, a row or a robot, and 0 where it names fewer; it is empty where none is told. An opening that is
-    refused names its robots in this process alone.
+    0 for a reason that is not there ("lane-full", "numbers-spent"). `numbers` are two numbers that the refusal of an
+    opening or a map names, such as a line, a row or a robot, and 0 where it names fewer; it is empty otherwise.
     """
 
     def __init__(self, name: str, code: int = 0, numbers: Tuple[int, ...] = ()) -> None:

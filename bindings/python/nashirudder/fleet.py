@@ -4,11 +4,12 @@ import abc
 from typing import TYPE_CHECKING, Any, Callable, List, Optional, TypeVar
 
 from .arrays import as_cells
-from .errors import FleetError, Refused
+from .errors import FileFailed, FleetError, NoMemory, Refused
 from .names import Verdict
 from .orders import Errand, Ledger, Order, need_own
 from .ranges import whole_number
 from .records import Arrival, Chapter, Farewell, Look
+from .turns import Turns
 
 if TYPE_CHECKING:
     from .arrays import Cells
@@ -25,21 +26,19 @@ class AnyFleet(abc.ABC):
 
     Any thread may call any method: calls are made one after the other. A call that is left by an exception, as Ctrl-C
     raises it, is made all the same. Numbers that are passed are whole ones from 0 to 2^32 - 1, or the call raises
-    OutOfRange and does nothing. Each call raises Late if it takes longer than the fleet's `timeout`, and Ended once the
-    fleet is closed or its program ended.
+    OutOfRange and does nothing. Each call raises Late if it takes longer than the fleet's `timeout`, Ended once the
+    fleet is closed or its program ended, FileFailed if a full chapter cannot be written to `traces`, and NoMemory.
     """
 
-    def __init__(self) -> None:
+    def __init__(self, timeout: Optional[float]) -> None:
+        self._timeout = timeout
+        self._turns = Turns()
         self._ledger = Ledger()
         self._arrivals: List[Arrival] = []
         self._farewells: List[Farewell] = []
         self._cells: List[int] = []
 
     # ---- what each class does in its own way
-
-    @abc.abstractmethod
-    def _in_turn(self, call: Callable[[], T]) -> T:
-        """Makes a call while no other one is made."""
 
     @abc.abstractmethod
     def _post(self, order: Order) -> None:
@@ -88,6 +87,10 @@ class AnyFleet(abc.ABC):
         (docs/PROTOCOL.md).
         """
 
+    def _in_turn(self, call: Callable[[], T]) -> T:
+        """Makes a call while no other one is made, and whole whatever happens to the caller."""
+        return self._turns.make(call, self._timeout)
+
     # ---- orders
 
     def _take_orders(self, client: int) -> None:
@@ -97,7 +100,7 @@ class AnyFleet(abc.ABC):
         self._post(errand)
         try:
             self._take(errand.client)
-        except Refused:
+        except (Refused, FileFailed, NoMemory):
             # The order stands. `accepted` tries again, and says why it is not judged.
             pass
         return errand
@@ -129,9 +132,10 @@ class AnyFleet(abc.ABC):
         """Takes back an errand that its robot is not heading for yet. Its state is "withdrawn" then.
 
         Raises OrderRefused with "too-late" if the robot is heading for it, "no-errand" if it has arrived or was
-        withdrawn before, or "client-closed"; as `Errand.accepted` if the errand was not accepted; Refused with
-        "lane-full"; and Waiting if the mailbox has no room for this verdict (then the errand is withdrawn, if it can
-        be, as soon as there is). OutOfRange if it is an errand of another fleet.
+        withdrawn before, or "client-closed"; as `Errand.accepted` if the errand was not accepted; and Refused with
+        "lane-full". Raises Waiting if the mailbox has no room for this verdict, and Refused with "chapter-full" as
+        `Errand.accepted` does: then the order stands, and later calls and ticks try again. Raises OutOfRange if it is
+        an errand of another fleet.
         """
         need_own(errand, self)
         self._in_turn(lambda: self._withdraw(errand))

@@ -7,13 +7,12 @@ the calls of nashirudder.h. `check_step`, `first_bridge` and `distances` are que
 `nashirudder.finding` says where the library is looked for.
 """
 
-import concurrent.futures
 from collections import deque
 from typing import Callable, Deque, Dict, List, Optional, Sequence, Set, TypeVar
 
 from . import opening
 from .calls import FAR
-from .errors import Ended, FileFailed, Late, NoMemory, OutOfRange, OrderRefused, Refused, refusal
+from .errors import Ended, FileFailed, NoMemory, OutOfRange, OrderRefused, Refused, refusal
 from .finding import Place
 from .fleet import AnyFleet
 from .folder import ChapterFolder
@@ -45,9 +44,7 @@ class Fleet(AnyFleet):
     if none are given.
 
     `built` is the library, or a folder that has it. `ties` is "plain": "south" is refused by OutOfRange. (A robot's own
-    ranks, by which "south" chooses, are for `Handle`.) Calls are made by a thread of the fleet, one after the other: so
-    a call that is left by an exception, as Ctrl-C raises it, is made whole. A call that takes longer than `timeout`
-    seconds, with the calls of other threads before it, raises Late.
+    ranks, by which "south" chooses, are for `Handle`.)
     """
 
     def __init__(
@@ -66,8 +63,7 @@ class Fleet(AnyFleet):
         told = opening.checked(map, robots, clients, ties, traces, limits)
         if told.ties != "plain":
             raise OutOfRange(f'ties {told.ties!r} are for nashirudder.Fleet alone; in this process they are "plain"')
-        super().__init__()
-        self._timeout = timeout
+        super().__init__(timeout)
         self._roll = roll
         self._clients = told.clients
         self._lane = told.limits.get("lane", _LANE)
@@ -85,22 +81,19 @@ class Fleet(AnyFleet):
                 self._folder.let_go()
             raise
         self._cells = told.robots
-        self._turns = concurrent.futures.ThreadPoolExecutor(1, "fleet")
 
     # ---- what AnyFleet asks for
 
     def _in_turn(self, call: Callable[[], T]) -> T:
         if self._is_closed:
             raise Ended(self._status, "the fleet is closed")
-        try:
-            made = self._turns.submit(call)
-        except RuntimeError:
-            # Another thread has closed it just now.
-            raise Ended(self._status, "the fleet is closed") from None
-        concurrent.futures.wait([made], self._timeout)
-        if not made.done():
-            raise Late(f"not done in {self._timeout} seconds")
-        return made.result()
+        return super()._in_turn(lambda: self._while_open(call))
+
+    def _while_open(self, call: Callable[[], T]) -> T:
+        if self._is_closed:
+            # By another thread, before this call's turn.
+            raise Ended(self._status, "the fleet is closed")
+        return call()
 
     def _entered(self, call: Callable[[], T]) -> T:
         """Makes a call that is an entry of the history; if the chapter is full, in the next one, if there is one and
@@ -245,11 +238,5 @@ class Fleet(AnyFleet):
                 self._folder.let_go()
 
     def close(self, timeout: Optional[float] = None) -> None:
-        if self._is_closed:
-            return
-        made = self._turns.submit(self._end)
-        self._turns.shutdown(wait=False)
-        concurrent.futures.wait([made], self._timeout if timeout is None else timeout)
-        if not made.done():
-            raise Late("the fleet is not closed yet: calls of other threads are made before")
-        made.result()
+        if not self._is_closed:
+            self._turns.make(self._end, self._timeout if timeout is None else timeout)

@@ -6,7 +6,7 @@ from typing import TYPE_CHECKING, Any, Dict, List, Optional, Sequence, Tuple
 from . import finding, opening
 from .arrays import as_cells
 from .caller import Caller, OnTick
-from .errors import FleetError, Waiting, refusal
+from .errors import FleetError, Refused, Waiting, refusal
 from .finding import Place
 from .fleet import MOST_TICKS
 from .names import Verdict, verdict_in
@@ -112,9 +112,11 @@ class LiveFleet:
             raise
         try:
             self.look()
-        except BaseException:
+        except BaseException as error:
             silently(lambda: self._program.end(timeout))
             self._let_go(timeout)
+            if isinstance(error, Refused):
+                raise told.named(error) from None
             raise
         if self._caller is not None:
             self._caller.start()
@@ -254,7 +256,7 @@ class LiveFleet:
         if self._program.is_closed:
             return
         try:
-            self._program.close(timeout)
+            self._program.close(self._program.timeout if timeout is None else timeout)
         finally:
             if self._program.is_closed:
                 self._let_go(timeout)

@@ -1,7 +1,6 @@
 """Questions about a map, without a fleet. A map is the text of a .map file, not its path."""
 
 import ctypes
-import re
 from ctypes import byref
 from typing import TYPE_CHECKING, Optional, Sequence, Tuple
 
@@ -10,22 +9,11 @@ from .calls import CEdge, CFault, check, load
 from .finding import Place
 from .handle import Text, text_of
 from .names import Code
+from .opening import sides_of
 from .ranges import whole_number
 
 if TYPE_CHECKING:
     from .arrays import Cells
-
-# The most that a map has: 1,024 rows of 1,024 cells
-_MOST = 1024
-
-
-def _count_of(text: bytes) -> int:
-    """How many cells the head of a map says that it has; 0 if the head is at fault, of which the library says more."""
-    form = rb"^%s[ \t]+0*(\d{1,4})[ \t]*\r?$"
-    sides = [re.search(form % word, text[:200], re.M) for word in (b"height", b"width")]
-    numbers = [int(side[1]) for side in sides if side is not None and int(side[1]) <= _MOST]
-    return numbers[0] * numbers[1] if len(numbers) == 2 else 0
-
 
 def check_step(map: Text, before: Sequence[int], after: Sequence[int], *, built: Optional[Place] = None) -> None:
     """Returns if the step is free of conflicts: each robot stays or crosses an edge, no two come to one cell, and no
@@ -64,7 +52,8 @@ def distances(map: Text, goal: int, *, built: Optional[Place] = None) -> "Cells"
     with a fault of the map, or "goal-blocked" if the goal is not floor or not on the map.
     """
     library, text, fault = load(built), text_of(map), CFault()
-    count = _count_of(text)
+    height, width = sides_of(text)
+    count = height * width
     told = (ctypes.c_uint32 * max(1, count))()
     code = library.nashirudder_distances(text, len(text), whole_number("goal", goal), told, count, byref(fault))
     check(code, fault)

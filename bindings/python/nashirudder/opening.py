@@ -1,18 +1,41 @@
 """What a fleet is opened with, as its caller says it: the same checks for each kind of fleet."""
 
 import os
+import re
 import stat
 from dataclasses import dataclass
-from typing import Dict, List, Optional, Sequence
+from typing import Dict, List, Optional, Sequence, Tuple
 
-from .errors import FileFailed, OutOfRange, refusal
+from .errors import FileFailed, OutOfRange, Refused, refusal
 from .finding import Place
 from .ranges import checked_limits, whole_number
 
 MOST_ROBOTS = 512
+_MOST_SIDE = 1024
 
 # Limits that are so great, if none are given, that no fleet meets them
 ENDLESS = {"life": 2**40, "orders": 2**62, "clock": 2**48, "chapters": 2**32 - 1}
+
+
+def sides_of(text: bytes) -> Tuple[int, int]:
+    """The height and width that the head of a map's text says; zeros if the head is at fault."""
+    form, head = rb"^%s[ \t]+0*(\d{1,4})[ \t]*\r?$", b"\n".join(text.split(b"\n", 4)[:4])
+    found = [re.search(form % word, head, re.M) for word in (b"height", b"width")]
+    height, width = (0 if side is None else int(side[1]) for side in found)
+    return (height, width) if height <= _MOST_SIDE and width <= _MOST_SIDE else (0, 0)
+
+
+def _first_pair(robots: List[int]) -> Tuple[int, int]:
+    """The first two robots that start on one cell."""
+    first: Dict[int, int] = {}
+    return min((first[cell], robot) for robot, cell in enumerate(robots) if first.setdefault(cell, robot) != robot)
+
+
+def _first_blocked(text: bytes, robots: List[int]) -> int:
+    """The first robot that does not start on floor, of a map without a fault."""
+    (height, width), rows = sides_of(text), text.split(b"\n")[4:]
+    floor = {cell for cell in robots if cell < height * width and rows[cell // width][cell % width] in b".GS"}
+    return next(robot for robot, cell in enumerate(robots) if cell not in floor)
 
 
 @dataclass(frozen=True)
@@ -25,6 +48,18 @@ class Opening:
     ties: str
     traces: Optional[str]
     limits: Dict[str, int]
+
+    def named(self, refused: Refused) -> Refused:
+        """The refusal of this opening, with the robots that it names: the program's line does not tell them."""
+        try:
+            if refused.name == "start-shared":
+                return refusal(refused.name, _first_pair(self.robots))
+            if refused.name == "start-blocked":
+                return refusal(refused.name, (_first_blocked(read_map(self.map), self.robots), 0))
+        except (FileFailed, LookupError):
+            # The map was a pipe, or is another one now.
+            pass
+        return refused
 
     def head(self) -> List[str]:
         """The header lines of a conversation."""

@@ -1,19 +1,16 @@
 """A fleet that the program `fleet talk` keeps, spoken to over two pipes."""
 
-import threading
 from collections import deque
-from typing import Callable, Deque, Dict, List, Optional, Sequence, TypeVar
+from typing import Deque, Dict, List, Optional, Sequence
 
 from . import finding, opening
-from .errors import refusal
+from .errors import Refused, refusal
 from .finding import Place
 from .fleet import AnyFleet
 from .names import verdict_in
 from .orders import Order
 from .process import Asked, Program, chapter_in, look_in, silently
 from .records import Arrival, Chapter, Farewell, Look
-
-T = TypeVar("T")
 
 
 class Fleet(AnyFleet):
@@ -57,17 +54,18 @@ class Fleet(AnyFleet):
             words.append("--roll")
         if told.traces is not None:
             words += ["--traces", told.traces]
-        super().__init__()
-        self._turn = threading.RLock()
+        super().__init__(timeout)
         self._pending: Deque[Asked] = deque()
         self._lanes: Dict[int, Deque[Order]] = {}
         self._now = 0
-        self._program = Program(words + [told.map], timeout, self._noted, self._hear_line)
+        self._program = Program(words + [told.map], None, self._noted, self._hear_line)
         try:
-            self._program.ask(*told.head())
+            self._in_turn(lambda: self._program.ask(*told.head()))
             self._cells = self.look().cells
-        except BaseException:
+        except BaseException as error:
             silently(lambda: self._program.end(timeout))
+            if isinstance(error, Refused):
+                raise told.named(error) from None
             raise
 
     # ---- lines
@@ -106,10 +104,6 @@ class Fleet(AnyFleet):
 
     # ---- what AnyFleet asks for
 
-    def _in_turn(self, call: Callable[[], T]) -> T:
-        with self._turn:
-            return call()
-
     def _post(self, order: Order) -> None:
         answer = self._program.ask(f"post {order.client} {order._line}", order=order)[0][-1]
         if answer[0] != "posted":
@@ -136,7 +130,7 @@ class Fleet(AnyFleet):
             some = True
 
     def _waiting_clients(self) -> List[int]:
-        return [client for client, lane in list(self._lanes.items()) if lane]
+        return sorted(client for client, lane in list(self._lanes.items()) if lane)
 
     def _make_ticks(self, count: int) -> None:
         answer = self._program.ask(f"tick {count}")[0]
@@ -154,7 +148,7 @@ class Fleet(AnyFleet):
         return self._program.reply("chapter", chapter_in)
 
     def close(self, timeout: Optional[float] = None) -> None:
-        self._program.close(timeout)
+        self._program.close(self._timeout if timeout is None else timeout)
 
     @staticmethod
     def _raise_refusal(answer: List[List[str]], word: str) -> None:

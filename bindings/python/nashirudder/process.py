@@ -208,7 +208,7 @@ class Program:
         """
         if self.is_closed:
             return
-        complaint = self.end(self.timeout if timeout is None else timeout)
+        complaint = self.end(timeout)
         if self.status not in (0, 8):
             raise end_of(self.status, complaint)
 

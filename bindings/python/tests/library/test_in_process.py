@@ -1,4 +1,4 @@
-"""What the class Fleet in this process does where a call does not go as it should. `tests/both` has what both classes do."""
+"""What a fleet in this process does where a call does not go as it should. `tests/both` has what both classes do."""
 
 import gc
 import pathlib
@@ -55,10 +55,10 @@ class InProcessTest(unittest.TestCase):
             begun.set()
             time.sleep(0.5)
 
-        thread = threading.Thread(target=lambda: fleet._turns.submit(busy))
+        thread = threading.Thread(target=lambda: fleet._turns.make(busy, None))
         thread.start()
         begun.wait()
-        for call in (fleet.look, fleet.tick, fleet.chapter, lambda: fleet.go(0, 1), lambda: fleet.shut(1)):
+        for call in (fleet.look, lambda: fleet.go(0, 1), fleet.tick, fleet.chapter, lambda: fleet.shut(1)):
             with self.assertRaises(Late):
                 call()
         with self.assertRaises(Late):
@@ -84,6 +84,21 @@ class InProcessTest(unittest.TestCase):
             self.assertEqual((fleet.look().chapter, fleet.look().entries), (0, 1))
             part.rmdir()
             self.assertEqual(fleet.chapter().entries, 1)
+
+    def test_an_order_that_stands_since_a_chapter_cannot_be_written(self):
+        folder = self.path / "traces"
+        folder.mkdir()
+        with Fleet(self.map, [0, 8], traces=folder, chapter=1) as fleet:
+            first = fleet.go(0, 2)
+            part = folder / "chapter-0.part"
+            part.mkdir()
+            second = fleet.go(0, 1)
+            self.assertEqual((first.state, second.state), ("accepted", "posted"))
+            for call in (second.accepted, fleet.tick):
+                with self.assertRaises(FileFailed):
+                    call()
+            part.rmdir()
+            self.assertEqual((second.accepted(), fleet.tick()), (2, [1, 8]))
 
     def test_a_fleet_that_is_left(self):
         fleet = Fleet(self.map, [0, 8])

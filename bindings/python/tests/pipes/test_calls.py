@@ -8,9 +8,9 @@ import threading
 import time
 import unittest
 
-from nashirudder import Ended, FileFailed, Fleet, FleetError, Late, LiveFleet, Missing, OutOfRange, Refused
+from nashirudder import Ended, FileFailed, Fleet, FleetError, Late, LiveFleet, Missing, OutOfRange, Refused, finding
 
-PROGRAM = os.environ.get("FLEET", "fleet")
+PROGRAM = finding.program(os.environ.get("FLEET"))
 
 RING = "type octile\nheight 3\nwidth 3\nmap\n...\n.@.\n...\n"
 
@@ -147,7 +147,7 @@ class CallsTest(OnRing):
                     with self.assertRaises(Late):
                         call()
                 fleet._program.process.send_signal(signal.SIGCONT)
-                fleet._program.timeout = 10
+                fleet._timeout = fleet._program.timeout = 10
                 # What was asked is done all the same, and each answer is the call's own.
                 self.assertEqual((fleet.look().tick, fleet.tick()[0]), (1, 1))
             stopped = self.fleet(kind)

@@ -6,10 +6,10 @@ import subprocess
 import tempfile
 import unittest
 
-from nashirudder import Ended, Fleet, OrderRefused, Refused, Waiting
+from nashirudder import Ended, Fleet, OrderRefused, Refused, Waiting, finding
 from nashirudder.names import Verdict
 
-PROGRAM = os.environ.get("FLEET", "fleet")
+PROGRAM = finding.program(os.environ.get("FLEET"))
 
 RING = "type octile\nheight 3\nwidth 3\nmap\n...\n.@.\n...\n"
 OPEN = "type octile\nheight 5\nwidth 5\nmap\n" + ".....\n" * 5

@@ -8,10 +8,10 @@ import tempfile
 import time
 import unittest
 
-from nashirudder import Ended, LiveFleet, Refused, Waiting
+from nashirudder import Ended, LiveFleet, Refused, Waiting, finding
 from nashirudder.names import Verdict
 
-PROGRAM = os.environ.get("FLEET", "fleet")
+PROGRAM = finding.program(os.environ.get("FLEET"))
 
 TOOLS = os.path.join(os.path.dirname(os.path.abspath(__file__)), "..", "..", "..", "..", "tools", "live")
 PICTURE, RUN = os.path.join(TOOLS, "picture"), os.path.join(TOOLS, "run")

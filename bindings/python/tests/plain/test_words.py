@@ -1,6 +1,7 @@
-"""Words, numbers and exceptions: what needs neither program nor library. Structs and numbers are compared with nashirudder.h."""
+"""Words, numbers and exceptions: what needs neither program nor library. Structs are compared with nashirudder.h."""
 
 import array
+import contextlib
 import ctypes
 import os
 import pathlib
@@ -19,14 +20,14 @@ HEADER = (TOP / "bindings" / "c" / "nashirudder.h").read_text()
 BARE = re.sub(r"/\*.*?\*/", " ", HEADER, flags=re.S)
 
 KINDS = {
-    "uint8_t": ctypes.c_uint8, "uint32_t": ctypes.c_uint32, "uint64_t": ctypes.c_uint64, "size_t": ctypes.c_size_t, "bool": ctypes.c_bool,
-    "void *": ctypes.c_void_p, "char": ctypes.c_char, "nashirudder_code": ctypes.c_uint32, "nashirudder_verdict": ctypes.c_uint32,
-    "nashirudder_kind": ctypes.c_uint32,
+    "uint8_t": ctypes.c_uint8, "uint32_t": ctypes.c_uint32, "uint64_t": ctypes.c_uint64, "size_t": ctypes.c_size_t,
+    "bool": ctypes.c_bool, "void *": ctypes.c_void_p, "char": ctypes.c_char, "nashirudder_code": ctypes.c_uint32,
+    "nashirudder_verdict": ctypes.c_uint32, "nashirudder_kind": ctypes.c_uint32,
 }
 STRUCTS = {
-    "fleet": calls.CFleet, "setup": calls.CSetup, "robot": calls.CRobot, "fault": calls.CFault, "judgement": calls.CJudgement,
-    "report": calls.CReport, "note": calls.CNote, "order": calls.COrder, "arrival": calls.CArrival, "edge": calls.CEdge, "map": calls.CMap,
-    "shape": calls.CShape,
+    "fleet": calls.CFleet, "setup": calls.CSetup, "robot": calls.CRobot, "fault": calls.CFault,
+    "judgement": calls.CJudgement, "report": calls.CReport, "note": calls.CNote, "order": calls.COrder,
+    "arrival": calls.CArrival, "edge": calls.CEdge, "map": calls.CMap, "shape": calls.CShape,
 }
 
 
@@ -58,17 +59,20 @@ class HeaderTest(unittest.TestCase):
             self.assertEqual(fields, list(STRUCTS[name]._fields_), name)
 
     def test_functions(self):
-        found = re.findall(r"^(?:NASHIRUDDER_MUST_USE )?(nashirudder_code|uint32_t|size_t|void) nashirudder_(\w+)\(([^)]*)\);", BARE, re.M)
+        form = r"^(?:NASHIRUDDER_MUST_USE )?(nashirudder_code|uint32_t|size_t|void) nashirudder_(\w+)\(([^)]*)\);"
+        found = re.findall(form, BARE, re.M)
         self.assertEqual({name for _, name, _ in found}, set(calls.FUNCTIONS))
         for _, name, parameters in found:
-            wanted = [kind_of(re.sub(r"\w+$", "", " ".join(parameter.split()))) for parameter in parameters.split(",") if parameter != "void"]
+            words = [" ".join(parameter.split()) for parameter in parameters.split(",") if parameter != "void"]
+            wanted = [kind_of(re.sub(r"\w+$", "", word)) for word in words]
             self.assertEqual(len(wanted), len(calls.FUNCTIONS[name]), name)
             for ours, theirs in zip(calls.FUNCTIONS[name], wanted):
                 self.assertTrue(is_same(ours, theirs), (name, ours, theirs))
 
     def test_every_refusal_has_a_sentence(self):
         answers = {"done", "no-memory", "already-open", "no-notice", "idle", "has-bridge", "no-bridge"}
-        words = {code.word for code in names.Code} - answers | {verdict.word for verdict in names.Verdict} - {"accepted", "closed"}
+        words = {code.word for code in names.Code} - answers
+        words |= {verdict.word for verdict in names.Verdict} - {"accepted", "closed"}
         self.assertEqual(words | {"lane-full", "numbers-spent"}, set(names.SENTENCES))
 
     def test_version(self):
@@ -81,9 +85,10 @@ class ExceptionsTest(unittest.TestCase):
         kinds = [kind for kind in vars(errors).values() if isinstance(kind, type) and issubclass(kind, BaseException)]
         self.assertEqual(len(kinds), 10)
         self.assertTrue(all(issubclass(kind, FleetError) for kind in kinds))
-        for kind, known in (("OutOfRange", ValueError), ("Late", TimeoutError), ("FileFailed", OSError), ("NoMemory", MemoryError),
-                            ("Missing", FileNotFoundError), ("OrderRefused", Refused)):
-            self.assertTrue(issubclass(getattr(errors, kind), known), kind)
+        known = {"OutOfRange": ValueError, "Late": TimeoutError, "FileFailed": OSError, "NoMemory": MemoryError,
+                 "Missing": FileNotFoundError, "OrderRefused": Refused}
+        for name, kind in known.items():
+            self.assertTrue(issubclass(getattr(errors, name), kind), name)
 
     def test_texts(self):
         self.assertEqual(str(errors.refusal("start", (1, 0))), "start-blocked (1, 0): a robot does not start on floor")
@@ -91,18 +96,20 @@ class ExceptionsTest(unittest.TestCase):
         self.assertEqual(str(Refused("something-new")), "something-new")
 
     def test_pickled(self):
-        for error in (OrderRefused("blocked", 8), Refused("start-shared", 33, (0, 2)), errors.Ended(3, "fleet: file"), FileFailed("no")):
+        refusals = OrderRefused("blocked", 8), Refused("start-shared", 33, (0, 2))
+        for error in (*refusals, errors.Ended(3, "fleet: file"), FileFailed("no")):
             again = pickle.loads(pickle.dumps(error))
             self.assertEqual((type(again), str(again), vars(again)), (type(error), str(error), vars(error)))
 
 
 class NumbersTest(unittest.TestCase):
     def test_cells_for_c(self):
-        for items in ([3, 0, 7], (3, 0, 7), array.array("I", [3, 0, 7]), array.array("q", [3, 0, 7]), memoryview(array.array("I", [3, 9, 0, 9, 7]))[::2]):
+        arrays_of_them = array.array("I", [3, 0, 7]), array.array("q", [3, 0, 7])
+        for items in ([3, 0, 7], (3, 0, 7), *arrays_of_them, memoryview(array.array("I", [3, 9, 0, 9, 7]))[::2]):
             self.assertEqual(list(arrays.c_cells("a cell", items)), [3, 0, 7])
         self.assertEqual(len(arrays.c_cells("a cell", [])), 1)
-        for items in ([-1], [2**32], [1.0], array.array("d", [1.0]), array.array("q", [-1]), array.array("Q", [2**32 + 3]),
-                      memoryview(bytes(4)).cast("B", (2, 2))):
+        wrong = array.array("d", [1.0]), array.array("q", [-1]), array.array("Q", [2**32 + 3])
+        for items in ([-1], [2**32], [1.0], *wrong, memoryview(bytes(4)).cast("B", (2, 2))):
             with self.subTest(items=items), self.assertRaises(OutOfRange):
                 arrays.c_cells("a cell", items)
 
@@ -111,7 +118,8 @@ class NumbersTest(unittest.TestCase):
             self.assertEqual(arrays.as_cells((ctypes.c_uint32 * 2)(2**32 - 1, 0)), [2**32 - 1, 0])
 
     def test_limits(self):
-        self.assertEqual(ranges.checked_limits({"queue": 2**32 - 1, "clock": 2**64 - 1}), {"queue": 2**32 - 1, "clock": 2**64 - 1})
+        limits = {"queue": 2**32 - 1, "clock": 2**64 - 1}
+        self.assertEqual(ranges.checked_limits(limits), limits)
         for limits in ({"queue": 2**32}, {"clock": 2**64}, {"life": -1}, {"chapter": None}):
             with self.assertRaises(OutOfRange):
                 ranges.checked_limits(limits)
@@ -133,9 +141,21 @@ class FilesTest(unittest.TestCase):
             for robots in ([], range(513)):
                 with self.assertRaises(Refused) as caught:
                     kind(self.path / "ring.map", robots)
-                self.assertEqual((caught.exception.name, caught.exception.code), ("robot-count", names.Code.ROBOT_COUNT))
+                self.assertEqual(caught.exception.code, names.Code.ROBOT_COUNT)
         with self.assertRaises(OutOfRange):
             library.Fleet(self.path / "ring.map", [0], ties="south")
+
+    def test_who_is_named(self):
+        (self.path / "crlf.map").write_bytes(b"type octile\r\nwidth 03 \r\nheight 2\r\nmap\r\n.GS\r\n@TW\r\n")
+        self.assertEqual(opening.sides_of((self.path / "crlf.map").read_bytes()), (2, 3))
+        for head in (b"", b"type octile\nheight 2\n", b"type octile\nheight 2\nwidth 1025\nmap\n"):
+            self.assertEqual(opening.sides_of(head), (0, 0) if b"width" in head else (2 * (b"height" in head), 0))
+        for robots, name, numbers in (([2, 1, 0, 1, 2], "start-shared", (0, 4)), ([0, 1, 2, 4], "start-blocked", (3, 0)),
+                                      ([2, 6], "start-blocked", (1, 0)), ([0], "bad-setup", ())):
+            told = opening.checked(self.path / "crlf.map", robots, 1, "plain", None, {})
+            self.assertEqual(told.named(errors.refusal(name)).numbers, numbers)
+        os.remove(self.path / "crlf.map")
+        self.assertEqual(told.named(errors.refusal("start-blocked")).numbers, ())
 
     def test_head(self):
         told = opening.checked(self.path / "ring.map", [0, 8], 2, "south", None, {"queue": 3})
@@ -149,11 +169,19 @@ class FilesTest(unittest.TestCase):
             path.touch()
         return str(paths[0])
 
+    @contextlib.contextmanager
+    def places(self, named, prefix, path):
+        """The places that are looked at; the package is part of no clone."""
+        with mock.patch.dict(os.environ, {finding.VARIABLE: named, "PATH": path}), \
+                mock.patch.object(finding.sys, "prefix", prefix), mock.patch.object(finding, "__file__", "/a/b/c/d.py"):
+            yield
+
     def test_arguments_come_first(self):
-        program, shared = self.place("made/bin/fleet"), self.place("made/lib/libnashirudder.so.0", "made/lib/libnashirudder.so")
+        made, program = self.path / "made", self.place("made/bin/fleet")
+        shared = self.place("made/lib/libnashirudder.so.0", "made/lib/libnashirudder.so")
         with mock.patch.dict(os.environ, {finding.VARIABLE: "/none"}):
             self.assertEqual((finding.program(program), finding.library(shared)), (program, shared))
-            self.assertEqual((finding.program(self.path / "made"), finding.library(self.path / "made")), (program, shared))
+            self.assertEqual((finding.program(made), finding.library(made)), (program, shared))
             for built in (self.path, self.path / "none"):
                 for find in (finding.program, finding.library):
                     with self.assertRaises(Missing):
@@ -168,15 +196,13 @@ class FilesTest(unittest.TestCase):
             libraries = {way: self.place(f"{count}/{way}/lib/libnashirudder.so.0") for way in left}
             for path in programs.values():
                 os.chmod(path, 0o755)
-            told = {finding.VARIABLE: str(self.path / str(count) / finding.VARIABLE), "PATH": str(self.path / str(count) / "PATH" / "bin")}
-            with mock.patch.dict(os.environ, told), mock.patch.object(finding.sys, "prefix", str(self.path / str(count) / "prefix")), \
-                    mock.patch.object(finding, "__file__", "/a/b/c/d.py"):
+            folder = self.path / str(count)
+            with self.places(str(folder / finding.VARIABLE), str(folder / "prefix"), str(folder / "PATH" / "bin")):
                 self.assertEqual(finding.program(), programs[left[0]])
                 self.assertEqual(finding.library(), libraries[left[0]] if left[0] != "PATH" else finding.SONAME)
 
     def test_what_is_missing(self):
-        with mock.patch.dict(os.environ, {finding.VARIABLE: "/nowhere", "PATH": ""}), mock.patch.object(finding.sys, "prefix", "/none"), \
-                mock.patch.object(finding, "__file__", "/a/b/c/d.py"):
+        with self.places("/nowhere", "/none", ""):
             with self.assertRaises(Missing) as caught:
                 finding.program()
             for word in ("/nowhere", "/none", "tools/install --quick fleet", finding.VARIABLE, "PATH"):

@@ -1,0 +1,63 @@
+"""Calls that are made one after the other, by a thread of their own."""
+
+import queue
+import threading
+import weakref
+from typing import Any, Callable, Optional, TypeVar, cast
+
+from .errors import Late
+
+T = TypeVar("T")
+
+
+class _Call:
+    """A call, and what it returned or raised."""
+
+    def __init__(self, call: Callable[[], Any]) -> None:
+        self.is_done = threading.Event()
+        self._call = call
+        self._result: Any = None
+        self._error: Optional[BaseException] = None
+
+    def make(self) -> None:
+        try:
+            self._result = self._call()
+        except BaseException as error:
+            self._error = error
+        self.is_done.set()
+
+    def result(self) -> Any:
+        if self._error is not None:
+            raise self._error
+        return self._result
+
+
+def _make_calls(calls: "queue.SimpleQueue[Optional[_Call]]") -> None:
+    """Makes calls, to the end. It knows nothing of whose calls they are, and so keeps nobody alive."""
+    while True:
+        call = calls.get()
+        if call is None:
+            return
+        call.make()
+        del call
+
+
+class Turns:
+    """A thread that makes calls in turn.
+
+    Python's signal handlers run in the main thread alone: so a caller may be left by an exception of theirs, as Ctrl-C
+    raises it, and the call is made whole all the same. The thread ends with this object.
+    """
+
+    def __init__(self) -> None:
+        self._calls: "queue.SimpleQueue[Optional[_Call]]" = queue.SimpleQueue()
+        threading.Thread(target=_make_calls, args=(self._calls,), name="fleet", daemon=True).start()
+        self._end = weakref.finalize(self, self._calls.put, None)
+
+    def make(self, call: Callable[[], T], timeout: Optional[float]) -> T:
+        """Has a call made, after those before it, and returns what it returns. Raises Late if it takes too long."""
+        waiting = _Call(call)
+        self._calls.put(waiting)
+        if not waiting.is_done.wait(timeout):
+            raise Late(f"not done in {timeout} seconds")
+        return cast(T, waiting.result())
