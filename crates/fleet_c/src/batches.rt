@@ -65,8 +65,8 @@ fn take_many(
 /// Takes orders one after the other, until one is refused; `count` of them were taken, and each of these has its
 /// judgement. The places after them stay as they were.
 ///
-/// Refused in this order: the handle is closed; the lists are not of one length; and then, by the order after those that
-/// were taken, a kind that there is not, or as `nashirudder_go`.
+/// Refused in this order: the handle is closed; the lists are not of one length; and then, by the order after those
+/// that were taken, a kind that there is not, or as `nashirudder_go`.
 #[unsafe(no_mangle)]
 pub extern "C" fn nashirudder_take_many(
     alloc: Global,

@@ -25,9 +25,10 @@ pub extern "C" fn nashirudder_setup_default(clients: u32, setup: &mut Setup)
 
 /// Opens a closed handle: a fleet on the map, each robot on its start.
 ///
-/// Refused in this order: the handle is open; a setup that is not of this library's size; the map's first fault; a limit or the number of clients is out of its
-/// range; not 1 to 512 robots; a robot that does not start on floor; two robots that start on one cell; and out of
-/// memory at any time. `fault` says why. If the handle is open, `fault` does not change.
+/// Refused in this order: the handle is open; a setup that is not of this library's size; the map's first fault; a
+/// limit or the number of clients is out of its range; not 1 to 512 robots; a robot that does not start on floor; two
+/// robots that start on one cell; and out of memory at any time. `fault` says why. If the handle is open, `fault` does
+/// not change.
 #[unsafe(no_mangle)]
 pub extern "C" fn nashirudder_open(
     alloc: Global,

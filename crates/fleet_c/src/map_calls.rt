@@ -33,8 +33,8 @@ fn boxed_grid(alloc: Global, map: &[u8]) -> Result<Box<Grid>, MapFault>
 
 /// Opens a closed handle to a map: reads the map once, for any number of calls.
 ///
-/// Refused in this order: the handle is open, where `fault` does not change; the map's first fault; and out of memory at
-/// any time.
+/// Refused in this order: the handle is open, where `fault` does not change; the map's first fault; and out of memory
+/// at any time.
 #[unsafe(no_mangle)]
 pub extern "C" fn nashirudder_map_open(
     alloc: Global,

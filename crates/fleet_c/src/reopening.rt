@@ -108,15 +108,15 @@ fn reopen_on(
     }
 }
 
-/// Opens a closed handle: the fleet that goes on from a chapter that was kept, the text of `nashirudder_trace` at its end.
-/// Its own chapter has the next number. Robots and clients are those of the chapter, and their notices were given: mailboxes
-/// are empty. Of the robots only the ranks are read, of the setup all but the number of clients.
+/// Opens a closed handle: the fleet that goes on from a chapter that was kept, the text of `nashirudder_trace` at its
+/// end. Its own chapter has the next number. Robots and clients are those of the chapter, and their notices were given:
+/// mailboxes are empty. Of the robots only the ranks are read, of the setup all but the number of clients.
 ///
 /// Refused in this order: the handle is open; a setup that is not of this library's size; the map's first fault; a text
-/// that is no trace; a limit that is out of its range; a chapter that is not legal on the map; robots that are not as many
-/// as the chapter's; another `queue` or `life` than the chapter's; no further chapter within the limits; a robot that has
-/// waited longer than it may on a map without bridges; and out of memory at any time. `fault` says why. If the handle is
-/// open, `fault` does not change.
+/// that is no trace; a limit that is out of its range; a chapter that is not legal on the map; robots that are not as
+/// many as the chapter's; another `queue` or `life` than the chapter's; no further chapter within the limits; a robot
+/// that has waited longer than it may on a map without bridges; and out of memory at any time. `fault` says why. If the
+/// handle is open, `fault` does not change.
 #[unsafe(no_mangle)]
 pub extern "C" fn nashirudder_reopen(
     alloc: Global,

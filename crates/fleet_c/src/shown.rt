@@ -155,11 +155,11 @@ fn tick_into(
     tick_shown(alloc, core, report, cells, arrivals, farewells)
 }
 
-/// Moves all robots by one step, and writes their cells, who arrived (`report.arrived` of them, by robot), and the robots
-/// that said farewell (`report.farewells` of them). The places after these stay as they were.
+/// Moves all robots by one step, and writes their cells, who arrived (`report.arrived` of them, by robot), and the
+/// robots that said farewell (`report.farewells` of them). The places after these stay as they were.
 ///
-/// Refused in this order: the handle is closed, a list has not one place for each robot, all ticks were made, the chapter
-/// is full, out of memory.
+/// Refused in this order: the handle is closed, a list has not one place for each robot, all ticks were made, the
+/// chapter is full, out of memory.
 #[unsafe(no_mangle)]
 pub extern "C" fn nashirudder_tick_into(
     alloc: Global,

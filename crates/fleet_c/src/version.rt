@@ -2,8 +2,8 @@
 
 ghost use Rattle.std.specs.Prelude.{◌≡◌};
 
-/// The version, in three numbers: `VERSION_MAJOR * 10000 + VERSION_MINOR * 100 + VERSION_PATCH`. A program that was made
-/// with a header of another major or, before 1.0.0, minor version does not fit this library.
+/// The version, in three numbers: `VERSION_MAJOR * 10000 + VERSION_MINOR * 100 + VERSION_PATCH`. A program that was
+/// made with a header of another major or, before 1.0.0, minor version does not fit this library.
 pub const VERSION: u32 = 100;
 
 /// The version of the library.
