@@ -11,6 +11,60 @@ impl Handle {
         at: std::ptr::null_mut(),
         is_open: false,
     };
+
+    /// A copy for a call that only looks: the library takes a handle for itself and puts back what it found, so that two
+    /// calls at once need two.
+    pub(crate) fn seen(&self) -> Handle {
+        Handle {
+            at: self.at,
+            is_open: self.is_open,
+        }
+    }
+}
+
+#[repr(C)]
+#[derive(Default)]
+pub(crate) struct RawSetup {
+    pub size: u32,
+    pub clients: u32,
+    pub life: u64,
+    pub orders: u64,
+    pub clock: u64,
+    pub lane: u32,
+    pub outlet: u32,
+    pub queue: u32,
+    pub mailbox: u32,
+    pub chapter: u32,
+    pub chapters: u32,
+}
+
+#[repr(C)]
+pub(crate) struct RawOrder {
+    pub number: u64,
+    pub kind: u32,
+    pub client: u32,
+    pub robot: u32,
+    pub cell: u32,
+}
+
+#[repr(C)]
+#[derive(Clone, Copy, Debug, Default)]
+pub(crate) struct RawArrival {
+    pub number: u64,
+    pub robot: u32,
+    pub client: u32,
+    pub cell: u32,
+    pub stamp: u32,
+}
+
+#[repr(C)]
+#[derive(Default)]
+pub(crate) struct RawShape {
+    pub height: u32,
+    pub width: u32,
+    pub cells: u32,
+    pub floor: u32,
+    pub edges: u32,
 }
 
 #[repr(C)]
@@ -49,13 +103,60 @@ pub(crate) struct RawEdge {
 }
 
 extern "C" {
-    pub(crate) fn nashirudder_setup_default(clients: u32, setup: *mut crate::Setup);
+    pub(crate) fn nashirudder_version() -> u32;
+    pub(crate) fn nashirudder_message(
+        fault: *const RawFault,
+        text: *mut u8,
+        text_length: usize,
+    ) -> usize;
+    pub(crate) fn nashirudder_setup_default(clients: u32, setup: *mut RawSetup);
+    pub(crate) fn nashirudder_reopen(
+        map: *const u8,
+        map_length: usize,
+        text: *const u8,
+        text_length: usize,
+        robots: *const crate::Robot,
+        robots_length: usize,
+        setup: *const RawSetup,
+        fleet: *mut Handle,
+        fault: *mut RawFault,
+    ) -> u32;
+    pub(crate) fn nashirudder_take_many(
+        fleet: *mut Handle,
+        orders: *const RawOrder,
+        orders_length: usize,
+        judgements: *mut RawJudgement,
+        judgements_length: usize,
+        count: *mut usize,
+    ) -> u32;
+    pub(crate) fn nashirudder_tick_into(
+        fleet: *mut Handle,
+        report: *mut crate::Report,
+        cells: *mut u32,
+        cells_length: usize,
+        arrivals: *mut RawArrival,
+        arrivals_length: usize,
+        farewells: *mut u32,
+        farewells_length: usize,
+    ) -> u32;
+    pub(crate) fn nashirudder_give_many(
+        fleet: *mut Handle,
+        client: u32,
+        notes: *mut RawNote,
+        notes_length: usize,
+        count: *mut usize,
+    ) -> u32;
+    pub(crate) fn nashirudder_peek(fleet: *mut Handle, client: u32, note: *mut RawNote) -> u32;
+    pub(crate) fn nashirudder_clients(fleet: *mut Handle, count: *mut usize) -> u32;
+    pub(crate) fn nashirudder_limits(fleet: *mut Handle, setup: *mut RawSetup) -> u32;
+    pub(crate) fn nashirudder_longest_wait(fleet: *mut Handle, ticks: *mut u64) -> u32;
+    pub(crate) fn nashirudder_wait_limit(fleet: *mut Handle, ticks: *mut u64) -> u32;
     pub(crate) fn nashirudder_open(
         map: *const u8,
         map_length: usize,
         robots: *const crate::Robot,
         robots_length: usize,
-        setup: *const crate::Setup,
+        setup: *const RawSetup,
         fleet: *mut Handle,
         fault: *mut RawFault,
     ) -> u32;
@@ -106,6 +207,35 @@ extern "C" {
     ) -> u32;
     pub(crate) fn nashirudder_next_chapter(fleet: *mut Handle) -> u32;
     pub(crate) fn nashirudder_keep(fleet: *mut Handle, bytes: usize) -> u32;
+    pub(crate) fn nashirudder_map_open(
+        text: *const u8,
+        text_length: usize,
+        map: *mut Handle,
+        fault: *mut RawFault,
+    ) -> u32;
+    pub(crate) fn nashirudder_map_close(map: *mut Handle);
+    pub(crate) fn nashirudder_map_shape(map: *mut Handle, shape: *mut RawShape) -> u32;
+    pub(crate) fn nashirudder_map_joins(
+        map: *mut Handle,
+        a: u32,
+        b: u32,
+        joins: *mut bool,
+    ) -> u32;
+    pub(crate) fn nashirudder_map_check_step(
+        map: *mut Handle,
+        from: *const u32,
+        from_length: usize,
+        to: *const u32,
+        to_length: usize,
+        fault: *mut RawFault,
+    ) -> u32;
+    pub(crate) fn nashirudder_map_first_bridge(map: *mut Handle, edge: *mut RawEdge) -> u32;
+    pub(crate) fn nashirudder_map_distances(
+        map: *mut Handle,
+        goal: u32,
+        distances: *mut u32,
+        distances_length: usize,
+    ) -> u32;
     pub(crate) fn nashirudder_check_step(
         map: *const u8,
         map_length: usize,

@@ -1,2 +1,8 @@
 mod AsBox
+mod AsMapBox
 mod Counted
+mod InTurn
+mod Listed
+mod Refused
+mod Shows
+mod Written

@@ -1,7 +1,13 @@
 pub mod Forms
 pub mod Codes
 pub mod Opening
+pub mod Reopened
+pub mod Views
 pub mod Answers
+pub mod Batches
 pub mod Owns
+pub mod OwnsMap
 pub mod Handles
+pub mod Sentences
 pub mod Maps
+pub mod Floors
