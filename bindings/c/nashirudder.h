@@ -18,17 +18,24 @@
 **     it. There are no globals: any number of fleets may be open at once.
 **
 ** LISTS
-**     A list is a pointer and then the number of its items. The pointer is never null, even where the list is empty. The
-**     items of a list that is written must not overlap those of another argument. No other pointer may be null either:
-**     each call writes or reads what its pointers lead to.
+**     A list is a pointer and then the number of its items. The pointer of an empty list may be null. The items of a list
+**     that is written must not overlap those of another argument.
+**
+** NULL
+**     A call whose fleet, setup or list is null answers NASHIRUDDER_NULL_POINTER and does nothing. A `judgement`, `report`,
+**     `left` or `fault` that is not wanted may be null. The inline functions at the end of this header see to both, and then
+**     call the library, whose functions are given no null: so a program that calls the library by another way, as by
+**     dlsym, has to give it none. With NASHIRUDDER_UNCHECKED defined the header leaves them out.
 **
 ** MEMORY
 **     The library takes memory by malloc and realloc and gives it back by free. All that it took for a fleet is free after
 **     nashirudder_close. Where memory is refused the call answers NASHIRUDDER_NO_MEMORY; no call ends the program.
 **
 ** THREADS
-**     One call at a time on a handle, the views included: they write the handle too. A handle may move from thread to thread, and calls on different handles may run side
-**     by side. No call starts a thread, waits for a lock, or may be made from a signal handler.
+**     The calls that take a handle as const only look at it: any number of them may run at once on one handle. Every other
+**     call has to be the only one on its handle. A handle may move from thread to thread, if a lock or the start or end of a
+**     thread orders the calls, and calls on different handles may run side by side. No call starts a thread, waits for a
+**     lock, or may be made from a signal handler.
 **
 ** REFUSALS
 **     Each call answers a code. It is NASHIRUDDER_DONE where the call was carried out; at every other code the fleet is as it
@@ -41,6 +48,15 @@
 #include <stdbool.h>
 #include <stddef.h>
 #include <stdint.h>
+
+/*
+** The version of this header. nashirudder_version is that of the library: a program should compare them once, since a
+** library of another major version (before 1.0.0: of another minor version) has other structs and numbers.
+*/
+#define NASHIRUDDER_VERSION_MAJOR 0
+#define NASHIRUDDER_VERSION_MINOR 1
+#define NASHIRUDDER_VERSION_PATCH 0
+#define NASHIRUDDER_VERSION (NASHIRUDDER_VERSION_MAJOR * 10000 + NASHIRUDDER_VERSION_MINOR * 100 + NASHIRUDDER_VERSION_PATCH)
 
 #ifdef __cplusplus
 extern "C" {
@@ -56,67 +72,107 @@ extern "C" {
 #endif
 
 /*
-** CODES: what calls answer. nashirudder_code_name has a word for each. A verdict is no code, though some numbers are alike.
+** An enum of 32 bits.
 */
-#define NASHIRUDDER_DONE 0              /* the call was carried out */
-#define NASHIRUDDER_NO_MEMORY 1         /* memory was refused */
-#define NASHIRUDDER_NOT_OPEN 2          /* the handle is closed */
-#define NASHIRUDDER_ALREADY_OPEN 3      /* the handle is open */
-#define NASHIRUDDER_NO_CLIENT 4         /* there is no client of this number */
-#define NASHIRUDDER_NO_ROBOT 5          /* there is no robot of this number */
-#define NASHIRUDDER_MAILBOX_FULL 6      /* the client's notices and unfinished errands leave no room for two more */
-#define NASHIRUDDER_CHAPTER_FULL 7      /* the chapter has all the entries that it may have: begin the next */
-#define NASHIRUDDER_CLOCK_SPENT 8       /* all the ticks were made that may be made */
-#define NASHIRUDDER_ALREADY_SHUT 9      /* the robot is shut already */
-#define NASHIRUDDER_BOOK_SPENT 10       /* this is the last chapter that there may be */
-#define NASHIRUDDER_NO_NOTICE 11        /* the client has no notice that it was not given */
-#define NASHIRUDDER_TOO_WIDE 12         /* the mailbox may not hold so much */
-#define NASHIRUDDER_IDLE 13             /* the robot, or each robot, has no errand */
-#define NASHIRUDDER_HAS_BRIDGE 14       /* the map has a bridge */
-#define NASHIRUDDER_WRONG_LENGTH 15     /* the list has not the length that is asked for */
+#if defined(__cplusplus) || (defined(__STDC_VERSION__) && __STDC_VERSION__ >= 202311L)
+#define NASHIRUDDER_ENUM(name) enum name : uint32_t
+#else
+#define NASHIRUDDER_ENUM(name) enum name
+#endif
 
-/* a map's first fault; a nashirudder_fault has the numbers */
-#define NASHIRUDDER_MAP_HEADER 20       /* the line of the head, `first`, is missing or not in its form */
-#define NASHIRUDDER_MAP_SIZE 21         /* the height or the width is not from 1 to 1,024 */
-#define NASHIRUDDER_MAP_ROW 22          /* the row `first` is missing or not as long as the width */
-#define NASHIRUDDER_MAP_CELL 23         /* the byte in row `first`, column `second` is no letter of a map */
-#define NASHIRUDDER_MAP_TRAILING 24     /* the line `first`, after the rows, has more than blanks and tabs */
+/*
+** CODES: what calls answer. nashirudder_code_name has a word for each, and nashirudder_message a sentence. No verdict has the
+** number of a code.
+*/
+typedef NASHIRUDDER_ENUM(nashirudder_code) {
+    NASHIRUDDER_DONE = 0,                /* the call was carried out */
+    NASHIRUDDER_NO_MEMORY = 1,           /* memory was refused */
+    NASHIRUDDER_NOT_OPEN = 2,            /* the handle is closed */
+    NASHIRUDDER_ALREADY_OPEN = 3,        /* the handle is open */
+    NASHIRUDDER_NO_CLIENT = 4,           /* there is no client of this number */
+    NASHIRUDDER_NO_ROBOT = 5,            /* there is no robot of this number */
+    NASHIRUDDER_MAILBOX_FULL = 6,        /* the client's notices and unfinished errands leave no room for two more */
+    NASHIRUDDER_CHAPTER_FULL = 7,        /* the chapter has all the entries that it may have: begin the next */
+    NASHIRUDDER_CLOCK_SPENT = 8,         /* all the ticks were made that may be made */
+    NASHIRUDDER_ALREADY_SHUT = 9,        /* the robot is shut already */
+    NASHIRUDDER_BOOK_SPENT = 10,         /* this is the last chapter that there may be */
+    NASHIRUDDER_NO_NOTICE = 11,          /* the client has no notice that it was not given */
+    NASHIRUDDER_TOO_WIDE = 12,           /* the mailbox may not hold so much */
+    NASHIRUDDER_IDLE = 13,               /* the robot, or each robot, has no errand */
+    NASHIRUDDER_HAS_BRIDGE = 14,         /* the map has a bridge */
+    NASHIRUDDER_WRONG_LENGTH = 15,       /* the list has not the length that is asked for */
+    NASHIRUDDER_NULL_POINTER = 16,       /* a pointer is null */
+    NASHIRUDDER_BAD_ORDER = 17,          /* there is no kind of orders of this number */
 
-/* why a fleet is not opened */
-#define NASHIRUDDER_BAD_SETUP 30        /* a limit or the number of clients is out of its range */
-#define NASHIRUDDER_ROBOT_COUNT 31      /* there are not 1 to 512 robots */
-#define NASHIRUDDER_START_BLOCKED 32    /* the robot `first` does not start on floor */
-#define NASHIRUDDER_START_SHARED 33     /* the robots `first` and `second` start on one cell */
+    /* a map's first fault; a nashirudder_fault has the numbers */
+    NASHIRUDDER_MAP_HEADER = 20,         /* the line of the head, `first`, is missing or not in its form */
+    NASHIRUDDER_MAP_SIZE = 21,           /* the height or the width is not from 1 to 1,024 */
+    NASHIRUDDER_MAP_ROW = 22,            /* the row `first` is missing or not as long as the width */
+    NASHIRUDDER_MAP_CELL = 23,           /* the byte in row `first`, column `second` is no letter of a map */
+    NASHIRUDDER_MAP_TRAILING = 24,       /* the line `first`, after the rows, has more than blanks and tabs */
 
-/* what is said of a map alone */
-#define NASHIRUDDER_TOO_MANY 40         /* more robots are named than the map has cells */
-#define NASHIRUDDER_FROM_BLOCKED 41     /* before the step the robot `first` is not on floor */
-#define NASHIRUDDER_FROM_SHARED 42      /* before the step the robots `first` and `second` are on one cell */
-#define NASHIRUDDER_TO_LENGTH 43        /* the new cells are not as many as the old ones */
-#define NASHIRUDDER_OFF_FLOOR 44        /* the robot `first` leaves the floor */
-#define NASHIRUDDER_NOT_ADJACENT 45     /* the robot `first` neither stays nor crosses an edge */
-#define NASHIRUDDER_VERTEX_CONFLICT 46  /* the robots `first` and `second` come to one cell */
-#define NASHIRUDDER_SWAPPING_CONFLICT 47 /* the robots `first` and `second` exchange their cells */
-#define NASHIRUDDER_NO_BRIDGE 48        /* the map has no bridge */
-#define NASHIRUDDER_GOAL_BLOCKED 49     /* the goal is not floor */
+    /* why a fleet is not opened */
+    NASHIRUDDER_BAD_SETUP = 30,          /* a limit or the number of clients is out of its range */
+    NASHIRUDDER_ROBOT_COUNT = 31,        /* there are not 1 to 512 robots */
+    NASHIRUDDER_START_BLOCKED = 32,      /* the robot `first` does not start on floor */
+    NASHIRUDDER_START_SHARED = 33,       /* the robots `first` and `second` start on one cell */
+    NASHIRUDDER_WRONG_SIZE = 34,         /* the setup has not the size that the library reads: it was made with another header */
+
+    /* what is said of a map alone */
+    NASHIRUDDER_TOO_MANY = 40,           /* more robots are named than the map has cells */
+    NASHIRUDDER_FROM_BLOCKED = 41,       /* before the step the robot `first` is not on floor */
+    NASHIRUDDER_FROM_SHARED = 42,        /* before the step the robots `first` and `second` are on one cell */
+    NASHIRUDDER_TO_LENGTH = 43,          /* the new cells are not as many as the old ones */
+    NASHIRUDDER_OFF_FLOOR = 44,          /* the robot `first` leaves the floor */
+    NASHIRUDDER_NOT_ADJACENT = 45,       /* the robot `first` neither stays nor crosses an edge */
+    NASHIRUDDER_VERTEX_CONFLICT = 46,    /* the robots `first` and `second` come to one cell */
+    NASHIRUDDER_SWAPPING_CONFLICT = 47,  /* the robots `first` and `second` exchange their cells */
+    NASHIRUDDER_NO_BRIDGE = 48,          /* the map has no bridge */
+    NASHIRUDDER_GOAL_BLOCKED = 49,       /* the goal is not floor */
+
+    /* why a fleet does not go on from a kept chapter */
+    NASHIRUDDER_TRACE_NOT_JSON = 50,     /* the text is not UTF-8, not JSON, or nested deeper than 127 */
+    NASHIRUDDER_TRACE_VERSION = 51,      /* the number under `version` is that of no known version */
+    NASHIRUDDER_TRACE_SHAPE = 52,        /* the text has not the form of a trace */
+    NASHIRUDDER_CHAPTER_ILLEGAL = 53,    /* the chapter is not legal on the map: the entry `first` breaks the rule `second` (docs/TRACE.md) */
+    NASHIRUDDER_LAWS_DIFFER = 54,        /* the robots are not as many as the chapter's, or the chapter has stamps other than 0 */
+    NASHIRUDDER_LIMITS_DIFFER = 55,      /* `queue` or `life` is not that of the chapter */
+    NASHIRUDDER_CHAPTERS_SPENT = 56,     /* within the limits no chapter follows */
+    NASHIRUDDER_WAITED_TOO_LONG = 57     /* a robot has waited longer than it may on a map without bridges */
+} nashirudder_code;
 
 /*
 ** VERDICTS: what an order is answered once it is taken. The first three carry it out, the others refuse it for a reason; in
 ** either case it is an entry of the history, and the client is told. nashirudder_verdict_name has a word for each.
 */
-#define NASHIRUDDER_ACCEPTED 1          /* the errand joins its robot's queue */
-#define NASHIRUDDER_CLOSING 2           /* the client is closed from now on */
-#define NASHIRUDDER_WITHDRAWN 3         /* the errand has left its robot's queue */
-#define NASHIRUDDER_CLIENT_CLOSED 4     /* the client is closed */
-#define NASHIRUDDER_UNKNOWN_ROBOT 5     /* there is no robot of this number */
-#define NASHIRUDDER_ROBOT_SHUT 6        /* the robot takes no further errands */
-#define NASHIRUDDER_NO_CELL 7           /* the cell's number is not below height times width */
-#define NASHIRUDDER_BLOCKED 8           /* the cell is not floor */
-#define NASHIRUDDER_UNREACHABLE 9       /* the cell is in another part of the floor than the robot */
-#define NASHIRUDDER_QUEUE_FULL 10       /* the robot's queue is full */
-#define NASHIRUDDER_LIFE_SPENT 11       /* the client has had all the errands accepted that it may have */
-#define NASHIRUDDER_NO_ERRAND 12        /* no unfinished errand of the client has this number */
-#define NASHIRUDDER_TOO_LATE 13         /* the errand is its robot's front */
+typedef NASHIRUDDER_ENUM(nashirudder_verdict) {
+    NASHIRUDDER_NO_VERDICT = 0,          /* of a notice that is an arrival */
+    NASHIRUDDER_ACCEPTED = 101,          /* the errand joins its robot's queue */
+    NASHIRUDDER_CLOSING = 102,           /* the client is closed from now on */
+    NASHIRUDDER_WITHDRAWN = 103,         /* the errand has left its robot's queue */
+    NASHIRUDDER_CLIENT_CLOSED = 104,     /* the client is closed */
+    NASHIRUDDER_UNKNOWN_ROBOT = 105,     /* there is no robot of this number */
+    NASHIRUDDER_ROBOT_SHUT = 106,        /* the robot takes no further errands */
+    NASHIRUDDER_NO_CELL = 107,           /* the cell's number is not below height times width */
+    NASHIRUDDER_BLOCKED = 108,           /* the cell is not floor */
+    NASHIRUDDER_UNREACHABLE = 109,       /* the cell is in another part of the floor than the robot */
+    NASHIRUDDER_QUEUE_FULL = 110,        /* the robot's queue is full */
+    NASHIRUDDER_LIFE_SPENT = 111,        /* the client has had all the errands accepted that it may have */
+    NASHIRUDDER_NO_ERRAND = 112,         /* no unfinished errand of the client has this number */
+    NASHIRUDDER_TOO_LATE = 113           /* the errand is its robot's front */
+} nashirudder_verdict;
+
+/*
+** KINDS of orders, in a list of them.
+*/
+typedef NASHIRUDDER_ENUM(nashirudder_kind) {
+    NASHIRUDDER_ORDER_GO = 1,            /* a robot is to go to a cell */
+    NASHIRUDDER_ORDER_CLOSE = 2,         /* the client's last order */
+    NASHIRUDDER_ORDER_WITHDRAW = 3       /* an errand is given up */
+} nashirudder_kind;
+
+/* The structs below have numbers of 32 bits in these types' places. */
+typedef char nashirudder_enums_have_32_bits[sizeof(nashirudder_code) == 4 && sizeof(nashirudder_verdict) == 4 && sizeof(nashirudder_kind) == 4 ? 1 : -1];
 
 /*
 ** The word for a code; "unknown" for a number that is none.
@@ -139,6 +195,8 @@ static inline const char *nashirudder_code_name(uint32_t code) {
     case NASHIRUDDER_IDLE: return "idle";
     case NASHIRUDDER_HAS_BRIDGE: return "has-bridge";
     case NASHIRUDDER_WRONG_LENGTH: return "wrong-length";
+    case NASHIRUDDER_NULL_POINTER: return "null-pointer";
+    case NASHIRUDDER_BAD_ORDER: return "bad-order";
     case NASHIRUDDER_MAP_HEADER: return "map-header";
     case NASHIRUDDER_MAP_SIZE: return "map-size";
     case NASHIRUDDER_MAP_ROW: return "map-row";
@@ -148,6 +206,7 @@ static inline const char *nashirudder_code_name(uint32_t code) {
     case NASHIRUDDER_ROBOT_COUNT: return "robot-count";
     case NASHIRUDDER_START_BLOCKED: return "start-blocked";
     case NASHIRUDDER_START_SHARED: return "start-shared";
+    case NASHIRUDDER_WRONG_SIZE: return "wrong-size";
     case NASHIRUDDER_TOO_MANY: return "too-many";
     case NASHIRUDDER_FROM_BLOCKED: return "from-blocked";
     case NASHIRUDDER_FROM_SHARED: return "from-shared";
@@ -158,6 +217,14 @@ static inline const char *nashirudder_code_name(uint32_t code) {
     case NASHIRUDDER_SWAPPING_CONFLICT: return "swapping-conflict";
     case NASHIRUDDER_NO_BRIDGE: return "no-bridge";
     case NASHIRUDDER_GOAL_BLOCKED: return "goal-blocked";
+    case NASHIRUDDER_TRACE_NOT_JSON: return "trace-not-json";
+    case NASHIRUDDER_TRACE_VERSION: return "trace-version";
+    case NASHIRUDDER_TRACE_SHAPE: return "trace-shape";
+    case NASHIRUDDER_CHAPTER_ILLEGAL: return "chapter-illegal";
+    case NASHIRUDDER_LAWS_DIFFER: return "laws-differ";
+    case NASHIRUDDER_LIMITS_DIFFER: return "limits-differ";
+    case NASHIRUDDER_CHAPTERS_SPENT: return "chapters-spent";
+    case NASHIRUDDER_WAITED_TOO_LONG: return "waited-too-long";
     default: return "unknown";
     }
 }
@@ -197,13 +264,15 @@ typedef struct nashirudder_fleet {
 #define NASHIRUDDER_CLOSED {0, false}
 
 /*
-** The number of clients and the limits of a fleet. nashirudder_setup_default fills it in.
+** The number of clients and the limits of a fleet. nashirudder_setup_default fills it in; it begins with its size, so that a
+** library that reads another form of it refuses it (NASHIRUDDER_WRONG_SIZE).
 */
 typedef struct nashirudder_setup {
+    uint32_t size;      /* sizeof(nashirudder_setup) */
+    uint32_t clients;   /* 1 to 64 */
     uint64_t life;      /* errands that a client may have accepted in all, 1 to 2^40 */
     uint64_t orders;    /* orders that a client may send in all, 2 to 2^62; takes effect in an office alone */
     uint64_t clock;     /* ticks in all, 1 to 2^48 */
-    uint32_t clients;   /* 1 to 64 */
     uint32_t lane;      /* orders that a client's lane holds, 1 to 65,536; takes effect in an office alone */
     uint32_t outlet;    /* notices that a client's outlet holds, 1 to 65,536; takes effect in an office alone */
     uint32_t queue;     /* errands that a robot's queue holds, 1 to 65,536 */
@@ -226,9 +295,9 @@ typedef struct nashirudder_robot {
 ** Why a call that reads a map was refused.
 */
 typedef struct nashirudder_fault {
-    uint64_t first;     /* the first number that the refusal names, a line, row or robot, else 0 */
-    uint64_t second;    /* the second number that it names, a column or robot, else 0 */
-    uint32_t code;      /* the same as the call's answer */
+    uint64_t first;     /* the first number that the refusal names, a line, row, robot or entry, else 0 */
+    uint64_t second;    /* the second number that it names, a column, robot or rule, else 0 */
+    nashirudder_code code; /* the same as the call's answer */
 } nashirudder_fault;
 
 /*
@@ -236,7 +305,7 @@ typedef struct nashirudder_fault {
 */
 typedef struct nashirudder_judgement {
     uint64_t number;    /* of NASHIRUDDER_ACCEPTED: the errand's number among the client's accepted errands; else 0 */
-    uint32_t verdict;   /* one of the verdicts above */
+    nashirudder_verdict verdict;
 } nashirudder_judgement;
 
 /*
@@ -256,11 +325,33 @@ typedef struct nashirudder_note {
     uint64_t order;     /* of a verdict: the client's order; of an arrival: 0 */
     uint64_t number;    /* the errand's number, of an arrival and of an order that was accepted; else 0 */
     uint64_t tick;      /* of an arrival: the tick after which the robot stood on the cell; else 0 */
-    uint32_t verdict;   /* of a verdict: one of the verdicts above; of an arrival: 0 */
+    nashirudder_verdict verdict; /* of an arrival: NASHIRUDDER_NO_VERDICT */
     uint32_t robot;     /* of an arrival, else 0 */
     uint32_t cell;      /* of an arrival, else 0 */
     uint32_t stamp;     /* of an arrival: 0, since fleets opened from C stamp 0; else 0 */
 } nashirudder_note;
+
+/*
+** An order in a list of orders. What its kind does not need is not read.
+*/
+typedef struct nashirudder_order {
+    uint64_t number;    /* of NASHIRUDDER_ORDER_WITHDRAW: the errand */
+    nashirudder_kind kind;
+    uint32_t client;
+    uint32_t robot;     /* of NASHIRUDDER_ORDER_GO */
+    uint32_t cell;      /* of NASHIRUDDER_ORDER_GO */
+} nashirudder_order;
+
+/*
+** An arrival that a tick shows.
+*/
+typedef struct nashirudder_arrival {
+    uint64_t number;    /* the errand's number among the client's accepted errands */
+    uint32_t robot;
+    uint32_t client;
+    uint32_t cell;      /* the robot's cell after the tick */
+    uint32_t stamp;     /* 0, since fleets opened from C stamp 0 */
+} nashirudder_arrival;
 
 /*
 ** An edge of a map, the cell of less number first.
@@ -269,6 +360,20 @@ typedef struct nashirudder_edge {
     uint32_t lower;
     uint32_t upper;
 } nashirudder_edge;
+
+/* ---- version and messages ---- */
+
+/*
+** The version of the library, as NASHIRUDDER_VERSION is that of this header.
+*/
+uint32_t nashirudder_version(void);
+
+/*
+** One sentence in ASCII about a fault, with the numbers that it names and a zero at its end. Of a sentence that does not fit
+** into `length` bytes, as much is written as fits. Returns how many bytes the whole sentence has, without the zero; so with a
+** length of 0 it only says that. Of a code alone: put it into a fault whose numbers are 0.
+*/
+size_t nashirudder_message(const nashirudder_fault *fault, char *text, size_t text_length);
 
 /* ---- opening and closing ---- */
 
@@ -283,11 +388,26 @@ void nashirudder_setup_default(uint32_t clients, nashirudder_setup *setup);
 ** Opens a closed handle: a fleet on the map, each robot on its start. The map is a text of the MovingAI benchmarks (.map);
 ** neither it nor the other lists are needed after the call.
 **
-** Refused: NASHIRUDDER_ALREADY_OPEN, where `fault` stays as it was; a map's first fault; NASHIRUDDER_BAD_SETUP;
-** NASHIRUDDER_ROBOT_COUNT; NASHIRUDDER_START_BLOCKED; NASHIRUDDER_START_SHARED; and NASHIRUDDER_NO_MEMORY at any time.
+** Refused: NASHIRUDDER_ALREADY_OPEN, where `fault` stays as it was; NASHIRUDDER_WRONG_SIZE; a map's first fault;
+** NASHIRUDDER_BAD_SETUP; NASHIRUDDER_ROBOT_COUNT; NASHIRUDDER_START_BLOCKED; NASHIRUDDER_START_SHARED; and NASHIRUDDER_NO_MEMORY at any time.
 */
-NASHIRUDDER_MUST_USE uint32_t nashirudder_open(const uint8_t *map, size_t map_length, const nashirudder_robot *robots, size_t robots_length,
+NASHIRUDDER_MUST_USE nashirudder_code nashirudder_open(const uint8_t *map, size_t map_length, const nashirudder_robot *robots, size_t robots_length,
                           const nashirudder_setup *setup, nashirudder_fleet *fleet, nashirudder_fault *fault);
+
+/*
+** Opens a closed handle: the fleet that goes on from a chapter that was kept. `text` is what nashirudder_trace wrote at the
+** chapter's end. The fleet's own chapter has the next number, and begins where that one ends. Robots, clients and errands are
+** those of the chapter; the mailboxes are empty, each with room for `mailbox` or for what its client is owed. Of `robots` only
+** the ranks are read, which are not kept in a chapter, and of the setup all but `clients`.
+**
+** Refused: NASHIRUDDER_ALREADY_OPEN, where `fault` stays as it was; NASHIRUDDER_WRONG_SIZE; a map's first fault;
+** NASHIRUDDER_TRACE_NOT_JSON; NASHIRUDDER_TRACE_VERSION; NASHIRUDDER_TRACE_SHAPE; NASHIRUDDER_BAD_SETUP;
+** NASHIRUDDER_CHAPTER_ILLEGAL; NASHIRUDDER_LAWS_DIFFER; NASHIRUDDER_LIMITS_DIFFER; NASHIRUDDER_CHAPTERS_SPENT;
+** NASHIRUDDER_WAITED_TOO_LONG; and NASHIRUDDER_NO_MEMORY at any time.
+*/
+NASHIRUDDER_MUST_USE nashirudder_code nashirudder_reopen(const uint8_t *map, size_t map_length, const uint8_t *text, size_t text_length,
+                          const nashirudder_robot *robots, size_t robots_length, const nashirudder_setup *setup,
+                          nashirudder_fleet *fleet, nashirudder_fault *fault);
 
 /*
 ** Closes a handle: frees what an open one owns. A closed one stays closed.
@@ -302,20 +422,31 @@ void nashirudder_close(nashirudder_fleet *fleet);
 ** Refused: NASHIRUDDER_NOT_OPEN, NASHIRUDDER_NO_CLIENT, NASHIRUDDER_MAILBOX_FULL, NASHIRUDDER_CHAPTER_FULL,
 ** NASHIRUDDER_NO_MEMORY.
 */
-NASHIRUDDER_MUST_USE uint32_t nashirudder_go(nashirudder_fleet *fleet, uint32_t client, uint32_t robot, uint32_t cell,
+NASHIRUDDER_MUST_USE nashirudder_code nashirudder_go(nashirudder_fleet *fleet, uint32_t client, uint32_t robot, uint32_t cell,
                         nashirudder_judgement *judgement);
 
 /*
 ** A client's last order: all that it orders later gets the verdict NASHIRUDDER_CLIENT_CLOSED. Refused as nashirudder_go.
 */
-NASHIRUDDER_MUST_USE uint32_t nashirudder_close_client(nashirudder_fleet *fleet, uint32_t client, nashirudder_judgement *judgement);
+NASHIRUDDER_MUST_USE nashirudder_code nashirudder_close_client(nashirudder_fleet *fleet, uint32_t client, nashirudder_judgement *judgement);
 
 /*
 ** A client gives up its accepted errand of that number, if it stands in its robot's queue and not in front. Refused as
 ** nashirudder_go.
 */
-NASHIRUDDER_MUST_USE uint32_t nashirudder_withdraw(nashirudder_fleet *fleet, uint32_t client, uint64_t number,
+NASHIRUDDER_MUST_USE nashirudder_code nashirudder_withdraw(nashirudder_fleet *fleet, uint32_t client, uint64_t number,
                               nashirudder_judgement *judgement);
+
+/*
+** Takes orders one after the other, each as by nashirudder_go and its like, until one is refused; there is one place for a
+** judgement for each. `count` says how many were taken: so many of the judgements are written, and the others stay as they
+** were. What the answer refuses is the order of that place, the others after it were not tried.
+**
+** Refused: NASHIRUDDER_NOT_OPEN and NASHIRUDDER_WRONG_LENGTH, where `count` stays as it was; NASHIRUDDER_BAD_ORDER, or as
+** nashirudder_go, by one of the orders.
+*/
+NASHIRUDDER_MUST_USE nashirudder_code nashirudder_take_many(nashirudder_fleet *fleet, const nashirudder_order *orders, size_t orders_length,
+                               nashirudder_judgement *judgements, size_t judgements_length, size_t *count);
 
 /* ---- ticks and shuts ---- */
 
@@ -324,7 +455,18 @@ NASHIRUDDER_MUST_USE uint32_t nashirudder_withdraw(nashirudder_fleet *fleet, uin
 **
 ** Refused: NASHIRUDDER_NOT_OPEN, NASHIRUDDER_CLOCK_SPENT, NASHIRUDDER_CHAPTER_FULL, NASHIRUDDER_NO_MEMORY.
 */
-NASHIRUDDER_MUST_USE uint32_t nashirudder_tick(nashirudder_fleet *fleet, nashirudder_report *report);
+NASHIRUDDER_MUST_USE nashirudder_code nashirudder_tick(nashirudder_fleet *fleet, nashirudder_report *report);
+
+/*
+** The same, and writes where the robots stand after the tick, the arrivals by robot (`report.arrived` of them), and the
+** robots that said farewell (`report.farewells` of them). Each list has one place a robot; the places after what is written
+** stay as they were.
+**
+** Refused: NASHIRUDDER_NOT_OPEN, NASHIRUDDER_WRONG_LENGTH, and then as nashirudder_tick. A tick that is refused writes
+** nothing.
+*/
+NASHIRUDDER_MUST_USE nashirudder_code nashirudder_tick_into(nashirudder_fleet *fleet, nashirudder_report *report, uint32_t *cells, size_t cells_length,
+                               nashirudder_arrival *arrivals, size_t arrivals_length, uint32_t *farewells, size_t farewells_length);
 
 /*
 ** Shuts a robot: it finishes its errands and gets no more. `left` says whether it has none, and so took its leave at once.
@@ -332,7 +474,7 @@ NASHIRUDDER_MUST_USE uint32_t nashirudder_tick(nashirudder_fleet *fleet, nashiru
 ** Refused: NASHIRUDDER_NOT_OPEN, NASHIRUDDER_NO_ROBOT, NASHIRUDDER_ALREADY_SHUT, NASHIRUDDER_CHAPTER_FULL,
 ** NASHIRUDDER_NO_MEMORY.
 */
-NASHIRUDDER_MUST_USE uint32_t nashirudder_shut(nashirudder_fleet *fleet, uint32_t robot, bool *left);
+NASHIRUDDER_MUST_USE nashirudder_code nashirudder_shut(nashirudder_fleet *fleet, uint32_t robot, bool *left);
 
 /* ---- mailboxes ---- */
 
@@ -341,14 +483,31 @@ NASHIRUDDER_MUST_USE uint32_t nashirudder_shut(nashirudder_fleet *fleet, uint32_
 **
 ** Refused: NASHIRUDDER_NOT_OPEN, NASHIRUDDER_NO_CLIENT, NASHIRUDDER_NO_NOTICE.
 */
-NASHIRUDDER_MUST_USE uint32_t nashirudder_give(nashirudder_fleet *fleet, uint32_t client, nashirudder_note *note);
+NASHIRUDDER_MUST_USE nashirudder_code nashirudder_give(nashirudder_fleet *fleet, uint32_t client, nashirudder_note *note);
+
+/*
+** Gives a client its next notices, as many as there are places for, and says how many these are; they leave the mailbox. The
+** places after them stay as they were.
+**
+** Refused: NASHIRUDDER_NOT_OPEN, NASHIRUDDER_NO_CLIENT.
+*/
+NASHIRUDDER_MUST_USE nashirudder_code nashirudder_give_many(nashirudder_fleet *fleet, uint32_t client, nashirudder_note *notes, size_t notes_length,
+                               size_t *count);
+
+/*
+** The notice that nashirudder_give would give, which stays in the mailbox. A program that stores notices peeks at one, stores
+** it, and then takes it: so it loses none if it is killed between.
+**
+** Refused: NASHIRUDDER_NOT_OPEN, NASHIRUDDER_NO_CLIENT, NASHIRUDDER_NO_NOTICE.
+*/
+NASHIRUDDER_MUST_USE nashirudder_code nashirudder_peek(const nashirudder_fleet *fleet, uint32_t client, nashirudder_note *note);
 
 /*
 ** How many notices a client was not given yet.
 **
 ** Refused: NASHIRUDDER_NOT_OPEN, NASHIRUDDER_NO_CLIENT.
 */
-NASHIRUDDER_MUST_USE uint32_t nashirudder_pending_count(nashirudder_fleet *fleet, uint32_t client, uint64_t *count);
+NASHIRUDDER_MUST_USE nashirudder_code nashirudder_pending_count(const nashirudder_fleet *fleet, uint32_t client, uint64_t *count);
 
 /*
 ** Lets a client's mailbox hold this many more notices and unfinished errands, and takes the memory for them at once.
@@ -356,21 +515,32 @@ NASHIRUDDER_MUST_USE uint32_t nashirudder_pending_count(nashirudder_fleet *fleet
 ** Refused: NASHIRUDDER_NOT_OPEN, NASHIRUDDER_NO_CLIENT, NASHIRUDDER_TOO_WIDE where it would hold more than 2^60,
 ** NASHIRUDDER_NO_MEMORY.
 */
-NASHIRUDDER_MUST_USE uint32_t nashirudder_widen(nashirudder_fleet *fleet, uint32_t client, uint64_t extra);
+NASHIRUDDER_MUST_USE nashirudder_code nashirudder_widen(nashirudder_fleet *fleet, uint32_t client, uint64_t extra);
 
 /* ---- views: no call here changes the fleet ---- */
+
+/*
+** How many robots, and how many clients, there are. Refused: NASHIRUDDER_NOT_OPEN.
+*/
+NASHIRUDDER_MUST_USE nashirudder_code nashirudder_robots(const nashirudder_fleet *fleet, size_t *count);
+NASHIRUDDER_MUST_USE nashirudder_code nashirudder_clients(const nashirudder_fleet *fleet, size_t *count);
+
+/*
+** The limits, and the number of clients. Refused: NASHIRUDDER_NOT_OPEN.
+*/
+NASHIRUDDER_MUST_USE nashirudder_code nashirudder_limits(const nashirudder_fleet *fleet, nashirudder_setup *setup);
 
 /*
 ** Where the robots stand, by number. The list has one place a robot.
 **
 ** Refused: NASHIRUDDER_NOT_OPEN, NASHIRUDDER_WRONG_LENGTH.
 */
-NASHIRUDDER_MUST_USE uint32_t nashirudder_placement(nashirudder_fleet *fleet, uint32_t *cells, size_t cells_length);
+NASHIRUDDER_MUST_USE nashirudder_code nashirudder_placement(const nashirudder_fleet *fleet, uint32_t *cells, size_t cells_length);
 
 /*
 ** The ticks made so far. Refused: NASHIRUDDER_NOT_OPEN.
 */
-NASHIRUDDER_MUST_USE uint32_t nashirudder_clock(nashirudder_fleet *fleet, uint64_t *ticks);
+NASHIRUDDER_MUST_USE nashirudder_code nashirudder_clock(const nashirudder_fleet *fleet, uint64_t *ticks);
 
 /*
 ** How many ticks a robot has waited for the arrival at the cell of its front errand. On a map without bridges there is a
@@ -378,31 +548,41 @@ NASHIRUDDER_MUST_USE uint32_t nashirudder_clock(nashirudder_fleet *fleet, uint64
 **
 ** Refused: NASHIRUDDER_NOT_OPEN, NASHIRUDDER_NO_ROBOT, NASHIRUDDER_IDLE where it has no errand.
 */
-NASHIRUDDER_MUST_USE uint32_t nashirudder_wait_of(nashirudder_fleet *fleet, uint32_t robot, uint64_t *ticks);
+NASHIRUDDER_MUST_USE nashirudder_code nashirudder_wait_of(const nashirudder_fleet *fleet, uint32_t robot, uint64_t *ticks);
 
 /*
 ** The robot that has waited longest, the least number on a tie.
 **
 ** Refused: NASHIRUDDER_NOT_OPEN, NASHIRUDDER_IDLE where nobody has an errand.
 */
-NASHIRUDDER_MUST_USE uint32_t nashirudder_eldest(nashirudder_fleet *fleet, uint32_t *robot);
+NASHIRUDDER_MUST_USE nashirudder_code nashirudder_eldest(const nashirudder_fleet *fleet, uint32_t *robot);
+
+/*
+** How many ticks that robot has waited. Refused: NASHIRUDDER_NOT_OPEN, NASHIRUDDER_IDLE where nobody has an errand.
+*/
+NASHIRUDDER_MUST_USE nashirudder_code nashirudder_longest_wait(const nashirudder_fleet *fleet, uint64_t *ticks);
+
+/*
+** A number of ticks that no wait reaches, whatever is ordered. Refused: NASHIRUDDER_NOT_OPEN, NASHIRUDDER_HAS_BRIDGE.
+*/
+NASHIRUDDER_MUST_USE nashirudder_code nashirudder_wait_limit(const nashirudder_fleet *fleet, uint64_t *ticks);
 
 /*
 ** Whether nobody has an errand. Refused: NASHIRUDDER_NOT_OPEN.
 */
-NASHIRUDDER_MUST_USE uint32_t nashirudder_is_idle(nashirudder_fleet *fleet, bool *is_idle);
+NASHIRUDDER_MUST_USE nashirudder_code nashirudder_is_idle(const nashirudder_fleet *fleet, bool *is_idle);
 
 /*
 ** Within how many ticks nobody has an errand any more, where no order is taken meanwhile.
 **
 ** Refused: NASHIRUDDER_NOT_OPEN, NASHIRUDDER_HAS_BRIDGE.
 */
-NASHIRUDDER_MUST_USE uint32_t nashirudder_idle_within(nashirudder_fleet *fleet, uint64_t *ticks);
+NASHIRUDDER_MUST_USE nashirudder_code nashirudder_idle_within(const nashirudder_fleet *fleet, uint64_t *ticks);
 
 /*
 ** Whether the map has no bridge: an edge whose removal separates its two cells. Refused: NASHIRUDDER_NOT_OPEN.
 */
-NASHIRUDDER_MUST_USE uint32_t nashirudder_is_bridgeless(nashirudder_fleet *fleet, bool *is_bridgeless);
+NASHIRUDDER_MUST_USE nashirudder_code nashirudder_is_bridgeless(const nashirudder_fleet *fleet, bool *is_bridgeless);
 
 /* ---- chapters ---- */
 
@@ -413,7 +593,7 @@ NASHIRUDDER_MUST_USE uint32_t nashirudder_is_bridgeless(nashirudder_fleet *fleet
 **
 ** Refused: NASHIRUDDER_NOT_OPEN, NASHIRUDDER_NO_MEMORY, NASHIRUDDER_WRONG_LENGTH.
 */
-NASHIRUDDER_MUST_USE uint32_t nashirudder_trace(nashirudder_fleet *fleet, uint8_t *text, size_t text_length, size_t *length);
+NASHIRUDDER_MUST_USE nashirudder_code nashirudder_trace(const nashirudder_fleet *fleet, uint8_t *text, size_t text_length, size_t *length);
 
 /*
 ** Begins the next chapter of the history, whose opening is the state now. The entries of the present one are let go: take
@@ -421,13 +601,13 @@ NASHIRUDDER_MUST_USE uint32_t nashirudder_trace(nashirudder_fleet *fleet, uint8_
 **
 ** Refused: NASHIRUDDER_NOT_OPEN, NASHIRUDDER_BOOK_SPENT, NASHIRUDDER_NO_MEMORY.
 */
-NASHIRUDDER_MUST_USE uint32_t nashirudder_next_chapter(nashirudder_fleet *fleet);
+NASHIRUDDER_MUST_USE nashirudder_code nashirudder_next_chapter(nashirudder_fleet *fleet);
 
 /*
 ** Keeps distances to goals that no robot has any more, up to this many bytes; 256 MiB where nothing is said. What is kept
 ** shows in nothing but the time and the memory that later calls need. Refused: NASHIRUDDER_NOT_OPEN.
 */
-NASHIRUDDER_MUST_USE uint32_t nashirudder_keep(nashirudder_fleet *fleet, size_t bytes);
+NASHIRUDDER_MUST_USE nashirudder_code nashirudder_keep(nashirudder_fleet *fleet, size_t bytes);
 
 /* ---- maps, without a handle ---- */
 
@@ -439,7 +619,7 @@ NASHIRUDDER_MUST_USE uint32_t nashirudder_keep(nashirudder_fleet *fleet, size_t 
 ** NASHIRUDDER_FROM_SHARED; NASHIRUDDER_TO_LENGTH; NASHIRUDDER_OFF_FLOOR; NASHIRUDDER_NOT_ADJACENT;
 ** NASHIRUDDER_VERTEX_CONFLICT; NASHIRUDDER_SWAPPING_CONFLICT; and NASHIRUDDER_NO_MEMORY at any time.
 */
-NASHIRUDDER_MUST_USE uint32_t nashirudder_check_step(const uint8_t *map, size_t map_length, const uint32_t *from, size_t from_length,
+NASHIRUDDER_MUST_USE nashirudder_code nashirudder_check_step(const uint8_t *map, size_t map_length, const uint32_t *from, size_t from_length,
                                 const uint32_t *to, size_t to_length, nashirudder_fault *fault);
 
 /*
@@ -448,7 +628,7 @@ NASHIRUDDER_MUST_USE uint32_t nashirudder_check_step(const uint8_t *map, size_t 
 ** Refused: a map's first fault, told in `fault`; NASHIRUDDER_NO_BRIDGE and NASHIRUDDER_NO_MEMORY, at which `fault` may stay
 ** as it was.
 */
-NASHIRUDDER_MUST_USE uint32_t nashirudder_first_bridge(const uint8_t *map, size_t map_length, nashirudder_edge *edge, nashirudder_fault *fault);
+NASHIRUDDER_MUST_USE nashirudder_code nashirudder_first_bridge(const uint8_t *map, size_t map_length, nashirudder_edge *edge, nashirudder_fault *fault);
 
 /*
 ** The least number of edges of a walk from each cell to the goal, NASHIRUDDER_FAR where no walk leads there. The list has
@@ -457,8 +637,286 @@ NASHIRUDDER_MUST_USE uint32_t nashirudder_first_bridge(const uint8_t *map, size_
 ** Refused: a map's first fault, told in `fault`; NASHIRUDDER_WRONG_LENGTH, NASHIRUDDER_GOAL_BLOCKED and
 ** NASHIRUDDER_NO_MEMORY, at which `fault` may stay as it was.
 */
-NASHIRUDDER_MUST_USE uint32_t nashirudder_distances(const uint8_t *map, size_t map_length, uint32_t goal, uint32_t *distances,
+NASHIRUDDER_MUST_USE nashirudder_code nashirudder_distances(const uint8_t *map, size_t map_length, uint32_t goal, uint32_t *distances,
                                size_t distances_length, nashirudder_fault *fault);
+
+/* ---- nulls: what a program calls by the names above ---- */
+
+#ifndef NASHIRUDDER_UNCHECKED
+
+/* The address of a list, which is null only if the list is empty; then it is another address, which nobody reads. */
+#define NASHIRUDDER_LIST(type, list) ((list) ? (list) : (type *)(void *)nashirudder_nothing)
+
+static uint64_t nashirudder_nothing[1];
+
+static inline size_t nashirudder_checked_message(const nashirudder_fault *fault, char *text, size_t text_length) {
+    if (!fault || (!text && text_length)) return 0;
+    return nashirudder_message(fault, NASHIRUDDER_LIST(char, text), text_length);
+}
+
+static inline void nashirudder_checked_setup_default(uint32_t clients, nashirudder_setup *setup) {
+    if (!setup) return;
+    nashirudder_setup_default(clients, setup);
+}
+
+NASHIRUDDER_MUST_USE static inline nashirudder_code nashirudder_checked_open(const uint8_t *map, size_t map_length,
+        const nashirudder_robot *robots, size_t robots_length, const nashirudder_setup *setup, nashirudder_fleet *fleet,
+        nashirudder_fault *fault) {
+    nashirudder_fault unread_fault;
+    if ((!map && map_length) || (!robots && robots_length) || !setup || !fleet) return NASHIRUDDER_NULL_POINTER;
+    return nashirudder_open(NASHIRUDDER_LIST(const uint8_t, map), map_length, NASHIRUDDER_LIST(const nashirudder_robot,
+        robots), robots_length, setup, fleet, fault ? fault : &unread_fault);
+}
+
+NASHIRUDDER_MUST_USE static inline nashirudder_code nashirudder_checked_reopen(const uint8_t *map, size_t map_length,
+        const uint8_t *text, size_t text_length, const nashirudder_robot *robots, size_t robots_length,
+        const nashirudder_setup *setup, nashirudder_fleet *fleet, nashirudder_fault *fault) {
+    nashirudder_fault unread_fault;
+    if ((!map && map_length) || (!text && text_length) || (!robots && robots_length) || !setup
+        || !fleet) return NASHIRUDDER_NULL_POINTER;
+    return nashirudder_reopen(NASHIRUDDER_LIST(const uint8_t, map), map_length, NASHIRUDDER_LIST(const uint8_t, text),
+        text_length, NASHIRUDDER_LIST(const nashirudder_robot, robots), robots_length, setup, fleet,
+        fault ? fault : &unread_fault);
+}
+
+static inline void nashirudder_checked_close(nashirudder_fleet *fleet) {
+    if (!fleet) return;
+    nashirudder_close(fleet);
+}
+
+NASHIRUDDER_MUST_USE static inline nashirudder_code nashirudder_checked_go(nashirudder_fleet *fleet, uint32_t client,
+        uint32_t robot, uint32_t cell, nashirudder_judgement *judgement) {
+    nashirudder_judgement unread_judgement;
+    if (!fleet) return NASHIRUDDER_NULL_POINTER;
+    return nashirudder_go(fleet, client, robot, cell, judgement ? judgement : &unread_judgement);
+}
+
+NASHIRUDDER_MUST_USE static inline nashirudder_code nashirudder_checked_close_client(nashirudder_fleet *fleet,
+        uint32_t client, nashirudder_judgement *judgement) {
+    nashirudder_judgement unread_judgement;
+    if (!fleet) return NASHIRUDDER_NULL_POINTER;
+    return nashirudder_close_client(fleet, client, judgement ? judgement : &unread_judgement);
+}
+
+NASHIRUDDER_MUST_USE static inline nashirudder_code nashirudder_checked_withdraw(nashirudder_fleet *fleet, uint32_t client,
+        uint64_t number, nashirudder_judgement *judgement) {
+    nashirudder_judgement unread_judgement;
+    if (!fleet) return NASHIRUDDER_NULL_POINTER;
+    return nashirudder_withdraw(fleet, client, number, judgement ? judgement : &unread_judgement);
+}
+
+NASHIRUDDER_MUST_USE static inline nashirudder_code nashirudder_checked_take_many(nashirudder_fleet *fleet,
+        const nashirudder_order *orders, size_t orders_length, nashirudder_judgement *judgements, size_t judgements_length,
+        size_t *count) {
+    if (!fleet || (!orders && orders_length) || (!judgements && judgements_length)
+        || !count) return NASHIRUDDER_NULL_POINTER;
+    return nashirudder_take_many(fleet, NASHIRUDDER_LIST(const nashirudder_order, orders), orders_length,
+        NASHIRUDDER_LIST(nashirudder_judgement, judgements), judgements_length, count);
+}
+
+NASHIRUDDER_MUST_USE static inline nashirudder_code nashirudder_checked_tick(nashirudder_fleet *fleet,
+        nashirudder_report *report) {
+    nashirudder_report unread_report;
+    if (!fleet) return NASHIRUDDER_NULL_POINTER;
+    return nashirudder_tick(fleet, report ? report : &unread_report);
+}
+
+NASHIRUDDER_MUST_USE static inline nashirudder_code nashirudder_checked_tick_into(nashirudder_fleet *fleet,
+        nashirudder_report *report, uint32_t *cells, size_t cells_length, nashirudder_arrival *arrivals,
+        size_t arrivals_length, uint32_t *farewells, size_t farewells_length) {
+    nashirudder_report unread_report;
+    if (!fleet || (!cells && cells_length) || (!arrivals && arrivals_length)
+        || (!farewells && farewells_length)) return NASHIRUDDER_NULL_POINTER;
+    return nashirudder_tick_into(fleet, report ? report : &unread_report, NASHIRUDDER_LIST(uint32_t, cells),
+        cells_length, NASHIRUDDER_LIST(nashirudder_arrival, arrivals), arrivals_length,
+        NASHIRUDDER_LIST(uint32_t, farewells), farewells_length);
+}
+
+NASHIRUDDER_MUST_USE static inline nashirudder_code nashirudder_checked_shut(nashirudder_fleet *fleet, uint32_t robot,
+        bool *left) {
+    bool unread_left;
+    if (!fleet) return NASHIRUDDER_NULL_POINTER;
+    return nashirudder_shut(fleet, robot, left ? left : &unread_left);
+}
+
+NASHIRUDDER_MUST_USE static inline nashirudder_code nashirudder_checked_give(nashirudder_fleet *fleet, uint32_t client,
+        nashirudder_note *note) {
+    if (!fleet || !note) return NASHIRUDDER_NULL_POINTER;
+    return nashirudder_give(fleet, client, note);
+}
+
+NASHIRUDDER_MUST_USE static inline nashirudder_code nashirudder_checked_give_many(nashirudder_fleet *fleet,
+        uint32_t client, nashirudder_note *notes, size_t notes_length, size_t *count) {
+    if (!fleet || (!notes && notes_length) || !count) return NASHIRUDDER_NULL_POINTER;
+    return nashirudder_give_many(fleet, client, NASHIRUDDER_LIST(nashirudder_note, notes), notes_length, count);
+}
+
+NASHIRUDDER_MUST_USE static inline nashirudder_code nashirudder_checked_peek(const nashirudder_fleet *fleet,
+        uint32_t client, nashirudder_note *note) {
+    if (!fleet || !note) return NASHIRUDDER_NULL_POINTER;
+    return nashirudder_peek(fleet, client, note);
+}
+
+NASHIRUDDER_MUST_USE static inline nashirudder_code nashirudder_checked_pending_count(const nashirudder_fleet *fleet,
+        uint32_t client, uint64_t *count) {
+    if (!fleet || !count) return NASHIRUDDER_NULL_POINTER;
+    return nashirudder_pending_count(fleet, client, count);
+}
+
+NASHIRUDDER_MUST_USE static inline nashirudder_code nashirudder_checked_widen(nashirudder_fleet *fleet, uint32_t client,
+        uint64_t extra) {
+    if (!fleet) return NASHIRUDDER_NULL_POINTER;
+    return nashirudder_widen(fleet, client, extra);
+}
+
+NASHIRUDDER_MUST_USE static inline nashirudder_code nashirudder_checked_robots(const nashirudder_fleet *fleet,
+        size_t *count) {
+    if (!fleet || !count) return NASHIRUDDER_NULL_POINTER;
+    return nashirudder_robots(fleet, count);
+}
+
+NASHIRUDDER_MUST_USE static inline nashirudder_code nashirudder_checked_clients(const nashirudder_fleet *fleet,
+        size_t *count) {
+    if (!fleet || !count) return NASHIRUDDER_NULL_POINTER;
+    return nashirudder_clients(fleet, count);
+}
+
+NASHIRUDDER_MUST_USE static inline nashirudder_code nashirudder_checked_limits(const nashirudder_fleet *fleet,
+        nashirudder_setup *setup) {
+    if (!fleet || !setup) return NASHIRUDDER_NULL_POINTER;
+    return nashirudder_limits(fleet, setup);
+}
+
+NASHIRUDDER_MUST_USE static inline nashirudder_code nashirudder_checked_placement(const nashirudder_fleet *fleet,
+        uint32_t *cells, size_t cells_length) {
+    if (!fleet || (!cells && cells_length)) return NASHIRUDDER_NULL_POINTER;
+    return nashirudder_placement(fleet, NASHIRUDDER_LIST(uint32_t, cells), cells_length);
+}
+
+NASHIRUDDER_MUST_USE static inline nashirudder_code nashirudder_checked_clock(const nashirudder_fleet *fleet,
+        uint64_t *ticks) {
+    if (!fleet || !ticks) return NASHIRUDDER_NULL_POINTER;
+    return nashirudder_clock(fleet, ticks);
+}
+
+NASHIRUDDER_MUST_USE static inline nashirudder_code nashirudder_checked_wait_of(const nashirudder_fleet *fleet,
+        uint32_t robot, uint64_t *ticks) {
+    if (!fleet || !ticks) return NASHIRUDDER_NULL_POINTER;
+    return nashirudder_wait_of(fleet, robot, ticks);
+}
+
+NASHIRUDDER_MUST_USE static inline nashirudder_code nashirudder_checked_eldest(const nashirudder_fleet *fleet,
+        uint32_t *robot) {
+    if (!fleet || !robot) return NASHIRUDDER_NULL_POINTER;
+    return nashirudder_eldest(fleet, robot);
+}
+
+NASHIRUDDER_MUST_USE static inline nashirudder_code nashirudder_checked_longest_wait(const nashirudder_fleet *fleet,
+        uint64_t *ticks) {
+    if (!fleet || !ticks) return NASHIRUDDER_NULL_POINTER;
+    return nashirudder_longest_wait(fleet, ticks);
+}
+
+NASHIRUDDER_MUST_USE static inline nashirudder_code nashirudder_checked_wait_limit(const nashirudder_fleet *fleet,
+        uint64_t *ticks) {
+    if (!fleet || !ticks) return NASHIRUDDER_NULL_POINTER;
+    return nashirudder_wait_limit(fleet, ticks);
+}
+
+NASHIRUDDER_MUST_USE static inline nashirudder_code nashirudder_checked_is_idle(const nashirudder_fleet *fleet,
+        bool *is_idle) {
+    if (!fleet || !is_idle) return NASHIRUDDER_NULL_POINTER;
+    return nashirudder_is_idle(fleet, is_idle);
+}
+
+NASHIRUDDER_MUST_USE static inline nashirudder_code nashirudder_checked_idle_within(const nashirudder_fleet *fleet,
+        uint64_t *ticks) {
+    if (!fleet || !ticks) return NASHIRUDDER_NULL_POINTER;
+    return nashirudder_idle_within(fleet, ticks);
+}
+
+NASHIRUDDER_MUST_USE static inline nashirudder_code nashirudder_checked_is_bridgeless(const nashirudder_fleet *fleet,
+        bool *is_bridgeless) {
+    if (!fleet || !is_bridgeless) return NASHIRUDDER_NULL_POINTER;
+    return nashirudder_is_bridgeless(fleet, is_bridgeless);
+}
+
+NASHIRUDDER_MUST_USE static inline nashirudder_code nashirudder_checked_trace(const nashirudder_fleet *fleet,
+        uint8_t *text, size_t text_length, size_t *length) {
+    if (!fleet || (!text && text_length) || !length) return NASHIRUDDER_NULL_POINTER;
+    return nashirudder_trace(fleet, NASHIRUDDER_LIST(uint8_t, text), text_length, length);
+}
+
+NASHIRUDDER_MUST_USE static inline nashirudder_code nashirudder_checked_next_chapter(nashirudder_fleet *fleet) {
+    if (!fleet) return NASHIRUDDER_NULL_POINTER;
+    return nashirudder_next_chapter(fleet);
+}
+
+NASHIRUDDER_MUST_USE static inline nashirudder_code nashirudder_checked_keep(nashirudder_fleet *fleet, size_t bytes) {
+    if (!fleet) return NASHIRUDDER_NULL_POINTER;
+    return nashirudder_keep(fleet, bytes);
+}
+
+NASHIRUDDER_MUST_USE static inline nashirudder_code nashirudder_checked_check_step(const uint8_t *map, size_t map_length,
+        const uint32_t *from, size_t from_length, const uint32_t *to, size_t to_length, nashirudder_fault *fault) {
+    nashirudder_fault unread_fault;
+    if ((!map && map_length) || (!from && from_length) || (!to && to_length)) return NASHIRUDDER_NULL_POINTER;
+    return nashirudder_check_step(NASHIRUDDER_LIST(const uint8_t, map), map_length, NASHIRUDDER_LIST(const uint32_t,
+        from), from_length, NASHIRUDDER_LIST(const uint32_t, to), to_length, fault ? fault : &unread_fault);
+}
+
+NASHIRUDDER_MUST_USE static inline nashirudder_code nashirudder_checked_first_bridge(const uint8_t *map, size_t map_length,
+        nashirudder_edge *edge, nashirudder_fault *fault) {
+    nashirudder_fault unread_fault;
+    if ((!map && map_length) || !edge) return NASHIRUDDER_NULL_POINTER;
+    return nashirudder_first_bridge(NASHIRUDDER_LIST(const uint8_t, map), map_length, edge, fault ? fault : &unread_fault);
+}
+
+NASHIRUDDER_MUST_USE static inline nashirudder_code nashirudder_checked_distances(const uint8_t *map, size_t map_length,
+        uint32_t goal, uint32_t *distances, size_t distances_length, nashirudder_fault *fault) {
+    nashirudder_fault unread_fault;
+    if ((!map && map_length) || (!distances && distances_length)) return NASHIRUDDER_NULL_POINTER;
+    return nashirudder_distances(NASHIRUDDER_LIST(const uint8_t, map), map_length, goal, NASHIRUDDER_LIST(uint32_t,
+        distances), distances_length, fault ? fault : &unread_fault);
+}
+
+#define nashirudder_message nashirudder_checked_message
+#define nashirudder_setup_default nashirudder_checked_setup_default
+#define nashirudder_open nashirudder_checked_open
+#define nashirudder_reopen nashirudder_checked_reopen
+#define nashirudder_close nashirudder_checked_close
+#define nashirudder_go nashirudder_checked_go
+#define nashirudder_close_client nashirudder_checked_close_client
+#define nashirudder_withdraw nashirudder_checked_withdraw
+#define nashirudder_take_many nashirudder_checked_take_many
+#define nashirudder_tick nashirudder_checked_tick
+#define nashirudder_tick_into nashirudder_checked_tick_into
+#define nashirudder_shut nashirudder_checked_shut
+#define nashirudder_give nashirudder_checked_give
+#define nashirudder_give_many nashirudder_checked_give_many
+#define nashirudder_peek nashirudder_checked_peek
+#define nashirudder_pending_count nashirudder_checked_pending_count
+#define nashirudder_widen nashirudder_checked_widen
+#define nashirudder_robots nashirudder_checked_robots
+#define nashirudder_clients nashirudder_checked_clients
+#define nashirudder_limits nashirudder_checked_limits
+#define nashirudder_placement nashirudder_checked_placement
+#define nashirudder_clock nashirudder_checked_clock
+#define nashirudder_wait_of nashirudder_checked_wait_of
+#define nashirudder_eldest nashirudder_checked_eldest
+#define nashirudder_longest_wait nashirudder_checked_longest_wait
+#define nashirudder_wait_limit nashirudder_checked_wait_limit
+#define nashirudder_is_idle nashirudder_checked_is_idle
+#define nashirudder_idle_within nashirudder_checked_idle_within
+#define nashirudder_is_bridgeless nashirudder_checked_is_bridgeless
+#define nashirudder_trace nashirudder_checked_trace
+#define nashirudder_next_chapter nashirudder_checked_next_chapter
+#define nashirudder_keep nashirudder_checked_keep
+#define nashirudder_check_step nashirudder_checked_check_step
+#define nashirudder_first_bridge nashirudder_checked_first_bridge
+#define nashirudder_distances nashirudder_checked_distances
+
+#endif
 
 #ifdef __cplusplus
 }

@@ -90,17 +90,49 @@ static int maps(long *refused) {
     return 1;
 }
 
+/* The openings, each allocation refused in turn: a fleet on the map, and then the one that goes on from its chapter. */
+static int reopens(const nashirudder_robot *robots, const nashirudder_setup *setup, long *refused) {
+    nashirudder_fleet ended = NASHIRUDDER_CLOSED, fleet = NASHIRUDDER_CLOSED;
+    size_t length;
+    if (nashirudder_open((const uint8_t *)MAP, sizeof MAP - 1, robots, 2, setup, &ended, NULL) != NASHIRUDDER_DONE) return 0;
+    if (nashirudder_go(&ended, 0, 0, 11, NULL) != NASHIRUDDER_DONE || nashirudder_tick(&ended, NULL) != NASHIRUDDER_DONE) return 0;
+    if (nashirudder_trace(&ended, before, sizeof before, &length) != NASHIRUDDER_DONE) return 0;
+    nashirudder_close(&ended);
+    for (long n = 0;; n++) {
+        nashirudder_fault fault = {0, 0, NASHIRUDDER_DONE};
+        left = n;
+        nashirudder_code code = nashirudder_reopen((const uint8_t *)MAP, sizeof MAP - 1, before, length, robots, 2, setup, &fleet, &fault);
+        long rest = left;
+        left = -1;
+        if (rest >= 0) {
+            nashirudder_close(&fleet);
+            return code == NASHIRUDDER_DONE && live == 0;
+        }
+        ++*refused;
+        /* check_step does without its table where memory for it is refused, and so the judge may. */
+        if (code == NASHIRUDDER_DONE) {
+            nashirudder_close(&fleet);
+        } else if (code != NASHIRUDDER_NO_MEMORY || fault.code != code || fleet.is_open) {
+            return 0;
+        }
+        if (live != 0) return 0;
+    }
+}
+
 int main(void) {
-    long opens = 0, orders = 0, ticks = 0, others = 0, on_maps = 0;
+    long opens = 0, orders = 0, ticks = 0, others = 0, on_maps = 0, again = 0;
     if (!maps(&on_maps)) return 9;
     nashirudder_robot robots[2] = {{0, {0, 1, 0, 0}}, {3, {0, 0, 0, 0}}};
     nashirudder_setup setup;
     nashirudder_setup_default(1, &setup);
+    if (!reopens(robots, &setup, &again)) return 10;
     for (long n = 0; n < 100000; n++) {
         nashirudder_fleet fleet = NASHIRUDDER_CLOSED;
         nashirudder_fault fault;
         nashirudder_judgement judgement;
         nashirudder_report report;
+        nashirudder_arrival arrivals[2];
+        uint32_t cells[2], gone[2];
         bool shut;
         left = n;
         uint32_t code = nashirudder_open((const uint8_t *)MAP, sizeof MAP - 1, robots, 2, &setup, &fleet, &fault);
@@ -110,7 +142,8 @@ int main(void) {
         } else {
             TRY(orders, nashirudder_go(&fleet, 0, 0, 11, &judgement));
             TRY(orders, nashirudder_go(&fleet, 0, 1, 8, &judgement));
-            for (int i = 0; i < 6; i++) TRY(ticks, nashirudder_tick(&fleet, &report));
+            for (int i = 0; i < 3; i++) TRY(ticks, nashirudder_tick(&fleet, &report));
+            for (int i = 0; i < 3; i++) TRY(ticks, nashirudder_tick_into(&fleet, &report, cells, 2, arrivals, 2, gone, 2));
             TRY(others, nashirudder_shut(&fleet, 0, &shut));
             TRY(others, nashirudder_next_chapter(&fleet));
             TRY(others, nashirudder_widen(&fleet, 0, 5));
@@ -123,8 +156,8 @@ int main(void) {
             return 7;
         }
         if (rest > 0) {
-            printf("bindings/c/refused.c: %ld growths refused in turn, at %ld openings, %ld orders, %ld ticks, %ld other calls, and %ld on maps; nothing lost\n",
-                   n, opens, orders, ticks, others, on_maps);
+            printf("bindings/c/refused.c: %ld growths refused in turn, at %ld openings, %ld orders, %ld ticks, %ld other calls, %ld at reopenings, and %ld on maps; nothing lost\n",
+                   n, opens, orders, ticks, others, again, on_maps);
             return 0;
         }
     }

@@ -11,6 +11,8 @@
 **
 ** Where the library refuses a call, nashirudder::Refused is thrown, and std::bad_alloc where memory was refused. The fleet
 ** is then as it was before the call. What is no refusal but an answer, as that a client has no notice, is an empty optional.
+**
+** Any number of threads may call the const methods of one fleet at once; every other call has to be the only one on it.
 */
 #ifndef NASHIRUDDER_HPP
 #define NASHIRUDDER_HPP
@@ -37,45 +39,116 @@ using Judgement = nashirudder_judgement;
 using Report = nashirudder_report;
 using Note = nashirudder_note;
 using Edge = nashirudder_edge;
+using Order = nashirudder_order;
+using Arrival = nashirudder_arrival;
+
+/* What a call answers, as by nashirudder.h. */
+enum class Code : std::uint32_t {
+    done = NASHIRUDDER_DONE, no_memory = NASHIRUDDER_NO_MEMORY, not_open = NASHIRUDDER_NOT_OPEN,
+    already_open = NASHIRUDDER_ALREADY_OPEN, no_client = NASHIRUDDER_NO_CLIENT, no_robot = NASHIRUDDER_NO_ROBOT,
+    mailbox_full = NASHIRUDDER_MAILBOX_FULL, chapter_full = NASHIRUDDER_CHAPTER_FULL, clock_spent = NASHIRUDDER_CLOCK_SPENT,
+    already_shut = NASHIRUDDER_ALREADY_SHUT, book_spent = NASHIRUDDER_BOOK_SPENT, no_notice = NASHIRUDDER_NO_NOTICE,
+    too_wide = NASHIRUDDER_TOO_WIDE, idle = NASHIRUDDER_IDLE, has_bridge = NASHIRUDDER_HAS_BRIDGE,
+    wrong_length = NASHIRUDDER_WRONG_LENGTH, null_pointer = NASHIRUDDER_NULL_POINTER, bad_order = NASHIRUDDER_BAD_ORDER,
+    map_header = NASHIRUDDER_MAP_HEADER, map_size = NASHIRUDDER_MAP_SIZE, map_row = NASHIRUDDER_MAP_ROW,
+    map_cell = NASHIRUDDER_MAP_CELL, map_trailing = NASHIRUDDER_MAP_TRAILING, bad_setup = NASHIRUDDER_BAD_SETUP,
+    robot_count = NASHIRUDDER_ROBOT_COUNT, start_blocked = NASHIRUDDER_START_BLOCKED,
+    start_shared = NASHIRUDDER_START_SHARED, wrong_size = NASHIRUDDER_WRONG_SIZE, too_many = NASHIRUDDER_TOO_MANY,
+    from_blocked = NASHIRUDDER_FROM_BLOCKED, from_shared = NASHIRUDDER_FROM_SHARED, to_length = NASHIRUDDER_TO_LENGTH,
+    off_floor = NASHIRUDDER_OFF_FLOOR, not_adjacent = NASHIRUDDER_NOT_ADJACENT,
+    vertex_conflict = NASHIRUDDER_VERTEX_CONFLICT, swapping_conflict = NASHIRUDDER_SWAPPING_CONFLICT,
+    no_bridge = NASHIRUDDER_NO_BRIDGE, goal_blocked = NASHIRUDDER_GOAL_BLOCKED, trace_not_json = NASHIRUDDER_TRACE_NOT_JSON,
+    trace_version = NASHIRUDDER_TRACE_VERSION, trace_shape = NASHIRUDDER_TRACE_SHAPE,
+    chapter_illegal = NASHIRUDDER_CHAPTER_ILLEGAL, laws_differ = NASHIRUDDER_LAWS_DIFFER,
+    limits_differ = NASHIRUDDER_LIMITS_DIFFER, chapters_spent = NASHIRUDDER_CHAPTERS_SPENT,
+    waited_too_long = NASHIRUDDER_WAITED_TOO_LONG,
+};
+
+/* What an order is answered. */
+enum class Verdict : std::uint32_t {
+    no_verdict = NASHIRUDDER_NO_VERDICT, accepted = NASHIRUDDER_ACCEPTED, closing = NASHIRUDDER_CLOSING,
+    withdrawn = NASHIRUDDER_WITHDRAWN, client_closed = NASHIRUDDER_CLIENT_CLOSED, unknown_robot = NASHIRUDDER_UNKNOWN_ROBOT,
+    robot_shut = NASHIRUDDER_ROBOT_SHUT, no_cell = NASHIRUDDER_NO_CELL, blocked = NASHIRUDDER_BLOCKED,
+    unreachable = NASHIRUDDER_UNREACHABLE, queue_full = NASHIRUDDER_QUEUE_FULL, life_spent = NASHIRUDDER_LIFE_SPENT,
+    no_errand = NASHIRUDDER_NO_ERRAND, too_late = NASHIRUDDER_TOO_LATE,
+};
+
+inline Code code_of(const Fault &fault) { return static_cast<Code>(fault.code); }
+inline Verdict verdict_of(const Judgement &judgement) { return static_cast<Verdict>(judgement.verdict); }
+inline Verdict verdict_of(const Note &note) { return static_cast<Verdict>(note.verdict); }
 
 /* The word for a code, and for a verdict. */
 inline const char *name_of(std::uint32_t code) { return nashirudder_code_name(code); }
+inline const char *name_of(Code code) { return nashirudder_code_name(static_cast<std::uint32_t>(code)); }
+inline const char *name_of(Verdict verdict) { return nashirudder_verdict_name(static_cast<std::uint32_t>(verdict)); }
 inline const char *verdict_name(std::uint32_t verdict) { return nashirudder_verdict_name(verdict); }
 
-/* A call was refused. `fault` has the code, and the numbers that it names. */
+/* One sentence about a fault, with the numbers that it names. */
+inline std::string message_of(const Fault &fault) {
+    std::string text(nashirudder_message(&fault, nullptr, 0) + 1, '\0');
+    nashirudder_message(&fault, text.data(), text.size());
+    text.pop_back();
+    return text;
+}
+
+/* A call was refused. `fault` has the code, and the numbers that it names; what() is its sentence. */
 class Refused : public std::runtime_error {
 public:
-    explicit Refused(const Fault &why) : std::runtime_error(name_of(why.code)), fault(why) {}
-    explicit Refused(std::uint32_t code) : Refused(Fault{0, 0, code}) {}
+    explicit Refused(const Fault &why) : std::runtime_error(message_of(why)), fault(why) {}
+    explicit Refused(nashirudder_code code) : Refused(Fault{0, 0, code}) {}
+
+    [[nodiscard]] Code code() const { return code_of(fault); }
 
     Fault fault;
 };
 
+/* Orders for a list of them. */
+inline Order order_go(std::uint32_t client, std::uint32_t robot, std::uint32_t cell) { return {0, NASHIRUDDER_ORDER_GO, client, robot, cell}; }
+inline Order order_close(std::uint32_t client) { return {0, NASHIRUDDER_ORDER_CLOSE, client, 0, 0}; }
+inline Order order_withdraw(std::uint32_t client, std::uint64_t number) { return {number, NASHIRUDDER_ORDER_WITHDRAW, client, 0, 0}; }
+
+/* How many orders of a list were taken, and what refused the next one: Code::done where all were taken. */
+struct Taken {
+    std::size_t count;
+    Code stopped;
+};
+
+/* What a tick shows: where the robots stand after it, who arrived, by robot, and which robots said farewell. It can be used
+   for tick after tick, and then takes no more memory. */
+struct Shown {
+    std::vector<std::uint32_t> cells;
+    std::vector<Arrival> arrivals;
+    std::vector<std::uint32_t> farewells;
+};
+
 namespace detail {
 
-/* A list's address, which is never null. */
-template <typename T> T *address(std::span<T> list) {
-    static std::remove_const_t<T> none{};
-    return list.empty() ? &none : list.data();
+/* A list's address. */
+template <typename T> T *address(std::span<T> list) { return list.data(); }
+
+inline const std::uint8_t *address(std::string_view text) { return reinterpret_cast<const std::uint8_t *>(text.data()); }
+
+/* Once, and before anything else: the library fits this header. */
+inline void check_version() {
+    static const bool fits = nashirudder_version() / 100 == NASHIRUDDER_VERSION / 100;
+    if (!fits) {
+        throw std::runtime_error("nashirudder: the library's version is " + std::to_string(nashirudder_version()) + ", the header's " +
+                                 std::to_string(NASHIRUDDER_VERSION));
+    }
 }
 
-inline const std::uint8_t *address(std::string_view text) {
-    static const std::uint8_t none = 0;
-    return text.empty() ? &none : reinterpret_cast<const std::uint8_t *>(text.data());
-}
-
-inline void check(std::uint32_t code) {
+inline void check(nashirudder_code code) {
     if (code == NASHIRUDDER_NO_MEMORY) throw std::bad_alloc();
     if (code != NASHIRUDDER_DONE) throw Refused(code);
 }
 
-inline void check(std::uint32_t code, const Fault &fault) {
+inline void check(nashirudder_code code, const Fault &fault) {
     if (code != NASHIRUDDER_NO_MEMORY && code != NASHIRUDDER_DONE && fault.code == code) throw Refused(fault);
     check(code);
 }
 
 /* Whether the call was carried out; false where it answered that there is nothing. */
-inline bool is_there(std::uint32_t code, std::uint32_t nothing) {
+inline bool is_there(nashirudder_code code, nashirudder_code nothing) {
     if (code == nothing) return false;
     check(code);
     return true;
@@ -94,11 +167,22 @@ inline Setup default_setup(std::uint32_t clients = 1) {
 class Fleet {
 public:
     Fleet(std::string_view map, std::span<const Robot> robots, const Setup &setup = default_setup()) : count(robots.size()) {
+        detail::check_version();
         Fault fault{};
         detail::check(nashirudder_open(detail::address(map), map.size(), detail::address(robots), robots.size(), &setup, &handle, &fault), fault);
     }
     Fleet(std::string_view map, std::initializer_list<Robot> robots, const Setup &setup = default_setup())
         : Fleet(map, std::span<const Robot>(robots.begin(), robots.size()), setup) {}
+    /* The fleet that goes on from a chapter that was kept, whose trace is `text`. Of the robots only the ranks are read. */
+    [[nodiscard]] static Fleet reopen(std::string_view map, std::string_view text, std::span<const Robot> robots, const Setup &setup = default_setup()) {
+        detail::check_version();
+        Fleet fleet;
+        Fault fault{};
+        detail::check(nashirudder_reopen(detail::address(map), map.size(), detail::address(text), text.size(), detail::address(robots), robots.size(),
+                                         &setup, &fleet.handle, &fault), fault);
+        fleet.count = robots.size();
+        return fleet;
+    }
     Fleet(const Fleet &) = delete;
     Fleet &operator=(const Fleet &) = delete;
     Fleet(Fleet &&other) noexcept : handle(std::exchange(other.handle, nashirudder_fleet NASHIRUDDER_CLOSED)), count(other.count) {}
@@ -132,6 +216,30 @@ public:
         detail::check(nashirudder_tick(&handle, &report));
         return report;
     }
+    /* The same, with what the tick shows. */
+    Report tick_into(Shown &shown) {
+        shown.cells.resize(count);
+        shown.arrivals.resize(count);
+        shown.farewells.resize(count);
+        Report report{};
+        detail::check(nashirudder_tick_into(&handle, &report, shown.cells.data(), count, shown.arrivals.data(), count, shown.farewells.data(), count));
+        shown.arrivals.resize(report.arrived);
+        shown.farewells.resize(report.farewells);
+        return report;
+    }
+    /* The same, into lists that have one place a robot each; the report says how many of the last two are written. */
+    Report tick_into(std::span<std::uint32_t> cells, std::span<Arrival> arrivals, std::span<std::uint32_t> farewells) {
+        Report report{};
+        detail::check(nashirudder_tick_into(&handle, &report, cells.data(), cells.size(), arrivals.data(), arrivals.size(), farewells.data(), farewells.size()));
+        return report;
+    }
+    /* Takes orders one after the other until one is refused, with a place for each judgement. */
+    [[nodiscard]] Taken take_many(std::span<const Order> orders, std::span<Judgement> judgements) {
+        std::size_t taken = 0;
+        nashirudder_code code = nashirudder_take_many(&handle, orders.data(), orders.size(), judgements.data(), judgements.size(), &taken);
+        if (code == NASHIRUDDER_NOT_OPEN || code == NASHIRUDDER_WRONG_LENGTH) throw Refused(code);
+        return {taken, static_cast<Code>(code)};
+    }
     /* Whether the robot had no errand, and so took its leave at once. */
     bool shut(std::uint32_t robot) {
         bool left = false;
@@ -144,57 +252,87 @@ public:
         if (!detail::is_there(nashirudder_give(&handle, client, &note), NASHIRUDDER_NO_NOTICE)) return std::nullopt;
         return note;
     }
-    [[nodiscard]] std::uint64_t pending_count(std::uint32_t client) {
+    /* As many of the client's next notices as the list has places for; how many these are. */
+    [[nodiscard]] std::size_t give_many(std::uint32_t client, std::span<Note> notes) {
+        std::size_t given = 0;
+        detail::check(nashirudder_give_many(&handle, client, notes.data(), notes.size(), &given));
+        return given;
+    }
+    /* All notices that the client was not given yet. */
+    [[nodiscard]] std::vector<Note> give_all(std::uint32_t client) {
+        std::vector<Note> notes(pending_count(client));
+        notes.resize(give_many(client, notes));
+        return notes;
+    }
+    /* The notice that `give` would give, which stays, or nothing. */
+    [[nodiscard]] std::optional<Note> peek(std::uint32_t client) const {
+        Note note{};
+        if (!detail::is_there(nashirudder_peek(&handle, client, &note), NASHIRUDDER_NO_NOTICE)) return std::nullopt;
+        return note;
+    }
+    [[nodiscard]] std::uint64_t pending_count(std::uint32_t client) const {
         std::uint64_t pending = 0;
         detail::check(nashirudder_pending_count(&handle, client, &pending));
         return pending;
     }
     void widen(std::uint32_t client, std::uint64_t extra) { detail::check(nashirudder_widen(&handle, client, extra)); }
     /* Where the robots stand, by number, into a list that has one place for each. */
-    void placement(std::span<std::uint32_t> cells) { detail::check(nashirudder_placement(&handle, detail::address(cells), cells.size())); }
-    [[nodiscard]] std::vector<std::uint32_t> placement() {
+    void placement(std::span<std::uint32_t> cells) const { detail::check(nashirudder_placement(&handle, detail::address(cells), cells.size())); }
+    [[nodiscard]] std::vector<std::uint32_t> placement() const {
         std::vector<std::uint32_t> cells(count);
         placement(std::span<std::uint32_t>(cells));
         return cells;
     }
-    [[nodiscard]] std::uint64_t clock() {
+    [[nodiscard]] std::uint64_t clock() const {
         std::uint64_t ticks = 0;
         detail::check(nashirudder_clock(&handle, &ticks));
         return ticks;
     }
     /* How long the robot has waited, or nothing where it has no errand. */
-    [[nodiscard]] std::optional<std::uint64_t> wait_of(std::uint32_t robot) {
+    [[nodiscard]] std::optional<std::uint64_t> wait_of(std::uint32_t robot) const {
         std::uint64_t ticks = 0;
         if (!detail::is_there(nashirudder_wait_of(&handle, robot, &ticks), NASHIRUDDER_IDLE)) return std::nullopt;
         return ticks;
     }
     /* The robot that has waited longest, or nothing where nobody has an errand. */
-    [[nodiscard]] std::optional<std::uint32_t> eldest() {
+    [[nodiscard]] std::optional<std::uint32_t> eldest() const {
         std::uint32_t robot = 0;
         if (!detail::is_there(nashirudder_eldest(&handle, &robot), NASHIRUDDER_IDLE)) return std::nullopt;
         return robot;
     }
-    [[nodiscard]] bool is_idle() {
+    /* How long that robot has waited, or nothing. */
+    [[nodiscard]] std::optional<std::uint64_t> longest_wait() const {
+        std::uint64_t ticks = 0;
+        if (!detail::is_there(nashirudder_longest_wait(&handle, &ticks), NASHIRUDDER_IDLE)) return std::nullopt;
+        return ticks;
+    }
+    /* A number of ticks that no wait reaches, or nothing on a map with a bridge. */
+    [[nodiscard]] std::optional<std::uint64_t> wait_limit() const {
+        std::uint64_t ticks = 0;
+        if (!detail::is_there(nashirudder_wait_limit(&handle, &ticks), NASHIRUDDER_HAS_BRIDGE)) return std::nullopt;
+        return ticks;
+    }
+    [[nodiscard]] bool is_idle() const {
         bool idle = false;
         detail::check(nashirudder_is_idle(&handle, &idle));
         return idle;
     }
     /* Within how many ticks nobody has an errand any more, or nothing on a map with a bridge. */
-    [[nodiscard]] std::optional<std::uint64_t> idle_within() {
+    [[nodiscard]] std::optional<std::uint64_t> idle_within() const {
         std::uint64_t ticks = 0;
         if (!detail::is_there(nashirudder_idle_within(&handle, &ticks), NASHIRUDDER_HAS_BRIDGE)) return std::nullopt;
         return ticks;
     }
-    [[nodiscard]] bool is_bridgeless() {
+    [[nodiscard]] bool is_bridgeless() const {
         bool bridgeless = false;
         detail::check(nashirudder_is_bridgeless(&handle, &bridgeless));
         return bridgeless;
     }
     /* The trace of the present chapter. */
-    [[nodiscard]] std::string trace() {
+    [[nodiscard]] std::string trace() const {
         std::string text(1024, '\0');
         std::size_t length = 0;
-        std::uint32_t code = write_trace(text, length);
+        nashirudder_code code = write_trace(text, length);
         if (code == NASHIRUDDER_WRONG_LENGTH) {
             text.resize(length);
             code = write_trace(text, length);
@@ -207,9 +345,21 @@ public:
     void keep(std::size_t bytes) { detail::check(nashirudder_keep(&handle, bytes)); }
     /* How many robots there are. */
     [[nodiscard]] std::size_t robots() const { return count; }
+    [[nodiscard]] std::size_t clients() const {
+        std::size_t clients = 0;
+        detail::check(nashirudder_clients(&handle, &clients));
+        return clients;
+    }
+    /* The limits, and the number of clients. */
+    [[nodiscard]] Setup limits() const {
+        Setup setup{};
+        detail::check(nashirudder_limits(&handle, &setup));
+        return setup;
+    }
 
 private:
-    std::uint32_t write_trace(std::string &text, std::size_t &length) {
+    Fleet() = default;
+    nashirudder_code write_trace(std::string &text, std::size_t &length) const {
         return nashirudder_trace(&handle, reinterpret_cast<std::uint8_t *>(text.data()), text.size(), &length);
     }
 
@@ -220,7 +370,7 @@ private:
 /* Nothing where the step is free of conflicts, else its first fault. */
 [[nodiscard]] inline std::optional<Fault> check_step(std::string_view map, std::span<const std::uint32_t> from, std::span<const std::uint32_t> to) {
     Fault fault{};
-    std::uint32_t code = nashirudder_check_step(detail::address(map), map.size(), detail::address(from), from.size(), detail::address(to), to.size(), &fault);
+    nashirudder_code code = nashirudder_check_step(detail::address(map), map.size(), detail::address(from), from.size(), detail::address(to), to.size(), &fault);
     if (code == NASHIRUDDER_NO_MEMORY) throw std::bad_alloc();
     if (code == NASHIRUDDER_DONE) return std::nullopt;
     return fault;
@@ -230,7 +380,7 @@ private:
 [[nodiscard]] inline std::optional<Edge> first_bridge(std::string_view map) {
     Edge edge{};
     Fault fault{};
-    std::uint32_t code = nashirudder_first_bridge(detail::address(map), map.size(), &edge, &fault);
+    nashirudder_code code = nashirudder_first_bridge(detail::address(map), map.size(), &edge, &fault);
     if (code == NASHIRUDDER_NO_BRIDGE) return std::nullopt;
     detail::check(code, fault);
     return edge;

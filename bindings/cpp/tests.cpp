@@ -1,6 +1,7 @@
 /* Each call and each answer of the library, from C and C++. What is wanted is worked out by hand. */
 #include "nashirudder.hpp"
 
+#include <atomic>
 #include <cstdio>
 #include <cstdlib>
 #include <cstring>
@@ -32,7 +33,7 @@ template <typename F> static Fault refusal_of(F call) {
     return Fault{0, 0, NASHIRUDDER_DONE};
 }
 
-static bool is(const Fault &fault, std::uint32_t code, std::uint64_t first = 0, std::uint64_t second = 0) {
+static bool is(const Fault &fault, nashirudder_code code, std::uint64_t first = 0, std::uint64_t second = 0) {
     return fault.code == code && fault.first == first && fault.second == second;
 }
 
@@ -46,6 +47,9 @@ static void closed() {
     std::uint32_t robot, cells[1];
     std::uint8_t text[1];
     std::size_t length;
+    nashirudder_setup setup;
+    nashirudder_order order = order_go(0, 0, 0);
+    nashirudder_arrival arrival;
     bool yes;
     CHECK(nashirudder_go(&fleet, 0, 0, 0, &judgement) == NASHIRUDDER_NOT_OPEN);
     CHECK(nashirudder_close_client(&fleet, 0, &judgement) == NASHIRUDDER_NOT_OPEN);
@@ -62,6 +66,15 @@ static void closed() {
     CHECK(nashirudder_is_idle(&fleet, &yes) == NASHIRUDDER_NOT_OPEN);
     CHECK(nashirudder_idle_within(&fleet, &number) == NASHIRUDDER_NOT_OPEN);
     CHECK(nashirudder_is_bridgeless(&fleet, &yes) == NASHIRUDDER_NOT_OPEN);
+    CHECK(nashirudder_take_many(&fleet, &order, 1, &judgement, 1, &length) == NASHIRUDDER_NOT_OPEN);
+    CHECK(nashirudder_tick_into(&fleet, &report, cells, 1, &arrival, 1, cells, 1) == NASHIRUDDER_NOT_OPEN);
+    CHECK(nashirudder_give_many(&fleet, 0, &note, 1, &length) == NASHIRUDDER_NOT_OPEN);
+    CHECK(nashirudder_peek(&fleet, 0, &note) == NASHIRUDDER_NOT_OPEN);
+    CHECK(nashirudder_robots(&fleet, &length) == NASHIRUDDER_NOT_OPEN);
+    CHECK(nashirudder_clients(&fleet, &length) == NASHIRUDDER_NOT_OPEN);
+    CHECK(nashirudder_limits(&fleet, &setup) == NASHIRUDDER_NOT_OPEN);
+    CHECK(nashirudder_longest_wait(&fleet, &number) == NASHIRUDDER_NOT_OPEN);
+    CHECK(nashirudder_wait_limit(&fleet, &number) == NASHIRUDDER_NOT_OPEN);
     CHECK(nashirudder_trace(&fleet, text, 1, &length) == NASHIRUDDER_NOT_OPEN);
     CHECK(nashirudder_next_chapter(&fleet) == NASHIRUDDER_NOT_OPEN);
     CHECK(nashirudder_keep(&fleet, 0) == NASHIRUDDER_NOT_OPEN);
@@ -90,6 +103,10 @@ static void openings() {
     Setup narrow = one;
     narrow.mailbox = 1;
     CHECK(is(opening(RING, at_0, narrow), NASHIRUDDER_BAD_SETUP));
+    CHECK(one.size == sizeof one);
+    Setup other_form = one;
+    other_form.size = 52;
+    CHECK(is(opening("", at_0, other_form), NASHIRUDDER_WRONG_SIZE));
     CHECK(is(opening(RING, {}, one), NASHIRUDDER_ROBOT_COUNT));
     CHECK(is(opening(RING, std::vector<Robot>(513), one), NASHIRUDDER_ROBOT_COUNT));
     CHECK(is(opening(RING, {{0, {}}, {5, {}}}, one), NASHIRUDDER_START_BLOCKED, 1));
@@ -97,10 +114,10 @@ static void openings() {
     CHECK(is(opening(RING, {{3, {}}, {0, {}}, {3, {}}}, one), NASHIRUDDER_START_SHARED, 0, 2));
 
     nashirudder_fleet fleet = NASHIRUDDER_CLOSED;
-    Fault fault{7, 7, 7};
+    Fault fault{7, 7, NASHIRUDDER_IDLE};
     auto open = [&] { return nashirudder_open((const std::uint8_t *)RING, std::strlen(RING), at_0.data(), 1, &one, &fleet, &fault); };
     CHECK(open() == NASHIRUDDER_DONE);
-    CHECK(open() == NASHIRUDDER_ALREADY_OPEN && is(fault, 7, 7, 7));
+    CHECK(open() == NASHIRUDDER_ALREADY_OPEN && is(fault, NASHIRUDDER_IDLE, 7, 7));
     nashirudder_close(&fleet);
     CHECK(open() == NASHIRUDDER_DONE);
     nashirudder_close(&fleet);
@@ -154,12 +171,115 @@ static void orders() {
     CHECK(little.clock() == 1 && little.placement() == std::vector<std::uint32_t>{1});
 }
 
-/* The words for codes and verdicts, of which some have the same numbers. */
+/* The words for codes and verdicts, which have no number in common. */
 static void names() {
     using nashirudder::name_of, nashirudder::verdict_name;
     CHECK(std::string_view(name_of(NASHIRUDDER_CLOCK_SPENT)) == "clock-spent" && std::string_view(verdict_name(NASHIRUDDER_BLOCKED)) == "blocked");
     CHECK(std::string_view(name_of(NASHIRUDDER_NO_MEMORY)) == "no-memory" && std::string_view(verdict_name(NASHIRUDDER_ACCEPTED)) == "accepted");
     CHECK(std::string_view(name_of(99)) == "unknown" && std::string_view(verdict_name(0)) == "unknown");
+    CHECK(std::string_view(name_of(Code::clock_spent)) == "clock-spent" && std::string_view(name_of(Verdict::blocked)) == "blocked");
+    for (std::uint32_t number = 0; number < 200; number++) {
+        bool is_code = std::string_view(name_of(number)) != "unknown", is_verdict = std::string_view(verdict_name(number)) != "unknown";
+        CHECK(!(is_code && is_verdict));
+        // Each code has a sentence of its own, and nothing else has one.
+        CHECK(is_code == (message_of(Fault{0, 0, static_cast<nashirudder_code>(number)}) != "there is no such code"));
+    }
+    CHECK(code_of(Fault{0, 0, NASHIRUDDER_IDLE}) == Code::idle && verdict_of(Judgement{0, NASHIRUDDER_TOO_LATE}) == Verdict::too_late);
+}
+
+/* Sentences, with the numbers of their faults. */
+static void messages() {
+    CHECK(message_of(Fault{0, 0, NASHIRUDDER_NO_MEMORY}) == "out of memory");
+    CHECK(message_of(Fault{3, 0, NASHIRUDDER_START_BLOCKED}) == "robot 3 starts on a cell that is no floor");
+    CHECK(message_of(Fault{0, 12, NASHIRUDDER_START_SHARED}) == "robots 0 and 12 both start on one cell");
+    CHECK(message_of(Fault{10, 7, NASHIRUDDER_CHAPTER_ILLEGAL}) == "the trace: entry 10 breaks rule 7");
+    CHECK(message_of(Fault{UINT64_MAX, UINT64_MAX, NASHIRUDDER_MAP_CELL}) ==
+          "the map: row 18446744073709551615, column 18446744073709551615 has a byte that is no letter of a map");
+    char text[8] = "*******";
+    Fault memory{0, 0, NASHIRUDDER_NO_MEMORY};
+    CHECK(nashirudder_message(&memory, text, 0) == 13 && text[0] == '*');
+    CHECK(nashirudder_message(&memory, text, 1) == 13 && text[0] == 0 && text[1] == '*');
+    CHECK(nashirudder_message(&memory, text, 7) == 13 && std::string_view(text) == "out of" && text[7] == 0);
+    try {
+        Fleet(RING, {{.cell = 5, .ranks = {}}});
+        CHECK(false);
+    } catch (const Refused &refused) {
+        CHECK(std::string_view(refused.what()) == "robot 0 starts on a cell that is no floor" && refused.code() == Code::start_blocked);
+    }
+}
+
+/* What must not be null is refused, and what is not wanted may be null. */
+static void nulls() {
+    Setup one = default_setup();
+    Robot robot{0, {0, 0, 0, 0}};
+    nashirudder_fleet fleet = NASHIRUDDER_CLOSED;
+    const std::uint8_t *ring = reinterpret_cast<const std::uint8_t *>(RING);
+    const std::size_t length = std::strlen(RING);
+    std::size_t count = 0;
+    CHECK(nashirudder_open(nullptr, 1, &robot, 1, &one, &fleet, nullptr) == NASHIRUDDER_NULL_POINTER);
+    CHECK(nashirudder_open(ring, length, nullptr, 1, &one, &fleet, nullptr) == NASHIRUDDER_NULL_POINTER);
+    CHECK(nashirudder_open(ring, length, &robot, 1, nullptr, &fleet, nullptr) == NASHIRUDDER_NULL_POINTER);
+    CHECK(nashirudder_open(ring, length, &robot, 1, &one, nullptr, nullptr) == NASHIRUDDER_NULL_POINTER);
+    CHECK(nashirudder_open(nullptr, 0, &robot, 1, &one, &fleet, nullptr) == NASHIRUDDER_MAP_HEADER);
+    CHECK(nashirudder_open(ring, length, nullptr, 0, &one, &fleet, nullptr) == NASHIRUDDER_ROBOT_COUNT);
+    CHECK(nashirudder_open(ring, length, &robot, 1, &one, &fleet, nullptr) == NASHIRUDDER_DONE);
+    CHECK(nashirudder_go(nullptr, 0, 0, 1, nullptr) == NASHIRUDDER_NULL_POINTER);
+    CHECK(nashirudder_go(&fleet, 0, 0, 1, nullptr) == NASHIRUDDER_DONE);
+    CHECK(nashirudder_tick(nullptr, nullptr) == NASHIRUDDER_NULL_POINTER && nashirudder_tick(&fleet, nullptr) == NASHIRUDDER_DONE);
+    CHECK(nashirudder_clock(&fleet, nullptr) == NASHIRUDDER_NULL_POINTER && nashirudder_give(&fleet, 0, nullptr) == NASHIRUDDER_NULL_POINTER);
+    CHECK(nashirudder_give_many(&fleet, 0, nullptr, 0, &count) == NASHIRUDDER_DONE && count == 0);
+    CHECK(nashirudder_give_many(&fleet, 0, nullptr, 1, &count) == NASHIRUDDER_NULL_POINTER);
+    CHECK(nashirudder_placement(&fleet, nullptr, 0) == NASHIRUDDER_WRONG_LENGTH);
+    CHECK(nashirudder_shut(&fleet, 0, nullptr) == NASHIRUDDER_DONE);
+    CHECK(nashirudder_message(nullptr, nullptr, 0) == 0);
+    nashirudder_setup_default(1, nullptr);
+    nashirudder_close(nullptr);
+    nashirudder_close(&fleet);
+}
+
+/* Orders, notices and ticks, many at once. */
+static void batches() {
+    Fleet fleet(RING, {{.cell = 0, .ranks = {}}, {.cell = 3, .ranks = {}}}, default_setup(2));
+    std::vector<Order> orders = {order_go(0, 0, 1), order_go(1, 1, 5), order_go(1, 1, 2), order_withdraw(0, 1), order_go(2, 0, 1), order_go(0, 0, 2)};
+    std::vector<Judgement> judged(6, Judgement{9, NASHIRUDDER_NO_VERDICT});
+    Taken taken = fleet.take_many(orders, judged);
+    CHECK(taken.count == 4 && taken.stopped == Code::no_client);
+    CHECK(judged[0].number == 1 && verdict_of(judged[0]) == Verdict::accepted && verdict_of(judged[1]) == Verdict::blocked);
+    CHECK(judged[2].number == 1 && verdict_of(judged[2]) == Verdict::accepted && verdict_of(judged[3]) == Verdict::too_late);
+    CHECK(judged[4].number == 9 && judged[5].number == 9);
+    Order unknown{0, static_cast<nashirudder_kind>(0), 0, 0, 0};
+    taken = fleet.take_many(std::span<const Order>(&unknown, 1), std::span<Judgement>(judged.data(), 1));
+    CHECK(taken.count == 0 && taken.stopped == Code::bad_order && judged[0].number == 1);
+    CHECK(is(refusal_of([&] { (void)fleet.take_many(orders, std::span<Judgement>(judged.data(), 5)); }), NASHIRUDDER_WRONG_LENGTH));
+    taken = fleet.take_many({}, {});
+    CHECK(taken.count == 0 && taken.stopped == Code::done && fleet.pending_count(0) == 2 && fleet.pending_count(1) == 2);
+
+    std::uint32_t cells[2] = {9, 9}, farewells[2] = {9, 9};
+    Arrival arrivals[2] = {{9, 9, 9, 9, 9}, {9, 9, 9, 9, 9}};
+    CHECK(is(refusal_of([&] { fleet.tick_into(std::span<std::uint32_t>(cells, 1), arrivals, farewells); }), NASHIRUDDER_WRONG_LENGTH));
+    CHECK(is(refusal_of([&] { fleet.tick_into(cells, std::span<Arrival>(arrivals, 1), farewells); }), NASHIRUDDER_WRONG_LENGTH));
+    CHECK(is(refusal_of([&] { fleet.tick_into(cells, arrivals, std::span<std::uint32_t>(farewells, 1)); }), NASHIRUDDER_WRONG_LENGTH));
+    CHECK(fleet.clock() == 0 && cells[0] == 9 && arrivals[0].robot == 9 && farewells[0] == 9);
+    CHECK(!fleet.shut(1));
+    Report report = fleet.tick_into(cells, arrivals, farewells);
+    CHECK(report.tick == 1 && report.arrived == 2 && report.farewells == 1 && cells[0] == 1 && cells[1] == 2);
+    CHECK(arrivals[0].number == 1 && arrivals[0].robot == 0 && arrivals[0].client == 0 && arrivals[0].cell == 1 && arrivals[0].stamp == 0);
+    CHECK(arrivals[1].number == 1 && arrivals[1].robot == 1 && arrivals[1].client == 1 && arrivals[1].cell == 2 && arrivals[1].stamp == 0);
+    CHECK(farewells[0] == 1 && farewells[1] == 9);
+    Shown shown;
+    report = fleet.tick_into(shown);
+    CHECK(report.tick == 2 && shown.cells == (std::vector<std::uint32_t>{1, 2}) && shown.arrivals.empty() && shown.farewells.empty());
+
+    Note first = fleet.peek(0).value();
+    CHECK(first.seq == 1 && verdict_of(first) == Verdict::accepted && fleet.pending_count(0) == 3);
+    Note notes[5] = {};
+    notes[2].seq = 77;
+    CHECK(fleet.give_many(0, std::span<Note>(notes, 2)) == 2 && notes[0].seq == 1 && notes[1].seq == 2 && verdict_of(notes[1]) == Verdict::too_late);
+    CHECK(notes[2].seq == 77 && fleet.pending_count(0) == 1 && fleet.peek(0).value().seq == 3);
+    CHECK(fleet.give_many(0, notes) == 1 && notes[0].seq == 3 && verdict_of(notes[0]) == Verdict::no_verdict && notes[0].cell == 1 && notes[1].seq == 2);
+    CHECK(!fleet.peek(0) && fleet.give_many(0, notes) == 0 && fleet.give_all(1).size() == 3 && fleet.give_all(1).empty());
+    CHECK(is(refusal_of([&] { (void)fleet.give_many(2, notes); }), NASHIRUDDER_NO_CLIENT));
+    CHECK(is(refusal_of([&] { (void)fleet.peek(2); }), NASHIRUDDER_NO_CLIENT));
 }
 
 /* Ticks, arrivals, waits and shuts on a row of three cells. */
@@ -247,6 +367,104 @@ static void chapters() {
     CHECK(fleet.pending_count(0) == 2);
 }
 
+/* A fleet goes on from a kept chapter as the one does that never ended. */
+static void reopenings() {
+    const std::vector<Robot> robots = {{0, {0, 1, 0, 0}}, {3, {0, 0, 0, 0}}};
+    Setup setup = default_setup(2);
+    auto begin = [](Fleet &fleet) {
+        CHECK(fleet.go(0, 0, 11).number == 1 && fleet.go(1, 1, 8).number == 1 && fleet.go(0, 0, 2).number == 2);
+        fleet.tick();
+        fleet.tick();
+    };
+    auto go_on = [](Fleet &fleet) {
+        CHECK(fleet.go(1, 1, 0).number == 2 && fleet.withdraw(0, 2).verdict == NASHIRUDDER_WITHDRAWN);
+        CHECK(!fleet.shut(0));
+        for (int tick = 0; tick < 20; tick++) fleet.tick();
+        CHECK(fleet.close_client(0).verdict == NASHIRUDDER_CLOSING);
+        return fleet.trace();
+    };
+    Fleet never_ended(RING, robots, setup);
+    begin(never_ended);
+    never_ended.next_chapter();
+    std::string kept;
+    {
+        Fleet ends(RING, robots, setup);
+        begin(ends);
+        kept = ends.trace();
+    }
+    Fleet again = Fleet::reopen(RING, kept, robots, setup);
+    CHECK(again.clock() == 2 && again.placement() == never_ended.placement() && again.robots() == 2 && again.clients() == 2);
+    CHECK(never_ended.pending_count(0) == 2 && again.pending_count(0) == 0);
+    CHECK(go_on(again) == go_on(never_ended));
+    CHECK(again.placement() == never_ended.placement() && again.is_idle());
+    // Its notices go on where those of the kept chapter ended.
+    CHECK(again.give(1).value().seq == 2);
+
+    auto reopening = [&](const char *map, std::string_view text, std::vector<Robot> ranks, Setup limits) {
+        return refusal_of([&] { (void)Fleet::reopen(map, text, ranks, limits); });
+    };
+    Setup other_form = setup, invalid = setup, narrow = setup, last = setup;
+    other_form.size = 0;
+    invalid.mailbox = 1;
+    narrow.queue = 15;
+    last.chapters = 1;
+    CHECK(is(reopening("", "", robots, other_form), NASHIRUDDER_WRONG_SIZE));
+    CHECK(is(reopening("", "", robots, setup), NASHIRUDDER_MAP_HEADER, 1));
+    CHECK(is(reopening(RING, "", robots, setup), NASHIRUDDER_TRACE_NOT_JSON));
+    CHECK(is(reopening(RING, "{\"version\":3}", robots, setup), NASHIRUDDER_TRACE_VERSION));
+    CHECK(is(reopening(RING, "{}", robots, setup), NASHIRUDDER_TRACE_SHAPE));
+    CHECK(is(reopening(RING, kept, robots, invalid), NASHIRUDDER_BAD_SETUP));
+    CHECK(is(reopening(ROW, kept, robots, setup), NASHIRUDDER_CHAPTER_ILLEGAL, 0, 1));
+    CHECK(is(reopening(RING, kept, {robots[0]}, setup), NASHIRUDDER_LAWS_DIFFER));
+    CHECK(is(reopening(RING, kept, robots, narrow), NASHIRUDDER_LIMITS_DIFFER));
+    CHECK(is(reopening(RING, kept, robots, last), NASHIRUDDER_CHAPTERS_SPENT));
+    // A jump over a cell breaks the rule of steps, which is the fourth.
+    const std::string opening = "\"opening\":{\"clients\":[[0,0,0,false]],\"life\":1000000,\"queue\":16,\"robots\":[[0,false,null,[],[0,0],[0,0]]],\"tick\":0},\"version\":2}";
+    CHECK(is(reopening(ROW, "{\"chapter\":0,\"entries\":[[\"tick\",[2],[],[]]]," + opening, {robots[0]}, setup), NASHIRUDDER_CHAPTER_ILLEGAL, 1, 4));
+    // One robot that goes to the far corner, five edges away, waits for fewer than ten ticks on this ring of eleven cells.
+    CHECK(is(reopening(RING, "{\"chapter\":1,\"entries\":[],\"opening\":{\"clients\":[[1,1,1,false]],\"life\":1000000,\"queue\":16,"
+                             "\"robots\":[[0,false,5000,[[0,1,11]],[0,0],[0,0]]],\"tick\":9000},\"version\":2}", {robots[0]}, setup), NASHIRUDDER_WAITED_TOO_LONG));
+}
+
+/* What a fleet says of itself. */
+static void limits() {
+    Setup setup = default_setup(3);
+    setup.queue = 7;
+    setup.chapters = 9;
+    Fleet fleet(RING, {{.cell = 0, .ranks = {}}, {.cell = 3, .ranks = {}}}, setup);
+    Setup told = fleet.limits();
+    CHECK(std::memcmp(&told, &setup, sizeof told) == 0 && fleet.robots() == 2 && fleet.clients() == 3);
+    CHECK(!fleet.longest_wait() && fleet.wait_limit().value() == 2 * 10);
+    CHECK(fleet.go(0, 0, 11).verdict == NASHIRUDDER_ACCEPTED);
+    CHECK(fleet.longest_wait() == 0);
+    fleet.tick();
+    CHECK(fleet.longest_wait() == 1 && nashirudder_version() == NASHIRUDDER_VERSION);
+    CHECK(!Fleet(ROW, {{.cell = 0, .ranks = {}}}).wait_limit());
+}
+
+/* Several threads look at one fleet at once, and each sees the same. The thread sanitizer is to find nothing. */
+static void lookers() {
+    Fleet made(RING, {{.cell = 0, .ranks = {}}, {.cell = 3, .ranks = {}}});
+    CHECK(made.go(0, 0, 11).verdict == NASHIRUDDER_ACCEPTED);
+    made.tick();
+    const Fleet &fleet = made;
+    const std::string trace = fleet.trace();
+    std::atomic<bool> same = true;
+    std::vector<std::thread> threads;
+    for (int at = 0; at < 4; at++) {
+        threads.emplace_back([&] {
+            for (int look = 0; look < 500; look++) {
+                bool good = fleet.clock() == 1 && fleet.placement() == std::vector<std::uint32_t>{1, 3} && fleet.trace() == trace;
+                good = good && fleet.wait_of(0) == 1 && fleet.eldest() == 0 && fleet.longest_wait() == 1 && !fleet.is_idle() && fleet.is_bridgeless();
+                good = good && fleet.idle_within().has_value() && fleet.wait_limit() == 20 && fleet.peek(0).value().seq == 1 && fleet.pending_count(0) == 1;
+                if (!good || fleet.clients() != 1 || fleet.limits().queue != 16) same = false;
+            }
+        });
+    }
+    for (std::thread &thread : threads) thread.join();
+    CHECK(same);
+}
+
 /* A fleet moves, within a thread and into another one. */
 static void moves() {
     Fleet fleet(ROW, {{.cell = 0, .ranks = {}}});
@@ -299,10 +517,16 @@ int main() {
     openings();
     orders();
     names();
+    messages();
+    nulls();
+    batches();
     ticks();
     ranks();
     bounds();
     chapters();
+    reopenings();
+    limits();
+    lookers();
     moves();
     maps();
     std::printf("bindings/cpp/tests.cpp: all pass\n");

@@ -1,5 +1,5 @@
 // The kernel `tick` of `bench` through the library for C: the same maps, starts, goals and orders, each tick timed by itself. It prints the
-// same lines. usage: face (built with build_c/libnashirudder.a)
+// same lines. usage: face [into] (built with build_c/libnashirudder.a); `into`: each tick also tells the cells, the arrivals and the farewells
 #include "ground.hpp"
 #include "nashirudder.hpp"
 
@@ -25,7 +25,7 @@ static vector<nashirudder::Robot> starts_of(const Map& map, const vector<u32>& c
     return starts;
 }
 
-static void measure_tick(const Map& map) {
+static void measure_tick(const Map& map, bool into) {
     Grid grid(map, pad_of(map));
     vector<u32> cells = part_of(map, grid), goals;
     Random random{11};
@@ -39,14 +39,19 @@ static void measure_tick(const Map& map) {
         setup.chapter = 1 << 20;
         nashirudder::Fleet fleet(text, starts, setup);
         fleet.keep(1 << 29);
+        nashirudder::Shown shown;
         Measure found;
         for (int tick = 0; tick < 200; tick++) {
             for (u32 robot = 0; robot < 512; robot++) {
                 u32 cell = goals[random.below(goals.size())];
-                if (robot < starts.size() && !fleet.wait_of(robot)) fleet.go(0, robot, cell);
+                if (robot < starts.size() && !fleet.wait_of(robot)) (void)fleet.go(0, robot, cell);
             }
             double start = now();
-            fleet.tick();
+            if (into) {
+                fleet.tick_into(shown);
+            } else {
+                fleet.tick();
+            }
             found.with(now() - start);
             while (fleet.give(0)) {}
         }
@@ -54,7 +59,8 @@ static void measure_tick(const Map& map) {
     }
 }
 
-int main() {
+int main(int count, char** words) {
+    bool into = count > 1 && std::string(words[1]) == "into";
     Map open("open", 1024, 1024), warehouse("warehouse", 164, 340);
-    for (const Map* map : {&warehouse, &open}) measure_tick(*map);
+    for (const Map* map : {&warehouse, &open}) measure_tick(*map, into);
 }

@@ -5,7 +5,7 @@ here=$(cd "$(dirname "$0")" && pwd)
 top=$(cd "$here/../.." && pwd)
 if [ "${1:-}" = --help ] || [ "${1:-}" = -h ]; then
   cat <<'HELP'
-usage: tools/compare/run.sh [--face] [BENCH]
+usage: tools/compare/run.sh [--face | --face-into] [BENCH]
 
 Measures the program `bench` next to the same kernels in C++ (search.cpp): builds both, runs them in turn for five rounds, and prints one
 table, in nanoseconds per cell, or per robot and tick. A row has the least, the median and the greatest of the rounds, ours and the peer's,
@@ -14,12 +14,14 @@ and the ratio of the least and of the medians. BENCH is the path of the built pr
 
     --face   the tick through the library for C (face.cpp, "ours") next to `bench tick` ("peer"), the mean over 200 ticks.
              Needs build_c/libnashirudder.a, which tools/build_c makes (with --quick without proofs)
+    --face-into   the same of ticks that tell the cells, the arrivals and the farewells
 HELP
   exit 0
 fi
 face=
 case "${1:-}" in
-  --face) face=yes; shift ;;
+  --face) face=plain; shift ;;
+  --face-into) face=into; shift ;;
 esac
 bench=${1:-}
 if [ -z "$bench" ]; then
@@ -35,7 +37,7 @@ if [ -n "$face" ]; then
   measured=mean_ns
   what="peer: bench tick"
   for _ in $(seq "$rounds"); do
-    "$out/face" | sed 's/^/ours /' >> "$out/lines"
+    "$out/face" "$face" | sed 's/^/ours /' >> "$out/lines"
     "$bench" tick | sed 's/^/peer /' >> "$out/lines"
   done
 else

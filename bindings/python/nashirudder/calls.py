@@ -2,7 +2,7 @@
 
 import ctypes
 import functools
-from ctypes import POINTER, c_bool, c_char_p, c_size_t, c_uint8, c_uint32, c_uint64, c_void_p
+from ctypes import POINTER, c_bool, c_char, c_char_p, c_size_t, c_uint8, c_uint32, c_uint64, c_void_p
 from typing import Any, Optional
 
 from . import finding
@@ -20,8 +20,9 @@ class CFleet(ctypes.Structure):
 
 class CSetup(ctypes.Structure):
     _fields_ = [
-        ("life", c_uint64), ("orders", c_uint64), ("clock", c_uint64), ("clients", c_uint32), ("lane", c_uint32),
-        ("outlet", c_uint32), ("queue", c_uint32), ("mailbox", c_uint32), ("chapter", c_uint32), ("chapters", c_uint32),
+        ("size", c_uint32), ("clients", c_uint32), ("life", c_uint64), ("orders", c_uint64), ("clock", c_uint64),
+        ("lane", c_uint32), ("outlet", c_uint32), ("queue", c_uint32), ("mailbox", c_uint32), ("chapter", c_uint32),
+        ("chapters", c_uint32),
     ]
 
 
@@ -48,29 +49,51 @@ class CNote(ctypes.Structure):
     ]
 
 
+class COrder(ctypes.Structure):
+    _fields_ = [("number", c_uint64), ("kind", c_uint32), ("client", c_uint32), ("robot", c_uint32), ("cell", c_uint32)]
+
+
+class CArrival(ctypes.Structure):
+    _fields_ = [("number", c_uint64), ("robot", c_uint32), ("client", c_uint32), ("cell", c_uint32), ("stamp", c_uint32)]
+
+
 class CEdge(ctypes.Structure):
     _fields_ = [("lower", c_uint32), ("upper", c_uint32)]
 
 
 _FLEET, _TEXT = POINTER(CFleet), (c_char_p, c_size_t)
 
-# Each function's parameters. All but the first and the third answer a code.
+# Each function's parameters. All but those in RESULTS answer a code.
 FUNCTIONS = {
+    "version": (),
+    "message": (POINTER(CFault), POINTER(c_char), c_size_t),
     "setup_default": (c_uint32, POINTER(CSetup)),
     "open": (*_TEXT, POINTER(CRobot), c_size_t, POINTER(CSetup), _FLEET, POINTER(CFault)),
+    "reopen": (*_TEXT, *_TEXT, POINTER(CRobot), c_size_t, POINTER(CSetup), _FLEET, POINTER(CFault)),
     "close": (_FLEET,),
     "go": (_FLEET, c_uint32, c_uint32, c_uint32, POINTER(CJudgement)),
     "close_client": (_FLEET, c_uint32, POINTER(CJudgement)),
     "withdraw": (_FLEET, c_uint32, c_uint64, POINTER(CJudgement)),
+    "take_many": (_FLEET, POINTER(COrder), c_size_t, POINTER(CJudgement), c_size_t, POINTER(c_size_t)),
     "tick": (_FLEET, POINTER(CReport)),
+    "tick_into": (
+        _FLEET, POINTER(CReport), POINTER(c_uint32), c_size_t, POINTER(CArrival), c_size_t, POINTER(c_uint32), c_size_t,
+    ),
     "shut": (_FLEET, c_uint32, POINTER(c_bool)),
     "give": (_FLEET, c_uint32, POINTER(CNote)),
+    "give_many": (_FLEET, c_uint32, POINTER(CNote), c_size_t, POINTER(c_size_t)),
+    "peek": (_FLEET, c_uint32, POINTER(CNote)),
     "pending_count": (_FLEET, c_uint32, POINTER(c_uint64)),
     "widen": (_FLEET, c_uint32, c_uint64),
+    "robots": (_FLEET, POINTER(c_size_t)),
+    "clients": (_FLEET, POINTER(c_size_t)),
+    "limits": (_FLEET, POINTER(CSetup)),
     "placement": (_FLEET, POINTER(c_uint32), c_size_t),
     "clock": (_FLEET, POINTER(c_uint64)),
     "wait_of": (_FLEET, c_uint32, POINTER(c_uint64)),
     "eldest": (_FLEET, POINTER(c_uint32)),
+    "longest_wait": (_FLEET, POINTER(c_uint64)),
+    "wait_limit": (_FLEET, POINTER(c_uint64)),
     "is_idle": (_FLEET, POINTER(c_bool)),
     "idle_within": (_FLEET, POINTER(c_uint64)),
     "is_bridgeless": (_FLEET, POINTER(c_bool)),
@@ -81,6 +104,10 @@ FUNCTIONS = {
     "first_bridge": (*_TEXT, POINTER(CEdge), POINTER(CFault)),
     "distances": (*_TEXT, c_uint32, POINTER(c_uint32), c_size_t, POINTER(CFault)),
 }
+RESULTS = {"setup_default": None, "close": None, "version": c_uint32, "message": c_size_t}
+
+# The version of nashirudder.h that these are of, as NASHIRUDDER_VERSION / 100: major and minor numbers
+VERSION = 1
 
 
 @functools.lru_cache(maxsize=None)
@@ -90,9 +117,11 @@ def _loaded(path: str) -> Any:
         for name, types in FUNCTIONS.items():
             call = getattr(library, "nashirudder_" + name)
             call.argtypes = types
-            call.restype = None if name in ("setup_default", "close") else c_uint32
+            call.restype = RESULTS.get(name, c_uint32)
     except (OSError, AttributeError) as error:
         raise finding.no_library(path, error) from error
+    if library.nashirudder_version() // 100 != VERSION:
+        raise finding.no_library(path, f"its version is {library.nashirudder_version()}, and does not fit this package")
     return library
 
 

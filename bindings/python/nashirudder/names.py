@@ -28,6 +28,8 @@ class Code(enum.IntEnum):
     IDLE = 13
     HAS_BRIDGE = 14
     WRONG_LENGTH = 15
+    NULL_POINTER = 16
+    BAD_ORDER = 17
     MAP_HEADER = 20
     MAP_SIZE = 21
     MAP_ROW = 22
@@ -37,6 +39,7 @@ class Code(enum.IntEnum):
     ROBOT_COUNT = 31
     START_BLOCKED = 32
     START_SHARED = 33
+    WRONG_SIZE = 34
     TOO_MANY = 40
     FROM_BLOCKED = 41
     FROM_SHARED = 42
@@ -47,6 +50,14 @@ class Code(enum.IntEnum):
     SWAPPING_CONFLICT = 47
     NO_BRIDGE = 48
     GOAL_BLOCKED = 49
+    TRACE_NOT_JSON = 50
+    TRACE_VERSION = 51
+    TRACE_SHAPE = 52
+    CHAPTER_ILLEGAL = 53
+    LAWS_DIFFER = 54
+    LIMITS_DIFFER = 55
+    CHAPTERS_SPENT = 56
+    WAITED_TOO_LONG = 57
 
     @property
     def word(self) -> str:
@@ -56,19 +67,19 @@ class Code(enum.IntEnum):
 class Verdict(enum.IntEnum):
     """What an order is answered, by its number in nashirudder.h. `word` is its word, such as "too-late"."""
 
-    ACCEPTED = 1
-    CLOSED = 2
-    WITHDRAWN = 3
-    CLIENT_CLOSED = 4
-    NO_ROBOT = 5
-    ROBOT_SHUT = 6
-    NO_CELL = 7
-    BLOCKED = 8
-    UNREACHABLE = 9
-    QUEUE_FULL = 10
-    LIFE_SPENT = 11
-    NO_ERRAND = 12
-    TOO_LATE = 13
+    ACCEPTED = 101
+    CLOSED = 102
+    WITHDRAWN = 103
+    CLIENT_CLOSED = 104
+    NO_ROBOT = 105
+    ROBOT_SHUT = 106
+    NO_CELL = 107
+    BLOCKED = 108
+    UNREACHABLE = 109
+    QUEUE_FULL = 110
+    LIFE_SPENT = 111
+    NO_ERRAND = 112
+    TOO_LATE = 113
 
     @property
     def word(self) -> str:
@@ -95,6 +106,8 @@ SENTENCES = {
     "book-spent": "this is the last chapter that there may be",
     "too-wide": "the mailbox may not hold so much",
     "wrong-length": "the list does not have the length that is asked for",
+    "null-pointer": "a pointer is null",
+    "bad-order": "there is no kind of orders of this number",
     "map-header": "this line of the map's head is missing or not in its form",
     "map-size": "the map's height or width is not from 1 to 1,024",
     "map-row": "this row of the map is missing or not as long as the width",
@@ -104,6 +117,7 @@ SENTENCES = {
     "robot-count": "there are not 1 to 512 robots",
     "start-blocked": "a robot does not start on floor",
     "start-shared": "two robots start on one cell",
+    "wrong-size": "the setup does not have the size that the library reads: this package and the library do not fit",
     "too-many": "more robots are named than the map has cells",
     "from-blocked": "before the step a robot is not on floor",
     "from-shared": "before the step two robots are on one cell",
@@ -113,6 +127,14 @@ SENTENCES = {
     "vertex-conflict": "two robots come to one cell",
     "swapping-conflict": "two robots exchange their cells",
     "goal-blocked": "the goal is not floor",
+    "trace-not-json": "the trace is not UTF-8, or not JSON, or nested deeper than 127",
+    "trace-version": "the number under `version` is that of no known version of a trace",
+    "trace-shape": "the text does not have the form of a trace",
+    "chapter-illegal": "this entry of the chapter breaks this rule",
+    "laws-differ": "the robots are not as many as the chapter's, or have other laws",
+    "limits-differ": "the limits `queue` and `life` are not those of the chapter",
+    "chapters-spent": "within the limits no chapter follows",
+    "waited-too-long": "a robot has waited longer than it may",
     "client-closed": "the client is closed",
     "robot-shut": "the robot takes no further errands",
     "no-cell": "the map has no cell of this number",

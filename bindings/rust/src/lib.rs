@@ -13,11 +13,11 @@
 //! # Ok::<(), nashirudder::Refused>(())
 //! ```
 //!
-//! A fleet is `Send` and not `Sync`: it may move to another thread, and one call at a time is made on it.
+//! A fleet is `Send` and `Sync`: it may move to another thread, and several threads may look at one at once.
 
 mod raw;
 
-use raw::{Handle, RawEdge, RawFault, RawJudgement, RawNote};
+use raw::{Handle, RawArrival, RawEdge, RawFault, RawJudgement, RawNote, RawOrder, RawSetup};
 use std::error::Error;
 use std::fmt;
 
@@ -26,14 +26,273 @@ const NO_NOTICE: u32 = 11;
 const IDLE: u32 = 13;
 const HAS_BRIDGE: u32 = 14;
 const WRONG_LENGTH: u32 = 15;
+const WRONG_SIZE: u32 = 34;
 const NO_BRIDGE: u32 = 48;
 const FAR: u32 = u32::MAX;
 
-/// A call was refused; the fleet is as it was.
+/// The version of the header that this crate was made with. The library's has to have the same major and minor numbers.
+const VERSION: u32 = 100;
+
+/// Why a call was refused.
+#[non_exhaustive]
+#[derive(Clone, Copy, Debug, PartialEq, Eq, Hash)]
+pub enum Code {
+    /// Memory was refused.
+    NoMemory,
+    /// The handle is closed.
+    NotOpen,
+    /// The handle is open.
+    AlreadyOpen,
+    /// There is no client of this number.
+    NoClient,
+    /// There is no robot of this number.
+    NoRobot,
+    /// The client's notices and unfinished errands leave no room for two more.
+    MailboxFull,
+    /// The chapter has all the entries that it may have: begin the next.
+    ChapterFull,
+    /// All the ticks were made that may be made.
+    ClockSpent,
+    /// The robot is shut already.
+    AlreadyShut,
+    /// This is the last chapter that there may be.
+    BookSpent,
+    /// The client has no notice that it was not given.
+    NoNotice,
+    /// The mailbox may not hold so much.
+    TooWide,
+    /// The robot, or each robot, has no errand.
+    Idle,
+    /// The map has a bridge.
+    HasBridge,
+    /// The list has not the length that is asked for.
+    WrongLength,
+    /// A pointer is null.
+    NullPointer,
+    /// There is no kind of orders of this number.
+    BadOrder,
+    /// The line of the head, `first`, is missing or not in its form.
+    MapHeader,
+    /// The height or the width is not from 1 to 1,024.
+    MapSize,
+    /// The row `first` is missing or not as long as the width.
+    MapRow,
+    /// The byte in row `first`, column `second` is no letter of a map.
+    MapCell,
+    /// The line `first`, after the rows, has more than blanks and tabs.
+    MapTrailing,
+    /// A limit or the number of clients is out of its range.
+    BadSetup,
+    /// There are not 1 to 512 robots.
+    RobotCount,
+    /// The robot `first` does not start on floor.
+    StartBlocked,
+    /// The robots `first` and `second` start on one cell.
+    StartShared,
+    /// The setup has not the size that the library reads: it was made with another header.
+    WrongSize,
+    /// More robots are named than the map has cells.
+    TooMany,
+    /// Before the step the robot `first` is not on floor.
+    FromBlocked,
+    /// Before the step the robots `first` and `second` are on one cell.
+    FromShared,
+    /// The new cells are not as many as the old ones.
+    ToLength,
+    /// The robot `first` leaves the floor.
+    OffFloor,
+    /// The robot `first` neither stays nor crosses an edge.
+    NotAdjacent,
+    /// The robots `first` and `second` come to one cell.
+    VertexConflict,
+    /// The robots `first` and `second` exchange their cells.
+    SwappingConflict,
+    /// The map has no bridge.
+    NoBridge,
+    /// The goal is not floor.
+    GoalBlocked,
+    /// The text is not UTF-8, not JSON, or nested deeper than 127.
+    TraceNotJson,
+    /// The number under `version` is that of no known version.
+    TraceVersion,
+    /// The text has not the form of a trace.
+    TraceShape,
+    /// The chapter is not legal on the map: the entry `first` breaks the rule `second` (docs/TRACE.md).
+    ChapterIllegal,
+    /// The robots are not as many as the chapter's, or the chapter has stamps other than 0.
+    LawsDiffer,
+    /// `queue` or `life` is not that of the chapter.
+    LimitsDiffer,
+    /// Within the limits no chapter follows.
+    ChaptersSpent,
+    /// A robot has waited longer than it may on a map without bridges.
+    WaitedTooLong,
+    /// A number that the library has and this crate has not.
+    Unknown(u32),
+}
+
+impl Code {
+    fn of(number: u32) -> Code {
+        match number {
+            1 => Code::NoMemory,
+            2 => Code::NotOpen,
+            3 => Code::AlreadyOpen,
+            4 => Code::NoClient,
+            5 => Code::NoRobot,
+            6 => Code::MailboxFull,
+            7 => Code::ChapterFull,
+            8 => Code::ClockSpent,
+            9 => Code::AlreadyShut,
+            10 => Code::BookSpent,
+            11 => Code::NoNotice,
+            12 => Code::TooWide,
+            13 => Code::Idle,
+            14 => Code::HasBridge,
+            15 => Code::WrongLength,
+            16 => Code::NullPointer,
+            17 => Code::BadOrder,
+            20 => Code::MapHeader,
+            21 => Code::MapSize,
+            22 => Code::MapRow,
+            23 => Code::MapCell,
+            24 => Code::MapTrailing,
+            30 => Code::BadSetup,
+            31 => Code::RobotCount,
+            32 => Code::StartBlocked,
+            33 => Code::StartShared,
+            34 => Code::WrongSize,
+            40 => Code::TooMany,
+            41 => Code::FromBlocked,
+            42 => Code::FromShared,
+            43 => Code::ToLength,
+            44 => Code::OffFloor,
+            45 => Code::NotAdjacent,
+            46 => Code::VertexConflict,
+            47 => Code::SwappingConflict,
+            48 => Code::NoBridge,
+            49 => Code::GoalBlocked,
+            50 => Code::TraceNotJson,
+            51 => Code::TraceVersion,
+            52 => Code::TraceShape,
+            53 => Code::ChapterIllegal,
+            54 => Code::LawsDiffer,
+            55 => Code::LimitsDiffer,
+            56 => Code::ChaptersSpent,
+            57 => Code::WaitedTooLong,
+            number => Code::Unknown(number),
+        }
+    }
+
+    /// Its number in nashirudder.h.
+    pub fn number(self) -> u32 {
+        match self {
+            Code::NoMemory => 1,
+            Code::NotOpen => 2,
+            Code::AlreadyOpen => 3,
+            Code::NoClient => 4,
+            Code::NoRobot => 5,
+            Code::MailboxFull => 6,
+            Code::ChapterFull => 7,
+            Code::ClockSpent => 8,
+            Code::AlreadyShut => 9,
+            Code::BookSpent => 10,
+            Code::NoNotice => 11,
+            Code::TooWide => 12,
+            Code::Idle => 13,
+            Code::HasBridge => 14,
+            Code::WrongLength => 15,
+            Code::NullPointer => 16,
+            Code::BadOrder => 17,
+            Code::MapHeader => 20,
+            Code::MapSize => 21,
+            Code::MapRow => 22,
+            Code::MapCell => 23,
+            Code::MapTrailing => 24,
+            Code::BadSetup => 30,
+            Code::RobotCount => 31,
+            Code::StartBlocked => 32,
+            Code::StartShared => 33,
+            Code::WrongSize => 34,
+            Code::TooMany => 40,
+            Code::FromBlocked => 41,
+            Code::FromShared => 42,
+            Code::ToLength => 43,
+            Code::OffFloor => 44,
+            Code::NotAdjacent => 45,
+            Code::VertexConflict => 46,
+            Code::SwappingConflict => 47,
+            Code::NoBridge => 48,
+            Code::GoalBlocked => 49,
+            Code::TraceNotJson => 50,
+            Code::TraceVersion => 51,
+            Code::TraceShape => 52,
+            Code::ChapterIllegal => 53,
+            Code::LawsDiffer => 54,
+            Code::LimitsDiffer => 55,
+            Code::ChaptersSpent => 56,
+            Code::WaitedTooLong => 57,
+            Code::Unknown(number) => number,
+        }
+    }
+
+    /// The word for it.
+    pub fn name(self) -> &'static str {
+        match self {
+            Code::NoMemory => "no-memory",
+            Code::NotOpen => "not-open",
+            Code::AlreadyOpen => "already-open",
+            Code::NoClient => "no-client",
+            Code::NoRobot => "no-robot",
+            Code::MailboxFull => "mailbox-full",
+            Code::ChapterFull => "chapter-full",
+            Code::ClockSpent => "clock-spent",
+            Code::AlreadyShut => "already-shut",
+            Code::BookSpent => "book-spent",
+            Code::NoNotice => "no-notice",
+            Code::TooWide => "too-wide",
+            Code::Idle => "idle",
+            Code::HasBridge => "has-bridge",
+            Code::WrongLength => "wrong-length",
+            Code::NullPointer => "null-pointer",
+            Code::BadOrder => "bad-order",
+            Code::MapHeader => "map-header",
+            Code::MapSize => "map-size",
+            Code::MapRow => "map-row",
+            Code::MapCell => "map-cell",
+            Code::MapTrailing => "map-trailing",
+            Code::BadSetup => "bad-setup",
+            Code::RobotCount => "robot-count",
+            Code::StartBlocked => "start-blocked",
+            Code::StartShared => "start-shared",
+            Code::WrongSize => "wrong-size",
+            Code::TooMany => "too-many",
+            Code::FromBlocked => "from-blocked",
+            Code::FromShared => "from-shared",
+            Code::ToLength => "to-length",
+            Code::OffFloor => "off-floor",
+            Code::NotAdjacent => "not-adjacent",
+            Code::VertexConflict => "vertex-conflict",
+            Code::SwappingConflict => "swapping-conflict",
+            Code::NoBridge => "no-bridge",
+            Code::GoalBlocked => "goal-blocked",
+            Code::TraceNotJson => "trace-not-json",
+            Code::TraceVersion => "trace-version",
+            Code::TraceShape => "trace-shape",
+            Code::ChapterIllegal => "chapter-illegal",
+            Code::LawsDiffer => "laws-differ",
+            Code::LimitsDiffer => "limits-differ",
+            Code::ChaptersSpent => "chapters-spent",
+            Code::WaitedTooLong => "waited-too-long",
+            Code::Unknown(_) => "unknown",
+        }
+    }
+}
+
+/// A call was refused; the fleet is as it was. It prints as a sentence.
 #[derive(Clone, Copy, Debug, PartialEq, Eq)]
 pub struct Refused {
-    /// The code, by nashirudder.h.
-    pub code: u32,
+    /// Why.
+    pub code: Code,
     /// The numbers that the refusal names, as lines, rows or robots; else 0.
     pub numbers: (u64, u64),
 }
@@ -41,49 +300,23 @@ pub struct Refused {
 impl Refused {
     /// The word for the code.
     pub fn name(&self) -> &'static str {
-        match self.code {
-            1 => "no-memory",
-            2 => "not-open",
-            3 => "already-open",
-            4 => "no-client",
-            5 => "no-robot",
-            6 => "mailbox-full",
-            7 => "chapter-full",
-            8 => "clock-spent",
-            9 => "already-shut",
-            10 => "book-spent",
-            11 => "no-notice",
-            12 => "too-wide",
-            13 => "idle",
-            14 => "has-bridge",
-            15 => "wrong-length",
-            20 => "map-header",
-            21 => "map-size",
-            22 => "map-row",
-            23 => "map-cell",
-            24 => "map-trailing",
-            30 => "bad-setup",
-            31 => "robot-count",
-            32 => "start-blocked",
-            33 => "start-shared",
-            40 => "too-many",
-            41 => "from-blocked",
-            42 => "from-shared",
-            43 => "to-length",
-            44 => "off-floor",
-            45 => "not-adjacent",
-            46 => "vertex-conflict",
-            47 => "swapping-conflict",
-            48 => "no-bridge",
-            49 => "goal-blocked",
-            _ => "unknown",
-        }
+        self.code.name()
     }
 }
 
 impl fmt::Display for Refused {
     fn fmt(&self, f: &mut fmt::Formatter<'_>) -> fmt::Result {
-        f.write_str(self.name())
+        let fault = RawFault {
+            first: self.numbers.0,
+            second: self.numbers.1,
+            code: self.code.number(),
+        };
+        // A sentence has at most 113 bytes and two numbers of at most 20 digits in place of two more.
+        let mut text = [0u8; 256];
+        // SAFETY: the pointers are to a whole fault, and to as many bytes as is said.
+        let length = unsafe { raw::nashirudder_message(&fault, text.as_mut_ptr(), text.len()) };
+        let told = &text[..length.min(text.len() - 1)];
+        f.write_str(std::str::from_utf8(told).unwrap_or(self.name()))
     }
 }
 
@@ -92,7 +325,7 @@ impl Error for Refused {}
 fn check(code: u32) -> Result<(), Refused> {
     match code {
         DONE => Ok(()),
-        code => Err(Refused { code, numbers: (0, 0) }),
+        code => Err(Refused { code: Code::of(code), numbers: (0, 0) }),
     }
 }
 
@@ -106,8 +339,16 @@ fn check_told(code: u32, fault: &RawFault) -> Result<(), Refused> {
     }
 }
 
+/// The library is of this crate's version.
+fn check_version() -> Result<(), Refused> {
+    // SAFETY: the call takes nothing.
+    if unsafe { raw::nashirudder_version() } / 100 == VERSION / 100 {
+        return Ok(());
+    }
+    check(WRONG_SIZE)
+}
+
 /// The number of clients and the limits of a fleet.
-#[repr(C)]
 #[derive(Clone, Copy, Debug, Default, PartialEq, Eq)]
 pub struct Setup {
     pub life: u64,
@@ -125,10 +366,41 @@ pub struct Setup {
 impl Setup {
     /// The limits that are taken where nothing is said, and this many clients.
     pub fn new(clients: u32) -> Setup {
-        let mut setup = Setup::default();
+        let mut setup = RawSetup::default();
         // SAFETY: the pointer is to a whole setup.
         unsafe { raw::nashirudder_setup_default(clients, &mut setup) };
-        setup
+        Setup::of(&setup)
+    }
+
+    fn of(raw: &RawSetup) -> Setup {
+        Setup {
+            life: raw.life,
+            orders: raw.orders,
+            clock: raw.clock,
+            clients: raw.clients,
+            lane: raw.lane,
+            outlet: raw.outlet,
+            queue: raw.queue,
+            mailbox: raw.mailbox,
+            chapter: raw.chapter,
+            chapters: raw.chapters,
+        }
+    }
+
+    fn raw(&self) -> RawSetup {
+        RawSetup {
+            size: std::mem::size_of::<RawSetup>() as u32,
+            life: self.life,
+            orders: self.orders,
+            clock: self.clock,
+            clients: self.clients,
+            lane: self.lane,
+            outlet: self.outlet,
+            queue: self.queue,
+            mailbox: self.mailbox,
+            chapter: self.chapter,
+            chapters: self.chapters,
+        }
     }
 }
 
@@ -201,19 +473,19 @@ impl Verdict {
 
     fn of(verdict: u32, number: u64) -> Verdict {
         match verdict {
-            1 => Verdict::Accepted(number),
-            2 => Verdict::Closed,
-            3 => Verdict::Withdrawn,
-            4 => Verdict::ClientClosed,
-            5 => Verdict::NoRobot,
-            6 => Verdict::RobotShut,
-            7 => Verdict::NoCell,
-            8 => Verdict::Blocked,
-            9 => Verdict::Unreachable,
-            10 => Verdict::QueueFull,
-            11 => Verdict::LifeSpent,
-            12 => Verdict::NoErrand,
-            13 => Verdict::TooLate,
+            101 => Verdict::Accepted(number),
+            102 => Verdict::Closed,
+            103 => Verdict::Withdrawn,
+            104 => Verdict::ClientClosed,
+            105 => Verdict::NoRobot,
+            106 => Verdict::RobotShut,
+            107 => Verdict::NoCell,
+            108 => Verdict::Blocked,
+            109 => Verdict::Unreachable,
+            110 => Verdict::QueueFull,
+            111 => Verdict::LifeSpent,
+            112 => Verdict::NoErrand,
+            113 => Verdict::TooLate,
             _ => unreachable!("the library has no verdict {verdict}"),
         }
     }
@@ -229,6 +501,53 @@ pub struct Report {
     pub arrived: u32,
     /// How many robots took their leave.
     pub farewells: u32,
+}
+
+/// An order, in a list of orders.
+#[derive(Clone, Copy, Debug, PartialEq, Eq)]
+pub enum Order {
+    /// The robot is to go to the cell.
+    Go { client: u32, robot: u32, cell: u32 },
+    /// The client's last order.
+    Close { client: u32 },
+    /// The client gives up its errand of that number.
+    Withdraw { client: u32, number: u64 },
+}
+
+impl Order {
+    fn raw(&self) -> RawOrder {
+        match *self {
+            Order::Go { client, robot, cell } => RawOrder { number: 0, kind: 1, client, robot, cell },
+            Order::Close { client } => RawOrder { number: 0, kind: 2, client, robot: 0, cell: 0 },
+            Order::Withdraw { client, number } => {
+                RawOrder { number, kind: 3, client, robot: 0, cell: 0 }
+            }
+        }
+    }
+}
+
+/// An arrival that a tick shows.
+#[derive(Clone, Copy, Debug, PartialEq, Eq)]
+pub struct Arrival {
+    /// The errand's number among the client's accepted errands.
+    pub number: u64,
+    pub robot: u32,
+    pub client: u32,
+    /// The robot's cell after the tick.
+    pub cell: u32,
+    pub stamp: u32,
+}
+
+/// What a tick shows. It can be used for tick after tick, and then takes no more memory.
+#[derive(Clone, Debug, Default)]
+pub struct Shown {
+    /// Where the robots stand after the tick.
+    pub cells: Vec<u32>,
+    /// Who arrived, by robot.
+    pub arrivals: Vec<Arrival>,
+    /// The robots that said farewell.
+    pub farewells: Vec<u32>,
+    told: Vec<RawArrival>,
 }
 
 /// A notice to a client.
@@ -257,8 +576,10 @@ pub struct Fleet {
     robots: usize,
 }
 
-// SAFETY: the library proves that what a handle owns may move between threads.
+// SAFETY: the library proves that what a handle owns may move between threads, and that several may look at it at once; the
+// methods with `&self` only call what looks.
 unsafe impl Send for Fleet {}
+unsafe impl Sync for Fleet {}
 
 impl Drop for Fleet {
     fn drop(&mut self) {
@@ -270,6 +591,8 @@ impl Drop for Fleet {
 impl Fleet {
     /// A fleet on the map, the text of a .map file, each robot on its start.
     pub fn open(map: &[u8], robots: &[Robot], setup: &Setup) -> Result<Fleet, Refused> {
+        check_version()?;
+        let setup = setup.raw();
         let mut fleet = Fleet {
             handle: Handle::CLOSED,
             robots: robots.len(),
@@ -282,7 +605,39 @@ impl Fleet {
                 map.len(),
                 robots.as_ptr(),
                 robots.len(),
-                setup,
+                &setup,
+                &mut fleet.handle,
+                &mut fault,
+            )
+        };
+        check_told(code, &fault).map(|()| fleet)
+    }
+
+    /// The fleet that goes on from a chapter that was kept, with its `trace`. Robots and clients are those of the chapter, and
+    /// the mailboxes are empty. Of the robots only the ranks are read, of the setup all but the number of clients.
+    pub fn reopen(
+        map: &[u8],
+        trace: &str,
+        robots: &[Robot],
+        setup: &Setup,
+    ) -> Result<Fleet, Refused> {
+        check_version()?;
+        let setup = setup.raw();
+        let mut fleet = Fleet {
+            handle: Handle::CLOSED,
+            robots: robots.len(),
+        };
+        let mut fault = RawFault::default();
+        // SAFETY: a slice's pointer is never null, and its length is true.
+        let code = unsafe {
+            raw::nashirudder_reopen(
+                map.as_ptr(),
+                map.len(),
+                trace.as_ptr(),
+                trace.len(),
+                robots.as_ptr(),
+                robots.len(),
+                &setup,
                 &mut fleet.handle,
                 &mut fault,
             )
@@ -317,10 +672,61 @@ impl Fleet {
         Fleet::judged(code, told)
     }
 
+    /// Takes orders one after the other until one is refused. The verdicts of those that were taken, and why the next one was
+    /// refused, if one was.
+    pub fn take_many(&mut self, orders: &[Order]) -> Result<(Vec<Verdict>, Option<Code>), Refused> {
+        let asked: Vec<RawOrder> = orders.iter().map(Order::raw).collect();
+        let mut told: Vec<RawJudgement> = orders.iter().map(|_| RawJudgement::default()).collect();
+        let mut count = usize::MAX;
+        // SAFETY: a vector's pointer is never null, and its length is true.
+        let code = unsafe {
+            raw::nashirudder_take_many(
+                &mut self.handle,
+                asked.as_ptr(),
+                asked.len(),
+                told.as_mut_ptr(),
+                told.len(),
+                &mut count,
+            )
+        };
+        // Before any order is tried the count stays as it was.
+        if count == usize::MAX {
+            check(code)?;
+        }
+        told.truncate(count);
+        let verdicts = told.iter().map(|judged| Verdict::of(judged.verdict, judged.number)).collect();
+        Ok((verdicts, if code == DONE { None } else { Some(Code::of(code)) }))
+    }
+
     /// All robots make one step.
     pub fn tick(&mut self) -> Result<Report, Refused> {
         let mut report = Report::default();
         check(unsafe { raw::nashirudder_tick(&mut self.handle, &mut report) })?;
+        Ok(report)
+    }
+
+    /// The same, with what the tick shows.
+    pub fn tick_into(&mut self, shown: &mut Shown) -> Result<Report, Refused> {
+        let mut report = Report::default();
+        shown.cells.resize(self.robots, 0);
+        shown.farewells.resize(self.robots, 0);
+        shown.told.resize(self.robots, RawArrival::default());
+        // SAFETY: a vector's pointer is never null, and its length is true.
+        check(unsafe {
+            raw::nashirudder_tick_into(
+                &mut self.handle,
+                &mut report,
+                shown.cells.as_mut_ptr(),
+                shown.cells.len(),
+                shown.told.as_mut_ptr(),
+                shown.told.len(),
+                shown.farewells.as_mut_ptr(),
+                shown.farewells.len(),
+            )
+        })?;
+        shown.farewells.truncate(report.farewells as usize);
+        shown.arrivals.clear();
+        shown.arrivals.extend(shown.told[..report.arrived as usize].iter().map(Arrival::of));
         Ok(report)
     }
 
@@ -340,10 +746,74 @@ impl Fleet {
         }
     }
 
-    /// How many notices the client was not given yet.
-    pub fn pending_count(&mut self, client: u32) -> Result<u64, Refused> {
+    /// All notices that the client was not given yet.
+    pub fn give_all(&mut self, client: u32) -> Result<Vec<Notice>, Refused> {
+        let pending = self.pending_count(client)? as usize;
+        let mut notes: Vec<RawNote> = (0..pending).map(|_| RawNote::default()).collect();
         let mut count = 0;
-        check(unsafe { raw::nashirudder_pending_count(&mut self.handle, client, &mut count) })?;
+        // SAFETY: a vector's pointer is never null, and its length is true.
+        check(unsafe {
+            raw::nashirudder_give_many(
+                &mut self.handle,
+                client,
+                notes.as_mut_ptr(),
+                notes.len(),
+                &mut count,
+            )
+        })?;
+        Ok(notes[..count].iter().map(Notice::of).collect())
+    }
+
+    /// The notice that `give` would give, which stays in the mailbox.
+    pub fn peek(&self, client: u32) -> Result<Option<Notice>, Refused> {
+        let mut note = RawNote::default();
+        match unsafe { raw::nashirudder_peek(&self.handle, client, &mut note) } {
+            NO_NOTICE => Ok(None),
+            code => check(code).map(|()| Some(Notice::of(&note))),
+        }
+    }
+
+    /// How many robots there are.
+    pub fn robots(&self) -> usize {
+        self.robots
+    }
+
+    /// How many clients there are.
+    pub fn clients(&self) -> Result<usize, Refused> {
+        let mut count = 0;
+        check(unsafe { raw::nashirudder_clients(&self.handle, &mut count) })?;
+        Ok(count)
+    }
+
+    /// The limits, and the number of clients.
+    pub fn limits(&self) -> Result<Setup, Refused> {
+        let mut setup = RawSetup::default();
+        check(unsafe { raw::nashirudder_limits(&self.handle, &mut setup) })?;
+        Ok(Setup::of(&setup))
+    }
+
+    /// How long the robot that has waited longest has waited, if one has an errand.
+    pub fn longest_wait(&self) -> Result<Option<u64>, Refused> {
+        let mut ticks = 0;
+        match unsafe { raw::nashirudder_longest_wait(&self.handle, &mut ticks) } {
+            IDLE => Ok(None),
+            code => check(code).map(|()| Some(ticks)),
+        }
+    }
+
+    /// A number of ticks that no wait reaches; none on a map with a bridge.
+    pub fn wait_limit(&self) -> Result<Option<u64>, Refused> {
+        let mut ticks = 0;
+        match unsafe { raw::nashirudder_wait_limit(&self.handle, &mut ticks) } {
+            HAS_BRIDGE => Ok(None),
+            code => check(code).map(|()| Some(ticks)),
+        }
+    }
+
+    /// How many notices the client was not given yet.
+    pub fn pending_count(&self, client: u32) -> Result<u64, Refused> {
+        let mut count = 0;
+        check(unsafe { raw::nashirudder_pending_count(&self.handle, client, &mut count) })?;
         Ok(count)
     }
 
@@ -353,70 +823,70 @@ impl Fleet {
     }
 
     /// Where the robots stand, by number.
-    pub fn placement(&mut self) -> Result<Vec<u32>, Refused> {
+    pub fn placement(&self) -> Result<Vec<u32>, Refused> {
         let mut cells = vec![0; self.robots];
         check(unsafe {
-            raw::nashirudder_placement(&mut self.handle, cells.as_mut_ptr(), cells.len())
+            raw::nashirudder_placement(&self.handle, cells.as_mut_ptr(), cells.len())
         })?;
         Ok(cells)
     }
 
     /// The ticks made so far.
-    pub fn clock(&mut self) -> Result<u64, Refused> {
+    pub fn clock(&self) -> Result<u64, Refused> {
         let mut ticks = 0;
-        check(unsafe { raw::nashirudder_clock(&mut self.handle, &mut ticks) })?;
+        check(unsafe { raw::nashirudder_clock(&self.handle, &mut ticks) })?;
         Ok(ticks)
     }
 
     /// How many ticks the robot has waited, if it has an errand.
-    pub fn wait_of(&mut self, robot: u32) -> Result<Option<u64>, Refused> {
+    pub fn wait_of(&self, robot: u32) -> Result<Option<u64>, Refused> {
         let mut ticks = 0;
-        match unsafe { raw::nashirudder_wait_of(&mut self.handle, robot, &mut ticks) } {
+        match unsafe { raw::nashirudder_wait_of(&self.handle, robot, &mut ticks) } {
             IDLE => Ok(None),
             code => check(code).map(|()| Some(ticks)),
         }
     }
 
     /// The robot that has waited longest, if one has an errand.
-    pub fn eldest(&mut self) -> Result<Option<u32>, Refused> {
+    pub fn eldest(&self) -> Result<Option<u32>, Refused> {
         let mut robot = 0;
-        match unsafe { raw::nashirudder_eldest(&mut self.handle, &mut robot) } {
+        match unsafe { raw::nashirudder_eldest(&self.handle, &mut robot) } {
             IDLE => Ok(None),
             code => check(code).map(|()| Some(robot)),
         }
     }
 
     /// Whether nobody has an errand.
-    pub fn is_idle(&mut self) -> Result<bool, Refused> {
+    pub fn is_idle(&self) -> Result<bool, Refused> {
         let mut is_idle = false;
-        check(unsafe { raw::nashirudder_is_idle(&mut self.handle, &mut is_idle) })?;
+        check(unsafe { raw::nashirudder_is_idle(&self.handle, &mut is_idle) })?;
         Ok(is_idle)
     }
 
     /// Within how many ticks nobody has an errand any more; none on a map with a bridge.
-    pub fn idle_within(&mut self) -> Result<Option<u64>, Refused> {
+    pub fn idle_within(&self) -> Result<Option<u64>, Refused> {
         let mut ticks = 0;
-        match unsafe { raw::nashirudder_idle_within(&mut self.handle, &mut ticks) } {
+        match unsafe { raw::nashirudder_idle_within(&self.handle, &mut ticks) } {
             HAS_BRIDGE => Ok(None),
             code => check(code).map(|()| Some(ticks)),
         }
     }
 
     /// Whether the map has no bridge.
-    pub fn is_bridgeless(&mut self) -> Result<bool, Refused> {
+    pub fn is_bridgeless(&self) -> Result<bool, Refused> {
         let mut is_bridgeless = false;
-        check(unsafe { raw::nashirudder_is_bridgeless(&mut self.handle, &mut is_bridgeless) })?;
+        check(unsafe { raw::nashirudder_is_bridgeless(&self.handle, &mut is_bridgeless) })?;
         Ok(is_bridgeless)
     }
 
     /// The trace of the present chapter.
-    pub fn trace(&mut self) -> Result<String, Refused> {
+    pub fn trace(&self) -> Result<String, Refused> {
         let mut text = vec![0; 1024];
         loop {
             let mut length = 0;
             let code = unsafe {
                 raw::nashirudder_trace(
-                    &mut self.handle,
+                    &self.handle,
                     text.as_mut_ptr(),
                     text.len(),
                     &mut length,
@@ -440,6 +910,18 @@ impl Fleet {
     /// Keeps distances to goals that no robot has any more, up to this many bytes.
     pub fn keep(&mut self, bytes: usize) -> Result<(), Refused> {
         check(unsafe { raw::nashirudder_keep(&mut self.handle, bytes) })
+    }
+}
+
+impl Arrival {
+    fn of(told: &RawArrival) -> Arrival {
+        Arrival {
+            number: told.number,
+            robot: told.robot,
+            client: told.client,
+            cell: told.cell,
+            stamp: told.stamp,
+        }
     }
 }
 

@@ -15,6 +15,41 @@ impl Handle {
 
 #[repr(C)]
 #[derive(Default)]
+pub(crate) struct RawSetup {
+    pub size: u32,
+    pub clients: u32,
+    pub life: u64,
+    pub orders: u64,
+    pub clock: u64,
+    pub lane: u32,
+    pub outlet: u32,
+    pub queue: u32,
+    pub mailbox: u32,
+    pub chapter: u32,
+    pub chapters: u32,
+}
+
+#[repr(C)]
+pub(crate) struct RawOrder {
+    pub number: u64,
+    pub kind: u32,
+    pub client: u32,
+    pub robot: u32,
+    pub cell: u32,
+}
+
+#[repr(C)]
+#[derive(Clone, Copy, Debug, Default)]
+pub(crate) struct RawArrival {
+    pub number: u64,
+    pub robot: u32,
+    pub client: u32,
+    pub cell: u32,
+    pub stamp: u32,
+}
+
+#[repr(C)]
+#[derive(Default)]
 pub(crate) struct RawJudgement {
     pub number: u64,
     pub verdict: u32,
@@ -49,13 +84,60 @@ pub(crate) struct RawEdge {
 }
 
 extern "C" {
-    pub(crate) fn nashirudder_setup_default(clients: u32, setup: *mut crate::Setup);
+    pub(crate) fn nashirudder_version() -> u32;
+    pub(crate) fn nashirudder_message(
+        fault: *const RawFault,
+        text: *mut u8,
+        text_length: usize,
+    ) -> usize;
+    pub(crate) fn nashirudder_setup_default(clients: u32, setup: *mut RawSetup);
+    pub(crate) fn nashirudder_reopen(
+        map: *const u8,
+        map_length: usize,
+        text: *const u8,
+        text_length: usize,
+        robots: *const crate::Robot,
+        robots_length: usize,
+        setup: *const RawSetup,
+        fleet: *mut Handle,
+        fault: *mut RawFault,
+    ) -> u32;
+    pub(crate) fn nashirudder_take_many(
+        fleet: *mut Handle,
+        orders: *const RawOrder,
+        orders_length: usize,
+        judgements: *mut RawJudgement,
+        judgements_length: usize,
+        count: *mut usize,
+    ) -> u32;
+    pub(crate) fn nashirudder_tick_into(
+        fleet: *mut Handle,
+        report: *mut crate::Report,
+        cells: *mut u32,
+        cells_length: usize,
+        arrivals: *mut RawArrival,
+        arrivals_length: usize,
+        farewells: *mut u32,
+        farewells_length: usize,
+    ) -> u32;
+    pub(crate) fn nashirudder_give_many(
+        fleet: *mut Handle,
+        client: u32,
+        notes: *mut RawNote,
+        notes_length: usize,
+        count: *mut usize,
+    ) -> u32;
+    pub(crate) fn nashirudder_peek(fleet: *const Handle, client: u32, note: *mut RawNote) -> u32;
+    pub(crate) fn nashirudder_clients(fleet: *const Handle, count: *mut usize) -> u32;
+    pub(crate) fn nashirudder_limits(fleet: *const Handle, setup: *mut RawSetup) -> u32;
+    pub(crate) fn nashirudder_longest_wait(fleet: *const Handle, ticks: *mut u64) -> u32;
+    pub(crate) fn nashirudder_wait_limit(fleet: *const Handle, ticks: *mut u64) -> u32;
     pub(crate) fn nashirudder_open(
         map: *const u8,
         map_length: usize,
         robots: *const crate::Robot,
         robots_length: usize,
-        setup: *const crate::Setup,
+        setup: *const RawSetup,
         fleet: *mut Handle,
         fault: *mut RawFault,
     ) -> u32;
@@ -82,24 +164,24 @@ extern "C" {
     pub(crate) fn nashirudder_shut(fleet: *mut Handle, robot: u32, left: *mut bool) -> u32;
     pub(crate) fn nashirudder_give(fleet: *mut Handle, client: u32, note: *mut RawNote) -> u32;
     pub(crate) fn nashirudder_pending_count(
-        fleet: *mut Handle,
+        fleet: *const Handle,
         client: u32,
         count: *mut u64,
     ) -> u32;
     pub(crate) fn nashirudder_widen(fleet: *mut Handle, client: u32, extra: u64) -> u32;
     pub(crate) fn nashirudder_placement(
-        fleet: *mut Handle,
+        fleet: *const Handle,
         cells: *mut u32,
         cells_length: usize,
     ) -> u32;
-    pub(crate) fn nashirudder_clock(fleet: *mut Handle, ticks: *mut u64) -> u32;
-    pub(crate) fn nashirudder_wait_of(fleet: *mut Handle, robot: u32, ticks: *mut u64) -> u32;
-    pub(crate) fn nashirudder_eldest(fleet: *mut Handle, robot: *mut u32) -> u32;
-    pub(crate) fn nashirudder_is_idle(fleet: *mut Handle, is_idle: *mut bool) -> u32;
-    pub(crate) fn nashirudder_idle_within(fleet: *mut Handle, ticks: *mut u64) -> u32;
-    pub(crate) fn nashirudder_is_bridgeless(fleet: *mut Handle, is_bridgeless: *mut bool) -> u32;
+    pub(crate) fn nashirudder_clock(fleet: *const Handle, ticks: *mut u64) -> u32;
+    pub(crate) fn nashirudder_wait_of(fleet: *const Handle, robot: u32, ticks: *mut u64) -> u32;
+    pub(crate) fn nashirudder_eldest(fleet: *const Handle, robot: *mut u32) -> u32;
+    pub(crate) fn nashirudder_is_idle(fleet: *const Handle, is_idle: *mut bool) -> u32;
+    pub(crate) fn nashirudder_idle_within(fleet: *const Handle, ticks: *mut u64) -> u32;
+    pub(crate) fn nashirudder_is_bridgeless(fleet: *const Handle, is_bridgeless: *mut bool) -> u32;
     pub(crate) fn nashirudder_trace(
-        fleet: *mut Handle,
+        fleet: *const Handle,
         text: *mut u8,
         text_length: usize,
         length: *mut usize,

@@ -1,6 +1,9 @@
 //! Calls of the library. What is wanted is worked out by hand.
 
-use nashirudder::{check_step, distances, first_bridge, Fleet, Notice, Refused, Report, Robot, Setup, Verdict};
+use nashirudder::{
+    check_step, distances, first_bridge, Arrival, Code, Fleet, Notice, Order, Refused, Report, Robot,
+    Setup, Shown, Verdict,
+};
 
 const RING: &[u8] = b"type octile\nheight 3\nwidth 4\nmap\n....\n.@..\n....\n";
 const ROW: &[u8] = b"type octile\nheight 1\nwidth 3\nmap\n...\n";
@@ -61,6 +64,98 @@ fn moves_to_a_thread() -> Result<(), Refused> {
     fleet.go(0, 0, 1)?;
     let mut fleet = std::thread::spawn(move || fleet.tick().map(|_| fleet)).join().expect("no panic")?;
     assert_eq!(fleet.placement()?, [1]);
+    Ok(())
+}
+
+#[test]
+fn does_many_at_once() -> Result<(), Refused> {
+    let mut fleet = Fleet::open(RING, &[Robot::at(0), Robot::at(3)], &Setup::new(2))?;
+    let orders = [
+        Order::Go { client: 1, robot: 0, cell: 1 },
+        Order::Withdraw { client: 1, number: 1 },
+        Order::Close { client: 0 },
+        Order::Go { client: 2, robot: 0, cell: 1 },
+        Order::Go { client: 1, robot: 1, cell: 2 },
+    ];
+    let (verdicts, stopped) = fleet.take_many(&orders)?;
+    assert_eq!(verdicts, [Verdict::Accepted(1), Verdict::TooLate, Verdict::Closed]);
+    assert_eq!(stopped, Some(Code::NoClient));
+    assert_eq!(fleet.take_many(&orders[4..])?, (vec![Verdict::Accepted(2)], None));
+    let mut shown = Shown::default();
+    assert!(!fleet.shut(1)?);
+    assert_eq!(fleet.tick_into(&mut shown)?, Report { tick: 1, arrived: 2, farewells: 1 });
+    assert_eq!((&shown.cells[..], &shown.farewells[..]), (&[1, 2][..], &[1][..]));
+    let arrived = |robot, number, cell| Arrival { number, robot, client: 1, cell, stamp: 0 };
+    assert_eq!(shown.arrivals, [arrived(0, 1, 1), arrived(1, 2, 2)]);
+    assert_eq!(fleet.tick_into(&mut shown)?, Report { tick: 2, arrived: 0, farewells: 0 });
+    assert!(shown.arrivals.is_empty() && shown.farewells.is_empty() && shown.cells == [1, 2]);
+    let first = Notice::Verdict { seq: 1, order: 1, verdict: Verdict::Accepted(1) };
+    assert_eq!(fleet.peek(1)?, Some(first));
+    assert_eq!(fleet.pending_count(1)?, 5);
+    let notices = fleet.give_all(1)?;
+    assert_eq!((notices.len(), notices[0], fleet.peek(1)?), (5, first, None));
+    Ok(())
+}
+
+#[test]
+fn says_what_it_is() -> Result<(), Refused> {
+    let setup = Setup { queue: 7, ..Setup::new(2) };
+    let mut fleet = Fleet::open(RING, &[Robot::at(0)], &setup)?;
+    assert_eq!((fleet.robots(), fleet.clients()?, fleet.limits()?), (1, 2, setup));
+    assert_eq!((fleet.longest_wait()?, fleet.wait_limit()?), (None, Some(10)));
+    fleet.go(0, 0, 11)?;
+    fleet.tick()?;
+    assert_eq!(fleet.longest_wait()?, Some(1));
+    assert_eq!(Fleet::open(ROW, &[Robot::at(0)], &setup)?.wait_limit()?, None);
+    Ok(())
+}
+
+#[test]
+fn prints_a_sentence() {
+    let refused = Fleet::open(RING, &[Robot::at(0), Robot::at(5)], &Setup::new(1)).err().expect("a wall");
+    assert_eq!((refused.code, refused.code.number()), (Code::StartBlocked, 32));
+    assert_eq!(refused.to_string(), "robot 1 starts on a cell that is no floor");
+}
+
+#[test]
+fn is_looked_at_by_several() -> Result<(), Refused> {
+    let mut fleet = Fleet::open(RING, &[Robot::at(0)], &Setup::new(1))?;
+    fleet.go(0, 0, 11)?;
+    fleet.tick()?;
+    let fleet = &fleet;
+    std::thread::scope(|threads| {
+        let looks: Vec<_> = (0..4).map(|_| threads.spawn(|| (fleet.clock(), fleet.placement(), fleet.trace()))).collect();
+        for look in looks {
+            let (clock, placement, trace) = look.join().expect("no panic");
+            assert_eq!((clock?, placement?, trace?), (1, vec![1], fleet.trace()?));
+        }
+        Ok(())
+    })
+}
+
+#[test]
+fn goes_on_from_a_chapter() -> Result<(), Refused> {
+    let (robots, setup) = ([Robot::at(0), Robot::at(3)], Setup::new(1));
+    let begin = || -> Result<Fleet, Refused> {
+        let mut fleet = Fleet::open(RING, &robots, &setup)?;
+        assert_eq!((fleet.go(0, 0, 11)?, fleet.go(0, 1, 8)?), (Verdict::Accepted(1), Verdict::Accepted(2)));
+        fleet.tick()?;
+        Ok(fleet)
+    };
+    let go_on = |mut fleet: Fleet| -> Result<String, Refused> {
+        assert_eq!(fleet.go(0, 0, 2)?, Verdict::Accepted(3));
+        for _ in 0..20 {
+            fleet.tick()?;
+        }
+        assert!(fleet.is_idle()?);
+        fleet.trace()
+    };
+    let kept = begin()?.trace()?;
+    let mut never_ended = begin()?;
+    never_ended.next_chapter()?;
+    assert_eq!(go_on(Fleet::reopen(RING, &kept, &robots, &setup)?)?, go_on(never_ended)?);
+    assert_eq!(name_of(Fleet::reopen(RING, "{}", &robots, &setup)), ("trace-shape", (0, 0)));
+    assert_eq!(name_of(Fleet::reopen(ROW, &kept, &robots, &setup)), ("chapter-illegal", (0, 1)));
     Ok(())
 }
 

@@ -1,2 +1,4 @@
 mod AsBox
+mod Lends
 mod Counted
+mod Shown

@@ -1,19 +1,9 @@
 -- What each call answers C, for the world before and after it.
-use Rattle.std.specs.Prelude.{ℕ, ◌+◌, ◌^◌, ◌≡◌, ◌≢◌, ◌<◌, ◌≤◌, ◌↔◌, ◌++◌, Bool, true, List, drop, length, Option, is_some, Result, Err, IfOk, OnErr, MatchOption, slice_get}
+use Rattle.std.specs.Prelude.{ℕ, ◌+◌, ◌^◌, ◌≡◌, ◌≢◌, ◌<◌, ◌≤◌, ◌↔◌, Bool, true, Option, is_some, Result, Err, IfOk, OnErr, MatchOption, slice_get}
 use Rattle.fleet_book.specs.declared.order.Order.{Order}
 use Rattle.fleet_book.specs.declared.verdict.Verdict.{Verdict}
-use Rattle.fleet_bound.specs.Arriving.{ArrivesInTurn, IsIdleWithin}
-use Rattle.fleet_bound.specs.Bound.{wait_bound}
-use Rattle.fleet_bound.specs.Idle.{idle_ticks, longest_after}
-use Rattle.fleet_grid.specs.Counts.{floor_count}
-use Rattle.fleet_grid.specs.Floor.{IsNeighbour}
-use Rattle.fleet_grid.specs.Walk.{IsBridgeless}
-use Rattle.fleet_history.specs.History.{clients, robots, clock, place, is_shut}
-use Rattle.fleet_history.specs.Waits.{wait}
-use Rattle.fleet_pibt.specs.Eldest.{IsEldest}
-use Rattle.fleet_planner.specs.Planned.{waits}
-use Rattle.fleet_trace.specs.Trace.{Trace}
-use Rattle.fleet_trace.specs.Text.{trace_text}
+use Rattle.fleet_bound.specs.Arriving.{ArrivesInTurn}
+use Rattle.fleet_history.specs.History.{clients, robots, clock, is_shut}
 use Rattle.fleet_core.specs.declared.faults.TickReport.{TickReport}
 use Rattle.fleet_core.specs.declared.faults.TakeFault.{TakeFault}
 use Rattle.fleet_core.specs.declared.faults.TakeFault.TheVariants as take
@@ -21,11 +11,10 @@ use Rattle.fleet_core.specs.declared.faults.TickFault.{TickFault}
 use Rattle.fleet_core.specs.declared.faults.TickFault.TheVariants as tick
 use Rattle.fleet_core.specs.declared.faults.ShutFault.{ShutFault}
 use Rattle.fleet_core.specs.declared.faults.ShutFault.TheVariants as shut
-use Rattle.fleet_planner.specs.Aimed.{IsIdle}
 use Rattle.fleet_core.specs.Core.{World, Takes, Ticks, Shuts, pending, without_first, widened, next_world, HasRoom, HasNoRoom, HasNoEntries}
 use Rattle.fleet_c.specs.Forms.{report_of, judgement_of, note_of}
 use Rattle.fleet_c.specs.Codes.{take_code, tick_code, shut_code}
-use Rattle.fleet_c.specs.declared.codes.TheConstants.{DONE, NO_MEMORY, NO_CLIENT, NO_ROBOT, BOOK_SPENT, NO_NOTICE, TOO_WIDE, IDLE, HAS_BRIDGE, WRONG_LENGTH}
+use Rattle.fleet_c.specs.declared.codes.TheConstants.{DONE, NO_MEMORY, NO_CLIENT, BOOK_SPENT, NO_NOTICE, TOO_WIDE}
 use Rattle.fleet_c.specs.declared.judgement.Judgement.{Judgement}
 use Rattle.fleet_c.specs.declared.note.Note.{Note}
 use Rattle.fleet_c.specs.declared.report.Report.{Report}
@@ -81,11 +70,6 @@ IsGiven w client code note n = MatchOption (slice_get (pending w client).notices
 abbrev pub Gives : {A : Type 0} → World A → ℕ → ℕ → Note → World A → Type 0
 Gives w client code note n = OfKnown (clients w.history) client NO_CLIENT w code n (IsGiven w client code note n)
 
--- how many notices the client was not given yet
-abbrev pub Counts : {A : Type 0} → World A → ℕ → ℕ → ℕ → World A → Type 0
-Counts w client code count n = OfKnown (clients w.history) client NO_CLIENT w code n
-    ((code ≡ DONE) × (count ≡ length (pending w client).notices) × (n ≡ w))
-
 -- the mailbox may hold this much more, at most 2^60 in all
 pub record IsWidened {A : Type 0} (w : World A) (client extra code : ℕ) (n : World A) : Type 0 where
   pub too_wide : (code ≡ TOO_WIDE) ↔ (2 ^ 60 < (pending w client).limit + extra)
@@ -96,37 +80,6 @@ pub record IsWidened {A : Type 0} (w : World A) (client extra code : ℕ) (n : W
 abbrev pub Widens : {A : Type 0} → World A → ℕ → ℕ → ℕ → World A → Type 0
 Widens w client extra code n = OfKnown (clients w.history) client NO_CLIENT w code n (IsWidened w client extra code n)
 
--- ---- views
-
--- the cells, where the list has a place for each robot
-abbrev pub Places : {A : Type 0} → World A → ℕ → List ℕ → List ℕ → World A → Type 0
-Places w code before after n = (length before ≡ length (place w.history) → (code ≡ DONE) × (after ≡ place w.history))
-    × (length before ≢ length (place w.history) → (code ≡ WRONG_LENGTH) × (after ≡ before)) × (n ≡ w)
-
--- how many ticks the robot has waited; below the bound on a map without bridges
-abbrev pub IsWaiting : {A : Type 0} → World A → ℕ → ℕ → ℕ → World A → Type 0
-IsWaiting w robot code ticks n = MatchOption (wait w.history robot)
-    ((code ≡ IDLE) × (n ≡ w))
-    (λ t. (code ≡ DONE) × (ticks ≡ t) × (IsBridgeless (IsNeighbour w.floor) → t < wait_bound w.floor w.history) × (n ≡ w))
-
-abbrev pub Waits : {A : Type 0} → World A → ℕ → ℕ → ℕ → World A → Type 0
-Waits w robot code ticks n = OfKnown (robots w.history) robot NO_ROBOT w code n (IsWaiting w robot code ticks n)
-
--- the robot of greatest wait, the least number on a tie
-pub record HasEldest {A : Type 0} (w : World A) (code robot : ℕ) (n : World A) : Type 0 where
-  pub answer : Option ℕ
-  pub is : MatchOption answer (IsIdle w.history) (λ e. IsEldest (waits w.history) e)
-  pub told : MatchOption answer (code ≡ IDLE) (λ e. (code ≡ DONE) × (robot ≡ e))
-  pub same : n ≡ w
-
--- within this many ticks nobody has an errand any more, where no order is taken meanwhile
-pub record HasIdle {A : Type 0} (w : World A) (code ticks : ℕ) (n : World A) : Type 0 where
-  pub bridged : (code ≡ HAS_BRIDGE) ↔ (IsBridgeless (IsNeighbour w.floor) → ⊥)
-  pub exact : code ≡ DONE → ticks ≡ idle_ticks (longest_after w.history) (robots w.history) (floor_count w.floor)
-  pub idle : code ≡ DONE → IsIdleWithin w.floor w.history ticks
-  pub refused : code ≢ DONE → code ≡ HAS_BRIDGE
-  pub same : n ≡ w
-
 -- ---- chapters
 
 -- the next chapter has begun
@@ -135,16 +88,3 @@ pub record IsTurned {A : Type 0} (w : World A) (code : ℕ) (n : World A) : Type
   pub turns : code ≡ DONE → n ≡ next_world w
   pub same : code ≢ DONE → n ≡ w
   pub refused : code ≢ DONE → code ≢ BOOK_SPENT → code ≡ NO_MEMORY
-
--- the present chapter's trace
-abbrev pub present : {A : Type 0} → World A → Trace A
-present w = record { number = w.number; history = w.history }
-
--- the text of the present chapter's trace, where the list has room for it, and its length
-pub record IsTold {A : Type 0} (w : World A) (code : ℕ) (before after : List ℕ) (length' : ℕ) (n : World A) : Type 0 where
-  pub length_is : code ≢ NO_MEMORY → length' ≡ length (trace_text (present w))
-  pub short : (code ≡ WRONG_LENGTH) → length before < length (trace_text (present w))
-  pub text : code ≡ DONE → after ≡ trace_text (present w) ++ drop (length (trace_text (present w))) before
-  pub untouched : code ≢ DONE → after ≡ before
-  pub refused : code ≢ DONE → code ≢ WRONG_LENGTH → code ≡ NO_MEMORY
-  pub same : n ≡ w

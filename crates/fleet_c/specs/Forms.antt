@@ -1,5 +1,7 @@
 -- What C's structs say in the product's words.
-use Rattle.std.specs.Prelude.{ℕ, List, map}
+use Rattle.std.specs.Prelude.{ℕ, List, map, Option, Some, None, ◌==◌, if◌then◌else◌, slice_index}
+use Rattle.fleet_book.specs.declared.order.Order.{Order}
+use Rattle.fleet_book.specs.declared.order.Order.TheVariants as order
 use Rattle.fleet_book.specs.declared.limits.Limits.{Limits}
 use Rattle.fleet_book.specs.declared.verdict.Verdict.{Verdict}
 use Rattle.fleet_book.specs.declared.verdict.Verdict.TheVariants as verdict
@@ -8,12 +10,16 @@ use Rattle.fleet_book.specs.declared.notice.Notice.TheVariants as notice
 use Rattle.fleet_hooks.specs.Law.{exact_law, exact_stamp}
 use Rattle.fleet_core.specs.Hooks.{HookLaws}
 use Rattle.fleet_core.specs.declared.faults.TickReport.{TickReport}
-use Rattle.fleet_c.specs.declared.codes.TheConstants.{ACCEPTED, CLOSING, WITHDRAWN, CLIENT_CLOSED, UNKNOWN_ROBOT, ROBOT_SHUT, NO_CELL, BLOCKED, UNREACHABLE, QUEUE_FULL, LIFE_SPENT, NO_ERRAND, TOO_LATE}
+use Rattle.fleet_c.specs.declared.verdicts.TheConstants.{ACCEPTED, CLOSING, WITHDRAWN, CLIENT_CLOSED, UNKNOWN_ROBOT, ROBOT_SHUT, NO_CELL, BLOCKED, UNREACHABLE, QUEUE_FULL, LIFE_SPENT, NO_ERRAND, TOO_LATE}
+use Rattle.fleet_history.specs.declared.history.Arrival.{Arrival}
 use Rattle.fleet_c.specs.declared.setup.Setup.{Setup}
 use Rattle.fleet_c.specs.declared.robot.Robot.{Robot}
 use Rattle.fleet_c.specs.declared.report.Report.{Report}
 use Rattle.fleet_c.specs.declared.judgement.Judgement.{Judgement}
 use Rattle.fleet_c.specs.declared.note.Note.{Note}
+use Rattle.fleet_c.specs.declared.landing.Landing.{Landing}
+use Rattle.fleet_c.specs.declared.request.Request.{Request}
+use Rattle.fleet_c.specs.declared.request.TheConstants.{ORDER_GO, ORDER_CLOSE, ORDER_WITHDRAW}
 
 abbrev pub limits_of : Setup → Limits
 limits_of s = record {
@@ -82,3 +88,14 @@ note_of (notice.Arrived seq number robot cell tick stamp) = record {
   cell = cell;
   stamp = stamp;
 }
+
+-- an order of a list; none where there is no such kind
+abbrev pub order_of : Request → Option Order
+order_of r = if r.kind == ORDER_GO then Some (order.Go r.robot r.cell)
+    else if r.kind == ORDER_CLOSE then Some order.Close
+    else if r.kind == ORDER_WITHDRAW then Some (order.Withdraw r.number)
+    else None
+
+-- an arrival, after a tick to these cells
+abbrev pub arrival_of : List ℕ → Arrival → Landing
+arrival_of cells a = record { number = a.number; robot = a.robot; client = a.client; cell = slice_index cells a.robot; stamp = a.stamp }

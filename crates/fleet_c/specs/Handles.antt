@@ -1,4 +1,4 @@
--- What a call does to a handle.
+-- What a call does to a handle, and what it sees of one.
 use Rattle.std.specs.Prelude.{ℕ, ◌≡◌, Option, None, Some, IsSomeAnd}
 use Rattle.fleet_c.specs.Owns.{HeldValue}
 use Rattle.fleet_c.specs.declared.codes.TheConstants.{NOT_OPEN}
@@ -7,3 +7,8 @@ use Rattle.fleet_c.specs.declared.codes.TheConstants.{NOT_OPEN}
 abbrev pub OnFleet : Option HeldValue → Option HeldValue → ℕ → (HeldValue → HeldValue → Type 0) → Type 0
 OnFleet None new code Goes = (code ≡ NOT_OPEN) × (new ≡ None)
 OnFleet (Some w) new code Goes = IsSomeAnd new (λ n. Goes w n)
+
+-- a closed handle is refused; this is said of the world of an open one, which the call does not change
+abbrev pub OfFleet : Option HeldValue → ℕ → (HeldValue → Type 0) → Type 0
+OfFleet None code Says = code ≡ NOT_OPEN
+OfFleet (Some w) code Says = Says w

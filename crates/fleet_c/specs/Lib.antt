@@ -1,7 +1,10 @@
 pub mod Forms
 pub mod Codes
 pub mod Opening
+pub mod Reopened
+pub mod Views
 pub mod Answers
+pub mod Batches
 pub mod Owns
 pub mod Handles
 pub mod Maps

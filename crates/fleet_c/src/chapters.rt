@@ -1,8 +1,9 @@
 //! Chapters of a fleet's history, and their text.
 
 ghost use Rattle.std.specs.Prelude.{◌≡◌, ◌≢◌};
-ghost use Rattle.fleet_c.specs.Answers.{IsTold, IsTurned};
-ghost use Rattle.fleet_c.specs.Handles.{OnFleet};
+ghost use Rattle.fleet_c.specs.Answers.{IsTurned};
+ghost use Rattle.fleet_c.specs.Views.{IsTold};
+ghost use Rattle.fleet_c.specs.Handles.{OfFleet, OnFleet};
 
 use crate::codes::{BOOK_SPENT, DONE, NO_MEMORY, NOT_OPEN, WRONG_LENGTH};
 use crate::handle::Handle;
@@ -22,8 +23,8 @@ fn turn(core: &mut Core) -> u32
 }
 
 /// Writes the trace of the current chapter.
-fn trace(alloc: Global, core: &mut Core, text: &mut [u8], length: &mut usize) -> u32
-    ensures told { IsTold core.old result text.old text.new length.new core.new }
+fn trace(alloc: Global, core: &Core, text: &mut [u8], length: &mut usize) -> u32
+    ensures told { IsTold core.now result text.old text.new length.new }
     ensures length { result ≡ NO_MEMORY → length.new ≡ length.old }
 {
     let Ok(told) = write_trace(alloc, core.chapter()) else {
@@ -44,21 +45,19 @@ fn trace(alloc: Global, core: &mut Core, text: &mut [u8], length: &mut usize) ->
 #[unsafe(no_mangle)]
 pub extern "C" fn nashirudder_trace(
     alloc: Global,
-    fleet: &mut Handle,
+    fleet: &Handle,
     text: &mut [u8],
     length: &mut usize,
 ) -> u32
-    ensures says { OnFleet fleet.old.owned.held fleet.new.owned.held result (λ w n. IsTold w result text.old text.new length.new n) }
+    ensures says { OfFleet fleet.now.owned.held result (λ w. IsTold w result text.old text.new length.new) }
     ensures untouched { (result ≢ DONE) → text.new ≡ text.old }
     ensures closed { (result ≡ NOT_OPEN) → length.new ≡ length.old }
     ensures memory { (result ≡ NO_MEMORY) → length.new ≡ length.old }
 {
-    let Some(mut core) = fleet.take(alloc) else {
+    let Some(core) = fleet.core() else {
         return NOT_OPEN;
     };
-    let code = trace(alloc, &mut core, text, length);
-    fleet.put(core);
-    code
+    trace(alloc, core, text, length)
 }
 
 /// Begins the next chapter, whose opening is the current state. The present one is let go: take its trace before.

@@ -33,6 +33,11 @@ pub const HAS_BRIDGE: u32 = 14;
 /// The list does not have the required length.
 pub const WRONG_LENGTH: u32 = 15;
 
+/// A pointer is null that must not be. The header says it, before the library is called.
+pub const NULL_POINTER: u32 = 16;
+/// There is no kind of orders with this number.
+pub const BAD_ORDER: u32 = 17;
+
 /// The line of the map's head is missing or not in its form.
 pub const MAP_HEADER: u32 = 20;
 /// The map's height or width is not from 1 to 1,024.
@@ -52,6 +57,8 @@ pub const ROBOT_COUNT: u32 = 31;
 pub const START_BLOCKED: u32 = 32;
 /// The two robots start on one cell.
 pub const START_SHARED: u32 = 33;
+/// The setup is not of this library's size: another header was used.
+pub const WRONG_SIZE: u32 = 34;
 
 /// More robots are named than the map has cells.
 pub const TOO_MANY: u32 = 40;
@@ -74,29 +81,19 @@ pub const NO_BRIDGE: u32 = 48;
 /// The goal is not floor.
 pub const GOAL_BLOCKED: u32 = 49;
 
-/// An order's errand joins its robot's queue.
-pub const ACCEPTED: u32 = 1;
-/// The client is closed from now on.
-pub const CLOSING: u32 = 2;
-/// The errand has left its robot's queue.
-pub const WITHDRAWN: u32 = 3;
-/// Refused: the client is closed.
-pub const CLIENT_CLOSED: u32 = 4;
-/// Refused: there is no robot with this number.
-pub const UNKNOWN_ROBOT: u32 = 5;
-/// Refused: the robot takes no further errands.
-pub const ROBOT_SHUT: u32 = 6;
-/// Refused: the cell's number is not below height times width.
-pub const NO_CELL: u32 = 7;
-/// Refused: the cell is not floor.
-pub const BLOCKED: u32 = 8;
-/// Refused: the cell is in another part of the floor than the robot.
-pub const UNREACHABLE: u32 = 9;
-/// Refused: the robot's queue is full.
-pub const QUEUE_FULL: u32 = 10;
-/// Refused: the client has had all the errands accepted that it may have.
-pub const LIFE_SPENT: u32 = 11;
-/// Refused: no unfinished errand of the client has this number.
-pub const NO_ERRAND: u32 = 12;
-/// Refused: the errand is its robot's front.
-pub const TOO_LATE: u32 = 13;
+/// The text is not UTF-8, not JSON, or nested deeper than 127.
+pub const TRACE_NOT_JSON: u32 = 50;
+/// The number under `version` is that of no known version.
+pub const TRACE_VERSION: u32 = 51;
+/// The text has not the form of a trace.
+pub const TRACE_SHAPE: u32 = 52;
+/// The chapter is not legal on the map: the entry, and the rule that it breaks.
+pub const CHAPTER_ILLEGAL: u32 = 53;
+/// The chapter's robots have other laws, or are not as many.
+pub const LAWS_DIFFER: u32 = 54;
+/// The chapter was made with another `queue` or `life`.
+pub const LIMITS_DIFFER: u32 = 55;
+/// Within the limits no chapter follows.
+pub const CHAPTERS_SPENT: u32 = 56;
+/// A robot has waited longer than it may.
+pub const WAITED_TOO_LONG: u32 = 57;

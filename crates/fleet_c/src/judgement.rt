@@ -3,7 +3,7 @@
 ghost use Rattle.std.specs.Prelude.{◌≡◌};
 ghost use Rattle.fleet_c.specs.Forms.{judgement_of};
 
-use crate::codes::{
+use crate::verdicts::{
     ACCEPTED, BLOCKED, CLIENT_CLOSED, CLOSING, LIFE_SPENT, NO_CELL, NO_ERRAND, QUEUE_FULL,
     ROBOT_SHUT, TOO_LATE, UNKNOWN_ROBOT, UNREACHABLE, WITHDRAWN,
 };

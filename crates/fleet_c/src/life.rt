@@ -9,7 +9,7 @@ use crate::fault::Fault;
 use crate::handle::Handle;
 use crate::opening::open_on;
 use crate::robot::Robot;
-use crate::setup::Setup;
+use crate::setup::{SETUP_SIZE, Setup};
 use fleet_book::Limits;
 use std::alloc::Global;
 
@@ -18,24 +18,14 @@ use std::alloc::Global;
 pub extern "C" fn nashirudder_setup_default(clients: u32, setup: &mut Setup)
     ensures clients { setup.new.clients ≡ clients }
     ensures limits { limits_of setup.new ≡ Limits.DEFAULT }
+    ensures size { setup.new.size ≡ SETUP_SIZE }
 {
-    *setup = Setup {
-        life: Limits::DEFAULT.life,
-        orders: Limits::DEFAULT.orders,
-        clock: Limits::DEFAULT.clock,
-        clients,
-        lane: Limits::DEFAULT.lane,
-        outlet: Limits::DEFAULT.outlet,
-        queue: Limits::DEFAULT.queue,
-        mailbox: Limits::DEFAULT.mailbox,
-        chapter: Limits::DEFAULT.chapter,
-        chapters: Limits::DEFAULT.chapters,
-    };
+    *setup = Setup::of(Limits::DEFAULT, clients);
 }
 
 /// Opens a closed handle: a fleet on the map, each robot on its start.
 ///
-/// Refused in this order: the handle is open; the map's first fault; a limit or the number of clients is out of its
+/// Refused in this order: the handle is open; a setup that is not of this library's size; the map's first fault; a limit or the number of clients is out of its
 /// range; not 1 to 512 robots; a robot that does not start on floor; two robots that start on one cell; and out of
 /// memory at any time. `fault` says why. If the handle is open, `fault` does not change.
 #[unsafe(no_mangle)]

@@ -1,8 +1,10 @@
 //! The notices of clients.
 
-ghost use Rattle.std.specs.Prelude.{◌≡◌, ◌≢◌};
-ghost use Rattle.fleet_c.specs.Answers.{Counts, Gives, Widens};
-ghost use Rattle.fleet_c.specs.Handles.{OnFleet};
+ghost use Rattle.std.specs.Prelude.{◌≡◌, ◌≢◌, ◌<◌};
+ghost use Rattle.fleet_history.specs.History.{clients};
+ghost use Rattle.fleet_c.specs.Answers.{Gives, GivesMany, AreGiven, Widens};
+ghost use Rattle.fleet_c.specs.Views.{Counts, Peeks};
+ghost use Rattle.fleet_c.specs.Handles.{OfFleet, OnFleet};
 
 use crate::codes::{DONE, NO_CLIENT, NO_MEMORY, NO_NOTICE, NOT_OPEN, TOO_WIDE};
 use crate::handle::Handle;
@@ -29,9 +31,51 @@ fn give(core: &mut Core, client: u32, note: &mut Note) -> u32
     DONE
 }
 
+/// Takes out notices of the client, from the first on, until the list is full or none is left. Returns how many.
+fn give_all(core: &mut Core, client: u32, notes: &mut [Note]) -> usize
+    requires { client < clients core.old.history }
+    ensures { AreGiven core.old client notes.old notes.new result core.new }
+{
+    for at in 0..notes.len() {
+        let Some(notice) = core.give(client) else {
+            return at;
+        };
+        notes[at] = Note::of(notice);
+    }
+    notes.len()
+}
+
+/// Takes out as many of the client's notices as the list has places for.
+fn give_many(core: &mut Core, client: u32, notes: &mut [Note], count: &mut usize) -> u32
+    ensures says { GivesMany core.old client result notes.old notes.new count.new core.new }
+    ensures untouched { (result ≢ DONE) → count.new ≡ count.old }
+    ensures unwritten { (result ≢ DONE) → notes.new ≡ notes.old }
+{
+    if client as usize >= core.clients() {
+        return NO_CLIENT;
+    }
+    *count = give_all(core, client, notes);
+    DONE
+}
+
+/// The client's first notice.
+fn peek(core: &Core, client: u32, note: &mut Note) -> u32
+    ensures says { Peeks core.now client result note.new }
+    ensures untouched { (result ≢ DONE) → note.new ≡ note.old }
+{
+    if client as usize >= core.clients() {
+        return NO_CLIENT;
+    }
+    let Some(notice) = core.next_notice(client) else {
+        return NO_NOTICE;
+    };
+    *note = Note::of(notice);
+    DONE
+}
+
 /// The number of notices in the client's mailbox.
-fn pending_count(core: &mut Core, client: u32, count: &mut u64) -> u32
-    ensures says { Counts core.old client result count.new core.new }
+fn pending_count(core: &Core, client: u32, count: &mut u64) -> u32
+    ensures says { Counts core.now client result count.new }
     ensures untouched { (result ≢ DONE) → count.new ≡ count.old }
 {
     if client as usize >= core.clients() {
@@ -79,25 +123,56 @@ pub extern "C" fn nashirudder_give(
     code
 }
 
-/// The number of notices in a client's mailbox.
+/// Gives a client its next notices, as many as the list has places for, and says how many these are. They leave the
+/// mailbox. The places after them stay as they were.
 ///
 /// Refused in this order: the handle is closed, there is no such client.
 #[unsafe(no_mangle)]
-pub extern "C" fn nashirudder_pending_count(
+pub extern "C" fn nashirudder_give_many(
     alloc: Global,
     fleet: &mut Handle,
     client: u32,
-    count: &mut u64,
+    notes: &mut [Note],
+    count: &mut usize,
 ) -> u32
-    ensures says { OnFleet fleet.old.owned.held fleet.new.owned.held result (λ w n. Counts w client result count.new n) }
+    ensures says { OnFleet fleet.old.owned.held fleet.new.owned.held result (λ w n. GivesMany w client result notes.old notes.new count.new n) }
     ensures untouched { (result ≢ DONE) → count.new ≡ count.old }
+    ensures unwritten { (result ≢ DONE) → notes.new ≡ notes.old }
 {
     let Some(mut core) = fleet.take(alloc) else {
         return NOT_OPEN;
     };
-    let code = pending_count(&mut core, client, count);
+    let code = give_many(&mut core, client, notes, count);
     fleet.put(core);
     code
+}
+
+/// The client's next notice, which stays in the mailbox.
+///
+/// Refused in this order: the handle is closed, there is no such client, all its notices were handed out.
+#[unsafe(no_mangle)]
+pub extern "C" fn nashirudder_peek(fleet: &Handle, client: u32, note: &mut Note) -> u32
+    ensures says { OfFleet fleet.now.owned.held result (λ w. Peeks w client result note.new) }
+    ensures untouched { (result ≢ DONE) → note.new ≡ note.old }
+{
+    let Some(core) = fleet.core() else {
+        return NOT_OPEN;
+    };
+    peek(core, client, note)
+}
+
+/// The number of notices in a client's mailbox.
+///
+/// Refused in this order: the handle is closed, there is no such client.
+#[unsafe(no_mangle)]
+pub extern "C" fn nashirudder_pending_count(fleet: &Handle, client: u32, count: &mut u64) -> u32
+    ensures says { OfFleet fleet.now.owned.held result (λ w. Counts w client result count.new) }
+    ensures untouched { (result ≢ DONE) → count.new ≡ count.old }
+{
+    let Some(core) = fleet.core() else {
+        return NOT_OPEN;
+    };
+    pending_count(core, client, count)
 }
 
 /// Lets a client's mailbox hold this many more notices and unfinished errands.

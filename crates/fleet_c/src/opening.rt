@@ -10,7 +10,7 @@ ghost use Rattle.fleet_c.specs.Opening.{Reads, IsAtOpening, IsOpened, IsRefusal,
 
 use crate::refusal::Refusal;
 use crate::robot::Robot;
-use crate::setup::Setup;
+use crate::setup::{SETUP_SIZE, Setup};
 use fleet_core::{Core, OpenFault, World};
 use fleet_grid::Grid;
 use fleet_hooks::{ArrivalHook, Farewell, Hooks, TieHook};
@@ -99,6 +99,9 @@ pub(crate) fn open_on(
     ensures ok { IfOk result (λ core. IsOpened map.now robots.now setup.now (box_value core)) }
     ensures err { IfErr result (λ why. IsRefusal map.now robots.now setup.now why) }
 {
+    if setup.size != SETUP_SIZE {
+        return Err(Refusal::Size);
+    }
     let starts = starts(alloc, robots)?;
     let grid = match grid_of(alloc, map) {
         Ok(grid) => grid,

@@ -25,9 +25,10 @@ fn code_of(answer: &Result<Verdict, TakeFault>) -> u32
 }
 
 /// Takes the client's order.
-fn order(core: &mut Core, client: u32, order: Order, judgement: &mut Judgement) -> u32
+pub(crate) fn order(core: &mut Core, client: u32, order: Order, judgement: &mut Judgement) -> u32
     ensures says { Orders core.old client order result judgement.new core.new }
     ensures untouched { (result ≢ DONE) → judgement.new ≡ judgement.old }
+    ensures same { (result ≢ DONE) → core.new ≡ core.old }
 {
     if client as usize >= core.clients() {
         return NO_CLIENT;

@@ -5,7 +5,7 @@ ghost use Rattle.fleet_c.specs.Opening.{fault, fault_of};
 
 use crate::codes::{
     BAD_SETUP, MAP_CELL, MAP_HEADER, MAP_ROW, MAP_SIZE, MAP_TRAILING, NO_MEMORY, ROBOT_COUNT,
-    START_BLOCKED, START_SHARED,
+    START_BLOCKED, START_SHARED, WRONG_SIZE,
 };
 use crate::fault::Fault;
 use fleet_map::MapFault;
@@ -16,6 +16,8 @@ use std::alloc::AllocError;
 pub enum Refusal {
     /// Memory ran out.
     NoMemory,
+    /// The setup is not of this library's size.
+    Size,
     /// The map's first fault.
     Map(MapFault),
     /// A limit or the number of clients is out of its range.
@@ -60,6 +62,7 @@ impl Refusal {
     {
         match self {
             Refusal::NoMemory => two(NO_MEMORY, 0, 0),
+            Refusal::Size => two(WRONG_SIZE, 0, 0),
             Refusal::Map(why) => map_fault(why),
             Refusal::Setup => two(BAD_SETUP, 0, 0),
             Refusal::RobotCount => two(ROBOT_COUNT, 0, 0),

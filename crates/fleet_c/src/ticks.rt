@@ -36,7 +36,7 @@ fn code_of_shut(answer: &Result<Option<u32>, ShutFault>) -> u32
 }
 
 /// A tick, with its report.
-fn tick(alloc: Global, core: &mut Core, report: &mut Report) -> u32
+pub(crate) fn tick(alloc: Global, core: &mut Core, report: &mut Report) -> u32
     ensures says { IsTicked core.old result report.new core.new }
     ensures untouched { (result ≢ DONE) → report.new ≡ report.old }
 {

@@ -21,11 +21,13 @@ BARE = re.sub(r"/\*.*?\*/", " ", HEADER, flags=re.S)
 
 KINDS = {
     "uint8_t": ctypes.c_uint8, "uint32_t": ctypes.c_uint32, "uint64_t": ctypes.c_uint64, "size_t": ctypes.c_size_t,
-    "bool": ctypes.c_bool, "void *": ctypes.c_void_p,
+    "bool": ctypes.c_bool, "void *": ctypes.c_void_p, "char": ctypes.c_char, "nashirudder_code": ctypes.c_uint32,
+    "nashirudder_verdict": ctypes.c_uint32, "nashirudder_kind": ctypes.c_uint32,
 }
 STRUCTS = {
     "fleet": calls.CFleet, "setup": calls.CSetup, "robot": calls.CRobot, "fault": calls.CFault,
-    "judgement": calls.CJudgement, "report": calls.CReport, "note": calls.CNote, "edge": calls.CEdge,
+    "judgement": calls.CJudgement, "report": calls.CReport, "note": calls.CNote, "order": calls.COrder,
+    "arrival": calls.CArrival, "edge": calls.CEdge,
 }
 
 
@@ -57,10 +59,12 @@ class HeaderTest(unittest.TestCase):
             self.assertEqual(fields, list(STRUCTS[name]._fields_), name)
 
     def test_functions(self):
-        found = re.findall(r"^(?:NASHIRUDDER_MUST_USE )?(uint32_t|void) nashirudder_(\w+)\(([^)]*)\);", BARE, re.M)
+        form = r"^(?:NASHIRUDDER_MUST_USE )?(nashirudder_code|uint32_t|size_t|void) nashirudder_(\w+)\(([^)]*)\);"
+        found = re.findall(form, BARE, re.M)
         self.assertEqual({name for _, name, _ in found}, set(calls.FUNCTIONS))
         for _, name, parameters in found:
-            wanted = [kind_of(re.sub(r"\w+$", "", " ".join(parameter.split()))) for parameter in parameters.split(",")]
+            words = [" ".join(parameter.split()) for parameter in parameters.split(",") if parameter != "void"]
+            wanted = [kind_of(re.sub(r"\w+$", "", word)) for word in words]
             self.assertEqual(len(wanted), len(calls.FUNCTIONS[name]), name)
             for ours, theirs in zip(calls.FUNCTIONS[name], wanted):
                 self.assertTrue(is_same(ours, theirs), (name, ours, theirs))

@@ -1,0 +1,87 @@
+//! Many orders at once.
+
+ghost use Rattle.std.specs.Prelude.{◌≡◌, ◌≢◌, None, length};
+ghost use Rattle.fleet_c.specs.Batches.{AreTaken, Requested, TakesMany};
+ghost use Rattle.fleet_c.specs.Handles.{OnFleet};
+
+use crate::codes::{BAD_ORDER, DONE, NOT_OPEN, WRONG_LENGTH};
+use crate::handle::Handle;
+use crate::judgement::Judgement;
+use crate::orders::order;
+use crate::request::Request;
+use fleet_core::Core;
+use std::alloc::Global;
+
+/// Takes one order.
+fn take_one(core: &mut Core, request: &Request, judgement: &mut Judgement) -> u32
+    ensures says { Requested core.old request.now result judgement.new core.new }
+    ensures untouched { (result ≢ DONE) → judgement.new ≡ judgement.old }
+    ensures same { (result ≢ DONE) → core.new ≡ core.old }
+{
+    match request.order() {
+        Some(asked) => order(core, request.client, asked, judgement),
+        None => BAD_ORDER,
+    }
+}
+
+/// Takes the orders in turn, until one is refused.
+fn take_all(
+    core: &mut Core,
+    requests: &[Request],
+    judgements: &mut [Judgement],
+    count: &mut usize,
+) -> u32
+    requires { length judgements.old ≡ length requests.now }
+    ensures { AreTaken core.old requests.now judgements.old judgements.new result count.new core.new }
+{
+    for at in 0..requests.len() {
+        let mut judgement = judgements[at];
+        let code = take_one(core, &requests[at], &mut judgement);
+        if code != DONE {
+            *count = at;
+            return code;
+        }
+        judgements[at] = judgement;
+    }
+    *count = requests.len();
+    DONE
+}
+
+/// The same, if there is a place for each judgement.
+fn take_many(
+    core: &mut Core,
+    requests: &[Request],
+    judgements: &mut [Judgement],
+    count: &mut usize,
+) -> u32
+    ensures { TakesMany core.old requests.now result judgements.old judgements.new count.old count.new core.new }
+{
+    if judgements.len() != requests.len() {
+        return WRONG_LENGTH;
+    }
+    take_all(core, requests, judgements, count)
+}
+
+/// Takes orders one after the other, until one is refused; `count` of them were taken, and each of these has its
+/// judgement. The places after them stay as they were.
+///
+/// Refused in this order: the handle is closed; the lists are not of one length; and then, by the order after those that
+/// were taken, a kind that there is not, or as `nashirudder_go`.
+#[unsafe(no_mangle)]
+pub extern "C" fn nashirudder_take_many(
+    alloc: Global,
+    fleet: &mut Handle,
+    orders: &[Request],
+    judgements: &mut [Judgement],
+    count: &mut usize,
+) -> u32
+    ensures says { OnFleet fleet.old.owned.held fleet.new.owned.held result (λ w n. TakesMany w orders.now result judgements.old judgements.new count.old count.new n) }
+    ensures closed { fleet.old.owned.held ≡ None → (count.new ≡ count.old) × (judgements.new ≡ judgements.old) }
+{
+    let Some(mut core) = fleet.take(alloc) else {
+        return NOT_OPEN;
+    };
+    let code = take_many(&mut core, orders, judgements, count);
+    fleet.put(core);
+    code
+}

@@ -1,0 +1,63 @@
+//! How many robots and clients a fleet has, and its limits.
+
+ghost use Rattle.std.specs.Prelude.{◌≡◌, ◌≢◌, ◌<◌, ◌^◌};
+ghost use Rattle.fleet_history.specs.History.{clients, robots};
+ghost use Rattle.fleet_c.specs.Forms.{limits_of};
+ghost use Rattle.fleet_c.specs.Handles.{OfFleet};
+ghost use Rattle.fleet_c.specs.Views.{HasLimits};
+
+use crate::codes::{DONE, NOT_OPEN};
+use crate::handle::Handle;
+use crate::setup::Setup;
+use fleet_core::Core;
+
+/// The core's limits, and its number of clients.
+fn setup_of(core: &Core) -> Setup
+    ensures { HasLimits core.now result }
+{
+    // There are at most 64 clients.
+    let clients = match u32::try_from(core.clients()) {
+        Ok(clients) => clients,
+        Err(_) => u32::MAX,
+    };
+    Setup::of(*core.limits(), clients)
+}
+
+/// The number of robots. Refused where the handle is closed.
+#[unsafe(no_mangle)]
+pub extern "C" fn nashirudder_robots(fleet: &Handle, count: &mut usize) -> u32
+    ensures says { OfFleet fleet.now.owned.held result (λ w. (result ≡ DONE) × (count.new ≡ robots w.history)) }
+    ensures untouched { (result ≢ DONE) → count.new ≡ count.old }
+{
+    let Some(core) = fleet.core() else {
+        return NOT_OPEN;
+    };
+    *count = core.robots();
+    DONE
+}
+
+/// The number of clients. Refused where the handle is closed.
+#[unsafe(no_mangle)]
+pub extern "C" fn nashirudder_clients(fleet: &Handle, count: &mut usize) -> u32
+    ensures says { OfFleet fleet.now.owned.held result (λ w. (result ≡ DONE) × (count.new ≡ clients w.history)) }
+    ensures untouched { (result ≢ DONE) → count.new ≡ count.old }
+{
+    let Some(core) = fleet.core() else {
+        return NOT_OPEN;
+    };
+    *count = core.clients();
+    DONE
+}
+
+/// The limits, and the number of clients. Refused where the handle is closed.
+#[unsafe(no_mangle)]
+pub extern "C" fn nashirudder_limits(fleet: &Handle, setup: &mut Setup) -> u32
+    ensures says { OfFleet fleet.now.owned.held result (λ w. (result ≡ DONE) × HasLimits w setup.new) }
+    ensures untouched { (result ≢ DONE) → setup.new ≡ setup.old }
+{
+    let Some(core) = fleet.core() else {
+        return NOT_OPEN;
+    };
+    *setup = setup_of(core);
+    DONE
+}
