@@ -137,4 +137,4 @@ def check(code: int, fault: Optional[CFault] = None) -> None:
     if code == Code.NO_MEMORY:
         raise NoMemory("there is not enough memory; the fleet is as it was")
     numbers = (fault.first, fault.second) if fault is not None and fault.code == code else ()
-    raise refusal(Code(code).word if code in iter(Code) else "unknown", numbers)
+    raise refusal(next((known.word for known in Code if known == code), "unknown"), numbers)

@@ -130,7 +130,7 @@ class Fleet(AnyFleet):
             some = True
 
     def _waiting_clients(self) -> List[int]:
-        return [client for client, lane in list(self._lanes.items()) if lane]
+        return sorted(client for client, lane in list(self._lanes.items()) if lane)
 
     def _make_ticks(self, count: int) -> None:
         answer = self._program.ask(f"tick {count}")[0]

@@ -25,15 +25,23 @@ class Views:
 
     def _call(self, name: str, *arguments: Any) -> int:
         with self._lock:
-            return getattr(self._library, "nashirudder_" + name)(byref(self._fleet), *arguments)
+            code: int = getattr(self._library, "nashirudder_" + name)(byref(self._fleet), *arguments)
+            return code
 
-    def _number(self, name: str, kind: Any, *arguments: int, nothing: Optional[Code] = None) -> Any:
+    def _number_or(self, nothing: Code, name: str, kind: Any, *arguments: int) -> Optional[int]:
+        """The number that a call tells, or None at the code that says that there is none."""
         told = kind()
         code = self._call(name, *arguments, byref(told))
-        if nothing is not None and code == nothing:
+        if code == nothing:
             return None
         check(code)
-        return told.value
+        return int(told.value)
+
+    def _number(self, name: str, kind: Any, *arguments: int) -> int:
+        """The number that a call tells."""
+        told = kind()
+        check(self._call(name, *arguments, byref(told)))
+        return int(told.value)
 
     def placement(self) -> "Cells":
         """Each robot's cell, by the robot's number: an array of `numpy.uint32`, or a list if NumPy is not there."""
@@ -49,33 +57,33 @@ class Views:
         """How many ticks the robot has waited for its next arrival, or None if it has no errand. Raises Refused with
         "no-robot".
         """
-        return self._number("wait_of", ctypes.c_uint64, whole_number("robot", robot), nothing=Code.IDLE)
+        return self._number_or(Code.IDLE, "wait_of", ctypes.c_uint64, whole_number("robot", robot))
 
     def eldest(self) -> Optional[int]:
         """The robot that has waited longest, the least number on a tie, or None if no robot has an errand."""
-        return self._number("eldest", ctypes.c_uint32, nothing=Code.IDLE)
+        return self._number_or(Code.IDLE, "eldest", ctypes.c_uint32)
 
     def is_idle(self) -> bool:
         """Whether no robot has an errand."""
-        return self._number("is_idle", ctypes.c_bool)
+        return bool(self._number("is_idle", ctypes.c_bool))
 
     def idle_within(self) -> Optional[int]:
         """The number of ticks within which no robot has an errand any more if none is added, or None on a map with a
         bridge.
         """
-        return self._number("idle_within", ctypes.c_uint64, nothing=Code.HAS_BRIDGE)
+        return self._number_or(Code.HAS_BRIDGE, "idle_within", ctypes.c_uint64)
 
     def is_bridgeless(self) -> bool:
         """Whether the map has no bridge: an edge whose removal separates its two cells."""
-        return self._number("is_bridgeless", ctypes.c_bool)
+        return bool(self._number("is_bridgeless", ctypes.c_bool))
 
     def longest_wait(self) -> Optional[int]:
         """How many ticks that robot has waited, or None if no robot has an errand."""
-        return self._number("longest_wait", ctypes.c_uint64, nothing=Code.IDLE)
+        return self._number_or(Code.IDLE, "longest_wait", ctypes.c_uint64)
 
     def wait_limit(self) -> Optional[int]:
         """A number of ticks that no wait reaches, whatever is ordered, or None on a map with a bridge."""
-        return self._number("wait_limit", ctypes.c_uint64, nothing=Code.HAS_BRIDGE)
+        return self._number_or(Code.HAS_BRIDGE, "wait_limit", ctypes.c_uint64)
 
     def robots(self) -> int:
         """How many robots there are."""

@@ -331,7 +331,8 @@ class Alike(Folder):
 
             calls = [go] * 8 + [lambda: fleet.tick(draw.randint(1, 3))] * 6
             calls += [fleet.look, fleet.chapter, lambda: fleet.shut(draw.randint(0, 3))]
-            calls += [lambda: fleet.withdraw(draw.choice(errands)) if errands else None] * 2
+            calls += [lambda: fleet.withdraw(draw.choice(errands)) if errands else None]
+            calls += [lambda: fleet.withdraw(errands[-1]) if errands else None]
             if draw.random() < 0.2:
                 calls.append(lambda: fleet.close_client(draw.randint(0, 2)))
             for _ in range(60):
