@@ -21,10 +21,11 @@ fn main(rt: HostRuntime) {{
 """
 # Makes a handle for `main`, which may not see what a handle is made of
 HANDLE = """
-pub fn quick_handle(alloc: Global) -> Handle {
-    Handle::closed(alloc)
-}
+pub fn quick_handle(alloc: Global) -> {name} {{
+    {name}::closed(alloc)
+}}
 """
+HANDLES = {"Handle": "handle", "MapHandle": "map_handle"}
 
 
 def value(rust, structs):
@@ -50,7 +51,7 @@ def call(module, name, parameters, structs):
             words.append(value(rust, structs))
         else:
             kind = re.sub(r"^\[(\w+)\]$", r"[\1; 1]", borrowed[2])
-            made = "crate::handle::quick_handle(alloc)" if kind == "Handle" else value(kind, structs)
+            made = f"crate::{HANDLES[kind]}::quick_handle(alloc)" if kind in HANDLES else value(kind, structs)
             lines.append(f"let {borrowed[1] or ''}value_{at} = {made};")
             words.append(f"&{borrowed[1] or ''}value_{at}")
     lines.append(f"let _ = crate::{module}::{name}({', '.join(words)});")
@@ -67,8 +68,9 @@ def as_program(room):
         shutil.copy(TOP / "HANDLES", room / "HANDLES")
     sources = c_sources.sources_of(copy)
     structs, exports = c_sources.structs_of(sources), c_sources.exports_of(sources)
-    with open(copy / "src" / "handle.rt", "a") as text:
-        text.write(HANDLE)
+    for name, module in HANDLES.items():
+        with open(copy / "src" / f"{module}.rt", "a") as text:
+            text.write(HANDLE.format(name=name))
     calls = "".join(call(module, name, parameters, structs) for module, name, parameters, _ in exports)
     (copy / "src" / "lib.rt").unlink()
     (copy / "src" / "main.rt").write_text(MAIN.format(library=sources["lib"], calls=calls))
@@ -96,12 +98,27 @@ def with_c_names(module, names):
     return changed
 
 
-def build(room, say):
-    """Makes the object file in the folder `room`; returns its path."""
+def watched(module):
+    """The same bitcode as text, in which the thread sanitizer is to watch each function."""
+    changed = module.with_suffix(".watched.ll")
+    with open(module) as lines, open(changed, "w") as out:
+        for line in lines:
+            if line.startswith("define "):
+                line, count = re.subn(r" #(\d+)", r" #\1 sanitize_thread", line, count=1)
+                line = line if count else line.replace(" {", " sanitize_thread {", 1)
+            out.write(line)
+    return changed
+
+
+def build(room, say, for_threads=None):
+    """Makes the object file in the folder `room`; returns its path. Makes a second one at the path `for_threads`, if that is
+    given, which the thread sanitizer watches."""
     copy, names = as_program(room / "copy")
     say("rt try translates the library")
     module = quick.bitcode(copy, room)
     say(f"bitcode of {module.stat().st_size / 1e6:.1f} MB, clang -O2 compiles it")
-    made = room / "nashirudder.o"
-    quick.clang(with_c_names(module, names), made, "-c")
+    made, text = room / "nashirudder.o", with_c_names(module, names)
+    quick.clang(text, made, "-c")
+    if for_threads is not None:
+        quick.clang(watched(text), for_threads, "-fsanitize=thread", "-c")
     return made

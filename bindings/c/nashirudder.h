@@ -27,15 +27,20 @@
 **     call the library, whose functions are given no null: so a program that calls the library by another way, as by
 **     dlsym, has to give it none. With NASHIRUDDER_UNCHECKED defined the header leaves them out.
 **
+** LOOKING
+**     The calls that only look at a fleet or a map take its handle as const: the inline functions hand the library a copy of
+**     the handle, so that nothing of the caller's is written. Declared here are the library's functions, which take the
+**     handle for themselves and put back what they found, and so ask for one that can be written.
+**
 ** MEMORY
 **     The library takes memory by malloc and realloc and gives it back by free. All that it took for a fleet is free after
 **     nashirudder_close. Where memory is refused the call answers NASHIRUDDER_NO_MEMORY; no call ends the program.
 **
 ** THREADS
-**     The calls that take a handle as const only look at it: any number of them may run at once on one handle. Every other
-**     call has to be the only one on its handle. A handle may move from thread to thread, if a lock or the start or end of a
-**     thread orders the calls, and calls on different handles may run side by side. No call starts a thread, waits for a
-**     lock, or may be made from a signal handler.
+**     The calls that only look (peek, pending_count, trace, the views, and the calls on a map) may run at once on one handle,
+**     through the inline functions, any number of them. Every other call has to be the only one on its handle. A handle may
+**     move from thread to thread, if a lock or the start or end of a thread orders the calls, and calls on different handles
+**     may run side by side. No call starts a thread, waits for a lock, or may be made from a signal handler.
 **
 ** REFUSALS
 **     Each call answers a code. It is NASHIRUDDER_DONE where the call was carried out; at every other code the fleet is as it
@@ -264,6 +269,14 @@ typedef struct nashirudder_fleet {
 #define NASHIRUDDER_CLOSED {0, false}
 
 /*
+** A handle to a map that was read once. As with a fleet's, the caller owns its 16 bytes, which begin all zero.
+*/
+typedef struct nashirudder_map {
+    void *at;
+    bool is_open;
+} nashirudder_map;
+
+/*
 ** The number of clients and the limits of a fleet. nashirudder_setup_default fills it in; it begins with its size, so that a
 ** library that reads another form of it refuses it (NASHIRUDDER_WRONG_SIZE).
 */
@@ -360,6 +373,17 @@ typedef struct nashirudder_edge {
     uint32_t lower;
     uint32_t upper;
 } nashirudder_edge;
+
+/*
+** How large a map is.
+*/
+typedef struct nashirudder_shape {
+    uint32_t height;
+    uint32_t width;
+    uint32_t cells;     /* height times width */
+    uint32_t floor;     /* the cells that are floor */
+    uint32_t edges;     /* the pairs of floor cells that share a side */
+} nashirudder_shape;
 
 /* ---- version and messages ---- */
 
@@ -500,14 +524,14 @@ NASHIRUDDER_MUST_USE nashirudder_code nashirudder_give_many(nashirudder_fleet *f
 **
 ** Refused: NASHIRUDDER_NOT_OPEN, NASHIRUDDER_NO_CLIENT, NASHIRUDDER_NO_NOTICE.
 */
-NASHIRUDDER_MUST_USE nashirudder_code nashirudder_peek(const nashirudder_fleet *fleet, uint32_t client, nashirudder_note *note);
+NASHIRUDDER_MUST_USE nashirudder_code nashirudder_peek(nashirudder_fleet *fleet, uint32_t client, nashirudder_note *note);
 
 /*
 ** How many notices a client was not given yet.
 **
 ** Refused: NASHIRUDDER_NOT_OPEN, NASHIRUDDER_NO_CLIENT.
 */
-NASHIRUDDER_MUST_USE nashirudder_code nashirudder_pending_count(const nashirudder_fleet *fleet, uint32_t client, uint64_t *count);
+NASHIRUDDER_MUST_USE nashirudder_code nashirudder_pending_count(nashirudder_fleet *fleet, uint32_t client, uint64_t *count);
 
 /*
 ** Lets a client's mailbox hold this many more notices and unfinished errands, and takes the memory for them at once.
@@ -517,30 +541,30 @@ NASHIRUDDER_MUST_USE nashirudder_code nashirudder_pending_count(const nashirudde
 */
 NASHIRUDDER_MUST_USE nashirudder_code nashirudder_widen(nashirudder_fleet *fleet, uint32_t client, uint64_t extra);
 
-/* ---- views: no call here changes the fleet ---- */
+/* ---- views: no call here changes the fleet, and with the inline functions its handle may be const ---- */
 
 /*
 ** How many robots, and how many clients, there are. Refused: NASHIRUDDER_NOT_OPEN.
 */
-NASHIRUDDER_MUST_USE nashirudder_code nashirudder_robots(const nashirudder_fleet *fleet, size_t *count);
-NASHIRUDDER_MUST_USE nashirudder_code nashirudder_clients(const nashirudder_fleet *fleet, size_t *count);
+NASHIRUDDER_MUST_USE nashirudder_code nashirudder_robots(nashirudder_fleet *fleet, size_t *count);
+NASHIRUDDER_MUST_USE nashirudder_code nashirudder_clients(nashirudder_fleet *fleet, size_t *count);
 
 /*
 ** The limits, and the number of clients. Refused: NASHIRUDDER_NOT_OPEN.
 */
-NASHIRUDDER_MUST_USE nashirudder_code nashirudder_limits(const nashirudder_fleet *fleet, nashirudder_setup *setup);
+NASHIRUDDER_MUST_USE nashirudder_code nashirudder_limits(nashirudder_fleet *fleet, nashirudder_setup *setup);
 
 /*
 ** Where the robots stand, by number. The list has one place a robot.
 **
 ** Refused: NASHIRUDDER_NOT_OPEN, NASHIRUDDER_WRONG_LENGTH.
 */
-NASHIRUDDER_MUST_USE nashirudder_code nashirudder_placement(const nashirudder_fleet *fleet, uint32_t *cells, size_t cells_length);
+NASHIRUDDER_MUST_USE nashirudder_code nashirudder_placement(nashirudder_fleet *fleet, uint32_t *cells, size_t cells_length);
 
 /*
 ** The ticks made so far. Refused: NASHIRUDDER_NOT_OPEN.
 */
-NASHIRUDDER_MUST_USE nashirudder_code nashirudder_clock(const nashirudder_fleet *fleet, uint64_t *ticks);
+NASHIRUDDER_MUST_USE nashirudder_code nashirudder_clock(nashirudder_fleet *fleet, uint64_t *ticks);
 
 /*
 ** How many ticks a robot has waited for the arrival at the cell of its front errand. On a map without bridges there is a
@@ -548,41 +572,41 @@ NASHIRUDDER_MUST_USE nashirudder_code nashirudder_clock(const nashirudder_fleet 
 **
 ** Refused: NASHIRUDDER_NOT_OPEN, NASHIRUDDER_NO_ROBOT, NASHIRUDDER_IDLE where it has no errand.
 */
-NASHIRUDDER_MUST_USE nashirudder_code nashirudder_wait_of(const nashirudder_fleet *fleet, uint32_t robot, uint64_t *ticks);
+NASHIRUDDER_MUST_USE nashirudder_code nashirudder_wait_of(nashirudder_fleet *fleet, uint32_t robot, uint64_t *ticks);
 
 /*
 ** The robot that has waited longest, the least number on a tie.
 **
 ** Refused: NASHIRUDDER_NOT_OPEN, NASHIRUDDER_IDLE where nobody has an errand.
 */
-NASHIRUDDER_MUST_USE nashirudder_code nashirudder_eldest(const nashirudder_fleet *fleet, uint32_t *robot);
+NASHIRUDDER_MUST_USE nashirudder_code nashirudder_eldest(nashirudder_fleet *fleet, uint32_t *robot);
 
 /*
 ** How many ticks that robot has waited. Refused: NASHIRUDDER_NOT_OPEN, NASHIRUDDER_IDLE where nobody has an errand.
 */
-NASHIRUDDER_MUST_USE nashirudder_code nashirudder_longest_wait(const nashirudder_fleet *fleet, uint64_t *ticks);
+NASHIRUDDER_MUST_USE nashirudder_code nashirudder_longest_wait(nashirudder_fleet *fleet, uint64_t *ticks);
 
 /*
 ** A number of ticks that no wait reaches, whatever is ordered. Refused: NASHIRUDDER_NOT_OPEN, NASHIRUDDER_HAS_BRIDGE.
 */
-NASHIRUDDER_MUST_USE nashirudder_code nashirudder_wait_limit(const nashirudder_fleet *fleet, uint64_t *ticks);
+NASHIRUDDER_MUST_USE nashirudder_code nashirudder_wait_limit(nashirudder_fleet *fleet, uint64_t *ticks);
 
 /*
 ** Whether nobody has an errand. Refused: NASHIRUDDER_NOT_OPEN.
 */
-NASHIRUDDER_MUST_USE nashirudder_code nashirudder_is_idle(const nashirudder_fleet *fleet, bool *is_idle);
+NASHIRUDDER_MUST_USE nashirudder_code nashirudder_is_idle(nashirudder_fleet *fleet, bool *is_idle);
 
 /*
 ** Within how many ticks nobody has an errand any more, where no order is taken meanwhile.
 **
 ** Refused: NASHIRUDDER_NOT_OPEN, NASHIRUDDER_HAS_BRIDGE.
 */
-NASHIRUDDER_MUST_USE nashirudder_code nashirudder_idle_within(const nashirudder_fleet *fleet, uint64_t *ticks);
+NASHIRUDDER_MUST_USE nashirudder_code nashirudder_idle_within(nashirudder_fleet *fleet, uint64_t *ticks);
 
 /*
 ** Whether the map has no bridge: an edge whose removal separates its two cells. Refused: NASHIRUDDER_NOT_OPEN.
 */
-NASHIRUDDER_MUST_USE nashirudder_code nashirudder_is_bridgeless(const nashirudder_fleet *fleet, bool *is_bridgeless);
+NASHIRUDDER_MUST_USE nashirudder_code nashirudder_is_bridgeless(nashirudder_fleet *fleet, bool *is_bridgeless);
 
 /* ---- chapters ---- */
 
@@ -593,7 +617,7 @@ NASHIRUDDER_MUST_USE nashirudder_code nashirudder_is_bridgeless(const nashirudde
 **
 ** Refused: NASHIRUDDER_NOT_OPEN, NASHIRUDDER_NO_MEMORY, NASHIRUDDER_WRONG_LENGTH.
 */
-NASHIRUDDER_MUST_USE nashirudder_code nashirudder_trace(const nashirudder_fleet *fleet, uint8_t *text, size_t text_length, size_t *length);
+NASHIRUDDER_MUST_USE nashirudder_code nashirudder_trace(nashirudder_fleet *fleet, uint8_t *text, size_t text_length, size_t *length);
 
 /*
 ** Begins the next chapter of the history, whose opening is the state now. The entries of the present one are let go: take
@@ -640,7 +664,41 @@ NASHIRUDDER_MUST_USE nashirudder_code nashirudder_first_bridge(const uint8_t *ma
 NASHIRUDDER_MUST_USE nashirudder_code nashirudder_distances(const uint8_t *map, size_t map_length, uint32_t goal, uint32_t *distances,
                                size_t distances_length, nashirudder_fault *fault);
 
-/* ---- nulls: what a program calls by the names above ---- */
+/* ---- a map that is read once ---- */
+
+/*
+** Opens a closed handle to a map: reads its text once, for any number of calls. The text is not needed after the call.
+**
+** Refused: NASHIRUDDER_ALREADY_OPEN, where `fault` stays as it was; a map's first fault; and NASHIRUDDER_NO_MEMORY at any time.
+*/
+NASHIRUDDER_MUST_USE nashirudder_code nashirudder_map_open(const uint8_t *text, size_t text_length, nashirudder_map *map, nashirudder_fault *fault);
+
+/*
+** Closes a handle to a map: frees what an open one owns. A closed one stays closed.
+*/
+void nashirudder_map_close(nashirudder_map *map);
+
+/*
+** How large the map is: a list of distances has `cells` places. Refused: NASHIRUDDER_NOT_OPEN.
+*/
+NASHIRUDDER_MUST_USE nashirudder_code nashirudder_map_shape(nashirudder_map *map, nashirudder_shape *shape);
+
+/*
+** Whether both cells are floor, and a walk joins them. Refused: NASHIRUDDER_NOT_OPEN.
+*/
+NASHIRUDDER_MUST_USE nashirudder_code nashirudder_map_joins(nashirudder_map *map, uint32_t a, uint32_t b, bool *joins);
+
+/*
+** As nashirudder_check_step, nashirudder_first_bridge and nashirudder_distances, without reading the map again. Refused as
+** these, but by NASHIRUDDER_NOT_OPEN in the place of a map's fault.
+*/
+NASHIRUDDER_MUST_USE nashirudder_code nashirudder_map_check_step(nashirudder_map *map, const uint32_t *from, size_t from_length,
+                               const uint32_t *to, size_t to_length, nashirudder_fault *fault);
+NASHIRUDDER_MUST_USE nashirudder_code nashirudder_map_first_bridge(nashirudder_map *map, nashirudder_edge *edge);
+NASHIRUDDER_MUST_USE nashirudder_code nashirudder_map_distances(nashirudder_map *map, uint32_t goal, uint32_t *distances,
+                               size_t distances_length);
+
+/* ---- nulls, and const handles: what a program calls by the names above ---- */
 
 #ifndef NASHIRUDDER_UNCHECKED
 
@@ -754,13 +812,15 @@ NASHIRUDDER_MUST_USE static inline nashirudder_code nashirudder_checked_give_man
 NASHIRUDDER_MUST_USE static inline nashirudder_code nashirudder_checked_peek(const nashirudder_fleet *fleet,
         uint32_t client, nashirudder_note *note) {
     if (!fleet || !note) return NASHIRUDDER_NULL_POINTER;
-    return nashirudder_peek(fleet, client, note);
+    nashirudder_fleet seen = *fleet;
+    return nashirudder_peek(&seen, client, note);
 }
 
 NASHIRUDDER_MUST_USE static inline nashirudder_code nashirudder_checked_pending_count(const nashirudder_fleet *fleet,
         uint32_t client, uint64_t *count) {
     if (!fleet || !count) return NASHIRUDDER_NULL_POINTER;
-    return nashirudder_pending_count(fleet, client, count);
+    nashirudder_fleet seen = *fleet;
+    return nashirudder_pending_count(&seen, client, count);
 }
 
 NASHIRUDDER_MUST_USE static inline nashirudder_code nashirudder_checked_widen(nashirudder_fleet *fleet, uint32_t client,
@@ -772,79 +832,92 @@ NASHIRUDDER_MUST_USE static inline nashirudder_code nashirudder_checked_widen(na
 NASHIRUDDER_MUST_USE static inline nashirudder_code nashirudder_checked_robots(const nashirudder_fleet *fleet,
         size_t *count) {
     if (!fleet || !count) return NASHIRUDDER_NULL_POINTER;
-    return nashirudder_robots(fleet, count);
+    nashirudder_fleet seen = *fleet;
+    return nashirudder_robots(&seen, count);
 }
 
 NASHIRUDDER_MUST_USE static inline nashirudder_code nashirudder_checked_clients(const nashirudder_fleet *fleet,
         size_t *count) {
     if (!fleet || !count) return NASHIRUDDER_NULL_POINTER;
-    return nashirudder_clients(fleet, count);
+    nashirudder_fleet seen = *fleet;
+    return nashirudder_clients(&seen, count);
 }
 
 NASHIRUDDER_MUST_USE static inline nashirudder_code nashirudder_checked_limits(const nashirudder_fleet *fleet,
         nashirudder_setup *setup) {
     if (!fleet || !setup) return NASHIRUDDER_NULL_POINTER;
-    return nashirudder_limits(fleet, setup);
+    nashirudder_fleet seen = *fleet;
+    return nashirudder_limits(&seen, setup);
 }
 
 NASHIRUDDER_MUST_USE static inline nashirudder_code nashirudder_checked_placement(const nashirudder_fleet *fleet,
         uint32_t *cells, size_t cells_length) {
     if (!fleet || (!cells && cells_length)) return NASHIRUDDER_NULL_POINTER;
-    return nashirudder_placement(fleet, NASHIRUDDER_LIST(uint32_t, cells), cells_length);
+    nashirudder_fleet seen = *fleet;
+    return nashirudder_placement(&seen, NASHIRUDDER_LIST(uint32_t, cells), cells_length);
 }
 
 NASHIRUDDER_MUST_USE static inline nashirudder_code nashirudder_checked_clock(const nashirudder_fleet *fleet,
         uint64_t *ticks) {
     if (!fleet || !ticks) return NASHIRUDDER_NULL_POINTER;
-    return nashirudder_clock(fleet, ticks);
+    nashirudder_fleet seen = *fleet;
+    return nashirudder_clock(&seen, ticks);
 }
 
 NASHIRUDDER_MUST_USE static inline nashirudder_code nashirudder_checked_wait_of(const nashirudder_fleet *fleet,
         uint32_t robot, uint64_t *ticks) {
     if (!fleet || !ticks) return NASHIRUDDER_NULL_POINTER;
-    return nashirudder_wait_of(fleet, robot, ticks);
+    nashirudder_fleet seen = *fleet;
+    return nashirudder_wait_of(&seen, robot, ticks);
 }
 
 NASHIRUDDER_MUST_USE static inline nashirudder_code nashirudder_checked_eldest(const nashirudder_fleet *fleet,
         uint32_t *robot) {
     if (!fleet || !robot) return NASHIRUDDER_NULL_POINTER;
-    return nashirudder_eldest(fleet, robot);
+    nashirudder_fleet seen = *fleet;
+    return nashirudder_eldest(&seen, robot);
 }
 
 NASHIRUDDER_MUST_USE static inline nashirudder_code nashirudder_checked_longest_wait(const nashirudder_fleet *fleet,
         uint64_t *ticks) {
     if (!fleet || !ticks) return NASHIRUDDER_NULL_POINTER;
-    return nashirudder_longest_wait(fleet, ticks);
+    nashirudder_fleet seen = *fleet;
+    return nashirudder_longest_wait(&seen, ticks);
 }
 
 NASHIRUDDER_MUST_USE static inline nashirudder_code nashirudder_checked_wait_limit(const nashirudder_fleet *fleet,
         uint64_t *ticks) {
     if (!fleet || !ticks) return NASHIRUDDER_NULL_POINTER;
-    return nashirudder_wait_limit(fleet, ticks);
+    nashirudder_fleet seen = *fleet;
+    return nashirudder_wait_limit(&seen, ticks);
 }
 
 NASHIRUDDER_MUST_USE static inline nashirudder_code nashirudder_checked_is_idle(const nashirudder_fleet *fleet,
         bool *is_idle) {
     if (!fleet || !is_idle) return NASHIRUDDER_NULL_POINTER;
-    return nashirudder_is_idle(fleet, is_idle);
+    nashirudder_fleet seen = *fleet;
+    return nashirudder_is_idle(&seen, is_idle);
 }
 
 NASHIRUDDER_MUST_USE static inline nashirudder_code nashirudder_checked_idle_within(const nashirudder_fleet *fleet,
         uint64_t *ticks) {
     if (!fleet || !ticks) return NASHIRUDDER_NULL_POINTER;
-    return nashirudder_idle_within(fleet, ticks);
+    nashirudder_fleet seen = *fleet;
+    return nashirudder_idle_within(&seen, ticks);
 }
 
 NASHIRUDDER_MUST_USE static inline nashirudder_code nashirudder_checked_is_bridgeless(const nashirudder_fleet *fleet,
         bool *is_bridgeless) {
     if (!fleet || !is_bridgeless) return NASHIRUDDER_NULL_POINTER;
-    return nashirudder_is_bridgeless(fleet, is_bridgeless);
+    nashirudder_fleet seen = *fleet;
+    return nashirudder_is_bridgeless(&seen, is_bridgeless);
 }
 
 NASHIRUDDER_MUST_USE static inline nashirudder_code nashirudder_checked_trace(const nashirudder_fleet *fleet,
         uint8_t *text, size_t text_length, size_t *length) {
     if (!fleet || (!text && text_length) || !length) return NASHIRUDDER_NULL_POINTER;
-    return nashirudder_trace(fleet, NASHIRUDDER_LIST(uint8_t, text), text_length, length);
+    nashirudder_fleet seen = *fleet;
+    return nashirudder_trace(&seen, NASHIRUDDER_LIST(uint8_t, text), text_length, length);
 }
 
 NASHIRUDDER_MUST_USE static inline nashirudder_code nashirudder_checked_next_chapter(nashirudder_fleet *fleet) {
@@ -878,6 +951,52 @@ NASHIRUDDER_MUST_USE static inline nashirudder_code nashirudder_checked_distance
     if ((!map && map_length) || (!distances && distances_length)) return NASHIRUDDER_NULL_POINTER;
     return nashirudder_distances(NASHIRUDDER_LIST(const uint8_t, map), map_length, goal, NASHIRUDDER_LIST(uint32_t,
         distances), distances_length, fault ? fault : &unread_fault);
+}
+
+NASHIRUDDER_MUST_USE static inline nashirudder_code nashirudder_checked_map_open(const uint8_t *text, size_t text_length,
+        nashirudder_map *map, nashirudder_fault *fault) {
+    nashirudder_fault unread_fault;
+    if ((!text && text_length) || !map) return NASHIRUDDER_NULL_POINTER;
+    return nashirudder_map_open(NASHIRUDDER_LIST(const uint8_t, text), text_length, map, fault ? fault : &unread_fault);
+}
+
+static inline void nashirudder_checked_map_close(nashirudder_map *map) {
+    if (!map) return;
+    nashirudder_map_close(map);
+}
+
+NASHIRUDDER_MUST_USE static inline nashirudder_code nashirudder_checked_map_shape(const nashirudder_map *map, nashirudder_shape *shape) {
+    if (!map || !shape) return NASHIRUDDER_NULL_POINTER;
+    nashirudder_map seen = *map;
+    return nashirudder_map_shape(&seen, shape);
+}
+
+NASHIRUDDER_MUST_USE static inline nashirudder_code nashirudder_checked_map_joins(const nashirudder_map *map, uint32_t a, uint32_t b, bool *joins) {
+    if (!map || !joins) return NASHIRUDDER_NULL_POINTER;
+    nashirudder_map seen = *map;
+    return nashirudder_map_joins(&seen, a, b, joins);
+}
+
+NASHIRUDDER_MUST_USE static inline nashirudder_code nashirudder_checked_map_check_step(const nashirudder_map *map, const uint32_t *from, size_t from_length,
+        const uint32_t *to, size_t to_length, nashirudder_fault *fault) {
+    nashirudder_fault unread_fault;
+    if (!map || (!from && from_length) || (!to && to_length)) return NASHIRUDDER_NULL_POINTER;
+    nashirudder_map seen = *map;
+    return nashirudder_map_check_step(&seen, NASHIRUDDER_LIST(const uint32_t, from), from_length, NASHIRUDDER_LIST(const uint32_t, to), to_length,
+        fault ? fault : &unread_fault);
+}
+
+NASHIRUDDER_MUST_USE static inline nashirudder_code nashirudder_checked_map_first_bridge(const nashirudder_map *map, nashirudder_edge *edge) {
+    if (!map || !edge) return NASHIRUDDER_NULL_POINTER;
+    nashirudder_map seen = *map;
+    return nashirudder_map_first_bridge(&seen, edge);
+}
+
+NASHIRUDDER_MUST_USE static inline nashirudder_code nashirudder_checked_map_distances(const nashirudder_map *map, uint32_t goal,
+        uint32_t *distances, size_t distances_length) {
+    if (!map || (!distances && distances_length)) return NASHIRUDDER_NULL_POINTER;
+    nashirudder_map seen = *map;
+    return nashirudder_map_distances(&seen, goal, NASHIRUDDER_LIST(uint32_t, distances), distances_length);
 }
 
 #define nashirudder_message nashirudder_checked_message
@@ -915,6 +1034,13 @@ NASHIRUDDER_MUST_USE static inline nashirudder_code nashirudder_checked_distance
 #define nashirudder_check_step nashirudder_checked_check_step
 #define nashirudder_first_bridge nashirudder_checked_first_bridge
 #define nashirudder_distances nashirudder_checked_distances
+#define nashirudder_map_open nashirudder_checked_map_open
+#define nashirudder_map_close nashirudder_checked_map_close
+#define nashirudder_map_shape nashirudder_checked_map_shape
+#define nashirudder_map_joins nashirudder_checked_map_joins
+#define nashirudder_map_check_step nashirudder_checked_map_check_step
+#define nashirudder_map_first_bridge nashirudder_checked_map_first_bridge
+#define nashirudder_map_distances nashirudder_checked_map_distances
 
 #endif
 

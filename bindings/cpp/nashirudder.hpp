@@ -1,8 +1,8 @@
 /*
-** Nashirudder from C++20: a fleet as an object that is moved and never copied. nashirudder.h says what each call does, what
+** Nashirudder from C++17 or later: a fleet as an object that is moved and never copied. nashirudder.h says what each call does, what
 ** memory it takes, and what holds of threads; this header needs no library of its own.
 **
-**     nashirudder::Fleet fleet(map, {{.cell = 0, .ranks = {}}, {.cell = 11, .ranks = {}}});
+**     nashirudder::Fleet fleet(map, {{0, {}}, {11, {}}});     // the robots' cells and ranks
 **     if (fleet.go(0, 1, 4).verdict != NASHIRUDDER_ACCEPTED) return 1;
 **     for (auto left = fleet.idle_within().value(); left > 0 && !fleet.is_idle(); left--) fleet.tick();
 **
@@ -11,6 +11,9 @@
 **
 ** Where the library refuses a call, nashirudder::Refused is thrown, and std::bad_alloc where memory was refused. The fleet
 ** is then as it was before the call. What is no refusal but an answer, as that a client has no notice, is an empty optional.
+**
+** Without exceptions (-fno-exceptions) a refusal ends the program: then call the functions of nashirudder.h, or ask first, as by
+** `clock` and `limits`.
 **
 ** Any number of threads may call the const methods of one fleet at once; every other call has to be the only one on it.
 */
@@ -23,14 +26,48 @@
 #include <initializer_list>
 #include <new>
 #include <optional>
-#include <span>
 #include <stdexcept>
 #include <string>
 #include <string_view>
 #include <utility>
 #include <vector>
 
+#if __cplusplus >= 202002L
+#include <span>
+#else
+#include <type_traits>
+#endif
+
+#if defined(__cpp_exceptions)
+#define NASHIRUDDER_THROW(why) throw why
+#else
+#include <cstdlib>
+#define NASHIRUDDER_THROW(why) ((void)(why), std::abort())
+#endif
+
 namespace nashirudder {
+
+#if __cplusplus >= 202002L
+template <typename T> using Span = std::span<T>;
+#else
+/* A list that somebody else owns, as std::span has it from C++20 on. */
+template <typename T> class Span {
+public:
+    Span() = default;
+    Span(T *first, std::size_t count) : first(first), count(count) {}
+    template <std::size_t Count> Span(T (&list)[Count]) : first(list), count(Count) {}
+    template <typename List, typename = std::enable_if_t<std::is_convertible_v<decltype(std::declval<List &>().data()), T *>>>
+    Span(List &&list) : first(list.data()), count(list.size()) {}
+
+    [[nodiscard]] T *data() const { return first; }
+    [[nodiscard]] std::size_t size() const { return count; }
+    [[nodiscard]] bool empty() const { return count == 0; }
+
+private:
+    T *first = nullptr;
+    std::size_t count = 0;
+};
+#endif
 
 using Robot = nashirudder_robot;
 using Setup = nashirudder_setup;
@@ -41,6 +78,7 @@ using Note = nashirudder_note;
 using Edge = nashirudder_edge;
 using Order = nashirudder_order;
 using Arrival = nashirudder_arrival;
+using Shape = nashirudder_shape;
 
 /* What a call answers, as by nashirudder.h. */
 enum class Code : std::uint32_t {
@@ -124,7 +162,7 @@ struct Shown {
 namespace detail {
 
 /* A list's address. */
-template <typename T> T *address(std::span<T> list) { return list.data(); }
+template <typename T> T *address(Span<T> list) { return list.data(); }
 
 inline const std::uint8_t *address(std::string_view text) { return reinterpret_cast<const std::uint8_t *>(text.data()); }
 
@@ -132,18 +170,18 @@ inline const std::uint8_t *address(std::string_view text) { return reinterpret_c
 inline void check_version() {
     static const bool fits = nashirudder_version() / 100 == NASHIRUDDER_VERSION / 100;
     if (!fits) {
-        throw std::runtime_error("nashirudder: the library's version is " + std::to_string(nashirudder_version()) + ", the header's " +
-                                 std::to_string(NASHIRUDDER_VERSION));
+        NASHIRUDDER_THROW(std::runtime_error("nashirudder: the library's version is " + std::to_string(nashirudder_version()) + ", the header's " +
+                                             std::to_string(NASHIRUDDER_VERSION)));
     }
 }
 
 inline void check(nashirudder_code code) {
-    if (code == NASHIRUDDER_NO_MEMORY) throw std::bad_alloc();
-    if (code != NASHIRUDDER_DONE) throw Refused(code);
+    if (code == NASHIRUDDER_NO_MEMORY) NASHIRUDDER_THROW(std::bad_alloc());
+    if (code != NASHIRUDDER_DONE) NASHIRUDDER_THROW(Refused(code));
 }
 
 inline void check(nashirudder_code code, const Fault &fault) {
-    if (code != NASHIRUDDER_NO_MEMORY && code != NASHIRUDDER_DONE && fault.code == code) throw Refused(fault);
+    if (code != NASHIRUDDER_NO_MEMORY && code != NASHIRUDDER_DONE && fault.code == code) NASHIRUDDER_THROW(Refused(fault));
     check(code);
 }
 
@@ -166,15 +204,15 @@ inline Setup default_setup(std::uint32_t clients = 1) {
 /* A fleet. Of one that was moved from, every call but the destructor is refused. */
 class Fleet {
 public:
-    Fleet(std::string_view map, std::span<const Robot> robots, const Setup &setup = default_setup()) : count(robots.size()) {
+    Fleet(std::string_view map, Span<const Robot> robots, const Setup &setup = default_setup()) : count(robots.size()) {
         detail::check_version();
         Fault fault{};
         detail::check(nashirudder_open(detail::address(map), map.size(), detail::address(robots), robots.size(), &setup, &handle, &fault), fault);
     }
     Fleet(std::string_view map, std::initializer_list<Robot> robots, const Setup &setup = default_setup())
-        : Fleet(map, std::span<const Robot>(robots.begin(), robots.size()), setup) {}
+        : Fleet(map, Span<const Robot>(robots.begin(), robots.size()), setup) {}
     /* The fleet that goes on from a chapter that was kept, whose trace is `text`. Of the robots only the ranks are read. */
-    [[nodiscard]] static Fleet reopen(std::string_view map, std::string_view text, std::span<const Robot> robots, const Setup &setup = default_setup()) {
+    [[nodiscard]] static Fleet reopen(std::string_view map, std::string_view text, Span<const Robot> robots, const Setup &setup = default_setup()) {
         detail::check_version();
         Fleet fleet;
         Fault fault{};
@@ -228,16 +266,16 @@ public:
         return report;
     }
     /* The same, into lists that have one place a robot each; the report says how many of the last two are written. */
-    Report tick_into(std::span<std::uint32_t> cells, std::span<Arrival> arrivals, std::span<std::uint32_t> farewells) {
+    Report tick_into(Span<std::uint32_t> cells, Span<Arrival> arrivals, Span<std::uint32_t> farewells) {
         Report report{};
         detail::check(nashirudder_tick_into(&handle, &report, cells.data(), cells.size(), arrivals.data(), arrivals.size(), farewells.data(), farewells.size()));
         return report;
     }
     /* Takes orders one after the other until one is refused, with a place for each judgement. */
-    [[nodiscard]] Taken take_many(std::span<const Order> orders, std::span<Judgement> judgements) {
+    [[nodiscard]] Taken take_many(Span<const Order> orders, Span<Judgement> judgements) {
         std::size_t taken = 0;
         nashirudder_code code = nashirudder_take_many(&handle, orders.data(), orders.size(), judgements.data(), judgements.size(), &taken);
-        if (code == NASHIRUDDER_NOT_OPEN || code == NASHIRUDDER_WRONG_LENGTH) throw Refused(code);
+        if (code == NASHIRUDDER_NOT_OPEN || code == NASHIRUDDER_WRONG_LENGTH) NASHIRUDDER_THROW(Refused(code));
         return {taken, static_cast<Code>(code)};
     }
     /* Whether the robot had no errand, and so took its leave at once. */
@@ -253,7 +291,7 @@ public:
         return note;
     }
     /* As many of the client's next notices as the list has places for; how many these are. */
-    [[nodiscard]] std::size_t give_many(std::uint32_t client, std::span<Note> notes) {
+    [[nodiscard]] std::size_t give_many(std::uint32_t client, Span<Note> notes) {
         std::size_t given = 0;
         detail::check(nashirudder_give_many(&handle, client, notes.data(), notes.size(), &given));
         return given;
@@ -277,10 +315,10 @@ public:
     }
     void widen(std::uint32_t client, std::uint64_t extra) { detail::check(nashirudder_widen(&handle, client, extra)); }
     /* Where the robots stand, by number, into a list that has one place for each. */
-    void placement(std::span<std::uint32_t> cells) const { detail::check(nashirudder_placement(&handle, detail::address(cells), cells.size())); }
+    void placement(Span<std::uint32_t> cells) const { detail::check(nashirudder_placement(&handle, detail::address(cells), cells.size())); }
     [[nodiscard]] std::vector<std::uint32_t> placement() const {
         std::vector<std::uint32_t> cells(count);
-        placement(std::span<std::uint32_t>(cells));
+        placement(Span<std::uint32_t>(cells));
         return cells;
     }
     [[nodiscard]] std::uint64_t clock() const {
@@ -367,11 +405,72 @@ private:
     std::size_t count = 0;
 };
 
+/* A map that is read once, for any number of questions. Any number of threads may ask at once. */
+class Map {
+public:
+    explicit Map(std::string_view text) {
+        detail::check_version();
+        Fault fault{};
+        detail::check(nashirudder_map_open(detail::address(text), text.size(), &handle, &fault), fault);
+    }
+    Map(const Map &) = delete;
+    Map &operator=(const Map &) = delete;
+    Map(Map &&other) noexcept : handle(std::exchange(other.handle, nashirudder_map NASHIRUDDER_CLOSED)) {}
+    Map &operator=(Map &&other) noexcept {
+        if (this != &other) {
+            nashirudder_map_close(&handle);
+            handle = std::exchange(other.handle, nashirudder_map NASHIRUDDER_CLOSED);
+        }
+        return *this;
+    }
+    ~Map() { nashirudder_map_close(&handle); }
+
+    [[nodiscard]] Shape shape() const {
+        Shape shape{};
+        detail::check(nashirudder_map_shape(&handle, &shape));
+        return shape;
+    }
+    /* Whether both cells are floor, and a walk joins them. */
+    [[nodiscard]] bool joins(std::uint32_t a, std::uint32_t b) const {
+        bool joins = false;
+        detail::check(nashirudder_map_joins(&handle, a, b, &joins));
+        return joins;
+    }
+    /* Nothing where the step is free of conflicts, else its first fault. */
+    [[nodiscard]] std::optional<Fault> check_step(std::span<const std::uint32_t> from, std::span<const std::uint32_t> to) const {
+        Fault fault{};
+        nashirudder_code code = nashirudder_map_check_step(&handle, from.data(), from.size(), to.data(), to.size(), &fault);
+        if (code == NASHIRUDDER_NO_MEMORY) throw std::bad_alloc();
+        if (code == NASHIRUDDER_NOT_OPEN) throw Refused(code);
+        if (code == NASHIRUDDER_DONE) return std::nullopt;
+        return fault;
+    }
+    /* The first bridge, or nothing where there is none. */
+    [[nodiscard]] std::optional<Edge> first_bridge() const {
+        Edge edge{};
+        if (!detail::is_there(nashirudder_map_first_bridge(&handle, &edge), NASHIRUDDER_NO_BRIDGE)) return std::nullopt;
+        return edge;
+    }
+    /* The length of a shortest walk from each cell to the goal, NASHIRUDDER_FAR where there is none; into a list that has one
+       place a cell. */
+    void distances(std::uint32_t goal, std::span<std::uint32_t> told) const {
+        detail::check(nashirudder_map_distances(&handle, goal, told.data(), told.size()));
+    }
+    [[nodiscard]] std::vector<std::uint32_t> distances(std::uint32_t goal) const {
+        std::vector<std::uint32_t> told(shape().cells);
+        distances(goal, told);
+        return told;
+    }
+
+private:
+    nashirudder_map handle = NASHIRUDDER_CLOSED;
+};
+
 /* Nothing where the step is free of conflicts, else its first fault. */
-[[nodiscard]] inline std::optional<Fault> check_step(std::string_view map, std::span<const std::uint32_t> from, std::span<const std::uint32_t> to) {
+[[nodiscard]] inline std::optional<Fault> check_step(std::string_view map, Span<const std::uint32_t> from, Span<const std::uint32_t> to) {
     Fault fault{};
     nashirudder_code code = nashirudder_check_step(detail::address(map), map.size(), detail::address(from), from.size(), detail::address(to), to.size(), &fault);
-    if (code == NASHIRUDDER_NO_MEMORY) throw std::bad_alloc();
+    if (code == NASHIRUDDER_NO_MEMORY) NASHIRUDDER_THROW(std::bad_alloc());
     if (code == NASHIRUDDER_DONE) return std::nullopt;
     return fault;
 }
@@ -390,7 +489,7 @@ private:
 [[nodiscard]] inline std::vector<std::uint32_t> distances(std::string_view map, std::uint32_t goal, std::size_t cells) {
     std::vector<std::uint32_t> told(cells);
     Fault fault{};
-    detail::check(nashirudder_distances(detail::address(map), map.size(), goal, detail::address(std::span<std::uint32_t>(told)), told.size(), &fault), fault);
+    detail::check(nashirudder_distances(detail::address(map), map.size(), goal, detail::address(Span<std::uint32_t>(told)), told.size(), &fault), fault);
     return told;
 }
 

@@ -442,8 +442,8 @@ static void limits() {
     CHECK(!Fleet(ROW, {{.cell = 0, .ranks = {}}}).wait_limit());
 }
 
-/* Several threads look at one fleet at once, and each sees the same. The thread sanitizer is to find nothing. */
-static void lookers() {
+/* Several threads look at one fleet at once, so often, and each sees the same. The thread sanitizer is to find nothing. */
+static void lookers(int looks) {
     Fleet made(RING, {{.cell = 0, .ranks = {}}, {.cell = 3, .ranks = {}}});
     CHECK(made.go(0, 0, 11).verdict == NASHIRUDDER_ACCEPTED);
     made.tick();
@@ -452,8 +452,8 @@ static void lookers() {
     std::atomic<bool> same = true;
     std::vector<std::thread> threads;
     for (int at = 0; at < 4; at++) {
-        threads.emplace_back([&] {
-            for (int look = 0; look < 500; look++) {
+        threads.emplace_back([&, looks] {
+            for (int look = 0; look < looks; look++) {
                 bool good = fleet.clock() == 1 && fleet.placement() == std::vector<std::uint32_t>{1, 3} && fleet.trace() == trace;
                 good = good && fleet.wait_of(0) == 1 && fleet.eldest() == 0 && fleet.longest_wait() == 1 && !fleet.is_idle() && fleet.is_bridgeless();
                 good = good && fleet.idle_within().has_value() && fleet.wait_limit() == 20 && fleet.peek(0).value().seq == 1 && fleet.pending_count(0) == 1;
@@ -512,7 +512,51 @@ static void maps() {
     CHECK(is(refusal_of([] { (void)distances(RING, 99, 12); }), NASHIRUDDER_GOAL_BLOCKED));
 }
 
-int main() {
+/* The same on a map that is read once. */
+static void opened_maps() {
+    using Cells = std::vector<std::uint32_t>;
+    const std::uint32_t far = NASHIRUDDER_FAR;
+    const Map ring(RING), apart(APART);
+    Shape shape = ring.shape();
+    // One of the twelve cells is a wall. Seven edges lie in rows, three, one and three; six in columns, two, none, two and two.
+    CHECK(shape.height == 3 && shape.width == 4 && shape.cells == 12 && shape.floor == 11 && shape.edges == 13);
+    CHECK(ring.joins(0, 11) && !ring.joins(0, 5) && !ring.joins(0, 12) && !apart.joins(0, 2) && apart.joins(2, 2));
+    CHECK(!ring.check_step(Cells{0, 3}, Cells{1, 2}) && is(ring.check_step(Cells{8, 1, 2}, Cells{8, 2, 1}).value(), NASHIRUDDER_SWAPPING_CONFLICT, 1, 2));
+    CHECK(is(ring.check_step(Cells{0, 12}, Cells{0, 1}).value(), NASHIRUDDER_FROM_BLOCKED, 1));
+    CHECK(!ring.first_bridge() && Map(ROW).first_bridge().value().upper == 1);
+    CHECK(ring.distances(4) == (Cells{1, 2, 3, 4, 0, far, 4, 5, 1, 2, 3, 4}) && apart.distances(2) == (Cells{far, far, 0}));
+    CHECK(is(refusal_of([&] { (void)ring.distances(5); }), NASHIRUDDER_GOAL_BLOCKED));
+    Cells eleven(11, 7);
+    CHECK(is(refusal_of([&] { ring.distances(4, eleven); }), NASHIRUDDER_WRONG_LENGTH) && eleven == Cells(11, 7));
+    CHECK(is(refusal_of([] { Map("type octile\n"); }), NASHIRUDDER_MAP_HEADER, 2));
+    Map moved(ROW), other = std::move(moved);
+    CHECK(is(refusal_of([&] { (void)moved.shape(); }), NASHIRUDDER_NOT_OPEN) && other.shape().cells == 3);
+
+    nashirudder_map map = NASHIRUDDER_CLOSED;
+    nashirudder_fault fault{7, 7, NASHIRUDDER_IDLE};
+    nashirudder_edge edge{9, 9};
+    bool yes = true;
+    std::uint32_t cells[3] = {0, 1, 2};
+    CHECK(nashirudder_map_check_step(&map, cells, 1, cells, 1, &fault) == NASHIRUDDER_NOT_OPEN && is(fault, NASHIRUDDER_IDLE, 7, 7));
+    CHECK(nashirudder_map_first_bridge(&map, &edge) == NASHIRUDDER_NOT_OPEN && edge.lower == 9);
+    CHECK(nashirudder_map_distances(&map, 0, cells, 3) == NASHIRUDDER_NOT_OPEN && cells[1] == 1);
+    CHECK(nashirudder_map_joins(&map, 0, 0, &yes) == NASHIRUDDER_NOT_OPEN && yes);
+    const std::uint8_t *row = reinterpret_cast<const std::uint8_t *>(ROW);
+    CHECK(nashirudder_map_open(row, std::strlen(ROW), &map, &fault) == NASHIRUDDER_DONE);
+    CHECK(nashirudder_map_open(row, std::strlen(ROW), &map, &fault) == NASHIRUDDER_ALREADY_OPEN && is(fault, NASHIRUDDER_IDLE, 7, 7));
+    CHECK(nashirudder_map_open(nullptr, 0, nullptr, nullptr) == NASHIRUDDER_NULL_POINTER);
+    nashirudder_map_close(&map);
+    nashirudder_map_close(&map);
+    nashirudder_map_close(nullptr);
+    CHECK(!map.is_open);
+}
+
+/* With a word: the threads alone, for a tool that takes long. */
+int main(int count, char **) {
+    if (count > 1) {
+        lookers(5);
+        return 0;
+    }
     closed();
     openings();
     orders();
@@ -526,8 +570,9 @@ int main() {
     chapters();
     reopenings();
     limits();
-    lookers();
+    lookers(500);
     moves();
     maps();
+    opened_maps();
     std::printf("bindings/cpp/tests.cpp: all pass\n");
 }

@@ -61,6 +61,14 @@ class CEdge(ctypes.Structure):
     _fields_ = [("lower", c_uint32), ("upper", c_uint32)]
 
 
+class CMap(ctypes.Structure):
+    _fields_ = [("at", c_void_p), ("is_open", c_bool)]
+
+
+class CShape(ctypes.Structure):
+    _fields_ = [("height", c_uint32), ("width", c_uint32), ("cells", c_uint32), ("floor", c_uint32), ("edges", c_uint32)]
+
+
 _FLEET, _TEXT = POINTER(CFleet), (c_char_p, c_size_t)
 
 # Each function's parameters. All but those in RESULTS answer a code.
@@ -103,8 +111,15 @@ FUNCTIONS = {
     "check_step": (*_TEXT, POINTER(c_uint32), c_size_t, POINTER(c_uint32), c_size_t, POINTER(CFault)),
     "first_bridge": (*_TEXT, POINTER(CEdge), POINTER(CFault)),
     "distances": (*_TEXT, c_uint32, POINTER(c_uint32), c_size_t, POINTER(CFault)),
+    "map_open": (*_TEXT, POINTER(CMap), POINTER(CFault)),
+    "map_close": (POINTER(CMap),),
+    "map_shape": (POINTER(CMap), POINTER(CShape)),
+    "map_joins": (POINTER(CMap), c_uint32, c_uint32, POINTER(c_bool)),
+    "map_check_step": (POINTER(CMap), POINTER(c_uint32), c_size_t, POINTER(c_uint32), c_size_t, POINTER(CFault)),
+    "map_first_bridge": (POINTER(CMap), POINTER(CEdge)),
+    "map_distances": (POINTER(CMap), c_uint32, POINTER(c_uint32), c_size_t),
 }
-RESULTS = {"setup_default": None, "close": None, "version": c_uint32, "message": c_size_t}
+RESULTS = {"setup_default": None, "close": None, "map_close": None, "version": c_uint32, "message": c_size_t}
 
 # The version of nashirudder.h that these are of, as NASHIRUDDER_VERSION / 100: major and minor numbers
 VERSION = 1

@@ -17,7 +17,7 @@
 
 mod raw;
 
-use raw::{Handle, RawArrival, RawEdge, RawFault, RawJudgement, RawNote, RawOrder, RawSetup};
+use raw::{Handle, RawArrival, RawEdge, RawFault, RawJudgement, RawNote, RawOrder, RawSetup, RawShape};
 use std::error::Error;
 use std::fmt;
 
@@ -576,8 +576,8 @@ pub struct Fleet {
     robots: usize,
 }
 
-// SAFETY: the library proves that what a handle owns may move between threads, and that several may look at it at once; the
-// methods with `&self` only call what looks.
+// SAFETY: the library proves that what a handle owns may move between threads. The methods with `&self` only call what
+// looks, each with a copy of the handle: what the handle owns is then only read.
 unsafe impl Send for Fleet {}
 unsafe impl Sync for Fleet {}
 
@@ -767,7 +767,7 @@ impl Fleet {
     /// The notice that `give` would give, which stays in the mailbox.
     pub fn peek(&self, client: u32) -> Result<Option<Notice>, Refused> {
         let mut note = RawNote::default();
-        match unsafe { raw::nashirudder_peek(&self.handle, client, &mut note) } {
+        match unsafe { raw::nashirudder_peek(&mut self.handle.seen(), client, &mut note) } {
             NO_NOTICE => Ok(None),
             code => check(code).map(|()| Some(Notice::of(&note))),
         }
@@ -781,21 +781,21 @@ impl Fleet {
     /// How many clients there are.
     pub fn clients(&self) -> Result<usize, Refused> {
         let mut count = 0;
-        check(unsafe { raw::nashirudder_clients(&self.handle, &mut count) })?;
+        check(unsafe { raw::nashirudder_clients(&mut self.handle.seen(), &mut count) })?;
         Ok(count)
     }
 
     /// The limits, and the number of clients.
     pub fn limits(&self) -> Result<Setup, Refused> {
         let mut setup = RawSetup::default();
-        check(unsafe { raw::nashirudder_limits(&self.handle, &mut setup) })?;
+        check(unsafe { raw::nashirudder_limits(&mut self.handle.seen(), &mut setup) })?;
         Ok(Setup::of(&setup))
     }
 
     /// How long the robot that has waited longest has waited, if one has an errand.
     pub fn longest_wait(&self) -> Result<Option<u64>, Refused> {
         let mut ticks = 0;
-        match unsafe { raw::nashirudder_longest_wait(&self.handle, &mut ticks) } {
+        match unsafe { raw::nashirudder_longest_wait(&mut self.handle.seen(), &mut ticks) } {
             IDLE => Ok(None),
             code => check(code).map(|()| Some(ticks)),
         }
@@ -804,7 +804,7 @@ impl Fleet {
     /// A number of ticks that no wait reaches; none on a map with a bridge.
     pub fn wait_limit(&self) -> Result<Option<u64>, Refused> {
         let mut ticks = 0;
-        match unsafe { raw::nashirudder_wait_limit(&self.handle, &mut ticks) } {
+        match unsafe { raw::nashirudder_wait_limit(&mut self.handle.seen(), &mut ticks) } {
             HAS_BRIDGE => Ok(None),
             code => check(code).map(|()| Some(ticks)),
         }
@@ -813,7 +813,7 @@ impl Fleet {
     /// How many notices the client was not given yet.
     pub fn pending_count(&self, client: u32) -> Result<u64, Refused> {
         let mut count = 0;
-        check(unsafe { raw::nashirudder_pending_count(&self.handle, client, &mut count) })?;
+        check(unsafe { raw::nashirudder_pending_count(&mut self.handle.seen(), client, &mut count) })?;
         Ok(count)
     }
 
@@ -826,7 +826,7 @@ impl Fleet {
     pub fn placement(&self) -> Result<Vec<u32>, Refused> {
         let mut cells = vec![0; self.robots];
         check(unsafe {
-            raw::nashirudder_placement(&self.handle, cells.as_mut_ptr(), cells.len())
+            raw::nashirudder_placement(&mut self.handle.seen(), cells.as_mut_ptr(), cells.len())
         })?;
         Ok(cells)
     }
@@ -834,14 +834,14 @@ impl Fleet {
     /// The ticks made so far.
     pub fn clock(&self) -> Result<u64, Refused> {
         let mut ticks = 0;
-        check(unsafe { raw::nashirudder_clock(&self.handle, &mut ticks) })?;
+        check(unsafe { raw::nashirudder_clock(&mut self.handle.seen(), &mut ticks) })?;
         Ok(ticks)
     }
 
     /// How many ticks the robot has waited, if it has an errand.
     pub fn wait_of(&self, robot: u32) -> Result<Option<u64>, Refused> {
         let mut ticks = 0;
-        match unsafe { raw::nashirudder_wait_of(&self.handle, robot, &mut ticks) } {
+        match unsafe { raw::nashirudder_wait_of(&mut self.handle.seen(), robot, &mut ticks) } {
             IDLE => Ok(None),
             code => check(code).map(|()| Some(ticks)),
         }
@@ -850,7 +850,7 @@ impl Fleet {
     /// The robot that has waited longest, if one has an errand.
     pub fn eldest(&self) -> Result<Option<u32>, Refused> {
         let mut robot = 0;
-        match unsafe { raw::nashirudder_eldest(&self.handle, &mut robot) } {
+        match unsafe { raw::nashirudder_eldest(&mut self.handle.seen(), &mut robot) } {
             IDLE => Ok(None),
             code => check(code).map(|()| Some(robot)),
         }
@@ -859,14 +859,14 @@ impl Fleet {
     /// Whether nobody has an errand.
     pub fn is_idle(&self) -> Result<bool, Refused> {
         let mut is_idle = false;
-        check(unsafe { raw::nashirudder_is_idle(&self.handle, &mut is_idle) })?;
+        check(unsafe { raw::nashirudder_is_idle(&mut self.handle.seen(), &mut is_idle) })?;
         Ok(is_idle)
     }
 
     /// Within how many ticks nobody has an errand any more; none on a map with a bridge.
     pub fn idle_within(&self) -> Result<Option<u64>, Refused> {
         let mut ticks = 0;
-        match unsafe { raw::nashirudder_idle_within(&self.handle, &mut ticks) } {
+        match unsafe { raw::nashirudder_idle_within(&mut self.handle.seen(), &mut ticks) } {
             HAS_BRIDGE => Ok(None),
             code => check(code).map(|()| Some(ticks)),
         }
@@ -875,7 +875,7 @@ impl Fleet {
     /// Whether the map has no bridge.
     pub fn is_bridgeless(&self) -> Result<bool, Refused> {
         let mut is_bridgeless = false;
-        check(unsafe { raw::nashirudder_is_bridgeless(&self.handle, &mut is_bridgeless) })?;
+        check(unsafe { raw::nashirudder_is_bridgeless(&mut self.handle.seen(), &mut is_bridgeless) })?;
         Ok(is_bridgeless)
     }
 
@@ -886,7 +886,7 @@ impl Fleet {
             let mut length = 0;
             let code = unsafe {
                 raw::nashirudder_trace(
-                    &self.handle,
+                    &mut self.handle.seen(),
                     text.as_mut_ptr(),
                     text.len(),
                     &mut length,
@@ -945,6 +945,104 @@ impl Notice {
     }
 }
 
+/// How large a map is.
+#[derive(Clone, Copy, Debug, PartialEq, Eq)]
+pub struct Shape {
+    pub height: u32,
+    pub width: u32,
+    /// Height times width.
+    pub cells: u32,
+    /// The cells that are floor.
+    pub floor: u32,
+    /// The pairs of floor cells that share a side.
+    pub edges: u32,
+}
+
+fn ways_of(told: Vec<u32>) -> Vec<Option<u32>> {
+    told.into_iter().map(|away| if away == FAR { None } else { Some(away) }).collect()
+}
+
+/// A map that is read once, for any number of questions.
+pub struct Map {
+    handle: Handle,
+}
+
+// SAFETY: as for a fleet; each method only looks.
+unsafe impl Send for Map {}
+unsafe impl Sync for Map {}
+
+impl Drop for Map {
+    fn drop(&mut self) {
+        // SAFETY: the handle is what the library left.
+        unsafe { raw::nashirudder_map_close(&mut self.handle) };
+    }
+}
+
+impl Map {
+    /// The map of the text of a .map file.
+    pub fn open(text: &[u8]) -> Result<Map, Refused> {
+        check_version()?;
+        let mut map = Map { handle: Handle::CLOSED };
+        let mut fault = RawFault::default();
+        // SAFETY: a slice's pointer is never null, and its length is true.
+        let code = unsafe {
+            raw::nashirudder_map_open(text.as_ptr(), text.len(), &mut map.handle, &mut fault)
+        };
+        check_told(code, &fault).map(|()| map)
+    }
+
+    /// How large it is.
+    pub fn shape(&self) -> Result<Shape, Refused> {
+        let mut shape = RawShape::default();
+        check(unsafe { raw::nashirudder_map_shape(&mut self.handle.seen(), &mut shape) })?;
+        let RawShape { height, width, cells, floor, edges } = shape;
+        Ok(Shape { height, width, cells, floor, edges })
+    }
+
+    /// Whether both cells are floor, and a walk joins them.
+    pub fn joins(&self, a: u32, b: u32) -> Result<bool, Refused> {
+        let mut joins = false;
+        check(unsafe { raw::nashirudder_map_joins(&mut self.handle.seen(), a, b, &mut joins) })?;
+        Ok(joins)
+    }
+
+    /// Whether a step is free of conflicts, or its first fault.
+    pub fn check_step(&self, from: &[u32], to: &[u32]) -> Result<(), Refused> {
+        let mut fault = RawFault::default();
+        // SAFETY: a slice's pointer is never null, and its length is true.
+        let code = unsafe {
+            raw::nashirudder_map_check_step(
+                &mut self.handle.seen(),
+                from.as_ptr(),
+                from.len(),
+                to.as_ptr(),
+                to.len(),
+                &mut fault,
+            )
+        };
+        check_told(code, &fault)
+    }
+
+    /// The first bridge, if there is one.
+    pub fn first_bridge(&self) -> Result<Option<(u32, u32)>, Refused> {
+        let mut edge = RawEdge::default();
+        match unsafe { raw::nashirudder_map_first_bridge(&mut self.handle.seen(), &mut edge) } {
+            NO_BRIDGE => Ok(None),
+            code => check(code).map(|()| Some((edge.lower, edge.upper))),
+        }
+    }
+
+    /// For each cell, the length of a shortest walk to the goal.
+    pub fn distances(&self, goal: u32) -> Result<Vec<Option<u32>>, Refused> {
+        let mut told = vec![0; self.shape()?.cells as usize];
+        // SAFETY: a vector's pointer is never null, and its length is true.
+        check(unsafe {
+            raw::nashirudder_map_distances(&mut self.handle.seen(), goal, told.as_mut_ptr(), told.len())
+        })?;
+        Ok(ways_of(told))
+    }
+}
+
 /// Whether a step is free of conflicts, or its first fault.
 pub fn check_step(map: &[u8], from: &[u32], to: &[u32]) -> Result<(), Refused> {
     let mut fault = RawFault::default();
@@ -990,8 +1088,5 @@ pub fn distances(map: &[u8], goal: u32, cells: usize) -> Result<Vec<Option<u32>>
         )
     };
     check_told(code, &fault)?;
-    Ok(told
-        .into_iter()
-        .map(|away| if away == FAR { None } else { Some(away) })
-        .collect())
+    Ok(ways_of(told))
 }

@@ -1,8 +1,8 @@
 //! Calls of the library. What is wanted is worked out by hand.
 
 use nashirudder::{
-    check_step, distances, first_bridge, Arrival, Code, Fleet, Notice, Order, Refused, Report, Robot,
-    Setup, Shown, Verdict,
+    check_step, distances, first_bridge, Arrival, Code, Fleet, Map, Notice, Order, Refused, Report, Robot,
+    Setup, Shape, Shown, Verdict,
 };
 
 const RING: &[u8] = b"type octile\nheight 3\nwidth 4\nmap\n....\n.@..\n....\n";
@@ -61,7 +61,7 @@ fn refuses() -> Result<(), Refused> {
 #[test]
 fn moves_to_a_thread() -> Result<(), Refused> {
     let mut fleet = Fleet::open(RING, &[Robot::at(0)], &Setup::new(1))?;
-    fleet.go(0, 0, 1)?;
+    assert_eq!(fleet.go(0, 0, 1)?, Verdict::Accepted(1));
     let mut fleet = std::thread::spawn(move || fleet.tick().map(|_| fleet)).join().expect("no panic")?;
     assert_eq!(fleet.placement()?, [1]);
     Ok(())
@@ -103,7 +103,7 @@ fn says_what_it_is() -> Result<(), Refused> {
     let mut fleet = Fleet::open(RING, &[Robot::at(0)], &setup)?;
     assert_eq!((fleet.robots(), fleet.clients()?, fleet.limits()?), (1, 2, setup));
     assert_eq!((fleet.longest_wait()?, fleet.wait_limit()?), (None, Some(10)));
-    fleet.go(0, 0, 11)?;
+    assert_eq!(fleet.go(0, 0, 11)?, Verdict::Accepted(1));
     fleet.tick()?;
     assert_eq!(fleet.longest_wait()?, Some(1));
     assert_eq!(Fleet::open(ROW, &[Robot::at(0)], &setup)?.wait_limit()?, None);
@@ -120,7 +120,7 @@ fn prints_a_sentence() {
 #[test]
 fn is_looked_at_by_several() -> Result<(), Refused> {
     let mut fleet = Fleet::open(RING, &[Robot::at(0)], &Setup::new(1))?;
-    fleet.go(0, 0, 11)?;
+    assert_eq!(fleet.go(0, 0, 11)?, Verdict::Accepted(1));
     fleet.tick()?;
     let fleet = &fleet;
     std::thread::scope(|threads| {
@@ -166,5 +166,19 @@ fn asks_of_maps() -> Result<(), Refused> {
     assert_eq!(distances(ROW, 0, 3)?, [Some(0), Some(1), Some(2)]);
     check_step(RING, &[0, 3], &[1, 2])?;
     assert_eq!(name_of(check_step(RING, &[0, 1], &[1, 0])), ("swapping-conflict", (0, 1)));
+    Ok(())
+}
+
+#[test]
+fn asks_a_map_that_is_read_once() -> Result<(), Refused> {
+    let (row, ring) = (Map::open(ROW)?, Map::open(RING)?);
+    assert_eq!(ring.shape()?, Shape { height: 3, width: 4, cells: 12, floor: 11, edges: 13 });
+    assert!(ring.joins(0, 11)? && !ring.joins(0, 5)?);
+    assert_eq!((row.first_bridge()?, ring.first_bridge()?), (Some((0, 1)), None));
+    assert_eq!(row.distances(0)?, [Some(0), Some(1), Some(2)]);
+    assert_eq!(name_of(ring.distances(5)), ("goal-blocked", (0, 0)));
+    ring.check_step(&[0, 3], &[1, 2])?;
+    assert_eq!(name_of(ring.check_step(&[0, 1], &[1, 0])), ("swapping-conflict", (0, 1)));
+    assert_eq!(name_of(Map::open(b"type octile\n")), ("map-header", (2, 0)));
     Ok(())
 }

@@ -1,4 +1,8 @@
 mod AsBox
-mod Lends
+mod AsMapBox
 mod Counted
-mod Shown
+mod InTurn
+mod Listed
+mod Refused
+mod Shows
+mod Written

@@ -8,7 +8,7 @@ abbrev pub OnFleet : Option HeldValue → Option HeldValue → ℕ → (HeldValu
 OnFleet None new code Goes = (code ≡ NOT_OPEN) × (new ≡ None)
 OnFleet (Some w) new code Goes = IsSomeAnd new (λ n. Goes w n)
 
--- a closed handle is refused; this is said of the world of an open one, which the call does not change
-abbrev pub OfFleet : Option HeldValue → ℕ → (HeldValue → Type 0) → Type 0
-OfFleet None code Says = code ≡ NOT_OPEN
-OfFleet (Some w) code Says = Says w
+-- a closed handle is refused and stays closed; this is said of the world of an open one, which stays as it is
+abbrev pub OfFleet : Option HeldValue → Option HeldValue → ℕ → (HeldValue → Type 0) → Type 0
+OfFleet None new code Says = (code ≡ NOT_OPEN) × (new ≡ None)
+OfFleet (Some w) new code Says = (new ≡ Some w) × Says w

@@ -6,5 +6,8 @@ pub mod Views
 pub mod Answers
 pub mod Batches
 pub mod Owns
+pub mod OwnsMap
 pub mod Handles
+pub mod Sentences
 pub mod Maps
+pub mod Floors

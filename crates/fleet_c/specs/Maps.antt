@@ -22,6 +22,12 @@ pub record IsMapFault (why : MapFault) (code : ℕ) (told : Fault) : Type 0 wher
   pub fault_is : told ≡ fault_of (refusal.Map why)
   pub code_is : code ≡ told.code
 
+-- the text is no map, by its first fault, which is told
+pub record IsNoMap (bytes : List ℕ) (code : ℕ) (told : Fault) : Type 0 where
+  pub why : MapFault
+  pub first : IsFirstFault (lines_of bytes) why
+  pub told_is : IsMapFault why code told
+
 -- the text is a map of which that is said, or its first fault is told, and nothing else
 pub record OnMap (bytes : List ℕ) (code : ℕ) (told : Fault) (Says : Floor → Type 0) (Stays : Type 0) : Type 0 where
   pub read : Result Floor MapFault

@@ -45,19 +45,21 @@ fn trace(alloc: Global, core: &Core, text: &mut [u8], length: &mut usize) -> u32
 #[unsafe(no_mangle)]
 pub extern "C" fn nashirudder_trace(
     alloc: Global,
-    fleet: &Handle,
+    fleet: &mut Handle,
     text: &mut [u8],
     length: &mut usize,
 ) -> u32
-    ensures says { OfFleet fleet.now.owned.held result (λ w. IsTold w result text.old text.new length.new) }
+    ensures says { OfFleet fleet.old.owned.held fleet.new.owned.held result (λ w. IsTold w result text.old text.new length.new) }
     ensures untouched { (result ≢ DONE) → text.new ≡ text.old }
     ensures closed { (result ≡ NOT_OPEN) → length.new ≡ length.old }
     ensures memory { (result ≡ NO_MEMORY) → length.new ≡ length.old }
 {
-    let Some(core) = fleet.core() else {
+    let Some(core) = fleet.take(alloc) else {
         return NOT_OPEN;
     };
-    trace(alloc, core, text, length)
+    let code = trace(alloc, &core, text, length);
+    fleet.put(core);
+    code
 }
 
 /// Begins the next chapter, whose opening is the current state. The present one is let go: take its trace before.

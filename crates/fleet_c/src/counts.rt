@@ -10,6 +10,7 @@ use crate::codes::{DONE, NOT_OPEN};
 use crate::handle::Handle;
 use crate::setup::Setup;
 use fleet_core::Core;
+use std::alloc::Global;
 
 /// The core's limits, and its number of clients.
 fn setup_of(core: &Core) -> Setup
@@ -25,39 +26,42 @@ fn setup_of(core: &Core) -> Setup
 
 /// The number of robots. Refused where the handle is closed.
 #[unsafe(no_mangle)]
-pub extern "C" fn nashirudder_robots(fleet: &Handle, count: &mut usize) -> u32
-    ensures says { OfFleet fleet.now.owned.held result (λ w. (result ≡ DONE) × (count.new ≡ robots w.history)) }
+pub extern "C" fn nashirudder_robots(alloc: Global, fleet: &mut Handle, count: &mut usize) -> u32
+    ensures says { OfFleet fleet.old.owned.held fleet.new.owned.held result (λ w. (result ≡ DONE) × (count.new ≡ robots w.history)) }
     ensures untouched { (result ≢ DONE) → count.new ≡ count.old }
 {
-    let Some(core) = fleet.core() else {
+    let Some(core) = fleet.take(alloc) else {
         return NOT_OPEN;
     };
     *count = core.robots();
+    fleet.put(core);
     DONE
 }
 
 /// The number of clients. Refused where the handle is closed.
 #[unsafe(no_mangle)]
-pub extern "C" fn nashirudder_clients(fleet: &Handle, count: &mut usize) -> u32
-    ensures says { OfFleet fleet.now.owned.held result (λ w. (result ≡ DONE) × (count.new ≡ clients w.history)) }
+pub extern "C" fn nashirudder_clients(alloc: Global, fleet: &mut Handle, count: &mut usize) -> u32
+    ensures says { OfFleet fleet.old.owned.held fleet.new.owned.held result (λ w. (result ≡ DONE) × (count.new ≡ clients w.history)) }
     ensures untouched { (result ≢ DONE) → count.new ≡ count.old }
 {
-    let Some(core) = fleet.core() else {
+    let Some(core) = fleet.take(alloc) else {
         return NOT_OPEN;
     };
     *count = core.clients();
+    fleet.put(core);
     DONE
 }
 
 /// The limits, and the number of clients. Refused where the handle is closed.
 #[unsafe(no_mangle)]
-pub extern "C" fn nashirudder_limits(fleet: &Handle, setup: &mut Setup) -> u32
-    ensures says { OfFleet fleet.now.owned.held result (λ w. (result ≡ DONE) × HasLimits w setup.new) }
+pub extern "C" fn nashirudder_limits(alloc: Global, fleet: &mut Handle, setup: &mut Setup) -> u32
+    ensures says { OfFleet fleet.old.owned.held fleet.new.owned.held result (λ w. (result ≡ DONE) × HasLimits w setup.new) }
     ensures untouched { (result ≢ DONE) → setup.new ≡ setup.old }
 {
-    let Some(core) = fleet.core() else {
+    let Some(core) = fleet.take(alloc) else {
         return NOT_OPEN;
     };
-    *setup = setup_of(core);
+    *setup = setup_of(&core);
+    fleet.put(core);
     DONE
 }

@@ -33,17 +33,6 @@ impl Handle {
         self.is_open
     }
 
-    /// The value that it owns, to look at.
-    pub fn core(&self) -> Option<&Core>
-        ensures { MatchOption result (self.now.owned.held ≡ None) (λ core. self.now.owned.held ≡ Some core.now) }
-    {
-        if self.is_open {
-            Some(self.owned.core())
-        } else {
-            None
-        }
-    }
-
     /// Takes the value out, and leaves the handle closed.
     pub fn take(&mut self, alloc: Global) -> Option<Box<Core>>
         ensures closed { self.new.owned.held ≡ None }
@@ -69,10 +58,10 @@ impl Handle {
     }
 }
 
-/// Accepts only what may move between threads, and be looked at by several.
-fn crosses<T: Send + Sync>(_item: &T) {}
+/// Accepts only what may move between threads.
+fn crosses<T: Send>(_item: &T) {}
 
-/// Passes a handle, which is proved only if a handle may move between threads, and several may look at one at once.
+/// Passes a handle, which is proved only if a handle may move between threads.
 fn handle_crosses(fleet: &Handle) {
     crosses(fleet);
 }

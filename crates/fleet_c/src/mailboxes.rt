@@ -2,7 +2,8 @@
 
 ghost use Rattle.std.specs.Prelude.{◌≡◌, ◌≢◌, ◌<◌};
 ghost use Rattle.fleet_history.specs.History.{clients};
-ghost use Rattle.fleet_c.specs.Answers.{Gives, GivesMany, AreGiven, Widens};
+ghost use Rattle.fleet_c.specs.Answers.{Gives, Widens};
+ghost use Rattle.fleet_c.specs.Batches.{GivesMany, AreGiven};
 ghost use Rattle.fleet_c.specs.Views.{Counts, Peeks};
 ghost use Rattle.fleet_c.specs.Handles.{OfFleet, OnFleet};
 
@@ -37,9 +38,10 @@ fn give_all(core: &mut Core, client: u32, notes: &mut [Note]) -> usize
     ensures { AreGiven core.old client notes.old notes.new result core.new }
 {
     for at in 0..notes.len() {
-        let Some(notice) = core.give(client) else {
+        let Some(notice) = core.next_notice(client) else {
             return at;
         };
+        core.give(client);
         notes[at] = Note::of(notice);
     }
     notes.len()
@@ -151,28 +153,42 @@ pub extern "C" fn nashirudder_give_many(
 ///
 /// Refused in this order: the handle is closed, there is no such client, all its notices were handed out.
 #[unsafe(no_mangle)]
-pub extern "C" fn nashirudder_peek(fleet: &Handle, client: u32, note: &mut Note) -> u32
-    ensures says { OfFleet fleet.now.owned.held result (λ w. Peeks w client result note.new) }
+pub extern "C" fn nashirudder_peek(
+    alloc: Global,
+    fleet: &mut Handle,
+    client: u32,
+    note: &mut Note,
+) -> u32
+    ensures says { OfFleet fleet.old.owned.held fleet.new.owned.held result (λ w. Peeks w client result note.new) }
     ensures untouched { (result ≢ DONE) → note.new ≡ note.old }
 {
-    let Some(core) = fleet.core() else {
+    let Some(core) = fleet.take(alloc) else {
         return NOT_OPEN;
     };
-    peek(core, client, note)
+    let code = peek(&core, client, note);
+    fleet.put(core);
+    code
 }
 
 /// The number of notices in a client's mailbox.
 ///
 /// Refused in this order: the handle is closed, there is no such client.
 #[unsafe(no_mangle)]
-pub extern "C" fn nashirudder_pending_count(fleet: &Handle, client: u32, count: &mut u64) -> u32
-    ensures says { OfFleet fleet.now.owned.held result (λ w. Counts w client result count.new) }
+pub extern "C" fn nashirudder_pending_count(
+    alloc: Global,
+    fleet: &mut Handle,
+    client: u32,
+    count: &mut u64,
+) -> u32
+    ensures says { OfFleet fleet.old.owned.held fleet.new.owned.held result (λ w. Counts w client result count.new) }
     ensures untouched { (result ≢ DONE) → count.new ≡ count.old }
 {
-    let Some(core) = fleet.core() else {
+    let Some(core) = fleet.take(alloc) else {
         return NOT_OPEN;
     };
-    pending_count(core, client, count)
+    let code = pending_count(&core, client, count);
+    fleet.put(core);
+    code
 }
 
 /// Lets a client's mailbox hold this many more notices and unfinished errands.

@@ -22,7 +22,7 @@ use std::alloc::Global;
 const FAR: u32 = 4_294_967_295;
 
 /// Tells a map's fault.
-fn tell(why: MapFault, fault: &mut Fault) -> u32
+pub(crate) fn tell(why: MapFault, fault: &mut Fault) -> u32
     ensures { IsMapFault why result fault.new }
 {
     *fault = map_fault(why);
@@ -52,7 +52,13 @@ fn step_on(alloc: Global, grid: &Grid, from: &[u32], to: &[u32]) -> Result<(), S
 }
 
 /// Checks a step, and tells its fault.
-fn checked(alloc: Global, grid: &Grid, from: &[u32], to: &[u32], fault: &mut Fault) -> u32
+pub(crate) fn checked(
+    alloc: Global,
+    grid: &Grid,
+    from: &[u32],
+    to: &[u32],
+    fault: &mut Fault,
+) -> u32
     ensures { IsStepChecked grid.now from.now to.now result fault.old fault.new }
 {
     match step_on(alloc, grid, from, to) {
@@ -65,7 +71,7 @@ fn checked(alloc: Global, grid: &Grid, from: &[u32], to: &[u32], fault: &mut Fau
 }
 
 /// The first bridge of a floor.
-fn bridge_on(alloc: Global, grid: &Grid, edge: &mut Edge) -> u32
+pub(crate) fn bridge_on(alloc: Global, grid: &Grid, edge: &mut Edge) -> u32
     ensures { HasBridge grid.now result edge.old edge.new }
 {
     match first_bridge(alloc, grid) {
@@ -99,7 +105,7 @@ fn write_away(field: &Field, distances: &mut [u32])
 }
 
 /// The distances of a floor's cells to a goal.
-fn distances_on(alloc: Global, grid: &Grid, goal: u32, distances: &mut [u32]) -> u32
+pub(crate) fn distances_on(alloc: Global, grid: &Grid, goal: u32, distances: &mut [u32]) -> u32
     ensures { AreAway grid.now goal distances.old distances.new result }
 {
     if distances.len() != grid.cell_count() as usize {

@@ -10,7 +10,7 @@ use itoa::Buffer;
 
 /// Writes these bytes after a text of `at` bytes, as far as there is room. Returns how many bytes the text has then.
 fn write(bytes: &[u8], text: &mut [u8], at: usize) -> usize
-    requires { at + length bytes.now ≤ 4096 }
+    requires { at + length bytes.now ≤ 5000 }
     ensures count { result ≡ at + length bytes.now }
     ensures text { (before told : List ℕ) → text.old ≡ over before told → at ≡ length told → text.new ≡ over before (told ++ bytes.now) }
 {
@@ -25,7 +25,7 @@ fn write(bytes: &[u8], text: &mut [u8], at: usize) -> usize
 
 /// Writes a byte of a sentence, or the number that it stands for.
 fn write_piece(fault: &Fault, byte: u8, text: &mut [u8], at: usize) -> usize
-    requires { at ≤ 4000 }
+    requires { at ≤ 4800 }
     ensures count { result ≡ at + length (piece fault.now byte) }
     ensures few { length (piece fault.now byte) ≤ 40 }
     ensures text { (before told : List ℕ) → text.old ≡ over before told → at ≡ length told → text.new ≡ over before (told ++ piece fault.now byte) }
@@ -40,7 +40,7 @@ fn write_piece(fault: &Fault, byte: u8, text: &mut [u8], at: usize) -> usize
 
 /// Writes the sentence.
 fn write_all(fault: &Fault, sentence: &[u8], text: &mut [u8]) -> usize
-    requires { length sentence.now ≤ 100 }
+    requires { length sentence.now ≤ 120 }
     ensures count { result ≡ length (flat_map (piece fault.now) sentence.now) }
     ensures text { text.new ≡ over text.old (flat_map (piece fault.now) sentence.now) }
 {

@@ -1,7 +1,7 @@
 //! A pointer that owns a core, or nothing.
 
 ghost use Rattle.std.specs.Prelude.{◌≡◌, Option, None, Some, IsSome};
-ghost use Rattle.fleet_c.specs.Owns.{HeldValue, owned_code, owns, lends};
+ghost use Rattle.fleet_c.specs.Owns.{HeldValue, owned_code, owns};
 
 use box_parts::Parts;
 use fleet_core::Core;
@@ -19,8 +19,6 @@ pub struct Owned {
 
 impl Model for Owned {
     ghost also_owns = { λ o. owns o.alloc o.at o.held };
-
-    ghost also_shares = { λ o _ κ. lends o.at o.held κ };
 }
 
 impl Owned {
@@ -37,14 +35,6 @@ impl Owned {
         ensures { self.held ≡ Some result.value }
     {
         self.into_parts().into_box()
-    }
-
-    /// The core that it owns.
-    pub fn core(&self) -> &Core
-        requires { IsSome self.now.held }
-        ensures { self.now.held ≡ Some result.now }
-    {
-        unsafe { &*(self.at as *const Core) }
     }
 
     /// One that owns nothing.
@@ -80,5 +70,3 @@ impl Owned {
 }
 
 unsafe impl Send for Owned {}
-
-unsafe impl Sync for Owned {}

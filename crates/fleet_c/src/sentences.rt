@@ -1,11 +1,12 @@
 //! A sentence for each code. In it `#` stands for the first number of the fault, and `%` for the second.
 
-ghost use Rattle.std.specs.Prelude.{◌≡◌};
+ghost use Rattle.std.specs.Prelude.{◌≡◌, ◌≤◌, length};
 ghost use Rattle.fleet_c.specs.Sentences.{call_text, fleet_text, open_text, step_text, trace_text, sentence_of};
 
 /// What is wrong with a call, whatever it is.
 fn call_text(code: u32) -> &'static str
-    ensures { result.now ≡ call_text code }
+    ensures text { result.now ≡ call_text code }
+    ensures short { length result.now ≤ 120 }
 {
     match code {
         0 => "done",
@@ -22,7 +23,8 @@ fn call_text(code: u32) -> &'static str
 
 /// What stands against a call, by the fleet.
 fn fleet_text(code: u32) -> &'static str
-    ensures { result.now ≡ fleet_text code }
+    ensures text { result.now ≡ fleet_text code }
+    ensures short { length result.now ≤ 120 }
 {
     match code {
         6 => "the client's notices and unfinished errands leave no room for two more",
@@ -39,7 +41,8 @@ fn fleet_text(code: u32) -> &'static str
 
 /// Why no fleet is opened.
 fn open_text(code: u32) -> &'static str
-    ensures { result.now ≡ open_text code }
+    ensures text { result.now ≡ open_text code }
+    ensures short { length result.now ≤ 120 }
 {
     match code {
         20 => {
@@ -61,7 +64,8 @@ fn open_text(code: u32) -> &'static str
 
 /// What is wrong with a step, or with what is asked of a map.
 fn step_text(code: u32) -> &'static str
-    ensures { result.now ≡ step_text code }
+    ensures text { result.now ≡ step_text code }
+    ensures short { length result.now ≤ 120 }
 {
     match code {
         40 => "more robots are named than the map has cells",
@@ -79,7 +83,8 @@ fn step_text(code: u32) -> &'static str
 
 /// Why no fleet goes on from a kept chapter.
 fn trace_text(code: u32) -> &'static str
-    ensures { result.now ≡ trace_text code }
+    ensures text { result.now ≡ trace_text code }
+    ensures short { length result.now ≤ 120 }
 {
     match code {
         50 => "the trace: it is not UTF-8, or not JSON, or nested deeper than 127",
@@ -95,7 +100,8 @@ fn trace_text(code: u32) -> &'static str
 
 /// The sentence for a code.
 pub(crate) fn sentence_of(code: u32) -> &'static str
-    ensures { result.now ≡ sentence_of code }
+    ensures text { result.now ≡ sentence_of code }
+    ensures short { length result.now ≤ 120 }
 {
     if code < 6 || (15 <= code && code < 18) {
         call_text(code)

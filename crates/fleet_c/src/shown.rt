@@ -1,11 +1,12 @@
 //! A tick with what it shows: the robots' cells, who arrived, and who said farewell.
 
-ghost use Rattle.std.specs.Prelude.{◌≡◌, ◌≢◌, ◌≤◌, ◌++◌, ◌∷◌, [], List, drop, length, map};
+ghost use Rattle.std.specs.Prelude.{◌≡◌, ◌≢◌, ◌≤◌, ◌++◌, ℕ, List, drop, length, map};
 ghost use Rattle.fleet_history.specs.declared.history.Arrival.{Arrival};
 ghost use Rattle.fleet_history.specs.declared.history.Bye.{Bye};
 ghost use Rattle.fleet_history.specs.declared.history.Entry.TheVariants.{Tick};
-ghost use Rattle.fleet_history.specs.History.{place};
-ghost use Rattle.fleet_c.specs.Batches.{TicksInto, IsLast, lists};
+ghost use Rattle.fleet_history.specs.History.{place, robots};
+ghost use Rattle.fleet_c.specs.Answers.{IsTicked};
+ghost use Rattle.fleet_c.specs.Batches.{AreShown, HavePlaces, TicksInto, IsLast, lists};
 ghost use Rattle.fleet_c.specs.Forms.{arrival_of};
 ghost use Rattle.fleet_c.specs.Handles.{OnFleet};
 
@@ -39,9 +40,58 @@ fn write_farewells(said: &[Bye], places: &mut [u32])
     }
 }
 
-/// Writes what the tick shows that is the core's last entry, as far as there are places.
+/// Writes what a tick shows, from the first place of each list on, if there are places enough.
+fn write_shown(
+    arrived: &[Arrival],
+    said: &[Bye],
+    cells: &[u32],
+    arrivals: &mut [Landing],
+    farewells: &mut [u32],
+)
+    ensures arrivals { length arrived.now ≤ length arrivals.old → length said.now ≤ length farewells.old →
+        arrivals.new ≡ map (arrival_of cells.now) arrived.now ++ drop (length arrived.now) arrivals.old }
+    ensures farewells { length arrived.now ≤ length arrivals.old → length said.now ≤ length farewells.old →
+        farewells.new ≡ map (λ b. b.robot) said.now ++ drop (length said.now) farewells.old }
+{
+    if arrived.len() > arrivals.len() {
+        return;
+    }
+    if said.len() > farewells.len() {
+        return;
+    }
+    write_arrivals(arrived, cells, arrivals);
+    write_farewells(said, farewells);
+}
+
+/// Writes what the entry shows, if it is a tick.
+fn show_entry(entry: &Entry, cells: &[u32], arrivals: &mut [Landing], farewells: &mut [u32])
+    ensures arrivals { (to : List ℕ) (arrived : List Arrival) (said : List Bye) → entry.now ≡ Tick to arrived said →
+        length arrived ≤ length arrivals.old → length said ≤ length farewells.old →
+        arrivals.new ≡ map (arrival_of cells.now) arrived ++ drop (length arrived) arrivals.old }
+    ensures farewells { (to : List ℕ) (arrived : List Arrival) (said : List Bye) → entry.now ≡ Tick to arrived said →
+        length arrived ≤ length arrivals.old → length said ≤ length farewells.old →
+        farewells.new ≡ map (λ b. b.robot) said ++ drop (length said) farewells.old }
+{
+    match entry {
+        Entry::Tick {
+            to: _,
+            arrived,
+            farewells: said,
+        } => write_shown(
+            arrived.as_slice(),
+            said.as_slice(),
+            cells,
+            arrivals,
+            farewells,
+        ),
+        Entry::Take { .. } => {}
+        Entry::Shut { .. } => {}
+    }
+}
+
+/// Writes what the tick shows that is the core's last entry.
 fn show(core: &Core, cells: &mut [u32], arrivals: &mut [Landing], farewells: &mut [u32])
-    requires { length cells.old ≡ length (place core.now.history) }
+    requires { length cells.old ≡ robots core.now.history }
     ensures cells { cells.new ≡ place core.now.history }
     ensures arrivals { (to : List ℕ) (arrived : List Arrival) (said : List Bye) → IsLast core.now (Tick to arrived said) →
         length arrived ≤ length arrivals.old → length said ≤ length farewells.old →
@@ -51,23 +101,35 @@ fn show(core: &Core, cells: &mut [u32], arrivals: &mut [Landing], farewells: &mu
         farewells.new ≡ map (λ b. b.robot) said ++ drop (length said) farewells.old }
 {
     let _ = placement(core, cells);
-    let entries = core.chapter().entries.as_slice();
-    let Some(Entry::Tick {
-        to: _,
-        arrived,
-        farewells: said,
-    }) = entries.last()
-    else {
-        return;
-    };
-    if arrived.len() > arrivals.len() || said.len() > farewells.len() {
-        return;
+    match core.chapter().entries.as_slice().last() {
+        Some(entry) => show_entry(entry, cells, arrivals, farewells),
+        None => {}
     }
-    write_arrivals(arrived.as_slice(), cells, arrivals);
-    write_farewells(said.as_slice(), farewells);
 }
 
 /// Makes a tick, and writes what it shows.
+fn tick_shown(
+    alloc: Global,
+    core: &mut Core,
+    report: &mut Report,
+    cells: &mut [u32],
+    arrivals: &mut [Landing],
+    farewells: &mut [u32],
+) -> u32
+    requires { HavePlaces core.old (lists cells.old arrivals.old farewells.old) }
+    ensures ticked { IsTicked core.old result report.new core.new }
+    ensures shown { result ≡ DONE → AreShown core.old (lists cells.old arrivals.old farewells.old) (lists cells.new arrivals.new farewells.new) core.new }
+    ensures untouched { (result ≢ DONE) → report.new ≡ report.old }
+    ensures unwritten { (result ≢ DONE) → lists cells.new arrivals.new farewells.new ≡ lists cells.old arrivals.old farewells.old }
+{
+    let code = tick(alloc, core, report);
+    if code == DONE {
+        show(core, cells, arrivals, farewells);
+    }
+    code
+}
+
+/// The same, if each list has a place for each robot.
 fn tick_into(
     alloc: Global,
     core: &mut Core,
@@ -81,14 +143,16 @@ fn tick_into(
     ensures unwritten { (result ≢ DONE) → lists cells.new arrivals.new farewells.new ≡ lists cells.old arrivals.old farewells.old }
 {
     let robots = core.robots();
-    if cells.len() != robots || arrivals.len() != robots || farewells.len() != robots {
+    if cells.len() != robots {
         return WRONG_LENGTH;
     }
-    let code = tick(alloc, core, report);
-    if code == DONE {
-        show(core, cells, arrivals, farewells);
+    if arrivals.len() != robots {
+        return WRONG_LENGTH;
     }
-    code
+    if farewells.len() != robots {
+        return WRONG_LENGTH;
+    }
+    tick_shown(alloc, core, report, cells, arrivals, farewells)
 }
 
 /// Moves all robots by one step, and writes their cells, who arrived (`report.arrived` of them, by robot), and the robots

@@ -1,6 +1,6 @@
 //! Calls that look at a fleet. None of them changes it.
 
-ghost use Rattle.std.specs.Prelude.{◌≡◌, ◌↔◌, ◌≢◌, IsTrue, MatchOption};
+ghost use Rattle.std.specs.Prelude.{◌≡◌, ◌↔◌, ◌≢◌, IsTrue};
 ghost use Rattle.fleet_planner.specs.Aimed.{IsIdle};
 ghost use Rattle.fleet_grid.specs.Floor.{IsNeighbour};
 ghost use Rattle.fleet_grid.specs.Walk.{IsBridgeless};
@@ -11,19 +11,7 @@ ghost use Rattle.fleet_c.specs.Handles.{OfFleet};
 use crate::codes::{DONE, HAS_BRIDGE, IDLE, NO_ROBOT, NOT_OPEN, WRONG_LENGTH};
 use crate::handle::Handle;
 use fleet_core::Core;
-
-/// Writes a number if there is one.
-fn told(number: Option<u64>, nothing: u32, to: &mut u64) -> u32
-    ensures { MatchOption number ((result ≡ nothing) × (to.new ≡ to.old)) (λ n. (result ≡ DONE) × (to.new ≡ n)) }
-{
-    match number {
-        Some(number) => {
-            *to = number;
-            DONE
-        }
-        None => nothing,
-    }
-}
+use std::alloc::Global;
 
 /// Copies the robots' cells.
 pub(crate) fn placement(core: &Core, cells: &mut [u32]) -> u32
@@ -45,7 +33,13 @@ fn wait_of(core: &Core, robot: u32, ticks: &mut u64) -> u32
     if robot as usize >= core.robots() {
         return NO_ROBOT;
     }
-    told(core.wait_of(robot), IDLE, ticks)
+    match core.wait_of(robot) {
+        Some(wait) => {
+            *ticks = wait;
+            DONE
+        }
+        None => IDLE,
+    }
 }
 
 /// The eldest robot.
@@ -67,7 +61,13 @@ fn longest_wait(core: &Core, ticks: &mut u64) -> u32
     ensures says { HasLongest core.now result ticks.new }
     ensures untouched { (result ≢ DONE) → ticks.new ≡ ticks.old }
 {
-    told(core.longest_wait(), IDLE, ticks)
+    match core.longest_wait() {
+        Some(longest) => {
+            *ticks = longest;
+            DONE
+        }
+        None => IDLE,
+    }
 }
 
 /// Within how many ticks no robot has an errand.
@@ -75,7 +75,13 @@ fn idle_within(core: &Core, ticks: &mut u64) -> u32
     ensures says { HasIdle core.now result ticks.new }
     ensures untouched { (result ≢ DONE) → ticks.new ≡ ticks.old }
 {
-    told(core.idle_within(), HAS_BRIDGE, ticks)
+    match core.idle_within() {
+        Some(most) => {
+            *ticks = most;
+            DONE
+        }
+        None => HAS_BRIDGE,
+    }
 }
 
 /// How many ticks no wait reaches.
@@ -83,33 +89,42 @@ fn wait_limit(core: &Core, ticks: &mut u64) -> u32
     ensures says { HasLimit core.now result ticks.new }
     ensures untouched { (result ≢ DONE) → ticks.new ≡ ticks.old }
 {
-    told(core.wait_limit(), HAS_BRIDGE, ticks)
+    match core.wait_limit() {
+        Some(limit) => {
+            *ticks = limit;
+            DONE
+        }
+        None => HAS_BRIDGE,
+    }
 }
 
 /// The robots' cells, by number.
 ///
 /// Refused in this order: the handle is closed, the list's length is not the number of robots.
 #[unsafe(no_mangle)]
-pub extern "C" fn nashirudder_placement(fleet: &Handle, cells: &mut [u32]) -> u32
-    ensures says { OfFleet fleet.now.owned.held result (λ w. Places w result cells.old cells.new) }
+pub extern "C" fn nashirudder_placement(alloc: Global, fleet: &mut Handle, cells: &mut [u32]) -> u32
+    ensures says { OfFleet fleet.old.owned.held fleet.new.owned.held result (λ w. Places w result cells.old cells.new) }
     ensures untouched { (result ≢ DONE) → cells.new ≡ cells.old }
 {
-    let Some(core) = fleet.core() else {
+    let Some(core) = fleet.take(alloc) else {
         return NOT_OPEN;
     };
-    placement(core, cells)
+    let code = placement(&core, cells);
+    fleet.put(core);
+    code
 }
 
 /// The ticks made so far. Refused where the handle is closed.
 #[unsafe(no_mangle)]
-pub extern "C" fn nashirudder_clock(fleet: &Handle, ticks: &mut u64) -> u32
-    ensures says { OfFleet fleet.now.owned.held result (λ w. (result ≡ DONE) × (ticks.new ≡ clock w.history)) }
+pub extern "C" fn nashirudder_clock(alloc: Global, fleet: &mut Handle, ticks: &mut u64) -> u32
+    ensures says { OfFleet fleet.old.owned.held fleet.new.owned.held result (λ w. (result ≡ DONE) × (ticks.new ≡ clock w.history)) }
     ensures untouched { (result ≢ DONE) → ticks.new ≡ ticks.old }
 {
-    let Some(core) = fleet.core() else {
+    let Some(core) = fleet.take(alloc) else {
         return NOT_OPEN;
     };
     *ticks = core.clock();
+    fleet.put(core);
     DONE
 }
 
@@ -117,54 +132,70 @@ pub extern "C" fn nashirudder_clock(fleet: &Handle, ticks: &mut u64) -> u32
 ///
 /// Refused in this order: the handle is closed, there is no such robot, it has no errand.
 #[unsafe(no_mangle)]
-pub extern "C" fn nashirudder_wait_of(fleet: &Handle, robot: u32, ticks: &mut u64) -> u32
-    ensures says { OfFleet fleet.now.owned.held result (λ w. Waits w robot result ticks.new) }
+pub extern "C" fn nashirudder_wait_of(
+    alloc: Global,
+    fleet: &mut Handle,
+    robot: u32,
+    ticks: &mut u64,
+) -> u32
+    ensures says { OfFleet fleet.old.owned.held fleet.new.owned.held result (λ w. Waits w robot result ticks.new) }
     ensures untouched { (result ≢ DONE) → ticks.new ≡ ticks.old }
 {
-    let Some(core) = fleet.core() else {
+    let Some(core) = fleet.take(alloc) else {
         return NOT_OPEN;
     };
-    wait_of(core, robot, ticks)
+    let code = wait_of(&core, robot, ticks);
+    fleet.put(core);
+    code
 }
 
 /// The robot with the longest wait; on a tie, the one with the lowest number.
 ///
 /// Refused in this order: the handle is closed, no robot has an errand.
 #[unsafe(no_mangle)]
-pub extern "C" fn nashirudder_eldest(fleet: &Handle, robot: &mut u32) -> u32
-    ensures says { OfFleet fleet.now.owned.held result (λ w. HasEldest w result robot.new) }
+pub extern "C" fn nashirudder_eldest(alloc: Global, fleet: &mut Handle, robot: &mut u32) -> u32
+    ensures says { OfFleet fleet.old.owned.held fleet.new.owned.held result (λ w. HasEldest w result robot.new) }
     ensures untouched { (result ≢ DONE) → robot.new ≡ robot.old }
 {
-    let Some(core) = fleet.core() else {
+    let Some(core) = fleet.take(alloc) else {
         return NOT_OPEN;
     };
-    eldest(core, robot)
+    let code = eldest(&core, robot);
+    fleet.put(core);
+    code
 }
 
 /// How many ticks the eldest robot has waited.
 ///
 /// Refused in this order: the handle is closed, no robot has an errand.
 #[unsafe(no_mangle)]
-pub extern "C" fn nashirudder_longest_wait(fleet: &Handle, ticks: &mut u64) -> u32
-    ensures says { OfFleet fleet.now.owned.held result (λ w. HasLongest w result ticks.new) }
+pub extern "C" fn nashirudder_longest_wait(
+    alloc: Global,
+    fleet: &mut Handle,
+    ticks: &mut u64,
+) -> u32
+    ensures says { OfFleet fleet.old.owned.held fleet.new.owned.held result (λ w. HasLongest w result ticks.new) }
     ensures untouched { (result ≢ DONE) → ticks.new ≡ ticks.old }
 {
-    let Some(core) = fleet.core() else {
+    let Some(core) = fleet.take(alloc) else {
         return NOT_OPEN;
     };
-    longest_wait(core, ticks)
+    let code = longest_wait(&core, ticks);
+    fleet.put(core);
+    code
 }
 
 /// Whether no robot has an errand. Refused where the handle is closed.
 #[unsafe(no_mangle)]
-pub extern "C" fn nashirudder_is_idle(fleet: &Handle, is_idle: &mut bool) -> u32
-    ensures says { OfFleet fleet.now.owned.held result (λ w. (result ≡ DONE) × (IsTrue is_idle.new ↔ IsIdle w.history)) }
+pub extern "C" fn nashirudder_is_idle(alloc: Global, fleet: &mut Handle, is_idle: &mut bool) -> u32
+    ensures says { OfFleet fleet.old.owned.held fleet.new.owned.held result (λ w. (result ≡ DONE) × (IsTrue is_idle.new ↔ IsIdle w.history)) }
     ensures untouched { (result ≢ DONE) → is_idle.new ≡ is_idle.old }
 {
-    let Some(core) = fleet.core() else {
+    let Some(core) = fleet.take(alloc) else {
         return NOT_OPEN;
     };
     *is_idle = core.is_idle();
+    fleet.put(core);
     DONE
 }
 
@@ -172,39 +203,48 @@ pub extern "C" fn nashirudder_is_idle(fleet: &Handle, is_idle: &mut bool) -> u32
 ///
 /// Refused in this order: the handle is closed, the map has a bridge.
 #[unsafe(no_mangle)]
-pub extern "C" fn nashirudder_idle_within(fleet: &Handle, ticks: &mut u64) -> u32
-    ensures says { OfFleet fleet.now.owned.held result (λ w. HasIdle w result ticks.new) }
+pub extern "C" fn nashirudder_idle_within(alloc: Global, fleet: &mut Handle, ticks: &mut u64) -> u32
+    ensures says { OfFleet fleet.old.owned.held fleet.new.owned.held result (λ w. HasIdle w result ticks.new) }
     ensures untouched { (result ≢ DONE) → ticks.new ≡ ticks.old }
 {
-    let Some(core) = fleet.core() else {
+    let Some(core) = fleet.take(alloc) else {
         return NOT_OPEN;
     };
-    idle_within(core, ticks)
+    let code = idle_within(&core, ticks);
+    fleet.put(core);
+    code
 }
 
 /// A number of ticks that no wait reaches, whatever is ordered.
 ///
 /// Refused in this order: the handle is closed, the map has a bridge.
 #[unsafe(no_mangle)]
-pub extern "C" fn nashirudder_wait_limit(fleet: &Handle, ticks: &mut u64) -> u32
-    ensures says { OfFleet fleet.now.owned.held result (λ w. HasLimit w result ticks.new) }
+pub extern "C" fn nashirudder_wait_limit(alloc: Global, fleet: &mut Handle, ticks: &mut u64) -> u32
+    ensures says { OfFleet fleet.old.owned.held fleet.new.owned.held result (λ w. HasLimit w result ticks.new) }
     ensures untouched { (result ≢ DONE) → ticks.new ≡ ticks.old }
 {
-    let Some(core) = fleet.core() else {
+    let Some(core) = fleet.take(alloc) else {
         return NOT_OPEN;
     };
-    wait_limit(core, ticks)
+    let code = wait_limit(&core, ticks);
+    fleet.put(core);
+    code
 }
 
 /// Whether the map has no bridge. Refused where the handle is closed.
 #[unsafe(no_mangle)]
-pub extern "C" fn nashirudder_is_bridgeless(fleet: &Handle, is_bridgeless: &mut bool) -> u32
-    ensures says { OfFleet fleet.now.owned.held result (λ w. (result ≡ DONE) × (IsTrue is_bridgeless.new ↔ IsBridgeless (IsNeighbour w.floor))) }
+pub extern "C" fn nashirudder_is_bridgeless(
+    alloc: Global,
+    fleet: &mut Handle,
+    is_bridgeless: &mut bool,
+) -> u32
+    ensures says { OfFleet fleet.old.owned.held fleet.new.owned.held result (λ w. (result ≡ DONE) × (IsTrue is_bridgeless.new ↔ IsBridgeless (IsNeighbour w.floor))) }
     ensures untouched { (result ≢ DONE) → is_bridgeless.new ≡ is_bridgeless.old }
 {
-    let Some(core) = fleet.core() else {
+    let Some(core) = fleet.take(alloc) else {
         return NOT_OPEN;
     };
     *is_bridgeless = core.is_bridgeless();
+    fleet.put(core);
     DONE
 }

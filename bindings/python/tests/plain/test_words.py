@@ -27,7 +27,7 @@ KINDS = {
 STRUCTS = {
     "fleet": calls.CFleet, "setup": calls.CSetup, "robot": calls.CRobot, "fault": calls.CFault,
     "judgement": calls.CJudgement, "report": calls.CReport, "note": calls.CNote, "order": calls.COrder,
-    "arrival": calls.CArrival, "edge": calls.CEdge,
+    "arrival": calls.CArrival, "edge": calls.CEdge, "map": calls.CMap, "shape": calls.CShape,
 }
 
 

@@ -1,6 +1,6 @@
 use Rattle.std.proofs.Common.{◌≡◌, ◌<◌, ◌≤◌, ℕ}
 use Rattle.std.specs.Prelude.{IsSomeAnd, slice_index_or}
-use Rattle.fleet_c.specs.Answers.{without_many, notice_after}
+use Rattle.fleet_c.specs.Batches.{without_many, notice_after}
 use Rattle.fleet_c.specs.Forms.{note_of}
 use Rattle.fleet_c.specs.declared.note.Note.{Note}
 use Rattle.fleet_c.proofs.mailboxes.give_all.Given as goal

@@ -1,4 +1,4 @@
-use Rattle.std.proofs.Common.{refl, ap, ◌∙◌, Err}
+use Rattle.std.proofs.Common.{ap, ◌∙◌, Err}
 use Rattle.fleet_core.specs.declared.faults.OpenFault.TheVariants.{Limits, NoRobots, Start, Shared, Hooks}
 use Rattle.fleet_c.proofs.Counted.{counted, refused_as}
 use Rattle.fleet_c.proofs.opening.core_of.Goals as goal

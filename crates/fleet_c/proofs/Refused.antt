@@ -1,0 +1,37 @@
+-- What is refused for one reason by a part is refused for it by the whole.
+use Rattle.std.specs.Prelude.{ℕ, List}
+use Rattle.std.specs.declared.alloc.Global.{Global}
+use Rattle.fleet_grid.specs.Floor.{Floor}
+use Rattle.fleet_trace.specs.Trace.{Trace}
+use Rattle.fleet_trace.specs.Reads.{Tells}
+use Rattle.fleet_c.specs.declared.refusal.Refusal.{Refusal}
+use Rattle.fleet_c.specs.declared.refusal.Refusal.TheVariants as refusal
+use Rattle.fleet_c.specs.declared.reopen_refusal.ReopenRefusal.{ReopenRefusal}
+use Rattle.fleet_c.specs.declared.reopen_refusal.ReopenRefusal.TheVariants as refused
+use Rattle.fleet_c.specs.declared.robot.Robot.{Robot}
+use Rattle.fleet_c.specs.declared.setup.Setup.{Setup}
+use Rattle.fleet_c.specs.Opening.{IsSized, Reads, IsRefusedOn, IsRefusal}
+use Rattle.fleet_c.specs.Reopened.{IsNotGoingOn, DoesNotGoOnFrom, IsNotReopened}
+
+pub on-floor : (bytes : List ℕ) (robots : List Robot) (setup : Setup) (m : Floor) → IsSized setup → Reads bytes m → (why : Refusal) → IsRefusedOn m robots setup why → IsRefusal bytes robots setup why
+on-floor bytes robots setup m sized reads refusal.NoMemory r = tt
+on-floor bytes robots setup m sized reads refusal.Size r = absurd r
+on-floor bytes robots setup m sized reads (refusal.Map fault) r = absurd r
+on-floor bytes robots setup m sized reads refusal.Setup r = (sized, (m, reads, r))
+on-floor bytes robots setup m sized reads refusal.RobotCount r = (sized, (m, reads, r))
+on-floor bytes robots setup m sized reads (refusal.Start i) r = (sized, (m, reads, r))
+on-floor bytes robots setup m sized reads (refusal.Shared i j) r = (sized, (m, reads, r))
+
+pub from-chapter : (m : Floor) (text : List ℕ) (kept : Trace Global) (robots : List Robot) (setup : Setup) → Tells text kept → (why : ReopenRefusal) → IsNotGoingOn m kept robots setup why → DoesNotGoOnFrom m text robots setup why
+from-chapter m text kept robots setup tells refused.NoMemory r = tt
+from-chapter m text kept robots setup tells refused.Size r = absurd r
+from-chapter m text kept robots setup tells (refused.Map fault) r = absurd r
+from-chapter m text kept robots setup tells (refused.Trace fault) r = absurd r
+from-chapter m text kept robots setup tells (refused.Chapter fault) r = (kept, tells, r)
+
+pub from-text : (bytes text : List ℕ) (robots : List Robot) (setup : Setup) (m : Floor) → IsSized setup → Reads bytes m → (why : ReopenRefusal) → DoesNotGoOnFrom m text robots setup why → IsNotReopened bytes text robots setup why
+from-text bytes text robots setup m sized reads refused.NoMemory r = tt
+from-text bytes text robots setup m sized reads refused.Size r = absurd r.2
+from-text bytes text robots setup m sized reads (refused.Map fault) r = absurd r.2
+from-text bytes text robots setup m sized reads (refused.Trace fault) r = (sized, (m, reads, r))
+from-text bytes text robots setup m sized reads (refused.Chapter fault) r = (sized, (m, reads, r))

@@ -1,0 +1,24 @@
+-- What the calls on a map that was opened answer C.
+use Rattle.std.specs.Prelude.{ℕ, ◌≡◌, length, Option, None, Some}
+use Rattle.fleet_grid.specs.Counts.{edge_count, floor_count}
+use Rattle.fleet_grid.specs.Floor.{Floor, IsFloor, IsNeighbour}
+use Rattle.fleet_grid.specs.Walk.{AreJoined}
+use Rattle.fleet_c.specs.OwnsMap.{HeldValue}
+use Rattle.fleet_c.specs.declared.codes.TheConstants.{NOT_OPEN}
+use Rattle.fleet_c.specs.declared.map_shape.MapShape.{MapShape}
+
+-- a closed handle is refused and stays closed; this is said of the floor of an open one, which stays as it is
+abbrev pub OfMap : Option HeldValue → Option HeldValue → ℕ → (Floor → Type 0) → Type 0
+OfMap None new code Says = (code ≡ NOT_OPEN) × (new ≡ None)
+OfMap (Some m) new code Says = (new ≡ Some m) × Says m
+
+pub record IsShape (m : Floor) (shape : MapShape) : Type 0 where
+  pub height : shape.height ≡ m.height
+  pub width : shape.width ≡ m.width
+  pub cells : shape.cells ≡ length m.letters
+  pub floor : shape.floor ≡ floor_count m
+  pub edges : shape.edges ≡ edge_count m
+
+-- both cells are floor, and a walk joins them
+abbrev pub AreOnePart : Floor → ℕ → ℕ → Type 0
+AreOnePart m a b = IsFloor m a × IsFloor m b × AreJoined (IsNeighbour m) a b
