@@ -3,7 +3,7 @@
     from nashirudder.library import Fleet
 
 `Fleet` has the names, arguments and exceptions of `nashirudder.Fleet`, so that a program runs with either. `Handle` has
-the calls of nashirudder.h. `check_step`, `first_bridge` and `distances` are questions about a map.
+the calls of nashirudder.h. `Map`, `check_step`, `first_bridge` and `distances` are questions about a map.
 `nashirudder.finding` says where the library is looked for.
 """
 
@@ -18,6 +18,7 @@ from .finding import Place
 from .fleet import AnyFleet
 from .folder import ChapterFolder
 from .handle import Handle
+from .map_handle import Map
 from .maps import check_step, distances, first_bridge
 from .names import VERDICT_OF, Code, Verdict
 from .orders import Errand, Order
@@ -26,8 +27,8 @@ from .told import Judgement, Notice, Report, Taken, TickRecord
 
 __all__ = [
     "FAR", "Arrival", "Chapter", "CloseClient", "Code", "Errand", "Farewell", "Fleet", "Go", "Handle", "Judgement",
-    "Look", "Notice", "OrderRefused", "Refused", "Report", "Taken", "TickRecord", "Verdict", "Withdraw", "check_step",
-    "distances", "first_bridge",
+    "Look", "Map", "Notice", "OrderRefused", "Refused", "Report", "Taken", "TickRecord", "Verdict", "Withdraw",
+    "check_step", "distances", "first_bridge",
 ]
 
 T = TypeVar("T")

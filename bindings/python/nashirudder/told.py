@@ -54,8 +54,8 @@ class Notice:
 class TickRecord:
     """A tick, and what happened in it.
 
-    `tick` is the number of ticks made so far. `cells` has each robot's cell after it, as `placement` has. `arrivals` are
-    by robot, and `farewells` the numbers of the shut robots that did their last errand, by number.
+    `tick` is the number of ticks made so far. `cells` has each robot's cell after it, as `placement` has. `arrivals`
+    are by robot, and `farewells` the numbers of the shut robots that did their last errand, by number.
     """
 
     tick: int

@@ -1,4 +1,4 @@
-"""Tests of the calls of Handle that do more at once, and of a fleet that goes on. What is wanted is worked out by hand."""
+"""Tests of the calls of Handle that do more at once, and of a fleet that goes on, worked out by hand."""
 
 import json
 import unittest
@@ -16,8 +16,8 @@ class Batches(unittest.TestCase):
         taken = fleet.take_many([Go(0, 11), Go(0, 1), Go(0, 1), Withdraw(2), CloseClient(1), Go(1, 7, client=1)])
         self.assertIsNone(taken.refused)
         self.assertEqual(taken.judgements, [
-            Judgement("accepted", 1), Judgement("accepted", 2), Judgement("queue-full", None), Judgement("withdrawn", None),
-            Judgement("closed", None), Judgement("client-closed", None),
+            Judgement("accepted", 1), Judgement("accepted", 2), Judgement("queue-full", None),
+            Judgement("withdrawn", None), Judgement("closed", None), Judgement("client-closed", None),
         ])
         taken = fleet.take_many([Go(1, 7), Go(1, 6, client=2), Go(1, 7)])
         self.assertEqual((taken.judgements, taken.refused.name), ([Judgement("accepted", 3)], "no-client"))
