@@ -437,11 +437,11 @@ public:
         return joins;
     }
     /* Nothing where the step is free of conflicts, else its first fault. */
-    [[nodiscard]] std::optional<Fault> check_step(std::span<const std::uint32_t> from, std::span<const std::uint32_t> to) const {
+    [[nodiscard]] std::optional<Fault> check_step(Span<const std::uint32_t> from, Span<const std::uint32_t> to) const {
         Fault fault{};
         nashirudder_code code = nashirudder_map_check_step(&handle, from.data(), from.size(), to.data(), to.size(), &fault);
-        if (code == NASHIRUDDER_NO_MEMORY) throw std::bad_alloc();
-        if (code == NASHIRUDDER_NOT_OPEN) throw Refused(code);
+        if (code == NASHIRUDDER_NO_MEMORY) NASHIRUDDER_THROW(std::bad_alloc());
+        if (code == NASHIRUDDER_NOT_OPEN) NASHIRUDDER_THROW(Refused(code));
         if (code == NASHIRUDDER_DONE) return std::nullopt;
         return fault;
     }
@@ -453,7 +453,7 @@ public:
     }
     /* The length of a shortest walk from each cell to the goal, NASHIRUDDER_FAR where there is none; into a list that has one
        place a cell. */
-    void distances(std::uint32_t goal, std::span<std::uint32_t> told) const {
+    void distances(std::uint32_t goal, Span<std::uint32_t> told) const {
         detail::check(nashirudder_map_distances(&handle, goal, told.data(), told.size()));
     }
     [[nodiscard]] std::vector<std::uint32_t> distances(std::uint32_t goal) const {
