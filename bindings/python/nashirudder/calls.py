@@ -54,7 +54,9 @@ class COrder(ctypes.Structure):
 
 
 class CArrival(ctypes.Structure):
-    _fields_ = [("number", c_uint64), ("robot", c_uint32), ("client", c_uint32), ("cell", c_uint32), ("stamp", c_uint32)]
+    _fields_ = [
+        ("number", c_uint64), ("robot", c_uint32), ("client", c_uint32), ("cell", c_uint32), ("stamp", c_uint32),
+    ]
 
 
 class CEdge(ctypes.Structure):
@@ -66,7 +68,9 @@ class CMap(ctypes.Structure):
 
 
 class CShape(ctypes.Structure):
-    _fields_ = [("height", c_uint32), ("width", c_uint32), ("cells", c_uint32), ("floor", c_uint32), ("edges", c_uint32)]
+    _fields_ = [
+        ("height", c_uint32), ("width", c_uint32), ("cells", c_uint32), ("floor", c_uint32), ("edges", c_uint32),
+    ]
 
 
 _FLEET, _TEXT = POINTER(CFleet), (c_char_p, c_size_t)

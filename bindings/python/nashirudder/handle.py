@@ -1,61 +1,24 @@
 """A fleet in this process, by the calls of nashirudder.h one by one."""
 
 import ctypes
+import json
 import threading
 from ctypes import byref
-from dataclasses import dataclass
-from typing import TYPE_CHECKING, Any, Optional, Sequence, Tuple, Union
+from typing import Any, List, Optional, Sequence, Tuple, Type, TypeVar, Union
 
 from .arrays import as_cells
-from .calls import CFault, CFleet, CJudgement, CNote, CReport, CRobot, CSetup, check, load
-from .errors import OutOfRange
+from .asked import AnyOrder
+from .calls import CArrival, CFault, CFleet, CJudgement, CNote, COrder, CReport, CRobot, CSetup, check, load
+from .errors import OutOfRange, Refused
 from .finding import Place
-from .names import Code, Verdict
+from .names import Code
 from .ranges import checked_limits, long_number, whole_number
-
-if TYPE_CHECKING:
-    from .arrays import Cells
+from .records import Arrival
+from .told import Judgement, Notice, Report, Taken, TickRecord, judgement_of, notice_of
+from .views import Views
 
 Text = Union[str, bytes]
 Start = Union[int, Tuple[int, Sequence[int]]]
-
-
-@dataclass(frozen=True)
-class Judgement:
-    """The verdict of an order, by its word such as "accepted" or "blocked"; and the errand's number, from 1, if it was
-    accepted, else None.
-    """
-
-    verdict: str
-    number: Optional[int]
-
-
-@dataclass(frozen=True)
-class Report:
-    """The ticks made so far, and how many robots arrived, and how many shut robots did their last errand."""
-
-    tick: int
-    arrived: int
-    farewells: int
-
-
-@dataclass(frozen=True)
-class Notice:
-    """What a client is told: the verdict of its order, or an arrival, whose `verdict` is None.
-
-    `seq` counts the client's notices from 1. Of a verdict `order` is the client's order, from 1, and `number` the
-    errand's number if it was accepted. Of an arrival `number`, `robot`, `cell` and `tick` are as in `Arrival`, and
-    `stamp` is 0.
-    """
-
-    seq: int
-    order: Optional[int]
-    verdict: Optional[str]
-    number: Optional[int]
-    robot: Optional[int] = None
-    cell: Optional[int] = None
-    tick: Optional[int] = None
-    stamp: Optional[int] = None
 
 
 def text_of(map: Text) -> bytes:
@@ -72,7 +35,18 @@ def _start(robot: Start) -> CRobot:
     return CRobot(whole_number("a start cell", cell), (ctypes.c_uint8 * 4)(*checked))
 
 
-class Handle:
+def _robots_in(text: bytes) -> int:
+    """How many robots the trace of a chapter has; one, if it is no trace, of which the library says more."""
+    try:
+        return max(1, len(json.loads(text)["opening"]["robots"]))
+    except (ValueError, LookupError, TypeError, RecursionError):
+        return 1
+
+
+H = TypeVar("H", bound="Handle")
+
+
+class Handle(Views):
     """Robots on a map, and clients that send them to cells: the calls of nashirudder.h, of which that page says more.
 
     `map` is the text of a .map file, not its path. `robots` has each robot's start cell, 1 to 512 of them, or a pair of
@@ -95,23 +69,45 @@ class Handle:
     def __init__(
         self, map: Text, robots: Sequence[Start], clients: int = 1, *, built: Optional[Place] = None, **limits: int
     ) -> None:
+        text = text_of(map)
+        self._open("open", (text, len(text)), [_start(robot) for robot in robots], clients, built, limits)
+
+    def _open(
+        self, name: str, texts: Tuple[Any, ...], robots: List[CRobot], clients: int, built: Optional[Place], limits: Any
+    ) -> None:
         self._library = load(built)
         self._lock = threading.Lock()
         self._fleet = CFleet()
         self._count = len(robots)
-        setup = CSetup()
+        setup, fault = CSetup(), CFault()
         self._library.nashirudder_setup_default(whole_number("clients", clients), byref(setup))
-        for name, number in checked_limits(limits).items():
-            setattr(setup, name, number)
-        starts = (CRobot * max(1, len(robots)))(*(_start(robot) for robot in robots))
-        text, fault = text_of(map), CFault()
-        handed = (text, len(text), starts, len(robots), byref(setup))
-        check(self._library.nashirudder_open(*handed, byref(self._fleet), byref(fault)), fault)
+        for limit, number in checked_limits(limits).items():
+            setattr(setup, limit, number)
+        starts = (CRobot * max(1, len(robots)))(*robots)
+        call = getattr(self._library, "nashirudder_" + name)
+        check(call(*texts, starts, len(robots), byref(setup), byref(self._fleet), byref(fault)), fault)
 
-    def _call(self, name: str, *arguments: Any) -> int:
-        with self._lock:
-            code: int = getattr(self._library, "nashirudder_" + name)(byref(self._fleet), *arguments)
-            return code
+    @classmethod
+    def reopen(
+        cls: "Type[H]", map: Text, trace: Text, ranks: Optional[Sequence[Sequence[int]]] = None, *,
+        built: Optional[Place] = None, **limits: int
+    ) -> "H":
+        """A fleet that goes on from a chapter that was kept: `trace` is what `trace` returned at the chapter's end.
+
+        Its own chapter has the next number, and begins where that one ends. Robots, clients and errands are those of
+        the chapter; the mailboxes are empty. `ranks` has the four ranks of each robot, which a chapter does not keep;
+        all are zero if none are given. The limits `queue` and `life` have to be those of the chapter.
+
+        Raises Refused with a fault of the map, "trace-not-json", "trace-version", "trace-shape", "bad-setup",
+        "chapter-illegal" (the entry and the rule are in `numbers`: docs/TRACE.md), "laws-differ", "limits-differ",
+        "chapters-spent" or "waited-too-long"; and as the constructor does.
+        """
+        fleet, texts = cls.__new__(cls), (text_of(map), text_of(trace))
+        kept = [(0, 0, 0, 0)] * _robots_in(texts[1]) if ranks is None else ranks
+        robots = [_start((0, tuple(four))) for four in kept]
+        handed = (texts[0], len(texts[0]), texts[1], len(texts[1]))
+        fleet._open("reopen", handed, robots, 1, built, limits)
+        return fleet
 
     def close(self) -> None:
         """Frees what the fleet owns. Every later call is refused with "not-open", but for `close`, which does nothing.
@@ -142,7 +138,7 @@ class Handle:
     def _judged(self, name: str, *arguments: int) -> Judgement:
         told = CJudgement()
         check(self._call(name, *arguments, byref(told)))
-        return Judgement(Verdict(told.verdict).word, told.number or None)
+        return judgement_of(told)
 
     def go(self, robot: int, cell: int, client: int = 0) -> Judgement:
         """The client orders the robot to the cell. Returns the verdict, which may be a refusal: then the call was
@@ -164,6 +160,23 @@ class Handle:
         """The client gives up its accepted errand of that number, up to 2^64 - 1. Returns and raises as `go`."""
         return self._judged("withdraw", whole_number("client", client), long_number("the errand's number", number))
 
+    def take_many(self, orders: Sequence[AnyOrder]) -> Taken:
+        """Takes orders one after the other, each as by `go` and its like, until one is refused.
+
+        Returns a judgement of each that was taken, and the refusal at which it ended, if it did: as `go` raises it.
+        Raises Refused with "not-open" if the handle is closed.
+        """
+        count, told = ctypes.c_size_t(), (CJudgement * max(1, len(orders)))()
+        asked = (COrder * max(1, len(orders)))(*(order._in_c() for order in orders))
+        refused = None
+        try:
+            check(self._call("take_many", asked, len(orders), told, len(orders), byref(count)))
+        except Refused as why:
+            if why.code == Code.NOT_OPEN:
+                raise
+            refused = why
+        return Taken([judgement_of(told[at]) for at in range(count.value)], refused)
+
     # ---- ticks and shuts
 
     def tick(self) -> Report:
@@ -171,6 +184,16 @@ class Handle:
         did = CReport()
         check(self._call("tick", byref(did)))
         return Report(did.tick, did.arrived, did.farewells)
+
+    def tick_record(self) -> TickRecord:
+        """The same, and returns what happened in the tick: the call nashirudder_tick_into."""
+        did, count = CReport(), self._count
+        cells, gone, came = (ctypes.c_uint32 * count)(), (ctypes.c_uint32 * count)(), (CArrival * count)()
+        check(self._call("tick_into", byref(did), cells, count, came, count, gone, count))
+        arrivals = [
+            Arrival(one.robot, one.client, one.number, one.cell, did.tick, one.stamp) for one in came[: did.arrived]
+        ]
+        return TickRecord(did.tick, as_cells(cells), arrivals, gone[: did.farewells])
 
     def shut(self, robot: int) -> bool:
         """The robot gets no more errands. Returns True if it has none, and so took its leave at once.
@@ -192,13 +215,17 @@ class Handle:
         if code == Code.NO_NOTICE:
             return None
         check(code)
-        if note.verdict:
-            return Notice(note.seq, note.order, Verdict(note.verdict).word, note.number or None)
-        return Notice(note.seq, None, None, note.number, note.robot, note.cell, note.tick, note.stamp)
+        return notice_of(note)
 
-    def pending_count(self, client: int = 0) -> int:
-        """How many notices the client was not given yet. Raises Refused with "no-client"."""
-        return self._number("pending_count", ctypes.c_uint64, whole_number("client", client))
+    def give_many(self, client: int = 0, most: int = 64) -> List[Notice]:
+        """The client's next notices, `most` (1 to 65,536) of them at most, which leave its mailbox.
+
+        Raises Refused with "no-client".
+        """
+        most = whole_number("most", most, least=1, most=65536)
+        notes, count = (CNote * most)(), ctypes.c_size_t()
+        check(self._call("give_many", whole_number("client", client), notes, most, byref(count)))
+        return [notice_of(note) for note in notes[: count.value]]
 
     def widen(self, extra: int, client: int = 0) -> None:
         """Lets the client's mailbox hold `extra` more notices and unfinished errands, and takes the memory for them at
@@ -209,68 +236,7 @@ class Handle:
         """
         check(self._call("widen", whole_number("client", client), long_number("extra", extra)))
 
-    # ---- views
-
-    def _number_or(self, nothing: Code, name: str, kind: Any, *arguments: int) -> Optional[int]:
-        """The number that a call tells, or None at the code that says that there is none."""
-        told = kind()
-        code = self._call(name, *arguments, byref(told))
-        if code == nothing:
-            return None
-        check(code)
-        return int(told.value)
-
-    def _number(self, name: str, kind: Any, *arguments: int) -> int:
-        """The number that a call tells."""
-        told = kind()
-        check(self._call(name, *arguments, byref(told)))
-        return int(told.value)
-
-    def placement(self) -> "Cells":
-        """Each robot's cell, by the robot's number: an array of `numpy.uint32`, or a list if NumPy is not there."""
-        cells = (ctypes.c_uint32 * self._count)()
-        check(self._call("placement", cells, self._count))
-        return as_cells(cells)
-
-    def clock(self) -> int:
-        """The number of ticks made so far."""
-        return self._number("clock", ctypes.c_uint64)
-
-    def wait_of(self, robot: int) -> Optional[int]:
-        """How many ticks the robot has waited for its next arrival, or None if it has no errand. Raises Refused with
-        "no-robot".
-        """
-        return self._number_or(Code.IDLE, "wait_of", ctypes.c_uint64, whole_number("robot", robot))
-
-    def eldest(self) -> Optional[int]:
-        """The robot that has waited longest, the least number on a tie, or None if no robot has an errand."""
-        return self._number_or(Code.IDLE, "eldest", ctypes.c_uint32)
-
-    def is_idle(self) -> bool:
-        """Whether no robot has an errand."""
-        return bool(self._number("is_idle", ctypes.c_bool))
-
-    def idle_within(self) -> Optional[int]:
-        """The number of ticks within which no robot has an errand any more if none is added, or None on a map with a
-        bridge.
-        """
-        return self._number_or(Code.HAS_BRIDGE, "idle_within", ctypes.c_uint64)
-
-    def is_bridgeless(self) -> bool:
-        """Whether the map has no bridge: an edge whose removal separates its two cells."""
-        return bool(self._number("is_bridgeless", ctypes.c_bool))
-
     # ---- chapters
-
-    def trace(self) -> str:
-        """The trace of the present chapter (docs/TRACE.md), without a line feed at its end."""
-        length = ctypes.c_size_t(1024)
-        while True:
-            text = (ctypes.c_uint8 * length.value)()
-            code = self._call("trace", text, len(text), byref(length))
-            if code != Code.WRONG_LENGTH:
-                check(code)
-                return bytes(memoryview(text)[: length.value]).decode()
 
     def next_chapter(self) -> None:
         """Begins the next chapter; the entries of the present one are let go, so take its trace before. Raises Refused

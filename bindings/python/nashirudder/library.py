@@ -3,40 +3,38 @@
     from nashirudder.library import Fleet
 
 `Fleet` has the names, arguments and exceptions of `nashirudder.Fleet`, so that a program runs with either. `Handle` has
-the calls of nashirudder.h. `check_step`, `first_bridge` and `distances` are questions about a map.
+the calls of nashirudder.h. `Map`, `check_step`, `first_bridge` and `distances` are questions about a map.
 `nashirudder.finding` says where the library is looked for.
 """
 
 from collections import deque
-from typing import Callable, Deque, Dict, List, Optional, Sequence, Set, TypeVar
+from typing import Callable, Deque, Dict, List, Optional, Sequence, TypeVar
 
 from . import opening
+from .asked import CloseClient, Go, Withdraw
 from .calls import FAR
 from .errors import Ended, FileFailed, NoMemory, OutOfRange, OrderRefused, Refused, refusal
 from .finding import Place
 from .fleet import AnyFleet
 from .folder import ChapterFolder
-from .handle import Handle, Judgement, Notice, Report
+from .handle import Handle
+from .map_handle import Map
 from .maps import check_step, distances, first_bridge
 from .names import VERDICT_OF, Code, Verdict
 from .orders import Errand, Order
 from .records import Arrival, Chapter, Farewell, Look
+from .told import Judgement, Notice, Report, Taken, TickRecord
 
 __all__ = [
-    "FAR", "Arrival", "Chapter", "Code", "Errand", "Farewell", "Fleet", "Handle", "Judgement", "Look", "Notice",
-    "OrderRefused", "Refused", "Report", "Verdict", "check_step", "distances", "first_bridge",
+    "FAR", "Arrival", "Chapter", "CloseClient", "Code", "Errand", "Farewell", "Fleet", "Go", "Handle", "Judgement",
+    "Look", "Map", "Notice", "OrderRefused", "Refused", "Report", "Taken", "TickRecord", "Verdict", "Withdraw",
+    "check_step", "distances", "first_bridge",
 ]
 
 T = TypeVar("T")
 
 # The orders of a client that may wait to be judged, as in the program
 _LANE = 64
-
-
-def _arrival_of(client: int, notice: Notice) -> Arrival:
-    """The arrival that a notice tells a client."""
-    robot, number, cell, tick = (value or 0 for value in (notice.robot, notice.number, notice.cell, notice.tick))
-    return Arrival(robot, client, number, cell, tick, notice.stamp or 0)
 
 
 class Fleet(AnyFleet):
@@ -69,7 +67,6 @@ class Fleet(AnyFleet):
         self._lane = told.limits.get("lane", _LANE)
         self._number = self._entries = 0
         self._lanes: Dict[int, Deque[Order]] = {client: deque() for client in range(told.clients)}
-        self._leaving: Set[int] = set()
         self._status: Optional[int] = None
         self._is_closed = self._is_limited = False
         self._folder = None if told.traces is None else ChapterFolder(told.traces)
@@ -155,44 +152,29 @@ class Fleet(AnyFleet):
             self._collect(client)
 
     def _collect(self, client: int) -> bool:
-        """Takes in all notices of a client; whether there were some."""
+        """Takes all notices of a client out of its mailbox; whether there were some. What they tell is known."""
         some = False
-        while True:
-            notice = self._handle.give(client)
-            if notice is None:
-                return some
+        while self._handle.give_many(client):
             some = True
-            if notice.verdict is None:
-                arrival = _arrival_of(client, notice)
-                self._arrivals.append(arrival)
-                self._ledger.arrived(arrival)
+        return some
 
     def _waiting_clients(self) -> List[int]:
         return [client for client, lane in self._lanes.items() if lane]
 
     def _make_ticks(self, count: int) -> None:
-        try:
-            for _ in range(count):
-                did = self._entered(self._handle.tick)
-                if did.arrived:
-                    for client in range(self._clients):
-                        self._collect(client)
-                if did.farewells:
-                    self._say_farewells()
-        finally:
-            self._arrivals.sort(key=lambda arrival: (arrival.tick, arrival.robot))
-            self._cells = [int(cell) for cell in self._handle.placement()]
-
-    def _say_farewells(self) -> None:
-        gone = sorted(robot for robot in self._leaving if self._handle.wait_of(robot) is None)
-        self._farewells += [Farewell(robot, 0) for robot in gone]
-        self._leaving.difference_update(gone)
+        for _ in range(count):
+            did = self._entered(self._handle.tick_record)
+            self._cells = [int(cell) for cell in did.cells]
+            self._farewells += [Farewell(robot, 0) for robot in did.farewells]
+            self._arrivals += did.arrivals
+            for arrival in did.arrivals:
+                self._ledger.arrived(arrival)
+            for client in {arrival.client for arrival in did.arrivals}:
+                self._collect(client)
 
     def _make_shut(self, robot: int) -> None:
         if self._entered(lambda: self._handle.shut(robot)):
             self._farewells.append(Farewell(robot, 0))
-        else:
-            self._leaving.add(robot)
 
     def _look_now(self) -> Look:
         tick, eldest, within = self._handle.clock(), self._handle.eldest(), self._handle.idle_within()
