@@ -1,6 +1,8 @@
 //! The word `talk`.
 
-ghost use Rattle.std.specs.Prelude.{◌≤◌, length};
+ghost use Rattle.std.specs.Prelude.{◌≡◌, ◌≤◌, IfOk, IfErr, length};
+ghost use Rattle.fleet_talk.specs.Heading.{drafted};
+ghost use Rattle.fleet_lib.specs.Talk.{Complains, IsGround, IsGroundFault, complaint_of};
 
 use crate::said::fail;
 use errands_text::{Complaint, HookKit, InputFault, write_whole};
@@ -20,7 +22,9 @@ pub struct TalkTexts<'a> {
 }
 
 /// Prints on the error writer what is wrong. Returns the status.
-pub(crate) fn complain<E: Write>(alloc: Global, complaint: Complaint, error: &mut E) -> u8 {
+pub(crate) fn complain<E: Write>(alloc: Global, complaint: Complaint, error: &mut E) -> u8
+    ensures { Complains complaint (E.contents error.old) (E.contents error.new) result }
+{
     match format!(in alloc; "fleet: {complaint}\n") {
         Ok(line) => {
             write_whole(error, line.as_bytes());
@@ -31,7 +35,9 @@ pub(crate) fn complain<E: Write>(alloc: Global, complaint: Complaint, error: &mu
 }
 
 /// The complaint about a conversation that broke off.
-pub(crate) fn complaint_of(fault: TalkFault) -> Complaint {
+pub(crate) fn complaint_of(fault: TalkFault) -> Complaint
+    ensures { result ≡ complaint_of fault }
+{
     match fault {
         TalkFault::Input | TalkFault::Output | TalkFault::Shelf => Complaint::File,
         TalkFault::Opening(fault) => Complaint::Opening(fault),
@@ -42,6 +48,8 @@ pub(crate) fn complaint_of(fault: TalkFault) -> Complaint {
 /// The map and the head of the texts.
 pub(crate) fn grounds(alloc: Global, texts: TalkTexts<'_>) -> Result<(Grid, Head), Complaint>
     requires { length texts.script.now ≤ 16777216 }
+    ensures ground { IfOk result (λ r. IsGround texts.entry.map.now texts.entry.script.now r.0 (drafted r.1)) }
+    ensures fault { IfErr result (IsGroundFault texts.entry.map.now texts.entry.script.now) }
 {
     let map = match read_map(alloc, texts.map) {
         Ok(map) => map,
