@@ -1,1 +1,6 @@
+pub mod Convert
+pub mod Explain
+pub mod Said
 pub mod Talk
+pub mod View
+pub mod Check
