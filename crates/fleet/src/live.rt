@@ -1,14 +1,46 @@
 //! The word `live`.
 
-use crate::pipes::{pipes_of, start_watch};
 use crate::talk::texts_of;
-use fleet_lib::{InputFault, Live, LiveEnds, Shelf, TalkTexts, fail, run_live};
-use std::alloc::{Alloc, AllocError, Global};
-use std::fs::{File, Files};
+use fleet_lib::{InputFault, Live, LiveEnds, Pipes, Shelf, TalkTexts, fail, run_live};
+use std::alloc::{Alloc, Global};
+use std::fs::{File, Files, OpenOptions};
 use std::io::{Read, Write};
 use std::sync::Wait;
 use std::thread::Threads;
 use std::time::Clock;
+
+/// Opens a named pipe for reading and writing. So this does not wait for a client, and clients may come and go.
+fn open_pipe<R: Files<File = File>>(rt: &R, name: &str) -> Option<File> {
+    match OpenOptions::new().read(true).write(true).open(rt, name) {
+        Ok(file) => Some(file),
+        Err(_) => None,
+    }
+}
+
+/// The pipes that a word names, with a comma between them. `None` if there is no comma, or one cannot be opened.
+fn pipes_named<R: Files<File = File>>(rt: &R, word: &str) -> Option<Pipes<File, File>> {
+    let (input, output) = word.split_once(',')?;
+    let input = open_pipe(rt, input)?;
+    let output = open_pipe(rt, output)?;
+    Some(Pipes { input, output })
+}
+
+/// The pipes of all clients that have some.
+fn pipes_of<R: Files<File = File> + Alloc<A = Global>>(
+    rt: &R,
+    words: &[String],
+) -> Result<Vec<Pipes<File, File>>, InputFault> {
+    let mut all = Vec::new(rt.alloc());
+    for word in words {
+        let Some(pipes) = pipes_named(rt, word.as_str()) else {
+            return Err(InputFault::File);
+        };
+        if all.push(pipes).is_err() {
+            return Err(InputFault::NoMemory);
+        }
+    }
+    Ok(all)
+}
 
 /// Keeps a fleet in real time, or on demand. Returns the status, as of `run_live`, or 3 where a file failed.
 pub(crate) fn hold_live<
@@ -25,7 +57,7 @@ pub(crate) fn hold_live<
     I: Read + Send + Drop + 'static,
     W: Write + Send + Drop + 'static,
     F: Write + Send + Drop + 'static,
-    E: Write + Copy + Send + Drop + 'static,
+    E: Write,
     S: Shelf + Send + Drop,
 >(
     rt: &R,
@@ -43,9 +75,6 @@ pub(crate) fn hold_live<
         Ok(pipes) => pipes,
         Err(fault) => return fail(fault, error),
     };
-    if let Err(AllocError) = start_watch(rt, &live.pipes, &pipes, *error) {
-        return fail(InputFault::NoMemory, error);
-    }
     let ends = LiveEnds {
         input,
         output,

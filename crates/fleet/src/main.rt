@@ -13,7 +13,6 @@ mod explain;
 mod figures;
 mod folder;
 mod live;
-mod pipes;
 mod talk;
 mod view;
 
