@@ -463,7 +463,7 @@ NASHIRUDDER_MUST_USE nashirudder_code nashirudder_withdraw(nashirudder_fleet *fl
 
 /*
 ** Takes orders one after the other, each as by nashirudder_go and its like, until one is refused; there is one place for a
-** judgement for each. `count` says how many were taken: so many of the judgements are written, and the others stay as they
+** judgement for each. `count` says how many were taken: that many judgements are written, and the others stay as they
 ** were. What the answer refuses is the order of that place, the others after it were not tried.
 **
 ** Refused: NASHIRUDDER_NOT_OPEN and NASHIRUDDER_WRONG_LENGTH, where `count` stays as it was; NASHIRUDDER_BAD_ORDER, or as

@@ -1,10 +1,11 @@
 """What both classes named `Fleet` have: the same names, arguments and exceptions."""
 
 import abc
-from typing import TYPE_CHECKING, Any, Callable, List, Optional, TypeVar
+from typing import TYPE_CHECKING, Callable, List, Optional, TypeVar
 
 from .arrays import as_cells
-from .errors import FileFailed, FleetError, NoMemory, Refused
+from .closing import Closing
+from .errors import FileFailed, NoMemory, Refused
 from .names import Verdict
 from .orders import Errand, Ledger, Order, need_own
 from .ranges import whole_number
@@ -15,12 +16,11 @@ if TYPE_CHECKING:
     from .arrays import Cells
 
 T = TypeVar("T")
-Self = TypeVar("Self", bound="AnyFleet")
 
 MOST_TICKS = 1_000_000
 
 
-class AnyFleet(abc.ABC):
+class AnyFleet(Closing):
     """A fleet that stands still until `tick` is called: `nashirudder.Fleet` over pipes, and `nashirudder.library.Fleet`
     in this process.
 
@@ -219,16 +219,3 @@ class AnyFleet(abc.ABC):
         over pipes the fleet has ended then, and in this process the chapter goes on.
         """
         return self._in_turn(self._turn_page)
-
-    # ---- with
-
-    def __enter__(self: Self) -> Self:
-        return self
-
-    def __exit__(self, kind: Any, *_: object) -> None:
-        try:
-            self.close()
-        except FleetError:
-            # What happened within the block says more.
-            if kind is None:
-                raise

@@ -1,12 +1,13 @@
 """A fleet that moves by itself: the program `fleet live` keeps it."""
 
 import tempfile
-from typing import TYPE_CHECKING, Any, Dict, List, Optional, Sequence, Tuple
+from typing import TYPE_CHECKING, Dict, List, Optional, Sequence, Tuple
 
 from . import finding, opening
 from .arrays import as_cells
 from .caller import Caller, OnTick
-from .errors import FleetError, Refused, Waiting, refusal
+from .closing import Closing
+from .errors import Refused, Waiting, refusal
 from .finding import Place
 from .fleet import MOST_TICKS
 from .names import Verdict, verdict_in
@@ -43,7 +44,7 @@ class LiveErrand(AnyErrand):
         self._fleet = fleet
 
     def accepted(self, timeout: Optional[float] = None) -> int:
-        """The errand's number among its client's accepted ones, from 1. Waits for the verdict, so many seconds at most.
+        """The errand's number among its client's accepted ones, from 1. Waits `timeout` seconds at most for the verdict.
 
         Raises OrderRefused with the verdict's name if it was refused, Waiting if the time went by, and Ended if the
         fleet ended before.
@@ -52,7 +53,7 @@ class LiveErrand(AnyErrand):
         return self._accepted()
 
     def arrived(self, timeout: Optional[float] = None) -> Arrival:
-        """The arrival. Waits for it, so many seconds at most. Raises as `accepted` does, and OrderRefused with
+        """The arrival. Waits for it, at most `timeout` seconds. Raises as `accepted` does, and OrderRefused with
         "withdrawn" if it was withdrawn.
         """
         self.accepted(timeout)
@@ -63,7 +64,7 @@ class LiveErrand(AnyErrand):
         return arrival
 
 
-class LiveFleet:
+class LiveFleet(Closing):
     """A fleet that moves by itself, a turn every `period_ms` milliseconds; without it, a turn for each `tick`. `fleet
     live` keeps it.
 
@@ -177,8 +178,8 @@ class LiveFleet:
         return errand
 
     def withdraw(self, errand: LiveErrand, timeout: Optional[float] = None) -> None:
-        """Takes back an errand that its robot is not heading for yet. Waits for both verdicts, so many seconds each at
-        most.
+        """Takes back an errand that its robot is not heading for yet. Waits for both verdicts, at most
+        `timeout` seconds for each.
 
         Raises OrderRefused with "too-late" or "no-errand", Waiting if the time went by, as `LiveErrand.accepted` if the
         errand was not accepted, and as `go` if this order was not posted.
@@ -188,7 +189,7 @@ class LiveFleet:
         self._carry_out(order, Verdict.WITHDRAWN, timeout)
 
     def close_client(self, client: int = 0, timeout: Optional[float] = None) -> None:
-        """No order of this client is accepted any more. Waits for the verdict, so many seconds at most. Raises as `go`
+        """No order of this client is accepted any more. Waits `timeout` seconds for the verdict at most. Raises as `go`
         does, and Waiting.
         """
         self._carry_out(Order(whole_number("client", client), "close"), Verdict.CLOSED, timeout)
@@ -250,7 +251,7 @@ class LiveFleet:
         """Ends the program: what was posted is judged, and the last chapter is written if `traces` was given. Later
         calls do nothing.
 
-        Raises FileFailed if a chapter could not be written, and Late if it did not end in so many seconds (`timeout` of
+        Raises FileFailed if a chapter could not be written, and Late if it did not end in time (`timeout` of
         the fleet, if none are given); then it is killed.
         """
         if self._program.is_closed:
@@ -260,14 +261,3 @@ class LiveFleet:
         finally:
             if self._program.is_closed:
                 self._let_go(timeout)
-
-    def __enter__(self) -> "LiveFleet":
-        return self
-
-    def __exit__(self, kind: Any, *_: object) -> None:
-        try:
-            self.close()
-        except FleetError:
-            # What happened within the block says more.
-            if kind is None:
-                raise
