@@ -1,0 +1,6 @@
+mod Estimates
+mod Lefts
+mod Read
+mod Searches
+mod Serving
+mod Settled
