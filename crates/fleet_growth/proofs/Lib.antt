@@ -1,5 +1,4 @@
 mod Estimates
-mod Lefts
 mod Read
 mod Searches
 mod Serving

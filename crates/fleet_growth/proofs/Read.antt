@@ -12,7 +12,7 @@ use Rattle.fleet_grid.specs.Distance.{distance}
 use Rattle.fleet_grid.proofs.Edges.{beside_across}
 use Rattle.fleet_grid.proofs.Forms.{floor_inside}
 use Rattle.fleet_growth.specs.declared.growing.GrowingField.{GrowingField}
-use Rattle.fleet_growth.specs.Field.{Serves, IsSettled, waiting_of}
+use Rattle.fleet_growth.specs.Field.{Serves, IsSettled, search_of}
 use Rattle.fleet_growth.specs.inside.Estimate.{IsToward}
 use Rattle.fleet_growth.proofs.Estimates.{estimate_toward, estimate_away}
 use Rattle.fleet_growth.proofs.Settled.{toward_side, away_side, nowhere}
@@ -37,18 +37,16 @@ module _ {A : Type 0} (m : Floor) (f : GrowingField A) (s : Serves m f) (cell : 
 
     pub unlike_is : here ≢ 0 → IsToward f.target cell dir → IsTrue (not (eqb there here)) ↔ IsLess (distance m w f.goal) (distance m cell f.goal)
     unlike_is come near =
-        let side = toward_side m f.target f.goal (target_wide m f f s) s.width s.steps f.labels.items (waiting_of f) s.known settled.emptied cell w floor n.to (dir, n) (λ e. come (at_cell ∙ e))
-            (estimate_toward f.target dir cell w (target_wide m f f s) (side_of dir w n) near) in
-        (
+        let side = toward_side m f.target f.goal (target_wide m f f s) s.width s.steps (search_of f) s.known settled.left settled.emptied cell w floor n.to (dir, n) (λ e. come (at_cell ∙ e))
+        (estimate_toward f.target dir cell w (target_wide m f f s) (side_of dir w n) near) in (
           λ b. side.0 (λ e. eqb_no (T_from_true (not (eqb there here)) b) (at_next ∙ (e ∙ sym at_cell))),
           λ less. ap not (ne_eqb there here (λ e. side.1 less (sym at_next ∙ (e ∙ at_cell)))),
         )
 
     pub like_is : here ≢ 0 → (IsToward f.target cell dir → ⊥) → IsTrue (eqb there here) ↔ IsLess (distance m w f.goal) (distance m cell f.goal)
     like_is come far =
-        let side = away_side m f.target f.goal (target_wide m f f s) s.width s.steps f.labels.items (waiting_of f) s.known settled.emptied cell w floor n.to (dir, n) (λ e. come (at_cell ∙ e))
-            (estimate_away f.target dir cell w (target_wide m f f s) (side_of dir w n) far) in
-        (
+        let side = away_side m f.target f.goal (target_wide m f f s) s.width s.steps (search_of f) s.known settled.left settled.emptied cell w floor n.to (dir, n) (λ e. come (at_cell ∙ e))
+        (estimate_away f.target dir cell w (target_wide m f f s) (side_of dir w n) far) in (
           λ b. side.0 (sym at_next ∙ (eqb-true there here b ∙ at_cell)),
           λ less. eq-eqb there here (at_next ∙ (side.1 less ∙ sym at_cell)),
         )
@@ -56,6 +54,6 @@ module _ {A : Type 0} (m : Floor) (f : GrowingField A) (s : Serves m f) (cell : 
   pub none_is : (dir : Dir) (w here : ℕ) → IsNeighbourIn m dir cell w → here ≡ get_or f.labels.items cell here → here ≡ 0 → IsLess (distance m w f.goal) (distance m cell f.goal) → ⊥
   none_is dir w here n hh none less = elim settled.found [
     | inl come ↦ come (get_or_default f.labels.items cell 0 here here_inside ∙ (sym hh ∙ none))
-    | inr empty ↦ nowhere m f.target f.goal (target_wide m f f s) s.width s.steps f.labels.items (waiting_of f) s.known settled.emptied cell w floor n.to (dir, n)
+    | inr empty ↦ nowhere m f.target f.goal (target_wide m f f s) s.width s.steps (search_of f) s.known settled.left settled.emptied cell w floor n.to (dir, n)
         (get_or_default f.labels.items cell 0 here here_inside ∙ (sym hh ∙ none)) empty less
   ]

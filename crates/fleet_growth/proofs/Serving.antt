@@ -8,22 +8,23 @@ use Rattle.fleet_grid.specs.Ways.{AreOpen}
 use Rattle.std.proofs.lemmas.List.{length-append, get_or_past}
 use Rattle.fleet_growth.specs.declared.target.Target.{Target}
 use Rattle.fleet_growth.specs.declared.growing.GrowingField.{GrowingField}
-use Rattle.fleet_growth.specs.Field.{Serves, waiting_of}
+use Rattle.fleet_growth.specs.Field.{Serves, search_of}
 use Rattle.fleet_growth.specs.inside.Estimate.{estimate}
-use Rattle.fleet_growth.specs.inside.Left.{Waiting, IsSpread}
-use Rattle.fleet_growth.specs.inside.Known.{IsWithin, IsKnown, label}
-use Rattle.fleet_growth.proofs.Searches.{next_known, passed, comes}
+use Rattle.fleet_growth.specs.inside.Left.{Search, IsSpread}
+use Rattle.fleet_growth.specs.inside.Known.{IsWithin, IsAt, IsKnown, label}
+use Rattle.fleet_growth.proofs.Searches.{next_known, skipped, taken, lifted, all_left}
 
 -- nothing is known yet, and the goal waits
-pub begun : (m : Floor) (t : Target) (aimed : ℕ) (labels now later : List ℕ) → length labels ≡ length m.letters → ((v : ℕ) → slice_index labels v ≡ 0) → IsFloor m aimed
-    → now ≡ aimed ∷ [] → later ≡ [] → IsKnown m t aimed 0 labels (record { now = now; later = later })
-begun m t aimed labels now later size none f one empty = record {
+pub begun : (m : Floor) (t : Target) (aimed : ℕ) (labels now next later : List ℕ) → length labels ≡ length m.letters → ((v : ℕ) → slice_index labels v ≡ 0) → IsFloor m aimed
+    → now ≡ [] → next ≡ aimed ∷ [] → later ≡ [] → IsKnown m t aimed 0 (record { labels = labels; now = now; next = next; later = later })
+begun m t aimed labels now next later size none f free one empty = record {
   size = size;
   right = λ v come. absurd (come (none v));
   before = λ v j less within. absurd (omega (arith, less));
   start = inr (subst (λ (xs : List ℕ). Contains xs aimed) (sym one) (0, omega arith, refl));
   onward = λ u v n lu lv. absurd (lu (none u));
-  now_right = λ v c. only v (subst (λ (xs : List ℕ). Contains xs v) one c);
+  now_right = λ v c. absurd (nobody v (subst (λ (xs : List ℕ). Contains xs v) free c));
+  next_right = λ v c. only v (subst (λ (xs : List ℕ). Contains xs v) one c);
   later_right = λ v c. absurd (nobody v (subst (λ (xs : List ℕ). Contains xs v) empty c));
 }
   where
@@ -61,45 +62,55 @@ module _ {A : Type 0} (m : Floor) (f g : GrowingField A) (s : Serves m f) where
   target_wide = let w = wide m f.goal s.form s.goal in let e = s.width in omega (arith, w, e)
 
   -- a field with this goal and target that knows what is known here
-  pub serves_by : g.goal ≡ f.goal → g.target ≡ f.target → (k : ℕ) → g.mark ≡ label k → (labels : List ℕ) (w : Waiting) → IsKnown m f.target f.goal k labels w
-      → g.labels.items ≡ labels → g.now.items ≡ w.now → g.later.items ≡ w.later → Serves m g
-  serves_by goal target k mark labels w known l n y = record {
+  pub serves_by : g.goal ≡ f.goal → g.target ≡ f.target → (k : ℕ) → g.mark ≡ label k → (w : Search) → IsKnown m f.target f.goal k w → search_of g ≡ w → Serves m g
+  serves_by goal target k mark w known e = record {
     form = s.form;
     goal = subst (IsFloor m) (sym goal) s.goal;
     width = ap (λ (t : Target). t.width) target ∙ s.width;
     steps = k;
     mark = mark;
-    known = rw (goal, target, l, n, y) known;
+    known = rw (goal, target, e) known;
   }
 
-  pub onward_serves : f.now.items ≡ [] → g.goal ≡ f.goal → g.target ≡ f.target → g.mark ≡ 3 - f.mark → g.labels.items ≡ f.labels.items → g.now.items ≡ f.later.items → g.later.items ≡ [] → Serves m g
-  onward_serves none goal target mark l n y =
-      serves_by goal target (s.steps + 1) (mark ∙ turned_mark f.mark s.steps s.mark) f.labels.items (record { now = f.later.items; later = [] })
-      (next_known m f.target f.goal target_wide s.width s.steps f.labels.items (waiting_of f) s.known none) l n y
+  pub onward_serves : f.now.items ≡ [] → f.next.items ≡ [] → g.goal ≡ f.goal → g.target ≡ f.target → g.mark ≡ 3 - f.mark
+      → search_of g ≡ record { labels = f.labels.items; now = f.now.items; next = f.later.items; later = f.next.items } → Serves m g
+  onward_serves none empty goal target mark e =
+      serves_by goal target (s.steps + 1) (mark ∙ turned_mark f.mark s.steps s.mark) (record { labels = f.labels.items; now = f.now.items; next = f.later.items; later = f.next.items })
+      (next_known m f.target f.goal target_wide s.width s.steps (search_of f) s.known none empty) e
 
+  -- a cell that waits
+  module _ (rest : List ℕ) (cell : ℕ) (popped : f.next.items ≡ rest ++ cell ∷ []) where
+    pub waiting_floor : IsFloor m cell
+    waiting_floor = (s.known.next_right cell (subst (λ (xs : List ℕ). Contains xs cell) (sym popped) (Contains-push rest cell))).0
+
+    pub waiting_inside : cell < length f.labels.items
+    waiting_inside = let i = floor_inside m cell waiting_floor in let e = s.known.size in omega (arith, i, e)
+
+    pub skipped_serves : slice_index f.labels.items cell ≢ 0 → g.goal ≡ f.goal → g.target ≡ f.target → g.mark ≡ f.mark
+        → search_of g ≡ record { labels = f.labels.items; now = f.now.items; next = rest; later = f.later.items } → Serves m g
+    skipped_serves come goal target mark e =
+        serves_by goal target s.steps (mark ∙ s.mark) (record { labels = f.labels.items; now = f.now.items; next = rest; later = f.later.items })
+        (skipped m f.target f.goal target_wide s.width s.steps (search_of f) s.known rest cell popped come) e
+
+    pub taken_serves : slice_index f.labels.items cell ≡ 0 → g.goal ≡ f.goal → g.target ≡ f.target → g.mark ≡ f.mark
+        → search_of g ≡ record { labels = set f.labels.items cell f.mark; now = f.now.items ++ cell ∷ []; next = rest; later = f.later.items } → Serves m g
+    taken_serves unseen goal target mark e =
+        serves_by goal target s.steps (mark ∙ s.mark) (record { labels = set f.labels.items cell (label s.steps); now = f.now.items ++ cell ∷ []; next = rest; later = f.later.items })
+        (taken m f.target f.goal target_wide s.width s.steps (search_of f) s.known rest cell popped unseen waiting_inside)
+        (e ∙ ap (λ (x : ℕ). record { labels = set f.labels.items cell x; now = f.now.items ++ cell ∷ []; next = rest; later = f.later.items }) s.mark)
+
+  -- a cell that is still to be left
   module _ (rest : List ℕ) (cell : ℕ) (popped : f.now.items ≡ rest ++ cell ∷ []) where
-    waits : Contains f.now.items cell
-    waits = subst (λ (xs : List ℕ). Contains xs cell) (sym popped) (Contains-push rest cell)
+    pub last_right : IsFloor m cell × IsAt m f.target f.goal cell s.steps
+    last_right = s.known.now_right cell (subst (λ (xs : List ℕ). Contains xs cell) (sym popped) (Contains-push rest cell))
 
-    pub cell_floor : IsFloor m cell
-    cell_floor = (s.known.now_right cell waits).0
+    pub last_inside : cell < length f.labels.items
+    last_inside = let i = floor_inside m cell last_right.0 in let e = s.known.size in omega (arith, i, e)
 
-    pub cell_inside : cell < length f.labels.items
-    cell_inside = let i = floor_inside m cell cell_floor in let e = s.known.size in omega (arith, i, e)
-
-    pub passed_serves : slice_index f.labels.items cell ≢ 0 → g.goal ≡ f.goal → g.target ≡ f.target → g.mark ≡ f.mark → g.labels.items ≡ f.labels.items → g.now.items ≡ rest → g.later.items ≡ f.later.items → Serves m g
-    passed_serves come goal target mark l n y =
-        serves_by goal target s.steps (mark ∙ s.mark) f.labels.items (record { now = rest; later = f.later.items })
-        (passed m f.target f.goal target_wide s.width s.steps f.labels.items (waiting_of f) s.known rest cell popped come) l n y
-
-    pub come_serves : (ways : ℕ) (before : Waiting) → slice_index f.labels.items cell ≡ 0 → AreOpen m cell ways → before.now ≡ rest → before.later ≡ f.later.items
-        → IsSpread g.labels.items f.target ways cell before (waiting_of g) → g.goal ≡ f.goal → g.target ≡ f.target → g.mark ≡ f.mark → g.labels.items ≡ set f.labels.items cell f.mark → Serves m g
-    come_serves ways before unseen ways_open bn bl left goal target mark l =
-        let lab : g.labels.items ≡ set f.labels.items cell (label s.steps) = l ∙ ap (λ (x : ℕ). set f.labels.items cell x) s.mark in
-        let spread : IsSpread (set f.labels.items cell (label s.steps)) f.target ways cell (record { now = rest; later = f.later.items }) (waiting_of g) =
-        subst (λ (xs : List ℕ). IsSpread xs f.target ways cell (record { now = rest; later = f.later.items }) (waiting_of g)) lab
-        (subst (λ (xs : List ℕ). IsSpread g.labels.items f.target ways cell (record { now = xs; later = f.later.items }) (waiting_of g)) bn
-        (subst (λ (xs : List ℕ). IsSpread g.labels.items f.target ways cell (record { now = before.now; later = xs }) (waiting_of g)) bl left)) in
-        serves_by goal target s.steps (mark ∙ s.mark) (set f.labels.items cell (label s.steps)) (waiting_of g)
-        (comes m f.target f.goal target_wide s.width s.steps f.labels.items (waiting_of f) s.known rest cell ways (waiting_of g) popped unseen cell_inside ways_open spread)
-        lab refl refl
+    pub spread_serves : (ways : ℕ) (before : Search) → AreOpen m cell ways → before ≡ record { labels = f.labels.items; now = rest; next = f.next.items; later = f.later.items }
+        → IsSpread f.target ways f.mark cell before (search_of g) → g.goal ≡ f.goal → g.target ≡ f.target → g.mark ≡ f.mark → Serves m g
+    spread_serves ways before ways_open b left goal target mark =
+        serves_by goal target s.steps (mark ∙ s.mark) (search_of g)
+        (all_left m f.target f.goal target_wide s.width s.steps cell ways f.mark (record { labels = f.labels.items; now = rest; next = f.next.items; later = f.later.items }) (search_of g) s.mark
+        (subst (λ (x : Search). IsSpread f.target ways f.mark cell x (search_of g)) b left) last_right.1 ways_open
+        (lifted m f.target f.goal target_wide s.width s.steps (search_of f) s.known rest cell popped)) refl

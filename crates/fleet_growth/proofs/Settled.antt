@@ -10,7 +10,7 @@ use Rattle.fleet_grid.proofs.Shortest.{is_distance, distance_is, apart_is}
 use Rattle.fleet_grid.proofs.Edges.{neighbour_back}
 use Rattle.fleet_growth.specs.declared.target.Target.{Target}
 use Rattle.fleet_growth.specs.inside.Estimate.{estimate}
-use Rattle.fleet_growth.specs.inside.Left.{Waiting}
+use Rattle.fleet_growth.specs.inside.Left.{Search}
 use Rattle.fleet_growth.specs.inside.Known.{IsWithin, IsAt, IsKnown, label}
 use Rattle.fleet_growth.proofs.Searches.{within_toward, within_away, complete, all_come}
 
@@ -47,17 +47,17 @@ has_distance m t aimed v j f at =
       by = by;
     }
 
-module _ (m : Floor) (t : Target) (aimed : ℕ) (pos : 0 < t.width) (same : t.width ≡ m.width) (k : ℕ) (labels : List ℕ) (w : Waiting)
-    (known : IsKnown m t aimed k labels w) (none : w.now ≡ []) (cell next : ℕ) (floor : IsFloor m cell) (ground : IsFloor m next) (n : IsNeighbour m cell next) where
-  pub toward_side : (come : slice_index labels cell ≢ 0) → estimate t next + 1 ≡ estimate t cell
-      → (slice_index labels next ≢ slice_index labels cell) ↔ IsLess (distance m next aimed) (distance m cell aimed)
+module _ (m : Floor) (t : Target) (aimed : ℕ) (pos : 0 < t.width) (same : t.width ≡ m.width) (k : ℕ) (s : Search)
+    (known : IsKnown m t aimed k s) (none : s.now ≡ []) (empty : s.next ≡ []) (cell next : ℕ) (floor : IsFloor m cell) (ground : IsFloor m next) (n : IsNeighbour m cell next) where
+  pub toward_side : (come : slice_index s.labels cell ≢ 0) → estimate t next + 1 ≡ estimate t cell
+      → (slice_index s.labels next ≢ slice_index s.labels cell) ↔ IsLess (distance m next aimed) (distance m cell aimed)
   toward_side come near =
       let c = known.right cell come in
       let j = c.0 in
       let within = within_toward m t aimed pos same cell next j n c.2.within near in
       let low = c.1 in
       let short = within.short in
-      let seen = complete m t aimed pos same k labels w known none next within.walk within.leads (omega (arith, short, low)) in
+      let seen = complete m t aimed pos same k s known none empty next within.walk within.leads (omega (arith, short, low)) in
       let d = known.right next seen in
       let i = d.0 in
       let up = d.2.least within.walk within.leads in
@@ -69,8 +69,7 @@ module _ (m : Floor) (t : Target) (aimed : ℕ) (pos : 0 < t.width) (same : t.wi
       let xb = x.by in
       let yb = y.by in
       let most : i ≤ j = omega (arith, up, short) in
-      let least : j ≤ i + 1 = omega (arith, down, back_short) in
-      (
+      let least : j ≤ i + 1 = omega (arith, down, back_short) in (
         λ ne. elim (cases_lt i j) [
           | inl less ↦ less_is (distance m next aimed) (distance m cell aimed) y.far x.far y.is x.is (omega (arith, less, xb, yb, near))
           | inr more ↦ (let e : i ≡ j = omega (arith, most, more) in absurd (ne (d.3 ∙ (ap label e ∙ sym c.3))))
@@ -81,15 +80,14 @@ module _ (m : Floor) (t : Target) (aimed : ℕ) (pos : 0 < t.width) (same : t.wi
             label_next i (ap label (sym q) ∙ (sym c.3 ∙ (sym e ∙ d.3)))),
       )
 
-  pub away_side : (come : slice_index labels cell ≢ 0) → estimate t next ≡ estimate t cell + 1
-      → (slice_index labels next ≡ slice_index labels cell) ↔ IsLess (distance m next aimed) (distance m cell aimed)
+  pub away_side : (come : slice_index s.labels cell ≢ 0) → estimate t next ≡ estimate t cell + 1
+      → (slice_index s.labels next ≡ slice_index s.labels cell) ↔ IsLess (distance m next aimed) (distance m cell aimed)
   away_side come off =
       let c = known.right cell come in
       let j = c.0 in
       let x = has_distance m t aimed cell j floor c.2 in
       let xb = x.by in
-      let low = c.1 in
-      (
+      let low = c.1 in (
         λ e. (
             let d = known.right next (λ z. come (sym e ∙ z)) in
             let i = d.0 in
@@ -109,7 +107,7 @@ module _ (m : Floor) (t : Target) (aimed : ℕ) (pos : 0 < t.width) (same : t.wi
               let l = less_was (distance m next aimed) (distance m cell aimed) some.0 x.far some.1 x.is less in
               let is = distance_is m next aimed some.0 some.1 in
               let size = is.walk.2 in
-              let seen = complete m t aimed pos same k labels w known none next is.walk.0 is.walk.1 (omega (arith, size, l, xb, off, low)) in
+              let seen = complete m t aimed pos same k s known none empty next is.walk.0 is.walk.1 (omega (arith, size, l, xb, off, low)) in
               let d = known.right next seen in
               let i = d.0 in
               let up = d.2.least is.walk.0 is.walk.1 in
@@ -121,7 +119,7 @@ module _ (m : Floor) (t : Target) (aimed : ℕ) (pos : 0 < t.width) (same : t.wi
         ],
       )
 
-  pub nowhere : slice_index labels cell ≡ 0 → w.later ≡ [] → IsLess (distance m next aimed) (distance m cell aimed) → ⊥
-  nowhere unseen empty less =
-      let gone = apart_is m cell aimed (λ cs leads. all_come m t aimed pos same k labels w known none empty cell cs leads unseen) in
+  pub nowhere : slice_index s.labels cell ≡ 0 → s.later ≡ [] → IsLess (distance m next aimed) (distance m cell aimed) → ⊥
+  nowhere unseen over less =
+      let gone = apart_is m cell aimed (λ cs leads. all_come m t aimed pos same k s known none empty over cell cs leads unseen) in
       less_none (distance m next aimed) (subst (λ (o : Option ℕ). IsLess (distance m next aimed) o) gone less)

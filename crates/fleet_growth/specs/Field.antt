@@ -1,13 +1,13 @@
 -- A field that is searched only as far as it is asked.
-use Rattle.std.specs.Prelude.{◌≡◌, ◌≢◌, ℕ, ◌⊎◌, [], slice_index}
+use Rattle.std.specs.Prelude.{◌≡◌, ◌≢◌, ℕ, ◌+◌, ◌*◌, ◌⊎◌, [], length, slice_index}
 use Rattle.fleet_grid.specs.Floor.{Floor, HasForm, IsFloor}
 use Rattle.fleet_growth.specs.declared.growing.GrowingField.{GrowingField}
-use Rattle.fleet_growth.specs.inside.Left.{Waiting}
-use Rattle.fleet_growth.specs.inside.Known.{IsKnown, label}
+use Rattle.fleet_growth.specs.inside.Left.{Search}
+use Rattle.fleet_growth.specs.inside.Known.{IsKnown, label, zero_count}
 
--- the cells that wait
-abbrev pub waiting_of : {A : Type 0} → GrowingField A → Waiting
-waiting_of f = record { now = f.now.items; later = f.later.items }
+-- how far it is searched
+abbrev pub search_of : {A : Type 0} → GrowingField A → Search
+search_of f = record { labels = f.labels.items; now = f.now.items; next = f.next.items; later = f.later.items }
 
 -- what the field knows is so on this map, and enough to go on
 pub record Serves {A : Type 0} (m : Floor) (f : GrowingField A) : Type 0 where
@@ -16,12 +16,21 @@ pub record Serves {A : Type 0} (m : Floor) (f : GrowingField A) : Type 0 where
   pub width : f.target.width ≡ m.width
   pub steps : ℕ
   pub mark : f.mark ≡ label steps
-  pub known : IsKnown m f.target f.goal steps f.labels.items (waiting_of f)
+  pub known : IsKnown m f.target f.goal steps (search_of f)
 
 abbrev pub goal_of : {A : Type 0} → GrowingField A → ℕ
 goal_of f = f.goal
 
--- no cell waits that has as few steps away as the search has come to; and it has come to this cell, or to all that it can
+-- it has come to all cells with as few steps away as any, and to this cell, or to all that it can
 pub record IsSettled {A : Type 0} (f : GrowingField A) (cell : ℕ) : Type 0 where
-  pub emptied : f.now.items ≡ []
+  pub left : f.now.items ≡ []
+  pub emptied : f.next.items ≡ []
   pub found : (slice_index f.labels.items cell ≢ 0) ⊎ (f.later.items ≡ [])
+
+-- how much is left to do in this round: it falls with each cell that is taken from a list
+abbrev pub to_do : {A : Type 0} → GrowingField A → ℕ
+to_do f = length f.now.items + length f.next.items + 2 * zero_count f.labels.items
+
+-- how many cells may come to wait for later rounds, with those that wait
+abbrev pub may_wait : {A : Type 0} → GrowingField A → ℕ
+may_wait f = length f.later.items + 4 * (length f.now.items + zero_count f.labels.items)

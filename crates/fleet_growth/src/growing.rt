@@ -20,6 +20,7 @@ pub struct GrowingField<A: Allocator + Copy = Global> {
     pub(crate) mark: u8,
     pub(crate) labels: Vec<u8, A>,
     pub(crate) now: Vec<u32, A>,
+    pub(crate) next: Vec<u32, A>,
     pub(crate) later: Vec<u32, A>,
 }
 
@@ -38,14 +39,15 @@ impl<A: Allocator + Copy> GrowingField<A> {
     {
         let mut labels = Vec::new(alloc);
         labels.resize(grid.cell_count() as usize, 0)?;
-        let mut now = Vec::new(alloc);
-        now.push(goal)?;
+        let mut next = Vec::new(alloc);
+        next.push(goal)?;
         Ok(GrowingField {
             goal,
             target: Target::of(grid.width(), target),
             mark: 1,
             labels,
-            now,
+            now: Vec::new(alloc),
+            next,
             later: Vec::new(alloc),
         })
     }

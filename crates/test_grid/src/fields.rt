@@ -1,5 +1,6 @@
 //! The worked map, shared fields, many goals, a large map, and each allocation refused in turn.
 
+mod growing;
 mod kept;
 mod large;
 mod refused;

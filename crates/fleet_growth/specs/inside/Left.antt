@@ -1,31 +1,40 @@
--- How a cell is left: which cells wait after it, in two lists.
-use Rattle.std.specs.Prelude.{◌≡◌, ℕ, ◌⊎◌, List, slice_index}
-use Rattle.std.specs.List.{Contains}
+-- How a cell is left in one direction.
+use Rattle.std.specs.Prelude.{◌≡◌, ◌≢◌, ℕ, ◌⊎◌, List, [], ◌∷◌, ◌++◌, slice_index, slice_set}
 use Rattle.fleet_grid.specs.declared.dir.Dir.{Dir}
+use Rattle.fleet_grid.specs.declared.dir.Dir.TheVariants.{North, East, South, West}
 use Rattle.fleet_grid.specs.Floor.{cell_across}
 use Rattle.fleet_grid.specs.Ways.{IsWay}
 use Rattle.fleet_growth.specs.declared.target.Target.{Target}
 use Rattle.fleet_growth.specs.inside.Estimate.{IsToward}
 
--- two lists of cells that wait: those of this number of steps away from the target, and those that may have one more
-pub record Waiting : Type 0 where
+-- the labels; the cells with labels that are still to be left; and the cells without labels that wait, those with as few steps
+-- away from the target as these, and those that may have one more
+pub record Search : Type 0 where
+  pub labels : List ℕ
   pub now : List ℕ
+  pub next : List ℕ
   pub later : List ℕ
 
--- what one direction adds: the cell there, if it is open and has no label
-pub record IsLeft (labels : List ℕ) (t : Target) (ways cell : ℕ) (dir : Dir) (old new : Waiting) : Type 0 where
-  pub kept_now : (v : ℕ) → Contains old.now v → Contains new.now v
-  pub kept_later : (v : ℕ) → Contains old.later v → Contains new.later v
-  pub only_now : (v : ℕ) → Contains new.now v → Contains old.now v ⊎ (IsWay ways dir × (v ≡ cell_across t.width cell dir) × IsToward t cell dir)
-  pub only_later : (v : ℕ) → Contains new.later v → Contains old.later v ⊎ (IsWay ways dir × (v ≡ cell_across t.width cell dir))
-  pub waits : IsWay ways dir → slice_index labels (cell_across t.width cell dir) ≡ 0
-      → (IsToward t cell dir × Contains new.now (cell_across t.width cell dir)) ⊎ ((IsToward t cell dir → ⊥) × Contains new.later (cell_across t.width cell dir))
+-- a way leads from the cell in that direction, and the search has not come to the cell there
+pub record IsNew (t : Target) (ways cell : ℕ) (dir : Dir) (labels : List ℕ) : Type 0 where
+  pub way : IsWay ways dir
+  pub unseen : slice_index labels (cell_across t.width cell dir) ≡ 0
 
--- what all four directions add
-pub record IsSpread (labels : List ℕ) (t : Target) (ways cell : ℕ) (old new : Waiting) : Type 0 where
-  pub kept_now : (v : ℕ) → Contains old.now v → Contains new.now v
-  pub kept_later : (v : ℕ) → Contains old.later v → Contains new.later v
-  pub only_now : (v : ℕ) → Contains new.now v → Contains old.now v ⊎ ((dir : Dir) × IsWay ways dir × (v ≡ cell_across t.width cell dir) × IsToward t cell dir)
-  pub only_later : (v : ℕ) → Contains new.later v → Contains old.later v ⊎ ((dir : Dir) × IsWay ways dir × (v ≡ cell_across t.width cell dir))
-  pub waits : (dir : Dir) → IsWay ways dir → slice_index labels (cell_across t.width cell dir) ≡ 0
-      → (IsToward t cell dir × Contains new.now (cell_across t.width cell dir)) ⊎ ((IsToward t cell dir → ⊥) × Contains new.later (cell_across t.width cell dir))
+-- nothing happens; or the search comes to the cell there; or that cell waits
+abbrev pub IsLeft : Target → ℕ → ℕ → ℕ → Dir → Search → Search → Type 0
+IsLeft t ways mark cell dir old new =
+    ((IsNew t ways cell dir old.labels → ⊥) × (new ≡ old))
+    ⊎ ((IsNew t ways cell dir old.labels × IsToward t cell dir
+    × (new ≡ record old { labels = slice_set old.labels (cell_across t.width cell dir) mark; now = old.now ++ cell_across t.width cell dir ∷ [] }))
+    ⊎ (IsNew t ways cell dir old.labels × (IsToward t cell dir → ⊥)
+    × (new ≡ record old { later = old.later ++ cell_across t.width cell dir ∷ [] })))
+
+-- all four directions
+pub record IsSpread (t : Target) (ways mark cell : ℕ) (old new : Search) : Type 0 where
+  pub first : Search
+  pub second : Search
+  pub third : Search
+  pub north : IsLeft t ways mark cell North old first
+  pub east : IsLeft t ways mark cell East first second
+  pub south : IsLeft t ways mark cell South second third
+  pub west : IsLeft t ways mark cell West third new

@@ -7,7 +7,8 @@ abbrev pub invariant-loop-self : goal.invariant-loop-self
 invariant-loop-self g l = record {
   serves : Serves l.grid l.self;
   goal : l.self.goal ≡ l.fn.self.goal;
-  emptied : l.self.now.items ≡ [];
+  left : l.self.now.items ≡ [];
+  emptied : l.self.next.items ≡ [];
 }
 
 abbrev pub decreases-loop-self : goal.decreases-loop-self

@@ -1,25 +1,23 @@
-use Rattle.std.proofs.Common.{◌≡◌, ℕ, length, set, refl, sym, ap, subst, ◌∙◌, arith}
-use Rattle.std.proofs.lemmas.List.{length-set}
+use Rattle.std.proofs.Common.{◌≡◌, ℕ, length, ap, arith}
 use Rattle.fleet_grid.specs.declared.dir.Dir.TheVariants.{North, East, South, West}
-use Rattle.fleet_growth.specs.Field.{waiting_of}
-use Rattle.fleet_growth.proofs.Lefts.{all_left_by}
 use Rattle.fleet_growth.proofs.growing.GrowingField.spread.Goals as goal
+
+pub leave-requires-clause-inside : goal.leave-requires-clause-inside
+leave-requires-clause-inside g c way = c.requires.inside North way
 
 pub leave-requires-2-clause-inside : goal.leave-requires-2-clause-inside
 leave-requires-2-clause-inside g c way =
     let here = c.requires.inside East way in
-    rw c.leave.ensures.rest (omega (arith, here, length-set c.args.self.now.labels.items c.args.cell c.args.self.now.mark))
+    omega (arith, here, c.leave.ensures.len)
 
 pub leave-requires-3-clause-inside : goal.leave-requires-3-clause-inside
 leave-requires-3-clause-inside g c way =
     let here = c.requires.inside South way in
-    rw (c.leave-2.ensures.rest, c.leave.ensures.rest) (omega (arith, here, length-set c.args.self.now.labels.items c.args.cell c.args.self.now.mark))
+    let one = ap (λ f. f.target.width) c.leave.ensures.rest in
+    let two = ap (λ f. f.target.width) c.leave-2.ensures.rest in
+    omega (arith, here, one, two, c.leave.ensures.len, c.leave-2.ensures.len)
 
-pub returns-clause-spread : goal.returns-clause-spread
-returns-clause-spread g c =
-    all_left_by c.args.exits.byte c.args.cell (set c.args.self.now.labels.items c.args.cell c.args.self.now.mark) c.leave.new.self.labels.items c.leave-2.new.self.labels.items c.leave-3.new.self.labels.items c.leave-4.new.self.labels.items
-    c.args.self.now.target c.leave.new.self.target c.leave-2.new.self.target c.leave-3.new.self.target
-    (waiting_of c.args.self.now) (waiting_of c.leave.new.self) (waiting_of c.leave-2.new.self) (waiting_of c.leave-3.new.self) (waiting_of c.leave-4.new.self)
-    (ap (λ f. f.labels.items) c.leave.ensures.rest) (ap (λ f. f.labels.items) c.leave-2.ensures.rest) (ap (λ f. f.labels.items) c.leave-3.ensures.rest) (ap (λ f. f.labels.items) c.leave-4.ensures.rest)
-    (ap (λ f. f.target) c.leave.ensures.rest) (ap (λ f. f.target) c.leave-2.ensures.rest) (ap (λ f. f.target) c.leave-3.ensures.rest)
-    c.leave.ensures.left c.leave-2.ensures.left c.leave-3.ensures.left c.leave-4.ensures.left
+pub leave-requires-4-clause-inside : goal.leave-requires-4-clause-inside
+leave-requires-4-clause-inside g c way =
+    let here = c.requires.inside West way in
+    omega (arith, here, c.leave.ensures.len, c.leave-2.ensures.len, c.leave-3.ensures.len)
