@@ -37,10 +37,10 @@
 **     nashirudder_close. Where memory is refused the call answers NASHIRUDDER_NO_MEMORY; no call ends the program.
 **
 ** THREADS
-**     The calls that only look (peek, pending_count, trace, the views, and the calls on a map) may run at once on one handle,
-**     through the inline functions, any number of them. Every other call has to be the only one on its handle. A handle may
-**     move from thread to thread, if a lock or the start or end of a thread orders the calls, and calls on different handles
-**     may run side by side. No call starts a thread, waits for a lock, or may be made from a signal handler.
+**     The calls that only look (peek, pending_count, account_of, trace, the views, and the calls on a map or a chapter) may run
+**     at once on one handle, through the inline functions, any number of them. Every other call has to be the only one on its
+**     handle. A handle may move from thread to thread, if a lock or the start or end of a thread orders the calls, and calls on
+**     different handles may run side by side. No call starts a thread, waits for a lock, or may be made from a signal handler.
 **
 ** REFUSALS
 **     Each call answers a code. It is NASHIRUDDER_DONE where the call was carried out; at every other code the fleet is as it
@@ -176,8 +176,18 @@ typedef NASHIRUDDER_ENUM(nashirudder_kind) {
     NASHIRUDDER_ORDER_WITHDRAW = 3       /* an errand is given up */
 } nashirudder_kind;
 
+/*
+** STATES of robots.
+*/
+typedef NASHIRUDDER_ENUM(nashirudder_state) {
+    NASHIRUDDER_FREE = 1,                /* it has no errand */
+    NASHIRUDDER_BUSY = 2,                /* it has errands */
+    NASHIRUDDER_SHUT = 3                 /* it takes no further errands; it may still have some */
+} nashirudder_state;
+
 /* The structs below have numbers of 32 bits in these types' places. */
-typedef char nashirudder_enums_have_32_bits[sizeof(nashirudder_code) == 4 && sizeof(nashirudder_verdict) == 4 && sizeof(nashirudder_kind) == 4 ? 1 : -1];
+typedef char nashirudder_enums_have_32_bits[sizeof(nashirudder_code) == 4 && sizeof(nashirudder_verdict) == 4 && sizeof(nashirudder_kind) == 4
+                                            && sizeof(nashirudder_state) == 4 ? 1 : -1];
 
 /*
 ** The word for a code; "unknown" for a number that is none.
@@ -259,6 +269,21 @@ static inline const char *nashirudder_verdict_name(uint32_t verdict) {
 /* What stands for a cell from which no walk leads to the goal. */
 #define NASHIRUDDER_FAR 4294967295
 
+/* The goal of a robot that has no errand. */
+#define NASHIRUDDER_NOWHERE 4294967295
+
+/*
+** The word for a state; "unknown" for a number that is none.
+*/
+static inline const char *nashirudder_state_name(uint32_t state) {
+    switch (state) {
+    case NASHIRUDDER_FREE: return "free";
+    case NASHIRUDDER_BUSY: return "busy";
+    case NASHIRUDDER_SHUT: return "shut";
+    default: return "unknown";
+    }
+}
+
 /*
 ** A handle to a fleet. Begin with NASHIRUDDER_CLOSED, or with all bytes zero.
 */
@@ -275,6 +300,14 @@ typedef struct nashirudder_map {
     void *at;
     bool is_open;
 } nashirudder_map;
+
+/*
+** A handle to a chapter that was handed out. As with a fleet's, the caller owns its 16 bytes, which begin all zero.
+*/
+typedef struct nashirudder_chapter {
+    void *at;
+    bool is_open;
+} nashirudder_chapter;
 
 /*
 ** The number of clients and the limits of a fleet. nashirudder_setup_default fills it in; it begins with its size, so that a
@@ -367,6 +400,38 @@ typedef struct nashirudder_arrival {
 } nashirudder_arrival;
 
 /*
+** An errand that is accepted, and neither done nor withdrawn, and where it stands.
+*/
+typedef struct nashirudder_errand {
+    uint64_t number;    /* its number among the client's accepted errands */
+    uint64_t place;     /* its place in the robot's queue, from 1: at place 1 the robot is on its way to the cell */
+    uint32_t client;
+    uint32_t robot;     /* in whose queue it is */
+    uint32_t cell;      /* where the robot is sent to */
+} nashirudder_errand;
+
+/*
+** How a robot stands.
+*/
+typedef struct nashirudder_standing {
+    uint64_t wait;      /* how many ticks it has waited for the arrival at its goal; 0 where it has no errand */
+    uint64_t errands;   /* how many errands it has */
+    uint32_t cell;
+    uint32_t goal;      /* the cell of its front errand; NASHIRUDDER_NOWHERE where it has none */
+    nashirudder_state state;
+} nashirudder_standing;
+
+/*
+** What a client has, and had.
+*/
+typedef struct nashirudder_account {
+    uint64_t taken;     /* the orders that were taken, in all chapters */
+    uint64_t owed;      /* the errands that are accepted, and neither done nor withdrawn */
+    uint64_t pending;   /* the notices that it was not given yet */
+    uint64_t room;      /* the notices and unfinished errands that its mailbox can hold */
+} nashirudder_account;
+
+/*
 ** An edge of a map, the cell of less number first.
 */
 typedef struct nashirudder_edge {
@@ -407,6 +472,12 @@ size_t nashirudder_message(const nashirudder_fault *fault, char *text, size_t te
 ** refused here.
 */
 void nashirudder_setup_default(uint32_t clients, nashirudder_setup *setup);
+
+/*
+** The same for a fleet that never ends: life 2^40, orders 2^62, clock 2^48 and chapters 2^32 - 1, which no fleet meets. Its
+** chapters become full all the same: begin the next (nashirudder_next_chapter_into, nashirudder_next_chapter).
+*/
+void nashirudder_setup_endless(uint32_t clients, nashirudder_setup *setup);
 
 /*
 ** Opens a closed handle: a fleet on the map, each robot on its start. The map is a text of the MovingAI benchmarks (.map);
@@ -534,6 +605,14 @@ NASHIRUDDER_MUST_USE nashirudder_code nashirudder_peek(nashirudder_fleet *fleet,
 NASHIRUDDER_MUST_USE nashirudder_code nashirudder_pending_count(nashirudder_fleet *fleet, uint32_t client, uint64_t *count);
 
 /*
+** How many orders of a client were taken, how many errands it has open, how many notices it was not given yet, and how many
+** of the last two together its mailbox can hold: an order is taken where they leave room for two more.
+**
+** Refused: NASHIRUDDER_NOT_OPEN, NASHIRUDDER_NO_CLIENT.
+*/
+NASHIRUDDER_MUST_USE nashirudder_code nashirudder_account_of(nashirudder_fleet *fleet, uint32_t client, nashirudder_account *account);
+
+/*
 ** Lets a client's mailbox hold this many more notices and unfinished errands, and takes the memory for them at once.
 **
 ** Refused: NASHIRUDDER_NOT_OPEN, NASHIRUDDER_NO_CLIENT, NASHIRUDDER_TOO_WIDE where it would hold more than 2^60,
@@ -560,6 +639,28 @@ NASHIRUDDER_MUST_USE nashirudder_code nashirudder_limits(nashirudder_fleet *flee
 ** Refused: NASHIRUDDER_NOT_OPEN, NASHIRUDDER_WRONG_LENGTH.
 */
 NASHIRUDDER_MUST_USE nashirudder_code nashirudder_placement(nashirudder_fleet *fleet, uint32_t *cells, size_t cells_length);
+
+/*
+** How each robot stands, by number. The list has one place a robot. The time that this takes grows with the errands of all
+** robots, and with the entries of the present chapter, among which it looks for shuts.
+**
+** Refused: NASHIRUDDER_NOT_OPEN, NASHIRUDDER_WRONG_LENGTH, NASHIRUDDER_NO_MEMORY.
+*/
+NASHIRUDDER_MUST_USE nashirudder_code nashirudder_standings(nashirudder_fleet *fleet, nashirudder_standing *standings, size_t standings_length);
+
+/*
+** A robot's errands, in the order of its queue, the front first; and a client's errands that are accepted, and neither done
+** nor withdrawn, by robot and then by place. `count` is how many these are, and the places after them stay as they were.
+** Where the list has fewer places only `count` is told, and the call answers NASHIRUDDER_WRONG_LENGTH: ask again with a list
+** of that many. A list of no places asks for the number.
+**
+** Refused: NASHIRUDDER_NOT_OPEN, NASHIRUDDER_NO_ROBOT or NASHIRUDDER_NO_CLIENT, NASHIRUDDER_NO_MEMORY,
+** NASHIRUDDER_WRONG_LENGTH; `count` stays as it was unless it is the last of these.
+*/
+NASHIRUDDER_MUST_USE nashirudder_code nashirudder_queue(nashirudder_fleet *fleet, uint32_t robot, nashirudder_errand *errands, size_t errands_length,
+                           size_t *count);
+NASHIRUDDER_MUST_USE nashirudder_code nashirudder_open_errands(nashirudder_fleet *fleet, uint32_t client, nashirudder_errand *errands,
+                           size_t errands_length, size_t *count);
 
 /*
 ** The ticks made so far. Refused: NASHIRUDDER_NOT_OPEN.
@@ -628,6 +729,27 @@ NASHIRUDDER_MUST_USE nashirudder_code nashirudder_trace(nashirudder_fleet *fleet
 NASHIRUDDER_MUST_USE nashirudder_code nashirudder_next_chapter(nashirudder_fleet *fleet);
 
 /*
+** The same, and hands out the chapter that ended: opens a closed handle to it. So a program can write the chapter's text, in
+** another thread if it likes, while the fleet goes on.
+**
+** Refused: NASHIRUDDER_NOT_OPEN; NASHIRUDDER_ALREADY_OPEN, if the handle to a chapter is open; NASHIRUDDER_BOOK_SPENT;
+** NASHIRUDDER_NO_MEMORY. Then no chapter is handed out, and none begins.
+*/
+NASHIRUDDER_MUST_USE nashirudder_code nashirudder_next_chapter_into(nashirudder_fleet *fleet, nashirudder_chapter *chapter);
+
+/*
+** Writes the trace of a chapter that was handed out, as nashirudder_trace does. It only looks at the chapter.
+**
+** Refused: NASHIRUDDER_NOT_OPEN, NASHIRUDDER_NO_MEMORY, NASHIRUDDER_WRONG_LENGTH.
+*/
+NASHIRUDDER_MUST_USE nashirudder_code nashirudder_chapter_trace(nashirudder_chapter *chapter, uint8_t *text, size_t text_length, size_t *length);
+
+/*
+** Closes a handle to a chapter: frees what an open one owns. A closed one stays closed.
+*/
+void nashirudder_chapter_close(nashirudder_chapter *chapter);
+
+/*
 ** Keeps distances to goals that no robot has any more, up to this many bytes; 256 MiB where nothing is said. What is kept
 ** shows in nothing but the time and the memory that later calls need. Refused: NASHIRUDDER_NOT_OPEN.
 */
@@ -663,6 +785,17 @@ NASHIRUDDER_MUST_USE nashirudder_code nashirudder_first_bridge(const uint8_t *ma
 */
 NASHIRUDDER_MUST_USE nashirudder_code nashirudder_distances(const uint8_t *map, size_t map_length, uint32_t goal, uint32_t *distances,
                                size_t distances_length, nashirudder_fault *fault);
+
+/*
+** Whether a text is the trace of a chapter that is legal on the map: that each entry is what the rules make of those before it
+** (docs/TRACE.md). NASHIRUDDER_DONE says that it is.
+**
+** Refused, and told in `fault`: a map's first fault; NASHIRUDDER_TRACE_NOT_JSON; NASHIRUDDER_TRACE_VERSION;
+** NASHIRUDDER_TRACE_SHAPE; NASHIRUDDER_CHAPTER_ILLEGAL with the first entry that breaks a rule, from 1 (the opening is 0), and the
+** first rule that it breaks; and NASHIRUDDER_NO_MEMORY at any time.
+*/
+NASHIRUDDER_MUST_USE nashirudder_code nashirudder_judge(const uint8_t *map, size_t map_length, const uint8_t *text, size_t text_length,
+                           nashirudder_fault *fault);
 
 /* ---- a map that is read once ---- */
 
@@ -715,6 +848,11 @@ static inline size_t nashirudder_checked_message(const nashirudder_fault *fault,
 static inline void nashirudder_checked_setup_default(uint32_t clients, nashirudder_setup *setup) {
     if (!setup) return;
     nashirudder_setup_default(clients, setup);
+}
+
+static inline void nashirudder_checked_setup_endless(uint32_t clients, nashirudder_setup *setup) {
+    if (!setup) return;
+    nashirudder_setup_endless(clients, setup);
 }
 
 NASHIRUDDER_MUST_USE static inline nashirudder_code nashirudder_checked_open(const uint8_t *map, size_t map_length,
@@ -823,6 +961,13 @@ NASHIRUDDER_MUST_USE static inline nashirudder_code nashirudder_checked_pending_
     return nashirudder_pending_count(&seen, client, count);
 }
 
+NASHIRUDDER_MUST_USE static inline nashirudder_code nashirudder_checked_account_of(const nashirudder_fleet *fleet,
+        uint32_t client, nashirudder_account *account) {
+    if (!fleet || !account) return NASHIRUDDER_NULL_POINTER;
+    nashirudder_fleet seen = *fleet;
+    return nashirudder_account_of(&seen, client, account);
+}
+
 NASHIRUDDER_MUST_USE static inline nashirudder_code nashirudder_checked_widen(nashirudder_fleet *fleet, uint32_t client,
         uint64_t extra) {
     if (!fleet) return NASHIRUDDER_NULL_POINTER;
@@ -855,6 +1000,27 @@ NASHIRUDDER_MUST_USE static inline nashirudder_code nashirudder_checked_placemen
     if (!fleet || (!cells && cells_length)) return NASHIRUDDER_NULL_POINTER;
     nashirudder_fleet seen = *fleet;
     return nashirudder_placement(&seen, NASHIRUDDER_LIST(uint32_t, cells), cells_length);
+}
+
+NASHIRUDDER_MUST_USE static inline nashirudder_code nashirudder_checked_standings(const nashirudder_fleet *fleet,
+        nashirudder_standing *standings, size_t standings_length) {
+    if (!fleet || (!standings && standings_length)) return NASHIRUDDER_NULL_POINTER;
+    nashirudder_fleet seen = *fleet;
+    return nashirudder_standings(&seen, NASHIRUDDER_LIST(nashirudder_standing, standings), standings_length);
+}
+
+NASHIRUDDER_MUST_USE static inline nashirudder_code nashirudder_checked_queue(const nashirudder_fleet *fleet,
+        uint32_t robot, nashirudder_errand *errands, size_t errands_length, size_t *count) {
+    if (!fleet || (!errands && errands_length) || !count) return NASHIRUDDER_NULL_POINTER;
+    nashirudder_fleet seen = *fleet;
+    return nashirudder_queue(&seen, robot, NASHIRUDDER_LIST(nashirudder_errand, errands), errands_length, count);
+}
+
+NASHIRUDDER_MUST_USE static inline nashirudder_code nashirudder_checked_open_errands(const nashirudder_fleet *fleet,
+        uint32_t client, nashirudder_errand *errands, size_t errands_length, size_t *count) {
+    if (!fleet || (!errands && errands_length) || !count) return NASHIRUDDER_NULL_POINTER;
+    nashirudder_fleet seen = *fleet;
+    return nashirudder_open_errands(&seen, client, NASHIRUDDER_LIST(nashirudder_errand, errands), errands_length, count);
 }
 
 NASHIRUDDER_MUST_USE static inline nashirudder_code nashirudder_checked_clock(const nashirudder_fleet *fleet,
@@ -925,6 +1091,24 @@ NASHIRUDDER_MUST_USE static inline nashirudder_code nashirudder_checked_next_cha
     return nashirudder_next_chapter(fleet);
 }
 
+NASHIRUDDER_MUST_USE static inline nashirudder_code nashirudder_checked_next_chapter_into(nashirudder_fleet *fleet,
+        nashirudder_chapter *chapter) {
+    if (!fleet || !chapter) return NASHIRUDDER_NULL_POINTER;
+    return nashirudder_next_chapter_into(fleet, chapter);
+}
+
+NASHIRUDDER_MUST_USE static inline nashirudder_code nashirudder_checked_chapter_trace(const nashirudder_chapter *chapter,
+        uint8_t *text, size_t text_length, size_t *length) {
+    if (!chapter || (!text && text_length) || !length) return NASHIRUDDER_NULL_POINTER;
+    nashirudder_chapter seen = *chapter;
+    return nashirudder_chapter_trace(&seen, NASHIRUDDER_LIST(uint8_t, text), text_length, length);
+}
+
+static inline void nashirudder_checked_chapter_close(nashirudder_chapter *chapter) {
+    if (!chapter) return;
+    nashirudder_chapter_close(chapter);
+}
+
 NASHIRUDDER_MUST_USE static inline nashirudder_code nashirudder_checked_keep(nashirudder_fleet *fleet, size_t bytes) {
     if (!fleet) return NASHIRUDDER_NULL_POINTER;
     return nashirudder_keep(fleet, bytes);
@@ -951,6 +1135,14 @@ NASHIRUDDER_MUST_USE static inline nashirudder_code nashirudder_checked_distance
     if ((!map && map_length) || (!distances && distances_length)) return NASHIRUDDER_NULL_POINTER;
     return nashirudder_distances(NASHIRUDDER_LIST(const uint8_t, map), map_length, goal, NASHIRUDDER_LIST(uint32_t,
         distances), distances_length, fault ? fault : &unread_fault);
+}
+
+NASHIRUDDER_MUST_USE static inline nashirudder_code nashirudder_checked_judge(const uint8_t *map, size_t map_length,
+        const uint8_t *text, size_t text_length, nashirudder_fault *fault) {
+    nashirudder_fault unread_fault;
+    if ((!map && map_length) || (!text && text_length)) return NASHIRUDDER_NULL_POINTER;
+    return nashirudder_judge(NASHIRUDDER_LIST(const uint8_t, map), map_length, NASHIRUDDER_LIST(const uint8_t, text), text_length,
+        fault ? fault : &unread_fault);
 }
 
 NASHIRUDDER_MUST_USE static inline nashirudder_code nashirudder_checked_map_open(const uint8_t *text, size_t text_length,
@@ -1001,6 +1193,7 @@ NASHIRUDDER_MUST_USE static inline nashirudder_code nashirudder_checked_map_dist
 
 #define nashirudder_message nashirudder_checked_message
 #define nashirudder_setup_default nashirudder_checked_setup_default
+#define nashirudder_setup_endless nashirudder_checked_setup_endless
 #define nashirudder_open nashirudder_checked_open
 #define nashirudder_reopen nashirudder_checked_reopen
 #define nashirudder_close nashirudder_checked_close
@@ -1015,11 +1208,15 @@ NASHIRUDDER_MUST_USE static inline nashirudder_code nashirudder_checked_map_dist
 #define nashirudder_give_many nashirudder_checked_give_many
 #define nashirudder_peek nashirudder_checked_peek
 #define nashirudder_pending_count nashirudder_checked_pending_count
+#define nashirudder_account_of nashirudder_checked_account_of
 #define nashirudder_widen nashirudder_checked_widen
 #define nashirudder_robots nashirudder_checked_robots
 #define nashirudder_clients nashirudder_checked_clients
 #define nashirudder_limits nashirudder_checked_limits
 #define nashirudder_placement nashirudder_checked_placement
+#define nashirudder_standings nashirudder_checked_standings
+#define nashirudder_queue nashirudder_checked_queue
+#define nashirudder_open_errands nashirudder_checked_open_errands
 #define nashirudder_clock nashirudder_checked_clock
 #define nashirudder_wait_of nashirudder_checked_wait_of
 #define nashirudder_eldest nashirudder_checked_eldest
@@ -1030,10 +1227,14 @@ NASHIRUDDER_MUST_USE static inline nashirudder_code nashirudder_checked_map_dist
 #define nashirudder_is_bridgeless nashirudder_checked_is_bridgeless
 #define nashirudder_trace nashirudder_checked_trace
 #define nashirudder_next_chapter nashirudder_checked_next_chapter
+#define nashirudder_next_chapter_into nashirudder_checked_next_chapter_into
+#define nashirudder_chapter_trace nashirudder_checked_chapter_trace
+#define nashirudder_chapter_close nashirudder_checked_chapter_close
 #define nashirudder_keep nashirudder_checked_keep
 #define nashirudder_check_step nashirudder_checked_check_step
 #define nashirudder_first_bridge nashirudder_checked_first_bridge
 #define nashirudder_distances nashirudder_checked_distances
+#define nashirudder_judge nashirudder_checked_judge
 #define nashirudder_map_open nashirudder_checked_map_open
 #define nashirudder_map_close nashirudder_checked_map_close
 #define nashirudder_map_shape nashirudder_checked_map_shape

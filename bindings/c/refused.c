@@ -132,6 +132,9 @@ int main(void) {
         nashirudder_judgement judgement;
         nashirudder_report report;
         nashirudder_arrival arrivals[2];
+        nashirudder_standing standings[2];
+        nashirudder_errand errands[2];
+        size_t count;
         uint32_t cells[2], gone[2];
         bool shut;
         left = n;
@@ -144,7 +147,13 @@ int main(void) {
             TRY(orders, nashirudder_go(&fleet, 0, 1, 8, &judgement));
             for (int i = 0; i < 3; i++) TRY(ticks, nashirudder_tick(&fleet, &report));
             for (int i = 0; i < 3; i++) TRY(ticks, nashirudder_tick_into(&fleet, &report, cells, 2, arrivals, 2, gone, 2));
+            TRY(others, nashirudder_standings(&fleet, standings, 2));
+            TRY(others, nashirudder_queue(&fleet, 0, errands, 2, &count));
+            TRY(others, nashirudder_open_errands(&fleet, 0, errands, 2, &count));
             TRY(others, nashirudder_shut(&fleet, 0, &shut));
+            nashirudder_chapter chapter = NASHIRUDDER_CLOSED;
+            TRY(others, nashirudder_next_chapter_into(&fleet, &chapter));
+            nashirudder_chapter_close(&chapter);
             TRY(others, nashirudder_next_chapter(&fleet));
             TRY(others, nashirudder_widen(&fleet, 0, 5));
         }

@@ -7,7 +7,8 @@
 **     for (auto left = fleet.idle_within().value(); left > 0 && !fleet.is_idle(); left--) fleet.tick();
 **
 ** On a map with a bridge idle_within has no value, and a loop that ticks until the fleet is idle may never end. A fleet that
-** runs for long has to begin new chapters and to give clients their notices: bindings/cpp/controller.cpp.
+** runs for long has the limits of endless_setup, rolls its chapters, and gives clients their notices:
+** bindings/cpp/controller.cpp.
 **
 ** Where the library refuses a call, nashirudder::Refused is thrown, and std::bad_alloc where memory was refused. The fleet
 ** is then as it was before the call. What is no refusal but an answer, as that a client has no notice, is an empty optional.
@@ -23,6 +24,7 @@
 #include "nashirudder.h"
 
 #include <cstdint>
+#include <functional>
 #include <initializer_list>
 #include <new>
 #include <optional>
@@ -79,6 +81,9 @@ using Edge = nashirudder_edge;
 using Order = nashirudder_order;
 using Arrival = nashirudder_arrival;
 using Shape = nashirudder_shape;
+using Errand = nashirudder_errand;
+using Standing = nashirudder_standing;
+using Account = nashirudder_account;
 
 /* What a call answers, as by nashirudder.h. */
 enum class Code : std::uint32_t {
@@ -111,13 +116,20 @@ enum class Verdict : std::uint32_t {
     no_errand = NASHIRUDDER_NO_ERRAND, too_late = NASHIRUDDER_TOO_LATE,
 };
 
+/* What a robot does. */
+enum class State : std::uint32_t {
+    free = NASHIRUDDER_FREE, busy = NASHIRUDDER_BUSY, shut = NASHIRUDDER_SHUT,
+};
+
 inline Code code_of(const Fault &fault) { return static_cast<Code>(fault.code); }
 inline Verdict verdict_of(const Judgement &judgement) { return static_cast<Verdict>(judgement.verdict); }
 inline Verdict verdict_of(const Note &note) { return static_cast<Verdict>(note.verdict); }
+inline State state_of(const Standing &standing) { return static_cast<State>(standing.state); }
 
 /* The word for a code, and for a verdict. */
 inline const char *name_of(std::uint32_t code) { return nashirudder_code_name(code); }
 inline const char *name_of(Code code) { return nashirudder_code_name(static_cast<std::uint32_t>(code)); }
+inline const char *name_of(State state) { return nashirudder_state_name(static_cast<std::uint32_t>(state)); }
 inline const char *name_of(Verdict verdict) { return nashirudder_verdict_name(static_cast<std::uint32_t>(verdict)); }
 inline const char *verdict_name(std::uint32_t verdict) { return nashirudder_verdict_name(verdict); }
 
@@ -201,6 +213,58 @@ inline Setup default_setup(std::uint32_t clients = 1) {
     return setup;
 }
 
+/* The limits of a fleet that never ends: no clock, no life and no number of chapters is ever spent. */
+inline Setup endless_setup(std::uint32_t clients = 1) {
+    Setup setup;
+    nashirudder_setup_endless(clients, &setup);
+    return setup;
+}
+
+namespace detail {
+
+/* A chapter's text, by a call that says how long it is. */
+template <typename Call> std::string text_by(Call call) {
+    std::string text(1024, '\0');
+    std::size_t length = 0;
+    nashirudder_code code = call(reinterpret_cast<std::uint8_t *>(text.data()), text.size(), &length);
+    if (code == NASHIRUDDER_WRONG_LENGTH) {
+        text.resize(length);
+        code = call(reinterpret_cast<std::uint8_t *>(text.data()), text.size(), &length);
+    }
+    check(code);
+    text.resize(length);
+    return text;
+}
+
+} // namespace detail
+
+/* A chapter that a fleet handed out. Its text can be written in another thread, while the fleet goes on. */
+class Chapter {
+public:
+    Chapter(const Chapter &) = delete;
+    Chapter &operator=(const Chapter &) = delete;
+    Chapter(Chapter &&other) noexcept : handle(std::exchange(other.handle, nashirudder_chapter NASHIRUDDER_CLOSED)) {}
+    Chapter &operator=(Chapter &&other) noexcept {
+        if (this != &other) {
+            nashirudder_chapter_close(&handle);
+            handle = std::exchange(other.handle, nashirudder_chapter NASHIRUDDER_CLOSED);
+        }
+        return *this;
+    }
+    ~Chapter() { nashirudder_chapter_close(&handle); }
+
+    /* Its trace. */
+    [[nodiscard]] std::string trace() const {
+        return detail::text_by([&](std::uint8_t *text, std::size_t size, std::size_t *length) { return nashirudder_chapter_trace(&handle, text, size, length); });
+    }
+
+private:
+    friend class Fleet;
+    Chapter() = default;
+
+    nashirudder_chapter handle = NASHIRUDDER_CLOSED;
+};
+
 /* A fleet. Of one that was moved from, every call but the destructor is refused. */
 class Fleet {
 public:
@@ -223,12 +287,15 @@ public:
     }
     Fleet(const Fleet &) = delete;
     Fleet &operator=(const Fleet &) = delete;
-    Fleet(Fleet &&other) noexcept : handle(std::exchange(other.handle, nashirudder_fleet NASHIRUDDER_CLOSED)), count(other.count) {}
+    Fleet(Fleet &&other) noexcept
+        : handle(std::exchange(other.handle, nashirudder_fleet NASHIRUDDER_CLOSED)), count(other.count), rolls(other.rolls), keeper(std::move(other.keeper)) {}
     Fleet &operator=(Fleet &&other) noexcept {
         if (this != &other) {
             nashirudder_close(&handle);
             handle = std::exchange(other.handle, nashirudder_fleet NASHIRUDDER_CLOSED);
             count = other.count;
+            rolls = other.rolls;
+            keeper = std::move(other.keeper);
         }
         return *this;
     }
@@ -236,22 +303,22 @@ public:
 
     [[nodiscard]] Judgement go(std::uint32_t client, std::uint32_t robot, std::uint32_t cell) {
         Judgement judgement{};
-        detail::check(nashirudder_go(&handle, client, robot, cell, &judgement));
+        detail::check(in_chapter([&] { return nashirudder_go(&handle, client, robot, cell, &judgement); }));
         return judgement;
     }
     [[nodiscard]] Judgement close_client(std::uint32_t client) {
         Judgement judgement{};
-        detail::check(nashirudder_close_client(&handle, client, &judgement));
+        detail::check(in_chapter([&] { return nashirudder_close_client(&handle, client, &judgement); }));
         return judgement;
     }
     [[nodiscard]] Judgement withdraw(std::uint32_t client, std::uint64_t number) {
         Judgement judgement{};
-        detail::check(nashirudder_withdraw(&handle, client, number, &judgement));
+        detail::check(in_chapter([&] { return nashirudder_withdraw(&handle, client, number, &judgement); }));
         return judgement;
     }
     Report tick() {
         Report report{};
-        detail::check(nashirudder_tick(&handle, &report));
+        detail::check(in_chapter([&] { return nashirudder_tick(&handle, &report); }));
         return report;
     }
     /* The same, with what the tick shows. */
@@ -260,7 +327,9 @@ public:
         shown.arrivals.resize(count);
         shown.farewells.resize(count);
         Report report{};
-        detail::check(nashirudder_tick_into(&handle, &report, shown.cells.data(), count, shown.arrivals.data(), count, shown.farewells.data(), count));
+        detail::check(in_chapter([&] {
+            return nashirudder_tick_into(&handle, &report, shown.cells.data(), count, shown.arrivals.data(), count, shown.farewells.data(), count);
+        }));
         shown.arrivals.resize(report.arrived);
         shown.farewells.resize(report.farewells);
         return report;
@@ -268,20 +337,32 @@ public:
     /* The same, into lists that have one place a robot each; the report says how many of the last two are written. */
     Report tick_into(Span<std::uint32_t> cells, Span<Arrival> arrivals, Span<std::uint32_t> farewells) {
         Report report{};
-        detail::check(nashirudder_tick_into(&handle, &report, cells.data(), cells.size(), arrivals.data(), arrivals.size(), farewells.data(), farewells.size()));
+        detail::check(in_chapter([&] {
+            return nashirudder_tick_into(&handle, &report, cells.data(), cells.size(), arrivals.data(), arrivals.size(), farewells.data(), farewells.size());
+        }));
         return report;
     }
     /* Takes orders one after the other until one is refused, with a place for each judgement. */
     [[nodiscard]] Taken take_many(Span<const Order> orders, Span<Judgement> judgements) {
-        std::size_t taken = 0;
-        nashirudder_code code = nashirudder_take_many(&handle, orders.data(), orders.size(), judgements.data(), judgements.size(), &taken);
+        std::size_t taken = 0, before = 0;
+        nashirudder_code code;
+        do {
+            before = taken;
+            code = in_chapter([&] {
+                std::size_t more = 0;
+                nashirudder_code answer = nashirudder_take_many(&handle, orders.data() + taken, orders.size() - taken, judgements.data() + taken,
+                                                                judgements.size() - taken, &more);
+                taken += more;
+                return answer;
+            });
+        } while (code == NASHIRUDDER_CHAPTER_FULL && taken > before);
         if (code == NASHIRUDDER_NOT_OPEN || code == NASHIRUDDER_WRONG_LENGTH) NASHIRUDDER_THROW(Refused(code));
         return {taken, static_cast<Code>(code)};
     }
     /* Whether the robot had no errand, and so took its leave at once. */
     bool shut(std::uint32_t robot) {
         bool left = false;
-        detail::check(nashirudder_shut(&handle, robot, &left));
+        detail::check(in_chapter([&] { return nashirudder_shut(&handle, robot, &left); }));
         return left;
     }
     /* The client's next notice, or nothing. */
@@ -313,6 +394,12 @@ public:
         detail::check(nashirudder_pending_count(&handle, client, &pending));
         return pending;
     }
+    /* How many orders of the client were taken, how many errands it has open, how many notices, and the room for both. */
+    [[nodiscard]] Account account_of(std::uint32_t client) const {
+        Account account{};
+        detail::check(nashirudder_account_of(&handle, client, &account));
+        return account;
+    }
     void widen(std::uint32_t client, std::uint64_t extra) { detail::check(nashirudder_widen(&handle, client, extra)); }
     /* Where the robots stand, by number, into a list that has one place for each. */
     void placement(Span<std::uint32_t> cells) const { detail::check(nashirudder_placement(&handle, detail::address(cells), cells.size())); }
@@ -320,6 +407,21 @@ public:
         std::vector<std::uint32_t> cells(count);
         placement(Span<std::uint32_t>(cells));
         return cells;
+    }
+    /* How each robot stands, by number, into a list that has one place for each. */
+    void standings(Span<Standing> told) const { detail::check(nashirudder_standings(&handle, told.data(), told.size())); }
+    [[nodiscard]] std::vector<Standing> standings() const {
+        std::vector<Standing> told(count);
+        standings(Span<Standing>(told));
+        return told;
+    }
+    /* The robot's errands, in the order of its queue. */
+    [[nodiscard]] std::vector<Errand> queue(std::uint32_t robot) const {
+        return listed([&](Errand *list, std::size_t length, std::size_t *told) { return nashirudder_queue(&handle, robot, list, length, told); });
+    }
+    /* The client's errands that are accepted, and neither done nor withdrawn: by robot, and then by place in its queue. */
+    [[nodiscard]] std::vector<Errand> open_errands(std::uint32_t client) const {
+        return listed([&](Errand *list, std::size_t length, std::size_t *told) { return nashirudder_open_errands(&handle, client, list, length, told); });
     }
     [[nodiscard]] std::uint64_t clock() const {
         std::uint64_t ticks = 0;
@@ -368,18 +470,21 @@ public:
     }
     /* The trace of the present chapter. */
     [[nodiscard]] std::string trace() const {
-        std::string text(1024, '\0');
-        std::size_t length = 0;
-        nashirudder_code code = write_trace(text, length);
-        if (code == NASHIRUDDER_WRONG_LENGTH) {
-            text.resize(length);
-            code = write_trace(text, length);
-        }
-        detail::check(code);
-        text.resize(length);
-        return text;
+        return detail::text_by([&](std::uint8_t *text, std::size_t size, std::size_t *length) { return nashirudder_trace(&handle, text, size, length); });
     }
     void next_chapter() { detail::check(nashirudder_next_chapter(&handle)); }
+    /* The same, and hands out the chapter that ended. */
+    [[nodiscard]] Chapter hand_out() {
+        Chapter ended;
+        detail::check(nashirudder_next_chapter_into(&handle, &ended.handle));
+        return ended;
+    }
+    /* From now on an order, a tick or a shut that finds the chapter full is made in the next one: the full one is handed to
+       `keep` first, or dropped if there is none. Only in the last of all chapters NASHIRUDDER_CHAPTER_FULL is thrown. */
+    void roll(std::function<void(Chapter)> keep = nullptr) {
+        rolls = true;
+        keeper = std::move(keep);
+    }
     void keep(std::size_t bytes) { detail::check(nashirudder_keep(&handle, bytes)); }
     /* How many robots there are. */
     [[nodiscard]] std::size_t robots() const { return count; }
@@ -397,12 +502,35 @@ public:
 
 private:
     Fleet() = default;
-    nashirudder_code write_trace(std::string &text, std::size_t &length) const {
-        return nashirudder_trace(&handle, reinterpret_cast<std::uint8_t *>(text.data()), text.size(), &length);
+    /* A call that may find the chapter full. */
+    template <typename Call> nashirudder_code in_chapter(Call call) {
+        nashirudder_code code = call();
+        if (code != NASHIRUDDER_CHAPTER_FULL || !rolls) return code;
+        Chapter ended;
+        nashirudder_code turned = nashirudder_next_chapter_into(&handle, &ended.handle);
+        if (turned == NASHIRUDDER_BOOK_SPENT) return code;
+        detail::check(turned);
+        if (keeper) keeper(std::move(ended));
+        return call();
+    }
+    /* A list of errands, by a call that says how many places it needs. */
+    template <typename Call> static std::vector<Errand> listed(Call call) {
+        std::vector<Errand> list(16);
+        std::size_t told = 0;
+        nashirudder_code code = call(list.data(), list.size(), &told);
+        if (code == NASHIRUDDER_WRONG_LENGTH) {
+            list.resize(told);
+            code = call(list.data(), list.size(), &told);
+        }
+        detail::check(code);
+        list.resize(told);
+        return list;
     }
 
     nashirudder_fleet handle = NASHIRUDDER_CLOSED;
     std::size_t count = 0;
+    bool rolls = false;
+    std::function<void(Chapter)> keeper;
 };
 
 /* A map that is read once, for any number of questions. Any number of threads may ask at once. */
@@ -470,6 +598,15 @@ private:
 [[nodiscard]] inline std::optional<Fault> check_step(std::string_view map, Span<const std::uint32_t> from, Span<const std::uint32_t> to) {
     Fault fault{};
     nashirudder_code code = nashirudder_check_step(detail::address(map), map.size(), detail::address(from), from.size(), detail::address(to), to.size(), &fault);
+    if (code == NASHIRUDDER_NO_MEMORY) NASHIRUDDER_THROW(std::bad_alloc());
+    if (code == NASHIRUDDER_DONE) return std::nullopt;
+    return fault;
+}
+
+/* Nothing where the text is the trace of a chapter that is legal on the map, else why it is not. */
+[[nodiscard]] inline std::optional<Fault> judge(std::string_view map, std::string_view text) {
+    Fault fault{};
+    nashirudder_code code = nashirudder_judge(detail::address(map), map.size(), detail::address(text), text.size(), &fault);
     if (code == NASHIRUDDER_NO_MEMORY) NASHIRUDDER_THROW(std::bad_alloc());
     if (code == NASHIRUDDER_DONE) return std::nullopt;
     return fault;

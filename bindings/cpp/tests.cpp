@@ -75,6 +75,18 @@ static void closed() {
     CHECK(nashirudder_limits(&fleet, &setup) == NASHIRUDDER_NOT_OPEN);
     CHECK(nashirudder_longest_wait(&fleet, &number) == NASHIRUDDER_NOT_OPEN);
     CHECK(nashirudder_wait_limit(&fleet, &number) == NASHIRUDDER_NOT_OPEN);
+    nashirudder_standing standing{7, 7, 7, 7, NASHIRUDDER_BUSY};
+    nashirudder_errand errand{7, 7, 7, 7, 7};
+    nashirudder_account account{7, 7, 7, 7};
+    nashirudder_chapter chapter = NASHIRUDDER_CLOSED;
+    length = 7;
+    CHECK(nashirudder_account_of(&fleet, 0, &account) == NASHIRUDDER_NOT_OPEN && account.room == 7);
+    CHECK(nashirudder_next_chapter_into(&fleet, &chapter) == NASHIRUDDER_NOT_OPEN && !chapter.is_open);
+    CHECK(nashirudder_chapter_trace(&chapter, text, 1, &length) == NASHIRUDDER_NOT_OPEN && length == 7);
+    nashirudder_chapter_close(&chapter);
+    CHECK(nashirudder_standings(&fleet, &standing, 1) == NASHIRUDDER_NOT_OPEN && standing.cell == 7);
+    CHECK(nashirudder_queue(&fleet, 0, &errand, 1, &length) == NASHIRUDDER_NOT_OPEN && errand.cell == 7 && length == 7);
+    CHECK(nashirudder_open_errands(&fleet, 0, &errand, 1, &length) == NASHIRUDDER_NOT_OPEN && errand.cell == 7 && length == 7);
     CHECK(nashirudder_trace(&fleet, text, 1, &length) == NASHIRUDDER_NOT_OPEN);
     CHECK(nashirudder_next_chapter(&fleet) == NASHIRUDDER_NOT_OPEN);
     CHECK(nashirudder_keep(&fleet, 0) == NASHIRUDDER_NOT_OPEN);
@@ -367,6 +379,85 @@ static void chapters() {
     CHECK(fleet.pending_count(0) == 2);
 }
 
+/* Chapters that are handed out, and those that roll by themselves. */
+static void handed_out() {
+    Setup setup = endless_setup(1);
+    CHECK(setup.size == sizeof setup && setup.clients == 1 && setup.life == UINT64_C(1) << 40 && setup.orders == UINT64_C(1) << 62);
+    CHECK(setup.clock == UINT64_C(1) << 48 && setup.chapters == UINT32_MAX && setup.chapter == 65536 && setup.queue == 16 && setup.mailbox == 64);
+    setup.chapters = 3;
+    setup.chapter = 2;
+    Fleet fleet(RING, {{.cell = 0, .ranks = {}}}, setup);
+    CHECK(fleet.go(0, 0, 8).verdict == NASHIRUDDER_ACCEPTED);
+    fleet.tick();
+    CHECK(is(refusal_of([&] { fleet.tick(); }), NASHIRUDDER_CHAPTER_FULL));
+    const std::string wanted = fleet.trace();
+    Chapter first = fleet.hand_out();
+    // The fleet goes on while another thread writes the chapter. On a map without cell 8 the first entry breaks the third rule.
+    std::string written;
+    std::thread writes([&] { written = first.trace(); });
+    CHECK(fleet.tick().arrived == 1);
+    writes.join();
+    CHECK(written == wanted && !judge(RING, written) && is(judge(ROW, written).value(), NASHIRUDDER_CHAPTER_ILLEGAL, 1, 3));
+    Chapter moved = std::move(first);
+    CHECK(moved.trace() == wanted && is(refusal_of([&] { (void)first.trace(); }), NASHIRUDDER_NOT_OPEN));
+
+    std::vector<std::string> kept;
+    fleet.roll([&](Chapter chapter) { kept.push_back(chapter.trace()); });
+    fleet.tick();
+    const std::string second = fleet.trace();
+    fleet.tick();
+    CHECK(kept == std::vector<std::string>{second} && fleet.clock() == 4);
+    CHECK(fleet.shut(0) && is(refusal_of([&] { fleet.tick(); }), NASHIRUDDER_CHAPTER_FULL) && kept.size() == 1);
+    CHECK(is(refusal_of([&] { (void)fleet.hand_out(); }), NASHIRUDDER_BOOK_SPENT));
+
+    // Each chapter has room for two of these orders, and all are taken.
+    setup.chapters = 10;
+    Fleet rolls(RING, {{.cell = 0, .ranks = {}}}, setup);
+    rolls.roll();
+    std::vector<Order> orders(5, order_go(0, 0, 1));
+    std::vector<Judgement> judgements(5);
+    Taken taken = rolls.take_many(orders, judgements);
+    CHECK(taken.count == 5 && taken.stopped == Code::done && judgements[4].number == 5);
+    CHECK(rolls.close_client(0).verdict == NASHIRUDDER_CLOSING && rolls.tick().tick == 1);
+    Fleet stops(RING, {{.cell = 0, .ranks = {}}}, setup);
+    taken = stops.take_many(orders, judgements);
+    CHECK(taken.count == 2 && taken.stopped == Code::chapter_full);
+
+    // An open handle to a chapter is refused, and keeps its chapter; nothing begins.
+    nashirudder_fleet held = NASHIRUDDER_CLOSED;
+    nashirudder_chapter chapter = NASHIRUDDER_CLOSED;
+    const Robot robots[1] = {{0, {}}};
+    CHECK(nashirudder_open((const std::uint8_t *)ROW, std::strlen(ROW), robots, 1, &setup, &held, nullptr) == NASHIRUDDER_DONE);
+    CHECK(nashirudder_next_chapter_into(&held, &chapter) == NASHIRUDDER_DONE && chapter.is_open);
+    CHECK(nashirudder_next_chapter_into(&held, &chapter) == NASHIRUDDER_ALREADY_OPEN);
+    std::uint8_t text[400];
+    std::size_t length = 0;
+    CHECK(nashirudder_chapter_trace(&chapter, text, 1, &length) == NASHIRUDDER_WRONG_LENGTH && length > 1 && length < 400);
+    CHECK(nashirudder_chapter_trace(&chapter, text, 400, &length) == NASHIRUDDER_DONE && std::memcmp(text, "{\"chapter\":0,", 13) == 0);
+    CHECK(nashirudder_trace(&held, text, 400, &length) == NASHIRUDDER_DONE && std::memcmp(text, "{\"chapter\":1,", 13) == 0);
+    CHECK(nashirudder_next_chapter_into(&held, nullptr) == NASHIRUDDER_NULL_POINTER && nashirudder_chapter_trace(nullptr, text, 400, &length) == NASHIRUDDER_NULL_POINTER);
+    nashirudder_close(&held);
+    // The chapter stays when its fleet is gone.
+    CHECK(nashirudder_chapter_trace(&chapter, text, 400, &length) == NASHIRUDDER_DONE);
+    nashirudder_chapter_close(&chapter);
+    nashirudder_chapter_close(&chapter);
+    nashirudder_chapter_close(nullptr);
+    CHECK(!chapter.is_open);
+}
+
+/* The judge of chapters. */
+static void judges() {
+    const std::string opening = "\"opening\":{\"clients\":[[0,0,0,false]],\"life\":1000000,\"queue\":16,\"robots\":[[0,false,null,[],[0,0],[0,0]]],\"tick\":0},\"version\":2}";
+    auto told = [&](const char *entries) { return judge(ROW, "{\"chapter\":0,\"entries\":[" + std::string(entries) + "]," + opening).value_or(Fault{0, 0, NASHIRUDDER_DONE}); };
+    CHECK(is(told(""), NASHIRUDDER_DONE) && is(told("[\"tick\",[1],[],[]]"), NASHIRUDDER_DONE));
+    // Client 1 is not there; cell 3 is not on the map; a jump over a cell is no step.
+    CHECK(is(told("[\"take\",1,[\"go\",0,1],[\"accepted\",1]]"), NASHIRUDDER_CHAPTER_ILLEGAL, 1, 2));
+    CHECK(is(told("[\"tick\",[1],[],[]],[\"take\",0,[\"go\",0,3],[\"accepted\",1]]"), NASHIRUDDER_CHAPTER_ILLEGAL, 2, 3));
+    CHECK(is(told("[\"tick\",[2],[],[]]"), NASHIRUDDER_CHAPTER_ILLEGAL, 1, 4));
+    CHECK(is(judge(APART, "{}").value(), NASHIRUDDER_TRACE_SHAPE) && is(judge("", "{}").value(), NASHIRUDDER_MAP_HEADER, 1));
+    CHECK(is(judge(ROW, "{\"version\":3}").value(), NASHIRUDDER_TRACE_VERSION) && is(judge(ROW, "{").value(), NASHIRUDDER_TRACE_NOT_JSON));
+}
+
 /* A fleet goes on from a kept chapter as the one does that never ended. */
 static void reopenings() {
     const std::vector<Robot> robots = {{0, {0, 1, 0, 0}}, {3, {0, 0, 0, 0}}};
@@ -439,10 +530,75 @@ static void limits() {
     CHECK(fleet.longest_wait() == 0);
     fleet.tick();
     CHECK(fleet.longest_wait() == 1 && nashirudder_version() == NASHIRUDDER_VERSION);
+    // One order, whose verdict and whose errand are in the mailbox; it has room for 64.
+    Account account = fleet.account_of(0);
+    CHECK(account.taken == 1 && account.owed == 1 && account.pending == 1 && account.room == 64);
+    fleet.widen(1, 6);
+    CHECK(fleet.account_of(1).room == 70 && fleet.account_of(1).taken == 0);
+    CHECK(is(refusal_of([&] { (void)fleet.account_of(3); }), NASHIRUDDER_NO_CLIENT));
     CHECK(!Fleet(ROW, {{.cell = 0, .ranks = {}}}).wait_limit());
 }
 
-/* Several threads look at one fleet at once, so often, and each sees the same. The thread sanitizer is to find nothing. */
+static bool are(const std::vector<Errand> &told, const std::vector<Errand> &wanted) {
+    bool same = told.size() == wanted.size();
+    for (std::size_t at = 0; same && at < told.size(); at++) {
+        const Errand &a = told[at], &b = wanted[at];
+        same = a.number == b.number && a.place == b.place && a.client == b.client && a.robot == b.robot && a.cell == b.cell;
+    }
+    return same;
+}
+
+static bool stands(const Standing &told, State state, std::uint32_t cell, std::uint32_t goal, std::uint64_t errands, std::uint64_t wait) {
+    return state_of(told) == state && told.cell == cell && told.goal == goal && told.errands == errands && told.wait == wait;
+}
+
+/* Queues, open errands, and how the robots stand. */
+static void errands() {
+    Fleet made(RING, {{.cell = 0, .ranks = {}}, {.cell = 3, .ranks = {}}}, default_setup(2));
+    const Fleet &fleet = made;
+    const std::uint32_t nowhere = NASHIRUDDER_NOWHERE;
+    CHECK(fleet.queue(0).empty() && fleet.open_errands(1).empty());
+    CHECK(stands(fleet.standings()[0], State::free, 0, nowhere, 0, 0) && stands(fleet.standings()[1], State::free, 3, nowhere, 0, 0));
+    CHECK(made.go(0, 0, 11).number == 1 && made.go(1, 0, 8).number == 1 && made.go(0, 1, 3).number == 2 && made.go(0, 0, 2).number == 3);
+    CHECK(are(fleet.queue(0), {{1, 1, 0, 0, 11}, {1, 2, 1, 0, 8}, {3, 3, 0, 0, 2}}) && are(fleet.queue(1), {{2, 1, 0, 1, 3}}));
+    CHECK(are(fleet.open_errands(0), {{1, 1, 0, 0, 11}, {3, 3, 0, 0, 2}, {2, 1, 0, 1, 3}}) && are(fleet.open_errands(1), {{1, 2, 1, 0, 8}}));
+    CHECK(stands(fleet.standings()[0], State::busy, 0, 11, 3, 0) && stands(fleet.standings()[1], State::busy, 3, 3, 1, 0));
+    // Robot 0 goes east, the first of its two shortest ways. Robot 1 is where it is sent to.
+    made.tick();
+    CHECK(stands(fleet.standings()[0], State::busy, 1, 11, 3, 1) && stands(fleet.standings()[1], State::free, 3, nowhere, 0, 0));
+    CHECK(made.withdraw(1, 1).verdict == NASHIRUDDER_WITHDRAWN && !made.shut(0) && made.shut(1));
+    auto shut = [&] { return stands(fleet.standings()[0], State::shut, 1, 11, 2, 1) && stands(fleet.standings()[1], State::shut, 3, nowhere, 0, 0); };
+    CHECK(shut() && are(fleet.queue(0), {{1, 1, 0, 0, 11}, {3, 2, 0, 0, 2}}) && std::string(name_of(State::shut)) == "shut");
+    made.next_chapter();
+    CHECK(shut());
+
+    // A list that is too short says how long it has to be, and stays as it was.
+    nashirudder_fleet held = NASHIRUDDER_CLOSED;
+    const Robot robots[1] = {{0, {}}};
+    const Setup setup = default_setup();
+    CHECK(nashirudder_open((const std::uint8_t *)RING, std::strlen(RING), robots, 1, &setup, &held, nullptr) == NASHIRUDDER_DONE);
+    for (std::uint32_t cell : {1, 2, 3}) CHECK(nashirudder_go(&held, 0, 0, cell, nullptr) == NASHIRUDDER_DONE);
+    Errand list[4] = {{7, 7, 7, 7, 7}, {7, 7, 7, 7, 7}, {7, 7, 7, 7, 7}, {7, 7, 7, 7, 7}};
+    std::size_t count = 9;
+    Standing standing[2] = {{7, 7, 7, 7, NASHIRUDDER_BUSY}, {7, 7, 7, 7, NASHIRUDDER_BUSY}};
+    CHECK(nashirudder_queue(&held, 1, list, 4, &count) == NASHIRUDDER_NO_ROBOT && count == 9);
+    CHECK(nashirudder_open_errands(&held, 1, list, 4, &count) == NASHIRUDDER_NO_CLIENT && count == 9);
+    CHECK(nashirudder_queue(&held, 0, list, 2, &count) == NASHIRUDDER_WRONG_LENGTH && count == 3 && list[0].cell == 7);
+    count = 9;
+    CHECK(nashirudder_open_errands(&held, 0, nullptr, 0, &count) == NASHIRUDDER_WRONG_LENGTH && count == 3);
+    CHECK(nashirudder_queue(&held, 0, nullptr, 0, &count) == NASHIRUDDER_WRONG_LENGTH && count == 3);
+    CHECK(nashirudder_queue(&held, 0, nullptr, 4, &count) == NASHIRUDDER_NULL_POINTER && nashirudder_queue(&held, 0, list, 4, nullptr) == NASHIRUDDER_NULL_POINTER);
+    CHECK(nashirudder_open_errands(nullptr, 0, list, 4, &count) == NASHIRUDDER_NULL_POINTER && nashirudder_standings(nullptr, standing, 1) == NASHIRUDDER_NULL_POINTER);
+    count = 9;
+    CHECK(nashirudder_queue(&held, 0, list, 4, &count) == NASHIRUDDER_DONE && count == 3 && list[2].cell == 3 && list[2].place == 3 && list[3].cell == 7);
+    list[2].cell = 7;
+    CHECK(nashirudder_open_errands(&held, 0, list, 3, &count) == NASHIRUDDER_DONE && count == 3 && list[2].cell == 3 && list[3].cell == 7);
+    for (std::size_t length : {0, 2}) CHECK(nashirudder_standings(&held, standing, length) == NASHIRUDDER_WRONG_LENGTH && standing[0].cell == 7);
+    CHECK(nashirudder_standings(&held, standing, 1) == NASHIRUDDER_DONE && stands(standing[0], State::busy, 0, 1, 3, 0) && standing[1].cell == 7);
+    nashirudder_close(&held);
+}
+
+/* Several threads look at one fleet at once, many times, and each sees the same. The thread sanitizer is to find nothing. */
 static void lookers(int looks) {
     Fleet made(RING, {{.cell = 0, .ranks = {}}, {.cell = 3, .ranks = {}}});
     CHECK(made.go(0, 0, 11).verdict == NASHIRUDDER_ACCEPTED);
@@ -457,6 +613,7 @@ static void lookers(int looks) {
                 bool good = fleet.clock() == 1 && fleet.placement() == std::vector<std::uint32_t>{1, 3} && fleet.trace() == trace;
                 good = good && fleet.wait_of(0) == 1 && fleet.eldest() == 0 && fleet.longest_wait() == 1 && !fleet.is_idle() && fleet.is_bridgeless();
                 good = good && fleet.idle_within().has_value() && fleet.wait_limit() == 20 && fleet.peek(0).value().seq == 1 && fleet.pending_count(0) == 1;
+                good = good && fleet.queue(0).at(0).cell == 11 && fleet.open_errands(0).size() == 1 && stands(fleet.standings()[0], State::busy, 1, 11, 1, 1);
                 if (!good || fleet.clients() != 1 || fleet.limits().queue != 16) same = false;
             }
         });
@@ -568,8 +725,11 @@ int main(int count, char **) {
     ranks();
     bounds();
     chapters();
+    handed_out();
+    judges();
     reopenings();
     limits();
+    errands();
     lookers(500);
     moves();
     maps();

@@ -2,8 +2,8 @@
 
 import ctypes
 import functools
-from ctypes import POINTER, c_bool, c_char, c_char_p, c_size_t, c_uint8, c_uint32, c_uint64, c_void_p
-from typing import Any, Optional
+from ctypes import POINTER, byref, c_bool, c_char, c_char_p, c_size_t, c_uint8, c_uint32, c_uint64, c_void_p
+from typing import Any, List, Optional, Tuple
 
 from . import finding
 from .errors import NoMemory, refusal
@@ -12,6 +12,9 @@ from .names import Code
 
 FAR = 2**32 - 1
 """What stands for a cell from which no walk leads to the goal: greater than every distance."""
+
+# The goal of a robot that has no errand
+NOWHERE = 2**32 - 1
 
 
 class CFleet(ctypes.Structure):
@@ -59,8 +62,28 @@ class CArrival(ctypes.Structure):
     ]
 
 
+class CErrand(ctypes.Structure):
+    _fields_ = [
+        ("number", c_uint64), ("place", c_uint64), ("client", c_uint32), ("robot", c_uint32), ("cell", c_uint32),
+    ]
+
+
+class CStanding(ctypes.Structure):
+    _fields_ = [
+        ("wait", c_uint64), ("errands", c_uint64), ("cell", c_uint32), ("goal", c_uint32), ("state", c_uint32),
+    ]
+
+
 class CEdge(ctypes.Structure):
     _fields_ = [("lower", c_uint32), ("upper", c_uint32)]
+
+
+class CAccount(ctypes.Structure):
+    _fields_ = [("taken", c_uint64), ("owed", c_uint64), ("pending", c_uint64), ("room", c_uint64)]
+
+
+class CChapter(ctypes.Structure):
+    _fields_ = [("at", c_void_p), ("is_open", c_bool)]
 
 
 class CMap(ctypes.Structure):
@@ -80,6 +103,7 @@ FUNCTIONS = {
     "version": (),
     "message": (POINTER(CFault), POINTER(c_char), c_size_t),
     "setup_default": (c_uint32, POINTER(CSetup)),
+    "setup_endless": (c_uint32, POINTER(CSetup)),
     "open": (*_TEXT, POINTER(CRobot), c_size_t, POINTER(CSetup), _FLEET, POINTER(CFault)),
     "reopen": (*_TEXT, *_TEXT, POINTER(CRobot), c_size_t, POINTER(CSetup), _FLEET, POINTER(CFault)),
     "close": (_FLEET,),
@@ -96,11 +120,15 @@ FUNCTIONS = {
     "give_many": (_FLEET, c_uint32, POINTER(CNote), c_size_t, POINTER(c_size_t)),
     "peek": (_FLEET, c_uint32, POINTER(CNote)),
     "pending_count": (_FLEET, c_uint32, POINTER(c_uint64)),
+    "account_of": (_FLEET, c_uint32, POINTER(CAccount)),
     "widen": (_FLEET, c_uint32, c_uint64),
     "robots": (_FLEET, POINTER(c_size_t)),
     "clients": (_FLEET, POINTER(c_size_t)),
     "limits": (_FLEET, POINTER(CSetup)),
     "placement": (_FLEET, POINTER(c_uint32), c_size_t),
+    "standings": (_FLEET, POINTER(CStanding), c_size_t),
+    "queue": (_FLEET, c_uint32, POINTER(CErrand), c_size_t, POINTER(c_size_t)),
+    "open_errands": (_FLEET, c_uint32, POINTER(CErrand), c_size_t, POINTER(c_size_t)),
     "clock": (_FLEET, POINTER(c_uint64)),
     "wait_of": (_FLEET, c_uint32, POINTER(c_uint64)),
     "eldest": (_FLEET, POINTER(c_uint32)),
@@ -111,7 +139,11 @@ FUNCTIONS = {
     "is_bridgeless": (_FLEET, POINTER(c_bool)),
     "trace": (_FLEET, POINTER(c_uint8), c_size_t, POINTER(c_size_t)),
     "next_chapter": (_FLEET,),
+    "next_chapter_into": (_FLEET, POINTER(CChapter)),
+    "chapter_trace": (POINTER(CChapter), POINTER(c_uint8), c_size_t, POINTER(c_size_t)),
+    "chapter_close": (POINTER(CChapter),),
     "keep": (_FLEET, c_size_t),
+    "judge": (*_TEXT, *_TEXT, POINTER(CFault)),
     "check_step": (*_TEXT, POINTER(c_uint32), c_size_t, POINTER(c_uint32), c_size_t, POINTER(CFault)),
     "first_bridge": (*_TEXT, POINTER(CEdge), POINTER(CFault)),
     "distances": (*_TEXT, c_uint32, POINTER(c_uint32), c_size_t, POINTER(CFault)),
@@ -123,10 +155,17 @@ FUNCTIONS = {
     "map_first_bridge": (POINTER(CMap), POINTER(CEdge)),
     "map_distances": (POINTER(CMap), c_uint32, POINTER(c_uint32), c_size_t),
 }
-RESULTS = {"setup_default": None, "close": None, "map_close": None, "version": c_uint32, "message": c_size_t}
+RESULTS = {
+    "setup_default": None, "setup_endless": None, "close": None, "map_close": None, "chapter_close": None,
+    "version": c_uint32, "message": c_size_t,
+}
 
 # The version of nashirudder.h that these are of, as NASHIRUDDER_VERSION / 100: major and minor numbers
 VERSION = 1
+
+
+# The libraries that were loaded
+_libraries: List[Any] = []
 
 
 @functools.lru_cache(maxsize=None)
@@ -141,6 +180,7 @@ def _loaded(path: str) -> Any:
         raise finding.no_library(path, error) from error
     if library.nashirudder_version() // 100 != VERSION:
         raise finding.no_library(path, f"its version is {library.nashirudder_version()}, and does not fit this package")
+    _libraries.append(library)
     return library
 
 
@@ -149,11 +189,23 @@ def load(built: Optional[Place] = None) -> Any:
     return _loaded(finding.library(built))
 
 
+def message_of(code: int, numbers: Tuple[int, ...]) -> str:
+    """The library's sentence for a code, with the numbers that it names."""
+    text = ctypes.create_string_buffer(256)
+    first, second = (*numbers, 0, 0)[:2]
+    _libraries[-1].nashirudder_message(byref(CFault(first, second, code)), text, len(text))
+    return text.value.decode()
+
+
 def check(code: int, fault: Optional[CFault] = None) -> None:
-    """Raises what a call's code says, if that is not DONE: NoMemory, or Refused with the numbers that `fault` names."""
+    """Raises what a call's code says, if that is not DONE: NoMemory, or Refused with the numbers that `fault` names and
+    the library's sentence.
+    """
     if code == Code.DONE:
         return
     if code == Code.NO_MEMORY:
         raise NoMemory("there is not enough memory; the fleet is as it was")
     numbers = (fault.first, fault.second) if fault is not None and fault.code == code else ()
-    raise refusal(next((known.word for known in Code if known == code), "unknown"), numbers)
+    refused = refusal(next((known.word for known in Code if known == code), "unknown"), numbers)
+    refused.sentence = message_of(code, numbers)
+    raise refused

@@ -16,7 +16,7 @@ A keyword that no fleet has raises TypeError, as everywhere in Python.
 
 from typing import Optional, Tuple
 
-from .names import CODE_OF, OF_PROTOCOL, SENTENCES, Verdict
+from .names import CODE_OF, OF_PROTOCOL, Verdict, sentence_of
 
 
 class FleetError(Exception):
@@ -33,6 +33,8 @@ class Refused(FleetError):
     `name` is the word for the reason, such as "chapter-full" or "start-blocked". `code` is its number in nashirudder.h,
     0 for a reason that is not there ("lane-full", "numbers-spent"). `numbers` are two numbers that the refusal of an
     opening or a map names, such as a line, a row or a robot, and 0 where it names fewer; it is empty otherwise.
+    `sentence` says the reason, with the numbers that it names, in the words of nashirudder_message; it is empty for a
+    reason that is not known.
     """
 
     def __init__(self, name: str, code: int = 0, numbers: Tuple[int, ...] = ()) -> None:
@@ -40,11 +42,10 @@ class Refused(FleetError):
         self.name = name
         self.code = code
         self.numbers = numbers
+        self.sentence = sentence_of(name, numbers)
 
     def __str__(self) -> str:
-        named = f" ({', '.join(map(str, self.numbers))})" if self.numbers else ""
-        sentence = SENTENCES.get(self.name)
-        return f"{self.name}{named}: {sentence}" if sentence else f"{self.name}{named}"
+        return f"{self.name}: {self.sentence}" if self.sentence else self.name
 
 
 class OrderRefused(Refused):

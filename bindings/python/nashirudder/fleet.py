@@ -9,7 +9,7 @@ from .errors import FileFailed, NoMemory, Refused
 from .names import Verdict
 from .orders import Errand, Ledger, Order, need_own
 from .ranges import whole_number
-from .records import Arrival, Chapter, Farewell, Look
+from .records import Arrival, Chapter, Farewell, Look, OpenErrand, Standing
 from .turns import Turns
 
 if TYPE_CHECKING:
@@ -65,6 +65,18 @@ class AnyFleet(Closing):
     @abc.abstractmethod
     def _look_now(self) -> Look:
         """How the fleet stands."""
+
+    @abc.abstractmethod
+    def _standings_now(self) -> List[Standing]:
+        """How the robots stand."""
+
+    @abc.abstractmethod
+    def _queue_now(self, robot: int) -> List[OpenErrand]:
+        """A robot's errands. Raises Refused with "no-robot"."""
+
+    @abc.abstractmethod
+    def _errands_now(self, client: int) -> List[OpenErrand]:
+        """A client's open errands. Raises Refused with "no-client"."""
 
     @abc.abstractmethod
     def _turn_page(self) -> Chapter:
@@ -210,6 +222,24 @@ class AnyFleet(Closing):
     def look(self) -> Look:
         """How the fleet stands. It changes nothing."""
         return self._in_turn(self._look_now)
+
+    def standings(self) -> List[Standing]:
+        """How each robot stands, by the robot's number: its cell, its goal, how many errands it has, how long it has
+        waited, and whether it is free, busy or shut. It changes nothing.
+        """
+        return self._in_turn(self._standings_now)
+
+    def queue(self, robot: int) -> List[OpenErrand]:
+        """The robot's errands, in the order of its queue. It changes nothing. Raises Refused with "no-robot"."""
+        robot = whole_number("robot", robot)
+        return self._in_turn(lambda: self._queue_now(robot))
+
+    def open_errands(self, client: int = 0) -> List[OpenErrand]:
+        """The client's errands that are accepted, and neither done nor withdrawn: by robot, and then by place in its
+        queue. It changes nothing. Raises Refused with "no-client".
+        """
+        client = whole_number("client", client)
+        return self._in_turn(lambda: self._errands_now(client))
 
     def chapter(self) -> Chapter:
         """Ends the present chapter, which is written if `traces` was given, and begins the next. Returns the one that

@@ -9,6 +9,7 @@ from typing import Any, List, Optional, Sequence, Tuple, Type, TypeVar, Union
 from .arrays import as_cells
 from .asked import AnyOrder
 from .calls import CArrival, CFault, CFleet, CJudgement, CNote, COrder, CReport, CRobot, CSetup, check, load
+from .ended import EndedChapter
 from .errors import OutOfRange, Refused
 from .finding import Place
 from .names import Code
@@ -243,6 +244,12 @@ class Handle(Views):
         with "book-spent".
         """
         check(self._call("next_chapter"))
+
+    def hand_out(self) -> EndedChapter:
+        """Begins the next chapter, and returns the one that ended. Raises Refused with "book-spent"."""
+        ended = EndedChapter(self._library)
+        check(self._call("next_chapter_into", byref(ended._chapter)))
+        return ended
 
     def keep(self, size: int) -> None:
         """Keeps distances to goals that no robot has any more, up to `size` bytes (256 MiB if nothing is said; up to

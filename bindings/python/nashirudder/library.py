@@ -3,7 +3,8 @@
     from nashirudder.library import Fleet
 
 `Fleet` has the names, arguments and exceptions of `nashirudder.Fleet`, so that a program runs with either. `Handle` has
-the calls of nashirudder.h. `Map`, `check_step`, `first_bridge` and `distances` are questions about a map.
+the calls of nashirudder.h. `Map`, `check_step`, `first_bridge` and `distances` are questions about a map, and `judge`
+is one about a map and a chapter.
 `nashirudder.finding` says where the library is looked for.
 """
 
@@ -13,22 +14,24 @@ from typing import Callable, Deque, Dict, List, Optional, Sequence, TypeVar
 from . import opening
 from .asked import CloseClient, Go, Withdraw
 from .calls import FAR
+from .ended import EndedChapter
 from .errors import Ended, FileFailed, NoMemory, OutOfRange, OrderRefused, Refused, refusal
 from .finding import Place
 from .fleet import AnyFleet
 from .folder import ChapterFolder
 from .handle import Handle
 from .map_handle import Map
-from .maps import check_step, distances, first_bridge
+from .maps import check_step, distances, first_bridge, judge
 from .names import VERDICT_OF, Code, Verdict
 from .orders import Errand, Order
-from .records import Arrival, Chapter, Farewell, Look
-from .told import Judgement, Notice, Report, Taken, TickRecord
+from .records import Arrival, Chapter, Farewell, Look, OpenErrand, Standing
+from .told import Account, Judgement, Notice, Report, Taken, TickRecord
 
 __all__ = [
-    "FAR", "Arrival", "Chapter", "CloseClient", "Code", "Errand", "Farewell", "Fleet", "Go", "Handle", "Judgement",
-    "Look", "Map", "Notice", "OrderRefused", "Refused", "Report", "Taken", "TickRecord", "Verdict", "Withdraw",
-    "check_step", "distances", "first_bridge",
+    "FAR", "Account", "Arrival", "Chapter", "CloseClient", "Code", "EndedChapter", "Errand", "Farewell", "Fleet", "Go",
+    "Handle", "Judgement",
+    "Look", "Map", "Notice", "OpenErrand", "OrderRefused", "Refused", "Report", "Standing", "Taken", "TickRecord",
+    "Verdict", "Withdraw", "check_step", "distances", "first_bridge", "judge",
 ]
 
 T = TypeVar("T")
@@ -179,6 +182,15 @@ class Fleet(AnyFleet):
     def _look_now(self) -> Look:
         tick, eldest, within = self._handle.clock(), self._handle.eldest(), self._handle.idle_within()
         return Look(tick, self._number, self._entries, eldest, within, list(self._cells))
+
+    def _standings_now(self) -> List[Standing]:
+        return self._handle.standings()
+
+    def _queue_now(self, robot: int) -> List[OpenErrand]:
+        return self._handle.queue(robot)
+
+    def _errands_now(self, client: int) -> List[OpenErrand]:
+        return self._handle.open_errands(client)
 
     def _turn_page(self) -> Chapter:
         if self._folder is not None:

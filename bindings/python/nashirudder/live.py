@@ -12,9 +12,9 @@ from .finding import Place
 from .fleet import MOST_TICKS
 from .names import Verdict, verdict_in
 from .orders import AnyErrand, Ledger, Order, need_own
-from .process import Asked, Program, chapter_in, look_in, silently
+from .process import Asked, Program, chapter_in, errands_in, look_in, silently
 from .ranges import whole_number
-from .records import Arrival, Chapter, Farewell, Look
+from .records import Arrival, Chapter, Farewell, Look, OpenErrand
 
 if TYPE_CHECKING:
     from .arrays import Cells
@@ -102,6 +102,8 @@ class LiveFleet(Closing):
         self._pending: Dict[int, Asked] = {}
         self._orders: Dict[Tuple[int, int], Order] = {}
         self._ledger = Ledger()
+        self._is_on_demand = period_ms is None
+        self._arrivals: List[Arrival] = []
         self._caller = None if on_tick is None else Caller(on_tick, lambda: self._program.is_closed)
         self._head = tempfile.NamedTemporaryFile("w", suffix=".script")
         self._head.write("".join(line + "\n" for line in told.head()))
@@ -134,10 +136,14 @@ class LiveFleet(Closing):
             if self._caller is not None:
                 self._caller.tell(int(words[1][:-1]), [int(word) for word in words[2:]])
         elif words[0].startswith("@"):
-            asked = self._pending.pop(int(words[0][1:]))
+            asked = self._pending[int(words[0][1:])]
             if asked.order is not None and words[1] == "posted":
                 self._orders[asked.order.client, int(words[3])] = asked.order
             asked.answers[0].append(words[1:])
+            if words[1] == "open" and words[3] != "end":
+                # Further lines of this answer follow.
+                return
+            del self._pending[int(words[0][1:])]
             asked.is_done = True
         elif words[0] == "collected" and words[3] == "verdict":
             order = self._orders.pop((int(words[1]), int(words[4])), None)
@@ -146,7 +152,10 @@ class LiveFleet(Closing):
         elif words[0] == "collected":
             client, number = int(words[1]), int(words[4])
             robot, cell, tick, stamp = (int(word) for word in words[6::2])
-            self._ledger.arrived(Arrival(robot, client, number, cell, tick, stamp))
+            arrival = Arrival(robot, client, number, cell, tick, stamp)
+            self._ledger.arrived(arrival)
+            if self._is_on_demand:
+                self._arrivals.append(arrival)
 
     # ---- orders
 
@@ -210,11 +219,26 @@ class LiveFleet(Closing):
         refused one were made.
         """
         count = whole_number("the number of ticks", count, least=1, most=MOST_TICKS)
+        if self._is_on_demand:
+            self._arrivals = []
         return self._program.reply(f"tick {count}", _cells_in)
+
+    @property
+    def arrivals(self) -> List[Arrival]:
+        """The arrivals of the last call of `tick`, in the order in which they were told. A fleet with a period keeps
+        no list of them: ask its errands.
+        """
+        return list(self._arrivals)
 
     def look(self) -> Look:
         """How the fleet stands. It changes nothing."""
         return self._program.reply("look", look_in)
+
+    def open_errands(self, client: int = 0) -> List[OpenErrand]:
+        """The client's errands that are accepted, and neither done nor withdrawn, once what was posted is judged as far
+        as there is room: by robot, and then by place in its queue. Raises Refused with "no-client".
+        """
+        return errands_in(self._program.ask(f"open {whole_number('client', client)}")[0])
 
     @property
     def cells(self) -> List[int]:

@@ -30,6 +30,16 @@ def check_step(map: Text, before: Sequence[int], after: Sequence[int], *, built:
     check(code, fault)
 
 
+def judge(map: Text, trace: Text, *, built: Optional[Place] = None) -> None:
+    """Returns if the text is the trace of a chapter that is legal on the map.
+
+    Otherwise Refused is raised: with a fault of the map, "trace-not-json", "trace-version", "trace-shape", or
+    "chapter-illegal" with the first entry that breaks a rule, from 1, and that rule, in `numbers` (docs/TRACE.md).
+    """
+    library, texts, fault = load(built), (text_of(map), text_of(trace)), CFault()
+    check(library.nashirudder_judge(texts[0], len(texts[0]), texts[1], len(texts[1]), byref(fault)), fault)
+
+
 def first_bridge(map: Text, *, built: Optional[Place] = None) -> Optional[Tuple[int, int]]:
     """The two cells of a bridge, the lower one first, or None if the map has none.
 

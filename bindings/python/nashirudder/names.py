@@ -87,6 +87,9 @@ class Verdict(enum.IntEnum):
 
 
 CODE_OF: Dict[str, Code] = {code.word: code for code in Code}
+STATES = ("", "free", "busy", "shut")
+"""The words for the states of robots, by their numbers in nashirudder.h."""
+
 VERDICT_OF: Dict[str, Verdict] = {verdict.word: verdict for verdict in Verdict}
 
 # Words of the lines that the program writes (docs/PROTOCOL.md), where they are other ones
@@ -95,6 +98,7 @@ OF_PROTOCOL = {
     "already": "already-shut", "closed": "client-closed",
 }
 
+# What each word of a refusal means. Those of codes are what nashirudder_message says, `#` and `%` are its two numbers.
 SENTENCES = {
     "not-open": "the handle is closed",
     "no-client": "there is no client of this number",
@@ -104,33 +108,34 @@ SENTENCES = {
     "clock-spent": "all the ticks were made that may be made",
     "already-shut": "the robot is shut already",
     "book-spent": "this is the last chapter that there may be",
-    "too-wide": "the mailbox may not hold so much",
-    "wrong-length": "the list does not have the length that is asked for",
+    "too-wide": "the mailbox cannot be made that large",
+    "wrong-length": "a list has not the length that the call asks for",
     "null-pointer": "a pointer is null",
     "bad-order": "there is no kind of orders of this number",
-    "map-header": "this line of the map's head is missing or not in its form",
-    "map-size": "the map's height or width is not from 1 to 1,024",
-    "map-row": "this row of the map is missing or not as long as the width",
-    "map-cell": "the byte in this row and column is no letter of a map",
-    "map-trailing": "this line after the map's rows is not blank",
+    "map-header": "the map: line # is missing or not in its form: the head is `type WORD`, `height N` and "
+        "`width N`, and `map`",
+    "map-size": "the map: the height or the width is not from 1 to 1,024",
+    "map-row": "the map: row # is missing or not as long as the width",
+    "map-cell": "the map: row #, column % has a byte that is no letter of a map",
+    "map-trailing": "the map: line # comes after the last row and is not blank",
     "bad-setup": "a limit or the number of clients is out of its range",
     "robot-count": "there are not 1 to 512 robots",
-    "start-blocked": "a robot does not start on floor",
-    "start-shared": "two robots start on one cell",
-    "wrong-size": "the setup does not have the size that the library reads: this package and the library do not fit",
+    "start-blocked": "robot # starts on a cell that is no floor",
+    "start-shared": "robots # and % both start on one cell",
+    "wrong-size": "the setup has not the size that this library reads: it was made with another header",
     "too-many": "more robots are named than the map has cells",
-    "from-blocked": "before the step a robot is not on floor",
-    "from-shared": "before the step two robots are on one cell",
-    "to-length": "the new cells are not as many as the old ones",
-    "off-floor": "a robot leaves the floor",
-    "not-adjacent": "a robot neither stays nor crosses an edge",
-    "vertex-conflict": "two robots come to one cell",
-    "swapping-conflict": "two robots exchange their cells",
-    "goal-blocked": "the goal is not floor",
-    "trace-not-json": "the trace is not UTF-8, or not JSON, or nested deeper than 127",
-    "trace-version": "the number under `version` is that of no known version of a trace",
-    "trace-shape": "the text does not have the form of a trace",
-    "chapter-illegal": "this entry of the chapter breaks this rule",
+    "from-blocked": "before the step robot # is on no floor",
+    "from-shared": "before the step robots # and % are on one cell",
+    "to-length": "the step has not a cell for each robot",
+    "off-floor": "robot # comes to no floor",
+    "not-adjacent": "robot # comes to a cell that is not next to its own",
+    "vertex-conflict": "robots # and % come to one cell",
+    "swapping-conflict": "robots # and % exchange their cells",
+    "goal-blocked": "the goal is no floor",
+    "trace-not-json": "the trace: it is not UTF-8, or not JSON, or nested deeper than 127",
+    "trace-version": "the trace: the number under `version` is that of no known version",
+    "trace-shape": "the trace: it has not the form of a trace",
+    "chapter-illegal": "the trace: entry # breaks rule %",
     "laws-differ": "the robots are not as many as the chapter's, or have other laws",
     "limits-differ": "the limits `queue` and `life` are not those of the chapter",
     "chapters-spent": "within the limits no chapter follows",
@@ -148,7 +153,12 @@ SENTENCES = {
     "lane-full": "the client's lane has all the orders that may wait in it",
     "numbers-spent": "the client has sent all the orders that it may send",
 }
-"""What each word of a refusal means."""
+
+
+def sentence_of(word: str, numbers: Tuple[int, ...] = ()) -> str:
+    """The sentence for a word, with the numbers that it names, or "" for one that has none."""
+    first, second = (*map(str, numbers), "?", "?")[:2]
+    return SENTENCES.get(word, "").replace("#", first).replace("%", second)
 
 
 def verdict_in(words: List[str]) -> Tuple[Verdict, Optional[int]]:

@@ -1,16 +1,17 @@
 """A fleet that the program `fleet talk` keeps, spoken to over two pipes."""
 
 from collections import deque
-from typing import Deque, Dict, List, Optional, Sequence
+from typing import Deque, Dict, List, Optional, Sequence, Set
 
 from . import finding, opening
 from .errors import Refused, refusal
 from .finding import Place
 from .fleet import AnyFleet
-from .names import verdict_in
+from .names import Verdict, verdict_in
 from .orders import Order
-from .process import Asked, Program, chapter_in, look_in, silently
-from .records import Arrival, Chapter, Farewell, Look
+from .process import Asked, Program, chapter_in, errands_in, look_in, silently
+from .records import Arrival, Chapter, Farewell, Look, OpenErrand, Standing
+from .waits import Waits
 
 
 class Fleet(AnyFleet):
@@ -58,6 +59,9 @@ class Fleet(AnyFleet):
         self._pending: Deque[Asked] = deque()
         self._lanes: Dict[int, Deque[Order]] = {}
         self._now = 0
+        self._clients = told.clients
+        self._shut_robots: Set[int] = set()
+        self._waits = Waits()
         self._program = Program(words + [told.map], None, self._noted, self._hear_line)
         try:
             self._in_turn(lambda: self._program.ask(*told.head()))
@@ -90,7 +94,12 @@ class Fleet(AnyFleet):
         if words[0] == "posted" and order is not None:
             self._lanes.setdefault(order.client, deque()).append(order)
         elif words[0] == "took":
-            self._ledger.judged(self._lanes[int(words[1])].popleft(), *verdict_in(words[3:]))
+            order, (verdict, number) = self._lanes[int(words[1])].popleft(), verdict_in(words[3:])
+            self._ledger.judged(order, verdict, number)
+            if number is not None:
+                self._waits.accepted(order.client, number, self._now)
+            elif verdict is Verdict.WITHDRAWN:
+                self._waits.withdrawn(order.client, order._numbers[0])
         elif words[0] == "tick":
             self._now = int(words[1][:-1])
             self._cells = [int(word) for word in words[2:]]
@@ -99,6 +108,7 @@ class Fleet(AnyFleet):
             arrival = Arrival(robot, client, number, cell, self._now, stamp)
             self._arrivals.append(arrival)
             self._ledger.arrived(arrival)
+            self._waits.arrived(arrival)
         elif words[0] == "farewell":
             self._farewells.append(Farewell(int(words[2]), int(words[4])))
 
@@ -140,9 +150,40 @@ class Fleet(AnyFleet):
 
     def _make_shut(self, robot: int) -> None:
         self._raise_refusal(self._program.ask(f"shut {robot}")[0], "shut-refused")
+        self._shut_robots.add(robot)
 
     def _look_now(self) -> Look:
         return self._program.reply("look", look_in)
+
+    def _errands_now(self, client: int) -> List[OpenErrand]:
+        return errands_in(self._program.ask(f"open {client}")[0])
+
+    def _queues(self) -> List[List[OpenErrand]]:
+        """The robots' errands, each list in the order of the robot's queue."""
+        answers = self._program.ask(*(f"open {client}" for client in range(self._clients)))
+        queues: List[List[OpenErrand]] = [[] for _ in self._cells]
+        for answer in answers:
+            for errand in errands_in(answer):
+                queues[errand.robot].append(errand)
+        for one in queues:
+            one.sort(key=lambda errand: errand.place)
+        return queues
+
+    def _queue_now(self, robot: int) -> List[OpenErrand]:
+        if robot >= len(self._cells):
+            raise refusal("no-robot")
+        return self._queues()[robot]
+
+    def _standings_now(self) -> List[Standing]:
+        return [self._standing(robot, errands) for robot, errands in enumerate(self._queues())]
+
+    def _standing(self, robot: int, errands: List[OpenErrand]) -> Standing:
+        """How a robot stands that has these errands."""
+        state = "shut" if robot in self._shut_robots else "busy" if errands else "free"
+        cell = self._cells[robot]
+        if not errands:
+            return Standing(state, cell, None, 0, None)
+        return Standing(state, cell, errands[0].cell, len(errands), self._waits.wait_of(errands[0], self._now))
 
     def _turn_page(self) -> Chapter:
         return self._program.reply("chapter", chapter_in)

@@ -8,7 +8,7 @@ from typing import IO, Any, Callable, List, Optional, Sequence, TypeVar, cast
 
 from .errors import Ended, FileFailed, FleetError, Late, Missing, NoMemory, refusal
 from .orders import Order
-from .records import Chapter, Look
+from .records import Chapter, Look, OpenErrand
 
 T = TypeVar("T")
 
@@ -44,6 +44,14 @@ def chapter_in(words: Sequence[str]) -> Chapter:
     if words[0] == "chapter-refused":
         raise refusal(words[-1])
     return Chapter(int(words[1]), int(words[3]))
+
+
+def errands_in(lines: Sequence[Sequence[str]]) -> List[OpenErrand]:
+    """What lines `open ..` say. Raises Refused if they are a refusal."""
+    if lines[0][0] == "no-client":
+        raise refusal("no-client")
+    told = [[int(word) for word in words[1::2]] for words in lines if words[2] == "number"]
+    return [OpenErrand(client, number, robot, cell, place) for client, number, robot, cell, place in told]
 
 
 def end_of(status: Optional[int], complaint: str) -> FleetError:

@@ -1,4 +1,4 @@
-"""What a fleet tells: arrivals, farewells, looks and chapters."""
+"""What a fleet tells: arrivals, farewells, errands, how robots stand, looks and chapters."""
 
 from dataclasses import dataclass
 from typing import List, Optional
@@ -27,6 +27,38 @@ class Farewell:
 
     robot: int
     stamp: int
+
+
+@dataclass(frozen=True)
+class OpenErrand:
+    """An errand that is accepted, and neither done nor withdrawn, and where it stands.
+
+    `client`, `number` and `cell` are as in `Arrival`. It is in the queue of `robot`, at `place`, from 1: at place 1 the
+    robot is on its way to the cell.
+    """
+
+    client: int
+    number: int
+    robot: int
+    cell: int
+    place: int
+
+
+@dataclass(frozen=True)
+class Standing:
+    """How a robot stands.
+
+    `state` is "free" if it has no errand, "busy" if it has some, and "shut" if it takes no further ones; then it may
+    still have some. `cell` is where it is, and `goal` the cell of its front errand. `errands` is how many errands it
+    has, and `wait` how many ticks it has waited for the arrival at its goal. Without an errand `goal` and `wait` are
+    None.
+    """
+
+    state: str
+    cell: int
+    goal: Optional[int]
+    errands: int
+    wait: Optional[int]
 
 
 @dataclass(frozen=True)

@@ -3,10 +3,10 @@
 from dataclasses import dataclass
 from typing import TYPE_CHECKING, List, Optional
 
-from .calls import CJudgement, CNote
+from .calls import NOWHERE, CErrand, CJudgement, CNote, CStanding
 from .errors import Refused
-from .names import Verdict
-from .records import Arrival
+from .names import STATES, Verdict
+from .records import Arrival, OpenErrand, Standing
 
 if TYPE_CHECKING:
     from .arrays import Cells
@@ -75,6 +75,18 @@ class Taken:
     refused: Optional[Refused]
 
 
+@dataclass(frozen=True)
+class Account:
+    """What a client has, and had: how many of its orders were taken in all chapters, how many errands it has open, how
+    many notices it was not given yet, and how many of the last two together its mailbox can hold.
+    """
+
+    taken: int
+    owed: int
+    pending: int
+    room: int
+
+
 def judgement_of(told: CJudgement) -> Judgement:
     return Judgement(Verdict(told.verdict).word, told.number or None)
 
@@ -83,3 +95,14 @@ def notice_of(note: CNote) -> Notice:
     if note.verdict:
         return Notice(note.seq, note.order, Verdict(note.verdict).word, note.number or None)
     return Notice(note.seq, None, None, note.number, note.robot, note.cell, note.tick, note.stamp)
+
+
+def errand_of(told: CErrand) -> OpenErrand:
+    return OpenErrand(told.client, told.number, told.robot, told.cell, told.place)
+
+
+def standing_of(told: CStanding) -> Standing:
+    state = STATES[told.state]
+    if told.goal == NOWHERE:
+        return Standing(state, told.cell, None, told.errands, None)
+    return Standing(state, told.cell, told.goal, told.errands, told.wait)

@@ -3,13 +3,15 @@
 import ctypes
 import threading
 from ctypes import byref
-from typing import TYPE_CHECKING, Any, Dict, Optional
+from typing import TYPE_CHECKING, Any, Dict, List, Optional
 
 from .arrays import as_cells
-from .calls import CFleet, CNote, CSetup, check
+from .calls import CAccount, CErrand, CFleet, CNote, CSetup, CStanding, check
 from .names import Code
 from .ranges import LIMITS, whole_number
-from .told import Notice, notice_of
+from .records import OpenErrand, Standing
+from .texts import text_by
+from .told import Account, Notice, errand_of, notice_of, standing_of
 
 if TYPE_CHECKING:
     from .arrays import Cells
@@ -48,6 +50,32 @@ class Views:
         cells = (ctypes.c_uint32 * self._count)()
         check(self._call("placement", cells, self._count))
         return as_cells(cells)
+
+    def standings(self) -> List[Standing]:
+        """How each robot stands, by the robot's number."""
+        told = (CStanding * self._count)()
+        check(self._call("standings", told, self._count))
+        return [standing_of(one) for one in told]
+
+    def _errands(self, name: str, number: int) -> List[OpenErrand]:
+        """The errands that a call lists."""
+        count = ctypes.c_size_t(16)
+        while True:
+            told = (CErrand * max(1, count.value))()
+            code = self._call(name, number, told, len(told), byref(count))
+            if code != Code.WRONG_LENGTH:
+                check(code)
+                return [errand_of(one) for one in told[: count.value]]
+
+    def queue(self, robot: int) -> List[OpenErrand]:
+        """The robot's errands, in the order of its queue. Raises Refused with "no-robot"."""
+        return self._errands("queue", whole_number("robot", robot))
+
+    def open_errands(self, client: int = 0) -> List[OpenErrand]:
+        """The client's errands that are accepted, and neither done nor withdrawn: by robot, and then by place in its
+        queue. Raises Refused with "no-client".
+        """
+        return self._errands("open_errands", whole_number("client", client))
 
     def clock(self) -> int:
         """The number of ticks made so far."""
@@ -103,6 +131,12 @@ class Views:
         """How many notices the client was not given yet. Raises Refused with "no-client"."""
         return self._number("pending_count", ctypes.c_uint64, whole_number("client", client))
 
+    def account_of(self, client: int = 0) -> Account:
+        """What the client has, and had. Raises Refused with "no-client"."""
+        told = CAccount()
+        check(self._call("account_of", whole_number("client", client), byref(told)))
+        return Account(told.taken, told.owed, told.pending, told.room)
+
     def peek(self, client: int = 0) -> Optional[Notice]:
         """What `give` would return: the notice stays in the mailbox. Raises Refused with "no-client"."""
         note = CNote()
@@ -114,10 +148,4 @@ class Views:
 
     def trace(self) -> str:
         """The trace of the present chapter (docs/TRACE.md), without a line feed at its end."""
-        length = ctypes.c_size_t(1024)
-        while True:
-            text = (ctypes.c_uint8 * length.value)()
-            code = self._call("trace", text, len(text), byref(length))
-            if code != Code.WRONG_LENGTH:
-                check(code)
-                return bytes(memoryview(text)[: length.value]).decode()
+        return text_by(lambda *room: self._call("trace", *room))

@@ -17,11 +17,16 @@
 
 mod raw;
 
-use raw::{Handle, RawArrival, RawEdge, RawFault, RawJudgement, RawNote, RawOrder, RawSetup, RawShape};
+use raw::{
+    Handle, RawAccount, RawArrival, RawEdge, RawErrand, RawFault, RawJudgement, RawNote, RawOrder, RawSetup, RawShape, RawStanding,
+};
 use std::error::Error;
 use std::fmt;
 
 const DONE: u32 = 0;
+const CHAPTER_FULL: u32 = 7;
+const BOOK_SPENT: u32 = 10;
+const NOT_OPEN: u32 = 2;
 const NO_NOTICE: u32 = 11;
 const IDLE: u32 = 13;
 const HAS_BRIDGE: u32 = 14;
@@ -29,6 +34,7 @@ const WRONG_LENGTH: u32 = 15;
 const WRONG_SIZE: u32 = 34;
 const NO_BRIDGE: u32 = 48;
 const FAR: u32 = u32::MAX;
+const NOWHERE: u32 = u32::MAX;
 
 /// The version of the header that this crate was made with. The library's has to have the same major and minor numbers.
 const VERSION: u32 = 100;
@@ -372,6 +378,14 @@ impl Setup {
         Setup::of(&setup)
     }
 
+    /// Limits for a fleet that never ends, and this many clients: no clock, no life and no number of chapters is ever spent.
+    pub fn endless(clients: u32) -> Setup {
+        let mut setup = RawSetup::default();
+        // SAFETY: the pointer is to a whole setup.
+        unsafe { raw::nashirudder_setup_endless(clients, &mut setup) };
+        Setup::of(&setup)
+    }
+
     fn of(raw: &RawSetup) -> Setup {
         Setup {
             life: raw.life,
@@ -550,6 +564,64 @@ pub struct Shown {
     told: Vec<RawArrival>,
 }
 
+/// An errand that is accepted, and neither done nor withdrawn, and where it stands.
+#[derive(Clone, Copy, Debug, PartialEq, Eq)]
+pub struct OpenErrand {
+    /// Its number among the client's accepted errands, from 1.
+    pub number: u64,
+    /// Its place in the robot's queue, from 1. At place 1 the robot is on its way to the cell.
+    pub place: u64,
+    pub client: u32,
+    /// The robot in whose queue it is.
+    pub robot: u32,
+    /// The cell that the robot is sent to.
+    pub cell: u32,
+}
+
+/// What a robot does.
+#[derive(Clone, Copy, Debug, PartialEq, Eq, Hash)]
+pub enum State {
+    /// It has no errand.
+    Free,
+    /// It has errands.
+    Busy,
+    /// It takes no further errands; it may still have some.
+    Shut,
+}
+
+impl State {
+    /// The word for it.
+    pub fn name(self) -> &'static str {
+        match self {
+            State::Free => "free",
+            State::Busy => "busy",
+            State::Shut => "shut",
+        }
+    }
+
+    fn of(state: u32) -> State {
+        match state {
+            1 => State::Free,
+            2 => State::Busy,
+            3 => State::Shut,
+            _ => unreachable!("the library has no state {state}"),
+        }
+    }
+}
+
+/// How a robot stands.
+#[derive(Clone, Copy, Debug, PartialEq, Eq)]
+pub struct Standing {
+    pub state: State,
+    pub cell: u32,
+    /// The cell of its front errand, if it has one.
+    pub goal: Option<u32>,
+    /// How many errands it has.
+    pub errands: u64,
+    /// How many ticks it has waited for the arrival at its goal, if it has one.
+    pub wait: Option<u64>,
+}
+
 /// A notice to a client.
 #[derive(Clone, Copy, Debug, PartialEq, Eq)]
 pub enum Notice {
@@ -570,14 +642,57 @@ pub enum Notice {
     },
 }
 
+/// What a client has, and had.
+#[derive(Clone, Copy, Debug, PartialEq, Eq)]
+pub struct Account {
+    /// The orders that were taken, in all chapters.
+    pub taken: u64,
+    /// The errands that are accepted, and neither done nor withdrawn.
+    pub owed: u64,
+    /// The notices that it was not given yet.
+    pub pending: u64,
+    /// The notices and unfinished errands that its mailbox can hold.
+    pub room: u64,
+}
+
+/// A chapter that a fleet handed out. Its text can be written in another thread, while the fleet goes on.
+pub struct Chapter {
+    handle: Handle,
+}
+
+// SAFETY: as for a fleet; each method only looks.
+unsafe impl Send for Chapter {}
+unsafe impl Sync for Chapter {}
+
+impl Drop for Chapter {
+    fn drop(&mut self) {
+        // SAFETY: the handle is what the library left.
+        unsafe { raw::nashirudder_chapter_close(&mut self.handle) };
+    }
+}
+
+impl Chapter {
+    /// Its trace.
+    pub fn trace(&self) -> Result<String, Refused> {
+        // SAFETY: the pointers are those of `text_by`.
+        text_by(|text, size, length| unsafe {
+            raw::nashirudder_chapter_trace(&mut self.handle.seen(), text, size, length)
+        })
+    }
+}
+
+/// What is done with a chapter that is full.
+type Keeper = Box<dyn FnMut(Chapter) + Send>;
+
 /// A fleet.
 pub struct Fleet {
     handle: Handle,
     robots: usize,
+    keeper: Option<Keeper>,
 }
 
-// SAFETY: the library proves that what a handle owns may move between threads. The methods with `&self` only call what
-// looks, each with a copy of the handle: what the handle owns is then only read.
+// SAFETY: the library proves that what a handle owns may move between threads, and what keeps chapters may. The methods with
+// `&self` only call what looks, each with a copy of the handle: what the handle owns is then only read, and nothing is kept.
 unsafe impl Send for Fleet {}
 unsafe impl Sync for Fleet {}
 
@@ -596,6 +711,7 @@ impl Fleet {
         let mut fleet = Fleet {
             handle: Handle::CLOSED,
             robots: robots.len(),
+            keeper: None,
         };
         let mut fault = RawFault::default();
         // SAFETY: a slice's pointer is never null, and its length is true.
@@ -626,6 +742,7 @@ impl Fleet {
         let mut fleet = Fleet {
             handle: Handle::CLOSED,
             robots: robots.len(),
+            keeper: None,
         };
         let mut fault = RawFault::default();
         // SAFETY: a slice's pointer is never null, and its length is true.
@@ -645,6 +762,30 @@ impl Fleet {
         check_told(code, &fault).map(|()| fleet)
     }
 
+    /// From now on an order, a tick or a shut that finds the chapter full is made in the next one; the full one is handed to
+    /// `keep` first. Only in the last of all chapters it is refused by `Code::ChapterFull`.
+    pub fn roll(&mut self, keep: impl FnMut(Chapter) + Send + 'static) {
+        self.keeper = Some(Box::new(keep));
+    }
+
+    /// A call that may find the chapter full.
+    fn in_chapter(&mut self, mut call: impl FnMut(&mut Handle) -> u32) -> Result<u32, Refused> {
+        let code = call(&mut self.handle);
+        if code != CHAPTER_FULL || self.keeper.is_none() {
+            return Ok(code);
+        }
+        match self.hand_out() {
+            Ok(ended) => {
+                if let Some(keep) = &mut self.keeper {
+                    keep(ended);
+                }
+                Ok(call(&mut self.handle))
+            }
+            Err(refused) if refused.code.number() == BOOK_SPENT => Ok(code),
+            Err(refused) => Err(refused),
+        }
+    }
+
     fn judged(code: u32, told: RawJudgement) -> Result<Verdict, Refused> {
         check(code).map(|()| Verdict::of(told.verdict, told.number))
     }
@@ -652,23 +793,27 @@ impl Fleet {
     /// The client orders the robot to the cell.
     pub fn go(&mut self, client: u32, robot: u32, cell: u32) -> Result<Verdict, Refused> {
         let mut told = RawJudgement::default();
-        let code =
-            unsafe { raw::nashirudder_go(&mut self.handle, client, robot, cell, &mut told) };
+        let code = self.in_chapter(|handle| unsafe {
+            raw::nashirudder_go(handle, client, robot, cell, &mut told)
+        })?;
         Fleet::judged(code, told)
     }
 
     /// The client's last order.
     pub fn close_client(&mut self, client: u32) -> Result<Verdict, Refused> {
         let mut told = RawJudgement::default();
-        let code = unsafe { raw::nashirudder_close_client(&mut self.handle, client, &mut told) };
+        let code = self.in_chapter(|handle| unsafe {
+            raw::nashirudder_close_client(handle, client, &mut told)
+        })?;
         Fleet::judged(code, told)
     }
 
     /// The client gives up its accepted errand of that number.
     pub fn withdraw(&mut self, client: u32, number: u64) -> Result<Verdict, Refused> {
         let mut told = RawJudgement::default();
-        let code =
-            unsafe { raw::nashirudder_withdraw(&mut self.handle, client, number, &mut told) };
+        let code = self.in_chapter(|handle| unsafe {
+            raw::nashirudder_withdraw(handle, client, number, &mut told)
+        })?;
         Fleet::judged(code, told)
     }
 
@@ -677,23 +822,35 @@ impl Fleet {
     pub fn take_many(&mut self, orders: &[Order]) -> Result<(Vec<Verdict>, Option<Code>), Refused> {
         let asked: Vec<RawOrder> = orders.iter().map(Order::raw).collect();
         let mut told: Vec<RawJudgement> = orders.iter().map(|_| RawJudgement::default()).collect();
-        let mut count = usize::MAX;
-        // SAFETY: a vector's pointer is never null, and its length is true.
-        let code = unsafe {
-            raw::nashirudder_take_many(
-                &mut self.handle,
-                asked.as_ptr(),
-                asked.len(),
-                told.as_mut_ptr(),
-                told.len(),
-                &mut count,
-            )
+        let mut taken = 0;
+        let code = loop {
+            let before = taken;
+            let code = self.in_chapter(|handle| {
+                // On a handle that is closed the count stays as it was.
+                let mut count = 0;
+                let (asked, told) = (&asked[taken..], &mut told[taken..]);
+                // SAFETY: a slice's pointer is never null, and its length is true.
+                let code = unsafe {
+                    raw::nashirudder_take_many(
+                        handle,
+                        asked.as_ptr(),
+                        asked.len(),
+                        told.as_mut_ptr(),
+                        told.len(),
+                        &mut count,
+                    )
+                };
+                taken += count;
+                code
+            })?;
+            if code != CHAPTER_FULL || taken == before {
+                break code;
+            }
         };
-        // Before any order is tried the count stays as it was.
-        if count == usize::MAX {
+        if code == NOT_OPEN {
             check(code)?;
         }
-        told.truncate(count);
+        told.truncate(taken);
         let verdicts = told.iter().map(|judged| Verdict::of(judged.verdict, judged.number)).collect();
         Ok((verdicts, if code == DONE { None } else { Some(Code::of(code)) }))
     }
@@ -701,7 +858,8 @@ impl Fleet {
     /// All robots make one step.
     pub fn tick(&mut self) -> Result<Report, Refused> {
         let mut report = Report::default();
-        check(unsafe { raw::nashirudder_tick(&mut self.handle, &mut report) })?;
+        let code = self.in_chapter(|handle| unsafe { raw::nashirudder_tick(handle, &mut report) })?;
+        check(code)?;
         Ok(report)
     }
 
@@ -712,9 +870,9 @@ impl Fleet {
         shown.farewells.resize(self.robots, 0);
         shown.told.resize(self.robots, RawArrival::default());
         // SAFETY: a vector's pointer is never null, and its length is true.
-        check(unsafe {
+        let code = self.in_chapter(|handle| unsafe {
             raw::nashirudder_tick_into(
-                &mut self.handle,
+                handle,
                 &mut report,
                 shown.cells.as_mut_ptr(),
                 shown.cells.len(),
@@ -724,6 +882,7 @@ impl Fleet {
                 shown.farewells.len(),
             )
         })?;
+        check(code)?;
         shown.farewells.truncate(report.farewells as usize);
         shown.arrivals.clear();
         shown.arrivals.extend(shown.told[..report.arrived as usize].iter().map(Arrival::of));
@@ -733,7 +892,8 @@ impl Fleet {
     /// The robot gets no more errands. Whether it has none, and so took its leave at once.
     pub fn shut(&mut self, robot: u32) -> Result<bool, Refused> {
         let mut left = false;
-        check(unsafe { raw::nashirudder_shut(&mut self.handle, robot, &mut left) })?;
+        let code = self.in_chapter(|handle| unsafe { raw::nashirudder_shut(handle, robot, &mut left) })?;
+        check(code)?;
         Ok(left)
     }
 
@@ -817,6 +977,14 @@ impl Fleet {
         Ok(count)
     }
 
+    /// How many orders of the client were taken, how many errands it has open, how many notices, and the room for both.
+    pub fn account_of(&self, client: u32) -> Result<Account, Refused> {
+        let mut told = RawAccount::default();
+        check(unsafe { raw::nashirudder_account_of(&mut self.handle.seen(), client, &mut told) })?;
+        let RawAccount { taken, owed, pending, room } = told;
+        Ok(Account { taken, owed, pending, room })
+    }
+
     /// Lets the client's mailbox hold this many more notices and unfinished errands.
     pub fn widen(&mut self, client: u32, extra: u64) -> Result<(), Refused> {
         check(unsafe { raw::nashirudder_widen(&mut self.handle, client, extra) })
@@ -829,6 +997,32 @@ impl Fleet {
             raw::nashirudder_placement(&mut self.handle.seen(), cells.as_mut_ptr(), cells.len())
         })?;
         Ok(cells)
+    }
+
+    /// How each robot stands, by number.
+    pub fn standings(&self) -> Result<Vec<Standing>, Refused> {
+        let mut told = vec![RawStanding::default(); self.robots];
+        // SAFETY: a vector's pointer is never null, and its length is true.
+        check(unsafe {
+            raw::nashirudder_standings(&mut self.handle.seen(), told.as_mut_ptr(), told.len())
+        })?;
+        Ok(told.iter().map(Standing::of).collect())
+    }
+
+    /// The robot's errands, in the order of its queue.
+    pub fn queue(&self, robot: u32) -> Result<Vec<OpenErrand>, Refused> {
+        // SAFETY: the pointers are those of `listed`.
+        listed(|list, length, count| unsafe {
+            raw::nashirudder_queue(&mut self.handle.seen(), robot, list, length, count)
+        })
+    }
+
+    /// The client's errands that are accepted, and neither done nor withdrawn: by robot, and then by place in its queue.
+    pub fn open_errands(&self, client: u32) -> Result<Vec<OpenErrand>, Refused> {
+        // SAFETY: the pointers are those of `listed`.
+        listed(|list, length, count| unsafe {
+            raw::nashirudder_open_errands(&mut self.handle.seen(), client, list, length, count)
+        })
     }
 
     /// The ticks made so far.
@@ -881,25 +1075,19 @@ impl Fleet {
 
     /// The trace of the present chapter.
     pub fn trace(&self) -> Result<String, Refused> {
-        let mut text = vec![0; 1024];
-        loop {
-            let mut length = 0;
-            let code = unsafe {
-                raw::nashirudder_trace(
-                    &mut self.handle.seen(),
-                    text.as_mut_ptr(),
-                    text.len(),
-                    &mut length,
-                )
-            };
-            if code == WRONG_LENGTH {
-                text.resize(length, 0);
-                continue;
-            }
-            check(code)?;
-            text.truncate(length);
-            return Ok(String::from_utf8(text).expect("a trace is ASCII"));
-        }
+        // SAFETY: the pointers are those of `text_by`.
+        text_by(|text, size, length| unsafe {
+            raw::nashirudder_trace(&mut self.handle.seen(), text, size, length)
+        })
+    }
+
+    /// Begins the next chapter, and hands out the one that ended.
+    pub fn hand_out(&mut self) -> Result<Chapter, Refused> {
+        let mut ended = Chapter { handle: Handle::CLOSED };
+        check(unsafe {
+            raw::nashirudder_next_chapter_into(&mut self.handle, &mut ended.handle)
+        })?;
+        Ok(ended)
     }
 
     /// Begins the next chapter; the entries of the present one are let go.
@@ -910,6 +1098,58 @@ impl Fleet {
     /// Keeps distances to goals that no robot has any more, up to this many bytes.
     pub fn keep(&mut self, bytes: usize) -> Result<(), Refused> {
         check(unsafe { raw::nashirudder_keep(&mut self.handle, bytes) })
+    }
+}
+
+/// A chapter's text, by a call that says how long it is. It is passed a vector's pointer and length.
+fn text_by(call: impl Fn(*mut u8, usize, &mut usize) -> u32) -> Result<String, Refused> {
+    let (mut text, mut length) = (vec![0; 1024], 0);
+    let mut code = call(text.as_mut_ptr(), text.len(), &mut length);
+    if code == WRONG_LENGTH {
+        text.resize(length, 0);
+        code = call(text.as_mut_ptr(), text.len(), &mut length);
+    }
+    check(code)?;
+    text.truncate(length);
+    Ok(String::from_utf8(text).expect("a trace is ASCII"))
+}
+
+/// A list of errands, by a call that says how many places it needs. It is passed a vector's pointer and length.
+fn listed(
+    call: impl Fn(*mut RawErrand, usize, &mut usize) -> u32,
+) -> Result<Vec<OpenErrand>, Refused> {
+    let (mut list, mut count) = (vec![RawErrand::default(); 16], 0);
+    let mut code = call(list.as_mut_ptr(), list.len(), &mut count);
+    if code == WRONG_LENGTH {
+        list.resize(count, RawErrand::default());
+        code = call(list.as_mut_ptr(), list.len(), &mut count);
+    }
+    check(code)?;
+    Ok(list[..count].iter().map(OpenErrand::of).collect())
+}
+
+impl OpenErrand {
+    fn of(told: &RawErrand) -> OpenErrand {
+        OpenErrand {
+            number: told.number,
+            place: told.place,
+            client: told.client,
+            robot: told.robot,
+            cell: told.cell,
+        }
+    }
+}
+
+impl Standing {
+    fn of(told: &RawStanding) -> Standing {
+        let is_busy = told.goal != NOWHERE;
+        Standing {
+            state: State::of(told.state),
+            cell: told.cell,
+            goal: if is_busy { Some(told.goal) } else { None },
+            errands: told.errands,
+            wait: if is_busy { Some(told.wait) } else { None },
+        }
     }
 }
 
@@ -1057,6 +1297,16 @@ pub fn check_step(map: &[u8], from: &[u32], to: &[u32]) -> Result<(), Refused> {
             to.len(),
             &mut fault,
         )
+    };
+    check_told(code, &fault)
+}
+
+/// Whether a text is the trace of a chapter that is legal on the map, or why it is not.
+pub fn judge(map: &[u8], trace: &str) -> Result<(), Refused> {
+    let mut fault = RawFault::default();
+    // SAFETY: a slice's pointer is never null, and its length is true.
+    let code = unsafe {
+        raw::nashirudder_judge(map.as_ptr(), map.len(), trace.as_ptr(), trace.len(), &mut fault)
     };
     check_told(code, &fault)
 }

@@ -58,6 +58,35 @@ pub(crate) struct RawArrival {
 }
 
 #[repr(C)]
+#[derive(Clone, Copy, Default)]
+pub(crate) struct RawErrand {
+    pub number: u64,
+    pub place: u64,
+    pub client: u32,
+    pub robot: u32,
+    pub cell: u32,
+}
+
+#[repr(C)]
+#[derive(Clone, Copy, Default)]
+pub(crate) struct RawStanding {
+    pub wait: u64,
+    pub errands: u64,
+    pub cell: u32,
+    pub goal: u32,
+    pub state: u32,
+}
+
+#[repr(C)]
+#[derive(Default)]
+pub(crate) struct RawAccount {
+    pub taken: u64,
+    pub owed: u64,
+    pub pending: u64,
+    pub room: u64,
+}
+
+#[repr(C)]
 #[derive(Default)]
 pub(crate) struct RawShape {
     pub height: u32,
@@ -110,6 +139,7 @@ extern "C" {
         text_length: usize,
     ) -> usize;
     pub(crate) fn nashirudder_setup_default(clients: u32, setup: *mut RawSetup);
+    pub(crate) fn nashirudder_setup_endless(clients: u32, setup: *mut RawSetup);
     pub(crate) fn nashirudder_reopen(
         map: *const u8,
         map_length: usize,
@@ -187,11 +217,35 @@ extern "C" {
         client: u32,
         count: *mut u64,
     ) -> u32;
+    pub(crate) fn nashirudder_account_of(
+        fleet: *mut Handle,
+        client: u32,
+        account: *mut RawAccount,
+    ) -> u32;
     pub(crate) fn nashirudder_widen(fleet: *mut Handle, client: u32, extra: u64) -> u32;
     pub(crate) fn nashirudder_placement(
         fleet: *mut Handle,
         cells: *mut u32,
         cells_length: usize,
+    ) -> u32;
+    pub(crate) fn nashirudder_standings(
+        fleet: *mut Handle,
+        standings: *mut RawStanding,
+        standings_length: usize,
+    ) -> u32;
+    pub(crate) fn nashirudder_queue(
+        fleet: *mut Handle,
+        robot: u32,
+        errands: *mut RawErrand,
+        errands_length: usize,
+        count: *mut usize,
+    ) -> u32;
+    pub(crate) fn nashirudder_open_errands(
+        fleet: *mut Handle,
+        client: u32,
+        errands: *mut RawErrand,
+        errands_length: usize,
+        count: *mut usize,
     ) -> u32;
     pub(crate) fn nashirudder_clock(fleet: *mut Handle, ticks: *mut u64) -> u32;
     pub(crate) fn nashirudder_wait_of(fleet: *mut Handle, robot: u32, ticks: *mut u64) -> u32;
@@ -206,6 +260,14 @@ extern "C" {
         length: *mut usize,
     ) -> u32;
     pub(crate) fn nashirudder_next_chapter(fleet: *mut Handle) -> u32;
+    pub(crate) fn nashirudder_next_chapter_into(fleet: *mut Handle, chapter: *mut Handle) -> u32;
+    pub(crate) fn nashirudder_chapter_trace(
+        chapter: *mut Handle,
+        text: *mut u8,
+        text_length: usize,
+        length: *mut usize,
+    ) -> u32;
+    pub(crate) fn nashirudder_chapter_close(chapter: *mut Handle);
     pub(crate) fn nashirudder_keep(fleet: *mut Handle, bytes: usize) -> u32;
     pub(crate) fn nashirudder_map_open(
         text: *const u8,
@@ -235,6 +297,13 @@ extern "C" {
         goal: u32,
         distances: *mut u32,
         distances_length: usize,
+    ) -> u32;
+    pub(crate) fn nashirudder_judge(
+        map: *const u8,
+        map_length: usize,
+        text: *const u8,
+        text_length: usize,
+        fault: *mut RawFault,
     ) -> u32;
     pub(crate) fn nashirudder_check_step(
         map: *const u8,

@@ -1,8 +1,8 @@
 //! Calls of the library. What is wanted is worked out by hand.
 
 use nashirudder::{
-    check_step, distances, first_bridge, Arrival, Code, Fleet, Map, Notice, Order, Refused, Report, Robot,
-    Setup, Shape, Shown, Verdict,
+    check_step, distances, first_bridge, judge, Account, Arrival, Code, Fleet, Map, Notice, OpenErrand, Order, Refused, Report, Robot,
+    Setup, Shape, Shown, Standing, State, Verdict,
 };
 
 const RING: &[u8] = b"type octile\nheight 3\nwidth 4\nmap\n....\n.@..\n....\n";
@@ -106,7 +106,40 @@ fn says_what_it_is() -> Result<(), Refused> {
     assert_eq!(fleet.go(0, 0, 11)?, Verdict::Accepted(1));
     fleet.tick()?;
     assert_eq!(fleet.longest_wait()?, Some(1));
+    assert_eq!(fleet.account_of(0)?, Account { taken: 1, owed: 1, pending: 1, room: 64 });
+    assert_eq!(name_of(fleet.account_of(2)), ("no-client", (0, 0)));
+    let endless = Setup::endless(2);
+    assert_eq!((endless.clock, endless.life, endless.orders), (1 << 48, 1 << 40, 1 << 62));
+    assert_eq!(Setup { clock: 1_000_000, life: 1_000_000, orders: 1_000_000, chapters: 1_000, ..endless }, Setup::new(2));
     assert_eq!(Fleet::open(ROW, &[Robot::at(0)], &setup)?.wait_limit()?, None);
+    Ok(())
+}
+
+#[test]
+fn lists_errands() -> Result<(), Refused> {
+    let mut fleet = Fleet::open(RING, &[Robot::at(0), Robot::at(3)], &Setup::new(2))?;
+    let free = |cell| Standing { state: State::Free, cell, goal: None, errands: 0, wait: None };
+    assert_eq!((fleet.queue(0)?, fleet.standings()?), (vec![], vec![free(0), free(3)]));
+    for (client, robot, cell) in [(0, 0, 11), (1, 0, 8), (0, 1, 3)] {
+        assert_eq!(fleet.go(client, robot, cell)?.name(), "accepted");
+    }
+    let first = OpenErrand { number: 1, place: 1, client: 0, robot: 0, cell: 11 };
+    let second = OpenErrand { number: 1, place: 2, client: 1, robot: 0, cell: 8 };
+    let third = OpenErrand { number: 2, place: 1, client: 0, robot: 1, cell: 3 };
+    assert_eq!((fleet.queue(0)?, fleet.queue(1)?), (vec![first, second], vec![third]));
+    assert_eq!((fleet.open_errands(0)?, fleet.open_errands(1)?), (vec![first, third], vec![second]));
+    // Robot 1 is where it is sent to; robot 0 goes east, and takes no further errands from then on.
+    fleet.tick()?;
+    assert!(!fleet.shut(0)?);
+    let leaving = Standing { state: State::Shut, cell: 1, goal: Some(11), errands: 2, wait: Some(1) };
+    assert_eq!(fleet.standings()?, [leaving, free(3)]);
+    assert_eq!(leaving.state.name(), "shut");
+    assert_eq!((name_of(fleet.queue(2)), name_of(fleet.open_errands(2))), (("no-robot", (0, 0)), ("no-client", (0, 0))));
+    // More than the list that is tried first has places for.
+    for _ in 0..16 {
+        assert_eq!(fleet.go(1, 1, 0)?.name(), "accepted");
+    }
+    assert_eq!(fleet.open_errands(1)?.len(), 17);
     Ok(())
 }
 
@@ -131,6 +164,40 @@ fn is_looked_at_by_several() -> Result<(), Refused> {
         }
         Ok(())
     })
+}
+
+#[test]
+fn hands_out_chapters() -> Result<(), Refused> {
+    let setup = Setup { chapter: 2, chapters: 3, ..Setup::endless(1) };
+    let mut fleet = Fleet::open(RING, &[Robot::at(0)], &setup)?;
+    assert_eq!(fleet.go(0, 0, 8)?, Verdict::Accepted(1));
+    fleet.tick()?;
+    assert_eq!(name_of(fleet.tick()), ("chapter-full", (0, 0)));
+    let wanted = fleet.trace()?;
+    let first = fleet.hand_out()?;
+    // The fleet goes on while another thread writes the chapter.
+    let written = std::thread::spawn(move || first.trace());
+    assert_eq!(fleet.tick()?.arrived, 1);
+    let written = written.join().expect("no panic")?;
+    assert_eq!(written, wanted);
+    judge(RING, &written)?;
+    assert_eq!(name_of(judge(ROW, &written)), ("chapter-illegal", (1, 3)));
+    let (sends, kept) = std::sync::mpsc::channel();
+    fleet.roll(move |chapter| sends.send(chapter.trace()).expect("somebody listens"));
+    fleet.tick()?;
+    let second = fleet.trace()?;
+    fleet.tick()?;
+    assert_eq!((kept.try_iter().collect::<Result<Vec<_>, _>>()?, fleet.clock()?), (vec![second], 4));
+    assert!(fleet.shut(0)?);
+    // It was the last of all chapters.
+    assert_eq!(name_of(fleet.tick()), ("chapter-full", (0, 0)));
+    assert_eq!(name_of(fleet.hand_out()), ("book-spent", (0, 0)));
+    let mut rolls = Fleet::open(RING, &[Robot::at(0)], &Setup { chapters: 10, ..setup })?;
+    rolls.roll(drop);
+    let orders = [Order::Go { client: 0, robot: 0, cell: 1 }; 5];
+    let (verdicts, stopped) = rolls.take_many(&orders)?;
+    assert_eq!((verdicts.len(), verdicts[4], stopped), (5, Verdict::Accepted(5), None));
+    Ok(())
 }
 
 #[test]

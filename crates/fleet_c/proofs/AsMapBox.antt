@@ -11,7 +11,7 @@ use Rattle.std_heap.specs.contracts.GlobalAllocator.TheImpl.{ghosts, dict}
 use Rattle.std_heap.proofs.Global.TheLaws as heap_laws
 use Rattle.fleet_c.specs.OwnsMap.{held_row}
 use Rattle.fleet_grid.proofs.grid.Grid.TheLaws as held_laws
-use Rattle.box_parts.specs.contracts.Parts as parts
+use Rattle.fleet_c.specs.contracts.parts.Parts as parts
 use Rattle.fleet_c.specs.contracts.owned_map.OwnedMap as owned
 
 abbrev pub E : Bx

@@ -1,8 +1,16 @@
+mod AllErrands
 mod AsBox
+mod AsChapterBox
 mod AsMapBox
+mod BoxWalk
 mod Counted
 mod InTurn
 mod Listed
+mod Places
+mod Queued
 mod Refused
+mod Runs
 mod Shows
+mod Stands
+mod Turns
 mod Written

@@ -27,7 +27,7 @@ without_many w client (suc k) = without_first (without_many w client k) client
 abbrev pub notice_after : {A : Type 0} → World A → ℕ → ℕ → Option Notice
 notice_after w client k = slice_get (pending (without_many w client k) client).notices 0
 
--- so many notices were given, one after the other: until the list is full, or none is left
+-- `count` notices were given, one after the other: until the list is full, or none is left
 pub record AreGiven {A : Type 0} (w : World A) (client : ℕ) (before after : List Note) (count : ℕ) (n : World A) : Type 0 where
   pub fit : count ≤ length before
   pub world : n ≡ without_many w client count

@@ -11,3 +11,8 @@ pub mod Handles
 pub mod Sentences
 pub mod Maps
 pub mod Floors
+pub mod OwnsChapter
+pub mod HandedOut
+pub mod Errands
+pub mod Judged
+pub mod inside

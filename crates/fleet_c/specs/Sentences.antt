@@ -64,7 +64,7 @@ trace_text code =
     else if code == 56 then codes "within the limits no chapter follows"
     else codes "a robot has waited longer than it may"
 
--- whether a number is one of so many from this one on
+-- whether a number is at least this one, and below the end
 abbrev pub is_in : ℕ → ℕ → ℕ → Bool
 is_in least end n = nat_le least n && nat_lt n end
 

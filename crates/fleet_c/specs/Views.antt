@@ -6,7 +6,7 @@ use Rattle.fleet_bound.specs.Idle.{idle_ticks, longest_after, wait_limit}
 use Rattle.fleet_grid.specs.Counts.{floor_count}
 use Rattle.fleet_grid.specs.Floor.{IsNeighbour}
 use Rattle.fleet_grid.specs.Walk.{IsBridgeless}
-use Rattle.fleet_history.specs.History.{clients, robots, place}
+use Rattle.fleet_history.specs.History.{clients, robots, place, owed, taken_count}
 use Rattle.fleet_history.specs.Waits.{wait}
 use Rattle.fleet_pibt.specs.Eldest.{IsEldest}
 use Rattle.fleet_planner.specs.Aimed.{IsIdle}
@@ -15,6 +15,7 @@ use Rattle.fleet_trace.specs.Trace.{Trace}
 use Rattle.fleet_trace.specs.Text.{trace_text}
 use Rattle.fleet_core.specs.Core.{World, pending}
 use Rattle.fleet_c.specs.Forms.{limits_of, note_of}
+use Rattle.fleet_c.specs.declared.account.Account.{Account}
 use Rattle.fleet_c.specs.declared.codes.TheConstants.{DONE, NO_MEMORY, NO_CLIENT, NO_ROBOT, NO_NOTICE, IDLE, HAS_BRIDGE, WRONG_LENGTH}
 use Rattle.fleet_c.specs.declared.note.Note.{Note}
 use Rattle.fleet_c.specs.declared.setup.Setup.{Setup}
@@ -63,6 +64,7 @@ pub record HasIdle {A : Type 0} (w : World A) (code ticks : ℕ) : Type 0 where
 pub record HasLimit {A : Type 0} (w : World A) (code ticks : ℕ) : Type 0 where
   pub bridged : (code ≡ HAS_BRIDGE) ↔ (IsBridgeless (IsNeighbour w.floor) → ⊥)
   pub exact : code ≡ DONE → ticks ≡ wait_limit (robots w.history) (floor_count w.floor)
+  pub above : code ≡ DONE → (r t : ℕ) → r < robots w.history → wait w.history r ≡ Some t → t < ticks
   pub refused : code ≢ DONE → code ≡ HAS_BRIDGE
 
 -- the setup that a fleet was opened with
@@ -80,6 +82,18 @@ IsPeeked w client code note = MatchOption (slice_get (pending w client).notices 
 abbrev pub Peeks : {A : Type 0} → World A → ℕ → ℕ → Note → Type 0
 Peeks w client code note = OfCounted (clients w.history) client NO_CLIENT code (IsPeeked w client code note)
 
+-- what the client has, and had
+abbrev pub account_of : {A : Type 0} → World A → ℕ → Account
+account_of w client = record {
+  taken = taken_count w.history client;
+  owed = owed w.history client;
+  pending = length (pending w client).notices;
+  room = (pending w client).limit;
+}
+
+abbrev pub Accounts : {A : Type 0} → World A → ℕ → ℕ → Account → Type 0
+Accounts w client code account = OfCounted (clients w.history) client NO_CLIENT code ((code ≡ DONE) × (account ≡ account_of w client))
+
 -- how many notices the client was not given yet
 abbrev pub Counts : {A : Type 0} → World A → ℕ → ℕ → ℕ → Type 0
 Counts w client code count = OfCounted (clients w.history) client NO_CLIENT code ((code ≡ DONE) × (count ≡ length (pending w client).notices))
@@ -90,10 +104,10 @@ Counts w client code count = OfCounted (clients w.history) client NO_CLIENT code
 abbrev pub present : {A : Type 0} → World A → Trace A
 present w = record { number = w.number; history = w.history }
 
--- the text of the present chapter's trace, where the list has room for it, and its length
-pub record IsTold {A : Type 0} (w : World A) (code : ℕ) (before after : List ℕ) (length' : ℕ) : Type 0 where
-  pub length_is : code ≢ NO_MEMORY → length' ≡ length (trace_text (present w))
-  pub short : (code ≡ WRONG_LENGTH) → length before < length (trace_text (present w))
-  pub text : code ≡ DONE → after ≡ trace_text (present w) ++ drop (length (trace_text (present w))) before
+-- a chapter's text, where the list has room for it, and its length
+pub record IsTold {A : Type 0} (t : Trace A) (code : ℕ) (before after : List ℕ) (length' : ℕ) : Type 0 where
+  pub length_is : code ≢ NO_MEMORY → length' ≡ length (trace_text t)
+  pub short : (code ≡ WRONG_LENGTH) → length before < length (trace_text t)
+  pub text : code ≡ DONE → after ≡ trace_text t ++ drop (length (trace_text t)) before
   pub untouched : code ≢ DONE → after ≡ before
   pub refused : code ≢ DONE → code ≢ WRONG_LENGTH → code ≡ NO_MEMORY

@@ -2,12 +2,14 @@
 
 ghost use Rattle.std.specs.Prelude.{◌≡◌, ◌≢◌};
 ghost use Rattle.fleet_c.specs.Answers.{IsTurned};
-ghost use Rattle.fleet_c.specs.Views.{IsTold};
+ghost use Rattle.fleet_c.specs.Views.{IsTold, present};
+ghost use Rattle.fleet_trace.specs.Trace.{trace_of};
 ghost use Rattle.fleet_c.specs.Handles.{OfFleet, OnFleet};
 
 use crate::codes::{BOOK_SPENT, DONE, NO_MEMORY, NOT_OPEN, WRONG_LENGTH};
 use crate::handle::Handle;
 use fleet_core::{ChapterFault, Core};
+use fleet_history::Chapter;
 use fleet_trace::write_trace;
 use std::alloc::Global;
 
@@ -22,12 +24,12 @@ fn turn(core: &mut Core) -> u32
     }
 }
 
-/// Writes the trace of the current chapter.
-fn trace(alloc: Global, core: &Core, text: &mut [u8], length: &mut usize) -> u32
-    ensures told { IsTold core.now result text.old text.new length.new }
+/// Writes the trace of a chapter.
+pub(crate) fn trace(alloc: Global, chapter: &Chapter, text: &mut [u8], length: &mut usize) -> u32
+    ensures told { IsTold (trace_of chapter.now) result text.old text.new length.new }
     ensures length { result ≡ NO_MEMORY → length.new ≡ length.old }
 {
-    let Ok(told) = write_trace(alloc, core.chapter()) else {
+    let Ok(told) = write_trace(alloc, chapter) else {
         return NO_MEMORY;
     };
     let bytes = told.as_str().as_bytes();
@@ -37,6 +39,14 @@ fn trace(alloc: Global, core: &Core, text: &mut [u8], length: &mut usize) -> u32
     }
     text[..bytes.len()].copy_from_slice(bytes);
     DONE
+}
+
+/// Writes the trace of the current chapter.
+fn trace_now(alloc: Global, core: &Core, text: &mut [u8], length: &mut usize) -> u32
+    ensures told { IsTold (present core.now) result text.old text.new length.new }
+    ensures length { result ≡ NO_MEMORY → length.new ≡ length.old }
+{
+    trace(alloc, core.chapter(), text, length)
 }
 
 /// The text of the current chapter's trace, and its length. Where the list has no room for it only the length is told.
@@ -49,7 +59,7 @@ pub extern "C" fn nashirudder_trace(
     text: &mut [u8],
     length: &mut usize,
 ) -> u32
-    ensures says { OfFleet fleet.old.owned.held fleet.new.owned.held result (λ w. IsTold w result text.old text.new length.new) }
+    ensures says { OfFleet fleet.old.owned.held fleet.new.owned.held result (λ w. IsTold (present w) result text.old text.new length.new) }
     ensures untouched { (result ≢ DONE) → text.new ≡ text.old }
     ensures closed { (result ≡ NOT_OPEN) → length.new ≡ length.old }
     ensures memory { (result ≡ NO_MEMORY) → length.new ≡ length.old }
@@ -57,7 +67,7 @@ pub extern "C" fn nashirudder_trace(
     let Some(core) = fleet.take(alloc) else {
         return NOT_OPEN;
     };
-    let code = trace(alloc, &core, text, length);
+    let code = trace_now(alloc, &core, text, length);
     fleet.put(core);
     code
 }

@@ -1,16 +1,23 @@
 //! A fleet for C: an opaque handle that owns one, and what C does to it. bindings/c/nashirudder.h declares it all.
 #![tactic(auto)]
 
+mod account;
 mod answers;
 mod batches;
+mod chapter_calls;
+mod chapter_handle;
 mod chapters;
+mod chore;
 mod codes;
 mod counts;
 mod edge;
+mod errands;
 mod fault;
 mod handle;
 mod judgement;
+mod judging;
 mod landing;
+mod law;
 mod life;
 mod mailboxes;
 mod map_calls;
@@ -22,7 +29,9 @@ mod note;
 mod opening;
 mod orders;
 mod owned;
+mod owned_chapter;
 mod owned_map;
+mod parts;
 mod refusal;
 mod reopen_refusal;
 mod reopening;
@@ -32,6 +41,8 @@ mod robot;
 mod sentences;
 mod setup;
 mod shown;
+mod standing;
+mod standings;
 mod step_refusal;
 mod ticks;
 mod verdicts;

@@ -1,6 +1,6 @@
 //! Fleets are opened and closed.
 
-ghost use Rattle.std.specs.Prelude.{◌≡◌, ◌≢◌, ◌↔◌, None, is_some, true, IsSomeAnd};
+ghost use Rattle.std.specs.Prelude.{◌≡◌, ◌≢◌, ◌↔◌, ◌^◌, None, is_some, true, IsSomeAnd};
 ghost use Rattle.fleet_c.specs.Forms.{limits_of};
 ghost use Rattle.fleet_c.specs.Opening.{IsOpened, IsWhy};
 
@@ -21,6 +21,26 @@ pub extern "C" fn nashirudder_setup_default(clients: u32, setup: &mut Setup)
     ensures size { setup.new.size ≡ SETUP_SIZE }
 {
     *setup = Setup::of(Limits::DEFAULT, clients);
+}
+
+/// Sets limits that no fleet meets (`life` 2^40, `orders` 2^62, `clock` 2^48, `chapters` 2^32 - 1), the other limits as
+/// `nashirudder_setup_default`, and the number of clients.
+#[unsafe(no_mangle)]
+pub extern "C" fn nashirudder_setup_endless(clients: u32, setup: &mut Setup)
+    ensures clients { setup.new.clients ≡ clients }
+    ensures limits { limits_of setup.new ≡ record Limits.DEFAULT { life = 2 ^ 40; orders = 2 ^ 62; clock = 2 ^ 48; chapters = 4294967295 } }
+    ensures size { setup.new.size ≡ SETUP_SIZE }
+{
+    *setup = Setup::of(
+        Limits {
+            life: 1_099_511_627_776,
+            orders: 4_611_686_018_427_387_904,
+            clock: 281_474_976_710_656,
+            chapters: u32::MAX,
+            ..Limits::DEFAULT
+        },
+        clients,
+    );
 }
 
 /// Opens a closed handle: a fleet on the map, each robot on its start.

@@ -3,7 +3,7 @@
 ghost use Rattle.std.specs.Prelude.{◌≡◌, Option, None, Some, IsSome};
 ghost use Rattle.fleet_c.specs.Owns.{HeldValue, owned_code, owns};
 
-use box_parts::Parts;
+use crate::parts::Parts;
 use fleet_core::Core;
 use std::alloc::Global;
 use std::marker::Model;

@@ -3,7 +3,7 @@
 ghost use Rattle.std.specs.Prelude.{◌≡◌, Option, None, Some, IsSome};
 ghost use Rattle.fleet_c.specs.OwnsMap.{HeldValue, owned_code, owns};
 
-use box_parts::Parts;
+use crate::parts::Parts;
 use fleet_grid::Grid;
 use std::alloc::Global;
 use std::marker::Model;

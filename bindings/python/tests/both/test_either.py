@@ -15,7 +15,7 @@ import unittest
 import nashirudder
 from nashirudder import library
 from nashirudder import Arrival, Chapter, Ended, Farewell, FileFailed, FleetError, Look, OrderRefused, OutOfRange
-from nashirudder import Refused, Waiting
+from nashirudder import OpenErrand, Refused, Standing, Waiting
 from nashirudder.names import Code, Verdict
 
 RING = "type octile\nheight 3\nwidth 4\nmap\n....\n.@..\n....\n"
@@ -76,6 +76,43 @@ class Programs:
             self.assertEqual(fleet.look(), Look(2, 0, 4, None, 0, [2, 7]))
             self.assertTrue(fleet.look().idle)
         self.assertEqual(fleet.status, 0)
+
+    def test_queues(self):
+        with self.fleet("ring", [0, 3], clients=2) as fleet:
+            free = [Standing("free", 0, None, 0, None), Standing("free", 3, None, 0, None)]
+            self.assertEqual((fleet.standings(), fleet.queue(0), fleet.open_errands(1)), (free, [], []))
+            asked = ((0, 11, 0), (0, 8, 1), (1, 3, 0), (0, 2, 0))
+            given_up = [fleet.go(robot, cell, client) for robot, cell, client in asked][1]
+            first, second, third = OpenErrand(0, 1, 0, 11, 1), OpenErrand(1, 1, 0, 8, 2), OpenErrand(0, 3, 0, 2, 3)
+            own = OpenErrand(0, 2, 1, 3, 1)
+            self.assertEqual((fleet.queue(0), fleet.queue(1)), ([first, second, third], [own]))
+            self.assertEqual((fleet.open_errands(), fleet.open_errands(1)), ([first, third, own], [second]))
+            # Robot 0 goes east, the first of its two shortest ways. Robot 1 is where it is sent to.
+            fleet.tick()
+            stands = [Standing("busy", 1, 11, 3, 1), Standing("free", 3, None, 0, None)]
+            self.assertEqual(fleet.standings(), stands)
+            fleet.withdraw(given_up)
+            fleet.shut(0), fleet.shut(1)
+            stands = [Standing("shut", 1, 11, 2, 1), Standing("shut", 3, None, 0, None)]
+            self.assertEqual(fleet.standings(), stands)
+            fleet.chapter()
+            self.assertEqual((fleet.standings(), fleet.queue(0)), (stands, [first, OpenErrand(0, 3, 0, 2, 2)]))
+            # Four edges further it arrives, and waits anew for its next errand.
+            fleet.tick(5)
+            self.assertEqual(fleet.standings()[0], Standing("shut", 7, 2, 1, 1))
+            self.refused(Refused, "no-robot", lambda: fleet.queue(2), Code.NO_ROBOT)
+            self.refused(Refused, "no-client", lambda: fleet.open_errands(2), Code.NO_CLIENT)
+            for number in (-1, 2**32, "0", None):
+                for call in (fleet.queue, fleet.open_errands):
+                    with self.assertRaises(OutOfRange):
+                        call(number)
+
+    def test_long_queues(self):
+        with self.fleet("ring", [0], queue=40) as fleet:
+            errands = [fleet.go(0, 1) for _ in range(40)]
+            self.assertEqual([errand.place for errand in fleet.queue(0)], list(range(1, 41)))
+            numbers = [errand.accepted() for errand in errands]
+            self.assertEqual([errand.number for errand in fleet.open_errands()], numbers)
 
     def test_verdicts(self):
         with self.fleet("ring", [0, 3], queue=2, life=3, clients=2) as fleet:
@@ -262,7 +299,7 @@ class Programs:
         fleet.close()
         calls = (
             fleet.tick, fleet.look, fleet.chapter, fleet.close_client, lambda: fleet.go(0, 1), lambda: fleet.shut(0),
-            lambda: fleet.withdraw(errand),
+            lambda: fleet.withdraw(errand), fleet.standings, fleet.open_errands, lambda: fleet.queue(0),
         )
         for call in calls:
             with self.assertRaises(Ended) as caught:
@@ -331,6 +368,8 @@ class Alike(Folder):
 
             calls = [go] * 8 + [lambda: fleet.tick(draw.randint(1, 3))] * 6
             calls += [fleet.look, fleet.chapter, lambda: fleet.shut(draw.randint(0, 3))]
+            calls += [fleet.standings] * 2 + [lambda: fleet.queue(draw.randint(0, 3))]
+            calls += [lambda: fleet.open_errands(draw.randint(0, 2))]
             calls += [lambda: fleet.withdraw(draw.choice(errands)) if errands else None]
             calls += [lambda: fleet.withdraw(errands[-1]) if errands else None]
             if draw.random() < 0.2:

@@ -1,12 +1,14 @@
 """Tests of Handle, and of what is asked of a map alone, against the library. What is wanted is worked out by hand."""
 
 import copy
+import ctypes
 import json
 import threading
 import unittest
 
-from nashirudder import OutOfRange, Refused
-from nashirudder.library import FAR, Handle, Notice, check_step, distances, first_bridge
+from nashirudder import OpenErrand, OutOfRange, Refused, Standing, calls, names, opening
+from nashirudder.library import FAR, Account, Handle, Notice, check_step, distances, first_bridge, judge
+from nashirudder.names import Code
 
 try:
     import numpy
@@ -36,6 +38,9 @@ class Numbers(unittest.TestCase):
             "pending_count": (fleet.pending_count,),
             "widen": (lambda n: fleet.widen(1, client=n),),
             "wait_of": (fleet.wait_of,),
+            "queue": (fleet.queue,),
+            "open_errands": (fleet.open_errands,),
+            "account_of": (fleet.account_of,),
         }
         for name, ways in calls.items():
             for way in ways:
@@ -103,6 +108,28 @@ class Calls(unittest.TestCase):
         with self.assertRaises(TypeError):
             Handle(ROW, robots=[0], speed=2)
 
+    def test_sentences(self):
+        calls.load()
+        for code in Code:
+            if code.word in names.SENTENCES:
+                told = calls.message_of(code, (3, 2**64 - 1))
+                self.assertEqual(names.sentence_of(code.word, (3, 2**64 - 1)), told, code)
+        with self.assertRaises(Refused) as caught:
+            Handle(RING, robots=[0, 5])
+        self.assertEqual(str(caught.exception), "start-blocked: robot 1 starts on a cell that is no floor")
+
+    def test_errands(self):
+        fleet = Handle(RING, robots=[0, 3], clients=2)
+        fleet.go(0, 11), fleet.go(0, 8, client=1), fleet.go(1, 3)
+        first, second, third = OpenErrand(0, 1, 0, 11, 1), OpenErrand(1, 1, 0, 8, 2), OpenErrand(0, 2, 1, 3, 1)
+        self.assertEqual((fleet.queue(0), fleet.queue(1)), ([first, second], [third]))
+        self.assertEqual((fleet.open_errands(), fleet.open_errands(1)), ([first, third], [second]))
+        fleet.tick()
+        fleet.shut(0)
+        self.assertEqual(fleet.standings(), [Standing("shut", 1, 11, 2, 1), Standing("free", 3, None, 0, None)])
+        self.refused("no-robot", lambda: fleet.queue(2))
+        self.refused("no-client", lambda: fleet.open_errands(2))
+
     def test_orders(self):
         fleet = Handle(RING, robots=[0, (3, (0, 0, 0, 0))], clients=2, queue=2)
         self.assertEqual(fleet.go(9, 1).verdict, "no-robot")
@@ -138,6 +165,36 @@ class Calls(unittest.TestCase):
         self.assertEqual(json.loads(fleet.trace())["chapter"], 1)
         self.refused("book-spent", fleet.next_chapter)
         fleet.keep(0)
+
+    def test_chapters_that_are_handed_out(self):
+        fleet = Handle(RING, robots=[0], chapters=2)
+        fleet.go(0, 8)
+        fleet.tick()
+        wanted = fleet.trace()
+        with fleet.hand_out() as ended:
+            fleet.tick()
+            self.assertEqual((ended.trace(), json.loads(fleet.trace())["chapter"]), (wanted, 1))
+            self.refused("book-spent", fleet.hand_out)
+            for make in (copy.copy, copy.deepcopy):
+                with self.assertRaises(TypeError):
+                    make(ended)
+        self.refused("not-open", ended.trace)
+        judge(RING, wanted)
+        self.refused("chapter-illegal", lambda: judge(ROW, wanted), (1, 3))
+        self.refused("trace-shape", lambda: judge(ROW, "{}"), (0, 0))
+        self.refused("map-header", lambda: judge("", "{}"), (1, 0))
+
+    def test_accounts(self):
+        fleet = Handle(RING, robots=[0], clients=2)
+        fleet.go(0, 2, client=1)
+        self.assertEqual((fleet.account_of(), fleet.account_of(1)), (Account(0, 0, 0, 64), Account(1, 1, 1, 64)))
+        self.refused("no-client", lambda: fleet.account_of(2))
+
+    def test_endless_limits(self):
+        setup = calls.CSetup()
+        calls.load().nashirudder_setup_endless(3, ctypes.byref(setup))
+        self.assertEqual({name: getattr(setup, name) for name in opening.ENDLESS}, opening.ENDLESS)
+        self.assertEqual((setup.clients, setup.queue), (3, 16))
 
     def test_is_not_copied(self):
         fleet = Handle(ROW, robots=[0])

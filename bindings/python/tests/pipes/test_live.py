@@ -8,7 +8,7 @@ import tempfile
 import time
 import unittest
 
-from nashirudder import Ended, LiveFleet, Refused, Waiting, finding
+from nashirudder import Ended, LiveFleet, OpenErrand, Refused, Waiting, finding
 from nashirudder.names import Verdict
 
 PROGRAM = finding.program(os.environ.get("FLEET"))
@@ -54,9 +54,21 @@ class LiveTest(unittest.TestCase):
                 errand.arrived(timeout=0.05)
             self.assertEqual(fleet.tick(2), [2, 8])
             self.assertEqual(errand.arrived().tick, 2)
+            self.assertEqual(fleet.arrivals, [errand.arrived()])
             self.assertTrue(fleet.look().idle)
             self.assertEqual(fleet.shut(0).robot, 0)
             self.assertEqual(fleet.chapter().entries, 4)
+
+    def test_open_errands(self):
+        with self.fleet([0, 8], clients=2) as fleet:
+            fleet.go(0, 2), fleet.go(1, 7), fleet.go(0, 3)
+            first, second, third = OpenErrand(0, 1, 0, 2, 1), OpenErrand(0, 3, 0, 3, 2), OpenErrand(0, 2, 1, 7, 1)
+            self.assertEqual((fleet.open_errands(), fleet.open_errands(1)), ([first, second, third], []))
+            fleet.tick()
+            self.assertEqual(fleet.open_errands(), [first, second])
+            with self.assertRaises(Refused):
+                fleet.open_errands(2)
+            self.assertEqual(fleet.look().tick, 1)
 
     def test_a_verdict_waits_for_no_turn(self):
         for words in ({}, {"period_ms": 3600000}):

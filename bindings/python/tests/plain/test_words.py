@@ -23,11 +23,13 @@ KINDS = {
     "uint8_t": ctypes.c_uint8, "uint32_t": ctypes.c_uint32, "uint64_t": ctypes.c_uint64, "size_t": ctypes.c_size_t,
     "bool": ctypes.c_bool, "void *": ctypes.c_void_p, "char": ctypes.c_char, "nashirudder_code": ctypes.c_uint32,
     "nashirudder_verdict": ctypes.c_uint32, "nashirudder_kind": ctypes.c_uint32,
+    "nashirudder_state": ctypes.c_uint32,
 }
 STRUCTS = {
     "fleet": calls.CFleet, "setup": calls.CSetup, "robot": calls.CRobot, "fault": calls.CFault,
     "judgement": calls.CJudgement, "report": calls.CReport, "note": calls.CNote, "order": calls.COrder,
     "arrival": calls.CArrival, "edge": calls.CEdge, "map": calls.CMap, "shape": calls.CShape,
+    "errand": calls.CErrand, "standing": calls.CStanding, "account": calls.CAccount, "chapter": calls.CChapter,
 }
 
 
@@ -69,11 +71,28 @@ class HeaderTest(unittest.TestCase):
             for ours, theirs in zip(calls.FUNCTIONS[name], wanted):
                 self.assertTrue(is_same(ours, theirs), (name, ours, theirs))
 
+    def test_states(self):
+        found = re.search(r"typedef NASHIRUDDER_ENUM\(nashirudder_state\) \{(.*?)\}", BARE, re.S)[1]
+        numbers = {word.lower(): int(number) for word, number in re.findall(r"NASHIRUDDER_(\w+) = (\d+)", found)}
+        self.assertEqual(numbers, {word: number for number, word in enumerate(names.STATES) if word})
+        self.assertEqual(int(re.search(r"#define NASHIRUDDER_NOWHERE (\d+)", HEADER)[1]), calls.NOWHERE)
+
     def test_every_refusal_has_a_sentence(self):
         answers = {"done", "no-memory", "already-open", "no-notice", "idle", "has-bridge", "no-bridge"}
         words = {code.word for code in names.Code} - answers
         words |= {verdict.word for verdict in names.Verdict} - {"accepted", "closed"}
         self.assertEqual(words | {"lane-full", "numbers-spent"}, set(names.SENTENCES))
+
+    def test_sentences_are_the_librarys(self):
+        text = (TOP / "crates" / "fleet_c" / "src" / "sentences.rt").read_text()
+        found = {int(number): told for number, told in re.findall(r'^ +(\d+) => (?:\{\s*)?"(.*)"', text, re.M)}
+        # The last arm of each function is for the greatest number of its kind.
+        rest = re.findall(r'^fn \w+.*?\b_ => (?:\{\s*)?"(.*?)"', text, re.M | re.S)
+        found.update(zip((17, 14, 34, 49, 57), rest))
+        self.assertEqual(set(found), {int(code) for code in names.Code})
+        for word, sentence in names.SENTENCES.items():
+            if word in names.CODE_OF:
+                self.assertEqual(sentence, found[names.CODE_OF[word]], word)
 
     def test_version(self):
         cargo = (TOP / "bindings" / "rust" / "Cargo.toml").read_text()
@@ -91,9 +110,11 @@ class ExceptionsTest(unittest.TestCase):
             self.assertTrue(issubclass(getattr(errors, name), kind), name)
 
     def test_texts(self):
-        self.assertEqual(str(errors.refusal("start", (1, 0))), "start-blocked (1, 0): a robot does not start on floor")
+        told = str(errors.refusal("start", (1, 0)))
+        self.assertEqual(told, "start-blocked: robot 1 starts on a cell that is no floor")
+        self.assertEqual(errors.refusal("start").sentence, "robot ? starts on a cell that is no floor")
         self.assertEqual(str(errors.order_refusal(names.Verdict.BLOCKED)), "blocked: the cell is not floor")
-        self.assertEqual(str(Refused("something-new")), "something-new")
+        self.assertEqual((str(Refused("something-new")), Refused("something-new").sentence), ("something-new", ""))
 
     def test_pickled(self):
         refusals = OrderRefused("blocked", 8), Refused("start-shared", 33, (0, 2))

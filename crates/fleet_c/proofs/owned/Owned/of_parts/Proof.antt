@@ -1,5 +1,5 @@
 -- `of_parts`: the fields are moved, and what the parts owned is owned from now on by what was made of them.
-use Rattle.box_parts.proofs.Steps.{refl, sym, subst, List, [], ◌∷◌, ◌++◌, Ura, Val, SProp, ent, emp, id⊢, ftrue, fsep, Fun, tables, tables_of, Memory, Routine, WpFn, Tables, Logic, ‵, raw, ◌⊛◌, ◌$◌, ◌∵◌, !, qed, by, move, drop, use1, join, split, fsplit, fjoin, suffices, done, whole, sub, agg, stop, fld, no_more, and_then, of_opd, returns, enter, alloc_all, pass_all, free_all, look_at, get, get_in, sets, yes, nothing, says, Stays, stay_dropped, walk_of, ends_at, Goes-dropped, proved_at, D, B, word, box_typed, box_out, box_in}
+use Rattle.fleet_c.proofs.BoxWalk.{refl, sym, subst, List, [], ◌∷◌, ◌++◌, Ura, Val, SProp, ent, emp, id⊢, ftrue, fsep, Fun, tables, tables_of, Memory, Routine, WpFn, Tables, Logic, ‵, raw, ◌⊛◌, ◌$◌, ◌∵◌, !, qed, by, move, drop, use1, join, split, fsplit, fjoin, suffices, done, whole, sub, agg, stop, fld, no_more, and_then, of_opd, returns, enter, alloc_all, pass_all, free_all, look_at, get, get_in, sets, yes, nothing, says, Stays, stay_dropped, walk_of, ends_at, Goes-dropped, proved_at, D, B, word, box_typed, box_out, box_in}
 use Rattle.std.specs.Prelude.{Some}
 use Rattle.fleet_c.proofs.AsBox.{E, FromParts}
 use Rattle.fleet_c.specs.contracts.owned.Owned as owned

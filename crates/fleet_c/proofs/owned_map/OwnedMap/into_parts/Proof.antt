@@ -1,10 +1,10 @@
 -- `into_parts`: of a handle that owns something, the parts own that.
-use Rattle.box_parts.proofs.Steps.{refl, sym, subst, List, [], ◌∷◌, ◌++◌, Ura, Val, SProp, ent, id⊢, ftrue, fsep, Fun, fact, tables, tables_of, Memory, Routine, WpFn, Tables, Logic, ‵, raw, ◌⊛◌, ◌$◌, ◌∵◌, !, qed, by, move, drop, use1, join, split, fsplit, fjoin, rewrite, suffices, done, whole, sub, agg, stop, fld, no_more, and_then, of_opd, returns, enter, alloc_all, pass_all, free_all, look_at, get, get_in, sets, yes, heard, nothing, says, Stays, stay_dropped, walk_of, ends_at, Goes-dropped, proved_at, D, R, P, B, word, box_typed, box_out, box_in}
+use Rattle.fleet_c.proofs.BoxWalk.{refl, sym, subst, List, [], ◌∷◌, ◌++◌, Ura, Val, SProp, ent, id⊢, ftrue, fsep, Fun, fact, tables, tables_of, Memory, Routine, WpFn, Tables, Logic, ‵, raw, ◌⊛◌, ◌$◌, ◌∵◌, !, qed, by, move, drop, use1, join, split, fsplit, fjoin, rewrite, suffices, done, whole, sub, agg, stop, fld, no_more, and_then, of_opd, returns, enter, alloc_all, pass_all, free_all, look_at, get, get_in, sets, yes, heard, nothing, says, Stays, stay_dropped, walk_of, ends_at, Goes-dropped, proved_at, D, R, P, B, word, box_typed, box_out, box_in}
 use Rattle.std.specs.Prelude.{Option, IsSome}
 use Rattle.fleet_c.specs.OwnsMap.{HeldValue}
 use Rattle.fleet_c.proofs.AsMapBox.{E, FromOwned, some_of}
 use Rattle.fleet_c.specs.contracts.owned_map.OwnedMap as owned
-use Rattle.box_parts.specs.contracts.Parts as parts
+use Rattle.fleet_c.specs.contracts.parts.Parts as parts
 use Rattle.fleet_c.specs.contracts.owned_map.OwnedMap.into_parts as this
 use Rattle.fleet_c.specs.contracts.owned_map.OwnedMap.into_parts.Key.{name as #self}
 use Rattle.fleet_c.proofs.owned_map.OwnedMap.into_parts.Statement.{statement}

@@ -1,6 +1,5 @@
 //! Splits a box into its two parts, the pointer and the allocator, and makes a box of them again. Whoever has the parts
 //! owns what the box owned.
-#![tactic(auto)]
 
 ghost use Rattle.std.specs.Prelude.{◌≡◌};
 ghost use Rattle.std.specs.Box.Ownership.{box_owns};

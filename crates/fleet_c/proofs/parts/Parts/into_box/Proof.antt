@@ -1,10 +1,10 @@
 -- `into_box`: the parts give the call what it asks for, the value and the right to free its block.
-use Rattle.box_parts.proofs.Steps.{◌≡◌, refl, sym, subst, ap, List, [], ◌∷◌, ◌++◌, T, Ura, Fn, Args, Body, a_type, dcons, dnil, place, copy, assign, rv_opd, seq, return, inst_fn, Val, vptr, has_ty, WT, SProp, ent, id⊢, ftrue, fsep, flft, ◌⊑◌, Fun, fact, tables, tables_of, Memory, Routine, WpFn, Tables, Logic, Item, at_ret, ‵, raw, ◌⊛◌, some, later, ◌$◌, ◌∵◌, !, qed, by, move, drop, use1, join, split, split3, pick, rewrite, fsplit, fjoin, feq_i, suffices, await, done, whole, sub, stop, fld, no_more, and_then, of_opd, returns, enter, first, blocks, exec, alloc_all, pass_all, free_all, look_at, get, get_in, sets, lands_last, env, no, bounded, RattleType, block_ptr, plain, heard, nothing, only, calls_at_last, Ended, Clauses, triple_of, Triple, Contract, says, Stays, stay_dropped, walk_of, ends_at, fm_of, token, Goes-blank, proved_at, box_owns, Bx, D, R, P, B, word, box_typed, box_ty, box_out, box_in}
-use Rattle.box_parts.specs.contracts.Parts as parts
-use Rattle.box_parts.specs.contracts.Parts.into_box as this
-use Rattle.box_parts.specs.contracts.Parts.into_box.Key.{name as #self}
-use Rattle.box_parts.proofs.Parts.into_box.Statement.{statement}
-use Rattle.box_parts.proofs.Parts.into_box.Code as code
+use Rattle.fleet_c.proofs.BoxWalk.{◌≡◌, refl, sym, subst, ap, List, [], ◌∷◌, ◌++◌, T, Ura, Fn, Args, Body, a_type, dcons, dnil, place, copy, assign, rv_opd, seq, return, inst_fn, Val, vptr, has_ty, WT, SProp, ent, id⊢, ftrue, fsep, flft, ◌⊑◌, Fun, fact, tables, tables_of, Memory, Routine, WpFn, Tables, Logic, Item, at_ret, ‵, raw, ◌⊛◌, some, later, ◌$◌, ◌∵◌, !, qed, by, move, drop, use1, join, split, split3, pick, rewrite, fsplit, fjoin, feq_i, suffices, await, done, whole, sub, stop, fld, no_more, and_then, of_opd, returns, enter, first, blocks, exec, alloc_all, pass_all, free_all, look_at, get, get_in, sets, lands_last, env, no, bounded, RattleType, block_ptr, plain, heard, nothing, only, calls_at_last, Ended, Clauses, triple_of, Triple, Contract, says, Stays, stay_dropped, walk_of, ends_at, fm_of, token, Goes-blank, proved_at, box_owns, Bx, D, R, P, B, word, box_typed, box_ty, box_out, box_in}
+use Rattle.fleet_c.specs.contracts.parts.Parts as parts
+use Rattle.fleet_c.specs.contracts.parts.Parts.into_box as this
+use Rattle.fleet_c.specs.contracts.parts.Parts.into_box.Key.{name as #self}
+use Rattle.fleet_c.proofs.parts.Parts.into_box.Statement.{statement}
+use Rattle.fleet_c.proofs.parts.Parts.into_box.Code as code
 use Rattle.std_alloc.specs.contracts.boxed.Box.from_raw as closing
 use Rattle.std_alloc.proofs.boxed.Box.from_raw.Symbol as closing_name
 use Rattle.std_alloc.proofs.boxed.Box.from_raw.Met.{met}

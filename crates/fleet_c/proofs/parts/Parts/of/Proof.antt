@@ -1,10 +1,10 @@
 -- `of`: the call gives the pointer and the allocator, with what the box owned, and the parts keep all three.
-use Rattle.box_parts.proofs.Steps.{◌≡◌, refl, sym, subst, ap, ◌∙◌, List, [], ◌∷◌, ◌++◌, Ura, Fn, Args, Dict, a_type, dcons, dnil, inst_fn, bare, Val, vstruct, of_list, SProp, ent, id⊢, never, fst∗, ftrue, fsep, flft, ◌⊑◌, Fun, fact, tables, tables_of, Memory, Routine, WpFn, Tables, Logic, sem, Item, ‵, raw, ◌⊛◌, some, later, ◌$◌, ◌∵◌, !, qed, by, move, drop, use1, join, split, split3, pick, rewrite, fsplit, fjoin, fpick, feq_l, suffices, await, done, whole, sub, agg, stop, fld, no_more, and_then, of_opd, returns, enter, alloc_all, pass_all, free_all, look_at, get, get_in, sets, lands_as, no, bounded, RattleType, Ptr, RawPtr, block_ptr, null_ptr, ptr_val, in_a_block, plain, heard, nothing, only, Tuple, calls_at, Ended, Clauses, triple_of, Triple, Contract, says, Stays, stay_dropped, walk_of, ends_at, fm_of, token, handle_tells, Goes-blank, proved_at, box_owns, Bx, D, τ, R, P, B, word, box_typed, box_out, box_in}
-use Rattle.box_parts.specs.contracts.Parts as parts
-use Rattle.box_parts.specs.contracts.Parts.of as this
-use Rattle.box_parts.specs.contracts.Parts.of.Key.{name as #self}
-use Rattle.box_parts.proofs.Parts.of.Statement.{statement}
-use Rattle.box_parts.proofs.Parts.of.Code as code
+use Rattle.fleet_c.proofs.BoxWalk.{◌≡◌, refl, sym, subst, ap, ◌∙◌, List, [], ◌∷◌, ◌++◌, Ura, Fn, Args, Dict, a_type, dcons, dnil, inst_fn, bare, Val, vstruct, of_list, SProp, ent, id⊢, never, fst∗, ftrue, fsep, flft, ◌⊑◌, Fun, fact, tables, tables_of, Memory, Routine, WpFn, Tables, Logic, sem, Item, ‵, raw, ◌⊛◌, some, later, ◌$◌, ◌∵◌, !, qed, by, move, drop, use1, join, split, split3, pick, rewrite, fsplit, fjoin, fpick, feq_l, suffices, await, done, whole, sub, agg, stop, fld, no_more, and_then, of_opd, returns, enter, alloc_all, pass_all, free_all, look_at, get, get_in, sets, lands_as, no, bounded, RattleType, Ptr, RawPtr, block_ptr, null_ptr, ptr_val, in_a_block, plain, heard, nothing, only, Tuple, calls_at, Ended, Clauses, triple_of, Triple, Contract, says, Stays, stay_dropped, walk_of, ends_at, fm_of, token, handle_tells, Goes-blank, proved_at, box_owns, Bx, D, τ, R, P, B, word, box_typed, box_out, box_in}
+use Rattle.fleet_c.specs.contracts.parts.Parts as parts
+use Rattle.fleet_c.specs.contracts.parts.Parts.of as this
+use Rattle.fleet_c.specs.contracts.parts.Parts.of.Key.{name as #self}
+use Rattle.fleet_c.proofs.parts.Parts.of.Statement.{statement}
+use Rattle.fleet_c.proofs.parts.Parts.of.Code as code
 use Rattle.std_alloc.specs.contracts.boxed.Box.into_raw_with_allocator as opening
 use Rattle.std_alloc.proofs.boxed.Box.into_raw_with_allocator.Symbol as opening_name
 use Rattle.std_alloc.proofs.boxed.Box.into_raw_with_allocator.Met.{met}

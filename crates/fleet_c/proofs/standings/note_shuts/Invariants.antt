@@ -1,0 +1,8 @@
+use Rattle.std.proofs.Common.{◌≡◌, ◌<◌, ℕ, length, take}
+use Rattle.std.specs.Prelude.{slice_index_or}
+use Rattle.fleet_c.specs.declared.standing.Standing.{Standing}
+use Rattle.fleet_c.specs.inside.Runs.{run, shut_by}
+use Rattle.fleet_c.proofs.standings.note_shuts.Given as goal
+
+abbrev pub invariant-loop-at : goal.invariant-loop-at
+invariant-loop-at l = (r : ℕ) (d : Standing) → r < length l.fn.standings → slice_index_or l.standings r d ≡ run (shut_by r) (take l.at l.entries) (slice_index_or l.fn.standings r d)

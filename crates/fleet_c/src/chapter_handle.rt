@@ -1,0 +1,70 @@
+//! The handle to a chapter that C holds.
+
+ghost use Rattle.std.specs.Prelude.{◌≡◌, Option, None, Some, is_some, MatchOption, true, false};
+
+use crate::owned_chapter::OwnedChapter;
+use fleet_history::Chapter;
+use std::alloc::Global;
+
+/// The handle to a chapter that C holds: all zero, or the bytes that one of the exports left there.
+#[repr(C)]
+#[derive(Drop)]
+pub struct ChapterHandle {
+    pub owned: OwnedChapter,
+    is_open: bool,
+    ghost agrees: { is_open ≡ is_some owned.held },
+}
+
+impl ChapterHandle {
+    /// A closed one.
+    fn closed(alloc: Global) -> ChapterHandle
+        ensures { result.owned.held ≡ None }
+    {
+        ChapterHandle {
+            owned: OwnedChapter::nothing(alloc),
+            is_open: false,
+        }
+    }
+
+    /// Whether it owns a value.
+    pub fn is_open(&self) -> bool
+        ensures { result ≡ is_some self.now.owned.held }
+    {
+        self.is_open
+    }
+
+    /// Takes the value out, and leaves the handle closed.
+    pub fn take(&mut self, alloc: Global) -> Option<Box<Chapter>>
+        ensures closed { self.new.owned.held ≡ None }
+        ensures taken { MatchOption result (self.old.owned.held ≡ None) (λ b. self.old.owned.held ≡ Some b.value) }
+    {
+        let ChapterHandle { owned, is_open } = std::mem::replace(
+            self,
+            ChapterHandle::closed(alloc),
+        );
+        if is_open {
+            Some(owned.into_box())
+        } else {
+            None
+        }
+    }
+
+    /// Puts a value into a closed handle, which is then open.
+    pub fn put(&mut self, held: Box<Chapter>)
+        requires { is_some self.old.owned.held ≡ false }
+        ensures { self.new.owned.held ≡ Some held.value }
+    {
+        *self = ChapterHandle {
+            owned: OwnedChapter::of(held),
+            is_open: true,
+        };
+    }
+}
+
+/// Accepts only what may move between threads.
+fn crosses<T: Send>(_item: &T) {}
+
+/// Passes a handle, which is proved only if a handle may move between threads.
+fn handle_crosses(chapter: &ChapterHandle) {
+    crosses(chapter);
+}
