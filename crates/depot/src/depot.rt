@@ -1,7 +1,8 @@
 //! The depot: an office over the warehouse, its clients and its tickers.
 
 ghost use Rattle.std.specs.Prelude.{◌≡◌, IfOk};
-ghost use Rattle.fleet_office.specs.Views.{IsNamed, AreOn, cores};
+ghost use Rattle.fleet_core.specs.Hooks.{laws_of};
+ghost use Rattle.fleet_office.specs.Views.{IsNamed, AreOn, cores, world_at};
 
 use crate::account::Account;
 use crate::tally::Tally;
@@ -189,7 +190,8 @@ pub(crate) fn spend_day<
     hooks: Hooks,
     shift: &Shift,
 ) -> Result<DepotReport, DepotFault>
-    requires { IsNamed desk N.name N.parts N.rings }
+    requires named { IsNamed desk N.name N.parts N.rings }
+    requires start { N.start ≡ world_at desk grid starts.items (laws_of hooks) }
 {
     match Office::<N>::open(rt.alloc(), desk, grid, starts, hooks) {
         Ok((office, clients, ticker)) => {

@@ -4,9 +4,14 @@ use Rattle.std.specs.Prelude.{IfOk, ◌⊎◌, nat_lt}
 use Rattle.std.specs.List.{All}
 use Rattle.std.specs.declared.alloc.AllocError.{AllocError}
 use Rattle.std.specs.declared.alloc.Global.{Global}
-use Rattle.fleet_grid.specs.Floor.{Floor}
+use Rattle.fleet_grid.specs.Floor.{Floor, IsNeighbour}
+use Rattle.fleet_grid.specs.Walk.{IsBridgeless}
+use Rattle.fleet_bound.specs.Bound.{WaitsAreBounded}
+use Rattle.fleet_core.specs.Core.{opening_of}
 use Rattle.fleet_history.specs.History.{History}
+use Rattle.fleet_history.specs.Laws.{EachTick}
 use Rattle.fleet_history.specs.Legal.{IsLegal}
+use Rattle.fleet_planner.specs.Planned.{IsPlanned, IsAdvancingTick}
 use Rattle.fleet_core.specs.Hooks.{HookLaws}
 use Rattle.fleet_core.specs.declared.faults.OpenFault.{OpenFault}
 use Rattle.fleet_core.specs.OpeningFaults.{IsRefused}
@@ -15,7 +20,7 @@ use Rattle.fleet_trace.specs.Trace.{Trace}
 use Rattle.fleet_trace.specs.Text.{trace_text}
 use Rattle.fleet_serve.specs.declared.served.ServeFault.{ServeFault}
 use Rattle.fleet_serve.specs.declared.served.ServeFault.TheVariants as serve_fault
-use Rattle.fleet_serve.specs.Posted.{TakesPosted, TakesAll}
+use Rattle.fleet_serve.specs.Posted.{TakesPosted, TakesAll, AreFullCounted}
 use Rattle.errands_text.specs.declared.said.Said.{Said}
 use Rattle.errands_lib.specs.declared.job.Job.{Job}
 use Rattle.errands_lib.specs.declared.job.Job.TheVariants as job
@@ -26,6 +31,15 @@ use Rattle.errands_lib.specs.Outcome.{MayOpen, IsServed, IsServedText, IsUnserve
 use Rattle.errands_text.specs.Said.{said}
 use Rattle.errands_lib.specs.Asked.{is_serve}
 
+-- what a serve on this map, with these laws, says of its chapter
+pub record Ends (g own : Floor) (laws : HookLaws) (p : Plan) (lane_full : ℕ) (h : History Global) : Type 0 where
+  pub floor : own ≡ g
+  pub opening : h.opening ≡ opening_of p.starts p.clients p.limits laws
+  pub planned : EachTick (IsPlanned own laws.ties) h
+  pub advancing : IsBridgeless (IsNeighbour own) → EachTick (IsAdvancingTick own) h
+  pub bounded : IsBridgeless (IsNeighbour own) → WaitsAreBounded own h
+  pub counted : AreFullCounted h p.events p.limits.orders p.clients lane_full
+
 module _ (kit : KitLaws) (laws : HookLaws) (m g : Floor) (p : Plan) (same : g ≡ m) (chosen : laws ≡ chosen_laws kit p) where
   moved : (f : OpenFault) → IsRefused g p.starts p.clients p.limits laws f → IsRefused m p.starts p.clients p.limits (chosen_laws kit p) f
   moved f why = subst (λ (x : HookLaws). IsRefused m p.starts p.clients p.limits x f) chosen (subst (λ (x : Floor). IsRefused x p.starts p.clients p.limits laws f) same why)
@@ -34,18 +48,24 @@ module _ (kit : KitLaws) (laws : HookLaws) (m g : Floor) (p : Plan) (same : g �
   back f why = subst (λ (x : Floor). IsRefused x p.starts p.clients p.limits laws f) (sym same) (subst (λ (x : HookLaws). IsRefused m p.starts p.clients p.limits x f) (sym chosen) why)
 
   -- a serve came to its end
-  pub served_is : {S : Type 0} (r : Result Said AllocError) (s : S) (own : Floor) (number lane_full : ℕ) (h : History Global) → own ≡ m → number ≡ 0
+  pub served_is : {S : Type 0} (r : Result Said AllocError) (s : S) (own office : Floor) (number lane_full : ℕ) (h : History Global) → own ≡ m → number ≡ 0 → Ends g office laws p lane_full h
       → ((f : OpenFault) → IsRefused g p.starts p.clients p.limits laws f → (◌≡◌ {A = Result S ServeFault} (Ok s) (Err (serve_fault.Opening f))) ⊎ (◌≡◌ {A = Result S ServeFault} (Ok s) (Err serve_fault.NoMemory)))
       → TakesPosted h p.events p.clients → (lane_full ≡ 0 → length p.events < p.limits.orders → TakesAll h p.events p.clients)
       → IfOk r (λ x. IsLegal own h)
       → IfOk r (λ x. said x ≡ limited (nat_lt 0 lane_full) (trace_text (record { number = number; history = h }) ++ codes "\n"))
       → IfOk r (λ x. IsServed kit m p (said x))
-  served_is (Err e) s own number lane_full h judged first opens posted all legal is = tt
-  served_is {S} (Ok x) s own number lane_full h judged first opens posted all legal is =
+  served_is (Err e) s own office number lane_full h judged first ends opens posted all legal is = tt
+  served_is {S} (Ok x) s own office number lane_full h judged first ends opens posted all legal is =
       let text : said x ≡ limited (nat_lt 0 lane_full) (trace_text (record { number = 0; history = h }) ++ codes "\n") =
       is ∙ ap (λ (n : ℕ). limited (nat_lt 0 lane_full) (trace_text (record { number = n; history = h }) ++ codes "\n")) first in
+      let floor : office ≡ m = ends.floor ∙ same in
       served lane_full (λ f why. never (opens f (back f why))) (record {
         history = h;
+        opening = ends.opening ∙ ap (λ (x : HookLaws). opening_of p.starts p.clients p.limits x) chosen;
+        planned = subst (λ (x : HookLaws). EachTick (IsPlanned m x.ties) h) chosen (subst (λ (y : Floor). EachTick (IsPlanned y laws.ties) h) floor ends.planned);
+        advancing = subst (λ (y : Floor). IsBridgeless (IsNeighbour y) → EachTick (IsAdvancingTick y) h) floor ends.advancing;
+        bounded = subst (λ (y : Floor). IsBridgeless (IsNeighbour y) → WaitsAreBounded y h) floor ends.bounded;
+        counted = ends.counted;
         legal = subst (λ (y : Floor). IsLegal y h) judged legal;
         posted = posted;
         all = all;

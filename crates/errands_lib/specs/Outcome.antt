@@ -4,15 +4,20 @@ use Rattle.std.specs.declared.alloc.Global.{Global}
 use Rattle.std.specs.List.{All}
 use Rattle.fleet_map.specs.declared.fault.MapFault.{MapFault}
 use Rattle.fleet_map.specs.Grammar.{Map, map_of}
-use Rattle.fleet_grid.specs.Floor.{Floor}
+use Rattle.fleet_grid.specs.Floor.{Floor, IsNeighbour}
+use Rattle.fleet_grid.specs.Walk.{IsBridgeless}
+use Rattle.fleet_bound.specs.Bound.{WaitsAreBounded}
+use Rattle.fleet_core.specs.Core.{opening_of}
 use Rattle.fleet_core.specs.declared.faults.OpenFault.{OpenFault}
 use Rattle.fleet_core.specs.OpeningFaults.{IsRefused}
+use Rattle.fleet_history.specs.Laws.{EachTick}
 use Rattle.fleet_history.specs.Legal.{IsLegal}
+use Rattle.fleet_planner.specs.Planned.{IsPlanned, IsAdvancingTick}
 use Rattle.fleet_history.specs.History.{History}
 use Rattle.fleet_trace.specs.Text.{trace_text}
 use Rattle.fleet_serve.specs.declared.served.ServeFault.{ServeFault}
 use Rattle.fleet_serve.specs.declared.served.ServeFault.TheVariants as serve_fault
-use Rattle.fleet_serve.specs.Posted.{IsLine, IsFirstOther, TakesPosted, TakesAll}
+use Rattle.fleet_serve.specs.Posted.{IsLine, IsFirstOther, TakesPosted, TakesAll, AreFullCounted}
 use Rattle.errands_lib.specs.declared.job.Job.{Job}
 use Rattle.errands_lib.specs.declared.job.Job.TheVariants as job
 use Rattle.errands_text.specs.declared.said.Complaint.TheVariants as complaint
@@ -27,14 +32,21 @@ use Rattle.errands_lib.specs.Answer.{IsBundleOutcome, IsJudgeOutcome, IsMapOutco
 abbrev pub MayOpen : KitLaws → Floor → Plan → Type 0
 MayOpen kit m plan = (f : OpenFault) → IsRefused m plan.starts plan.clients plan.limits (chosen_laws kit plan) f → ⊥
 
--- the trace of a history that is legal on the map and takes what the script's clients post, this many of whose posts met a full lane
-pub record IsServedText (m : Floor) (plan : Plan) (lane_full : ℕ) (o : Outcome) : Type 0 where
+-- the trace of a history that begins as the script says, is legal on the map and takes what the script's clients post, this many of
+-- whose posts met a full lane
+pub record IsServedText (kit : KitLaws) (m : Floor) (plan : Plan) (lane_full : ℕ) (o : Outcome) : Type 0 where
   pub history : History Global
+  pub opening : history.opening ≡ opening_of plan.starts plan.clients plan.limits (chosen_laws kit plan)
   pub legal : IsLegal m history
+  pub planned : EachTick (IsPlanned m (chosen_laws kit plan).ties) history
+  pub advancing : IsBridgeless (IsNeighbour m) → EachTick (IsAdvancingTick m) history
+  pub bounded : IsBridgeless (IsNeighbour m) → WaitsAreBounded m history
   -- the orders taken of each client are posts of its lines, in their order
   pub posted : TakesPosted history plan.events plan.clients
   -- they are all of them up to its first close, where no post met a full lane and no client spent its numbers
   pub all : lane_full ≡ 0 → length plan.events < plan.limits.orders → TakesAll history plan.events plan.clients
+  -- posts that met a full lane, of each client once
+  pub counted : AreFullCounted history plan.events plan.limits.orders plan.clients lane_full
   pub said : o ≡ limited (nat_lt 0 lane_full) (trace_text (record { number = 0; history = history }) ++ codes "\n")
 
 -- what is said of a serve that came to no end for this reason; nothing where memory or a thread was wanting
@@ -51,7 +63,7 @@ pub data IsServed (kit : KitLaws) (m : Floor) (plan : Plan) (o : Outcome) : Type
   refused : (f : OpenFault) → IsRefused m plan.starts plan.clients plan.limits (chosen_laws kit plan) f → o ≡ fault (complaint.Opening f) → IsServed kit m plan o
   -- the clock or the chapter was full, or the lanes were not emptied
   ended : MayOpen kit m plan → o ≡ fault complaint.Limit → IsServed kit m plan o
-  served : (lane_full : ℕ) → MayOpen kit m plan → IsServedText m plan lane_full o → IsServed kit m plan o
+  served : (lane_full : ℕ) → MayOpen kit m plan → IsServedText kit m plan lane_full o → IsServed kit m plan o
 
 pub data IsServedScript (kit : KitLaws) (m : Floor) (plan : Plan) (o : Outcome) : Type 0 where
   -- the first line that is no post or collect of a client in range

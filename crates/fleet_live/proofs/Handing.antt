@@ -4,6 +4,7 @@ use Rattle.std.proofs.lemmas.List.{append-nil}
 use Rattle.fleet_history.specs.History.{History}
 use Rattle.fleet_history.specs.Legal.{IsLegal}
 use Rattle.fleet_grid.specs.Floor.{Floor}
+use Rattle.fleet_core.specs.Core.{World}
 use Rattle.fleet_lanes.specs.Names.{LaneName}
 use Rattle.fleet_office.specs.Chapters.{IsChapterOf}
 use Rattle.fleet_office.specs.Hall.{HallView}
@@ -14,8 +15,8 @@ use Rattle.fleet_live.specs.Handed.{IsConcluded, KeepsHanded, KeepsToEnd}
 
 module _ {A : Type 0} where
   -- what an office hands out may be kept
-  pub sound-handed : (rings : List (LaneName A)) (n : _) (h : History A) → (hall : HallView A) × IsChapterOf rings hall n h → (m : Floor) × IsSound m h
-  sound-handed rings n h (hall, of) = (hall.world.floor, record { legal = subst (IsLegal hall.world.floor) (sym of.history) of.lawful.legal; advancing = of.advancing })
+  pub sound-handed : (rings : List (LaneName A)) (began : World A) (n : _) (h : History A) → (hall : HallView A) × IsChapterOf rings began hall n h → (m : Floor) × IsSound m h
+  sound-handed rings began n h (hall, of) = (hall.world.floor, record { legal = subst (IsLegal hall.world.floor) (sym of.history) of.lawful.legal; advancing = of.advancing })
 
   pub handed-none : (waits : List (ChapterView A)) (known : Option (List (ChapterView A))) → KeepsHanded waits waits known known
   handed-none waits known = record { chapters = []; sound = tt; kept = record { kept = []; parts = append-nil waits; added = adds-none known } }
@@ -46,9 +47,9 @@ module _ {A : Type 0} where
   }
 
   -- the last was kept, after those that waited and those that were handed out
-  pub to-end : (rings : List (LaneName A)) (waited waits : List (ChapterView A)) (a b c : Option (List (ChapterView A))) (x : ChapterView A) → KeepsHanded waited waits a b →
-      (m : Floor) × IsSound m x.history → IsConcluded rings x → Adds b c (waits ++ x ∷ []) → KeepsToEnd rings waited a c
-  to-end rings waited waits a b c x handed is concluded last = record {
+  pub to-end : (rings : List (LaneName A)) (began : World A) (waited waits : List (ChapterView A)) (a b c : Option (List (ChapterView A))) (x : ChapterView A) → KeepsHanded waited waits a b →
+      (m : Floor) × IsSound m x.history → IsConcluded rings began x → Adds b c (waits ++ x ∷ []) → KeepsToEnd rings began waited a c
+  to-end rings began waited waits a b c x handed is concluded last = record {
     chapters = handed.chapters;
     last = x;
     sound = sound-append handed.chapters (x ∷ []) handed.sound (is, tt);

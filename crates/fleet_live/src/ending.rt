@@ -79,7 +79,7 @@ fn conclude<N: OfficeName<Global>, R: Alloc<A = Global> + Wait, S: Shelf>(
 ) -> Result<Final, (Stop, Home<N>)>
     requires on { AreOn N.rings (cores home.clients.items) }
     ensures sound { IfOk result (λ end. (m : Floor) × IsSound m (history_of end.chapter)) }
-    ensures concluded { IfOk result (λ end. IsConcluded N.rings (chapter_shown end.chapter)) }
+    ensures concluded { IfOk result (λ end. IsConcluded N.rings N.start (chapter_shown end.chapter)) }
     ensures kept { OnOk result (KeepsHanded archive.old.waiting archive.new.waiting (S.kept archive.old.shelf) (S.kept archive.new.shelf)) }
 {
     let mut home = home;
@@ -265,7 +265,7 @@ pub(crate) fn finish<N: OfficeName<Global>, R: Alloc<A = Global> + Wait, S: Shel
     tickers: Vec<Ticker<N>>,
     archive: &mut Archive<S>,
 ) -> Result<(), Stop>
-    ensures kept { OnOk result (KeepsToEnd N.rings archive.old.waiting (S.kept archive.old.shelf) (S.kept archive.new.shelf)) }
+    ensures kept { OnOk result (KeepsToEnd N.rings N.start archive.old.waiting (S.kept archive.old.shelf) (S.kept archive.new.shelf)) }
 {
     let clients = match clients_home(rt, conversations) {
         Ok(clients) => clients,

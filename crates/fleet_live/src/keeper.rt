@@ -88,7 +88,7 @@ impl<N: OfficeName<Global>, S: Shelf> Keeper<'_, N, S> {
 
     /// Hands out the chapter where it is full, and returns whether there is room for an entry now.
     pub(crate) fn turn_page<R: Wait>(&self, rt: &R, work: &mut Work<N>) -> Result<bool, Stop>
-        ensures { result ≡ Ok true → IsTurned N.rings self.now.stage.now.chapter work.old.pages work.new.pages }
+        ensures { result ≡ Ok true → IsTurned N.rings N.start self.now.stage.now.chapter work.old.pages work.new.pages }
     {
         match self.office.turn_page(rt, self.stage.chapter) {
             // The other ticker handed it out.

@@ -4,7 +4,7 @@ ghost use Rattle.std.specs.Prelude.{◌≡◌, ◌≤◌, ◌↔◌, ◌⊎◌, 
 ghost use Rattle.errands_text.specs.Kit.{kit_laws};
 ghost use Rattle.fleet_core.specs.Hooks.{laws_of};
 ghost use Rattle.fleet_core.specs.OpeningFaults.{IsNamed as IsNamedFault, IsRefused};
-ghost use Rattle.fleet_office.specs.Views.{IsNamed};
+ghost use Rattle.fleet_office.specs.Views.{IsNamed, world_at};
 ghost use Rattle.fleet_talk.specs.Heading.{drafted};
 ghost use Rattle.fleet_live.specs.Ended.{IsEnded, IsRefusedHead, ended_by, unopened};
 
@@ -167,7 +167,8 @@ fn keep_fleet<
     settings: LiveSettings,
     ends: LiveEnds<I, W, P, Q, E, S>,
 ) -> Result<bool, TalkFault>
-    requires { IsNamed opening.desk N.name N.parts N.rings }
+    requires named { IsNamed opening.desk N.name N.parts N.rings }
+    requires start { N.start ≡ world_at opening.desk opening.grid opening.starts.items (laws_of opening.hooks) }
     ensures refused { (why : OpenFault) → IsNamedFault why →
         ((result ≡ Err (TalkFault.Opening why)) ↔ IsRefused opening.grid opening.starts.items (length opening.desk.clients) opening.desk.limits (laws_of opening.hooks) why) }
 {

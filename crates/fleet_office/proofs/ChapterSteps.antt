@@ -9,7 +9,6 @@ use Rattle.fleet_planner.specs.Planned.{IsPlanned, IsAdvancingTick}
 use Rattle.fleet_bound.specs.Bound.{WaitsAreBounded}
 use Rattle.fleet_history.specs.Legal.{IsLegal}
 use Rattle.fleet_history.specs.declared.history.Chapter.{Chapter}
-use Rattle.fleet_history.proofs.Rings.{ring-next}
 use Rattle.fleet_history.proofs.Next.{next-clients}
 use Rattle.fleet_core.specs.Core.{World, next_world}
 use Rattle.fleet_core.specs.declared.faults.ChapterFault.{ChapterFault}
@@ -18,13 +17,14 @@ use Rattle.fleet_lanes.specs.Ends.{EndView}
 use Rattle.fleet_office.specs.Hall.{HallView, IsLawful, next_hall}
 use Rattle.fleet_office.specs.Chapters.{IsChapterOf, TurnsPage}
 use Rattle.fleet_office.proofs.Places.{within}
+use Rattle.fleet_office.proofs.Sinces.{since-next, goes-next}
 
-module _ {A : Type 0} (rings : List (LaneName A)) where
-  pub lawful_next : (w : World A) (ends : List (EndView A)) (t : ℕ) → IsLegal (next_world w).floor (next_world w).history → IsLawful rings w ends t → IsLawful rings (next_world w) ends t
+module _ {A : Type 0} (rings : List (LaneName A)) (began : World A) where
+  pub lawful_next : (w : World A) (ends : List (EndView A)) (t : ℕ) → IsLegal (next_world w).floor (next_world w).history → IsLawful rings began w ends t → IsLawful rings began (next_world w) ends t
   lawful_next w ends t legal h = record {
     laws = λ c e at. record {
       lane = (h.laws c e at).lane;
-      keeps = ring-next w.floor w.history c e.taken _ h.legal (omega (arith, within ends c e at, h.end_count)) (h.laws c e at).keeps;
+      keeps = goes-next began.history w.floor w.history c e.taken _ h.legal (omega (arith, within ends c e at, h.end_count)) (h.laws c e at).keeps;
     };
     legal = legal;
     clock = omega (arith, h.clock);
@@ -33,13 +33,13 @@ module _ {A : Type 0} (rings : List (LaneName A)) where
     ring_count = h.ring_count;
     few = h.few;
     valid = h.valid;
-    first = λ none. absurd (omega arith);
+    since = since-next began w h.since;
   }
 
   pub kept-next : {C E : Type 0} (w v : World A) (ends : List (EndView A)) (t : ℕ) (r : Result C E) → OnOk r (v ≡ next_world w) → OnErr r (v ≡ w) → IsLegal v.floor v.history →
-      IsLawful rings w ends t → IsLawful rings v ends t
-  kept-next w v ends t (Ok x) ok err legal h = subst (λ x. IsLawful rings x ends t) (sym ok) (lawful_next w ends t (subst (λ (x : World A). IsLegal x.floor x.history) ok legal) h)
-  kept-next w v ends t (Err e) ok err legal h = subst (λ x. IsLawful rings x ends t) (sym err) h
+      IsLawful rings began w ends t → IsLawful rings began v ends t
+  kept-next w v ends t (Ok x) ok err legal h = subst (λ x. IsLawful rings began x ends t) (sym ok) (lawful_next w ends t (subst (λ (x : World A). IsLegal x.floor x.history) ok legal) h)
+  kept-next w v ends t (Err e) ok err legal h = subst (λ x. IsLawful rings began x ends t) (sym err) h
 
 abbrev ok_in : {X : Type 0} (E : Type 0) → Option X → Result (Option X) E
 ok_in E x = Ok x
@@ -51,12 +51,12 @@ some_is_none : {X E : Type 0} {x : X} → ok_in E (Some x) ≡ ok_in E None → 
 some_is_none s = cc
 
 -- what is handed out is the chapter of a lawful hall
-pub handed : {A : Type 0} (rings : List (LaneName A)) (v : HallView A) (r : Result (Chapter A) ChapterFault) → IsLawful rings v.world v.ends v.total →
+pub handed : {A : Type 0} (rings : List (LaneName A)) (began : World A) (v : HallView A) (r : Result (Chapter A) ChapterFault) → IsLawful rings began v.world v.ends v.total →
     IfOk r (λ c. history_of c ≡ v.world.history) → IfOk r (λ c. c.number ≡ v.world.number) → OnOk r (EachTick (IsPlanned v.world.floor v.world.ties) v.world.history) →
     OnOk r (IsBridgeless (IsNeighbour v.world.floor) → EachTick (IsAdvancingTick v.world.floor) v.world.history) →
     OnOk r (IsBridgeless (IsNeighbour v.world.floor) → WaitsAreBounded v.world.floor v.world.history) →
-    IfOk r (λ c. (h : HallView A) × IsChapterOf rings h c.number (history_of c))
-handed rings v (Ok c) lawful is number planned advancing bounded = (
+    IfOk r (λ c. (h : HallView A) × IsChapterOf rings began h c.number (history_of c))
+handed rings began v (Ok c) lawful is number planned advancing bounded = (
   v,
   record {
     lawful = lawful;
@@ -67,7 +67,7 @@ handed rings v (Ok c) lawful is number planned advancing bounded = (
     bounded = λ b. subst (WaitsAreBounded v.world.floor) (sym is) (bounded b);
   },
 )
-handed rings v (Err e) lawful is number planned advancing bounded = tt
+handed rings began v (Err e) lawful is number planned advancing bounded = tt
 
 -- a page that was turned has at least as many entries as were asked for
 pub page-enough : {A E : Type 0} (h g : HallView A) (least : ℕ) (r : Result (Option (Chapter A)) E) → ((r ≡ Ok None) ↔ (length h.world.history.entries < least)) →
@@ -85,13 +85,13 @@ pub with-fact : {X P Q : Type 0} → Q → (X ↔ P) → (X ↔ (Q × P))
 with-fact q h = ((λ x. (q, h.0 x)), (λ p. h.1 p.1))
 
 -- and is the chapter of a lawful hall
-pub page-handed : {A E : Type 0} (rings : List (LaneName A)) (h g : HallView A) (r : Result (Option (Chapter A)) E) → IsLawful rings h.world h.ends h.total →
+pub page-handed : {A E : Type 0} (rings : List (LaneName A)) (began : World A) (h g : HallView A) (r : Result (Option (Chapter A)) E) → IsLawful rings began h.world h.ends h.total →
     EachTick (IsPlanned h.world.floor h.world.ties) h.world.history →
     (IsBridgeless (IsNeighbour h.world.floor) → EachTick (IsAdvancingTick h.world.floor) h.world.history) →
     (IsBridgeless (IsNeighbour h.world.floor) → WaitsAreBounded h.world.floor h.world.history) →
-    IfOk r (λ page. TurnsPage h page g) → IfOk r (λ page. IfSome page (λ c. (v : HallView A) × IsChapterOf rings v c.number (history_of c)))
-page-handed rings h g (Ok None) lawful planned advancing bounded turned = tt
-page-handed rings h g (Ok (Some c)) lawful planned advancing bounded turned = (
+    IfOk r (λ page. TurnsPage h page g) → IfOk r (λ page. IfSome page (λ c. (v : HallView A) × IsChapterOf rings began v c.number (history_of c)))
+page-handed rings began h g (Ok None) lawful planned advancing bounded turned = tt
+page-handed rings began h g (Ok (Some c)) lawful planned advancing bounded turned = (
   h,
   record {
     lawful = lawful;
@@ -102,7 +102,7 @@ page-handed rings h g (Ok (Some c)) lawful planned advancing bounded turned = (
     bounded = λ b. subst (WaitsAreBounded h.world.floor) (sym turned.0) (bounded b);
   },
 )
-page-handed rings h g (Err e) lawful planned advancing bounded turned = tt
+page-handed rings began h g (Err e) lawful planned advancing bounded turned = tt
 
 abbrev hall_of : {A : Type 0} → World A → List (EndView A) → ℕ → HallView A
 hall_of w ends t = record { world = w; ends = ends; total = t }
@@ -117,12 +117,12 @@ module _ {A C E : Type 0} (w v : World A) (ends : List (EndView A)) (t : ℕ) wh
   hall-stays (Err x) e = ap (λ u. hall_of u ends t) e
 
 -- what is left of a lawful hall is its chapter
-pub handed-last : {A : Type 0} (rings : List (LaneName A)) (v : HallView A) (h : History A) (n : ℕ) → IsLawful rings v.world v.ends v.total →
+pub handed-last : {A : Type 0} (rings : List (LaneName A)) (began : World A) (v : HallView A) (h : History A) (n : ℕ) → IsLawful rings began v.world v.ends v.total →
     EachTick (IsPlanned v.world.floor v.world.ties) v.world.history →
     (IsBridgeless (IsNeighbour v.world.floor) → EachTick (IsAdvancingTick v.world.floor) v.world.history) →
     (IsBridgeless (IsNeighbour v.world.floor) → WaitsAreBounded v.world.floor v.world.history) →
-    h ≡ v.world.history → n ≡ v.world.number → (hall : HallView A) × IsChapterOf rings hall n h
-handed-last rings v h n lawful planned advancing bounded is number = (
+    h ≡ v.world.history → n ≡ v.world.number → (hall : HallView A) × IsChapterOf rings began hall n h
+handed-last rings began v h n lawful planned advancing bounded is number = (
   v,
   record {
     lawful = lawful;

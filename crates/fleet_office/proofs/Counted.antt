@@ -7,7 +7,6 @@ use Rattle.std.proofs.Math.ListN.{length-set}
 use Rattle.fleet_book.specs.declared.verdict.Verdict.{Verdict}
 use Rattle.fleet_history.specs.History.{clients, owed}
 use Rattle.fleet_history.specs.Notices.{noticed_count}
-use Rattle.fleet_history.proofs.Numbered.{noticed-length}
 use Rattle.fleet_core.specs.Core.{World, pending}
 use Rattle.fleet_core.specs.declared.faults.TickReport.{TickReport}
 use Rattle.fleet_lanes.specs.Names.{LaneName}
@@ -25,16 +24,16 @@ at_most f m (x ∷ xs) h =
 
 module _ {A : Type 0} where
   -- all that was given is few
-  pub countable : (rings : List (LaneName A)) (w : World A) (ends : List (EndView A)) (t : ℕ) → IsLawful rings w ends t
+  pub countable : (rings : List (LaneName A)) (began : World A) (w : World A) (ends : List (EndView A)) (t : ℕ) → IsLawful rings began w ends t
       → ((c : ℕ) → c < clients w.history → noticed_count w.history c + owed w.history c ≤ 2 ^ 57)
       → sum_by (λ e. length e.given) ends ≤ 2 ^ 63
-  countable rings w ends t h few =
+  countable rings began w ends t h few =
       let each : (k : ℕ) (e : EndView A) → slice_get ends k ≡ Some e → length e.given ≤ 2 ^ 57 =
       (λ k e there.
       let law = h.laws k e there in
       let inside = within ends k e there in
       let known : k < clients w.history = omega (arith, inside, h.end_count) in
-      omega (arith, law.keeps.ring.told_length, noticed-length w.floor w.history k h.legal, few k known, length-append e.given (pending w k).notices)) in
+      omega (arith, law.keeps.told_length, few k known, length-append e.given (pending w k).notices)) in
       let all = at_most (λ (e : EndView A). length e.given) (2 ^ 57) ends each in
       omega (arith, all, h.few)
 

@@ -1,5 +1,7 @@
 pub mod Places
 pub mod Pairs
+pub mod Sinces
+pub mod Pasts
 pub mod Laws
 pub mod TakeSteps
 pub mod GiveSteps

@@ -51,11 +51,11 @@ module _ {A : Type 0} where
     pub ok : OnOk r ((t : TakesNext w c n v) × (d ≡ took e t.order d.known) × (e.known ≡ t.order ∷ d.known))
     pub err : OnErr r (Widens w c n v × (d ≡ e))
 
-  module _ (rings : List (LaneName A)) (w : World A) (ends : List (EndView A)) (t c n : ℕ) (e : EndView A) (at : slice_get ends c ≡ Some e) (v : World A) (d : EndView A) where
-    pub kept_left : (r : Result (Unit {0}) TakeFault) → TakenLeft w v e d c n r → IsLawful rings w ends t → IsLawful rings v (set ends c d) t
-    kept_left (Ok u) k h = lawful_next rings w v ends t c n e d at k.ok.0 k.ok.1 h
+  module _ (rings : List (LaneName A)) (began : World A) (w : World A) (ends : List (EndView A)) (t c n : ℕ) (e : EndView A) (at : slice_get ends c ≡ Some e) (v : World A) (d : EndView A) where
+    pub kept_left : (r : Result (Unit {0}) TakeFault) → TakenLeft w v e d c n r → IsLawful rings began w ends t → IsLawful rings began v (set ends c d) t
+    kept_left (Ok u) k h = lawful_next rings began w v ends t c n e d at k.ok.0 k.ok.1 h
     kept_left (Err f) k h =
-        lawful_same rings v ends t c e d at (ap (λ x. x.lane) k.err.1) (ap (λ x. x.taken) k.err.1) (ap (λ x. x.given) k.err.1) (lawful_wide rings w v ends t c n k.err.0 h)
+        lawful_same rings began v ends t c e d at (ap (λ x. x.lane) k.err.1) (ap (λ x. x.taken) k.err.1) (ap (λ x. x.given) k.err.1) (lawful_wide rings began w v ends t c n k.err.0 h)
 
     pub moves_left : (r : Result (Unit {0}) TakeFault) → TakenLeft w v e d c n r → OnOk r (Moves c ends (set ends c d))
     moves_left (Ok u) k = moves_set ends c e d k.ok.0.order at k.ok.1 k.ok.2

@@ -49,6 +49,12 @@ pub some-step : {W X E : Type 0} (L : W → Type 0) (P : W → X → W → Type 
 some-step L P h g (Ok x) l p = (h, g, l, p)
 some-step L P h g (Err e) l p = tt
 
+-- with a fact of the world that is left
+pub some-step-left : {W X E : Type 0} (L : W → Type 0) (P : W → X → W → Type 0) (Q : W → Type 0) (h g : W) (r : Result X E) → L h → IfOk r (λ x. P h x g × Q g) →
+    IfOk r (λ x. (v u : W) × L v × P v x u × Q u)
+some-step-left L P Q h g (Ok x) l p = (h, g, l, p.0, p.1)
+some-step-left L P Q h g (Err e) l p = tt
+
 pub some-stop : {W X E : Type 0} (L : W → Type 0) (P : W → E → W → Type 0) (h g : W) (r : Result X E) → L h → IfErr r (λ e. P h e g) → IfErr r (λ e. (v u : W) × L v × P v e u)
 some-stop L P h g (Ok x) l p = tt
 some-stop L P h g (Err e) l p = (h, g, l, p)

@@ -4,6 +4,7 @@ use Rattle.std.proofs.Common.{◌≡◌, ◌≢◌, ℕ, zero, suc, ◌+◌, ◌
 use Rattle.std.specs.Prelude.{slice_get}
 use Rattle.std.proofs.Math.Seq.{map-set_same}
 use Rattle.std.proofs.lemmas.Option.{get_or_from_slice_get, slice_get_within}
+use Rattle.fleet_history.specs.History.{History}
 use Rattle.fleet_core.specs.Core.{World}
 use Rattle.fleet_lanes.specs.Names.{LaneName}
 use Rattle.fleet_lanes.specs.Ends.{EndView, ClientView}
@@ -115,6 +116,10 @@ module _ {A : Type 0} where
   first_frame (suc k) ends cs w v d =
       let b = first_frame k ends cs w d.0 d.3 in
       (d.4.0.floor ∙ b.0, d.4.0.ties ∙ b.1, d.4.0.number ∙ b.2)
+
+  pub first_opening : (k : ℕ) (ends : List (EndView A)) (cs : List (ClientCore A)) (w v : World A) → DrainsFirst k ends cs w v → v.history.opening ≡ w.history.opening
+  first_opening zero ends cs w v same = ap (λ x. x.history.opening) same
+  first_opening (suc k) ends cs w v d = ap (λ (h : History A). h.opening) d.4.0.history ∙ first_opening k ends cs w d.0 d.3
 
   -- clients lent as a slice come back
   pub lent_back : (xs ys : List (ClientView A)) (n : ℕ) → n ≡ length ys → cores xs ≡ cores ys → take n (xs ++ drop (length xs) ys) ≡ xs

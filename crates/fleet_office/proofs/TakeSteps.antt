@@ -26,14 +26,14 @@ module _ {A : Type 0} where
   pub same_lists : (ends : List (EndView A)) (c : ℕ) (e d : EndView A) → slice_get ends c ≡ Some e → lists d ≡ lists e → lists_of (set ends c d) ≡ lists_of ends
   same_lists ends c e d at same = map-set_same lists ends c d e (same ∙ ap lists (sym (get_or_from_slice_get ends c e e at)))
 
-  module _ (rings : List (LaneName A)) (w : World A) (ends : List (EndView A)) (t c : ℕ) (e : EndView A) (at : slice_get ends c ≡ Some e) (v : World A) (d : EndView A) where
-    kept_same : v ≡ w → d.lane ≡ e.lane → d.taken ≡ e.taken → d.given ≡ e.given → IsLawful rings w ends t → IsLawful rings v (set ends c d) t
-    kept_same is lane taken given h = subst (λ x. IsLawful rings x (set ends c d) t) (sym is) (lawful_same rings w ends t c e d at lane taken given h)
+  module _ (rings : List (LaneName A)) (began : World A) (w : World A) (ends : List (EndView A)) (t c : ℕ) (e : EndView A) (at : slice_get ends c ≡ Some e) (v : World A) (d : EndView A) where
+    kept_same : v ≡ w → d.lane ≡ e.lane → d.taken ≡ e.taken → d.given ≡ e.given → IsLawful rings began w ends t → IsLawful rings began v (set ends c d) t
+    kept_same is lane taken given h = subst (λ x. IsLawful rings began x (set ends c d) t) (sym is) (lawful_same rings began w ends t c e d at lane taken given h)
 
-    pub kept : (r : Result (Option Verdict) TakeFault) → Taken w v e d c r → IsLawful rings w ends t → IsLawful rings v (set ends c d) t
+    pub kept : (r : Result (Option Verdict) TakeFault) → Taken w v e d c r → IsLawful rings began w ends t → IsLawful rings began v (set ends c d) t
     kept (Ok None) k h = kept_same k.ok.0 (ap (λ x. x.lane) k.ok.1) (ap (λ x. x.taken) k.ok.1) (ap (λ x. x.given) k.ok.1) h
     kept (Ok (Some n)) k h =
-        subst (λ x. IsLawful rings x (set ends c d) t) (sym k.ok.1.world) (subst (λ x. IsLawful rings (grown {A = A} w (entry.Take c k.ok.0 n)) (set ends c x) t) (sym k.ok.4) (lawful_take rings w ends t c e k.ok.0 n d.known k.ok.1.verdict at h))
+        subst (λ x. IsLawful rings began x (set ends c d) t) (sym k.ok.1.world) (subst (λ x. IsLawful rings began (grown {A = A} w (entry.Take c k.ok.0 n)) (set ends c x) t) (sym k.ok.4) (lawful_take rings began w ends t c e k.ok.0 n d.known k.ok.1.verdict at h))
     kept (Err f) k h = kept_same k.err.0 (ap (λ x. x.lane) k.err.1) (ap (λ x. x.taken) k.err.1) (ap (λ x. x.given) k.err.1) h
 
     pub told : (r : Result (Option Verdict) TakeFault) → Taken w v e d c r → IfOk r (λ o. TakesOne (record { world = w; ends = ends; total = t }) c o (record { world = v; ends = set ends c d; total = t }))

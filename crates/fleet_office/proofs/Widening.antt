@@ -8,9 +8,7 @@ use Rattle.fleet_history.specs.declared.history.Entry.{Entry}
 use Rattle.fleet_history.specs.declared.history.Entry.TheVariants as entry
 use Rattle.fleet_history.specs.History.{owed}
 use Rattle.fleet_history.specs.Legal.{IsLegal}
-use Rattle.fleet_history.specs.Rings.{KeepsRing}
 use Rattle.fleet_history.specs.Notices.{noticed_count, told}
-use Rattle.fleet_history.proofs.Numbered.{noticed-length}
 use Rattle.fleet_history.proofs.Owed.{owed-after_take}
 use Rattle.fleet_core.specs.Pending.{Pending}
 use Rattle.fleet_core.specs.Core.{World, pending, grown, Takes}
@@ -19,17 +17,19 @@ use Rattle.fleet_core.proofs.CoreKept.{box_at-delivered}
 use Rattle.fleet_lanes.specs.Names.{LaneName}
 use Rattle.fleet_lanes.specs.Ends.{EndView}
 use Rattle.fleet_office.specs.Hall.{IsLawful, took}
-use Rattle.fleet_office.specs.Draining.{used, Widens, TakesNext}
+use Rattle.fleet_office.specs.Since.{GoesOn}
+use Rattle.fleet_office.specs.Draining.{used, with_limit, Widens, TakesNext}
 use Rattle.fleet_office.proofs.Drains.{notices_set, at_most_one}
 use Rattle.fleet_office.proofs.Laws.{lawful_take}
+use Rattle.fleet_office.proofs.Sinces.{since-same}
 
-module _ {A : Type 0} (rings : List (LaneName A)) where
+module _ {A : Type 0} (rings : List (LaneName A)) (began : World A) where
   -- a wider mailbox
-  pub lawful_wide : (w v : World A) (ends : List (EndView A)) (t c n : ℕ) → Widens w c n v → IsLawful rings w ends t → IsLawful rings v ends t
-  lawful_wide w v ends t c n wide h = subst (λ x. IsLawful rings x ends t) (sym wide.world) record {
+  pub lawful_wide : (w v : World A) (ends : List (EndView A)) (t c n : ℕ) → Widens w c n v → IsLawful rings began w ends t → IsLawful rings began v ends t
+  lawful_wide w v ends t c n wide h = subst (λ x. IsLawful rings began x ends t) (sym wide.world) record {
     laws = λ k e at.
         let l = h.laws k e at in
-        record { lane = l.lane; keeps = subst (λ ns. KeepsRing w.history k e.taken (e.given ++ ns)) (sym (notices_set w.mailboxes c k wide.limit)) l.keeps };
+        record { lane = l.lane; keeps = subst (λ ns. GoesOn began.history w.history k e.taken (e.given ++ ns)) (sym (notices_set w.mailboxes c k wide.limit)) l.keeps };
     legal = h.legal;
     clock = h.clock;
     box_count = length-set w.mailboxes c (record { notices = (pending w c).notices; limit = wide.limit }) ∙ h.box_count;
@@ -37,22 +37,22 @@ module _ {A : Type 0} (rings : List (LaneName A)) where
     ring_count = h.ring_count;
     few = h.few;
     valid = h.valid;
-    first = h.first;
+    since = since-same began w (with_limit w c wide.limit) refl refl refl refl refl h.since;
   }
 
   -- an order that was left was taken
   pub lawful_next : (w v : World A) (ends : List (EndView A)) (t c n : ℕ) (e d : EndView A) → slice_get ends c ≡ Some e → (next : TakesNext w c n v) → d ≡ took e next.order d.known →
-      IsLawful rings w ends t → IsLawful rings v (set ends c d) t
+      IsLawful rings began w ends t → IsLawful rings began v (set ends c d) t
   lawful_next w v ends t c n e d at next step h =
-      subst (λ x. IsLawful rings x (set ends c d) t) (sym next.takes.world)
-      (subst (λ x. IsLawful rings (grown {A = A} next.wide (entry.Take c next.order next.verdict)) (set ends c x) t) (sym step)
-      (lawful_take rings next.wide ends t c e next.order next.verdict d.known next.takes.verdict at (lawful_wide w next.wide ends t c n next.widens h)))
+      subst (λ x. IsLawful rings began x (set ends c d) t) (sym next.takes.world)
+      (subst (λ x. IsLawful rings began (grown {A = A} next.wide (entry.Take c next.order next.verdict)) (set ends c x) t) (sym step)
+      (lawful_take rings began next.wide ends t c e next.order next.verdict d.known next.takes.verdict at (lawful_wide w next.wide ends t c n next.widens h)))
 
   -- a client's notices and unfinished errands are few
-  pub few_used : (w : World A) (ends : List (EndView A)) (t c : ℕ) (e : EndView A) → slice_get ends c ≡ Some e → IsLawful rings w ends t → noticed_count w.history c + owed w.history c ≤ 2 ^ 57 → used w c ≤ 2 ^ 57
+  pub few_used : (w : World A) (ends : List (EndView A)) (t c : ℕ) (e : EndView A) → slice_get ends c ≡ Some e → IsLawful rings began w ends t → noticed_count w.history c + owed w.history c ≤ 2 ^ 57 → used w c ≤ 2 ^ 57
   few_used w ends t c e at h small =
       let l = h.laws c e at in
-      omega (arith, small, noticed-length w.floor w.history c h.legal, l.keeps.ring.told_length, length-append e.given (pending w c).notices)
+      omega (arith, small, l.keeps.told_length, length-append e.given (pending w c).notices)
 
 module _ {A : Type 0} where
   same_history : (w v : World A) (c n : ℕ) → Widens w c n v → v.history ≡ w.history

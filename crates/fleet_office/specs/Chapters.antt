@@ -7,13 +7,14 @@ use Rattle.fleet_history.specs.History.{History, history_of}
 use Rattle.fleet_history.specs.Laws.{EachTick}
 use Rattle.fleet_planner.specs.Planned.{IsPlanned, IsAdvancingTick}
 use Rattle.fleet_bound.specs.Bound.{WaitsAreBounded}
+use Rattle.fleet_core.specs.Core.{World}
 use Rattle.fleet_lanes.specs.Names.{LaneName}
 use Rattle.fleet_office.specs.Hall.{HallView, IsLawful, next_hall}
 
 -- this is the chapter of a lawful hall, with its number: each tick is planned, and where the map has no bridge each tick
 -- advances and every wait is below the bound
-pub record IsChapterOf {A : Type 0} (rings : List (LaneName A)) (hall : HallView A) (n : ℕ) (h : History A) : Type 0 where
-  pub lawful : IsLawful rings hall.world hall.ends hall.total
+pub record IsChapterOf {A : Type 0} (rings : List (LaneName A)) (began : World A) (hall : HallView A) (n : ℕ) (h : History A) : Type 0 where
+  pub lawful : IsLawful rings began hall.world hall.ends hall.total
   pub history : h ≡ hall.world.history
   pub number : n ≡ hall.world.number
   pub planned : EachTick (IsPlanned hall.world.floor hall.world.ties) h

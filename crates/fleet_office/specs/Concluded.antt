@@ -3,13 +3,14 @@ use Rattle.std.specs.Prelude.{ℕ, ◌+◌, ◌≡◌, ◌≢◌, ◌<◌, ◌�
 use Rattle.std.specs.List.{sum_by}
 use Rattle.fleet_book.specs.declared.notice.Notice.{Notice}
 use Rattle.fleet_grid.specs.Floor.{Floor}
-use Rattle.fleet_history.specs.History.{History, clock}
+use Rattle.fleet_history.specs.History.{History, client_at, clock, unknown_client}
 use Rattle.fleet_history.specs.Laws.{orders}
 use Rattle.fleet_history.specs.Notices.{notices}
 use Rattle.fleet_history.specs.Rings.{KeepsRing}
 use Rattle.fleet_core.specs.Core.{World, HasNoEntries}
 use Rattle.fleet_lanes.specs.Ends.{EndView, ClientView}
 use Rattle.fleet_office.specs.Views.{TickerView, ClientCore, AreDistinct, cores}
+use Rattle.fleet_office.specs.Since.{GoesOn}
 use Rattle.fleet_office.specs.Hall.{HallView}
 use Rattle.fleet_office.specs.Draining.{DrainsFirst, StopsDraining}
 use Rattle.fleet_office.specs.declared.conclude.ConcludeFault.{ConcludeFault}
@@ -55,15 +56,17 @@ IsMet count ends cs w v (Tickers m) = ⊥
 IsMet count ends cs w v ChapterFull = StopsDraining count ends cs w v × HasNoEntries v
 IsMet count ends cs w v NoMemory = StopsDraining count ends cs w v ⊎ DrainsFirst count ends cs w v
 
--- all that a client sent was taken, and what it collected and then its rest is all that it was ever told
-pub record IsTold {A : Type 0} (number : ℕ) (h : History A) (x : ClientView A) (rest : List Notice) : Type 0 where
-  pub keeps : KeepsRing h x.number x.sent (x.collected ++ rest)
-  -- in the first chapter these are the history's own
-  pub orders : number ≡ 0 → orders h x.number ≡ x.sent
-  pub notices : number ≡ 0 → notices h x.number ≡ x.collected ++ rest
+-- all that a client sent was taken, and what it collected and then its rest is all that it was ever told since the office began
+pub record IsTold {A : Type 0} (began : World A) (number : ℕ) (h : History A) (x : ClientView A) (rest : List Notice) : Type 0 where
+  pub goes_on : GoesOn began.history h x.number x.sent (x.collected ++ rest)
+  -- of a client that had sent nothing before, that is all in all
+  pub keeps : client_at began.history x.number ≡ unknown_client → KeepsRing h x.number x.sent (x.collected ++ rest)
+  -- in the office's first chapter these are the history's own
+  pub orders : number ≡ began.number → orders h x.number ≡ x.sent
+  pub notices : number ≡ began.number → notices h x.number ≡ x.collected ++ rest
 
-abbrev pub AreTold : {A : Type 0} → ℕ → History A → List (ClientView A) → List (Vec Notice A) → Type 0
-AreTold {A} number h cs rests = (k : ℕ) (x : ClientView A) → slice_get cs k ≡ Some x → (v : Vec Notice A) × (slice_get rests x.number ≡ Some v) × IsTold number h x v.items
+abbrev pub AreTold : {A : Type 0} → World A → ℕ → History A → List (ClientView A) → List (Vec Notice A) → Type 0
+AreTold {A} began number h cs rests = (k : ℕ) (x : ClientView A) → slice_get cs k ≡ Some x → (v : Vec Notice A) × (slice_get rests x.number ≡ Some v) × IsTold began number h x v.items
 
 -- the map and the chapter of a hall's world, once the lanes of these clients were emptied into it
 pub record IsLast {A : Type 0} (count : ℕ) (hall : HallView A) (cs : List (ClientCore A)) (m : Floor) (n : ℕ) (h : History A) : Type 0 where

@@ -5,9 +5,8 @@ use Rattle.fleet_book.specs.declared.order.Order.{Order}
 use Rattle.fleet_book.specs.declared.verdict.Verdict.{Verdict}
 use Rattle.fleet_book.specs.declared.notice.Notice.{Notice}
 use Rattle.fleet_book.specs.Limits.{AreValid}
-use Rattle.fleet_history.specs.History.{clients, client_at, clock, unknown_client}
+use Rattle.fleet_history.specs.History.{clients, clock}
 use Rattle.fleet_history.specs.Legal.{IsLegal}
-use Rattle.fleet_history.specs.Rings.{KeepsRing}
 use Rattle.fleet_core.specs.Core.{World, pending, next_world, Takes, Ticks, HasRoom, HasNoRoom, HasEntries, HasNoEntries}
 use Rattle.fleet_core.specs.declared.faults.TickReport.{TickReport}
 use Rattle.fleet_office.specs.declared.report.TurnCause.{TurnCause}
@@ -16,6 +15,7 @@ use Rattle.fleet_office.specs.declared.report.TurnReport.{TurnReport}
 use Rattle.fleet_office.specs.declared.report.TurnFault.{TurnFault}
 use Rattle.fleet_lanes.specs.Names.{LaneName}
 use Rattle.fleet_lanes.specs.Ends.{EndView}
+use Rattle.fleet_office.specs.Since.{GoesOn, IsSince}
 
 pub record HallView (A : Type 0) : Type 0 where
   pub world : World A
@@ -24,18 +24,19 @@ pub record HallView (A : Type 0) : Type 0 where
   -- the ledger's
   pub total : ℕ
 
--- a client's hall end and the world belong together: the end is on the client's rings, and the ring law holds of what
--- was taken, and of what was given and then the mailbox
-pub record RingLaw {A : Type 0} (rings : List (LaneName A)) (w : World A) (c : ℕ) (e : EndView A) : Type 0 where
+-- a client's hall end and the world belong together: the end is on the client's rings, and what was taken, and what was given and
+-- then the mailbox, go on from what the office began with
+pub record RingLaw {A : Type 0} (rings : List (LaneName A)) (began w : World A) (c : ℕ) (e : EndView A) : Type 0 where
   pub lane : slice_get rings c ≡ Some e.lane
-  pub keeps : KeepsRing w.history c e.taken (e.given ++ (pending w c).notices)
+  pub keeps : GoesOn began.history w.history c e.taken (e.given ++ (pending w c).notices)
 
-abbrev pub RingLaws : {A : Type 0} → List (LaneName A) → World A → List (EndView A) → Type 0
-RingLaws {A} rings w ends = (c : ℕ) (e : EndView A) → slice_get ends c ≡ Some e → RingLaw rings w c e
+abbrev pub RingLaws : {A : Type 0} → List (LaneName A) → World A → World A → List (EndView A) → Type 0
+RingLaws {A} rings began w ends = (c : ℕ) (e : EndView A) → slice_get ends c ≡ Some e → RingLaw rings began w c e
 
--- what always holds under the lock
-pub record IsLawful {A : Type 0} (rings : List (LaneName A)) (w : World A) (ends : List (EndView A)) (total : ℕ) : Type 0 where
-  pub laws : RingLaws rings w ends
+-- what always holds under the lock of an office of these rings, which began with this world
+pub record IsLawful {A : Type 0} (rings : List (LaneName A)) (began w : World A) (ends : List (EndView A)) (total : ℕ) : Type 0 where
+  pub laws : RingLaws rings began w ends
+  pub since : IsSince began w
   pub legal : IsLegal w.floor w.history
   -- the ledger's total is the clock
   pub clock : total ≡ clock w.history
@@ -44,8 +45,6 @@ pub record IsLawful {A : Type 0} (rings : List (LaneName A)) (w : World A) (ends
   pub ring_count : length ends ≡ length rings
   pub few : length ends ≤ 64
   pub valid : AreValid w.limits
-  -- nothing was before the first chapter
-  pub first : w.number ≡ 0 → (c : ℕ) → client_at w.history c ≡ unknown_client
 
 -- an end that looked at its rings, and did no more
 abbrev pub StaysBut : {A : Type 0} → EndView A → EndView A → Type 0

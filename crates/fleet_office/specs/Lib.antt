@@ -1,6 +1,7 @@
 pub use Rattle.fleet_core.specs.Core
 pub use Rattle.fleet_core.specs.OpeningFaults
 pub mod Views
+pub mod Since
 pub mod Hall
 pub mod Draining
 pub mod Shown

@@ -5,6 +5,9 @@ use Rattle.fleet_book.specs.declared.notice.Notice.{Notice}
 use Rattle.fleet_book.specs.declared.limits.Limits.{Limits}
 use Rattle.fleet_history.specs.declared.history.Arrival.{Arrival}
 use Rattle.fleet_history.specs.declared.history.Bye.{Bye}
+use Rattle.fleet_grid.specs.Floor.{Floor}
+use Rattle.fleet_core.specs.Core.{World, opened_world}
+use Rattle.fleet_core.specs.Hooks.{HookLaws}
 use Rattle.fleet_lanes.specs.Names.{LaneName}
 use Rattle.fleet_lanes.specs.Ends.{EndView, ClientView}
 
@@ -45,6 +48,10 @@ pub record IsNamed {A : Type 0} (desk : DeskView A) (name count : ℕ) (names : 
   pub ledger : desk.ledger ≡ name
   pub parts : desk.parts ≡ count
   pub rings : rings_of desk.ends ≡ names
+
+-- the world of an office that is opened at the desk, of robots that start on these cells
+abbrev pub world_at : {A : Type 0} → DeskView A → Floor → List ℕ → HookLaws → World A
+world_at desk m starts laws = opened_world m starts (length desk.clients) desk.limits laws
 
 -- what stays of a client while its ends are brought together
 pub record ClientCore (A : Type 0) : Type 0 where

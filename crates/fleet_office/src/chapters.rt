@@ -117,11 +117,11 @@ impl<N: OfficeName<A>, A: Allocator + Copy> Office<N, A> {
     /// If it has that many, refused as `next_chapter` is; a refused call changes nothing.
     pub fn turn_page<R: Wait>(&self, rt: &R, least: u32) -> Result<Option<Chapter<A>>, ChapterFault>
         requires { least < 2 ^ 32 }
-        ensures few { (result ≡ Ok None) → (h : HallView A) × IsLawful N.rings h.world h.ends h.total × (length h.world.history.entries < least) }
+        ensures few { (result ≡ Ok None) → (h : HallView A) × IsLawful N.rings N.start h.world h.ends h.total × (length h.world.history.entries < least) }
         ensures enough { IfOk result (λ page. IfSome page (λ chapter. least ≤ length (history_of chapter).entries)) }
         ensures handed { IfOk result (λ page. IfSome page (λ chapter.
-            (h : HallView A) × IsChapterOf N.rings h chapter.number (history_of chapter))) }
-        ensures spent { (result ≡ Err ChapterFault.BookSpent) → (h : HallView A) × IsLawful N.rings h.world h.ends h.total
+            (h : HallView A) × IsChapterOf N.rings N.start h chapter.number (history_of chapter))) }
+        ensures spent { (result ≡ Err ChapterFault.BookSpent) → (h : HallView A) × IsLawful N.rings N.start h.world h.ends h.total
             × (least ≤ length h.world.history.entries) × (h.world.number + 1 ≡ h.world.limits.chapters) }
     {
         let mut held = self.hall.lock(rt);
@@ -134,7 +134,7 @@ impl<N: OfficeName<A>, A: Allocator + Copy> Office<N, A> {
     /// that are left in lanes, and notices that clients had not collected, are let go.
     pub fn into_chapter(self) -> (Chapter<A>, u64)
         requires { 0 ≤ 1 }
-        ensures chapter { (h : HallView A) × IsChapterOf N.rings h result.0.number (history_of result.0) }
+        ensures chapter { (h : HallView A) × IsChapterOf N.rings N.start h result.0.number (history_of result.0) }
         ensures tick { result.1 ≡ clock (history_of result.0) }
     {
         let OfficeOf { hall } = self;

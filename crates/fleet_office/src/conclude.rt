@@ -142,7 +142,7 @@ impl<N: OfficeName<A>, A: Allocator + Copy> HallState<N, A> {
         ensures planned { EachTick (IsPlanned result.0 self.world.ties) (history_of result.1) }
         ensures advancing { IsBridgeless (IsNeighbour result.0) → EachTick (IsAdvancingTick result.0) (history_of result.1) }
         ensures bounded { IsBridgeless (IsNeighbour result.0) → WaitsAreBounded result.0 (history_of result.1) }
-        ensures told { AreTold result.1.number (history_of result.1) clients.items result.2.items }
+        ensures told { AreTold N.start result.1.number (history_of result.1) clients.items result.2.items }
     {
         let HallState {
             mut core,
@@ -172,7 +172,7 @@ impl<N: OfficeName<A>, A: Allocator + Copy> Hall<N, A> {
         ensures planned { IfOk result (λ f. EachTick (IsPlanned f.grid self.state.world.ties) (history_of f.chapter)) }
         ensures advancing { IfOk result (λ f. IsBridgeless (IsNeighbour f.grid) → EachTick (IsAdvancingTick f.grid) (history_of f.chapter)) }
         ensures bounded { IfOk result (λ f. IsBridgeless (IsNeighbour f.grid) → WaitsAreBounded f.grid (history_of f.chapter)) }
-        ensures told { IfOk result (λ f. AreTold f.chapter.number (history_of f.chapter) clients.items f.rest.items) }
+        ensures told { IfOk result (λ f. AreTold N.start f.chapter.number (history_of f.chapter) clients.items f.rest.items) }
         ensures tick { IfOk result (λ f. (f.tick ≡ clock (history_of f.chapter)) × (f.tick ≡ sum_by (λ t. t.count) tickers.items)) }
         ensures all { OnOk result (HasAll (length N.rings) clients.items) }
         ensures home { OnOk result (AreHome (length N.rings) clients.items tickers.items (clock self.state.world.history)) }

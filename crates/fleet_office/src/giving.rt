@@ -41,7 +41,7 @@ impl<N: OfficeName<A>, A: Allocator + Copy> Office<N, A> {
     /// were given: none if nothing is left for a client that has collected all.
     pub fn give_all<R: Wait>(&self, rt: &R) -> u64
         requires { 0 ≤ 1 }
-        ensures given { (h g : HallView A) × IsLawful N.rings h.world h.ends h.total × GivesAll h result g }
+        ensures given { (h g : HallView A) × IsLawful N.rings N.start h.world h.ends h.total × GivesAll h result g }
     {
         let mut held = self.hall.lock(rt);
         let hall = &mut *held;

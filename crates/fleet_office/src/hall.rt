@@ -4,8 +4,8 @@ ghost use Rattle.std.specs.Prelude.{◌≡◌, ◌+◌, ◌<◌, ◌≤◌, ◌^
 ghost use Rattle.fleet_history.specs.History.{clock, robots, is_shut};
 ghost use Rattle.fleet_core.specs.Hooks.{laws_of};
 ghost use Rattle.fleet_core.specs.OpeningFaults.{IsRefused, IsNamed as IsNamedFault};
-ghost use Rattle.fleet_core.specs.Core.{Shuts, HasRoom, HasNoRoom, HasEntries, HasNoEntries, opened_world};
-ghost use Rattle.fleet_office.specs.Views.{IsNamed, AreOn, cores};
+ghost use Rattle.fleet_core.specs.Core.{Shuts, HasRoom, HasNoRoom, HasEntries, HasNoEntries};
+ghost use Rattle.fleet_office.specs.Views.{IsNamed, AreOn, cores, world_at};
 ghost use Rattle.fleet_office.specs.Hall.{ShowsOrder, TakesOne, GivesAll, given_count, TicksOnce, Turns, StopsTurn, Looks};
 
 use crate::desk::Desk;
@@ -81,29 +81,18 @@ impl<N: OfficeName<A>, A: Allocator + Copy> Hall<N, A> {
         hooks: Hooks<A>,
     ) -> Result<(Hall<N, A>, Vec<Client<A>, A>, Ticker<N>), OpenFault>
         requires named { IsNamed desk N.name N.parts N.rings }
+        requires start { N.start ≡ world_at desk grid starts.items (laws_of hooks) }
         ensures refused { (fault : _) → IsNamedFault fault →
             ((result ≡ Err fault) ↔ IsRefused grid starts.items (length desk.clients) desk.limits (laws_of hooks) fault) }
-        ensures hall { IfOk result (λ r. r.0.state.world ≡ opened_world grid starts.items (length desk.clients) desk.limits (laws_of hooks)) }
+        ensures hall { IfOk result (λ r. r.0.state.world ≡ world_at desk grid starts.items (laws_of hooks)) }
         ensures clients { IfOk result (λ r. (r.1.items ≡ desk.clients) × AreOn N.rings (cores r.1.items)) }
         ensures ticker { IfOk result (λ r. r.2 ≡ record { count = 0; parts = 65536 }) }
     {
-        let Desk {
-            limits,
-            clients,
-            ends,
-            blank,
-        } = desk;
-        let count = clients.len() as u32;
-        let world = match World::open(alloc, grid, starts, count, limits, hooks) {
-            Ok(world) => world,
-            Err(fault) => return Err(fault),
-        };
-        let (core, robots) = world.apart();
-        // States that the opening is legal.
-        let _ = core.chapter();
-        let (book, share) = blank.open::<N>();
-        let state = HallState::new(core, ends, book);
-        Ok((HallOf { state, robots }, clients, Ticker::new(65536, share)))
+        let count = desk.clients.len() as u32;
+        match World::open(alloc, grid, starts, count, desk.limits, hooks) {
+            Ok(world) => Ok(Hall::over(desk, world)),
+            Err(fault) => Err(fault),
+        }
     }
 }
 

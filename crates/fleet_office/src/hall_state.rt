@@ -42,13 +42,13 @@ impl<N: OfficeName<A>, A: Allocator + Copy> Model for HallState<N, A> {
 
     ghost view = { λ h. record { world = h.core; ends = h.ends.items; total = h.book.total } };
 
-    ghost invariant = { λ h. IsLawful N.rings h.core h.ends.items h.book.total };
+    ghost invariant = { λ h. IsLawful N.rings N.start h.core h.ends.items h.book.total };
 }
 
 impl<N: OfficeName<A>, A: Allocator + Copy> HallState<N, A> {
     /// A hall without closures, over new lanes.
     pub(crate) fn new(core: Core<A>, ends: Vec<HallEnd<A>, A>, book: Book<N>) -> HallState<N, A>
-        requires { IsLawful N.rings core ends.items book.total }
+        requires { IsLawful N.rings N.start core ends.items book.total }
         ensures { result ≡ record { world = core; ends = ends.items; total = book.total } }
     {
         HallState { core, ends, book }
@@ -56,7 +56,7 @@ impl<N: OfficeName<A>, A: Allocator + Copy> HallState<N, A> {
 
     /// States what always holds, for a proof of its caller. It does nothing.
     pub fn recall_laws(&self)
-        ensures lawful { IsLawful N.rings self.now.world self.now.ends self.now.total }
+        ensures lawful { IsLawful N.rings N.start self.now.world self.now.ends self.now.total }
         ensures planned { EachTick (IsPlanned self.now.world.floor self.now.world.ties) self.now.world.history }
         ensures advancing { IsBridgeless (IsNeighbour self.now.world.floor) → EachTick (IsAdvancingTick self.now.world.floor) self.now.world.history }
         ensures bounded { IsBridgeless (IsNeighbour self.now.world.floor) → WaitsAreBounded self.now.world.floor self.now.world.history }

@@ -1,6 +1,6 @@
 //! The hall under its lock.
 
-ghost use Rattle.std.specs.Prelude.{List, ◌≡◌, ◌+◌, ◌<◌, ◌≤◌, ◌^◌, ◌↔◌, length, Err, IfOk, IfErr, IfSome, OnOk, OnErr};
+ghost use Rattle.std.specs.Prelude.{◌≡◌, ◌+◌, ◌<◌, ◌≤◌, ◌^◌, ◌↔◌, length, Err, IfOk, IfErr, IfSome, OnOk, OnErr};
 ghost use Rattle.std.specs.List.{sum_by};
 ghost use Rattle.fleet_grid.specs.Floor.{IsNeighbour};
 ghost use Rattle.fleet_grid.specs.Walk.{IsBridgeless};
@@ -9,10 +9,10 @@ ghost use Rattle.fleet_history.specs.Legal.{IsLegal};
 ghost use Rattle.fleet_history.specs.Laws.{EachTick};
 ghost use Rattle.fleet_planner.specs.Planned.{IsPlanned, IsAdvancingTick};
 ghost use Rattle.fleet_bound.specs.Bound.{WaitsAreBounded};
-ghost use Rattle.fleet_hooks.specs.declared.law.TieLaw.{TieLaw};
 ghost use Rattle.fleet_core.specs.Hooks.{laws_of};
 ghost use Rattle.fleet_core.specs.OpeningFaults.{IsRefused, IsNamed as IsNamedFault};
-ghost use Rattle.fleet_office.specs.Views.{IsNamed, AreOn, AreDistinct, cores};
+ghost use Rattle.fleet_office.specs.Views.{IsNamed, AreOn, AreDistinct, cores, world_at};
+ghost use Rattle.fleet_office.specs.Since.{IsChapterSince};
 ghost use Rattle.fleet_office.specs.Hall.{HallView, IsLawful, Turns, StopsTurn};
 ghost use Rattle.fleet_office.specs.Chapters.{IsChapterOf};
 ghost use Rattle.fleet_office.specs.Concluded.{AreTold, HasAll, IsLast, IsUnconcluded};
@@ -59,6 +59,7 @@ impl<N: OfficeName<A>, A: Allocator + Copy> Office<N, A> {
         hooks: Hooks<A>,
     ) -> Result<(Office<N, A>, Vec<Client<A>, A>, Ticker<N>), OpenFault>
         requires named { IsNamed desk N.name N.parts N.rings }
+        requires start { N.start ≡ world_at desk grid starts.items (laws_of hooks) }
         ensures refused { (fault : _) → IsNamedFault fault →
             ((result ≡ Err fault) ↔ IsRefused grid starts.items (length desk.clients) desk.limits (laws_of hooks) fault) }
         ensures clients { IfOk result (λ r. (r.1.items ≡ desk.clients) × AreOn N.rings (cores r.1.items)) }
@@ -96,17 +97,18 @@ impl<N: OfficeName<A>, A: Allocator + Copy> Office<N, A> {
         tickers: Vec<Ticker<N>, A>,
     ) -> Result<Final<A>, (ConcludeFault, Home<N, A>)>
         requires on { AreOn N.rings (cores clients.items) }
-        ensures drains { IfOk result (λ f. (h : HallView A) × IsLawful N.rings h.world h.ends h.total
+        ensures drains { IfOk result (λ f. (h : HallView A) × IsLawful N.rings N.start h.world h.ends h.total
             × IsLast (length N.rings) h (cores clients.items) f.grid f.chapter.number (history_of f.chapter)) }
         ensures legal { IfOk result (λ f. IsLegal f.grid (history_of f.chapter)) }
-        ensures planned { IfOk result (λ f. (ties : List TieLaw) × EachTick (IsPlanned f.grid ties) (history_of f.chapter)) }
+        ensures since { IfOk result (λ f. IsChapterSince N.start f.grid f.chapter.number (history_of f.chapter)) }
+        ensures planned { IfOk result (λ f. EachTick (IsPlanned f.grid N.start.ties) (history_of f.chapter)) }
         ensures advancing { IfOk result (λ f. IsBridgeless (IsNeighbour f.grid) → EachTick (IsAdvancingTick f.grid) (history_of f.chapter)) }
         ensures bounded { IfOk result (λ f. IsBridgeless (IsNeighbour f.grid) → WaitsAreBounded f.grid (history_of f.chapter)) }
-        ensures told { IfOk result (λ f. AreTold f.chapter.number (history_of f.chapter) clients.items f.rest.items) }
+        ensures told { IfOk result (λ f. AreTold N.start f.chapter.number (history_of f.chapter) clients.items f.rest.items) }
         ensures tick { IfOk result (λ f. (f.tick ≡ clock (history_of f.chapter)) × (f.tick ≡ sum_by (λ t. t.count) tickers.items)) }
         ensures all { OnOk result (HasAll (length N.rings) clients.items) }
         ensures distinct { OnOk result (AreDistinct (cores clients.items)) }
-        ensures err { IfErr result (λ e. (h : HallView A) × IsLawful N.rings h.world h.ends h.total
+        ensures err { IfErr result (λ e. (h : HallView A) × IsLawful N.rings N.start h.world h.ends h.total
             × IsUnconcluded (length N.rings) h clients.items tickers.items e.0) }
         ensures back { IfErr result (λ e. (cores e.1.clients.items ≡ cores clients.items) × (e.1.tickers.items ≡ tickers.items)) }
         ensures on { IfErr result (λ e. AreOn N.rings (cores e.1.clients.items)) }
@@ -136,9 +138,9 @@ impl<N: OfficeName<A>, A: Allocator + Copy> Office<N, A> {
     /// Refused in this order: `BookSpent` in the last of the chapters, `NoMemory`. Nothing has changed then.
     pub fn next_chapter<R: Wait>(&self, rt: &R) -> Result<Chapter<A>, ChapterFault>
         requires { 0 ≤ 1 }
-        ensures handed { IfOk result (λ chapter. (h : HallView A) × IsChapterOf N.rings h chapter.number (history_of chapter)) }
+        ensures handed { IfOk result (λ chapter. (h : HallView A) × IsChapterOf N.rings N.start h chapter.number (history_of chapter)) }
         ensures spent { (result ≡ Err ChapterFault.BookSpent) →
-            (h : HallView A) × IsLawful N.rings h.world h.ends h.total × (h.world.number + 1 ≡ h.world.limits.chapters) }
+            (h : HallView A) × IsLawful N.rings N.start h.world h.ends h.total × (h.world.number + 1 ≡ h.world.limits.chapters) }
     {
         let mut held = self.hall.lock(rt);
         let hall = &mut *held;
@@ -180,8 +182,8 @@ impl<N: OfficeName<A>, A: Allocator + Copy> Office<N, A> {
         ensures ticker { IfOk result (λ r. (ticker.new ≡ record { count = ticker.old.count + 1; parts = ticker.old.parts })
             × IfSome r.tick (λ t. ticker.new.count ≤ t)) }
         ensures kept { OnErr result (ticker.new ≡ ticker.old) }
-        ensures turned { IfOk result (λ r. (h g : HallView A) × IsLawful N.rings h.world h.ends h.total × Turns h r g) }
-        ensures stopped { IfErr result (λ e. (h g : HallView A) × IsLawful N.rings h.world h.ends h.total × StopsTurn h e g) }
+        ensures turned { IfOk result (λ r. (h g : HallView A) × IsLawful N.rings N.start h.world h.ends h.total × Turns h r g) }
+        ensures stopped { IfErr result (λ e. (h g : HallView A) × IsLawful N.rings N.start h.world h.ends h.total × StopsTurn h e g) }
     {
         let mut held = self.hall.lock(rt);
         turn_held(&mut *held, rt, ticker)
@@ -198,8 +200,8 @@ fn turn_held<N: OfficeName<A>, A: Allocator + Copy, R: Alloc<A = A>>(
     ensures ticker { IfOk result (λ r. (ticker.new ≡ record { count = ticker.old.count + 1; parts = ticker.old.parts })
         × IfSome r.tick (λ t. ticker.new.count ≤ t)) }
     ensures kept { OnErr result (ticker.new ≡ ticker.old) }
-    ensures turned { IfOk result (λ r. (h g : HallView A) × IsLawful N.rings h.world h.ends h.total × Turns h r g) }
-    ensures stopped { IfErr result (λ e. (h g : HallView A) × IsLawful N.rings h.world h.ends h.total × StopsTurn h e g) }
+    ensures turned { IfOk result (λ r. (h g : HallView A) × IsLawful N.rings N.start h.world h.ends h.total × Turns h r g) }
+    ensures stopped { IfErr result (λ e. (h g : HallView A) × IsLawful N.rings N.start h.world h.ends h.total × StopsTurn h e g) }
 {
     hall.state.recall_laws();
     hall.turn(rt, ticker)

@@ -53,8 +53,8 @@ impl<N: OfficeName<A>, A: Allocator + Copy> Office<N, A> {
     /// `NoMemory`. What was given and taken before stands, and the fault's report says how much.
     pub fn settle<R: Wait>(&self, rt: &R) -> Result<TurnReport, TurnFault>
         requires { 0 ≤ 1 }
-        ensures settled { IfOk result (λ r. (h g : HallView A) × IsLawful N.rings h.world h.ends h.total × Settles h r g) }
-        ensures stopped { IfErr result (λ e. (h g : HallView A) × IsLawful N.rings h.world h.ends h.total × StopsSettling h e g) }
+        ensures settled { IfOk result (λ r. (h g : HallView A) × IsLawful N.rings N.start h.world h.ends h.total × Settles h r g) }
+        ensures stopped { IfErr result (λ e. (h g : HallView A) × IsLawful N.rings N.start h.world h.ends h.total × StopsSettling h e g) }
     {
         let mut held = self.hall.lock(rt);
         let hall = &mut *held;

@@ -173,9 +173,9 @@ impl<N: OfficeName<A>, A: Allocator + Copy> Office<N, A> {
         ensures ticker { IfOk result (λ r. (ticker.new ≡ record { count = ticker.old.count + 1; parts = ticker.old.parts })
             × IfSome r.tick (λ t. ticker.new.count ≤ t)) }
         ensures kept { OnErr result ((ticker.new ≡ ticker.old) × (made.new ≡ made.old)) }
-        ensures turned { IfOk result (λ r. (h g : HallView A) × IsLawful N.rings h.world h.ends h.total
+        ensures turned { IfOk result (λ r. (h g : HallView A) × IsLawful N.rings N.start h.world h.ends h.total
             × Turns h r g × IsLastTick g.world made.new) }
-        ensures stopped { IfErr result (λ e. (h g : HallView A) × IsLawful N.rings h.world h.ends h.total × StopsTurn h e g) }
+        ensures stopped { IfErr result (λ e. (h g : HallView A) × IsLawful N.rings N.start h.world h.ends h.total × StopsTurn h e g) }
     {
         let mut held = self.hall.lock(rt);
         let hall = &mut *held;

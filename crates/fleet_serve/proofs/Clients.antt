@@ -1,6 +1,5 @@
 -- Clients one by one, before their lines and after them.
-use Rattle.std.proofs.Common.{◌≡◌, ℕ, suc, ◌+◌, ◌<◌, List, [], ◌∷◌, ◌++◌, length, Some, refl, sym, ap, subst, arith, ⊎_elim, slice_index_or}
-use Rattle.std.specs.List.{slice_get, remove}
+use Rattle.std.proofs.Common.{◌≡◌, ℕ, suc, List, ◌∷◌, refl, ap, subst, arith}
 use Rattle.fleet_lanes.specs.Ends.{ClientView, EndView}
 use Rattle.fleet_book.specs.declared.limits.Limits.{Limits}
 use Rattle.fleet_office.specs.Views.{ArePairs}

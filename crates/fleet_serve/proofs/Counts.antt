@@ -1,12 +1,12 @@
 -- How many posts of all clients met a full lane.
-use Rattle.std.proofs.Common.{◌≡◌, ◌∙◌, ℕ, zero, suc, ◌+◌, ◌<◌, ◌≤◌, List, [], ◌∷◌, ◌++◌, length, Some, refl, sym, ap, subst, arith, ⊎_elim}
+use Rattle.std.proofs.Common.{◌≡◌, ◌∙◌, ℕ, zero, suc, ◌+◌, ◌≤◌, List, [], ◌∷◌, ◌++◌, length, Some, refl, sym, ap, subst, arith, ⊎_elim}
 use Rattle.std.specs.Prelude.{min, ◌-◌, ◌^◌}
 use Rattle.std.specs.List.{slice_get, sum_by}
 use Rattle.std.proofs.lemmas.List.{length-append}
 use Rattle.std.proofs.lemmas.List.Sums.{sum_by-cons, sum_by_push}
 use Rattle.fleet_book.specs.declared.event.Event.{Event}
 use Rattle.fleet_lanes.specs.Ends.{ClientView}
-use Rattle.fleet_office.proofs.Places.{at_push, within, there_is}
+use Rattle.fleet_office.proofs.Places.{at_push, within}
 use Rattle.fleet_serve.specs.Posted.{FullPosts, IsSum, HasRun, HasCounted, AllHaveRun}
 
 -- none yet

@@ -1,5 +1,5 @@
 -- What the history of a concluded office says of the clients that ran their lines.
-use Rattle.std.proofs.Common.{◌≡◌, ◌∙◌, ℕ, ◌<◌, List, ◌++◌, length, Some, Result, Ok, Err, refl, sym, ap, subst, arith}
+use Rattle.std.proofs.Common.{◌≡◌, ◌∙◌, ℕ, ◌<◌, List, ◌++◌, length, Some, Result, Ok, Err, refl, sym, subst, arith}
 use Rattle.std.specs.Prelude.{Vec, slice_get, IfOk}
 use Rattle.std.specs.declared.alloc.Global.{Global}
 use Rattle.fleet_grid.specs.Floor.{Floor, IsNeighbour}
@@ -10,20 +10,21 @@ use Rattle.fleet_history.specs.History.{History, clock}
 use Rattle.fleet_history.specs.Legal.{IsLegal}
 use Rattle.fleet_history.specs.Laws.{orders, EachTick}
 use Rattle.fleet_history.specs.Notices.{notices}
-use Rattle.fleet_hooks.specs.declared.law.TieLaw.{TieLaw}
 use Rattle.fleet_planner.specs.Planned.{IsPlanned, IsAdvancingTick}
 use Rattle.fleet_bound.specs.Bound.{WaitsAreBounded}
+use Rattle.fleet_core.specs.Core.{World}
 use Rattle.fleet_lanes.specs.Ends.{ClientView}
 use Rattle.fleet_lanes.specs.Names.{LaneName}
 use Rattle.fleet_office.specs.Concluded.{AreTold, HasAll}
+use Rattle.fleet_office.specs.Since.{IsChapterSince}
 use Rattle.fleet_office.specs.Views.{AreOn, AreDistinct, core, cores}
 use Rattle.fleet_office.proofs.Places.{map_at, within, there_is}
 use Rattle.fleet_serve.specs.Posted.{posts, until_close, IsSubsequence, FullPosts, ComeTo, AllHaveRun, AreFullCounted, TakesPosted, TakesAll, AreLastNotices}
 use Rattle.fleet_serve.specs.inside.Ends.{IsEnd}
 use Rattle.fleet_serve.proofs.Counts.{none-met}
 
-module _ {A : Type 0} (h : History A) (number count : ℕ) (cs : List (ClientView A)) (rests : List (Vec Notice A))
-    (first : number ≡ 0) (told : AreTold number h cs rests) (all : HasAll count cs) where
+module _ {A : Type 0} (began : World A) (h : History A) (number count : ℕ) (cs : List (ClientView A)) (rests : List (Vec Notice A))
+    (first : number ≡ began.number) (told : AreTold began number h cs rests) (all : HasAll count cs) where
   pub last-notices : AreLastNotices h rests count
   last-notices = λ c l.
       let a = all c l in
@@ -76,23 +77,27 @@ module _ {A : Type 0} (h : History A) (number count : ℕ) (cs : List (ClientVie
     }
 
 -- a serve that came to its end
-pub is-end : (m : Floor) (h : History Global) (number ticks : ℕ) (rings : List (LaneName Global)) (cs : List (ClientView Global)) (rests : List (Vec Notice Global)) → number ≡ 0 → AreTold number h cs rests → HasAll (length rings) cs
+pub is-end : (began : World Global) (m : Floor) (h : History Global) (number ticks : ℕ) (rings : List (LaneName Global)) (cs : List (ClientView Global)) (rests : List (Vec Notice Global)) → number ≡ 0 → IsChapterSince began m number h → AreTold began number h cs rests → HasAll (length rings) cs
     → AreOn rings (cores cs) → AreDistinct (cores cs)
-    → (events : List Event) (most full : ℕ) → AllHaveRun events most cs full → IsLegal m h → ((ties : List TieLaw) × EachTick (IsPlanned m ties) h) → (IsBridgeless (IsNeighbour m) → EachTick (IsAdvancingTick m) h)
+    → (events : List Event) (most full : ℕ) → AllHaveRun events most cs full → IsLegal m h → EachTick (IsPlanned m began.ties) h → (IsBridgeless (IsNeighbour m) → EachTick (IsAdvancingTick m) h)
     → (IsBridgeless (IsNeighbour m) → WaitsAreBounded m h) → ticks ≡ clock h
-    → IsEnd events most (length rings) full m h number ticks rests
-is-end m h number ticks rings cs rests first told all on distinct events most full ran legal planned advancing bounded tick = record {
-  first = first;
-  legal = legal;
-  planned = planned;
-  advancing = advancing;
-  bounded = bounded;
-  tick = tick;
-  posted = takes-posted h number (length rings) cs rests first told all events most full ran;
-  all = takes-all h number (length rings) cs rests first told all events most full ran;
-  counted = full-counted h number (length rings) cs rests first told all events most full ran rings refl on distinct;
-  rest = last-notices h number (length rings) cs rests first told all;
-}
+    → IsEnd began events most (length rings) full m h number ticks rests
+is-end began m h number ticks rings cs rests first since told all on distinct events most full ran legal planned advancing bounded tick =
+    let own : number ≡ began.number = omega (arith, first, since.later) in
+    record {
+      first = first;
+      floor = since.floor;
+      opening = since.opening own;
+      legal = legal;
+      planned = planned;
+      advancing = advancing;
+      bounded = bounded;
+      tick = tick;
+      posted = takes-posted began h number (length rings) cs rests own told all events most full ran;
+      all = takes-all began h number (length rings) cs rests own told all events most full ran;
+      counted = full-counted began h number (length rings) cs rests own told all events most full ran rings refl on distinct;
+      rest = last-notices began h number (length rings) cs rests own told all;
+    }
 
 -- what follows of what came
 pub on_ok : {S E : Type 0} {P Q : S → Type 0} (r : Result S E) → IfOk r P → ((s : S) → P s → Q s) → IfOk r Q

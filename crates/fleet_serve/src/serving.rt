@@ -1,15 +1,15 @@
 //! A script is served: its clients and two tickers work at one office, and the office is concluded.
 
-ghost use Rattle.std.specs.Prelude.{List, ◌≡◌, ◌<◌, ◌^◌, ◌⊎◌, length, Some, None, Err, IfOk, IfErr};
+ghost use Rattle.std.specs.Prelude.{◌≡◌, ◌<◌, ◌^◌, ◌⊎◌, length, Some, None, Err, IfOk, IfErr};
 ghost use Rattle.std.specs.List.{All};
 ghost use Rattle.fleet_grid.specs.Floor.{IsNeighbour};
 ghost use Rattle.fleet_grid.specs.Walk.{IsBridgeless};
 ghost use Rattle.fleet_history.specs.History.{history_of, clock};
 ghost use Rattle.fleet_history.specs.Legal.{IsLegal};
 ghost use Rattle.fleet_history.specs.Laws.{EachTick};
-ghost use Rattle.fleet_hooks.specs.declared.law.TieLaw.{TieLaw};
 ghost use Rattle.fleet_planner.specs.Planned.{IsPlanned, IsAdvancingTick};
 ghost use Rattle.fleet_bound.specs.Bound.{WaitsAreBounded};
+ghost use Rattle.fleet_core.specs.Core.{opened_world, opening_of};
 ghost use Rattle.fleet_core.specs.Hooks.{laws_of};
 ghost use Rattle.fleet_core.specs.OpeningFaults.{IsNamed as IsNamedFault, IsRefused};
 ghost use Rattle.fleet_office.specs.Views.{AreOn, IsNamed, cores};
@@ -129,7 +129,7 @@ fn conclude<N: ScriptName, R: Alloc<A = Global> + Wait>(
     home: WorkEnd<N>,
 ) -> Result<Served, ServeFault>
     ensures later { IfErr result (λ fault. IsLater fault) }
-    ensures ended { IfOk result (λ s. IsEnd N.events N.orders (length N.rings) s.lane_full s.last.grid
+    ensures ended { IfOk result (λ s. IsEnd N.start N.events N.orders (length N.rings) s.lane_full s.last.grid
         (history_of s.last.chapter) s.last.chapter.number s.last.tick s.last.rest.items) }
 {
     let (clients, lane_full, tickers) = wind_down(rt, &office, home)?;
@@ -195,7 +195,7 @@ fn serve_opened<
     requires fresh { AreNew N.orders clients.items }
     requires events { script.now.events.items ≡ N.events }
     ensures later { IfErr result (λ fault. IsLater fault) }
-    ensures ended { IfOk result (λ s. IsEnd N.events N.orders (length N.rings) s.lane_full s.last.grid
+    ensures ended { IfOk result (λ s. IsEnd N.start N.events N.orders (length N.rings) s.lane_full s.last.grid
         (history_of s.last.chapter) s.last.chapter.number s.last.tick s.last.rest.items) }
 {
     let home = work(rt, &office, clients, ticker, script, gate)?;
@@ -222,10 +222,12 @@ fn serve_at<
     requires limits { desk.limits ≡ script.now.limits }
     requires events { script.now.events.items ≡ N.events }
     requires orders { script.now.limits.orders ≡ N.orders }
+    requires start { N.start ≡ opened_world grid script.now.starts.items script.now.clients script.now.limits (laws_of hooks) }
     ensures refused { (f : OpenFault) → result ≡ Err (ServeFault.Opening f) → IsRefused grid script.now.starts.items script.now.clients script.now.limits (laws_of hooks) f }
     ensures opens { (f : OpenFault) → IsRefused grid script.now.starts.items script.now.clients script.now.limits (laws_of hooks) f →
         (result ≡ Err (ServeFault.Opening f)) ⊎ (result ≡ Err ServeFault.NoMemory) }
-    ensures ended { IfOk result (λ s. IsEnd script.now.events.items script.now.limits.orders script.now.clients s.lane_full s.last.grid
+    ensures ended { IfOk result (λ s. IsEnd (opened_world grid script.now.starts.items script.now.clients script.now.limits (laws_of hooks))
+        script.now.events.items script.now.limits.orders script.now.clients s.lane_full s.last.grid
         (history_of s.last.chapter) s.last.chapter.number s.last.tick s.last.rest.items) }
 {
     let alloc = rt.alloc();
@@ -257,8 +259,10 @@ pub fn serve<R: Alloc<A = Global> + Threads + Sync + Wait, G: Gate + Sync>(
     ensures opens { (f : OpenFault) → IsRefused grid script.now.starts.items script.now.clients script.now.limits (laws_of hooks) f →
         (result ≡ Err (ServeFault.Opening f)) ⊎ (result ≡ Err ServeFault.NoMemory) }
     ensures first { IfOk result (λ s. s.last.chapter.number ≡ 0) }
+    ensures floor { IfOk result (λ s. s.last.grid ≡ grid) }
+    ensures opening { IfOk result (λ s. (history_of s.last.chapter).opening ≡ opening_of script.now.starts.items script.now.clients script.now.limits (laws_of hooks)) }
     ensures legal { IfOk result (λ s. IsLegal s.last.grid (history_of s.last.chapter)) }
-    ensures planned { IfOk result (λ s. (ties : List TieLaw) × EachTick (IsPlanned s.last.grid ties) (history_of s.last.chapter)) }
+    ensures planned { IfOk result (λ s. EachTick (IsPlanned s.last.grid (laws_of hooks).ties) (history_of s.last.chapter)) }
     ensures advancing { IfOk result (λ s. IsBridgeless (IsNeighbour s.last.grid) → EachTick (IsAdvancingTick s.last.grid) (history_of s.last.chapter)) }
     ensures bounded { IfOk result (λ s. IsBridgeless (IsNeighbour s.last.grid) → WaitsAreBounded s.last.grid (history_of s.last.chapter)) }
     ensures tick { IfOk result (λ s. s.last.tick ≡ clock (history_of s.last.chapter)) }

@@ -1,7 +1,9 @@
 //! Two clients post errands from threads of their own while a ticker moves the robots. It is the shortest whole use of an
 //! office: copy it. It prints the same under every schedule of the threads.
 
-ghost use Rattle.fleet_office.specs.Views.{IsNamed};
+ghost use Rattle.std.specs.Prelude.{◌≡◌};
+ghost use Rattle.fleet_core.specs.Hooks.{laws_of};
+ghost use Rattle.fleet_office.specs.Views.{IsNamed, world_at};
 
 use crate::MAP;
 use anyhow::{Result, bail};
@@ -79,7 +81,8 @@ fn spend_day<
     N: OfficeName<Global> + Send + Sync,
     R: Alloc<A = Global> + Print + Threads + Sync + Wait,
 >(rt: &R, desk: Desk, grid: Grid, starts: Vec<u32>, hooks: Hooks) -> Result<()>
-    requires { IsNamed desk N.name N.parts N.rings }
+    requires named { IsNamed desk N.name N.parts N.rings }
+    requires start { N.start ≡ world_at desk grid starts.items (laws_of hooks) }
 {
     let (office, clients, mut ticker) = Office::<N>::open(rt.alloc(), desk, grid, starts, hooks)?;
     let Ok(mut guests) = guests_of::<N, Global>(rt.alloc(), clients) else {

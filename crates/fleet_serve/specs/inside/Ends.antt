@@ -8,18 +8,19 @@ use Rattle.fleet_grid.specs.Walk.{IsBridgeless}
 use Rattle.fleet_history.specs.History.{History, clock}
 use Rattle.fleet_history.specs.Legal.{IsLegal}
 use Rattle.fleet_history.specs.Laws.{EachTick}
-use Rattle.fleet_hooks.specs.declared.law.TieLaw.{TieLaw}
 use Rattle.fleet_planner.specs.Planned.{IsPlanned, IsAdvancingTick}
 use Rattle.fleet_bound.specs.Bound.{WaitsAreBounded}
+use Rattle.fleet_core.specs.Core.{World}
 use Rattle.fleet_serve.specs.Posted.{TakesPosted, TakesAll, AreFullCounted, AreLastNotices}
 
--- the end of a serve of these events by this many clients, each of which may send this many orders: the map, the history and the
+-- the end of a serve that began with this world, of these events by this many clients, each of which may send this many orders: the map, the history and the
 -- number of its chapter, its ticks, and what is left of each client's notices
-pub record IsEnd (events : List Event) (most clients lane_full : ℕ) (m : Floor) (h : History Global) (number ticks : ℕ) (rests : List (Vec Notice Global)) : Type 0 where
+pub record IsEnd (began : World Global) (events : List Event) (most clients lane_full : ℕ) (m : Floor) (h : History Global) (number ticks : ℕ) (rests : List (Vec Notice Global)) : Type 0 where
   pub first : number ≡ 0
+  pub floor : m ≡ began.floor
+  pub opening : h.opening ≡ began.history.opening
   pub legal : IsLegal m h
-  -- each tick is planned, by the laws of some tie closures
-  pub planned : (ties : List TieLaw) × EachTick (IsPlanned m ties) h
+  pub planned : EachTick (IsPlanned m began.ties) h
   pub advancing : IsBridgeless (IsNeighbour m) → EachTick (IsAdvancingTick m) h
   pub bounded : IsBridgeless (IsNeighbour m) → WaitsAreBounded m h
   pub tick : ticks ≡ clock h

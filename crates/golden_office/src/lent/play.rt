@@ -1,7 +1,8 @@
 //! The case: an office whose client posts from a thread, and which moves on by settles and turns.
 
 ghost use Rattle.std.specs.Prelude.{◌≡◌, IfOk};
-ghost use Rattle.fleet_office.specs.Views.{IsNamed, AreOn, cores};
+ghost use Rattle.fleet_core.specs.Hooks.{laws_of};
+ghost use Rattle.fleet_office.specs.Views.{IsNamed, AreOn, cores, world_at};
 
 use crate::lent::shared::{Lent, post_in_thread};
 use crate::waiting::wait_for;
@@ -155,7 +156,8 @@ pub(crate) fn play<
     N: OfficeName<Global> + Send + Sync + 'static,
     R: Alloc<A = Global> + Threads + Sync + Wait + Copy + Send + Drop + 'static,
 >(rt: &R, desk: Desk, grid: Grid, starts: Vec<u32>, hooks: Hooks) -> Result<Outcome, PlayFault>
-    requires { IsNamed desk N.name N.parts N.rings }
+    requires named { IsNamed desk N.name N.parts N.rings }
+    requires start { N.start ≡ world_at desk grid starts.items (laws_of hooks) }
 {
     match Office::<N>::open(rt.alloc(), desk, grid, starts, hooks) {
         Ok((office, clients, ticker)) => live_in(rt, office, clients, ticker),

@@ -1,7 +1,8 @@
 //! A case in a hall, without its lock: event by event.
 
 ghost use Rattle.std.specs.Prelude.{◌≡◌};
-ghost use Rattle.fleet_office.specs.Views.{IsNamed};
+ghost use Rattle.fleet_core.specs.Hooks.{laws_of};
+ghost use Rattle.fleet_office.specs.Views.{IsNamed, world_at};
 
 use crate::rows::calls::tell_client;
 use crate::rows::case::{HallStep, Step};
@@ -66,6 +67,7 @@ pub(crate) fn play_hall<N: OfficeName<A>, A: Allocator + Copy, R: Alloc<A = A>>(
     told: &mut String,
 ) -> Result<Result<(), OpenFault>, AllocError>
     requires named { IsNamed desk N.name N.parts N.rings }
+    requires start { N.start ≡ world_at desk fleet.grid fleet.starts.items (laws_of fleet.hooks) }
 {
     let Fleet {
         grid,

@@ -26,8 +26,11 @@ type Heap<'a> = &'a Meter<Global>;
 
 impl<'a> OfficeName<Heap<'a>> for Brand {
     ghost use Rattle.std.specs.Prelude.{[]};
+    ghost use Rattle.fleet_office.specs.Since.{no_world};
 
     ghost rings = { [] };
+
+    ghost start = { no_world };
 }
 
 /// A case's desk.

@@ -1,7 +1,8 @@
 //! A case, call by call.
 
 ghost use Rattle.std.specs.Prelude.{◌≡◌};
-ghost use Rattle.fleet_office.specs.Views.{IsNamed};
+ghost use Rattle.fleet_core.specs.Hooks.{laws_of};
+ghost use Rattle.fleet_office.specs.Views.{IsNamed, world_at};
 
 use crate::rows::calls::{tell_answer, tell_chapter, tell_look};
 use crate::rows::case::{Case, Step};
@@ -135,6 +136,7 @@ fn play_office<
     told: &mut String,
 ) -> Result<Result<(), OpenFault>, AllocError>
     requires named { IsNamed desk N.name N.parts N.rings }
+    requires start { N.start ≡ world_at desk fleet.grid fleet.starts.items (laws_of fleet.hooks) }
 {
     match opened::<N, A>(rt.alloc(), desk, fleet, plan)? {
         Ok(mut stage) => {
@@ -160,6 +162,7 @@ pub(crate) fn play<
     told: &mut String,
 ) -> Result<Result<(), OpenFault>, AllocError>
     requires named { IsNamed desk N.name N.parts N.rings }
+    requires start { N.start ≡ world_at desk fleet.grid fleet.starts.items (laws_of fleet.hooks) }
 {
     if case.hall.is_empty() {
         play_office::<N, A, R>(rt, desk, fleet, case, plan, told)

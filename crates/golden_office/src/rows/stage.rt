@@ -1,7 +1,8 @@
 //! An office with its clients and tickers.
 
 ghost use Rattle.std.specs.Prelude.{◌≡◌, IfErr, IfOk};
-ghost use Rattle.fleet_office.specs.Views.{IsNamed, AreOn, cores};
+ghost use Rattle.fleet_core.specs.Hooks.{laws_of};
+ghost use Rattle.fleet_office.specs.Views.{IsNamed, AreOn, cores, world_at};
 
 use crate::rows::plan::{Call, Plan};
 use fleet_core::OpenFault;
@@ -54,6 +55,7 @@ pub(crate) fn opened<N: OfficeName<A>, A: Allocator + Copy>(
     plan: Plan<'_>,
 ) -> Result<Result<Stage<N, A>, OpenFault>, AllocError>
     requires named { IsNamed desk N.name N.parts N.rings }
+    requires start { N.start ≡ world_at desk fleet.grid fleet.starts.items (laws_of fleet.hooks) }
 {
     let Fleet {
         grid,

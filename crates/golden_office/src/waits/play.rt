@@ -1,7 +1,8 @@
 //! One case: an office whose robot's closure waits for the clients.
 
 ghost use Rattle.std.specs.Prelude.{◌≡◌, IfOk};
-ghost use Rattle.fleet_office.specs.Views.{IsNamed, AreOn, cores};
+ghost use Rattle.fleet_core.specs.Hooks.{laws_of};
+ghost use Rattle.fleet_office.specs.Views.{IsNamed, AreOn, cores, world_at};
 
 use crate::waits::shared::Shared;
 use crate::waits::staff::work_all;
@@ -141,7 +142,8 @@ pub(crate) fn play<
     hooks: Hooks,
     shared: &Shared,
 ) -> Result<Outcome, PlayFault>
-    requires { IsNamed desk N.name N.parts N.rings }
+    requires named { IsNamed desk N.name N.parts N.rings }
+    requires start { N.start ≡ world_at desk grid starts.items (laws_of hooks) }
 {
     match Office::<N>::open(rt.alloc(), desk, grid, starts, hooks) {
         Ok((office, clients, ticker)) => play_in(rt, office, clients, ticker, shared),

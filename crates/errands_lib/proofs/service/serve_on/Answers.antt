@@ -17,8 +17,18 @@ returns-in-Ok g c =
     (first_laws (λ x. x.law) c.len.result c.choose.result.arrivals.items c.cut-hooks.result.arrivals.items c.cut-hooks.ensures.arrivals)
     (first_laws (λ x. x.law) c.len.result c.choose.result.farewells.items c.cut-hooks.result.farewells.items c.cut-hooks.ensures.farewells) in
     let last = c.in-Ok.served.last in
-    served_is (kit_laws c.args.kit) laws c.args.grid c.args.grid script refl chosen c.served_text.result c.in-Ok.served c.args.judged.now
-    last.chapter.number c.in-Ok.served.lane_full (history_of last.chapter) c.requires.same c.in-Ok.ensures.first c.in-Ok.ensures.opens
+    let e = c.in-Ok.ensures in
+    served_is (kit_laws c.args.kit) laws c.args.grid c.args.grid script refl chosen c.served_text.result c.in-Ok.served c.args.judged.now last.grid
+    last.chapter.number c.in-Ok.served.lane_full (history_of last.chapter) c.requires.same c.in-Ok.ensures.first
+    (record {
+      floor = e.floor;
+      opening = e.opening;
+      planned = e.planned;
+      advancing = e.advancing;
+      bounded = e.bounded;
+      counted = e.counted;
+    })
+    c.in-Ok.ensures.opens
     c.in-Ok.ensures.posted c.in-Ok.ensures.all c.served_text.ensures.legal c.served_text.ensures.said
 
 pub returns-in-Err : goal.returns-in-Err

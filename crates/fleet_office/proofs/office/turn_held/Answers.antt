@@ -12,6 +12,6 @@ returns g c =
     record {
       ticker = t.ensures.ticker;
       kept = t.ensures.kept;
-      turned = some-step (λ v. IsLawful g.N.OfficeName.rings v.world v.ends v.total) (λ v r u. Turns v r u) h t.new.self.state t.result c.recall_laws.ensures.lawful t.ensures.ok;
-      stopped = some-stop (λ v. IsLawful g.N.OfficeName.rings v.world v.ends v.total) (λ v e u. StopsTurn v e u) h t.new.self.state t.result c.recall_laws.ensures.lawful t.ensures.err;
+      turned = some-step (λ v. IsLawful g.N.OfficeName.rings g.N.OfficeName.start v.world v.ends v.total) (λ v r u. Turns v r u) h t.new.self.state t.result c.recall_laws.ensures.lawful t.ensures.ok;
+      stopped = some-stop (λ v. IsLawful g.N.OfficeName.rings g.N.OfficeName.start v.world v.ends v.total) (λ v e u. StopsTurn v e u) h t.new.self.state t.result c.recall_laws.ensures.lawful t.ensures.err;
     }

@@ -1,5 +1,5 @@
 -- What the end of a serve is known to be.
-use Rattle.std.proofs.Common.{◌≡◌, length, arith}
+use Rattle.std.proofs.Common.{◌≡◌, arith}
 use Rattle.std.proofs.lemmas.Result.{IfOk-from_err}
 use Rattle.fleet_history.specs.History.{history_of}
 use Rattle.fleet_serve.proofs.Ended.{is-end}
@@ -10,7 +10,7 @@ returns-in-Ok-2-clause-ended g c =
     let last = c.in-Ok.last in
     let first : last.chapter.number ≡ 0 = omega arith in
     let e = c.in-Ok.ensures in
-    is-end last.grid (history_of last.chapter) last.chapter.number last.tick g.N.OfficeName.rings c.in_ok-clients.clients.items last.rest.items first e.told e.all c.in_ok-clients.ensures.on e.distinct
+    is-end g.N.OfficeName.start last.grid (history_of last.chapter) last.chapter.number last.tick g.N.OfficeName.rings c.in_ok-clients.clients.items last.rest.items first e.since e.told e.all c.in_ok-clients.ensures.on e.distinct
     g.N.ScriptName.events g.N.ScriptName.orders c.in_ok-clients.lane_full c.in_ok-clients.ensures.ran e.legal e.planned e.advancing e.bounded e.tick.0
 
 pub returns-in-Ok-2-clause-later : goal.returns-in-Ok-2-clause-later

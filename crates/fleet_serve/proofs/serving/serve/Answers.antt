@@ -91,3 +91,18 @@ serve_at-requires-clause-events g c κs within = refl
 
 pub serve_at-requires-clause-orders : goal.serve_at-requires-clause-orders
 serve_at-requires-clause-orders g c κs within = refl
+
+pub serve_at-requires-clause-start : goal.serve_at-requires-clause-start
+serve_at-requires-clause-start g c κs within = refl
+
+pub returns-in-Ok-clause-floor : goal.returns-in-Ok-clause-floor
+returns-in-Ok-clause-floor g c = on_ok c.serve_at.result c.serve_at.ensures.ended (λ s e. e.floor)
+
+pub returns-in-Ok-clause-opening : goal.returns-in-Ok-clause-opening
+returns-in-Ok-clause-opening g c = on_ok c.serve_at.result c.serve_at.ensures.ended (λ s e. e.opening)
+
+pub returns-in-Err-Limits-clause-floor : goal.returns-in-Err-Limits-clause-floor
+returns-in-Err-Limits-clause-floor g c = tt
+
+pub returns-in-Err-Limits-clause-opening : goal.returns-in-Err-Limits-clause-opening
+returns-in-Err-Limits-clause-opening g c = tt

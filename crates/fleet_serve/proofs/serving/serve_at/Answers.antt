@@ -1,6 +1,8 @@
 -- The result of an office that is opened for a script.
-use Rattle.std.proofs.Common.{◌≡◌, length, sym, subst, IfOk, rules}
+use Rattle.std.proofs.Common.{◌≡◌, ◌∙◌, ap, length, sym, subst, IfOk, rules}
 use Rattle.std.proofs.lemmas.Result.{IfOk-from_err}
+use Rattle.fleet_book.specs.declared.limits.Limits.{Limits}
+use Rattle.fleet_core.specs.Core.{opened_world}
 use Rattle.fleet_core.specs.Hooks.{laws_of}
 use Rattle.fleet_history.specs.History.{history_of}
 use Rattle.fleet_serve.specs.Posted.{AreNew}
@@ -45,12 +47,23 @@ pub returns-in-Ok-clause-ended : goal.returns-in-Ok-clause-ended
 returns-in-Ok-clause-ended g c =
     let r = c.serve_opened.result in
     let script = c.args.script.now in
-    subst (λ es. IfOk r (λ s. IsEnd es script.limits.orders script.clients s.lane_full s.last.grid (history_of s.last.chapter) s.last.chapter.number s.last.tick s.last.rest.items)) (sym c.requires.events)
-    (subst (λ o. IfOk r (λ s. IsEnd g.N.ScriptName.events o script.clients s.lane_full s.last.grid (history_of s.last.chapter) s.last.chapter.number s.last.tick s.last.rest.items)) (sym c.requires.orders)
-    (subst (λ n. IfOk r (λ s. IsEnd g.N.ScriptName.events g.N.ScriptName.orders n s.lane_full s.last.grid (history_of s.last.chapter) s.last.chapter.number s.last.tick s.last.rest.items)) c.requires.rings c.serve_opened.ensures.ended))
+    subst (λ w. IfOk r (λ s. IsEnd w script.events.items script.limits.orders script.clients s.lane_full s.last.grid (history_of s.last.chapter) s.last.chapter.number s.last.tick s.last.rest.items)) c.requires.start
+    (subst (λ es. IfOk r (λ s. IsEnd g.N.OfficeName.start es script.limits.orders script.clients s.lane_full s.last.grid (history_of s.last.chapter) s.last.chapter.number s.last.tick s.last.rest.items)) (sym c.requires.events)
+    (subst (λ o. IfOk r (λ s. IsEnd g.N.OfficeName.start g.N.ScriptName.events o script.clients s.lane_full s.last.grid (history_of s.last.chapter) s.last.chapter.number s.last.tick s.last.rest.items)) (sym c.requires.orders)
+    (subst (λ n. IfOk r (λ s. IsEnd g.N.OfficeName.start g.N.ScriptName.events g.N.ScriptName.orders n s.lane_full s.last.grid (history_of s.last.chapter) s.last.chapter.number s.last.tick s.last.rest.items)) c.requires.rings c.serve_opened.ensures.ended)))
 
 pub returns-in_err-starts-clause-ended : goal.returns-in_err-starts-clause-ended
 returns-in_err-starts-clause-ended g c = IfOk-from_err c.from_residual.result _ c.from_residual.ensures.0
 
 pub returns-in-Err-clause-ended : goal.returns-in-Err-clause-ended
 returns-in-Err-clause-ended g c = tt
+
+-- the office begins with the script's world
+pub open-requires-clause-start : goal.open-requires-clause-start
+open-requires-clause-start g c =
+    let script = c.args.script.now in
+    let starts : c.in_ok-starts.starts.items ≡ script.starts.items = search rules in
+    c.requires.start
+    ∙ ap (λ xs. opened_world c.args.grid xs script.clients script.limits (laws_of c.args.hooks)) (sym starts)
+    ∙ ap (λ n. opened_world c.args.grid c.in_ok-starts.starts.items n script.limits (laws_of c.args.hooks)) (sym c.requires.clients)
+    ∙ ap (λ (l : Limits). opened_world c.args.grid c.in_ok-starts.starts.items (length c.args.desk.clients) l (laws_of c.args.hooks)) (sym c.requires.limits)

@@ -16,5 +16,5 @@ returns-in-Ok-None g c same =
 
 pub returns-in-Ok : goal.returns-in-Ok
 returns-in-Ok g c same =
-    let (hall, of) = subst (λ (page : Option (Chapter Global)). IfSome page (λ chapter. (h : HallView Global) × IsChapterOf g.N.OfficeName.rings h chapter.number (history_of chapter))) c.in-Ok-Some.field-0-is c.in-Ok-Some.ensures.handed in
+    let (hall, of) = subst (λ (page : Option (Chapter Global)). IfSome page (λ chapter. (h : HallView Global) × IsChapterOf g.N.OfficeName.rings g.N.OfficeName.start h chapter.number (history_of chapter))) c.in-Ok-Some.field-0-is c.in-Ok-Some.ensures.handed in
     handed hall (chapter_shown c.in-Ok-Some.page) of c.in-Ok.ensures.ok

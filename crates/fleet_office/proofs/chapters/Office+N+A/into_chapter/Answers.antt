@@ -6,4 +6,4 @@ pub returns-clause-chapter : goal.returns-clause-chapter
 returns-clause-chapter g c =
     let laws = c.recall_laws.ensures in
     let left = c.into_chapter.ensures in
-    handed-last g.N.OfficeName.rings _ _ _ laws.lawful laws.planned laws.advancing laws.bounded left.history left.number
+    handed-last g.N.OfficeName.rings g.N.OfficeName.start _ _ _ laws.lawful laws.planned laws.advancing laws.bounded left.history left.number

@@ -113,8 +113,8 @@ returns-clause-told g c =
     let e = c.as_mut_slice.ensures.value in
     let same : cores c.wind_down.new.clients ≡ cores items = c.wind_down.ensures.clients ∙ ap cores e in
     let now = lent_back c.wind_down.new.clients items c.args.clients.len (omega (arith, c.args.clients.ok.0)) same in
-    told-same f.result.1.number (history_of f.result.1) items c.wind_down.new.clients f.result.2.items same
-    (subst (λ xs. AreTold f.result.1.number (history_of f.result.1) xs f.result.2.items) now f.ensures.told)
+    told-same g.N.OfficeName.start f.result.1.number (history_of f.result.1) items c.wind_down.new.clients f.result.2.items same
+    (subst (λ xs. AreTold g.N.OfficeName.start f.result.1.number (history_of f.result.1) xs f.result.2.items) now f.ensures.told)
 
 pub returns-clause-all : goal.returns-clause-all
 returns-clause-all g c =

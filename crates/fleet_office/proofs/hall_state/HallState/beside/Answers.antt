@@ -23,7 +23,7 @@ invariant_of-self g c =
     let inside : c.number-c.result < length s.ends.items = omega (arith, slice_get_within g.N.OfficeName.rings c.args.client.now.number c.args.client.now.lane c.requires, c.self.invariant.ring_count, c.number-c.ensures) in
     let at : slice_get s.ends.items c.number-c.result ≡ Some c.index_mut-end.result.now = slice_get_read s.ends.items (length s.ends.items) c.number-c.result c.index_mut-end.result.now refl inside c.index_mut-end.ensures.value in
     let h = c.beside.ensures.hall in
-    lawful_same g.N.OfficeName.rings s.core s.ends.items s.book.total c.number-c.result c.index_mut-end.result.now c.beside.new.self at (ap (λ x. x.lane) h) (ap (λ x. x.taken) h) (ap (λ x. x.given) h) c.self.invariant
+    lawful_same g.N.OfficeName.rings g.N.OfficeName.start s.core s.ends.items s.book.total c.number-c.result c.index_mut-end.result.now c.beside.new.self at (ap (λ x. x.lane) h) (ap (λ x. x.taken) h) (ap (λ x. x.given) h) c.self.invariant
 
 pub returns-clause-others : goal.returns-clause-others
 returns-clause-others g c =

@@ -50,7 +50,7 @@ returns-clause-told g c =
     let e = c.as_mut_slice.ensures.value in
     let settled : AreSettled s.ends.items cs = subst (λ v. AreSettled v.ends cs) (sym c.self.view_is) c.requires.settled in
     let rests : LeftoversAre c.fill.new.rooms.items s.core cs = subst (LeftoversAre c.fill.new.rooms.items s.core) e c.fill.ensures.rests in
-    told-ended g.N.OfficeName.rings s.core s.ends.items s.book.total c.self.invariant f.result.1.number (history_of f.result.1) cs c.fill.new.rooms.items
+    told-ended g.N.OfficeName.rings g.N.OfficeName.start s.core s.ends.items s.book.total c.self.invariant f.result.1.number (history_of f.result.1) cs c.fill.new.rooms.items
     (f.ensures.number ∙ c.fill.ensures.core.number) (f.ensures.history ∙ c.fill.ensures.core.history) c.requires.on settled rests
 
 pub fill-requires-clause-known : goal.fill-requires-clause-known

@@ -20,7 +20,7 @@ invariant_of-self g c =
     let s = c.self.inside in
     let inside = subst (λ v. c.args.client < length v.ends) (sym c.self.view_is) c.requires in
     let at : slice_get s.ends.items c.args.client ≡ Some c.index_mut.result.now = slice_get_read s.ends.items (length s.ends.items) c.args.client c.index_mut.result.now refl inside c.index_mut.ensures.value in
-    lawful_give g.N.OfficeName.rings s.core c.give_from.new.core s.ends.items s.book.total c.args.client c.give_from.result c.index_mut.result.now c.give_from.new.end at c.give_from.ensures.gives c.self.invariant
+    lawful_give g.N.OfficeName.rings g.N.OfficeName.start s.core c.give_from.new.core s.ends.items s.book.total c.args.client c.give_from.result c.index_mut.result.now c.give_from.new.end at c.give_from.ensures.gives c.self.invariant
 
 pub returns : goal.returns
 returns g c =

@@ -5,7 +5,7 @@ pub invariant_of-self : goal.invariant_of-self
 invariant_of-self g c =
     let s = c.self.inside in
     let n = c.next_chapter-handed in
-    kept-next g.N.OfficeName.rings s.core n.new.self s.ends.items s.book.total n.result n.ensures.next n.ensures.err c.chapter.ensures.legal c.self.invariant
+    kept-next g.N.OfficeName.rings g.N.OfficeName.start s.core n.new.self s.ends.items s.book.total n.result n.ensures.next n.ensures.err c.chapter.ensures.legal c.self.invariant
 
 pub returns : goal.returns
 returns g c =

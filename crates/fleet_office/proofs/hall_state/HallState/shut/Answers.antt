@@ -5,7 +5,7 @@ use Rattle.fleet_office.proofs.hall_state.HallState.shut.Goals as goal
 pub invariant_of-self : goal.invariant_of-self
 invariant_of-self g c =
     let s = c.self.inside in
-    kept-shut g.N.OfficeName.rings s.core c.shut_by.new.self s.ends.items s.book.total c.args.robot c.shut_by.result c.shut_by.ensures.ok c.shut_by.ensures.err c.self.invariant
+    kept-shut g.N.OfficeName.rings g.N.OfficeName.start s.core c.shut_by.new.self s.ends.items s.book.total c.args.robot c.shut_by.result c.shut_by.ensures.ok c.shut_by.ensures.err c.self.invariant
 
 pub returns : goal.returns
 returns g c =

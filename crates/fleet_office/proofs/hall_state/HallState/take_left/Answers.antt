@@ -27,7 +27,7 @@ take_left_from-requires g c =
     record {
       client = known;
       there = subst (λ n. c.args.client < n) (sym i.box_count) known;
-      few = few_used g.N.OfficeName.rings s.core s.ends.items s.book.total c.args.client end at i (c.chapter.ensures.counts c.args.client known);
+      few = few_used g.N.OfficeName.rings g.N.OfficeName.start s.core s.ends.items s.book.total c.args.client end at i (c.chapter.ensures.counts c.args.client known);
       some = c.requires.some;
       known = c.requires.known end (rw (← c.self.view_is) at);
     }
@@ -40,7 +40,7 @@ invariant_of-self g c =
     let inside = subst (λ v. c.args.client < length v.ends) (sym c.self.view_is) c.requires.client in
     let at : slice_get s.ends.items c.args.client ≡ Some end = slice_get_read s.ends.items (length s.ends.items) c.args.client end refl inside c.index_mut.ensures.value in
     let k : TakenLeft s.core t.new.core end t.new.end c.args.client c.args.left t.result = record { ok = t.ensures.ok; err = t.ensures.err } in
-    kept_left g.N.OfficeName.rings s.core s.ends.items s.book.total c.args.client c.args.left end at t.new.core t.new.end t.result k c.self.invariant
+    kept_left g.N.OfficeName.rings g.N.OfficeName.start s.core s.ends.items s.book.total c.args.client c.args.left end at t.new.core t.new.end t.result k c.self.invariant
 
 pub returns : goal.returns
 returns g c =
@@ -50,11 +50,11 @@ returns g c =
     let inside = subst (λ v. c.args.client < length v.ends) (sym c.self.view_is) c.requires.client in
     let at : slice_get s.ends.items c.args.client ≡ Some end = slice_get_read s.ends.items (length s.ends.items) c.args.client end refl inside c.index_mut.ensures.value in
     let k : TakenLeft s.core t.new.core end t.new.end c.args.client c.args.left t.result = record { ok = t.ensures.ok; err = t.ensures.err } in
-    let next = next_left g.N.OfficeName.rings s.core s.ends.items s.book.total c.args.client c.args.left end at t.new.core t.new.end t.result k in
-    let there = boxed g.N.OfficeName.rings s.core s.ends.items s.book.total c.args.client end c.self.invariant at in
+    let next = next_left g.N.OfficeName.rings g.N.OfficeName.start s.core s.ends.items s.book.total c.args.client c.args.left end at t.new.core t.new.end t.result k in
+    let there = boxed g.N.OfficeName.rings g.N.OfficeName.start s.core s.ends.items s.book.total c.args.client end c.self.invariant at in
     rw (← c.self.view_is)
     record {
-      ok = moves_left g.N.OfficeName.rings s.core s.ends.items s.book.total c.args.client c.args.left end at t.new.core t.new.end t.result k;
+      ok = moves_left g.N.OfficeName.rings g.N.OfficeName.start s.core s.ends.items s.book.total c.args.client c.args.left end at t.new.core t.new.end t.result k;
       next = next;
       used = used_after s.core t.new.core c.args.client c.args.left t.result there c.self.invariant.legal next;
       err = first_err (Widens s.core c.args.client c.args.left t.new.core) (t.new.end ≡ end) t.result t.ensures.err;

@@ -22,7 +22,7 @@ invariant_of-self g c =
     let inside = subst (λ v. c.args.client < length v.ends) (sym c.self.view_is) c.requires in
     let at : slice_get s.ends.items c.args.client ≡ Some c.index_mut.result.now = slice_get_read s.ends.items (length s.ends.items) c.args.client c.index_mut.result.now refl inside c.index_mut.ensures.value in
     let k : Taken s.core c.take_from.new.core c.index_mut.result.now c.take_from.new.end c.args.client c.take_from.result = record { ok = c.take_from.ensures.ok; err = c.take_from.ensures.err } in
-    kept g.N.OfficeName.rings s.core s.ends.items s.book.total c.args.client c.index_mut.result.now at c.take_from.new.core c.take_from.new.end c.take_from.result k c.self.invariant
+    kept g.N.OfficeName.rings g.N.OfficeName.start s.core s.ends.items s.book.total c.args.client c.index_mut.result.now at c.take_from.new.core c.take_from.new.end c.take_from.result k c.self.invariant
 
 pub returns : goal.returns
 returns g c =
@@ -34,8 +34,8 @@ returns g c =
     let k : Taken s.core t.new.core end t.new.end c.args.client t.result = record { ok = t.ensures.ok; err = t.ensures.err } in
     rw (← c.self.view_is)
     record {
-      ok = told g.N.OfficeName.rings s.core s.ends.items s.book.total c.args.client end at t.new.core t.new.end t.result k;
-      mailbox_full = shown g.N.OfficeName.rings s.core s.ends.items s.book.total c.args.client end at t.new.core t.new.end t.result MailboxFull (HasNoRoom s.core c.args.client) t.ensures.mailbox_full;
-      chapter_full = shown-both g.N.OfficeName.rings s.core s.ends.items s.book.total c.args.client end at t.new.core t.new.end t.result ChapterFull (HasRoom s.core c.args.client) (HasNoEntries s.core) t.ensures.chapter_full;
-      err = untold g.N.OfficeName.rings s.core s.ends.items s.book.total c.args.client end at t.new.core t.new.end t.result k;
+      ok = told g.N.OfficeName.rings g.N.OfficeName.start s.core s.ends.items s.book.total c.args.client end at t.new.core t.new.end t.result k;
+      mailbox_full = shown g.N.OfficeName.rings g.N.OfficeName.start s.core s.ends.items s.book.total c.args.client end at t.new.core t.new.end t.result MailboxFull (HasNoRoom s.core c.args.client) t.ensures.mailbox_full;
+      chapter_full = shown-both g.N.OfficeName.rings g.N.OfficeName.start s.core s.ends.items s.book.total c.args.client end at t.new.core t.new.end t.result ChapterFull (HasRoom s.core c.args.client) (HasNoEntries s.core) t.ensures.chapter_full;
+      err = untold g.N.OfficeName.rings g.N.OfficeName.start s.core s.ends.items s.book.total c.args.client end at t.new.core t.new.end t.result k;
     }

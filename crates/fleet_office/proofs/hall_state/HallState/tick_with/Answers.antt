@@ -12,8 +12,8 @@ pub invariant_of-self-2 : goal.invariant_of-self-2
 invariant_of-self-2 g c =
     let s = c.self.inside in
     let t = c.in_ok-report.ensures.ok in
-    subst (λ x. IsLawful g.N.OfficeName.rings x s.ends.items c.count_tick.new.book.total) (sym t.world)
-    (lawful_tick g.N.OfficeName.rings s.core s.ends.items s.book.total c.count_tick.new.book.total t.to t.arrived t.farewells t.fits c.count_tick.ensures.book c.self.invariant)
+    subst (λ x. IsLawful g.N.OfficeName.rings g.N.OfficeName.start x s.ends.items c.count_tick.new.book.total) (sym t.world)
+    (lawful_tick g.N.OfficeName.rings g.N.OfficeName.start s.core s.ends.items s.book.total c.count_tick.new.book.total t.to t.arrived t.farewells t.fits c.count_tick.ensures.book c.self.invariant)
 
 pub returns : goal.returns
 returns g c =
@@ -33,4 +33,4 @@ returns g c =
 pub invariant_of-self : goal.invariant_of-self
 invariant_of-self g c =
     let s = c.self.inside in
-    subst (λ x. IsLawful g.N.OfficeName.rings x s.ends.items s.book.total) (sym c.in_err-report.ensures.err) c.self.invariant
+    subst (λ x. IsLawful g.N.OfficeName.rings g.N.OfficeName.start x s.ends.items s.book.total) (sym c.in_err-report.ensures.err) c.self.invariant

@@ -7,7 +7,7 @@ use Rattle.fleet_office.proofs.hall_state.HallState.ticks_by.Goals as goal
 pub invariant_of-self : goal.invariant_of-self
 invariant_of-self g c =
     let s = c.self.inside in
-    subst (λ t. IsLawful g.N.OfficeName.rings s.core s.ends.items t) (sym c.ticks_of_all.ensures.total) c.self.invariant
+    subst (λ t. IsLawful g.N.OfficeName.rings g.N.OfficeName.start s.core s.ends.items t) (sym c.ticks_of_all.ensures.total) c.self.invariant
 
 pub returns-clause-same : goal.returns-clause-same
 returns-clause-same g c =
