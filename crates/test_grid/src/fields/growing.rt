@@ -35,8 +35,10 @@ fn ask_around(rt: &impl Abort, field: &mut GrowingField, grid: &Grid)
 fn ring_grows(rt: HostRuntime) {
     let grid = ring(&rt, rt.alloc());
     for target in [0, 8, 4] {
-        let mut field =
-            GrowingField::new(rt.alloc(), &grid, 0, target).expect(&rt, "memory for a field");
+        let mut field = GrowingField::new(rt.alloc(), &grid, 0, target).expect(
+            &rt,
+            "memory for a field",
+        );
         assert!(&rt; field.goal() == 0);
         ask_around(&rt, &mut field, &grid);
     }

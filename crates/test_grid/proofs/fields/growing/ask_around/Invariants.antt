@@ -1,0 +1,5 @@
+use Rattle.fleet_growth.specs.Field.{Serves}
+use Rattle.test_grid.proofs.fields.growing.ask_around.Given as goal
+
+abbrev pub invariant-loop-at : goal.invariant-loop-at
+invariant-loop-at g l = Serves l.grid l.field
