@@ -1,11 +1,14 @@
 //! Tests of traces and plans. Traces are written, read back and judged; truncated and hostile ones too, and the second
-//! judge finds planted faults. Plans of other planners are judged, traces are turned into plans, and faults are explained.
+//! judge finds planted faults. Plans of other planners are judged, traces are turned into plans, faults are explained, and
+//! figures are counted.
 #![tactic(auto)]
 
 #[cfg(test)]
 mod conversions;
 #[cfg(test)]
 mod explanations;
+#[cfg(test)]
+mod figures;
 #[cfg(test)]
 mod judged;
 #[cfg(test)]

@@ -1,0 +1,6 @@
+pub mod Tellings
+pub mod Followed
+pub mod Sound
+pub mod Lists
+pub mod Ways
+pub mod Blank

@@ -1,0 +1,7 @@
+pub mod Noted
+pub mod Chapters
+pub mod Rows
+pub mod Figures
+pub mod Text
+pub mod Report
+pub mod inside

@@ -1,0 +1,64 @@
+-- The text for a map and for traces on it, and why there is none.
+use Rattle.std.specs.Prelude.{◌≡◌, ℕ, List, length, Ok}
+use Rattle.std.specs.declared.alloc.Global.{Global}
+use Rattle.fleet_map.specs.Grammar.{Map, Fails, map_of}
+use Rattle.fleet_map.specs.declared.fault.MapFault.{MapFault}
+use Rattle.fleet_grid.specs.Floor.{Floor, floor_of}
+use Rattle.fleet_trace.specs.Trace.{Trace}
+use Rattle.fleet_stats.specs.declared.fault.StatsFault.{StatsFault}
+use Rattle.fleet_stats.specs.declared.fault.StatsFault.TheVariants as fault
+use Rattle.fleet_stats.specs.declared.figures.Summary.{Summary}
+use Rattle.fleet_stats.specs.declared.lines.Style.{Style}
+use Rattle.fleet_stats.specs.declared.lines.Style.TheVariants as style
+use Rattle.fleet_stats.specs.declared.answer.StatsForm.{StatsForm}
+use Rattle.fleet_stats.specs.declared.answer.StatsForm.TheVariants as form
+use Rattle.fleet_stats.specs.Noted.{Notes, run_noted}
+use Rattle.fleet_stats.specs.Chapters.{AreInTurn, AreNotInTurn, AreSound, IsUnfollowed}
+use Rattle.fleet_stats.specs.Figures.{IsSummary, arrivals_of, windows_of, rows_in}
+use Rattle.fleet_stats.specs.Text.{summary_text, errands_table, ticks_table, cells_table}
+
+-- the text has the figures of the run
+pub record IsSummarized {A : Type 0} (style : Style) (m : Floor) (ts : List (Trace A)) (n : Notes) (text : List ℕ) : Type 0 where
+  pub summary : Summary
+  pub summarized : IsSummary m ts n (rows_in m ts n) summary
+  pub is : text ≡ summary_text style summary n.kinds (windows_of (arrivals_of n.ticks))
+
+-- the text that is asked for, of what was recorded of a run
+abbrev pub IsReport : {A : Type 0} → StatsForm → Floor → List (Trace A) → Notes → List ℕ → Type 0
+IsReport form.Text m ts n text = IsSummarized style.Text m ts n text
+IsReport form.Json m ts n text = IsSummarized style.Json m ts n text
+IsReport form.Errands m ts n text = text ≡ errands_table (rows_in m ts n)
+IsReport form.Ticks m ts n text = text ≡ ticks_table n.ticks
+IsReport form.Cells m ts n text = text ≡ cells_table m.width n.stood (length m.letters)
+
+-- each chapter is sound, and the text is that of what is recorded of them
+pub record IsReported {A : Type 0} (what : StatsForm) (m : Floor) (ts : List (Trace A)) (text : List ℕ) : Type 0 where
+  pub sound : AreSound m ts
+  pub is : IsReport what m ts (run_noted ts) text
+
+-- the map of a text, as a floor
+abbrev pub floor_of_map : Map → Floor
+floor_of_map m = floor_of m.height m.width m.cells
+
+-- the text for traces on a map: they follow one another, each is legal, and the figures are those of what is recorded of them
+pub record IsStatsOn (what : StatsForm) (m : Floor) (texts : List (List ℕ)) (text : List ℕ) : Type 0 where
+  pub traces : List (Trace Global)
+  pub told : AreInTurn texts traces
+  pub reported : IsReported what m traces text
+
+pub record IsStats (what : StatsForm) (map : List ℕ) (texts : List (List ℕ)) (text : List ℕ) : Type 0 where
+  pub floor : Map
+  pub read : map_of map ≡ Ok floor
+  pub on : IsStatsOn what (floor_of_map floor) texts text
+
+-- why there is none on a map: the texts, their chapters, or memory
+pub data IsNoneOn (m : Floor) (texts : List (List ℕ)) (f : StatsFault) : Type 0 where
+  unread : AreNotInTurn texts f → IsNoneOn m texts f
+  unsound : (ts : List (Trace Global)) → AreInTurn texts ts → IsUnfollowed m ts f → IsNoneOn m texts f
+  no_memory : f ≡ fault.NoMemory → IsNoneOn m texts f
+
+-- why there is none: the map comes first
+pub data IsNone (map : List ℕ) (texts : List (List ℕ)) (f : StatsFault) : Type 0 where
+  unmapped : (e : MapFault) → Fails e (map_of map) → f ≡ fault.Map e → IsNone map texts f
+  refused : (floor : Map) → map_of map ≡ Ok floor → IsNoneOn (floor_of_map floor) texts f → IsNone map texts f
+  no_memory : f ≡ fault.NoMemory → IsNone map texts f

@@ -1,0 +1,61 @@
+-- The errands that a run accepted and did.
+use Rattle.std.specs.Prelude.{ℕ, ◌-◌, ◌==◌, ◌&&◌, nat_le, if◌then◌else◌, List, [], ◌∷◌, Option, Some, None, map, filter, length, slice_get, slice_index_or}
+use Rattle.std.specs.List.{flat_map, range_with_len}
+use Rattle.fleet_grid.specs.Floor.{Floor, is_floor}
+use Rattle.fleet_grid.specs.Distance.{distance}
+use Rattle.fleet_history.specs.declared.history.ClientState.{ClientState}
+use Rattle.fleet_history.specs.History.{unknown_client}
+use Rattle.fleet_trace.specs.Trace.{Trace}
+use Rattle.fleet_stats.specs.declared.notes.Notes.{Notes as Recorded}
+use Rattle.fleet_stats.specs.declared.rows.Landed.{Landed}
+use Rattle.fleet_stats.specs.declared.rows.Taken.{Taken}
+use Rattle.fleet_stats.specs.declared.rows.ErrandRow.{ErrandRow}
+use Rattle.fleet_stats.specs.Noted.{Notes}
+
+-- what was recorded, as lists
+abbrev pub shown : Recorded → Notes
+shown n = record { legs = n.legs.items; ticks = n.ticks.items; landed = n.landed.items; stood = n.stood.items; taken = n.taken.items; kinds = n.kinds.items }
+
+-- the clients of the first opening
+abbrev pub clients_in : {A : Type 0} → List (Trace A) → List ClientState
+clients_in [] = []
+clients_in (t ∷ ts) = t.history.opening.clients
+
+-- ---- when an errand was accepted
+
+-- the clocks at which errands of the client were accepted, in order
+abbrev pub times_of : List Taken → ℕ → List ℕ
+times_of taken c = map (λ x. x.tick) (filter (λ x. x.client == c) taken)
+
+-- those of each client
+abbrev pub all_times : List Taken → ℕ → List (List ℕ)
+all_times taken clients = map (times_of taken) (range_with_len 0 clients)
+
+-- how many errands of the client were accepted before the run
+abbrev pub accepted_before : List ClientState → ℕ → ℕ
+accepted_before clients c = (slice_index_or clients c unknown_client).accepted
+
+-- the accepted errands of a client are numbered in order, from 1 on
+abbrev pub time_in : ℕ → ℕ → List ℕ → Option ℕ
+time_in before number times = if nat_le number before then None else slice_get times (number - before - 1)
+
+-- when the run accepted the client's errand of this number; `None` if it was accepted before
+abbrev pub accepted_at : List ClientState → List (List ℕ) → ℕ → ℕ → Option ℕ
+accepted_at clients times c number = time_in (accepted_before clients c) number (slice_index_or times c [])
+
+-- ---- rows
+
+-- how far apart two floor cells are
+abbrev pub away : Floor → ℕ → ℕ → Option ℕ
+away m from to = if is_floor m from && is_floor m to then distance m from to else None
+
+abbrev pub row_if : Floor → Option ℕ → Landed → List ErrandRow
+row_if m None x = []
+row_if m (Some t) x = record { accepted = t; done = x; distance = away m x.leg.from x.cell } ∷ []
+
+abbrev pub row_of : Floor → List ClientState → List (List ℕ) → Landed → List ErrandRow
+row_of m clients times x = row_if m (accepted_at clients times x.client x.number) x
+
+-- a row for each errand that the run accepted and did, in the order of arrival
+abbrev pub errand_rows : Floor → List ClientState → List Taken → List Landed → List ErrandRow
+errand_rows m clients taken landed = flat_map (row_of m clients (all_times taken (length clients))) landed

@@ -1,0 +1,16 @@
+-- Fields of which none is held.
+use Rattle.std.specs.Prelude.{ℕ, ◌≡◌, List, Option, None}
+use Rattle.fleet_grid.specs.Floor.{Floor}
+use Rattle.fleet_field.specs.Field.{Aim}
+use Rattle.fleet_field.specs.Store.{Keeps, shown}
+use Rattle.fleet_field.specs.declared.store.Held.{Held}
+use Rattle.fleet_stats.specs.declared.away.Fields.{Fields}
+
+-- a store that holds nothing
+abbrev pub IsBlank : List (Option (Held Aim)) → Type 0
+IsBlank store = (key : ℕ) → shown store key ≡ None
+
+-- nothing is held, and what is kept is of the map
+pub record AreReady (m : Floor) (fields : Fields) : Type 0 where
+  pub blank : IsBlank fields.store
+  pub keeps : Keeps m fields.shelf

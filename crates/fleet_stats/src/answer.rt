@@ -1,0 +1,184 @@
+//! The figures for the text of a map and for traces on it.
+
+ghost use Rattle.std.specs.Prelude.{◌≡◌, ◌≤◌, map, IfOk, IfErr, string_bytes};
+ghost use Rattle.fleet_map.specs.Form.{HasSides};
+ghost use Rattle.fleet_map.specs.Grammar.{view};
+ghost use Rattle.fleet_trace.specs.Trace.{trace_of};
+ghost use Rattle.fleet_stats.specs.Chapters.{IsUnfollowed};
+ghost use Rattle.fleet_stats.specs.Figures.{rows_in};
+ghost use Rattle.fleet_stats.specs.Rows.{shown};
+ghost use Rattle.fleet_stats.specs.Report.{IsSummarized, IsReport, IsReported, IsStatsOn, IsStats, IsNoneOn, IsNone, floor_of_map};
+
+use crate::chapters::chapters_in_turn;
+use crate::errands::errand_rows;
+use crate::fault::StatsFault;
+use crate::figures::{arrivals_of, clients_in, summarize};
+use crate::follow::follow;
+use crate::lines::Style;
+use crate::notes::Notes;
+use crate::pages::summary_text;
+use crate::rows::ErrandRow;
+use crate::spread::windows_of;
+use crate::tables::{cells_table, errands_table, ticks_table};
+use fleet_grid::Grid;
+use fleet_history::Chapter;
+use fleet_map::{MapFault, MapText, read_map};
+use std::alloc::{AllocError, Global};
+
+/// What is asked for.
+#[derive(Clone, Copy)]
+pub enum StatsForm {
+    /// All figures, as lines `NAME VALUE`.
+    Text,
+    /// All figures, as a JSON object.
+    Json,
+    /// A table of the errands that were accepted and done.
+    Errands,
+    /// A table of the ticks.
+    Ticks,
+    /// A table of the cells on which robots with errands stood.
+    Cells,
+}
+
+/// A row for each errand that the run accepted and did.
+fn rows_of(
+    alloc: Global,
+    grid: &Grid,
+    chapters: &[Chapter],
+    notes: &Notes,
+) -> Result<Vec<ErrandRow>, AllocError>
+    ensures { IfOk result (λ rows. rows.items ≡ rows_in grid.now (map trace_of chapters.now) (shown notes.now)) }
+{
+    errand_rows(
+        alloc,
+        grid,
+        clients_in(chapters),
+        &notes.taken,
+        &notes.landed,
+    )
+}
+
+/// All figures.
+fn summarized(
+    alloc: Global,
+    style: Style,
+    grid: &Grid,
+    chapters: &[Chapter],
+    notes: &Notes,
+) -> Result<String, AllocError>
+    ensures { IfOk result (λ text. IsSummarized style grid.now (map trace_of chapters.now) (shown notes.now) (string_bytes text)) }
+{
+    let rows = rows_of(alloc, grid, chapters, notes)?;
+    let windows = windows_of(alloc, &arrivals_of(alloc, &notes.ticks)?)?;
+    let figures = summarize(alloc, grid, chapters, notes, &rows)?;
+    summary_text(alloc, style, &figures, &notes.kinds, &windows)
+}
+
+/// The table of errands.
+fn errands_of(
+    alloc: Global,
+    grid: &Grid,
+    chapters: &[Chapter],
+    notes: &Notes,
+) -> Result<String, AllocError>
+    ensures { IfOk result (λ text. IsReport StatsForm.Errands grid.now (map trace_of chapters.now) (shown notes.now) (string_bytes text)) }
+{
+    let rows = rows_of(alloc, grid, chapters, notes)?;
+    errands_table(alloc, &rows)
+}
+
+/// The text that is asked for.
+fn report(
+    alloc: Global,
+    form: StatsForm,
+    grid: &Grid,
+    chapters: &[Chapter],
+    notes: &Notes,
+) -> Result<String, AllocError>
+    requires { 1 ≤ grid.now.width }
+    ensures { IfOk result (λ text. IsReport form grid.now (map trace_of chapters.now) (shown notes.now) (string_bytes text)) }
+{
+    match form {
+        StatsForm::Text => summarized(alloc, Style::Text, grid, chapters, notes),
+        StatsForm::Json => summarized(alloc, Style::Json, grid, chapters, notes),
+        StatsForm::Errands => errands_of(alloc, grid, chapters, notes),
+        StatsForm::Ticks => ticks_table(alloc, &notes.ticks),
+        StatsForm::Cells => {
+            let (width, cells) = (grid.width() as usize, grid.cell_count() as usize);
+            cells_table(alloc, width, &notes.stood, cells)
+        }
+    }
+}
+
+/// The text for chapters.
+fn report_on(
+    alloc: Global,
+    form: StatsForm,
+    grid: &Grid,
+    chapters: &[Chapter],
+) -> Result<String, StatsFault>
+    requires { 1 ≤ grid.now.width }
+    ensures text { IfOk result (λ text. IsReported form grid.now (map trace_of chapters.now) (string_bytes text)) }
+    ensures fault { IfErr result (λ fault. IsUnfollowed grid.now (map trace_of chapters.now) fault) }
+{
+    match follow(alloc, grid, chapters) {
+        Ok(notes) => match report(alloc, form, grid, chapters, &notes) {
+            Ok(text) => Ok(text),
+            Err(AllocError) => Err(StatsFault::NoMemory),
+        },
+        Err(fault) => Err(fault),
+    }
+}
+
+/// The text for traces on a map.
+fn stats_on(
+    alloc: Global,
+    form: StatsForm,
+    grid: &Grid,
+    texts: &[Vec<u8>],
+) -> Result<String, StatsFault>
+    requires { 1 ≤ grid.now.width }
+    ensures text { IfOk result (λ text. IsStatsOn form grid.now (map (λ text. text.items) texts.now) (string_bytes text)) }
+    ensures fault { IfErr result (λ fault. IsNoneOn grid.now (map (λ text. text.items) texts.now) fault) }
+{
+    match chapters_in_turn(alloc, texts) {
+        Ok(chapters) => report_on(alloc, form, grid, &chapters),
+        Err(fault) => Err(fault),
+    }
+}
+
+/// The text for traces on a map that was read.
+fn stats_of(
+    alloc: Global,
+    form: StatsForm,
+    floor: MapText,
+    texts: &[Vec<u8>],
+) -> Result<String, StatsFault>
+    requires { HasSides (view floor) }
+    ensures text { IfOk result (λ text. IsStatsOn form (floor_of_map (view floor)) (map (λ text. text.items) texts.now) (string_bytes text)) }
+    ensures fault { IfErr result (λ fault. IsNoneOn (floor_of_map (view floor)) (map (λ text. text.items) texts.now) fault) }
+{
+    match Grid::new(floor) {
+        Ok(grid) => stats_on(alloc, form, &grid, texts),
+        Err(AllocError) => Err(StatsFault::NoMemory),
+    }
+}
+
+/// The figures of traces on a map. The traces are chapters of one run: each one continues the one before it. The map is read first, then
+/// the traces in their order; when all are read, it is checked that each continues the one before it, and then, trace by trace, that its
+/// clock stays below 2^63 and that it is legal on the map.
+pub fn stats(
+    alloc: Global,
+    form: StatsForm,
+    bytes: &[u8],
+    texts: &[Vec<u8>],
+) -> Result<String, StatsFault>
+    ensures text { IfOk result (λ text. IsStats form bytes.now (map (λ text. text.items) texts.now) (string_bytes text)) }
+    ensures fault { IfErr result (λ fault. IsNone bytes.now (map (λ text. text.items) texts.now) fault) }
+{
+    match read_map(alloc, bytes) {
+        Ok(floor) => stats_of(alloc, form, floor, texts),
+        Err(MapFault::NoMemory) => Err(StatsFault::NoMemory),
+        Err(fault) => Err(StatsFault::Map(fault)),
+    }
+}

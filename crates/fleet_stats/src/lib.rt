@@ -1,0 +1,21 @@
+//! Figures of a fleet's run, computed from its traces: throughput, service times, waits, detours, stands and refusals, as text, as JSON
+//! and as tables.
+#![tactic(auto)]
+
+mod answer;
+mod away;
+mod chapters;
+mod errands;
+mod fault;
+mod figures;
+mod follow;
+mod lines;
+mod notes;
+mod pages;
+mod rows;
+mod spread;
+mod tables;
+mod tick;
+
+pub use answer::{StatsForm, stats};
+pub use fault::StatsFault;

@@ -1,0 +1,56 @@
+//! Figures of a run of two chapters. The expected values were worked out by hand, as `docs/STATS.md` tells.
+
+use fleet_stats::{StatsFault, StatsForm, stats};
+use std::alloc::{AllocError, Global};
+
+/// Three cells in a row.
+const MAP: &str = "type octile\nheight 1\nwidth 3\nmap\n...\n";
+
+/// The robot goes to the right end and back by one cell: two errands, accepted at clock 0.
+const FIRST: &str =
+    r#"{"chapter":0,"entries":[["take",0,["go",0,2],["accepted",1]],["take",0,["go",0,1],["accepted",2]],["tick",[1],[],[]],["tick",[2],[[0,0,1,0]],[]],["tick",[1],[[0,0,2,0]],[]]],"opening":{"clients":[[0,0,0,false]],"life":1000000,"queue":16,"robots":[[0,false,null,[],[0,0],[0,0]]],"tick":0},"version":2}"#;
+
+/// An order for a cell that there is not, and a tick in which the robot has no errand.
+const SECOND: &str =
+    r#"{"chapter":1,"entries":[["take",0,["go",0,5],["refused",4]],["tick",[1],[],[]]],"opening":{"clients":[[2,2,4,false]],"life":1000000,"queue":16,"robots":[[1,false,null,[],[0,0],[0,0]]],"tick":3},"version":2}"#;
+
+const LINES: &str =
+    "robots 1\nclients 1\nfloor_cells 3\nfirst_tick 0\nticks 4\norders 3\naccepted 2\nclosed 0\nwithdrawn 0\nrefused 1\nrefused_client-closed 0\nrefused_no-robot 0\nrefused_robot-shut 0\nrefused_no-cell 1\nrefused_blocked 0\nrefused_unreachable 0\nrefused_queue-full 0\nrefused_life-spent 0\nrefused_no-errand 0\nrefused_too-late 0\narrivals 2\nthroughput 0.500\nerrands 2\nservice_mean 2.500\nservice_median 2\nservice_p95 3\nservice_greatest 3\nwait_mean 1.500\nwait_median 1\nwait_p95 2\nwait_greatest 2\nsteps 3\ndistance 3\ndetour 1.000\nlongest_wait 1\nwait_limit none\nidle_mean 0.250\nmoves 3\nstands 0\nwindow_arrivals 2\n";
+
+const ERRANDS: &str =
+    "client,number,robot,cell,accepted,begun,arrived,from,steps,distance\n0,1,0,2,0,0,2,0,2,2\n0,2,0,1,0,2,3,2,1,1\n";
+
+const TICKS: &str =
+    "tick,arrivals,moves,idle,longest_wait\n1,0,1,0,0\n2,1,1,0,1\n3,1,1,0,0\n4,0,0,1,0\n";
+
+/// Two texts, one after the other.
+fn both(alloc: Global, first: &str, second: &str) -> Result<Vec<Vec<u8>>, AllocError> {
+    let mut texts = Vec::new(alloc);
+    texts.push(Vec::from_slice(alloc, first.as_bytes())?)?;
+    texts.push(Vec::from_slice(alloc, second.as_bytes())?)?;
+    Ok(texts)
+}
+
+/// What is printed for two traces; an empty text if there is nothing.
+fn printed(alloc: Global, form: StatsForm, texts: &[Vec<u8>]) -> String {
+    match stats(alloc, form, MAP.as_bytes(), texts) {
+        Ok(text) => text,
+        Err(_) => String::new(alloc),
+    }
+}
+
+#[test]
+fn figures_of_two_chapters(rt: HostRuntime) {
+    let alloc = rt.alloc();
+    let texts = both(alloc, FIRST, SECOND).expect(&rt, "memory");
+    assert!(rt; printed(alloc, StatsForm::Text, &texts).as_str() == LINES);
+    assert!(rt; printed(alloc, StatsForm::Errands, &texts).as_str() == ERRANDS);
+    assert!(rt; printed(alloc, StatsForm::Ticks, &texts).as_str() == TICKS);
+}
+
+#[test]
+fn chapters_in_another_order(rt: HostRuntime) {
+    let texts = both(rt.alloc(), SECOND, FIRST).expect(&rt, "memory");
+    let none = stats(rt.alloc(), StatsForm::Json, MAP.as_bytes(), &texts);
+    assert!(rt; matches!(none, Err(StatsFault::Chapter(2))));
+}
