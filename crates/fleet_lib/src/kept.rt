@@ -1,6 +1,6 @@
 //! The chapter that a fleet goes on from, as a file has it.
 
-ghost use Rattle.std.specs.Prelude.{◌≡◌, ◌×◌, Some, IfOk, IfErr, string_bytes};
+ghost use Rattle.std.specs.Prelude.{◌≡◌, Some, IfOk, IfErr, string_bytes};
 ghost use Rattle.fleet_trace.specs.Reads.{Tells};
 ghost use Rattle.fleet_trace.specs.Trace.{trace_of};
 ghost use Rattle.fleet_lib.specs.Kept.{ComplainsOfKept, IsKeptFault, IsReasonOf, is_illegal, is_memory, kept_line, reason_text, resume_text};

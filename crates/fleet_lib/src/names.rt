@@ -1,6 +1,6 @@
 //! The names of the chapters in a folder.
 
-ghost use Rattle.std.specs.Prelude.{◌≡◌, ◌≢◌, ◌<◌, ◌≤◌, ◌^◌, ◌×◌, ℕ, [], IfOk, IfErr, MatchOption, decimal, map, nat_lt, string_bytes};
+ghost use Rattle.std.specs.Prelude.{◌≡◌, ◌≢◌, ◌<◌, ◌≤◌, ◌^◌, ℕ, [], IfOk, IfErr, MatchOption, decimal, map, nat_lt, string_bytes};
 ghost use Rattle.std.specs.List.{All, Contains, list_any};
 ghost use Rattle.fleet_lib.specs.Names.{AreNumbers, IsLast, IsNamed, IsNamesFault, IsRun, chapter_name};
 

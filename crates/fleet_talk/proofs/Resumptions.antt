@@ -1,32 +1,36 @@
 -- Conversations with a fleet that is open before the first line.
-use Rattle.std.proofs.Common.{◌≡◌, ◌∙◌, ℕ, Bool, true, false, List, [], ◌∷◌, ◌++◌, Option, Some, None, Result, Ok, Err, IfSome, refl, sym, ap, subst, append-nil}
+use Rattle.std.proofs.Common.{◌≡◌, ◌∙◌, ℕ, Bool, true, false, List, [], ◌∷◌, Option, Some, None, Result, Ok, Err, IfSome, refl, sym, ap, subst, append-nil}
 use Rattle.std.specs.Prelude.{OnOk, IfErr, if◌then◌else◌, length, take}
 use Rattle.std.specs.Option.{option_map}
 use Rattle.std.proofs.lemmas.Option.{same_Some}
 use Rattle.std.specs.declared.alloc.Global.{Global}
 use Rattle.std.specs.Io.KnownBytes.{Appends}
 use Rattle.errands_text.specs.Transfer.{AppendsPrefix}
-use Rattle.errands_text.specs.Kit.{KitLaws}
+use Rattle.errands_text.specs.Kit.{KitLaws, cut_laws}
+use Rattle.fleet_core.specs.Hooks.{HookLaws}
+use Rattle.fleet_hooks.specs.declared.law.StampLaw.{StampLaw}
+use Rattle.fleet_hooks.specs.declared.law.TieLaw.{TieLaw}
 use Rattle.fleet_grid.specs.Floor.{Floor}
+use Rattle.fleet_book.specs.declared.limits.Limits.{Limits}
+use Rattle.fleet_history.specs.History.{History}
 use Rattle.fleet_reopen.specs.declared.fault.ReopenFault.{ReopenFault}
 use Rattle.fleet_reopen.specs.declared.fault.ReopenFault.TheVariants as reopen_fault
-use Rattle.fleet_reopen.specs.Reopening.{IsReopenFault}
+use Rattle.fleet_reopen.specs.Reopening.{CanReopen, IsReopenFault}
 use Rattle.fleet_script.specs.Script.{Draft}
 use Rattle.fleet_world.specs.Talk.{Talk}
 use Rattle.fleet_talk.specs.declared.ends.Settings.{Settings}
 use Rattle.fleet_talk.specs.declared.fault.TalkFault.{TalkFault}
 use Rattle.fleet_talk.specs.declared.fault.TalkFault.TheVariants.{Input, Output, Shelf, Opening as Unopened, NoMemory}
 use Rattle.fleet_talk.specs.declared.resuming.ResumeFault.{ResumeFault}
-use Rattle.fleet_talk.specs.declared.resuming.ResumeFault.TheVariants.{Robots, Clients, Chapter}
-use Rattle.fleet_talk.specs.Act.{Act, acts_from}
+use Rattle.fleet_talk.specs.declared.resuming.ResumeFault.TheVariants.{Robots, Clients, Chapter, Talk as Broke}
+use Rattle.fleet_talk.specs.Act.{acts_from}
 use Rattle.fleet_talk.specs.Acts.{Talks}
-use Rattle.fleet_talk.specs.Broken.{IsMidway, SaysUntil}
+use Rattle.fleet_talk.specs.Broken.{IsMidway}
 use Rattle.fleet_talk.specs.Chapters.{Adds, ChapterView, KeepsLast, KeepsTurned}
-use Rattle.fleet_talk.specs.Conversation.{Shelved}
+use Rattle.fleet_talk.specs.Conversation.{Shelved, Terms}
 use Rattle.fleet_talk.specs.Ending.{Keeps, IsSame, Finishes, written, unwritten}
 use Rattle.fleet_talk.specs.Heard.{IsNext, heard_lines}
-use Rattle.fleet_talk.specs.Resumed.{ComesOpen, IsAnswered, IsAnsweredInPart, IsResumeFault, disagreement, is_other, laws_after, limits_after}
-use Rattle.fleet_talk.specs.Says.{Says}
+use Rattle.fleet_talk.specs.Resumed.{ComesOpen, IsAnswered, IsAnsweredInPart, IsResumeFault, IsResumption, IsResumptionBegun, MayResume, disagreement, is_other, laws_after, limits_after, resumed}
 use Rattle.fleet_talk.specs.Talked.{TalksUntil}
 use Rattle.fleet_talk.proofs.Breaking.{until-none}
 use Rattle.fleet_talk.proofs.Finishing.{written_all, written_part, written_none, take_none, err, same_err, came, whole_prefix}
@@ -47,14 +51,34 @@ chapter-fault kit m d c reopen_fault.Spent none is = (none, is)
 chapter-fault kit m d c reopen_fault.Waits none is = (none, is)
 chapter-fault kit m d c reopen_fault.NoMemory none is = tt
 
+-- the laws of the closures that are chosen, cut
+pub cut-is : (laws chosen : HookLaws) (n m : ℕ) (ties : List TieLaw) (arrivals farewells : List StampLaw) → chosen ≡ laws → n ≡ m → ties ≡ take n chosen.ties → arrivals ≡ take n chosen.arrivals → farewells ≡ take n chosen.farewells
+    → record { ties = ties; arrivals = arrivals; farewells = farewells } ≡ cut_laws m laws
+cut-is laws chosen n m ties arrivals farewells c l t a f =
+    let cut : record { ties = ties; arrivals = arrivals; farewells = farewells } ≡ cut_laws n chosen = rw (t, a, f) refl in
+    cut ∙ (ap (λ (k : ℕ). cut_laws k chosen) l ∙ ap (cut_laws m) c)
+
 -- what the header lines disagree with is one of two
 pub disagreed : {A : Type 0} (kit : KitLaws) (m : Floor) (d : Draft) (c : ChapterView A) (f : ResumeFault) → disagreement d c.history.opening ≡ Some f → IsResumeFault kit m d c f
 disagreed kit m d c f is = by (is_other (option_map (λ cells. length cells) d.starts) (length c.history.opening.robots)) (is_other d.clients (length c.history.opening.clients)) refl refl
   where
+    found : Bool → Bool → Option ResumeFault
+    found b e = if b then Some Robots else (if e then Some Clients else None)
+
     by : (b e : Bool) → is_other (option_map (λ cells. length cells) d.starts) (length c.history.opening.robots) ≡ b → is_other d.clients (length c.history.opening.clients) ≡ e → IsResumeFault kit m d c f
-    by true e x y = let same : Some Robots ≡ Some f = rw x is in subst (IsResumeFault kit m d c) (same_Some Robots f same) (rw x refl)
-    by false true x y = let same : Some Clients ≡ Some f = rw (x, y) is in subst (IsResumeFault kit m d c) (same_Some Clients f same) (rw (x, y) refl)
-    by false false x y = let bad : None ≡ Some f = rw (x, y) is in absurd cc
+    by true e x y =
+        let all : disagreement d c.history.opening ≡ Some Robots = ap (λ (b : Bool). found b (is_other d.clients (length c.history.opening.clients))) x in
+        subst (IsResumeFault kit m d c) (same_Some Robots f (sym all ∙ is)) all
+    by false true x y =
+        let all : disagreement d c.history.opening ≡ Some Clients = ap (λ (b : Bool). found b (is_other d.clients (length c.history.opening.clients))) x ∙ ap (found false) y in
+        subst (IsResumeFault kit m d c) (same_Some Clients f (sym all ∙ is)) all
+    by false false x y =
+        let all : disagreement d c.history.opening ≡ None = ap (λ (b : Bool). found b (is_other d.clients (length c.history.opening.clients))) x ∙ ap (found false) y in
+        let bad : None ≡ Some f = sym all ∙ is in absurd cc
+
+-- the same limits and laws
+pub can-as : {A : Type 0} (m : Floor) (n : ℕ) (h : History A) (l k : Limits) (laws other : HookLaws) → l ≡ k → laws ≡ other → CanReopen m n h l laws → CanReopen m n h k other
+can-as m n h l k laws other e f can = rw (← e, ← f) can
 
 -- ---- the first line
 
@@ -178,3 +202,26 @@ module _ (settings : Settings) (s : Talk Global) (k : Shelved) where
       → result ≡ Err Output → IfSome known (CutShort settings s a c)
   open-unwritten known a b c p ended result h (written all same) is = cut_short known a b c p ended h (whole_prefix b c p all)
   open-unwritten known a b c p ended result h (unwritten part none) is = cut_short known a b c p ended h part
+
+-- ---- a fleet that goes on
+
+module _ (on : Terms) (c : ChapterView Global) (s : Talk Global) (same : s ≡ resumed on.kit on.floor on.head c) (may : MayResume on.kit on.floor on.head c) where
+  pub resumption-whole : (known a b : Option (List ℕ)) (k : Shelved) → IfSome known (Whole on.settings s k a b)
+      → IfSome known (λ bytes. (text : List ℕ) × (chapters : List (ChapterView Global)) × IsResumption on c bytes text chapters × Appends a b text × Adds k.old k.new chapters)
+  resumption-whole None a b k h = tt
+  resumption-whole (Some bytes) a b k (text, chapters, is, taken, kept) =
+      (text, chapters, record { may = may; answered = subst (λ (x : Talk Global). IsAnswered on.settings x bytes text chapters) same is }, taken, kept)
+
+  pub resumption-broken : (known a b : Option (List ℕ)) → IfSome known (Broken on.settings s a b) → IfSome known (λ bytes. (text : List ℕ) × IsResumptionBegun on c bytes text × Appends a b text)
+  resumption-broken None a b h = tt
+  resumption-broken (Some bytes) a b (text, is, taken) = (text, record { may = may; answered = subst (λ (x : Talk Global). IsAnsweredInPart on.settings x bytes text) same is }, taken)
+
+  pub resumption-cut : (known a b : Option (List ℕ)) → IfSome known (CutShort on.settings s a b) → IfSome known (λ bytes. (text : List ℕ) × IsResumptionBegun on c bytes text × AppendsPrefix a b text)
+  resumption-cut None a b h = tt
+  resumption-cut (Some bytes) a b (text, is, taken) = (text, record { may = may; answered = subst (λ (x : Talk Global). IsAnsweredInPart on.settings x bytes text) same is }, taken)
+
+abbrev broke : TalkFault → Result Bool ResumeFault
+broke f = Err (Broke f)
+
+pub same-broke : (f g : TalkFault) → broke f ≡ broke g → f ≡ g
+same-broke f g h = cc

@@ -1,6 +1,6 @@
 //! A fleet that goes on from a chapter that was kept.
 
-ghost use Rattle.std.specs.Prelude.{◌≡◌, ◌≤◌, ◌×◌, None, IfOk, IfErr, OnOk, length, replicate, vec_len, if◌then◌else◌, unwrap_or};
+ghost use Rattle.std.specs.Prelude.{◌≡◌, ◌≤◌, None, IfOk, IfErr, OnOk, length, replicate, vec_len, if◌then◌else◌, unwrap_or};
 ghost use Rattle.std.specs.Option.{option_map};
 ghost use Rattle.errands_text.specs.Kit.{kit_laws};
 ghost use Rattle.fleet_core.specs.Hooks.{laws_of};
@@ -130,9 +130,12 @@ pub fn hooks_after(kit: HookKit, head: &Head, opening: &Opening) -> Hooks
 const CELL: &[u8] = b"type octile\nheight 1\nwidth 1\nmap\n.\n";
 
 /// What waits of clients that did nothing. Only a session makes these lists: here that of a world which is let go.
-fn nothing_waits(alloc: Global, clients: u32) -> Result<Vec<Waiting>, AllocError>
+fn nothing_waits(alloc: Global, clients: usize) -> Result<Vec<Waiting>, AllocError>
     ensures { IfOk result (λ waiting. waiting.items ≡ replicate clients none_waiting) }
 {
+    let Ok(clients) = u32::try_from(clients) else {
+        return Err(AllocError);
+    };
     let Ok(map) = read_map(alloc, CELL) else {
         return Err(AllocError);
     };
@@ -161,7 +164,7 @@ fn session_over(alloc: Global, world: World) -> Result<Session, AllocError>
     requires { 0 ≤ world.core.number }
     ensures { IfOk result (λ s. talk s ≡ quiet world.core) }
 {
-    match nothing_waits(alloc, world.clients() as u32) {
+    match nothing_waits(alloc, world.clients()) {
         Ok(waiting) => Ok(Session { world, waiting }),
         Err(AllocError) => {
             let _left = world.finish();
@@ -183,9 +186,12 @@ pub(crate) fn reopen(
     ensures fault { IfErr result (λ fault. IsResumeFault (kit_laws ground.kit) ground.grid (drafted ground.head) (chapter_shown chapter.now) fault) }
 {
     let Ground { grid, kit, head } = ground;
-    if let Some(fault) = disagreement(&head, &chapter.opening) {
-        drop(kit);
-        return Err(fault);
+    match disagreement(&head, &chapter.opening) {
+        Some(fault) => {
+            drop(kit);
+            return Err(fault);
+        }
+        None => {}
     }
     let limits = limits_after(&head, &chapter.opening);
     let hooks = hooks_after(kit, &head, &chapter.opening);
