@@ -99,7 +99,9 @@ fn names_in<R: Files + Alloc<A = Global> + Clone + Drop>(
     let mut names = Vec::new(rt.alloc());
     for entry in fs::read_dir(rt, folder)? {
         let name = String::from_str(rt.alloc(), entry?.file_name())?;
-        names.push(name)?;
+        if names.push(name).is_err() {
+            return Err(FolderFault::NoMemory);
+        }
     }
     Ok(names)
 }

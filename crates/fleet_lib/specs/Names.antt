@@ -20,12 +20,12 @@ IsNoName name = (n : ℕ) → n < 2 ^ 32 → name ≢ chapter_name n
 -- what a name says
 abbrev pub IsNamed : List ℕ → Named → Type 0
 IsNamed name named.Other = IsLikeName name → ⊥
-IsNamed name (named.Chapter n) = name ≡ chapter_name n
+IsNamed name (named.Chapter n) = (n < 2 ^ 32) × (name ≡ chapter_name n)
 IsNamed name named.Unreadable = IsLikeName name × IsNoName name
 
 -- the numbers of the chapters that names name
 pub record AreNumbers (names : List (List ℕ)) (numbers : List ℕ) : Type 0 where
-  pub each : (n : ℕ) → Contains numbers n → Contains names (chapter_name n)
+  pub each : (n : ℕ) → Contains numbers n → (n < 2 ^ 32) × Contains names (chapter_name n)
   pub all : (n : ℕ) → n < 2 ^ 32 → Contains names (chapter_name n) → Contains numbers n
 
 -- all numbers from the first to the last are there, and the one before the first is not

@@ -40,7 +40,7 @@ impl From<AllocError> for NamesFault {
 
 /// The number whose decimal digits these are, without a zero before them.
 fn numeral(alloc: Global, word: &[u8]) -> Result<Option<u32>, AllocError>
-    ensures { IfOk result (λ found. MatchOption found ((n : ℕ) → n < 2 ^ 32 → word.now ≢ decimal n) (λ n. word.now ≡ decimal n)) }
+    ensures { IfOk result (λ found. MatchOption found ((n : ℕ) → n < 2 ^ 32 → word.now ≢ decimal n) (λ n. (n < 2 ^ 32) × (word.now ≡ decimal n))) }
 {
     let Some(number) = number_up_to(word, 1 << 32) else {
         return Ok(None);
@@ -57,7 +57,7 @@ fn numeral(alloc: Global, word: &[u8]) -> Result<Option<u32>, AllocError>
 }
 
 /// What a name says.
-fn named(alloc: Global, name: &str) -> Result<Named, AllocError>
+fn said_by(alloc: Global, name: &str) -> Result<Named, AllocError>
     ensures { IfOk result (IsNamed name.now) }
 {
     let Some(rest) = name.as_bytes().strip_prefix(b"chapter-".as_slice()) else {
@@ -79,9 +79,13 @@ fn numbers_in(alloc: Global, names: &[String]) -> Result<Vec<u32>, NamesFault>
 {
     let mut numbers = Vec::new(alloc);
     for at in 0..names.len() {
-        match named(alloc, names[at].as_str())? {
+        match said_by(alloc, names[at].as_str())? {
             Named::Other => {}
-            Named::Chapter(number) => numbers.push(number)?,
+            Named::Chapter(number) => {
+                let Ok(()) = numbers.push(number) else {
+                    return Err(NamesFault::NoMemory);
+                };
+            }
             Named::Unreadable => return Err(NamesFault::Unreadable(at)),
         }
     }
@@ -106,14 +110,12 @@ fn begin_of(numbers: &[u32], last: u32) -> u32
     requires { Contains numbers.now last }
     ensures { IsRun numbers.now result last }
 {
-    let mut begin = last;
-    while begin > 0 {
-        if !numbers.contains(&(begin - 1)) {
-            return begin;
+    for step in 0..last {
+        if !numbers.contains(&(last - step - 1)) {
+            return last - step;
         }
-        begin -= 1;
     }
-    begin
+    0
 }
 
 /// Whether a number is less than this one.
