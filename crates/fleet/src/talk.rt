@@ -4,6 +4,7 @@ ghost use Rattle.std.specs.Prelude.{◌≤◌, vec_len, IfOk};
 
 use crate::chapters::TraceFolder;
 use crate::ends::{MOST_MAP_BYTES, file_bytes};
+use crate::folder::KeptFile;
 use fleet_lib::{Ends, InputFault, Settings, Talk, TalkTexts, fail, run_talk};
 use std::alloc::{Alloc, Global};
 use std::fs::Files;
@@ -41,10 +42,12 @@ pub(crate) fn texts_of<R: Files + Alloc<A = Global>>(
     Ok((map, script))
 }
 
-/// Holds a conversation. Returns the status, as of `run_talk`, or 3 where a file failed.
+/// Holds a conversation, whose fleet goes on from a chapter if one is given. Returns the status, as of `run_talk`, or 3 where
+/// a file failed.
 pub(crate) fn hold_talk<R: Files + Alloc<A = Global>, I: Read + Drop, W: Write + Drop, E: Write>(
     rt: &R,
     talk: &Talk,
+    kept: Option<KeptFile>,
     input: I,
     output: W,
     error: &mut E,
@@ -75,6 +78,10 @@ pub(crate) fn hold_talk<R: Files + Alloc<A = Global>, I: Read + Drop, W: Write +
     let texts = TalkTexts {
         map: &map,
         script: &script,
+        kept: match &kept {
+            Some(file) => Some(file.lent()),
+            None => None,
+        },
     };
     run_talk(rt, texts, settings, &mut ends, error)
 }

@@ -4,7 +4,9 @@
 mod check;
 mod convert;
 mod explain;
+mod kept;
 mod live;
+mod names;
 mod said;
 mod stats;
 mod talk;
@@ -23,7 +25,9 @@ pub use fleet_words::{
     Check, Convert, Explain, Figures, Form, Job, Live, Shown, Stats, Talk, View, WordFault,
     parse_words,
 };
+pub use kept::{KeptFault, KeptText};
 pub use live::run_live;
+pub use names::{NamesFault, last_chapter};
 pub use said::{Said, fail, tell};
 pub use stats::answer_stats;
 pub use talk::{TalkTexts, run_talk};
