@@ -92,7 +92,9 @@ fn main(rt: HostRuntime) -> ExitCode {
             let name = talk.traces.as_deref();
             match hold_folder(&rt, name, talk.resume) {
                 Ok((folder, kept)) => {
-                    let status = hold_talk(&rt, &talk, kept, rt.stdin(), output, &mut error);
+                    let shelf = TraceFolder { rt: &rt, name };
+                    let talks = (rt.stdin(), output);
+                    let status = hold_talk(&rt, &talk, &kept, talks, &mut error, shelf);
                     folder.let_go(&rt);
                     status
                 }
