@@ -1,12 +1,13 @@
 #!/usr/bin/env python3
 """A conversation with a fleet once more: an independent model of `fleet talk`, written from docs/PROTOCOL.md over the model of `errands`.
 
-usage: tools/talk/model.py [--marks] [--roll] MAP [SCRIPT] < LINES
+usage: tools/talk/model.py [--marks] [--roll] [--resume CHAPTER] MAP [SCRIPT] < LINES
        tools/talk/model.py --cases FILE
 
-Answers as `fleet talk` does: output, error text, status. With --cases it reads the section `talk` of crates/golden_errands/stdin and prints
-what golden_errands has to print of it. `talk(map, script, lines, marks, roll)` returns (output, error
-text, status). Standard library only.
+Answers as `fleet talk` does: output, error text, status. With --resume the fleet goes on from the file of a chapter, DIR/chapter-N.json. With
+--cases it reads the section `talk` of crates/golden_errands/stdin and prints what golden_errands has to print of it.
+`talk(map, script, lines, marks, roll, kept)` returns (output, error text, status); `kept` is the name of a chapter's file, its number and its
+text. Standard library only.
 """
 import os
 import re
@@ -112,10 +113,138 @@ def kind_of(raw):
 NO_ROOM = (("take-refused", 2), ("tick-refused", 2), ("shut-refused", 3))
 
 
+# ---- a fleet that goes on
+
+TRACE_FAULTS = {
+    1: "it is not UTF-8, or not JSON, or nested deeper than 127",
+    2: "the number under `version` is that of no known version",
+    3: "it has not the form of a trace",
+}
+# of the rules that `fleet explain` says nothing more of
+RULES = {
+    1: "it is not in order",
+    2: "there is no such client",
+    7: "a stamp is outside of its robot's law",
+    8: "the robot is shut already, or there is no such robot",
+}
+
+
+def explained(chapter, at, rule):
+    """The sentence of `fleet explain` about the first entry that breaks a rule."""
+    if at == 0:
+        kind = "the opening"
+    else:
+        entry = chapter["entries"][at - 1]
+        kind = {"take": "a take of client {1}", "tick": "a tick", "shut": "a shut of robot {1}"}[entry[0]].format(*entry)
+    return f"the trace: entry {at}, {kind}: {RULES[rule]}"
+
+
+def misfit(grid, head, limits, hooks, chapter):
+    """Why no fleet goes on from a chapter, if none does. Waits are not looked at."""
+    opening, entries, number = chapter["opening"], chapter["entries"], chapter["chapter"]
+    if head.starts is not None and len(head.starts) != len(opening["robots"]):
+        return "the header lines name another number of robots"
+    if "clients" in head.seen and head.clients != len(opening["clients"]):
+        return "the header lines name another number of clients"
+    found = model.judge(grid, chapter)
+    if found is not None:
+        return explained(chapter, *found)
+    laws = [(arrival[0], farewell[0]) for arrival, farewell in zip(hooks.arrivals, hooks.farewells)]
+    if laws != [(robot[4], robot[5]) for robot in opening["robots"]]:
+        return "its robots have other closures"
+    if (limits["queue"], limits["life"]) != (opening["queue"], opening["life"]):
+        return "the header lines name another `queue` or `life`"
+    ticks = opening["tick"] + sum(1 for entry in entries if entry[0] == "tick")
+    most = number * limits["chapter"]
+    if (
+        ticks > limits["clock"]
+        or number + 1 >= limits["chapters"]
+        or len(entries) > limits["chapter"]
+        or any(client[0] > most for client in opening["clients"])
+    ):
+        return "no chapter follows within the limits"
+    return None
+
+
+def enter(w, entry):
+    """What an entry of a chapter changes."""
+    if entry[0] == "take":
+        _, c, order, verdict = entry
+        w.taken[c] += 1
+        w.noticed[c] += 1
+        if verdict[0] == "accepted":
+            w.accepted[c] += 1
+            if not w.queues[order[1]]:
+                w.waits[order[1]] = 0
+            w.queues[order[1]].append((c, verdict[1], order[2]))
+        elif verdict[0] == "closed":
+            w.closed[c] = True
+        elif verdict[0] == "withdrawn":
+            w.queues = [[e for e in queue if e[:2] != (c, order[1])] for queue in w.queues]
+    elif entry[0] == "tick":
+        w.place, w.ticks = list(entry[1]), w.ticks + 1
+        arrived = {robot for robot, _, _, _ in entry[2]}
+        for robot, queue in enumerate(w.queues):
+            if robot in arrived:
+                w.noticed[queue.pop(0)[0]] += 1
+                w.waits[robot] = 0 if queue else None
+            elif queue:
+                w.waits[robot] += 1
+        for robot, _ in entry[3]:
+            w.said_farewell[robot] = True
+    else:
+        w.is_shut[entry[1]] = True
+        w.said_farewell[entry[1]] = w.said_farewell[entry[1]] or entry[2] is not None
+
+
+def reopened(grid, head, name, number, text):
+    """The world that goes on from a chapter, and its limits."""
+    def refuse(why):
+        return model.Stop(6, f"fleet: file {name}: {why}")
+
+    try:
+        chapter = model.read_trace(text)
+    except model.TraceFault as fault:
+        raise refuse("the trace: " + TRACE_FAULTS[fault.args[0]]) from None
+    if chapter["chapter"] != number:
+        raise refuse(f"it is chapter {chapter['chapter']}")
+    opening = chapter["opening"]
+    robots, clients = opening["robots"], opening["clients"]
+    limits = dict(head.limits, **{key: opening[key] for key in ("queue", "life") if key not in head.seen})
+    south = head.south if "ties" in head.seen else any(robot[5][1] > 0 for robot in robots)
+    hooks = (model.south_hooks if south else model.plain_hooks)(len(robots))
+    why = misfit(grid, head, limits, hooks, chapter)
+    if why is not None:
+        raise refuse(why)
+    w = model.World(grid, [robot[0] for robot in robots], len(clients), limits, hooks)
+    w.is_shut = [robot[1] for robot in robots]
+    w.waits = [robot[2] for robot in robots]
+    w.queues = [list(robot[3]) for robot in robots]
+    w.said_farewell = [robot[1] and not robot[3] for robot in robots]
+    w.taken, w.accepted, w.noticed, w.closed = (list(column) for column in zip(*clients))
+    w.ticks = opening["tick"]
+    for entry in chapter["entries"]:
+        enter(w, entry)
+    w.number = number + 1
+    w.opening = w._opening()
+    w.mail_limit = [max(limits["mailbox"], w.unfinished_of(c)) for c in range(len(clients))]
+    return w, limits
+
+
 class Talk:
     def __init__(self, grid, head, marks, roll):
         self.grid, self.head, self.marks, self.roll = grid, head, marks, roll
         self.world, self.out, self.limited = None, [], False
+
+    def resume(self, name, number, text):
+        """The fleet goes on from a chapter, and is open."""
+        self.world, self.head.limits = reopened(self.grid, self.head, name, number, text)
+        clients = len(self.world.taken)
+        self.head.clients = clients
+        self.rings = model.Played()
+        self.rings.lanes, self.rings.outlets, self.rings.collected, self.rings.given = ([[] for _ in range(clients)] for _ in range(4))
+        # an order's number is counted over all chapters
+        self.rings.sent = [[None] * taken for taken in self.world.taken]
 
     def say(self, mark, lines):
         for line in lines:
@@ -191,7 +320,7 @@ def head_of(script):
     return head
 
 
-def talk(text, script, lines, marks=False, roll=False):
+def talk(text, script, lines, marks=False, roll=False, kept=None):
     """(output, error text, status)"""
     try:
         rows = model.read_map(text)
@@ -202,6 +331,11 @@ def talk(text, script, lines, marks=False, roll=False):
     except model.Stop as stop:
         return b"", stop.args[1] + "\n", stop.args[0]
     held = Talk(model.Grid(*rows), head, marks, roll)
+    if kept is not None:
+        try:
+            held.resume(*kept)
+        except model.Stop as stop:
+            return b"", stop.args[1] + "\n", stop.args[0]
     try:
         for number, raw in enumerate(model.split_lines(lines, cr=False), 1):
             if not held.line(number, raw):
@@ -227,16 +361,19 @@ def cases(text, section):
 
 
 def tell(name, options, lines):
-    script, text = b"", model_map(b"ring")
+    script, text, kept = b"", model_map(b"ring"), None
     for option in options:
         word, _, more = option.partition(b" ")
         if word == b"script":
             script += more + b"\n"
         if word == b"map":
             text = model_map(more)
+        if word == b"kept":
+            number, _, chapter = more.partition(b" ")
+            kept = "kept.json", int(number), chapter
     if b"cut" in options:
         lines = lines[:-1]
-    out, error, status = talk(text, script, lines, b"marks" in options, b"roll" in options)
+    out, error, status = talk(text, script, lines, b"marks" in options, b"roll" in options, kept)
     told = b"case: " + name + b"\n" + out + f"status {status}\n{error}".encode()
     if b"trials" in options:
         told += b"".join(trial + b": as it should\n" for trial in TRIALS)
@@ -273,9 +410,17 @@ def main(words):
             for case in cases(file.read(), b"talk"):
                 sys.stdout.buffer.write(tell(*case))
         return 0
+    kept = None
+    if "--resume" in words:
+        at = words.index("--resume")
+        name = words[at + 1]
+        number = int(re.fullmatch(r"(?:.*/)?chapter-(\d+)\.json", name)[1])
+        with open(name, "rb") as file:
+            kept = name, number, file.read()
+        words = words[:at] + words[at + 2:]
     names = [word for word in words if not word.startswith("--")]
     texts = [open(name, "rb").read() for name in names] + [b""]
-    out, error, status = talk(texts[0], texts[1], sys.stdin.buffer.read(), "--marks" in words, "--roll" in words)
+    out, error, status = talk(texts[0], texts[1], sys.stdin.buffer.read(), "--marks" in words, "--roll" in words, kept)
     sys.stdout.buffer.write(out)
     sys.stderr.write(error)
     return status

@@ -4,12 +4,12 @@ from collections import deque
 from typing import Deque, Dict, List, Optional, Sequence
 
 from . import finding, opening
-from .errors import Refused, refusal
+from .errors import OutOfRange, Refused, refusal
 from .finding import Place
 from .fleet import AnyFleet
 from .names import verdict_in
 from .orders import Order
-from .process import Asked, Program, chapter_in, look_in, silently
+from .process import Asked, Program, chapter_in, head_file, look_in, silently
 from .records import Arrival, Chapter, Farewell, Look
 
 
@@ -24,15 +24,17 @@ class Fleet(AnyFleet):
     `life`, `orders`, `clock` and `chapters` are so great that no fleet meets them.
 
     With `traces` each chapter is written into that folder as chapter-N.json when it is handed out, and the last one
-    when the fleet is closed; the folder has to be there, without chapters, and for this fleet alone. With `roll`, which
-    is the default, a full chapter is followed by the next. `built` is the program, or a folder that has it
-    (`nashirudder.finding` says where it is looked for without). No call waits longer than `timeout` seconds for the
-    program; without it, as long as it takes.
+    when the fleet is closed; the folder has to be there, without chapters, and for this fleet alone. With `resume` the
+    fleet goes on from the last chapter in it, if it has chapters (docs/PROTOCOL.md, "Going on"): the robots stand where
+    they were left, with their queues, and numbers go on; `robots`, `clients`, `ties`, `queue` and `life` have to be as
+    they were, but for the robots' cells. With `roll`, which is the default, a full chapter is followed by the next.
+    `built` is the program, or a folder that has it (`nashirudder.finding` says where it is looked for without). No call
+    waits longer than `timeout` seconds for the program; without it, as long as it takes.
 
     Raises Refused with the name of what is wrong: "robot-count", a fault of the map ("map-header", "map-size",
     "map-row", "map-cell", "map-trailing"), "bad-setup", "start-blocked" or "start-shared". Raises OutOfRange,
-    FileFailed if the map cannot be read or the folder does not take the chapters, Missing if the program is not found,
-    and NoMemory.
+    FileFailed if the map cannot be read, the folder does not take the chapters or the fleet does not go on from the last
+    one, Missing if the program is not found, and NoMemory.
     """
 
     def __init__(
@@ -43,6 +45,7 @@ class Fleet(AnyFleet):
         *,
         ties: str = "plain",
         traces: Optional[Place] = None,
+        resume: bool = False,
         roll: bool = True,
         built: Optional[Place] = None,
         timeout: Optional[float] = None,
@@ -54,19 +57,25 @@ class Fleet(AnyFleet):
             words.append("--roll")
         if told.traces is not None:
             words += ["--traces", told.traces]
+        if resume:
+            if told.traces is None:
+                raise OutOfRange("a fleet that goes on has a folder for traces")
+            words.append("--resume")
         super().__init__(timeout)
         self._pending: Deque[Asked] = deque()
         self._lanes: Dict[int, Deque[Order]] = {}
         self._now = 0
-        self._program = Program(words + [told.map], None, self._noted, self._hear_line)
-        try:
-            self._in_turn(lambda: self._program.ask(*told.head()))
-            self._cells = self.look().cells
-        except BaseException as error:
-            silently(lambda: self._program.end(timeout))
-            if isinstance(error, Refused):
-                raise told.named(error) from None
-            raise
+        # The header lines come from a file, since a fleet that goes on is open before the first line.
+        with head_file(told.head()) as head:
+            self._program = Program(words + [told.map, head], None, self._noted, self._hear_line)
+            try:
+                look = self.look()
+                self._cells, self._now = look.cells, look.tick
+            except BaseException as error:
+                silently(lambda: self._program.end(timeout))
+                if isinstance(error, Refused):
+                    raise told.named(error) from None
+                raise
 
     # ---- lines
 

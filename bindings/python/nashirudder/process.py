@@ -1,10 +1,11 @@
 """The program `fleet`, spoken to over two pipes: what `Fleet` and `LiveFleet` share."""
 
+import contextlib
 import queue
 import subprocess
 import tempfile
 import threading
-from typing import IO, Any, Callable, List, Optional, Sequence, TypeVar, cast
+from typing import IO, Any, Callable, Iterator, List, Optional, Sequence, TypeVar, cast
 
 from .errors import Ended, FileFailed, FleetError, Late, Missing, NoMemory, refusal
 from .orders import Order
@@ -56,6 +57,8 @@ def end_of(status: Optional[int], complaint: str) -> FleetError:
         return refusal(f"map-{words[2]}", (numbers[0], numbers[1]))
     if status == 3:
         return FileFailed(f"a file could not be read or written: {complaint}")
+    if status == 6:
+        return FileFailed(f"the fleet does not go on: {complaint}")
     if status == 7:
         return NoMemory(complaint)
     return Ended(status, complaint)
@@ -211,6 +214,15 @@ class Program:
         complaint = self.end(timeout)
         if self.status not in (0, 8):
             raise end_of(self.status, complaint)
+
+
+@contextlib.contextmanager
+def head_file(lines: Sequence[str]) -> Iterator[str]:
+    """The name of a file with these header lines, as long as it is needed."""
+    with tempfile.NamedTemporaryFile("w", suffix=".script") as file:
+        file.write("".join(line + "\n" for line in lines))
+        file.flush()
+        yield file.name
 
 
 def silently(call: Callable[[], Any]) -> None:

@@ -86,6 +86,7 @@ pub(crate) fn hold_live<
     let texts = TalkTexts {
         map: &map,
         script: &script,
+        kept: None,
     };
     run_live(rt, texts, live, ends, error)
 }

@@ -87,9 +87,11 @@ fn main(rt: HostRuntime) -> ExitCode {
         Ok(Job::Check(check)) => run_check(&rt, &check, &mut output, &mut error),
         Ok(Job::Talk(talk)) => {
             let name = talk.traces.as_deref();
-            match hold_folder(&rt, name) {
-                Ok(folder) => {
-                    let status = hold_talk(&rt, &talk, rt.stdin(), output, &mut error);
+            match hold_folder(&rt, name, talk.resume) {
+                Ok((folder, kept)) => {
+                    let shelf = TraceFolder { rt: &rt, name };
+                    let talks = (rt.stdin(), output);
+                    let status = hold_talk(&rt, &talk, &kept, talks, &mut error, shelf);
                     folder.let_go(&rt);
                     status
                 }
@@ -100,8 +102,8 @@ fn main(rt: HostRuntime) -> ExitCode {
         Ok(Job::Explain(explain)) => run_explain(&rt, &explain, &mut output, &mut error),
         Ok(Job::Live(live)) => {
             let name = live.traces.as_deref();
-            match hold_folder(&rt, name) {
-                Ok(folder) => {
+            match hold_folder(&rt, name, false) {
+                Ok((folder, _kept)) => {
                     // Made here, where it is known of the runtime that threads may share it.
                     let shelf = TraceFolder { rt: &rt, name };
                     let status = match figures_of(&rt, &live.metrics, &mut error) {

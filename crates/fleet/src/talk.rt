@@ -2,9 +2,9 @@
 
 ghost use Rattle.std.specs.Prelude.{◌≤◌, vec_len, IfOk};
 
-use crate::chapters::TraceFolder;
 use crate::ends::{MOST_MAP_BYTES, file_bytes};
-use fleet_lib::{Ends, InputFault, Settings, Talk, TalkTexts, fail, run_talk};
+use crate::folder::KeptFile;
+use fleet_lib::{Ends, InputFault, KeptText, Settings, Shelf, Talk, TalkTexts, fail, run_talk};
 use std::alloc::{Alloc, Global};
 use std::fs::Files;
 use std::io::{BufReader, Read, Write};
@@ -41,13 +41,29 @@ pub(crate) fn texts_of<R: Files + Alloc<A = Global>>(
     Ok((map, script))
 }
 
-/// Holds a conversation. Returns the status, as of `run_talk`, or 3 where a file failed.
-pub(crate) fn hold_talk<R: Files + Alloc<A = Global>, I: Read + Drop, W: Write + Drop, E: Write>(
+/// The file of a chapter, lent, if there is one.
+fn lent(kept: &Option<KeptFile>) -> Option<KeptText<'_>> {
+    match kept {
+        Some(file) => Some(file.lent()),
+        None => None,
+    }
+}
+
+/// Holds a conversation, whose fleet goes on from a chapter if one is given. Returns the status, as of `run_talk`, or 3 where
+/// a file failed.
+pub(crate) fn hold_talk<
+    R: Files + Alloc<A = Global>,
+    I: Read + Drop,
+    W: Write + Drop,
+    E: Write,
+    S: Shelf + Drop,
+>(
     rt: &R,
     talk: &Talk,
-    input: I,
-    output: W,
+    kept: &Option<KeptFile>,
+    (input, output): (I, W),
     error: &mut E,
+    shelf: S,
 ) -> u8 {
     let (map, script) = match texts_of(rt, talk.map.as_str(), &talk.script) {
         Ok(texts) => texts,
@@ -59,14 +75,10 @@ pub(crate) fn hold_talk<R: Files + Alloc<A = Global>, I: Read + Drop, W: Write +
     let Ok(input) = BufReader::with_capacity(rt.alloc(), PIECE, input) else {
         return fail(InputFault::NoMemory, error);
     };
-    let name = match &talk.traces {
-        Some(name) => Some(name.as_str()),
-        None => None,
-    };
     let mut ends = Ends {
         input,
         output,
-        shelf: TraceFolder { rt, name },
+        shelf,
     };
     let settings = Settings {
         marks: talk.marks,
@@ -75,6 +87,7 @@ pub(crate) fn hold_talk<R: Files + Alloc<A = Global>, I: Read + Drop, W: Write +
     let texts = TalkTexts {
         map: &map,
         script: &script,
+        kept: lent(kept),
     };
     run_talk(rt, texts, settings, &mut ends, error)
 }

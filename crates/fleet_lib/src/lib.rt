@@ -4,7 +4,9 @@
 mod check;
 mod convert;
 mod explain;
+mod kept;
 mod live;
+mod names;
 mod said;
 mod talk;
 mod view;
@@ -21,7 +23,9 @@ pub use fleet_talk::{Ends, Settings, Shelf, ShelfFault};
 pub use fleet_words::{
     Check, Convert, Explain, Form, Job, Live, Shown, Talk, View, WordFault, parse_words,
 };
+pub use kept::{KeptFault, KeptText};
 pub use live::run_live;
+pub use names::{NamesFault, last_chapter};
 pub use said::{Said, fail, tell};
 pub use talk::{TalkTexts, run_talk};
 pub use view::{MOST_TRACE_BYTES, answer_view};

@@ -1,6 +1,6 @@
 //! A world that goes on from a chapter.
 
-ghost use Rattle.std.specs.Prelude.{◌≡◌, IfOk, IfErr, OnOk, MatchOption};
+ghost use Rattle.std.specs.Prelude.{◌≡◌, ◌≤◌, IfOk, IfErr, OnOk, MatchOption};
 ghost use Rattle.fleet_book.specs.Limits.{AreValid};
 ghost use Rattle.fleet_core.specs.Hooks.{laws_of};
 ghost use Rattle.fleet_history.specs.History.{history_of};
@@ -104,6 +104,8 @@ pub fn reopen_world<A: Allocator + Copy>(
     limits: Limits,
     hooks: Hooks<A>,
 ) -> Result<World<A>, ReopenFault>
+    // Of each call: the checker lets closures come from another crate only in a call with a `requires`.
+    requires { 0 ≤ chapter.now.number }
     ensures ok { IfOk result (λ w. w.core ≡ reopened_world grid chapter.now.number (history_of chapter.now) limits (laws_of hooks)) }
     ensures can { OnOk result (CanReopen grid chapter.now.number (history_of chapter.now) limits (laws_of hooks)) }
     ensures fault { IfErr result (λ fault. IsReopenFault grid chapter.now.number (history_of chapter.now) limits (laws_of hooks) fault) }

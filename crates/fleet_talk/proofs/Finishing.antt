@@ -31,27 +31,27 @@ use Rattle.fleet_talk.proofs.Shelving.{adds-none, keeps-all}
 
 -- ---- the last write
 
-written_all : (a b c : Option (List ℕ)) (p text : List ℕ) → Says a b [] p text → Appends b c p → Appends a c text
+pub written_all : (a b c : Option (List ℕ)) (p text : List ℕ) → Says a b [] p text → Appends b c p → Appends a c text
 written_all a b c p text says last = subst (λ (l : List ℕ). Appends a c l) says.same (Appends-trans a b c says.written p says.taken last)
 
-written_part : (a b c : Option (List ℕ)) (p text : List ℕ) → Says a b [] p text → AppendsPrefix b c p → AppendsPrefix a c text
+pub written_part : (a b c : Option (List ℕ)) (p text : List ℕ) → Says a b [] p text → AppendsPrefix b c p → AppendsPrefix a c text
 written_part a b c p text says last = subst (λ (l : List ℕ). AppendsPrefix a c l) says.same (prefix-after a b c says.written p says.taken last)
 
 -- nothing more was written
-written_none : (a b c : Option (List ℕ)) (text : List ℕ) → AppendsPrefix a b text → Appends b c [] → AppendsPrefix a c text
+pub written_none : (a b c : Option (List ℕ)) (text : List ℕ) → AppendsPrefix a b text → Appends b c [] → AppendsPrefix a c text
 written_none a b c text (n, within, taken) last = (n, within, subst (λ (l : List ℕ). Appends a c l) (append-nil (take n text)) (Appends-trans a b c (take n text) [] taken last))
 
-take_none : (n : ℕ) → take {A = ℕ} n [] ≡ []
+pub take_none : (n : ℕ) → take {A = ℕ} n [] ≡ []
 take_none zero = refl
 take_none (suc n) = refl
 
-abbrev err : {X : Type 0} → TalkFault → Result X TalkFault
+abbrev pub err : {X : Type 0} → TalkFault → Result X TalkFault
 err f = Err f
 
-same_err : {X : Type 0} (f g : TalkFault) → err {X = X} f ≡ err g → f ≡ g
+pub same_err : {X : Type 0} (f g : TalkFault) → err {X = X} f ≡ err g → f ≡ g
 same_err f g h = cc
 
-came : (ended : Result (Unit {0}) TalkFault) (result : Result Bool TalkFault) (f : TalkFault) → IsSame ended result → result ≡ Err f → ended ≡ Err f
+pub came : (ended : Result (Unit {0}) TalkFault) (result : Result Bool TalkFault) (f : TalkFault) → IsSame ended result → result ≡ Err f → ended ≡ Err f
 came (Ok done) result f same is = absurd (subst (λ (r : Result Bool TalkFault). IfErr r (λ g. ⊥)) is same)
 came (Err g) result f same is = ap (λ x. Err x) (same_err g f (sym same ∙ is))
 
@@ -124,7 +124,7 @@ cut_short on k (Some bytes) a b c p (Err Output) h part = cut_at on k (Some byte
 cut_short on k (Some bytes) a b c p (Err (Unopened f)) (text, is, says) part =
     (text, in_head (head_in on bytes).said [] (sym (append-nil (head_in on bytes).said)) is.is, written_part a b c p text says part)
 
-whole_prefix : (b c : Option (List ℕ)) (p : List ℕ) → Appends b c p → AppendsPrefix b c p
+pub whole_prefix : (b c : Option (List ℕ)) (p : List ℕ) → Appends b c p → AppendsPrefix b c p
 whole_prefix b c p all = (length p, omega arith, subst (λ (l : List ℕ). Appends b c l) (sym (take_all (length p) p (omega arith))) all)
 
 pub finish-unwritten : (on : Terms) (k : Shelved) (known a b c : Option (List ℕ)) (p : List ℕ) (ended : Result (Unit {0}) TalkFault) (result : Result Bool TalkFault) → Come on known a b p k ended → Finishes ended b c p result

@@ -8,6 +8,7 @@ pub mod Rolling
 pub mod Breaking
 pub mod Onward
 pub mod Finishing
+pub mod Resumptions
 pub mod Starting
 pub mod Runs
 pub mod Alike

@@ -13,5 +13,6 @@ pub mod Chapters
 pub mod Talked
 pub mod Said
 pub mod Conversation
+pub mod Resumed
 pub mod Ending
 pub mod Refusals

@@ -78,7 +78,7 @@ fn opening_fault(fault: OpenFault) -> TalkFault
 }
 
 /// Keeps the last chapter, however the conversation ended.
-fn keep_last<S: Shelf>(
+pub(crate) fn keep_last<S: Shelf>(
     shelf: &mut S,
     chapter: &Chapter,
     ended: Result<(), TalkFault>,
@@ -93,7 +93,7 @@ fn keep_last<S: Shelf>(
 }
 
 /// Writes what was said, at the end.
-fn end<W: Write>(
+pub(crate) fn end<W: Write>(
     pen: &mut Pen,
     output: &mut W,
     ended: Result<(), TalkFault>,

@@ -17,6 +17,8 @@ mod marks;
 mod pen;
 mod plays;
 mod reading;
+mod resuming;
+mod resumption;
 mod writing;
 
 pub use ask::{Asked, Line, line_of};
@@ -30,3 +32,5 @@ pub use law::{a_conversation_is_a_run, a_script_is_a_run};
 pub use listed::open_text;
 pub use look::{write_cells, write_eldest, write_within};
 pub use marks::add_marked;
+pub use resuming::{ResumeFault, disagreement, hooks_after, limits_after};
+pub use resumption::resume;

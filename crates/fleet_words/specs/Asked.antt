@@ -42,6 +42,7 @@ pub record IsTalk (rows : List Row) (talk : TalkJob) : Type 0 where
   pub floor : first_of (codes "MAP") rows ≡ Some (string_bytes talk.map)
   pub script : first_of (codes "SCRIPT") rows ≡ option_map (λ s. string_bytes s) talk.script
   pub traces : first_of (codes "traces") rows ≡ option_map (λ s. string_bytes s) talk.traces
+  pub resume : talk.resume ≡ has_flag (codes "resume") rows
   pub marks : talk.marks ≡ has_flag (codes "marks") rows
   pub roll : talk.roll ≡ has_flag (codes "roll") rows
 

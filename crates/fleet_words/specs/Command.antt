@@ -12,10 +12,10 @@ view_app = with_rules (new_app (codes "view"))
 abbrev pub check_app : App
 check_app = with_rules (new_app (codes "check")) (flag_rule (codes "strict") ∷ value_rule (codes "goals") ∷ file_rule (codes "MAP") ∷ file_rule (codes "PLAN") ∷ [])
 
--- talk [--marks] [--roll] [--traces DIR] MAP [SCRIPT]
+-- talk [--marks] [--roll] [--traces DIR] [--resume] MAP [SCRIPT]
 abbrev pub talk_app : App
 talk_app = with_rules (new_app (codes "talk"))
-    (flag_rule (codes "marks") ∷ flag_rule (codes "roll") ∷ value_rule (codes "traces") ∷ file_rule (codes "MAP") ∷ new_rule (codes "SCRIPT") ∷ [])
+    (flag_rule (codes "marks") ∷ flag_rule (codes "roll") ∷ value_rule (codes "traces") ∷ flag_rule (codes "resume") ∷ file_rule (codes "MAP") ∷ new_rule (codes "SCRIPT") ∷ [])
 
 -- convert --to FORM MAP TRACE
 abbrev pub convert_app : App

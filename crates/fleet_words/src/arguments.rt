@@ -22,3 +22,10 @@ pub(crate) const TRACES: Argument<'static> = Argument {
     kind: Kind::Value("DIR"),
     help: "Write each chapter into this folder, as chapter-N.json",
 };
+
+/// To go on.
+pub(crate) const RESUME: Argument<'static> = Argument {
+    name: "resume",
+    kind: Kind::Flag,
+    help: "Go on from the last chapter in the folder of --traces; begin anew if it has none",
+};

@@ -4,7 +4,7 @@ ghost use Rattle.std.specs.Prelude.{◌≡◌, IfOk};
 ghost use Rattle.clap.specs.Words.{found_of, rows_of};
 ghost use Rattle.fleet_words.specs.Asked.{IsTalk};
 
-use crate::arguments::{MAP, SCRIPT, TRACES};
+use crate::arguments::{MAP, RESUME, SCRIPT, TRACES};
 use clap::ArgMatches;
 use command_words::{Argument, Kind, Word, has_flag, some_word_for, word_for};
 use std::alloc::{AllocError, Global};
@@ -17,13 +17,15 @@ pub struct Talk {
     pub script: Option<String>,
     /// The folder for the traces of chapters.
     pub traces: Option<String>,
+    /// Whether the fleet goes on from the last chapter in the folder.
+    pub resume: bool,
     /// Whether the answer to line N ends with a line `. N`.
     pub marks: bool,
     /// Whether full chapters are handed out unasked.
     pub roll: bool,
 }
 
-/// `talk [--marks] [--roll] [--traces DIR] MAP [SCRIPT]`.
+/// `talk [--marks] [--roll] [--traces DIR] [--resume] MAP [SCRIPT]`.
 pub(crate) const TALK: Word<'static> = Word {
     name: "talk",
     about: "Talks to a fleet: answers each line of standard input as soon as it is read",
@@ -40,6 +42,7 @@ pub(crate) const TALK: Word<'static> = Word {
             help: "Begin the next chapter where one is full",
         },
         TRACES,
+        RESUME,
         MAP,
         SCRIPT,
     ],
@@ -56,6 +59,7 @@ pub(crate) fn talk_in(alloc: Global, matches: &ArgMatches<'_>) -> Result<Talk, A
         map,
         script,
         traces,
+        resume: has_flag(matches, "resume"),
         marks: has_flag(matches, "marks"),
         roll: has_flag(matches, "roll"),
     })

@@ -95,6 +95,7 @@ fn tell_case<R: Alloc<A = Global> + Clock + Threads + Sync + Wait + Copy + Send 
     let texts = TalkTexts {
         map: MAP,
         script: short(&script),
+        kept: None,
     };
     let status = run_live(rt, texts, &words, ends, &mut told);
     let line = format!(in alloc; "status {status}\n")?;

@@ -55,6 +55,19 @@ impl<'a> Conversation<'a> {
         self.count(wanted) > 0
     }
 
+    /// What comes after this start in the first of its options that begins so.
+    pub(crate) fn after(self, start: &[u8]) -> Option<&'a [u8]> {
+        let mut rest = self.options;
+        for _line in 0..self.options.len() {
+            let (line, after) = cut_line(rest);
+            if let Some(told) = line.strip_prefix(start) {
+                return Some(told);
+            }
+            rest = after;
+        }
+        None
+    }
+
     /// The file of header lines that its options `+ script LINE` have.
     pub(crate) fn script(self, alloc: Global) -> Result<Vec<u8>, AllocError> {
         let mut script = Vec::new(alloc);

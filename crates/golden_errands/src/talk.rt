@@ -2,9 +2,9 @@
 //! prints the same from an independent model.
 //!
 //! A case begins with a line `case: NAME`. Lines that begin with `+ ` follow: `+ marks` and `+ roll` are the
-//! settings, `+ script LINE` is a line of the file of header lines, `+ map NAME` another map, `+ cut` takes the last
-//! line feed away, and `+ trials` asks for the trials of readers, writers and shelves that fail. The other lines are
-//! those of the conversation.
+//! settings, `+ script LINE` is a line of the file of header lines, `+ kept N TEXT` the chapter from which the fleet goes
+//! on, by a file for chapter N, `+ map NAME` another map, `+ cut` takes the last line feed away, and `+ trials` asks for
+//! the trials of readers, writers and shelves that fail. The other lines are those of the conversation.
 
 mod case;
 mod hold;

@@ -1,6 +1,7 @@
 //! Test cases of conversations.
 
 use crate::options::Conversation;
+use fleet_lib::KeptText;
 use std::alloc::{AllocError, Global};
 
 /// A ring of eight cells.
@@ -46,6 +47,16 @@ impl<'a> Case<'a> {
             has_trials: talk.has(b"+ trials"),
             lines,
         }
+    }
+
+    /// The file of the chapter that the fleet goes on from, by an option `+ kept N TEXT` with one digit N.
+    pub(crate) fn kept(self) -> Option<KeptText<'a>> {
+        let (digit, told) = self.talk.after(b"+ kept ")?.split_first()?;
+        Some(KeptText {
+            name: "kept.json",
+            number: u32::from(digit.saturating_sub(b'0')),
+            text: told.strip_prefix(b" ").unwrap_or(told),
+        })
     }
 
     /// The file of header lines that the case has.

@@ -95,6 +95,7 @@ pub(crate) fn outcome_of<R: Alloc<A = Global>>(
     let texts = TalkTexts {
         map: case.map,
         script: &script,
+        kept: case.kept(),
     };
     let settings = Settings {
         marks: case.marks,

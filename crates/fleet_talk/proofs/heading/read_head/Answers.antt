@@ -1,5 +1,5 @@
 -- The lines that were read, and one more.
-use Rattle.std.proofs.Common.{◌≡◌, ◌∙◌, ◌+◌, ◌++◌, ◌∷◌, [], ℕ, Bool, List, length, refl, sym, ap, subst, arith, append_assoc, length-append}
+use Rattle.std.proofs.Common.{◌∙◌, ◌++◌, ◌∷◌, [], ℕ, Bool, List, refl, sym, ap, subst, arith, append_assoc, length-append}
 use Rattle.fleet_map.specs.Text.{lines_of}
 use Rattle.fleet_script.specs.Shown.{IsTaken}
 use Rattle.fleet_talk.specs.HeadFile.{SaysHead, none, next, with_file_line}

@@ -1,0 +1,227 @@
+-- Conversations with a fleet that is open before the first line.
+use Rattle.std.proofs.Common.{◌≡◌, ◌∙◌, ℕ, Bool, true, false, List, [], ◌∷◌, Option, Some, None, Result, Ok, Err, IfSome, refl, sym, ap, subst, append-nil}
+use Rattle.std.specs.Prelude.{OnOk, IfErr, if◌then◌else◌, length, take}
+use Rattle.std.specs.Option.{option_map}
+use Rattle.std.proofs.lemmas.Option.{same_Some}
+use Rattle.std.specs.declared.alloc.Global.{Global}
+use Rattle.std.specs.Io.KnownBytes.{Appends}
+use Rattle.errands_text.specs.Transfer.{AppendsPrefix}
+use Rattle.errands_text.specs.Kit.{KitLaws, cut_laws}
+use Rattle.fleet_core.specs.Hooks.{HookLaws}
+use Rattle.fleet_hooks.specs.declared.law.StampLaw.{StampLaw}
+use Rattle.fleet_hooks.specs.declared.law.TieLaw.{TieLaw}
+use Rattle.fleet_grid.specs.Floor.{Floor}
+use Rattle.fleet_book.specs.declared.limits.Limits.{Limits}
+use Rattle.fleet_history.specs.History.{History}
+use Rattle.fleet_reopen.specs.declared.fault.ReopenFault.{ReopenFault}
+use Rattle.fleet_reopen.specs.declared.fault.ReopenFault.TheVariants as reopen_fault
+use Rattle.fleet_reopen.specs.Reopening.{CanReopen, IsReopenFault}
+use Rattle.fleet_script.specs.Script.{Draft}
+use Rattle.fleet_world.specs.Talk.{Talk}
+use Rattle.fleet_talk.specs.declared.ends.Settings.{Settings}
+use Rattle.fleet_talk.specs.declared.fault.TalkFault.{TalkFault}
+use Rattle.fleet_talk.specs.declared.fault.TalkFault.TheVariants.{Input, Output, Shelf, Opening as Unopened, NoMemory}
+use Rattle.fleet_talk.specs.declared.resuming.ResumeFault.{ResumeFault}
+use Rattle.fleet_talk.specs.declared.resuming.ResumeFault.TheVariants.{Robots, Clients, Chapter, Talk as Broke}
+use Rattle.fleet_talk.specs.Act.{acts_from}
+use Rattle.fleet_talk.specs.Acts.{Talks}
+use Rattle.fleet_talk.specs.Broken.{IsMidway}
+use Rattle.fleet_talk.specs.Chapters.{Adds, ChapterView, KeepsLast, KeepsTurned}
+use Rattle.fleet_talk.specs.Conversation.{Shelved, Terms}
+use Rattle.fleet_talk.specs.Ending.{Keeps, IsSame, Finishes, written, unwritten}
+use Rattle.fleet_talk.specs.Heard.{IsNext, heard_lines}
+use Rattle.fleet_talk.specs.Resumed.{ComesOpen, IsAnswered, IsAnsweredInPart, IsResumeFault, IsResumption, IsResumptionBegun, MayResume, disagreement, is_other, laws_after, limits_after, resumed}
+use Rattle.fleet_talk.specs.Talked.{TalksUntil}
+use Rattle.fleet_talk.proofs.Breaking.{until-none}
+use Rattle.fleet_talk.proofs.Finishing.{written_all, written_part, written_none, take_none, err, same_err, came, whole_prefix}
+use Rattle.fleet_talk.proofs.Onward.{TalksAll}
+use Rattle.fleet_talk.proofs.Saying.{midway, says-none}
+use Rattle.fleet_talk.proofs.Shelving.{keeps-all}
+
+-- ---- the fleet
+
+-- a chapter is refused
+pub chapter-fault : {A : Type 0} (kit : KitLaws) (m : Floor) (d : Draft) (c : ChapterView A) (why : ReopenFault) → disagreement d c.history.opening ≡ None
+    → IsReopenFault m c.number c.history (limits_after d c.history.opening) (laws_after kit d c.history.opening) why → IsResumeFault kit m d c (Chapter why)
+chapter-fault kit m d c reopen_fault.Limits none is = (none, is)
+chapter-fault kit m d c (reopen_fault.Illegal at rule) none is = (none, is)
+chapter-fault kit m d c reopen_fault.Laws none is = (none, is)
+chapter-fault kit m d c reopen_fault.Differs none is = (none, is)
+chapter-fault kit m d c reopen_fault.Spent none is = (none, is)
+chapter-fault kit m d c reopen_fault.Waits none is = (none, is)
+chapter-fault kit m d c reopen_fault.NoMemory none is = tt
+
+-- the laws of the closures that are chosen, cut
+pub cut-is : (laws chosen : HookLaws) (n m : ℕ) (ties : List TieLaw) (arrivals farewells : List StampLaw) → chosen ≡ laws → n ≡ m → ties ≡ take n chosen.ties → arrivals ≡ take n chosen.arrivals → farewells ≡ take n chosen.farewells
+    → record { ties = ties; arrivals = arrivals; farewells = farewells } ≡ cut_laws m laws
+cut-is laws chosen n m ties arrivals farewells c l t a f =
+    let cut : record { ties = ties; arrivals = arrivals; farewells = farewells } ≡ cut_laws n chosen = rw (t, a, f) refl in
+    cut ∙ (ap (λ (k : ℕ). cut_laws k chosen) l ∙ ap (cut_laws m) c)
+
+-- what the header lines disagree with is one of two
+pub disagreed : {A : Type 0} (kit : KitLaws) (m : Floor) (d : Draft) (c : ChapterView A) (f : ResumeFault) → disagreement d c.history.opening ≡ Some f → IsResumeFault kit m d c f
+disagreed kit m d c f is = by (is_other (option_map (λ cells. length cells) d.starts) (length c.history.opening.robots)) (is_other d.clients (length c.history.opening.clients)) refl refl
+  where
+    found : Bool → Bool → Option ResumeFault
+    found b e = if b then Some Robots else (if e then Some Clients else None)
+
+    by : (b e : Bool) → is_other (option_map (λ cells. length cells) d.starts) (length c.history.opening.robots) ≡ b → is_other d.clients (length c.history.opening.clients) ≡ e → IsResumeFault kit m d c f
+    by true e x y =
+        let all : disagreement d c.history.opening ≡ Some Robots = ap (λ (b : Bool). found b (is_other d.clients (length c.history.opening.clients))) x in
+        subst (IsResumeFault kit m d c) (same_Some Robots f (sym all ∙ is)) all
+    by false true x y =
+        let all : disagreement d c.history.opening ≡ Some Clients = ap (λ (b : Bool). found b (is_other d.clients (length c.history.opening.clients))) x ∙ ap (found false) y in
+        subst (IsResumeFault kit m d c) (same_Some Clients f (sym all ∙ is)) all
+    by false false x y =
+        let all : disagreement d c.history.opening ≡ None = ap (λ (b : Bool). found b (is_other d.clients (length c.history.opening.clients))) x ∙ ap (found false) y in
+        let bad : None ≡ Some f = sym all ∙ is in absurd cc
+
+-- the same limits and laws
+pub can-as : {A : Type 0} (m : Floor) (n : ℕ) (h : History A) (l k : Limits) (laws other : HookLaws) → l ≡ k → laws ≡ other → CanReopen m n h l laws → CanReopen m n h k other
+can-as m n h l k laws other e f can = rw (← e, ← f) can
+
+-- ---- the first line
+
+-- what holds of the lines from the one that was read on holds of all
+pub from-first : (P : List (List ℕ) → Type 0) (known left : Option (List ℕ)) (found : Bool) (line : List ℕ) → IfSome known (λ xs. IsNext xs left found line) → found ≡ true
+    → IfSome left (λ ys. P (line ∷ heard_lines ys)) → IfSome known (λ xs. P (heard_lines xs))
+from-first P None left found line next some h = tt
+from-first P (Some xs) left found line (rest, left_is, lines) some h =
+    let all : heard_lines xs ≡ line ∷ heard_lines rest = subst (λ (b : Bool). heard_lines xs ≡ (if b then line ∷ heard_lines rest else [])) some lines in
+    subst P (sym all) (subst (λ (o : Option (List ℕ)). IfSome o (λ ys. P (line ∷ heard_lines ys))) left_is h)
+
+-- the same where it holds unless there was a fault, and of the fault
+pub from-first-ok : {E : Type 0} (r : Result (Unit {0}) E) (P : List (List ℕ) → Type 0) (known left : Option (List ℕ)) (found : Bool) (line : List ℕ) → IfSome known (λ xs. IsNext xs left found line) → found ≡ true
+    → OnOk r (IfSome left (λ ys. P (line ∷ heard_lines ys))) → OnOk r (IfSome known (λ xs. P (heard_lines xs)))
+from-first-ok (Ok done) P known left found line next some h = from-first P known left found line next some h
+from-first-ok (Err f) P known left found line next some h = tt
+
+pub from-first-err : {E : Type 0} (r : Result (Unit {0}) E) (P : E → List (List ℕ) → Type 0) (known left : Option (List ℕ)) (found : Bool) (line : List ℕ) → IfSome known (λ xs. IsNext xs left found line) → found ≡ true
+    → IfErr r (λ f. IfSome left (λ ys. P f (line ∷ heard_lines ys))) → IfErr r (λ f. IfSome known (λ xs. P f (heard_lines xs)))
+from-first-err (Ok done) P known left found line next some h = tt
+from-first-err (Err f) P known left found line next some h = from-first (P f) known left found line next some h
+
+module _ {A : Type 0} (settings : Settings) (s : Talk A) where
+  -- it could not be read
+  pub none-read : (fault : TalkFault) (known before : Option (List ℕ)) (waits : List ℕ) → IsMidway fault
+      → IfSome known (λ xs. TalksUntil fault settings.roll s (acts_from settings 1 (heard_lines xs)) before before waits waits)
+  none-read fault None before waits is = tt
+  none-read fault (Some xs) before waits is = until-none fault settings.roll s (acts_from settings 1 (heard_lines xs)) before waits waits is refl
+
+  -- there is none
+  pub none-said : (known left before : Option (List ℕ)) (found : Bool) (line waits : List ℕ) → IfSome known (λ xs. IsNext xs left found line) → found ≡ false
+      → IfSome known (λ xs. TalksAll settings s (acts_from settings 1 (heard_lines xs)) s before before waits waits)
+  none-said None left before found line waits next none = tt
+  none-said (Some xs) left before found line waits (rest, left_is, lines) none =
+      let all : heard_lines xs ≡ [] = subst (λ (b : Bool). heard_lines xs ≡ (if b then line ∷ heard_lines rest else [])) none lines in
+      subst (λ (ls : List (List ℕ)). TalksAll settings s (acts_from settings 1 ls) s before before waits waits) (sym all) ([], (refl, refl), says-none before waits)
+
+-- ---- to what it comes
+
+-- all was done
+in_whole : (settings : Settings) (s : Talk Global) (bytes text : List ℕ) (last : Talk Global) → Talks settings.roll s (acts_from settings 1 (heard_lines bytes)) text last → IsAnsweredInPart settings s bytes text
+in_whole settings s bytes text last talks = record {
+  done = acts_from settings 1 (heard_lines bytes);
+  left = [];
+  parts = sym (append-nil (acts_from settings 1 (heard_lines bytes)));
+  last = last;
+  talks = talks;
+}
+
+pub come-open : (settings : Settings) (before mid after : Option (List (ChapterView Global))) (known a b : Option (List ℕ)) (w p : List ℕ) (s last : Talk Global) (ended result : Result (Unit {0}) TalkFault)
+    → OnOk ended (IfSome known (λ xs. TalksAll settings s (acts_from settings 1 (heard_lines xs)) last a b w p))
+    → IfErr ended (λ f. IfSome known (λ xs. TalksUntil f settings.roll s (acts_from settings 1 (heard_lines xs)) a b w p))
+    → OnOk ended (KeepsTurned before mid s last) → Keeps ended result → OnOk result (KeepsLast mid after last)
+    → IfSome known (λ xs. ComesOpen settings s xs a b w p (record { old = before; new = after }) result)
+come-open settings before mid after None a b w p s last ended result all until turned keeps kept = tt
+come-open settings before mid after (Some xs) a b w p s last ended result all until turned keeps kept = by ended result all until turned keeps kept
+  where
+    k : Shelved
+    k = record { old = before; new = after }
+
+    by : (ended result : Result (Unit {0}) TalkFault) → OnOk ended (TalksAll settings s (acts_from settings 1 (heard_lines xs)) last a b w p)
+        → IfErr ended (λ f. TalksUntil f settings.roll s (acts_from settings 1 (heard_lines xs)) a b w p)
+        → OnOk ended (KeepsTurned before mid s last) → Keeps ended result → OnOk result (KeepsLast mid after last) → ComesOpen settings s xs a b w p k result
+    by (Ok done) (Ok done2) (text, talks, says) until turned keeps kept =
+        let (chapters, are, adds) = keeps-all before mid after s last turned kept in
+        (text, chapters, record { last = last; talks = talks; are = are }, says, adds)
+    by (Ok done) (Err f) (text, talks, says) until turned keeps kept = (text, in_whole settings s xs text last talks, midway f a b w p text keeps says)
+    by (Err f) result all u turned keeps kept = subst (ComesOpen settings s xs a b w p k) (sym keeps)
+        (u.text, record { done = u.done; left = u.left; parts = u.parts; last = u.last; talks = u.talks }, u.says)
+
+-- ---- the last write
+
+abbrev Come : Settings → Talk Global → Option (List ℕ) → Option (List ℕ) → Option (List ℕ) → List ℕ → Shelved → Result (Unit {0}) TalkFault → Type 0
+Come settings s known a b p k ended = IfSome known (λ bytes. ComesOpen settings s bytes a b [] p k ended)
+
+abbrev pub Whole : Settings → Talk Global → Shelved → Option (List ℕ) → Option (List ℕ) → List ℕ → Type 0
+Whole settings s k a c bytes = (text : List ℕ) × (chapters : List (ChapterView Global)) × IsAnswered settings s bytes text chapters × Appends a c text × Adds k.old k.new chapters
+
+abbrev pub Broken : Settings → Talk Global → Option (List ℕ) → Option (List ℕ) → List ℕ → Type 0
+Broken settings s a c bytes = (text : List ℕ) × IsAnsweredInPart settings s bytes text × Appends a c text
+
+abbrev pub CutShort : Settings → Talk Global → Option (List ℕ) → Option (List ℕ) → List ℕ → Type 0
+CutShort settings s a c bytes = (text : List ℕ) × IsAnsweredInPart settings s bytes text × AppendsPrefix a c text
+
+module _ (settings : Settings) (s : Talk Global) (k : Shelved) where
+  whole_at : (known a b c : Option (List ℕ)) (p : List ℕ) (ended : Result (Unit {0}) TalkFault) (x : Bool) → IsSame ended (Ok x) → Come settings s known a b p k ended → Appends b c p → IfSome known (Whole settings s k a c)
+  whole_at None a b c p ended x same h all = tt
+  whole_at (Some bytes) a b c p (Ok done) x same (text, chapters, is, says, kept) all = (text, chapters, is, written_all a b c p text says all, kept)
+  whole_at (Some bytes) a b c p (Err f) x same h all = let bad : Ok x ≡ err f = same in absurd cc
+
+  pub open-whole : (known a b c : Option (List ℕ)) (p : List ℕ) (ended : Result (Unit {0}) TalkFault) (result : Result Bool TalkFault) → Come settings s known a b p k ended → Finishes ended b c p result → OnOk result (IfSome known (Whole settings s k a c))
+  open-whole known a b c p ended (Err f) h last = tt
+  open-whole known a b c p ended (Ok x) h (written all same) = whole_at known a b c p ended x same h all
+  open-whole known a b c p ended (Ok x) h (unwritten part none) = let bad : Ok x ≡ err Output = none in absurd cc
+
+  broken_at : (known a b c : Option (List ℕ)) (p : List ℕ) (f : TalkFault) → IsMidway f → Come settings s known a b p k (Err f) → Appends b c p → IfSome known (Broken settings s a c)
+  broken_at None a b c p f mid h all = tt
+  broken_at (Some bytes) a b c p Input mid (text, is, says) all = (text, is, written_all a b c p text says all)
+  broken_at (Some bytes) a b c p Shelf mid (text, is, says) all = (text, is, written_all a b c p text says all)
+  broken_at (Some bytes) a b c p NoMemory mid (text, is, says) all = (text, is, written_all a b c p text says all)
+  broken_at (Some bytes) a b c p Output mid h all = absurd mid
+  broken_at (Some bytes) a b c p (Unopened f) mid h all = absurd mid
+
+  pub open-broken : (known a b c : Option (List ℕ)) (p : List ℕ) (ended : Result (Unit {0}) TalkFault) (result : Result Bool TalkFault) → Come settings s known a b p k ended → Finishes ended b c p result
+      → IfErr result (λ f. IsMidway f → IfSome known (Broken settings s a c))
+  open-broken known a b c p ended (Ok x) h last = tt
+  open-broken known a b c p ended (Err f) h (written all same) = λ mid. broken_at known a b c p f mid (subst (Come settings s known a b p k) (came ended (Err f) f same refl) h) all
+  open-broken known a b c p ended (Err f) h (unwritten part none) = λ mid. absurd (subst IsMidway (same_err f Output none) mid)
+
+  cut_short : (known a b c : Option (List ℕ)) (p : List ℕ) (ended : Result (Unit {0}) TalkFault) → Come settings s known a b p k ended → AppendsPrefix b c p → IfSome known (CutShort settings s a c)
+  cut_short None a b c p ended h part = tt
+  cut_short (Some bytes) a b c p (Ok done) (text, chapters, is, says, kept) part = (text, in_whole settings s bytes text is.last is.talks, written_part a b c p text says part)
+  cut_short (Some bytes) a b c p (Err Input) (text, is, says) part = (text, is, written_part a b c p text says part)
+  cut_short (Some bytes) a b c p (Err Shelf) (text, is, says) part = (text, is, written_part a b c p text says part)
+  cut_short (Some bytes) a b c p (Err NoMemory) (text, is, says) part = (text, is, written_part a b c p text says part)
+  cut_short (Some bytes) a b c p (Err Output) (text, is, (prefix, none)) (n, within, taken) =
+      (text, is, written_none a b c text prefix (subst (λ (l : List ℕ). Appends b c l) (ap (take n) none ∙ take_none n) taken))
+  cut_short (Some bytes) a b c p (Err (Unopened f)) (text, is, says) part = absurd says
+
+  pub open-unwritten : (known a b c : Option (List ℕ)) (p : List ℕ) (ended : Result (Unit {0}) TalkFault) (result : Result Bool TalkFault) → Come settings s known a b p k ended → Finishes ended b c p result
+      → result ≡ Err Output → IfSome known (CutShort settings s a c)
+  open-unwritten known a b c p ended result h (written all same) is = cut_short known a b c p ended h (whole_prefix b c p all)
+  open-unwritten known a b c p ended result h (unwritten part none) is = cut_short known a b c p ended h part
+
+-- ---- a fleet that goes on
+
+module _ (on : Terms) (c : ChapterView Global) (s : Talk Global) (same : s ≡ resumed on.kit on.floor on.head c) (may : MayResume on.kit on.floor on.head c) where
+  pub resumption-whole : (known a b : Option (List ℕ)) (k : Shelved) → IfSome known (Whole on.settings s k a b)
+      → IfSome known (λ bytes. (text : List ℕ) × (chapters : List (ChapterView Global)) × IsResumption on c bytes text chapters × Appends a b text × Adds k.old k.new chapters)
+  resumption-whole None a b k h = tt
+  resumption-whole (Some bytes) a b k (text, chapters, is, taken, kept) =
+      (text, chapters, record { may = may; answered = subst (λ (x : Talk Global). IsAnswered on.settings x bytes text chapters) same is }, taken, kept)
+
+  pub resumption-broken : (known a b : Option (List ℕ)) → IfSome known (Broken on.settings s a b) → IfSome known (λ bytes. (text : List ℕ) × IsResumptionBegun on c bytes text × Appends a b text)
+  resumption-broken None a b h = tt
+  resumption-broken (Some bytes) a b (text, is, taken) = (text, record { may = may; answered = subst (λ (x : Talk Global). IsAnsweredInPart on.settings x bytes text) same is }, taken)
+
+  pub resumption-cut : (known a b : Option (List ℕ)) → IfSome known (CutShort on.settings s a b) → IfSome known (λ bytes. (text : List ℕ) × IsResumptionBegun on c bytes text × AppendsPrefix a b text)
+  resumption-cut None a b h = tt
+  resumption-cut (Some bytes) a b (text, is, taken) = (text, record { may = may; answered = subst (λ (x : Talk Global). IsAnsweredInPart on.settings x bytes text) same is }, taken)
+
+abbrev broke : TalkFault → Result Bool ResumeFault
+broke f = Err (Broke f)
+
+pub same-broke : (f g : TalkFault) → broke f ≡ broke g → f ≡ g
+same-broke f g h = cc

@@ -1,0 +1,115 @@
+-- A conversation whose fleet goes on from a chapter that was kept.
+use Rattle.std.specs.Prelude.{◌≡◌, ℕ, Bool, false, not, ◌==◌, nat_lt, List, ◌++◌, length, replicate, Option, Some, None, Result, Ok, Err, unwrap_or, if◌then◌else◌}
+use Rattle.std.specs.List.{list_any}
+use Rattle.std.specs.Option.{option_map}
+use Rattle.std.specs.declared.alloc.Global.{Global}
+use Rattle.fleet_grid.specs.Floor.{Floor}
+use Rattle.fleet_book.specs.declared.limits.Limits.{Limits}
+use Rattle.fleet_history.specs.declared.history.Opening.{Opening}
+use Rattle.fleet_history.specs.History.{clients}
+use Rattle.fleet_core.specs.Core.{World}
+use Rattle.fleet_core.specs.Hooks.{HookLaws}
+use Rattle.fleet_reopen.specs.declared.fault.ReopenFault.TheVariants as reopen_fault
+use Rattle.fleet_reopen.specs.Reopening.{CanReopen, IsReopenFault, reopened_world}
+use Rattle.fleet_script.specs.Script.{Draft, limits_over}
+use Rattle.errands_text.specs.Kit.{KitLaws, cut_laws}
+use Rattle.fleet_world.specs.Talk.{Talk, none_waiting, talk_of}
+use Rattle.fleet_talk.specs.declared.ends.Settings.{Settings}
+use Rattle.fleet_talk.specs.declared.fault.TalkFault.{TalkFault}
+use Rattle.fleet_talk.specs.declared.ground.TheConstants.{TALK_LIMITS}
+use Rattle.fleet_talk.specs.declared.resuming.ResumeFault.{ResumeFault}
+use Rattle.fleet_talk.specs.declared.resuming.ResumeFault.TheVariants as fault
+use Rattle.fleet_talk.specs.Act.{Act, acts_from}
+use Rattle.fleet_talk.specs.Acts.{Talks}
+use Rattle.fleet_talk.specs.Broken.{SaysUntil}
+use Rattle.fleet_talk.specs.Chapters.{Adds, AreChapters, ChapterView}
+use Rattle.fleet_talk.specs.Conversation.{Shelved, Terms}
+use Rattle.fleet_talk.specs.Heard.{heard_lines}
+use Rattle.fleet_talk.specs.Says.{Says}
+
+-- ---- the header lines and the chapter
+
+-- a number was said, and it is another than this
+abbrev pub is_other : Option ℕ → ℕ → Bool
+is_other None is = false
+is_other (Some said) is = not (said == is)
+
+-- what header lines say of robots and clients that is not so in a chapter: the first of both
+abbrev pub disagreement : {A : Type 0} → Draft → Opening A → Option ResumeFault
+disagreement d o =
+    if is_other (option_map (λ cells. length cells) d.starts) (length o.robots) then Some fault.Robots
+    else if is_other d.clients (length o.clients) then Some fault.Clients
+    else None
+
+-- the limits that header lines give, then the chapter's, then a conversation's own
+abbrev pub limits_after : {A : Type 0} → Draft → Opening A → Limits
+limits_after d o = limits_over (record TALK_LIMITS { queue = o.queue; life = o.life }) d.limits
+
+-- whether some robot's farewell may have a stamp other than 0, as none has with the plain closures
+abbrev pub has_stamps : {A : Type 0} → Opening A → Bool
+has_stamps o = list_any (λ r. nat_lt 0 r.farewell_law.high) o.robots
+
+-- the laws of the closures that header lines choose, and where they do not, of those that the chapter's stamps are of
+abbrev pub laws_after : {A : Type 0} → KitLaws → Draft → Opening A → HookLaws
+laws_after kit d o = cut_laws (length o.robots) (if unwrap_or d.south (has_stamps o) then kit.south else kit.plain)
+
+-- ---- the fleet
+
+-- a world whose clients did nothing yet
+abbrev pub quiet : {A : Type 0} → World A → Talk A
+quiet w = talk_of w (replicate (clients w.history) none_waiting)
+
+-- the fleet that goes on from a chapter
+abbrev pub resumed : {A : Type 0} → KitLaws → Floor → Draft → ChapterView A → Talk A
+resumed kit m d c = quiet (reopened_world m c.number c.history (limits_after d c.history.opening) (laws_after kit d c.history.opening))
+
+-- a fleet goes on from the chapter
+pub record MayResume {A : Type 0} (kit : KitLaws) (m : Floor) (d : Draft) (c : ChapterView A) : Type 0 where
+  pub agrees : disagreement d c.history.opening ≡ None
+  pub can : CanReopen m c.number c.history (limits_after d c.history.opening) (laws_after kit d c.history.opening)
+
+-- why none does: the first reason that holds. Out of memory says nothing
+abbrev pub IsResumeFault : {A : Type 0} → KitLaws → Floor → Draft → ChapterView A → ResumeFault → Type 0
+IsResumeFault kit m d c fault.Robots = disagreement d c.history.opening ≡ Some fault.Robots
+IsResumeFault kit m d c fault.Clients = disagreement d c.history.opening ≡ Some fault.Clients
+IsResumeFault kit m d c (fault.Chapter reopen_fault.NoMemory) = Unit {0}
+IsResumeFault kit m d c (fault.Chapter why) =
+    (disagreement d c.history.opening ≡ None) × IsReopenFault m c.number c.history (limits_after d c.history.opening) (laws_after kit d c.history.opening) why
+IsResumeFault kit m d c (fault.Talk why) = ⊥
+
+-- the fault came before the first line was read
+abbrev pub IsRefusal : ResumeFault → Type 0
+IsRefusal (fault.Talk why) = ⊥
+IsRefusal _ = Unit {0}
+
+-- ---- the conversation
+
+-- all lines of an input were answered by an open fleet, up to one that says quit, or to the end
+pub record IsAnswered (settings : Settings) (s : Talk Global) (bytes text : List ℕ) (chapters : List (ChapterView Global)) : Type 0 where
+  pub last : Talk Global
+  pub talks : Talks settings.roll s (acts_from settings 1 (heard_lines bytes)) text last
+  pub are : AreChapters s.world last.world chapters
+
+-- the first of what they ask was done
+pub record IsAnsweredInPart (settings : Settings) (s : Talk Global) (bytes text : List ℕ) : Type 0 where
+  pub done : List Act
+  pub left : List Act
+  pub parts : acts_from settings 1 (heard_lines bytes) ≡ done ++ left
+  pub last : Talk Global
+  pub talks : Talks settings.roll s done text last
+
+-- to what a conversation with an open fleet came
+abbrev pub ComesOpen : Settings → Talk Global → List ℕ → Option (List ℕ) → Option (List ℕ) → List ℕ → List ℕ → Shelved → Result (Unit {0}) TalkFault → Type 0
+ComesOpen settings s bytes before after waited waits shelf (Ok done) =
+    (text : List ℕ) × (chapters : List (ChapterView Global)) × IsAnswered settings s bytes text chapters × Says before after waited waits text × Adds shelf.old shelf.new chapters
+ComesOpen settings s bytes before after waited waits shelf (Err why) = (text : List ℕ) × IsAnsweredInPart settings s bytes text × SaysUntil why before after waited waits text
+
+-- the text and the chapters of a whole conversation whose fleet goes on from a chapter
+pub record IsResumption (on : Terms) (c : ChapterView Global) (bytes text : List ℕ) (chapters : List (ChapterView Global)) : Type 0 where
+  pub may : MayResume on.kit on.floor on.head c
+  pub answered : IsAnswered on.settings (resumed on.kit on.floor on.head c) bytes text chapters
+
+-- the beginning of one
+pub record IsResumptionBegun (on : Terms) (c : ChapterView Global) (bytes text : List ℕ) : Type 0 where
+  pub may : MayResume on.kit on.floor on.head c
+  pub answered : IsAnsweredInPart on.settings (resumed on.kit on.floor on.head c) bytes text

@@ -1,0 +1,202 @@
+//! A fleet that goes on from a chapter that was kept.
+
+ghost use Rattle.std.specs.Prelude.{◌≡◌, ◌≤◌, None, IfOk, IfErr, OnOk, length, replicate, vec_len, if◌then◌else◌, unwrap_or};
+ghost use Rattle.std.specs.Option.{option_map};
+ghost use Rattle.errands_text.specs.Kit.{kit_laws};
+ghost use Rattle.fleet_core.specs.Hooks.{laws_of};
+ghost use Rattle.fleet_world.specs.Keeps.{talk};
+ghost use Rattle.fleet_world.specs.Talk.{none_waiting};
+ghost use Rattle.fleet_talk.specs.Chapters.{chapter_shown};
+ghost use Rattle.fleet_talk.specs.Heading.{drafted};
+ghost use Rattle.fleet_talk.specs.Resumed.{IsResumeFault, MayResume, disagreement, has_stamps, is_other, laws_after, limits_after, quiet, resumed};
+
+use crate::fault::TalkFault;
+use crate::ground::{Ground, TALK_LIMITS};
+use errands_text::HookKit;
+use fleet_book::Limits;
+use fleet_core::World;
+use fleet_grid::Grid;
+use fleet_history::{Chapter, Opening};
+use fleet_hooks::{ArrivalHook, Farewell, Hooks, TieHook};
+use fleet_map::read_map;
+use fleet_reopen::{ReopenFault, reopen_world};
+use fleet_script::Head;
+use fleet_world::{Session, Waiting};
+use std::alloc::{AllocError, Global};
+
+/// Why a conversation does not go on from a chapter, or how it broke off.
+#[derive(Clone, Copy, Debug, PartialEq, Eq)]
+pub enum ResumeFault {
+    /// The header lines name another number of robots than the chapter has.
+    Robots,
+    /// They name another number of clients.
+    Clients,
+    /// No world goes on from the chapter, or memory ran out.
+    Chapter(ReopenFault),
+    /// The fleet went on, and the conversation broke off.
+    Talk(TalkFault),
+}
+
+impl From<AllocError> for ResumeFault {
+    ghost use Rattle.std.specs.Prelude.{◌≡◌};
+    ghost use Rattle.fleet_reopen.specs.declared.fault.ReopenFault.TheVariants.{NoMemory};
+    ghost use Rattle.fleet_talk.specs.declared.resuming.ResumeFault.TheVariants.{Chapter};
+
+    ghost from_gives = { λ _ f. f ≡ Chapter NoMemory };
+
+    fn from(_error: AllocError) -> ResumeFault {
+        ResumeFault::Chapter(ReopenFault::NoMemory)
+    }
+}
+
+/// Whether a number is said, and is another than this.
+fn is_other(said: Option<usize>, is: usize) -> bool
+    ensures { result ≡ is_other said is }
+{
+    match said {
+        Some(said) => said != is,
+        None => false,
+    }
+}
+
+/// How many robots the header lines name.
+fn robots_named(head: &Head) -> Option<usize>
+    ensures { result ≡ option_map (λ cells. length cells) (drafted head.now).starts }
+{
+    match &head.starts {
+        Some(cells) => Some(cells.len()),
+        None => None,
+    }
+}
+
+/// How many clients they name.
+fn clients_named(head: &Head) -> Option<usize>
+    ensures { result ≡ (drafted head.now).clients }
+{
+    match head.clients {
+        Some(clients) => Some(clients as usize),
+        None => None,
+    }
+}
+
+/// What header lines say that is not so in a chapter that begins so: first the number of robots, then that of clients.
+pub fn disagreement(head: &Head, opening: &Opening) -> Option<ResumeFault>
+    ensures { result ≡ disagreement (drafted head.now) opening.now }
+{
+    if is_other(robots_named(head), opening.robots.len()) {
+        Some(ResumeFault::Robots)
+    } else if is_other(clients_named(head), opening.clients.len()) {
+        Some(ResumeFault::Clients)
+    } else {
+        None
+    }
+}
+
+/// The limits that header lines give, then those of a chapter that begins so, then a conversation's own.
+pub fn limits_after(head: &Head, opening: &Opening) -> Limits
+    ensures { result ≡ limits_after (drafted head.now) opening.now }
+{
+    let kept = Limits {
+        queue: opening.queue,
+        life: opening.life,
+        ..TALK_LIMITS
+    };
+    head.limits.limits_over(kept)
+}
+
+/// Whether a farewell of some robot may have a stamp other than 0.
+fn has_stamps(opening: &Opening) -> bool
+    ensures { result ≡ has_stamps opening.now }
+{
+    opening
+        .robots
+        .as_slice()
+        .iter()
+        .any(|robot| robot.farewell_law.high > 0)
+}
+
+/// The closures that header lines choose, one for each robot of a chapter that begins so. Where they do not choose, the
+/// plain ones, if each farewell of this chapter has the stamp 0, and else the southern ones.
+pub fn hooks_after(kit: HookKit, head: &Head, opening: &Opening) -> Hooks
+    // Of each call: only a call with a condition may hand on closures that another crate hands out.
+    requires { 0 ≤ vec_len kit.plain.ties }
+    ensures { laws_of result ≡ laws_after (kit_laws kit) (drafted head.now) opening.now }
+{
+    let south = head.south.unwrap_or(has_stamps(opening));
+    kit.choose(south).cut(opening.robots.len())
+}
+
+/// A map of one cell.
+const CELL: &[u8] = b"type octile\nheight 1\nwidth 1\nmap\n.\n";
+
+/// What waits of clients that did nothing. Only a session makes these lists: here that of a world which is let go.
+fn nothing_waits(alloc: Global, clients: usize) -> Result<Vec<Waiting>, AllocError>
+    ensures { IfOk result (λ waiting. waiting.items ≡ replicate clients none_waiting) }
+{
+    let Ok(clients) = u32::try_from(clients) else {
+        return Err(AllocError);
+    };
+    let Ok(map) = read_map(alloc, CELL) else {
+        return Err(AllocError);
+    };
+    let grid = Grid::new(map)?;
+    let starts = Vec::from_slice(alloc, &[0])?;
+    let hooks = Hooks::alike(
+        alloc,
+        1,
+        TieHook::fixed([0; 4]),
+        ArrivalHook::fixed(0),
+        Farewell::fixed(0),
+    )?;
+    match Session::open(alloc, grid, starts, clients, TALK_LIMITS, hooks) {
+        Ok(session) => {
+            let Session { world, waiting } = session;
+            let _left = world.finish();
+            Ok(waiting)
+        }
+        Err(_) => Err(AllocError),
+    }
+}
+
+/// A session over a world whose clients did nothing yet.
+fn session_over(alloc: Global, world: World) -> Result<Session, AllocError>
+    // Of each call: only a call with a condition may hand on closures.
+    requires { 0 ≤ world.core.number }
+    ensures { IfOk result (λ s. talk s ≡ quiet world.core) }
+{
+    match nothing_waits(alloc, world.clients()) {
+        Ok(waiting) => Ok(Session { world, waiting }),
+        Err(AllocError) => {
+            let _left = world.finish();
+            Err(AllocError)
+        }
+    }
+}
+
+/// Opens the fleet that goes on from a chapter.
+pub(crate) fn reopen(
+    alloc: Global,
+    ground: Ground,
+    chapter: &Chapter,
+) -> Result<Session, ResumeFault>
+    // Of each call: only a call with a condition may hand on closures that another crate hands out.
+    requires { 0 ≤ vec_len ground.kit.plain.ties }
+    ensures ok { IfOk result (λ s. talk s ≡ resumed (kit_laws ground.kit) ground.grid (drafted ground.head) (chapter_shown chapter.now)) }
+    ensures may { OnOk result (MayResume (kit_laws ground.kit) ground.grid (drafted ground.head) (chapter_shown chapter.now)) }
+    ensures fault { IfErr result (λ fault. IsResumeFault (kit_laws ground.kit) ground.grid (drafted ground.head) (chapter_shown chapter.now) fault) }
+{
+    let Ground { grid, kit, head } = ground;
+    match disagreement(&head, &chapter.opening) {
+        Some(fault) => {
+            drop(kit);
+            return Err(fault);
+        }
+        None => {}
+    }
+    let limits = limits_after(&head, &chapter.opening);
+    let hooks = hooks_after(kit, &head, &chapter.opening);
+    match reopen_world(alloc, grid, chapter, limits, hooks) {
+        Ok(world) => Ok(session_over(alloc, world)?),
+        Err(fault) => Err(ResumeFault::Chapter(fault)),
+    }
+}
