@@ -1,7 +1,8 @@
 //! `fleet`: for the people around a fleet of robots. `fleet view MAP TRACE..` prints a page that replays traces on a map, with `--svg` a
-//! moving picture, with `--tick N` a picture of what stands after N ticks. `fleet check MAP PLAN` judges a plan of any planner. `fleet talk MAP`
-//! answers lines as they come. `fleet convert --to FORM MAP TRACE` prints a trace as a plan, and `fleet explain MAP [INPUT]` says what is wrong with
-//! files. `fleet live MAP` keeps a fleet in real time. What each word does is in `fleet_lib`.
+//! moving picture, with `--tick N` a picture of what stands after N ticks. `fleet check MAP PLAN` judges a plan of any planner. `fleet stats
+//! MAP TRACE..` prints figures of traces. `fleet talk MAP` answers lines as they come. `fleet convert --to FORM MAP TRACE` prints a trace as a
+//! plan, and `fleet explain MAP [INPUT]` says what is wrong with files. `fleet live MAP` keeps a fleet in real time. What each word does is in
+//! `fleet_lib`.
 #![tactic(auto)]
 
 mod chapters;
@@ -13,6 +14,7 @@ mod explain;
 mod figures;
 mod folder;
 mod live;
+mod stats;
 mod talk;
 mod view;
 
@@ -25,6 +27,7 @@ use figures::{Outlet, figures_of};
 use fleet_lib::{InputFault, Job, WordFault, fail, parse_words, write_whole};
 use folder::{complain_of_folder, hold_folder};
 use live::hold_live;
+use stats::run_stats;
 use std::alloc::{Alloc, Global};
 use std::env::{self, Env};
 use std::fs::Files;
@@ -98,6 +101,7 @@ fn main(rt: HostRuntime) -> ExitCode {
         }
         Ok(Job::Convert(convert)) => run_convert(&rt, &convert, &mut output, &mut error),
         Ok(Job::Explain(explain)) => run_explain(&rt, &explain, &mut output, &mut error),
+        Ok(Job::Stats(stats)) => run_stats(&rt, &stats, &mut output, &mut error),
         Ok(Job::Live(live)) => {
             let name = live.traces.as_deref();
             match hold_folder(&rt, name) {

@@ -6,6 +6,7 @@ mod convert;
 mod explain;
 mod live;
 mod said;
+mod stats;
 mod talk;
 mod view;
 
@@ -19,9 +20,11 @@ pub use fleet_history::Chapter;
 pub use fleet_live::{LiveEnds, Pipes};
 pub use fleet_talk::{Ends, Settings, Shelf, ShelfFault};
 pub use fleet_words::{
-    Check, Convert, Explain, Form, Job, Live, Shown, Talk, View, WordFault, parse_words,
+    Check, Convert, Explain, Figures, Form, Job, Live, Shown, Stats, Talk, View, WordFault,
+    parse_words,
 };
 pub use live::run_live;
 pub use said::{Said, fail, tell};
+pub use stats::answer_stats;
 pub use talk::{TalkTexts, run_talk};
 pub use view::{MOST_TRACE_BYTES, answer_view};

@@ -1,5 +1,5 @@
 -- What the words ask for.
-use Rattle.std.specs.Prelude.{◌≡◌, true, false, List, map, Option, Some, None, codes, string_bytes, if◌then◌else◌}
+use Rattle.std.specs.Prelude.{◌≡◌, Bool, true, false, List, map, Option, Some, None, codes, string_bytes, if◌then◌else◌}
 use Rattle.std.specs.Option.{option_map, option_and_then}
 use Rattle.std.specs.Str.{bytes_eq}
 use Rattle.std.specs.Str.Parse.{digits_value, without_leading_plus}
@@ -15,6 +15,9 @@ use Rattle.fleet_words.specs.declared.convert.Form.TheVariants.{Pibt2, Moves, Lo
 use Rattle.fleet_words.specs.declared.convert.Convert.{Convert as ConvertJob}
 use Rattle.fleet_words.specs.declared.explain.Explain.{Explain as ExplainJob}
 use Rattle.fleet_words.specs.declared.live.Live.{Live as LiveJob}
+use Rattle.fleet_words.specs.declared.stats.Figures.{Figures}
+use Rattle.fleet_words.specs.declared.stats.Figures.TheVariants as figures
+use Rattle.fleet_words.specs.declared.stats.Stats.{Stats as StatsJob}
 use Rattle.fleet_words.specs.declared.words.Job.{Job}
 use Rattle.fleet_words.specs.declared.words.Job.TheVariants as job
 
@@ -81,6 +84,29 @@ pub record IsLive (rows : List Row) (live : LiveJob) : Type 0 where
   pub pipes : or_none (all_of (codes "client") rows) ≡ map (λ s. string_bytes s) live.pipes.items
   pub watch : live.watch ≡ has_flag (codes "watch") rows
 
+-- the table of a name
+abbrev pub table_named : Text → Option Figures
+table_named word =
+    if bytes_eq word (codes "errands") then Some figures.Errands
+    else if bytes_eq word (codes "ticks") then Some figures.Ticks
+    else if bytes_eq word (codes "cells") then Some figures.Cells
+    else None
+
+-- how figures are printed, by whether JSON is asked for and by the word for a table: not both
+abbrev pub figures_by : Bool → Option Text → Option Figures
+figures_by json None = Some (if json then figures.Json else figures.Lines)
+figures_by true (Some word) = None
+figures_by false (Some word) = table_named word
+
+abbrev pub figures_in : List Row → Option Figures
+figures_in rows = figures_by (has_flag (codes "json") rows) (first_of (codes "csv") rows)
+
+-- what the words after `stats` ask for
+pub record IsStats (rows : List Row) (stats : StatsJob) : Type 0 where
+  pub floor : first_of (codes "MAP") rows ≡ Some (string_bytes stats.map)
+  pub traces : all_of (codes "TRACE") rows ≡ Some (map (λ s. string_bytes s) stats.traces.items)
+  pub figures : stats.figures ≡ figures_in rows
+
 -- the job of a subcommand and the words that stand for its arguments
 abbrev pub IsJobOf : Option (Text × List Row) → Job → Type 0
 IsJobOf found (job.View view) = (rows : List Row) × (found ≡ Some (codes "view", rows)) × IsView rows view
@@ -89,3 +115,4 @@ IsJobOf found (job.Talk talk) = (rows : List Row) × (found ≡ Some (codes "tal
 IsJobOf found (job.Convert convert) = (rows : List Row) × (found ≡ Some (codes "convert", rows)) × IsConvert rows convert
 IsJobOf found (job.Explain explain) = (rows : List Row) × (found ≡ Some (codes "explain", rows)) × IsExplain rows explain
 IsJobOf found (job.Live live) = (rows : List Row) × (found ≡ Some (codes "live", rows)) × IsLive rows live
+IsJobOf found (job.Stats stats) = (rows : List Row) × (found ≡ Some (codes "stats", rows)) × IsStats rows stats

@@ -31,6 +31,11 @@ live_app = with_rules (new_app (codes "live"))
     (value_rule (codes "robots") ∷ value_rule (codes "clients") ∷ value_rule (codes "period") ∷ value_rule (codes "tickers") ∷ values_rule (codes "client")
     ∷ flag_rule (codes "watch") ∷ value_rule (codes "traces") ∷ value_rule (codes "metrics") ∷ file_rule (codes "MAP") ∷ new_rule (codes "SCRIPT") ∷ [])
 
+-- stats [--json] [--csv TABLE] MAP TRACE..
+abbrev pub stats_app : App
+stats_app = with_rules (new_app (codes "stats"))
+    (flag_rule (codes "json") ∷ value_rule (codes "csv") ∷ file_rule (codes "MAP") ∷ files_rule (codes "TRACE") ∷ [])
+
 -- fleet, which tells its version and wants a word
 abbrev pub fleet_app : App
-fleet_app = with_words (program_top (codes "fleet") true) (view_app ∷ check_app ∷ talk_app ∷ convert_app ∷ explain_app ∷ live_app ∷ [])
+fleet_app = with_words (program_top (codes "fleet") true) (view_app ∷ check_app ∷ talk_app ∷ convert_app ∷ explain_app ∷ live_app ∷ stats_app ∷ [])

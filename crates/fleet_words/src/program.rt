@@ -8,6 +8,7 @@ use crate::check::CHECK;
 use crate::convert::CONVERT;
 use crate::explain::EXPLAIN;
 use crate::live::LIVE;
+use crate::stats::STATS;
 use crate::talk::TALK;
 use crate::view::VIEW;
 use command_words::Program;
@@ -15,11 +16,11 @@ use command_words::Program;
 /// The program.
 pub(crate) const FLEET: Program<'static> = Program {
     name: "fleet",
-    about: "Looks at fleets of robots: shows traces of what they did, judges plans and writes them, answers lines as they come, and keeps fleets in real time",
+    about: "Looks at fleets of robots: shows traces of what they did and counts figures of them, judges plans and writes them, answers lines as they come, and keeps fleets in real time",
     version: "0.1.0",
     note: None,
     needs_word: true,
-    words: &[VIEW, CHECK, TALK, CONVERT, EXPLAIN, LIVE],
+    words: &[VIEW, CHECK, TALK, CONVERT, EXPLAIN, LIVE, STATS],
 };
 
 /// The program with its words. Only this function names the constant, since a proof has it at each step of the function.

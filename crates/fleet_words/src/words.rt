@@ -11,6 +11,7 @@ use crate::convert::{Convert, convert_in};
 use crate::explain::{Explain, explain_in};
 use crate::live::{Live, live_in};
 use crate::program::program;
+use crate::stats::{Stats, stats_in};
 use crate::talk::{Talk, talk_in};
 use crate::view::{View, view_in};
 use clap::ArgMatches;
@@ -26,6 +27,7 @@ pub enum Job {
     Convert(Convert),
     Explain(Explain),
     Live(Live),
+    Stats(Stats),
 }
 
 /// The job of the words that `clap` accepted.
@@ -46,6 +48,8 @@ fn job_from(alloc: Global, matches: &ArgMatches<'_>) -> Result<Job, AllocError>
                 Ok(Job::Explain(explain_in(alloc, inner)?))
             } else if name == "live" {
                 Ok(Job::Live(live_in(alloc, inner)?))
+            } else if name == "stats" {
+                Ok(Job::Stats(stats_in(alloc, inner)?))
             } else {
                 // `clap` takes no other word, so this never runs
                 Err(AllocError)

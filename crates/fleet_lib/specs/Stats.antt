@@ -1,0 +1,49 @@
+-- The result of the word `stats`.
+use Rattle.std.specs.Prelude.{◌≡◌, ℕ, ◌-◌, List, [], ◌++◌, codes, decimal}
+use Rattle.std.specs.List.{slice_index_or}
+use Rattle.errands_text.specs.declared.said.Complaint.TheVariants as complaint
+use Rattle.errands_text.specs.Complaint.{complaint_text}
+use Rattle.fleet_stats.specs.declared.fault.StatsFault.{StatsFault}
+use Rattle.fleet_stats.specs.declared.fault.StatsFault.TheVariants as fault
+use Rattle.fleet_stats.specs.declared.answer.StatsForm.{StatsForm}
+use Rattle.fleet_stats.specs.declared.answer.StatsForm.TheVariants as form
+use Rattle.fleet_stats.specs.Report.{IsStats, IsNone}
+use Rattle.fleet_words.specs.declared.stats.Figures.{Figures}
+use Rattle.fleet_words.specs.declared.stats.Figures.TheVariants as figures
+use Rattle.fleet_lib.specs.Said.{Outcome}
+
+abbrev pub form_of : Figures → StatsForm
+form_of figures.Lines = form.Text
+form_of figures.Json = form.Json
+form_of figures.Errands = form.Errands
+form_of figures.Ticks = form.Ticks
+form_of figures.Cells = form.Cells
+
+-- the name of the file with this number, from 1
+abbrev pub name_at : List (List ℕ) → ℕ → List ℕ
+name_at names number = slice_index_or names (number - 1) []
+
+-- how a fault is named: a map as by `errands judge`, and that of a trace with the name of its file
+abbrev pub fault_text : List (List ℕ) → StatsFault → List ℕ
+fault_text names (fault.Map f) = complaint_text (complaint.Map f)
+fault_text names (fault.Trace number f) = name_at names number ++ (codes ": " ++ complaint_text (complaint.Trace f))
+fault_text names (fault.Chapter number) = name_at names number ++ codes ": chapter"
+fault_text names (fault.Late number) = name_at names number ++ codes ": late"
+fault_text names (fault.Illegal number at rule) = name_at names number ++ (codes ": illegal " ++ (decimal at ++ (codes " " ++ decimal rule)))
+fault_text names fault.NoMemory = codes "memory"
+
+abbrev pub fault_status : StatsFault → ℕ
+fault_status (fault.Map f) = 4
+fault_status (fault.Trace number f) = 6
+fault_status (fault.Chapter number) = 6
+fault_status (fault.Late number) = 6
+fault_status (fault.Illegal number at rule) = 6
+fault_status fault.NoMemory = 7
+
+abbrev pub faulty : List (List ℕ) → StatsFault → Outcome
+faulty names f = record { output = []; status = fault_status f; complaint = codes "fleet: " ++ (fault_text names f ++ codes "\n") }
+
+-- what is said to a map and to traces on it, in files of these names
+pub data IsStatsOutcome (figures : Figures) (names : List (List ℕ)) (map : List ℕ) (traces : List (List ℕ)) (o : Outcome) : Type 0 where
+  good : (text : List ℕ) → IsStats (form_of figures) map traces text → o ≡ record { output = text; status = 0; complaint = [] } → IsStatsOutcome figures names map traces o
+  refused : (f : StatsFault) → IsNone map traces f → o ≡ faulty names f → IsStatsOutcome figures names map traces o
