@@ -59,6 +59,14 @@ impl<'a> Case<'a> {
         })
     }
 
+    /// The number of the first chapter that is kept.
+    pub(crate) fn first_chapter(self) -> u64 {
+        match self.kept() {
+            Some(text) => u64::from(text.number) + 1,
+            None => 0,
+        }
+    }
+
     /// The file of header lines that the case has.
     pub(crate) fn script(self, alloc: Global) -> Result<Vec<u8>, AllocError> {
         self.talk.script(alloc)

@@ -54,11 +54,12 @@ impl Outcome {
     }
 }
 
-/// The ends of a conversation by these streams, whose lines are these.
+/// The ends of a conversation by these streams, whose lines are these, and whose chapters have numbers from `first` on.
 fn ends_of(
     alloc: Global,
     streams: Streams,
     lines: &[u8],
+    first: u64,
 ) -> Result<Ends<Source<'_>, Sink, Tray>, AllocError> {
     let source = Source {
         bytes: lines,
@@ -73,6 +74,7 @@ fn ends_of(
         input,
         output: Sink::new(alloc, streams.output),
         shelf: Tray {
+            first,
             taken: 0,
             room: streams.chapters,
         },
@@ -91,7 +93,7 @@ pub(crate) fn outcome_of<R: Alloc<A = Global>>(
     if script.len() > 16_777_216 {
         return Err(AllocError);
     }
-    let mut ends = ends_of(alloc, streams, lines)?;
+    let mut ends = ends_of(alloc, streams, lines, case.first_chapter())?;
     let texts = TalkTexts {
         map: case.map,
         script: &script,

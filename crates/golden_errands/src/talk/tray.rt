@@ -4,9 +4,10 @@ ghost use Rattle.std.specs.Prelude.{None};
 
 use fleet_lib::{Chapter, Shelf, ShelfFault};
 
-/// Takes chapters in their order, and keeps none. It fails when this many were taken.
+/// Takes chapters in their order from one number on, and keeps none. It fails when this many were taken.
 #[derive(Clone, Copy, Drop)]
 pub(crate) struct Tray {
+    pub(crate) first: u64,
     pub(crate) taken: u64,
     pub(crate) room: u64,
 }
@@ -15,7 +16,8 @@ impl Shelf for Tray {
     ghost kept = { λ _. None };
 
     fn keep(&mut self, chapter: &Chapter) -> Result<(), ShelfFault> {
-        if self.taken == self.room || u64::from(chapter.number) != self.taken {
+        let next = self.first.saturating_add(self.taken);
+        if self.taken == self.room || u64::from(chapter.number) != next {
             return Err(ShelfFault::File);
         }
         self.taken = self.taken.saturating_add(1);
