@@ -458,6 +458,12 @@ typedef struct nashirudder_shape {
 uint32_t nashirudder_version(void);
 
 /*
+** Whether each function of the library was proved before it was built. False of a library that `tools/build_c --quick`
+** built, which has run-time checks in the place of proofs.
+*/
+bool nashirudder_is_proved(void);
+
+/*
 ** One sentence in ASCII about a fault, with the numbers that it names and a zero at its end. Of a sentence that does not fit
 ** into `length` bytes, as much is written as fits. Returns how many bytes the whole sentence has, without the zero; so with a
 ** length of 0 it only says that. Of a code alone: put it into a fault whose numbers are 0.

@@ -171,6 +171,9 @@ struct Shown {
     std::vector<std::uint32_t> farewells;
 };
 
+/* Whether each function of the library was proved before it was built. */
+inline bool is_proved() noexcept { return nashirudder_is_proved(); }
+
 namespace detail {
 
 /* A list's address. */

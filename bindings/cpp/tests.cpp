@@ -530,6 +530,8 @@ static void limits() {
     CHECK(fleet.longest_wait() == 0);
     fleet.tick();
     CHECK(fleet.longest_wait() == 1 && nashirudder_version() == NASHIRUDDER_VERSION);
+    const char *proved = std::getenv("NASHIRUDDER_PROVED"); /* set by tools/build_c */
+    CHECK(proved == nullptr || nashirudder::is_proved() == (std::string_view(proved) == "yes"));
     // One order, whose verdict and whose errand are in the mailbox; it has room for 64.
     Account account = fleet.account_of(0);
     CHECK(account.taken == 1 && account.owed == 1 && account.pending == 1 && account.room == 64);

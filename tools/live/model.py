@@ -1,12 +1,15 @@
 #!/usr/bin/env python3
-"""A fleet on demand once more: an independent model of `fleet live` without a period, written from docs/PROTOCOL.md over the model of `errands`.
+"""A fleet on demand or in real time once more: an independent model of `fleet live`, written from docs/PROTOCOL.md over the model of `errands`.
 
-usage: tools/live/model.py [--watch] MAP SCRIPT < LINES
+usage: tools/live/model.py [--watch] [--resume CHAPTER] MAP SCRIPT < LINES
        tools/live/model.py --cases FILE
 
-Says what the first conversation says, where no client has pipes of its own: output, error text, status. SCRIPT has the header lines.
-With --cases it reads the section `live` of crates/golden_errands/stdin and prints what golden_errands has to print of it: a shelf in
-place of a folder counts the chapters that it keeps, and fails first where an option says so. Standard library only.
+Says what the first conversation says, where no client has pipes of its own: output, error text, status. SCRIPT has the header lines. With --resume the
+fleet goes on from the file of a chapter, DIR/chapter-N.json.
+With --cases it reads the section `live` of crates/golden_errands/stdin and prints what golden_errands has to print of it: a sink in
+place of a folder counts the chapters that it keeps, and fails first where an option says so. In a case with a period a line
+`~ COUNT MICROS` is no line of the conversation: COUNT lines were printed since the last such line, and the clock is moved on by MICROS
+microseconds, or stands still if there is no MICROS. Standard library only.
 """
 import importlib.util
 import os
@@ -28,7 +31,7 @@ class Unkept(Exception):
     """Sixteen chapters wait."""
 
 
-class Shelf:
+class Sink:
     """Keeps chapters in order, once it has failed so often; those that it did not keep wait."""
 
     def __init__(self, fails):
@@ -44,18 +47,31 @@ class Shelf:
 
 
 class Live:
-    def __init__(self, grid, head, watch, fails=0):
+    def __init__(self, grid, head, watch, fails=0, period=None, piped=False):
         self.grid, self.head, self.watch = grid, head, watch
-        self.shelf, self.pages = Shelf(fails), []
+        # The first conversation speaks for the clients from this one on.
+        self.first = 1 if piped else 0
+        self.period = period
+        self.now, self.due, self.line_due, self.retry = 0, period, 60_000_000, None
+        self.ticks = self.orders = self.late = self.latest = 0
+        self.sink, self.pages = Sink(fails), []
         hooks = (model.south_hooks if head.south else model.plain_hooks)(len(head.starts))
         self.rings = model.run(grid, head.starts, head.clients, head.limits, hooks, [])
         self.world, self.out, self.limited, self.closed = self.rings.world, [], False, set()
+
+    def resume(self, name, number, text):
+        """The fleet goes on from a chapter. Its lanes are new, also those of clients that are closed."""
+        self.world, self.head.limits = talk.reopened(self.grid, self.head, name, number, text)
+        self.head.clients = len(self.world.taken)
+        self.rings = talk.new_rings(self.world)
 
     def say(self, mark, line):
         self.out.append((mark + b" " if mark is not None else b"") + line.encode("latin-1") + b"\n")
 
     def event(self, *event):
-        return model._event(self.rings, self.world, event, self.head.limits, self.head.clients)
+        reply = model._event(self.rings, self.world, event, self.head.limits, self.head.clients)
+        self.orders += reply[0] == "took"
+        return reply
 
     def turn_page(self):
         """The next chapter; the one before is handed out."""
@@ -68,9 +84,9 @@ class Live:
 
     def keep(self):
         """Keeps what was handed out, after what waits."""
-        self.shelf.waiting += self.pages
+        self.sink.waiting += self.pages
         self.pages = []
-        if not self.shelf.keep() and len(self.shelf.waiting) >= MOST_WAITING:
+        if not self.sink.keep() and len(self.sink.waiting) >= MOST_WAITING:
             raise Unkept()
 
     def give_all(self):
@@ -158,6 +174,60 @@ class Live:
                 self.say(None, self.tick_line())
         self.say(mark, self.tick_line())
 
+    def counts(self):
+        """The line of a minute."""
+        waits = [wait for wait in self.world.waits if wait is not None]
+        most = len(self.head.starts) * max(1, self.grid.floor_count() - 1)
+        limit = f" below {most}" if self.grid.first_bridge() is None else ""
+        seconds = 60 + (self.now - self.line_due) // 1_000_000
+        self.say(None, f"seconds {seconds} ticks {self.ticks} orders {self.orders} late {self.late} latest {self.latest}us wait {max(waits, default=0)}{limit}")
+        self.ticks = self.orders = self.late = self.latest = 0
+        self.line_due = self.now + 60_000_000
+
+    def try_to_keep(self):
+        """Keeps what waits, and says so where that fails."""
+        try:
+            self.keep()
+        finally:
+            if self.sink.waiting:
+                self.say(None, f"fleet: file chapter-{len(self.sink.kept)}.json")
+                self.retry = self.now + 1_000_000
+
+    def pass_time(self, micros):
+        """Moves the clock on, and makes the turn that is due. False where the fleet ends."""
+        self.now += micros
+        if self.now < self.due:
+            return True
+        late = self.now - self.due
+        self.late += late >= self.period
+        self.latest = max(self.latest, late)
+        room = self.in_chapters(self.turned)
+        self.tell_all()
+        if not room or not self.made:
+            self.limited = True
+            return False
+        self.ticks += 1
+        if self.watch:
+            self.say(None, self.tick_line())
+        self.due += self.period * (late // self.period + 1)
+        if self.now >= self.line_due:
+            self.counts()
+        if self.pages or (self.sink.waiting and self.now >= self.retry):
+            self.try_to_keep()
+        return True
+
+    def pipe_line(self, number, raw):
+        """A line of client 0, which has pipes of its own."""
+        kind, what, mark = talk.kind_of(raw)
+        if kind == "nothing":
+            return
+        if kind == "look":
+            self.say(mark, talk.look_line(self.world))
+        elif kind == "events" and what[0][0] == "post" and what[0][1] == 0:
+            self.post(mark, 0, what[0][2])
+        else:
+            self.say(mark, f"bad-line {number}")
+
     def post(self, mark, client, order):
         if client < self.head.clients and client in self.closed:
             return self.say(mark, f"post-refused {client} 1 closed")
@@ -214,8 +284,10 @@ class Live:
         elif kind == "header" and what in ([b"watch", b"on"], [b"watch", b"off"]):
             self.watch = what[1] == b"on"
             self.say(mark, "watch " + what[1].decode())
-        elif kind == "events" and what[0][0] == "tick":
+        elif kind == "events" and what[0][0] == "tick" and self.period is None:
             self.tick(mark, len(what))
+        elif kind == "events" and what[0][0] == "post" and what[0][1] < self.first:
+            self.say(mark, f"no-client {what[0][1]}")
         elif kind == "events" and what[0][0] == "post":
             self.post(mark, what[0][1], what[0][2])
         elif kind == "events" and what[0][0] == "shut":
@@ -254,19 +326,30 @@ class Live:
                     pass
         else:
             self.tell_all()
-        self.shelf.waiting += self.pages
-        kept = self.shelf.keep()
+        self.sink.waiting += self.pages
+        kept = self.sink.keep()
         if kept:
-            self.shelf.waiting.append(len(self.world.entries))
-            kept = self.shelf.keep()
-        self.say(None, f"ended {self.world.ticks}")
+            self.sink.waiting.append(len(self.world.entries))
+            kept = self.sink.keep()
+        for _ in range(1 + self.first):
+            self.say(None, f"ended {self.world.ticks}")
         return kept
 
 
 def hold(held, lines):
     """Whether chapters could be kept as long as lines were read."""
+    number = printed = 0
     try:
-        for number, raw in enumerate(model.split_lines(lines, cr=False), 1):
+        for raw in model.split_lines(lines, cr=False):
+            if held.period is not None and raw.startswith(b"~ "):
+                count, *micros = map(int, raw.split()[1:])
+                if len(held.out) != printed + count:
+                    raise ValueError(f"{len(held.out) - printed} lines were printed, and the case says {raw!r}")
+                printed += count
+                if micros and not held.pass_time(*micros):
+                    break
+                continue
+            number += 1
             if not held.line(number, raw):
                 break
             if held.pages:
@@ -276,28 +359,51 @@ def hold(held, lines):
     return True
 
 
-def live(text, script, lines, watch=False, fails=0):
-    """(output, error text, status, entries of the chapters that were kept)"""
-    held = Live(model.Grid(*model.read_map(text)), talk.head_of(script), watch, fails)
+def live(text, script, lines, watch=False, fails=0, kept=None, period=None, pipe=b""):
+    """(output, error text, status, entries of the chapters that were kept); `kept` is as for a conversation"""
+    held = Live(model.Grid(*model.read_map(text)), talk.head_of(script), watch, fails, period, bool(pipe))
+    if kept is not None:
+        try:
+            held.resume(*kept)
+        except model.Stop as stop:
+            return b"", stop.args[1] + "\n", stop.args[0], []
+    for number, raw in enumerate(model.split_lines(pipe, cr=False), 1):
+        held.pipe_line(number, raw)
     good = hold(held, lines)
     good = held.end() and good
     output = b"".join(held.out)
     if not good:
-        return output, "fleet: file\n", 3, held.shelf.kept
+        return output, "fleet: file\n", 3, held.sink.kept
     if held.limited:
-        return output, "fleet: limit\n", 8, held.shelf.kept
-    return output, "", 0, held.shelf.kept
+        return output, "fleet: limit\n", 8, held.sink.kept
+    return output, "", 0, held.sink.kept
+
+
+UNITS = {"us": 1, "ms": 1_000, "s": 1_000_000}
+
+
+def micros_of(time):
+    """The microseconds of a word such as `20ms`."""
+    digits = time.rstrip("ums")
+    return int(digits) * UNITS[time[len(digits):]]
 
 
 def tell(name, options, lines):
     """What the program has to print of a case."""
-    script = b"robots 0 8\nclients 2\n"
+    script, chapter, pipe, period = b"robots 0 8\nclients 2\n", None, b"", None
     for option in options:
         word, _, more = option.partition(b" ")
         if word == b"script":
             script += more + b"\n"
+        elif word == b"kept":
+            number, _, told = more.partition(b" ")
+            chapter = "kept.json", int(number), told
+        elif word == b"pipe":
+            pipe += more + b"\n"
+        elif word == b"period":
+            period = micros_of(more.decode())
     fails = float("inf") if b"fails always" in options else options.count(b"fails")
-    output, error, status, kept = live(talk.model_map(b"ring"), script, lines, b"watch" in options, fails)
+    output, error, status, kept = live(talk.model_map(b"ring"), script, lines, b"watch" in options, fails, chapter, period, pipe)
     told = f"{error}status {status}\nkept chapters {len(kept)} entries {sum(kept)}\n"
     return b"case: " + name + b"\n" + output + told.encode()
 
@@ -308,11 +414,12 @@ def main(words):
             for case in talk.cases(file.read(), b"live"):
                 sys.stdout.buffer.write(tell(*case))
         return 0
+    kept, words = talk.kept_in(words)
     if {"--help", "-h"} & set(words) or len([word for word in words if not word.startswith("--")]) != 2:
         print(__doc__.strip())
         return 0 if {"--help", "-h"} & set(words) else 2
     texts = [open(name, "rb").read() for name in words if not name.startswith("--")]
-    out, error, status, _ = live(texts[0], texts[1], sys.stdin.buffer.read(), "--watch" in words)
+    out, error, status, _ = live(texts[0], texts[1], sys.stdin.buffer.read(), "--watch" in words, kept=kept)
     sys.stdout.buffer.write(out)
     sys.stderr.write(error)
     return status

@@ -160,6 +160,76 @@ def agents_fault(rng, lines):
     return lines, ("", 6, f"fleet: plan {robot + 1}\n")
 
 
+def as_table(rng, places):
+    """Returns the lines of the plan as a table, or None where paths cannot say it."""
+    lines = as_agents(rng, places)
+    if lines is None:
+        return None
+    rows = ["agent,time,row,column"]
+    for robot, line in enumerate(lines):
+        rows += [f"{robot},{time},{y},{x}" for time, (y, x) in enumerate(re.findall(r"\((\d+),(\d+)\)", line))]
+    return rows
+
+
+def table_fault(rng, lines):
+    """Returns the lines of a table with one that does not say the next cell, or without their end, and what is to be said."""
+    at = rng.randrange(1, len(lines))
+    robot, time, row, column = lines[at].split(",")
+    wrong = [
+        f"{int(robot) + 2},{time},{row},{column}",
+        f"{robot},{int(time) + 1},{row},{column}",
+        f"{robot},{time},{row}",
+        f"{robot},{time},{row},{column},",
+        f"{robot},{time},{row},-{column}",
+        f"{robot},{time},{row},{column}.0",
+        f"{robot}, {time},{row},{column}",
+        f"{robot};{time};{row};{column}",
+        "",
+        "agent,time,row,column",
+    ]
+    if at > 1:
+        wrong.append(lines[at - 1])
+    return [*lines[:at], rng.choice(wrong), *lines[at + 1 :]], ("", 6, f"fleet: plan {at + 1}\n")
+
+
+def as_schedule(rng, places):
+    """Returns the lines of the plan as YAML, or None where paths cannot say it."""
+    table = as_table(rng, places)
+    if table is None:
+        return None
+    lines = ["statistics:", "  cost: 6", "  runtime: 0.1"] if rng.random() < 0.7 else []
+    lines.append("schedule:")
+    for row in table[1:]:
+        robot, time, y, x = row.split(",")
+        if time == "0":
+            lines.append(f"  agent{robot}:")
+        lines += [f"    - x: {x}", f"      y: {y}", f"      t: {time}"]
+    return lines
+
+
+def schedule_fault(rng, lines):
+    """Returns the lines of a schedule with a fault, and what is to be said."""
+    first = lines.index("schedule:") + 1
+    kind = rng.randrange(6)
+    if kind == 0:
+        return lines[: first - 1] or ["statistics:"], ("", 6, f"fleet: plan {max(first, 2)} cut\n")
+    if kind == 1:
+        return lines[:first], ("", 6, f"fleet: plan {first + 1} cut\n")
+    at = rng.randrange(first, len(lines))
+    while not (lines[at].startswith("      t:") if kind in (2, 3) else True):
+        at = rng.randrange(first, len(lines))
+    lines = list(lines)
+    if kind == 2:
+        lines[at] = f"      t: {int(lines[at].split()[1]) + 1}"
+    elif kind == 3:
+        lines[at - 1] = rng.choice(["      y: -1", "      y:", "      y: a"])
+    elif kind == 4:
+        lines[at] = rng.choice(["", "  robot0:", "  agent0", "    x: 3", "    - y: 3", "z: 1", "# agent0:"])
+    else:
+        lines.insert(at, "  cost: 3")
+    return lines, ("", 6, f"fleet: plan {at + 1}\n")
+
+
 def as_value(rng, places):
     """Returns the plan as a JSON value, or None where moves cannot say it."""
     tracks = tracks_of(places)

@@ -231,6 +231,15 @@ def reopened(grid, head, name, number, text):
     return w, limits
 
 
+def new_rings(w):
+    """The empty rings of a world that goes on."""
+    rings, clients = model.Played(), len(w.taken)
+    rings.lanes, rings.outlets, rings.collected, rings.given = ([[] for _ in range(clients)] for _ in range(4))
+    # an order's number is counted over all chapters
+    rings.sent = [[None] * taken for taken in w.taken]
+    return rings
+
+
 class Talk:
     def __init__(self, grid, head, marks, roll):
         self.grid, self.head, self.marks, self.roll = grid, head, marks, roll
@@ -239,12 +248,8 @@ class Talk:
     def resume(self, name, number, text):
         """The fleet goes on from a chapter, and is open."""
         self.world, self.head.limits = reopened(self.grid, self.head, name, number, text)
-        clients = len(self.world.taken)
-        self.head.clients = clients
-        self.rings = model.Played()
-        self.rings.lanes, self.rings.outlets, self.rings.collected, self.rings.given = ([[] for _ in range(clients)] for _ in range(4))
-        # an order's number is counted over all chapters
-        self.rings.sent = [[None] * taken for taken in self.world.taken]
+        self.head.clients = len(self.world.taken)
+        self.rings = new_rings(self.world)
 
     def say(self, mark, lines):
         for line in lines:
@@ -401,6 +406,17 @@ def model_map(name):
     return MAPS[name]
 
 
+def kept_in(words):
+    """The chapter that words name after --resume, if they do, and the other words."""
+    if "--resume" not in words:
+        return None, words
+    at = words.index("--resume")
+    name = words[at + 1]
+    number = int(re.fullmatch(r"(?:.*/)?chapter-(\d+)\.json", name)[1])
+    with open(name, "rb") as file:
+        return (name, number, file.read()), words[:at] + words[at + 2:]
+
+
 def main(words):
     if {"--help", "-h"} & set(words):
         print(__doc__.strip())
@@ -410,14 +426,7 @@ def main(words):
             for case in cases(file.read(), b"talk"):
                 sys.stdout.buffer.write(tell(*case))
         return 0
-    kept = None
-    if "--resume" in words:
-        at = words.index("--resume")
-        name = words[at + 1]
-        number = int(re.fullmatch(r"(?:.*/)?chapter-(\d+)\.json", name)[1])
-        with open(name, "rb") as file:
-            kept = name, number, file.read()
-        words = words[:at] + words[at + 2:]
+    kept, words = kept_in(words)
     names = [word for word in words if not word.startswith("--")]
     texts = [open(name, "rb").read() for name in names] + [b""]
     out, error, status = talk(texts[0], texts[1], sys.stdin.buffer.read(), "--marks" in words, "--roll" in words, kept)

@@ -101,6 +101,7 @@ _FLEET, _TEXT = POINTER(CFleet), (c_char_p, c_size_t)
 # Each function's parameters. All but those in RESULTS answer a code.
 FUNCTIONS = {
     "version": (),
+    "is_proved": (),
     "message": (POINTER(CFault), POINTER(c_char), c_size_t),
     "setup_default": (c_uint32, POINTER(CSetup)),
     "setup_endless": (c_uint32, POINTER(CSetup)),
@@ -157,7 +158,7 @@ FUNCTIONS = {
 }
 RESULTS = {
     "setup_default": None, "setup_endless": None, "close": None, "map_close": None, "chapter_close": None,
-    "version": c_uint32, "message": c_size_t,
+    "version": c_uint32, "is_proved": c_bool, "message": c_size_t,
 }
 
 # The version of nashirudder.h that these are of, as NASHIRUDDER_VERSION / 100: major and minor numbers
@@ -209,3 +210,12 @@ def check(code: int, fault: Optional[CFault] = None) -> None:
     refused = refusal(next((known.word for known in Code if known == code), "unknown"), numbers)
     refused.sentence = message_of(code, numbers)
     raise refused
+
+
+def is_proved(built: Optional[Place] = None) -> bool:
+    """Whether each function of the library was proved before it was built. False of a library that
+    `tools/build_c --quick` built, which has run-time checks in the place of proofs.
+
+    Raises Missing if no library is found.
+    """
+    return bool(load(built).nashirudder_is_proved())

@@ -5,16 +5,36 @@
 import fcntl
 import os
 import pathlib
+import re
+from dataclasses import dataclass
+from typing import Optional, Set
 
 from .errors import FileFailed
 
+_MOST_BYTES = 2**30
+
+
+@dataclass(frozen=True)
+class KeptChapter:
+    """The file of a chapter: the chapter's number by its name, the name, and what is in it."""
+
+    number: int
+    name: str
+    text: bytes
+
 
 class ChapterFolder:
-    """A folder without chapters, for one fleet alone. It is locked as long as the fleet is open."""
+    """A folder for one fleet alone. It is locked as long as the fleet is open.
 
-    def __init__(self, path: str) -> None:
-        """Raises FileFailed if it is not there, cannot be written, has chapters or belongs to another fleet that is
-        open.
+    It has no chapters, or, with `resume`, the fleet goes on from the last of them, `last`.
+    """
+
+    last: Optional[KeptChapter] = None
+
+    def __init__(self, path: str, resume: bool = False) -> None:
+        """Raises FileFailed if it is not there, cannot be written or belongs to another fleet that is open. Without
+        `resume` it does so if the folder has chapters, and with it if a file is nearly named as a chapter, one is
+        missing between two others, or the last one cannot be read.
         """
         self._path = pathlib.Path(path).absolute()
         self._lock_name = self._path / "fleet.lock"
@@ -27,11 +47,45 @@ class ChapterFolder:
         except OSError as error:
             self._lock.close()
             raise FileFailed(f"the folder {path} is in use by another fleet") from error
-        if any(self._path.glob("chapter-*.json")):
+        try:
+            self.last = self._last() if resume else self._none(path)
+        except FileFailed:
             self.let_go()
-            raise FileFailed(f"the folder {path} has chapters of another fleet")
+            raise
         self._lock.write("a fleet keeps its chapters here\n")
         self._lock.flush()
+
+    def _none(self, path: str) -> None:
+        if any(self._path.glob("chapter-*.json")):
+            raise FileFailed(f"the folder {path} has chapters of another fleet")
+
+    def _numbers(self) -> Set[int]:
+        """The numbers of the chapters that are there."""
+        numbers = set()
+        for file in self._path.glob("chapter-*.json"):
+            digits = file.name[len("chapter-") : -len(".json")]
+            if not re.fullmatch("0|[1-9][0-9]{0,9}", digits) or int(digits) >= 2**32:
+                raise FileFailed(f"the fleet does not go on: {file}: no chapter has this name")
+            numbers.add(int(digits))
+        return numbers
+
+    def _last(self) -> Optional[KeptChapter]:
+        """The last chapter, if there is one."""
+        numbers = self._numbers()
+        if not numbers:
+            return None
+        first, number = min(numbers), max(numbers)
+        file = self._path / f"chapter-{number}.json"
+        if len(numbers) <= number - first:
+            missing = next(one for one in range(number, first, -1) if one not in numbers)
+            absent = self._path / f"chapter-{missing}.json"
+            raise FileFailed(f"the fleet does not go on: {absent}: it is missing, and a later chapter is there")
+        try:
+            if file.stat().st_size > _MOST_BYTES:
+                raise OSError("it has more than 1,073,741,824 bytes")
+            return KeptChapter(number, str(file), file.read_bytes())
+        except OSError as error:
+            raise FileFailed(f"the fleet does not go on: {file}: it cannot be read: {error}") from error
 
     def write(self, number: int, text: str) -> None:
         """Writes a chapter next to its place, down to the disk. Raises FileFailed, and leaves nothing there, if that

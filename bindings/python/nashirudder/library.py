@@ -13,12 +13,13 @@ from typing import Callable, Deque, Dict, List, Optional, Sequence, TypeVar
 
 from . import opening
 from .asked import CloseClient, Go, Withdraw
-from .calls import FAR
+from .calls import FAR, is_proved
 from .ended import EndedChapter
 from .errors import Ended, FileFailed, NoMemory, OutOfRange, OrderRefused, Refused, refusal
 from .finding import Place
 from .fleet import AnyFleet
 from .folder import ChapterFolder
+from .going_on import reopened
 from .handle import Handle
 from .map_handle import Map
 from .maps import check_step, distances, first_bridge, judge
@@ -31,7 +32,7 @@ __all__ = [
     "FAR", "Account", "Arrival", "Chapter", "CloseClient", "Code", "EndedChapter", "Errand", "Farewell", "Fleet", "Go",
     "Handle", "Judgement",
     "Look", "Map", "Notice", "OpenErrand", "OrderRefused", "Refused", "Report", "Standing", "Taken", "TickRecord",
-    "Verdict", "Withdraw", "check_step", "distances", "first_bridge", "judge",
+    "Verdict", "Withdraw", "check_step", "distances", "first_bridge", "is_proved", "judge",
 ]
 
 T = TypeVar("T")
@@ -42,7 +43,8 @@ _LANE = 64
 
 class Fleet(AnyFleet):
     """A fleet in this process. It has the names, arguments and exceptions of `nashirudder.Fleet`, and the same limits
-    if none are given.
+    if none are given. With `resume` it goes on from the last chapter in `traces`, also from one that `fleet talk` or
+    `fleet live` kept.
 
     `built` is the library, or a folder that has it. `ties` is "plain": "south" is refused by OutOfRange. (A robot's own
     ranks, by which "south" chooses, are for `Handle`.)
@@ -56,6 +58,7 @@ class Fleet(AnyFleet):
         *,
         ties: str = "plain",
         traces: Optional[Place] = None,
+        resume: bool = False,
         roll: bool = True,
         built: Optional[Place] = None,
         timeout: Optional[float] = None,
@@ -64,6 +67,7 @@ class Fleet(AnyFleet):
         told = opening.checked(map, robots, clients, ties, traces, limits)
         if told.ties != "plain":
             raise OutOfRange(f'ties {told.ties!r} are for nashirudder.Fleet alone; in this process they are "plain"')
+        opening.need_traces(told, resume)
         super().__init__(timeout)
         self._roll = roll
         self._clients = told.clients
@@ -72,15 +76,19 @@ class Fleet(AnyFleet):
         self._lanes: Dict[int, Deque[Order]] = {client: deque() for client in range(told.clients)}
         self._status: Optional[int] = None
         self._is_closed = self._is_limited = False
-        self._folder = None if told.traces is None else ChapterFolder(told.traces)
+        self._folder = None if told.traces is None else ChapterFolder(told.traces, resume)
         try:
-            limits = {**opening.ENDLESS, **told.limits}
-            self._handle = Handle(opening.read_map(told.map), told.robots, told.clients, built=built, **limits)
+            kept = None if self._folder is None else self._folder.last
+            if kept is None:
+                limits = {**opening.ENDLESS, **told.limits}
+                self._handle = Handle(opening.read_map(told.map), told.robots, told.clients, built=built, **limits)
+            else:
+                self._handle, self._number = reopened(told, kept, built), kept.number + 1
         except BaseException:
             if self._folder is not None:
                 self._folder.let_go()
             raise
-        self._cells = told.robots
+        self._cells = [int(cell) for cell in self._handle.placement()]
 
     # ---- what AnyFleet asks for
 

@@ -7,7 +7,7 @@ from . import finding, opening
 from .arrays import as_cells
 from .caller import Caller, OnTick
 from .closing import Closing
-from .errors import Refused, Waiting, refusal
+from .errors import OutOfRange, Refused, Waiting, refusal
 from .finding import Place
 from .fleet import MOST_TICKS
 from .names import Verdict, verdict_in
@@ -71,8 +71,9 @@ class LiveFleet(Closing):
     With two `tickers` turns go on while a full chapter is written. `on_tick` is called with the number of each tick and
     the robots' cells, in a thread of its own, in which it may call any method; an exception of it is reported as that
     of any thread, and the next tick is told all the same. While it is slower than the fleet, ticks are left out. A full
-    chapter is followed by the next. The other words are those of `Fleet`, and so are the exceptions. Any thread may
-    call any method.
+    chapter is followed by the next. With `keep_every_ms` a chapter is written to `traces` at least once in this many
+    milliseconds, 0.001 to 3,600,000, so that a fleet that is killed loses no more than that. The other words are those
+    of `Fleet`, and so are the exceptions. Any thread may call any method.
     """
 
     def __init__(
@@ -86,6 +87,8 @@ class LiveFleet(Closing):
         on_tick: Optional[OnTick] = None,
         ties: str = "plain",
         traces: Optional[Place] = None,
+        resume: bool = False,
+        keep_every_ms: Optional[float] = None,
         built: Optional[Place] = None,
         timeout: Optional[float] = None,
         **limits: int,
@@ -96,8 +99,11 @@ class LiveFleet(Closing):
             words += ["--period", f"{round(period_ms * 1000)}us", "--tickers", str(whole_number("tickers", tickers))]
         if on_tick is not None:
             words.append("--watch")
-        if told.traces is not None:
-            words += ["--traces", told.traces]
+        words += opening.trace_words(told, resume)
+        if keep_every_ms is not None:
+            if told.traces is None:
+                raise OutOfRange("a fleet that keeps a chapter so often has a folder for traces")
+            words += ["--keep-every", f"{round(keep_every_ms * 1000)}us"]
         self._marks = 0
         self._pending: Dict[int, Asked] = {}
         self._orders: Dict[Tuple[int, int], Order] = {}

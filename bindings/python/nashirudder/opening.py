@@ -90,6 +90,21 @@ def read_map(path: Place) -> bytes:
         raise _no_map(path, error) from error
 
 
+def trace_words(told: Opening, resume: bool) -> List[str]:
+    """The words of the program that say where chapters are kept, and whether the fleet goes on from the last one there.
+    """
+    if told.traces is None:
+        need_traces(told, resume)
+        return []
+    return ["--traces", told.traces, "--resume"] if resume else ["--traces", told.traces]
+
+
+def need_traces(told: Opening, resume: bool) -> None:
+    """Raises OutOfRange if a fleet is to go on and has no folder for traces."""
+    if resume and told.traces is None:
+        raise OutOfRange("a fleet that goes on has a folder for traces")
+
+
 def checked(
     map: Place, robots: Sequence[int], clients: int, ties: str, traces: Optional[Place], limits: Dict[str, int]
 ) -> Opening:

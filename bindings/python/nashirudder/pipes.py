@@ -4,7 +4,7 @@ from collections import deque
 from typing import Deque, Dict, List, Optional, Sequence, Set
 
 from . import finding, opening
-from .errors import OutOfRange, Refused, refusal
+from .errors import Refused, refusal
 from .finding import Place
 from .fleet import AnyFleet
 from .names import Verdict, verdict_in
@@ -56,12 +56,7 @@ class Fleet(AnyFleet):
         words = [finding.program(built), "talk", "--marks"]
         if roll:
             words.append("--roll")
-        if told.traces is not None:
-            words += ["--traces", told.traces]
-        if resume:
-            if told.traces is None:
-                raise OutOfRange("a fleet that goes on has a folder for traces")
-            words.append("--resume")
+        words += opening.trace_words(told, resume)
         super().__init__(timeout)
         self._pending: Deque[Asked] = deque()
         self._lanes: Dict[int, Deque[Order]] = {}

@@ -5,6 +5,7 @@ import queue
 import subprocess
 import tempfile
 import threading
+import time
 from typing import IO, Any, Callable, Iterator, List, Optional, Sequence, TypeVar, cast
 
 from .errors import Ended, FileFailed, FleetError, Late, Missing, NoMemory, refusal
@@ -90,7 +91,11 @@ class Program:
         self.timeout = timeout
         self.status: Optional[int] = None
         self.is_closed = False
-        self.changed = threading.Condition()
+        # Held while what was asked and heard changes, or is looked at
+        self._lock = threading.RLock()
+        # A queue for each caller that waits. An exception of a signal handler may leave a threading.Condition with a lock
+        # that is not held.
+        self._waiting: List["queue.SimpleQueue[None]"] = []
         self._noted, self._hear = noted, hear
         self._is_over = False
         self._misheard: Optional[str] = None
@@ -120,7 +125,7 @@ class Program:
                 if asked is None:
                     stdin.close()
                     return
-                with self.changed:
+                with self._lock:
                     text = self._noted(asked)
                 stdin.write(text.encode())
                 stdin.flush()
@@ -137,28 +142,49 @@ class Program:
             for line in stdout:
                 if not line.endswith(b"\n"):
                     break
-                with self.changed:
+                with self._lock:
                     self._hear(line.decode().split())
-                    self.changed.notify_all()
+                    self._wake()
         except (ValueError, LookupError):
             # Another program, or one of another version.
             self._misheard = f"it said what is no line of the protocol: {line[:200]!r}"
             self.process.kill()
         finally:
-            with self.changed:
+            with self._lock:
                 self._is_over = True
-                self.changed.notify_all()
+                self._wake()
+
+    def _wake(self) -> None:
+        """Lets those who wait look again."""
+        for news in self._waiting:
+            if news.empty():
+                news.put(None)
 
     # ---- calls
 
     def wait(self, done: Callable[[], bool], timeout: Optional[float] = None) -> bool:
         """Waits until that is so. Returns False if the time went by. Raises what the program ended with."""
-        with self.changed:
-            self.changed.wait_for(lambda: done() or self._is_over, timeout)
-            if done():
-                return True
-            if not self._is_over:
-                return False
+        news: "queue.SimpleQueue[None]" = queue.SimpleQueue()
+        deadline = None if timeout is None else time.monotonic() + timeout
+        is_late = False
+        try:
+            with self._lock:
+                self._waiting.append(news)
+            while True:
+                with self._lock:
+                    if done():
+                        return True
+                    if self._is_over:
+                        break
+                if is_late:
+                    return False
+                try:
+                    news.get(timeout=None if deadline is None else max(0.0, deadline - time.monotonic()))
+                except queue.Empty:
+                    is_late = True
+        finally:
+            with self._lock, contextlib.suppress(ValueError):
+                self._waiting.remove(news)
         raise self._ended()
 
     def ask(self, *commands: str, order: Optional[Order] = None) -> List[List[List[str]]]:

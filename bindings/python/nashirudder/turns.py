@@ -14,7 +14,8 @@ class _Call:
     """A call, and what it returned or raised."""
 
     def __init__(self, call: Callable[[], Any]) -> None:
-        self.is_done = threading.Event()
+        # A queue in the place of an event, which an exception of a signal handler may leave with a lock that is not held
+        self._done: "queue.SimpleQueue[None]" = queue.SimpleQueue()
         self._call = call
         self._result: Any = None
         self._error: Optional[BaseException] = None
@@ -24,9 +25,14 @@ class _Call:
             self._result = self._call()
         except BaseException as error:
             self._error = error
-        self.is_done.set()
+        self._done.put(None)
 
-    def result(self) -> Any:
+    def result(self, timeout: Optional[float]) -> Any:
+        """What the call returned, once it is done. Raises what it raised, or Late if it takes too long."""
+        try:
+            self._done.get(timeout=timeout)
+        except queue.Empty:
+            raise Late(f"not done in {timeout} seconds") from None
         if self._error is not None:
             raise self._error
         return self._result
@@ -58,6 +64,4 @@ class Turns:
         """Has a call made, after those before it, and returns what it returns. Raises Late if it takes too long."""
         waiting = _Call(call)
         self._calls.put(waiting)
-        if not waiting.is_done.wait(timeout):
-            raise Late(f"not done in {timeout} seconds")
-        return cast(T, waiting.result())
+        return cast(T, waiting.result(timeout))

@@ -345,6 +345,13 @@ fn check_told(code: u32, fault: &RawFault) -> Result<(), Refused> {
     }
 }
 
+/// Whether each function of the library was proved before it was built. False of a library that `tools/build_c --quick`
+/// built, which has run-time checks in the place of proofs.
+pub fn is_proved() -> bool {
+    // SAFETY: the call takes nothing.
+    unsafe { raw::nashirudder_is_proved() }
+}
+
 /// The library is of this crate's version.
 fn check_version() -> Result<(), Refused> {
     // SAFETY: the call takes nothing.

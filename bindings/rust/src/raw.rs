@@ -133,6 +133,7 @@ pub(crate) struct RawEdge {
 
 extern "C" {
     pub(crate) fn nashirudder_version() -> u32;
+    pub(crate) fn nashirudder_is_proved() -> bool;
     pub(crate) fn nashirudder_message(
         fault: *const RawFault,
         text: *mut u8,

@@ -1,7 +1,7 @@
 //! Calls of the library. What is wanted is worked out by hand.
 
 use nashirudder::{
-    check_step, distances, first_bridge, judge, Account, Arrival, Code, Fleet, Map, Notice, OpenErrand, Order, Refused, Report, Robot,
+    check_step, distances, first_bridge, is_proved, judge, Account, Arrival, Code, Fleet, Map, Notice, OpenErrand, Order, Refused, Report, Robot,
     Setup, Shape, Shown, Standing, State, Verdict,
 };
 
@@ -36,6 +36,14 @@ fn plays_a_run() -> Result<(), Refused> {
     assert!(fleet.is_idle()? && fleet.eldest()?.is_none() && fleet.wait_of(0)?.is_none());
     assert!(!fleet.is_bridgeless()? && fleet.idle_within()?.is_none());
     Ok(())
+}
+
+#[test]
+fn says_whether_it_is_proved() {
+    // Set by tools/build_c
+    if let Ok(proved) = std::env::var("NASHIRUDDER_PROVED") {
+        assert_eq!(is_proved(), proved == "yes");
+    }
 }
 
 #[test]

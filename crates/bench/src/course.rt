@@ -6,8 +6,9 @@ ghost use Rattle.bench.specs.Fleet.{field_of, goal_of, distance_of, AreFields};
 
 use fleet_field::Compass;
 use fleet_grid::{Grid, Outlook, Ways};
-use fleet_pibt::{Goals, Guide};
+use fleet_pibt::Guide;
 use std::alloc::Allocator;
+use std::convert::Infallible;
 
 /// Robots and their fields.
 #[derive(Drop)]
@@ -28,38 +29,33 @@ impl<'a> Course<'a> {
     }
 }
 
-impl<'a> Goals for Course<'a> {
+impl<'a> Guide for Course<'a> {
+    type Fault = Infallible;
+
     ghost goal_of = { λ s robot. goal_of s.fields.now s.aims.now robot };
 
-    ghost distance = { λ s robot cell. distance_of s.fields.now s.aims.now robot cell };
+    ghost distance = { λ s _ robot cell. distance_of s.fields.now s.aims.now robot cell };
 
-    fn goal(&self, robot: u32) -> Option<u32> {
-        Some(self.field(robot)?.goal())
-    }
-
-    fn at(&self, robot: u32, cell: u32) -> Option<u32> {
-        let field = self.field(robot)?;
-        field.at(cell)
-    }
-
-    fn ways<A: Allocator + Copy>(&self, grid: &Grid<A>, robot: u32, cell: u32) -> Ways {
-        match self.field(robot) {
-            Some(field) => field.ways(grid, cell),
-            None => Ways::NONE,
-        }
-    }
-}
-
-impl<'a> Guide for Course<'a> {
     ghost shows = { λ s m. AreFields m s.fields.now };
 
-    fn outlook<A: Allocator + Copy>(&self, grid: &Grid<A>, robot: u32, cell: u32) -> Outlook {
-        match self.field(robot) {
+    ghost stays = { λ _ _. Unit {0} };
+
+    ghost stays_same = { λ _. tt };
+
+    ghost stays_on = { λ _ _ _ _ _. tt };
+
+    fn outlook<A: Allocator + Copy>(
+        &mut self,
+        grid: &Grid<A>,
+        robot: u32,
+        cell: u32,
+    ) -> Result<Outlook, Infallible> {
+        Ok(match self.field(robot) {
             Some(field) => field.outlook(grid, cell),
             None => Outlook {
                 nearer: Ways::NONE,
                 exits: grid.exits(cell),
             },
-        }
+        })
     }
 }

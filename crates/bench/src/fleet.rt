@@ -77,19 +77,21 @@ impl Fleet {
         ensures robots { vec_len self.new.from ≡ vec_len self.old.from }
         ensures conflict_free { IsConflictFree site.now.grid self.old.from.items self.new.from.items }
     {
-        let course = Course {
+        let mut course = Course {
             fields,
             aims: &self.aims,
         };
-        stepper.step_by(
+        match stepper.step_by(
             &site.grid,
             &self.from,
             &self.waits,
-            &course,
+            &mut course,
             ties,
             tick,
             &mut self.to,
-        );
+        ) {
+            Ok(()) => {}
+        }
         mem::swap(&mut self.from, &mut self.to);
     }
 

@@ -22,11 +22,11 @@ const CELLS: Work = Work::Run {
     before: 1,
 };
 
-/// With goals from stations, enough runs are made before the one that counts that each station was a goal: the C++
-/// program has the stations' fields before its first tick.
+/// With goals from stations, enough runs are made before the one that counts that each station was a goal twice, and has a
+/// whole field: the C++ program has the stations' fields before its first tick.
 const STATIONS: Work = Work::Run {
     name: "lifelong_stations",
-    before: 8,
+    before: 12,
 };
 
 /// The number of stations.

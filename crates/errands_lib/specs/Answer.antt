@@ -5,7 +5,7 @@ use Rattle.std.specs.List.{list_any}
 use Rattle.fleet_map.specs.declared.fault.MapFault.{MapFault}
 use Rattle.fleet_map.specs.Grammar.{Map, map_of}
 use Rattle.fleet_map.specs.Text.{lines_of}
-use Rattle.fleet_grid.specs.Floor.{Floor, IsNeighbour, floor_of}
+use Rattle.fleet_grid.specs.Floor.{Floor, IsNeighbour, floor_of_map}
 use Rattle.fleet_grid.specs.Walk.{IsBridgeless}
 use Rattle.fleet_book.specs.declared.event.Event.{Event}
 use Rattle.fleet_world.specs.declared.reply.Reply.{Reply}
@@ -35,10 +35,6 @@ use Rattle.errands_text.specs.Output.{run_text, is_limit_met}
 use Rattle.errands_text.specs.MapReport.{IsMapReport}
 use Rattle.errands_text.specs.Complaint.{complaint_line, status_of}
 use Rattle.errands_text.specs.Outcome.{Outcome, fault, good}
-
--- the map of a text, as a floor
-abbrev pub floor_of_map : Map → Floor
-floor_of_map m = floor_of m.height m.width m.cells
 
 -- a fault other than out of memory
 abbrev pub IsTraceNamed : TraceFault → Type 0

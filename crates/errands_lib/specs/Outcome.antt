@@ -4,7 +4,7 @@ use Rattle.std.specs.declared.alloc.Global.{Global}
 use Rattle.std.specs.List.{All}
 use Rattle.fleet_map.specs.declared.fault.MapFault.{MapFault}
 use Rattle.fleet_map.specs.Grammar.{Map, map_of}
-use Rattle.fleet_grid.specs.Floor.{Floor, IsNeighbour}
+use Rattle.fleet_grid.specs.Floor.{Floor, IsNeighbour, floor_of_map}
 use Rattle.fleet_grid.specs.Walk.{IsBridgeless}
 use Rattle.fleet_bound.specs.Bound.{WaitsAreBounded}
 use Rattle.fleet_core.specs.Core.{opening_of}
@@ -24,7 +24,7 @@ use Rattle.errands_text.specs.declared.said.Complaint.TheVariants as complaint
 use Rattle.fleet_script.specs.Script.{Plan, script_of}
 use Rattle.errands_text.specs.Kit.{KitLaws, chosen_laws}
 use Rattle.errands_text.specs.Outcome.{Outcome, fault}
-use Rattle.errands_lib.specs.Answer.{IsBundleOutcome, IsJudgeOutcome, IsMapOutcome, IsPartsOutcome, floor_of_map, limited}
+use Rattle.errands_lib.specs.Answer.{IsBundleOutcome, IsJudgeOutcome, IsMapOutcome, IsPartsOutcome, limited}
 
 -- ---- a script that is served on a map
 

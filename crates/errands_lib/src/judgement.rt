@@ -1,11 +1,12 @@
 //! The answer to a map and a trace.
 
 ghost use Rattle.std.specs.Prelude.{◌≡◌, IfOk, codes};
+ghost use Rattle.fleet_grid.specs.Floor.{floor_of_map};
 ghost use Rattle.fleet_map.specs.Form.{HasSides};
 ghost use Rattle.fleet_map.specs.Grammar.{view};
 ghost use Rattle.fleet_history.specs.History.{history_of};
 ghost use Rattle.errands_text.specs.Outcome.{good};
-ghost use Rattle.errands_lib.specs.Answer.{IsJudged, IsJudgeOutcome, IsTraceNamed, floor_of_map, illegal_at};
+ghost use Rattle.errands_lib.specs.Answer.{IsJudged, IsJudgeOutcome, IsTraceNamed, illegal_at};
 ghost use Rattle.errands_text.specs.Said.{said};
 ghost use Rattle.errands_text.specs.declared.said.Complaint.{Complaint};
 

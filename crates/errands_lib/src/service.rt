@@ -2,6 +2,7 @@
 
 ghost use Rattle.std.specs.Prelude.{◌≡◌, ◌≤◌, ◌<◌, ◌^◌, ◌++◌, true, length, List, ℕ, Ok, nat_lt, IfOk, OnOk, codes};
 ghost use Rattle.std.specs.List.{All};
+ghost use Rattle.fleet_grid.specs.Floor.{floor_of_map};
 ghost use Rattle.fleet_map.specs.Form.{HasSides};
 ghost use Rattle.fleet_map.specs.Grammar.{map_of, view};
 ghost use Rattle.fleet_history.specs.History.{history_of};
@@ -11,7 +12,7 @@ ghost use Rattle.fleet_trace.specs.Text.{trace_text};
 ghost use Rattle.fleet_serve.specs.Posted.{IsLine};
 ghost use Rattle.fleet_script.specs.Shown.{plan};
 ghost use Rattle.errands_text.specs.Kit.{kit_laws};
-ghost use Rattle.errands_lib.specs.Answer.{floor_of_map, limited};
+ghost use Rattle.errands_lib.specs.Answer.{limited};
 ghost use Rattle.errands_lib.specs.Outcome.{IsServed, IsServedScript, IsServeOutcome, IsJobOutcome, IsUnserved};
 ghost use Rattle.errands_text.specs.Said.{said};
 ghost use Rattle.errands_lib.specs.Asked.{is_serve};

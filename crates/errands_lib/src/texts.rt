@@ -2,11 +2,12 @@
 
 ghost use Rattle.std.specs.Prelude.{◌≡◌, ◌≤◌, ℕ, List, Ok, length, IfOk, string_bytes};
 ghost use Rattle.std.specs.List.{list_any};
+ghost use Rattle.fleet_grid.specs.Floor.{floor_of_map};
 ghost use Rattle.fleet_map.specs.Form.{HasSides};
 ghost use Rattle.fleet_map.specs.Grammar.{map_of, view};
 ghost use Rattle.fleet_core.specs.OpeningFaults.{IsNamed};
 ghost use Rattle.errands_text.specs.Output.{is_limit_met};
-ghost use Rattle.errands_lib.specs.Answer.{IsBundleOutcome, IsMapOutcome, IsDescribed, IsPartsOutcome, IsScriptOutcome, IsUnplayed, floor_of_map, limited, run_output, run_outcome};
+ghost use Rattle.errands_lib.specs.Answer.{IsBundleOutcome, IsMapOutcome, IsDescribed, IsPartsOutcome, IsScriptOutcome, IsUnplayed, limited, run_output, run_outcome};
 ghost use Rattle.errands_text.specs.Kit.{kit_laws};
 ghost use Rattle.errands_text.specs.Said.{said};
 ghost use Rattle.fleet_script.specs.Shown.{plan};

@@ -2,7 +2,7 @@
 
 ghost use Rattle.std.specs.Prelude.{None};
 
-use fleet_lib::{Chapter, Shelf, ShelfFault, trace_line, write_whole};
+use fleet_lib::{Chapter, ChapterSink, SinkFault, trace_line, write_whole};
 use std::alloc::{Alloc, Global};
 use std::fs::{self, File, Files, OpenFile};
 use std::io::ErrorKind;
@@ -19,18 +19,18 @@ fn write_synced<R: Files + Alloc<A = Global>>(
     rt: &R,
     name: &str,
     text: &[u8],
-) -> Result<(), ShelfFault> {
+) -> Result<(), SinkFault> {
     let mut file = match File::create(rt, name) {
         Ok(file) => file,
-        Err(fault) if fault.kind() == ErrorKind::OutOfMemory => return Err(ShelfFault::NoMemory),
-        Err(_) => return Err(ShelfFault::File),
+        Err(fault) if fault.kind() == ErrorKind::OutOfMemory => return Err(SinkFault::NoMemory),
+        Err(_) => return Err(SinkFault::File),
     };
     if !write_whole(&mut file, text) {
-        return Err(ShelfFault::File);
+        return Err(SinkFault::File);
     }
     match file.sync_all() {
         Ok(()) => Ok(()),
-        Err(_) => Err(ShelfFault::File),
+        Err(_) => Err(SinkFault::File),
     }
 }
 
@@ -41,11 +41,11 @@ fn write_beside<R: Files + Alloc<A = Global>>(
     beside: &str,
     name: &str,
     text: &[u8],
-) -> Result<(), ShelfFault> {
+) -> Result<(), SinkFault> {
     let written = match write_synced(rt, beside, text) {
         Ok(()) => match fs::rename(rt, beside, name) {
             Ok(()) => Ok(()),
-            Err(_) => Err(ShelfFault::File),
+            Err(_) => Err(SinkFault::File),
         },
         Err(fault) => Err(fault),
     };
@@ -55,10 +55,10 @@ fn write_beside<R: Files + Alloc<A = Global>>(
     written
 }
 
-impl<R: Files + Alloc<A = Global>> Shelf for TraceFolder<'_, R> {
+impl<R: Files + Alloc<A = Global>> ChapterSink for TraceFolder<'_, R> {
     ghost kept = { λ _. None };
 
-    fn keep(&mut self, chapter: &Chapter) -> Result<(), ShelfFault> {
+    fn keep(&mut self, chapter: &Chapter) -> Result<(), SinkFault> {
         let Some(folder) = self.name else {
             return Ok(());
         };

@@ -1,13 +1,16 @@
 //! The word `check`.
 
-use crate::ends::{MOST_MAP_BYTES, file_bytes};
-use fleet_lib::{Check, InputFault, MOST_PLAN_BYTES, Said, answer_check, fail, tell};
+use crate::ends::{FileFault, MOST_MAP_BYTES, complain, file_bytes};
+use fleet_lib::{Check, MOST_PLAN_BYTES, Said, answer_check, tell};
 use std::alloc::{Alloc, Global};
 use std::fs::Files;
 use std::io::Write;
 
 /// The answer to the files, which are opened and read in their order.
-fn answer_files<R: Files + Alloc<A = Global>>(rt: &R, check: &Check) -> Result<Said, InputFault> {
+fn answer_files<'a, R: Files + Alloc<A = Global>>(
+    rt: &R,
+    check: &'a Check,
+) -> Result<Said, FileFault<'a>> {
     let map = file_bytes(rt, check.map.as_str(), MOST_MAP_BYTES)?;
     let plan = file_bytes(rt, check.plan.as_str(), MOST_PLAN_BYTES)?;
     let Some(name) = &check.goals else {
@@ -28,6 +31,6 @@ pub(crate) fn run_check<R: Files + Alloc<A = Global>, W: Write, E: Write>(
 ) -> u8 {
     match answer_files(rt, check) {
         Ok(said) => tell(&said, output, error),
-        Err(fault) => fail(fault, error),
+        Err(fault) => complain(rt, fault, error),
     }
 }

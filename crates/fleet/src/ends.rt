@@ -2,31 +2,88 @@
 
 ghost use Rattle.std.specs.Prelude.{◌<◌, ◌≤◌, ◌^◌, vec_len, IfOk};
 
-use fleet_lib::{InputFault, read_up_to};
-use std::alloc::{Alloc, Global};
+use fleet_lib::{InputFault, fail, read_up_to, write_whole};
+use std::alloc::{Alloc, AllocError, Global};
 use std::fs::{File, Files};
-use std::io::ErrorKind;
+use std::io::{ErrorKind, Read, Write};
 
 /// The greatest length of a map, in bytes.
 pub(crate) const MOST_MAP_BYTES: usize = 16_777_216;
 
+/// Why the file with this name cannot be used.
+#[derive(Clone, Copy)]
+pub(crate) enum FileFault<'a> {
+    /// There is no such file.
+    Missing(&'a str),
+    /// It cannot be opened or read.
+    Unreadable(&'a str),
+    /// It is longer than such a file may be.
+    TooLarge(&'a str),
+    /// Memory ran out.
+    NoMemory,
+}
+
+impl<'a> From<AllocError> for FileFault<'a> {
+    fn from(_error: AllocError) -> FileFault<'a> {
+        FileFault::NoMemory
+    }
+}
+
+/// Why the file with this name was not read completely: it is too large if it has more to read.
+fn unread<'a, F: Read>(name: &'a str, file: &mut F, fault: InputFault) -> FileFault<'a> {
+    let mut piece = [0u8; 1];
+    match fault {
+        InputFault::NoMemory => FileFault::NoMemory,
+        InputFault::File => match file.read(&mut piece) {
+            Ok(_) => FileFault::TooLarge(name),
+            Err(_) => FileFault::Unreadable(name),
+        },
+    }
+}
+
 /// Everything that a file has, at most `most` bytes.
-pub(crate) fn file_bytes<R: Files + Alloc<A = Global>>(
+pub(crate) fn file_bytes<'a, R: Files + Alloc<A = Global>>(
     rt: &R,
-    name: &str,
+    name: &'a str,
     most: usize,
-) -> Result<Vec<u8>, InputFault>
+) -> Result<Vec<u8>, FileFault<'a>>
     requires { most < 2 ^ 32 }
     ensures { IfOk result (λ bytes. vec_len bytes ≤ most) }
 {
     match File::open(rt, name) {
-        Ok(mut file) => read_up_to(rt.alloc(), &mut file, most),
-        Err(fault) => {
-            if fault.kind() == ErrorKind::OutOfMemory {
-                Err(InputFault::NoMemory)
-            } else {
-                Err(InputFault::File)
-            }
+        Ok(mut file) => match read_up_to(rt.alloc(), &mut file, most) {
+            Ok(bytes) => Ok(bytes),
+            Err(fault) => Err(unread(name, &mut file, fault)),
+        },
+        Err(fault) => match fault.kind() {
+            ErrorKind::OutOfMemory => Err(FileFault::NoMemory),
+            ErrorKind::NotFound => Err(FileFault::Missing(name)),
+            _ => Err(FileFault::Unreadable(name)),
+        },
+    }
+}
+
+/// The line that says why a file cannot be used.
+fn line_of(alloc: Global, fault: FileFault<'_>) -> Result<String, AllocError> {
+    match fault {
+        FileFault::Missing(name) => format!(in alloc; "fleet: file {name} missing\n"),
+        FileFault::Unreadable(name) => format!(in alloc; "fleet: file {name} unreadable\n"),
+        FileFault::TooLarge(name) => format!(in alloc; "fleet: file {name} too-large\n"),
+        FileFault::NoMemory => Err(AllocError),
+    }
+}
+
+/// Prints why a file cannot be used. Returns the status.
+pub(crate) fn complain<R: Alloc<A = Global>, E: Write>(
+    rt: &R,
+    fault: FileFault<'_>,
+    error: &mut E,
+) -> u8 {
+    match line_of(rt.alloc(), fault) {
+        Ok(line) => {
+            write_whole(error, line.as_bytes());
+            3
         }
+        Err(AllocError) => fail(InputFault::NoMemory, error),
     }
 }

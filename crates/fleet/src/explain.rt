@@ -1,9 +1,9 @@
 //! The word `explain`.
 
-use crate::ends::{MOST_MAP_BYTES, file_bytes};
+use crate::ends::{FileFault, MOST_MAP_BYTES, complain, file_bytes};
 use fleet_lib::{
-    Explain, InputFault, MOST_SCRIPT_BYTES, MOST_TRACE_BYTES, Said, answer_explain_map,
-    answer_explain_script, answer_explain_trace, fail, tell,
+    Explain, MOST_PLAN_BYTES, MOST_SCRIPT_BYTES, MOST_TRACE_BYTES, Said, answer_explain_map,
+    answer_explain_plan, answer_explain_script, answer_explain_trace, is_plan, tell,
 };
 use std::alloc::{Alloc, Global};
 use std::fs::Files;
@@ -20,26 +20,32 @@ fn is_trace(text: &[u8]) -> bool {
 }
 
 /// The answer to the files, which are opened and read in their order.
-fn answer_files<R: Files + Alloc<A = Global>>(
+fn answer_files<'a, R: Files + Alloc<A = Global>>(
     rt: &R,
-    explain: &Explain,
-) -> Result<Said, InputFault> {
+    explain: &'a Explain,
+) -> Result<Said, FileFault<'a>> {
     let map = file_bytes(rt, explain.map.as_str(), MOST_MAP_BYTES)?;
     let Some(name) = &explain.other else {
         return Ok(answer_explain_map(rt.alloc(), &map)?);
     };
     let other = file_bytes(rt, name.as_str(), MOST_TRACE_BYTES)?;
+    if is_plan(&other) {
+        if other.len() > MOST_PLAN_BYTES {
+            return Err(FileFault::TooLarge(name.as_str()));
+        }
+        return Ok(answer_explain_plan(rt.alloc(), &map, &other)?);
+    }
     if is_trace(&other) {
         return Ok(answer_explain_trace(rt.alloc(), &map, &other)?);
     }
     if other.len() > MOST_SCRIPT_BYTES {
-        return Err(InputFault::File);
+        return Err(FileFault::TooLarge(name.as_str()));
     }
     Ok(answer_explain_script(rt.alloc(), &map, &other)?)
 }
 
 /// Says what is wrong with the files. Returns the status: 0 nothing, 3 a file failed, 4 the map, 5 the script or 6 the
-/// trace is refused, 7 memory ran out.
+/// trace or the plan is refused, 7 memory ran out.
 pub(crate) fn run_explain<R: Files + Alloc<A = Global>, W: Write, E: Write>(
     rt: &R,
     explain: &Explain,
@@ -48,6 +54,6 @@ pub(crate) fn run_explain<R: Files + Alloc<A = Global>, W: Write, E: Write>(
 ) -> u8 {
     match answer_files(rt, explain) {
         Ok(said) => tell(&said, output, error),
-        Err(fault) => fail(fault, error),
+        Err(fault) => complain(rt, fault, error),
     }
 }

@@ -1,6 +1,6 @@
 //! The folder of chapters, before the fleet begins.
 
-use crate::ends::file_bytes;
+use crate::ends::{FileFault, file_bytes};
 use fleet_lib::{InputFault, KeptText, NamesFault, fail, last_chapter, write_whole};
 use std::alloc::{Alloc, AllocError, Global};
 use std::fs::{self, File, Files, OpenOptions, TryLockError};
@@ -118,6 +118,15 @@ fn fault_of(fault: NamesFault, names: Vec<String>) -> FolderFault {
     }
 }
 
+/// Everything that the file of a chapter has.
+fn kept_bytes<R: Files + Alloc<A = Global>>(rt: &R, name: &str) -> Result<Vec<u8>, InputFault> {
+    match file_bytes(rt, name, MOST_KEPT_BYTES) {
+        Ok(text) => Ok(text),
+        Err(FileFault::NoMemory) => Err(InputFault::NoMemory),
+        Err(_) => Err(InputFault::File),
+    }
+}
+
 /// The file of a chapter in a folder.
 fn file_of<R: Files + Alloc<A = Global>>(
     rt: &R,
@@ -125,7 +134,7 @@ fn file_of<R: Files + Alloc<A = Global>>(
     number: u32,
 ) -> Result<KeptFile, FolderFault> {
     let name = format!(in rt.alloc(); "{folder}/chapter-{number}.json")?;
-    match file_bytes(rt, name.as_str(), MOST_KEPT_BYTES) {
+    match kept_bytes(rt, name.as_str()) {
         Ok(text) => Ok(KeptFile { name, number, text }),
         Err(InputFault::File) => Err(FolderFault::Unread(name)),
         Err(InputFault::NoMemory) => Err(FolderFault::NoMemory),

@@ -1,7 +1,9 @@
 //! The word `live`.
 
-use crate::talk::texts_of;
-use fleet_lib::{InputFault, Live, LiveEnds, Pipes, Shelf, TalkTexts, fail, run_live};
+use crate::ends::complain;
+use crate::folder::KeptFile;
+use crate::talk::{lent, texts_of};
+use fleet_lib::{ChapterSink, InputFault, Live, LiveEnds, Pipes, TalkTexts, fail, run_live};
 use std::alloc::{Alloc, Global};
 use std::fs::{File, Files, OpenOptions};
 use std::io::{Read, Write};
@@ -42,7 +44,8 @@ fn pipes_of<R: Files<File = File> + Alloc<A = Global>>(
     Ok(all)
 }
 
-/// Keeps a fleet in real time, or on demand. Returns the status, as of `run_live`, or 3 where a file failed.
+/// Keeps a fleet in real time, or on demand, which goes on from a chapter if one is given. Returns the status, as of `run_live`, or 3
+/// where a file failed.
 pub(crate) fn hold_live<
     R: Files<File = File>
         + Alloc<A = Global>
@@ -58,18 +61,18 @@ pub(crate) fn hold_live<
     W: Write + Send + Drop + 'static,
     F: Write + Send + Drop + 'static,
     E: Write,
-    S: Shelf + Send + Drop,
+    S: ChapterSink + Send + Drop,
 >(
     rt: &R,
-    live: &Live,
+    (live, kept): (&Live, &Option<KeptFile>),
     (input, output): (I, W),
     (counts, figures): (F, Option<F>),
     error: &mut E,
-    shelf: S,
+    sink: S,
 ) -> u8 {
     let (map, script) = match texts_of(rt, live.map.as_str(), &live.script) {
         Ok(texts) => texts,
-        Err(fault) => return fail(fault, error),
+        Err(fault) => return complain(rt, fault, error),
     };
     let pipes = match pipes_of(rt, &live.pipes) {
         Ok(pipes) => pipes,
@@ -81,12 +84,12 @@ pub(crate) fn hold_live<
         pipes,
         counts,
         figures,
-        shelf,
+        sink,
     };
     let texts = TalkTexts {
         map: &map,
         script: &script,
-        kept: None,
+        kept: lent(kept),
     };
     run_live(rt, texts, live, ends, error)
 }

@@ -1,7 +1,7 @@
 //! `fleet`: for the people around a fleet of robots. `fleet view MAP TRACE..` prints a page that replays traces on a map, with `--svg` a
 //! moving picture, with `--tick N` a picture of what stands after N ticks. `fleet check MAP PLAN` judges a plan of any planner. `fleet stats
-//! MAP TRACE..` prints figures of traces. `fleet talk MAP` answers lines as they come. `fleet convert --to FORM MAP TRACE` prints a trace as a
-//! plan, and `fleet explain MAP [INPUT]` says what is wrong with files. `fleet live MAP` keeps a fleet in real time. What each word does is in
+//! MAP TRACE..` prints figures of traces. `fleet talk MAP` answers lines as they come. `fleet convert --to FORM MAP INPUT` prints a trace as a
+//! plan, or a plan as a trace, and `fleet explain MAP [INPUT]` says what is wrong with files. `fleet live MAP` keeps a fleet in real time. What each word does is in
 //! `fleet_lib`.
 #![tactic(auto)]
 
@@ -13,6 +13,7 @@ mod ends;
 mod explain;
 mod figures;
 mod folder;
+mod inputs;
 mod live;
 mod stats;
 mod talk;
@@ -92,9 +93,9 @@ fn main(rt: HostRuntime) -> ExitCode {
             let name = talk.traces.as_deref();
             match hold_folder(&rt, name, talk.resume) {
                 Ok((folder, kept)) => {
-                    let shelf = TraceFolder { rt: &rt, name };
+                    let sink = TraceFolder { rt: &rt, name };
                     let talks = (rt.stdin(), output);
-                    let status = hold_talk(&rt, &talk, &kept, talks, &mut error, shelf);
+                    let status = hold_talk(&rt, &talk, &kept, talks, &mut error, sink);
                     folder.let_go(&rt);
                     status
                 }
@@ -106,15 +107,15 @@ fn main(rt: HostRuntime) -> ExitCode {
         Ok(Job::Stats(stats)) => run_stats(&rt, &stats, &mut output, &mut error),
         Ok(Job::Live(live)) => {
             let name = live.traces.as_deref();
-            match hold_folder(&rt, name, false) {
-                Ok((folder, _kept)) => {
+            match hold_folder(&rt, name, live.resume) {
+                Ok((folder, kept)) => {
                     // Made here, where it is known of the runtime that threads may share it.
-                    let shelf = TraceFolder { rt: &rt, name };
+                    let sink = TraceFolder { rt: &rt, name };
                     let status = match figures_of(&rt, &live.metrics, &mut error) {
                         Ok(figures) => {
                             let talk = (rt.stdin(), output);
                             let told = (Outlet::Error(error), figures);
-                            hold_live(&rt, &live, talk, told, &mut error, shelf)
+                            hold_live(&rt, (&live, &kept), talk, told, &mut error, sink)
                         }
                         Err(status) => status,
                     };

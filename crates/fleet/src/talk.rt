@@ -2,9 +2,11 @@
 
 ghost use Rattle.std.specs.Prelude.{◌≤◌, vec_len, IfOk};
 
-use crate::ends::{MOST_MAP_BYTES, file_bytes};
+use crate::ends::{FileFault, MOST_MAP_BYTES, complain, file_bytes};
 use crate::folder::KeptFile;
-use fleet_lib::{Ends, InputFault, KeptText, Settings, Shelf, Talk, TalkTexts, fail, run_talk};
+use fleet_lib::{
+    ChapterSink, Ends, InputFault, KeptText, Settings, Talk, TalkTexts, fail, run_talk,
+};
 use std::alloc::{Alloc, Global};
 use std::fs::Files;
 use std::io::{BufReader, Read, Write};
@@ -13,10 +15,10 @@ use std::io::{BufReader, Read, Write};
 const PIECE: usize = 65_536;
 
 /// The header lines of the file that is named, and none where no file is.
-fn script_bytes<R: Files + Alloc<A = Global>>(
+fn script_bytes<'a, R: Files + Alloc<A = Global>>(
     rt: &R,
-    name: Option<&str>,
-) -> Result<Vec<u8>, InputFault>
+    name: Option<&'a str>,
+) -> Result<Vec<u8>, FileFault<'a>>
     ensures { IfOk result (λ bytes. vec_len bytes ≤ 16777216) }
 {
     match name {
@@ -26,11 +28,11 @@ fn script_bytes<R: Files + Alloc<A = Global>>(
 }
 
 /// The contents of the named files, the map first.
-pub(crate) fn texts_of<R: Files + Alloc<A = Global>>(
+pub(crate) fn texts_of<'a, R: Files + Alloc<A = Global>>(
     rt: &R,
-    map: &str,
-    script: &Option<String>,
-) -> Result<(Vec<u8>, Vec<u8>), InputFault>
+    map: &'a str,
+    script: &'a Option<String>,
+) -> Result<(Vec<u8>, Vec<u8>), FileFault<'a>>
     ensures { IfOk result (λ texts. vec_len texts.1 ≤ 16777216) }
 {
     let map = file_bytes(rt, map, MOST_MAP_BYTES)?;
@@ -42,7 +44,7 @@ pub(crate) fn texts_of<R: Files + Alloc<A = Global>>(
 }
 
 /// The file of a chapter, lent, if there is one.
-fn lent(kept: &Option<KeptFile>) -> Option<KeptText<'_>> {
+pub(crate) fn lent(kept: &Option<KeptFile>) -> Option<KeptText<'_>> {
     match kept {
         Some(file) => Some(file.lent()),
         None => None,
@@ -56,20 +58,20 @@ pub(crate) fn hold_talk<
     I: Read + Drop,
     W: Write + Drop,
     E: Write,
-    S: Shelf + Drop,
+    S: ChapterSink + Drop,
 >(
     rt: &R,
     talk: &Talk,
     kept: &Option<KeptFile>,
     (input, output): (I, W),
     error: &mut E,
-    shelf: S,
+    sink: S,
 ) -> u8 {
     let (map, script) = match texts_of(rt, talk.map.as_str(), &talk.script) {
         Ok(texts) => texts,
         Err(fault) => {
             drop(input);
-            return fail(fault, error);
+            return complain(rt, fault, error);
         }
     };
     let Ok(input) = BufReader::with_capacity(rt.alloc(), PIECE, input) else {
@@ -78,7 +80,7 @@ pub(crate) fn hold_talk<
     let mut ends = Ends {
         input,
         output,
-        shelf,
+        sink,
     };
     let settings = Settings {
         marks: talk.marks,

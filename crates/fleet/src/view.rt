@@ -1,25 +1,25 @@
 //! The word `view`.
 
-use crate::ends::{MOST_MAP_BYTES, file_bytes};
-use fleet_lib::{InputFault, MOST_TRACE_BYTES, Said, View, answer_view, fail, tell};
+use crate::ends::{FileFault, MOST_MAP_BYTES, complain, file_bytes};
+use crate::inputs::{Inputs, traces_in};
+use fleet_lib::{Said, View, answer_view, tell};
 use std::alloc::{Alloc, Global};
 use std::fs::Files;
 use std::io::Write;
 
 /// The answer to the files, which are opened and read in their order.
-fn answer_files<R: Files + Alloc<A = Global>>(rt: &R, view: &View) -> Result<Said, InputFault> {
+fn answer_files<'a, R: Files + Alloc<A = Global>>(
+    rt: &R,
+    view: &'a View,
+) -> Result<Said, FileFault<'a>> {
     let map = file_bytes(rt, view.map.as_str(), MOST_MAP_BYTES)?;
-    let mut traces = Vec::new(rt.alloc());
-    for name in &view.traces {
-        let trace = file_bytes(rt, name.as_str(), MOST_TRACE_BYTES)?;
-        if traces.push(trace).is_err() {
-            return Err(InputFault::NoMemory);
-        }
+    match traces_in(rt, &map, &view.traces)? {
+        Inputs::Traces(traces) => Ok(answer_view(rt.alloc(), view.shown, &map, &traces)?),
+        Inputs::Refused(said) => Ok(said),
     }
-    Ok(answer_view(rt.alloc(), view.shown, &map, &traces)?)
 }
 
-/// Shows the traces. Returns the status: 0 good, 3 a file failed, 4 the map or 6 a trace is refused, 7 memory ran out.
+/// Shows the traces. Returns the status: 0 good, 3 a file failed, 4 the map or 6 a trace or a plan is refused, 7 memory ran out.
 pub(crate) fn run_view<R: Files + Alloc<A = Global>, W: Write, E: Write>(
     rt: &R,
     view: &View,
@@ -28,6 +28,6 @@ pub(crate) fn run_view<R: Files + Alloc<A = Global>, W: Write, E: Write>(
 ) -> u8 {
     match answer_files(rt, view) {
         Ok(said) => tell(&said, output, error),
-        Err(fault) => fail(fault, error),
+        Err(fault) => complain(rt, fault, error),
     }
 }

@@ -6,5 +6,6 @@ mod CellsBack
 mod Steps
 mod MovesBack
 mod Legal
+mod Traced
 mod Pieces
 mod Converted

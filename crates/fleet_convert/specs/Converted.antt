@@ -2,7 +2,7 @@
 use Rattle.std.specs.Prelude.{◌≡◌, ◌≢◌, ℕ, List, Ok, Err}
 use Rattle.std.specs.declared.alloc.Global.{Global}
 use Rattle.fleet_map.specs.Grammar.{Map, map_of}
-use Rattle.fleet_grid.specs.Floor.{Floor, floor_of}
+use Rattle.fleet_grid.specs.Floor.{Floor, floor_of_map}
 use Rattle.fleet_history.specs.History.{History}
 use Rattle.fleet_history.specs.Legal.{IsLegal}
 use Rattle.fleet_trace.specs.Trace.{Trace}
@@ -23,10 +23,6 @@ abbrev pub plan_text : PlanForm → ℕ → List (List ℕ) → List ℕ
 plan_text Pibt2 width places = cells_plan width places
 plan_text Moves width places = moves_plan width places
 plan_text Runners width places = runners_plan width places
-
--- the map of a text, as a floor
-abbrev pub floor_of_map : Map → Floor
-floor_of_map m = floor_of m.height m.width m.cells
 
 -- the text is that of the placements of a history that is legal on the map
 pub record IsPlanOn (form : PlanForm) (m : Map) (h : History Global) (text : List ℕ) : Type 0 where

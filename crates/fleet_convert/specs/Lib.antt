@@ -3,3 +3,4 @@ pub mod Cells
 pub mod Moves
 pub mod Runners
 pub mod Converted
+pub mod PlanTrace

@@ -2,7 +2,7 @@
 use Rattle.std.proofs.Common.{◌≡◌, ◌∙◌, ℕ, ◌+◌, ◌^◌, ◌<◌, ◌≤◌, List, Option, map, length, ap, refl, arith}
 use Rattle.std.specs.Prelude.{slice_index, count_by, All, ◌==◌}
 use Rattle.fleet_grid.specs.Floor.{Floor}
-use Rattle.fleet_planner.specs.Aims.{goals_of}
+use Rattle.fleet_planner.specs.Courses.{goals_of}
 use Rattle.fleet_hooks.specs.declared.law.TieLaw.{TieLaw}
 use Rattle.fleet_book.specs.declared.limits.Limits.{Limits}
 use Rattle.fleet_book.specs.declared.notice.Notice.TheVariants as notice

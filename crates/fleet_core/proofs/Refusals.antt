@@ -1,7 +1,7 @@
 -- Answers that may be refused.
 use Rattle.std.proofs.Common.{◌≡◌, ◌∙◌, ℕ, ◌<◌, ◌≤◌, List, ◌↔◌, IsTrue, Bool, true, false, ap, sym, subst, arith}
 use Rattle.std.specs.Prelude.{Result, Ok, Err, IfOk, OnOk}
-use Rattle.fleet_planner.specs.Aims.{goals_of}
+use Rattle.fleet_planner.specs.Courses.{goals_of}
 use Rattle.fleet_grid.specs.Floor.{Floor, IsNeighbour}
 use Rattle.fleet_grid.specs.Walk.{IsBridgeless}
 use Rattle.fleet_field.specs.Store.{Keeps}
@@ -27,14 +27,14 @@ none_ok_at P (Err e) none = tt
 
 -- a core whose planner was refused keeps what it kept
 pub kept-refused : {A : Type 0} {m : Floor} {limits : Limits} {ties : List TieLaw} {n : ℕ} {h : History A} {s : State A} {p : Planner} {x : Mailboxes} → IsKept m limits ties n h s p x →
-    {q : Planner} → q.aims ≡ p.aims → IsOnSame m p q → IsKept m limits ties n h s q x
+    {q : Planner} → goals_of q.aims ≡ goals_of p.aims → IsOnSame m p q → IsKept m limits ties n h s q x
 kept-refused {m = m} k aims same = record {
   is = k.is;
   room = k.room;
   within = k.within;
   boxed = k.boxed;
   aimed = record {
-    aimed = ap goals_of aims ∙ k.aimed.aimed;
+    aimed = aims ∙ k.aimed.aimed;
     on = same.on;
     sized = same.size ∙ k.aimed.sized;
     bridge = subst (λ (b : Bool). IsTrue b ↔ IsBridgeless (IsNeighbour m)) (sym same.bridge) k.aimed.bridge;

@@ -2,7 +2,7 @@
 
 ghost use Rattle.std.specs.Prelude.{◌≡◌, ◌≤◌, ◌<◌, ◌++◌, ◌∷◌, ◌↔◌, [], true, false, OnOk, OnErr, IfOk, map, vec_len, vec_capacity};
 ghost use Rattle.fleet_bound.specs.Arriving.{ArrivesInTurn};
-ghost use Rattle.fleet_planner.specs.Aims.{goals_of};
+ghost use Rattle.fleet_planner.specs.Courses.{goals_of};
 ghost use Rattle.fleet_history.specs.History.{clients, robots, clock, is_shut};
 ghost use Rattle.fleet_planner.specs.Aimed.{MayBegin, begun, begun_goals};
 ghost use Rattle.fleet_core.specs.Hooks.{AreArrivals, AreFarewells, spare_laws};
@@ -161,7 +161,7 @@ fn make_begun<A: Allocator + Copy>(
     ensures goals { OnOk result (goals_of planner.new.aims ≡ begun_goals (begun state.now.queues order verdict) (goals_of planner.old.aims)) }
     ensures room { OnOk result (vec_len entries.new < vec_capacity entries.new) }
     ensures same { IsOnSame grid.now planner.old planner.new }
-    ensures refused { OnErr result (planner.new.aims ≡ planner.old.aims) }
+    ensures refused { OnErr result (goals_of planner.new.aims ≡ goals_of planner.old.aims) }
 {
     entries.reserve(1)?;
     planner.begin(grid, state, order, verdict)

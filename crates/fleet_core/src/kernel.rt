@@ -176,6 +176,11 @@ impl<A: Allocator + Copy> Core<A> {
         self.planner.keep(bytes);
     }
 
+    /// How many bytes the fields take that are kept: a byte for each cell of each.
+    pub fn kept_bytes(&self) -> u64 {
+        self.planner.kept_bytes() as u64
+    }
+
     pub fn limits(&self) -> &Limits
         ensures { result.now ≡ self.now.limits }
     {

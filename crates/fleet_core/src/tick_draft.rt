@@ -1,7 +1,7 @@
 //! The step of a tick: the part that allocates, before the state is changed.
 
 ghost use Rattle.std.specs.Prelude.{◌≡◌, ◌<◌, ◌^◌, length, map, vec_len, IfOk, OnOk, OnErr};
-ghost use Rattle.fleet_planner.specs.Aims.{goals_of};
+ghost use Rattle.fleet_planner.specs.Courses.{goals_of};
 ghost use Rattle.fleet_state.specs.State.{robot_count};
 ghost use Rattle.fleet_planner.specs.Aimed.{MayPlan};
 ghost use Rattle.fleet_core.specs.Hooks.{spare_laws, without_all};
@@ -58,7 +58,8 @@ fn step_of<A: Allocator + Copy>(
     requires may { MayPlan grid.now state.now planner.old }
     requires tied { length ties.now ≡ robot_count state.now }
     requires early { state.now.tick < 2 ^ 63 }
-    ensures same { planner.new ≡ planner.old }
+    ensures goals { goals_of planner.new.aims ≡ goals_of planner.old.aims }
+    ensures same { IsOnSame grid.now planner.old planner.new }
     ensures step { IfOk result (λ step. IsStep grid.now (map (λ h. h.law) ties.now) state.now (goals_of planner.old.aims) step.to.items step.arrived.items step.leaving.items) }
 {
     let to = planner.plan(alloc, grid, state, ties)?;
@@ -83,7 +84,7 @@ fn make_ready<A: Allocator + Copy>(
     ensures items { entries.new.items ≡ entries.old.items }
     ensures ready { OnOk result (IsReady state.now to.now planner.new entries.new) }
     ensures same { IsOnSame grid.now planner.old planner.new }
-    ensures refused { OnErr result (planner.new.aims ≡ planner.old.aims) }
+    ensures refused { OnErr result (goals_of planner.new.aims ≡ goals_of planner.old.aims) }
 {
     entries.reserve(1)?;
     planner.turn(grid, state, to)
@@ -106,7 +107,7 @@ pub(crate) fn ready<A: Allocator + Copy>(
     ensures step { IfOk result (λ step. IsStep grid.now (map (λ h. h.law) ties.now) state.now (goals_of planner.old.aims) step.to.items step.arrived.items step.leaving.items) }
     ensures ready { IfOk result (λ step. IsReady state.now step.to.items planner.new entries.new) }
     ensures same { IsOnSame grid.now planner.old planner.new }
-    ensures refused { OnErr result (planner.new.aims ≡ planner.old.aims) }
+    ensures refused { OnErr result (goals_of planner.new.aims ≡ goals_of planner.old.aims) }
 {
     let step = step_of(alloc, grid, state, planner, ties)?;
     make_ready(entries, planner, grid, state, &step.to)?;

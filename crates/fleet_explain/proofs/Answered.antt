@@ -1,6 +1,7 @@
 -- What is said on a map that is read.
 use Rattle.std.proofs.Common.{◌≡◌, ℕ, List, Result, Ok, Err, refl, ap, subst}
 use Rattle.std.specs.declared.alloc.Global.{Global}
+use Rattle.fleet_grid.specs.Floor.{floor_of_map}
 use Rattle.fleet_map.specs.Text.{lines_of}
 use Rattle.fleet_map.specs.Grammar.{Map, map_of}
 use Rattle.fleet_script.specs.Script.{Plan, script_of}
@@ -15,7 +16,7 @@ use Rattle.fleet_explain.specs.declared.explanation.Explanation.{Explanation}
 use Rattle.fleet_explain.specs.declared.explanation.Explanation.TheVariants as explanation
 use Rattle.fleet_explain.specs.Lines.{fault_at}
 use Rattle.fleet_explain.specs.Explained as explained
-use Rattle.fleet_explain.specs.Explained.{floor_of_map, IsScriptExplained, IsScriptOn, IsServedAs, IsTraceExplained, IsJudgedAs}
+use Rattle.fleet_explain.specs.Explained.{IsScriptExplained, IsScriptOn, IsServedAs, IsTraceExplained, IsJudgedAs}
 use Rattle.fleet_core.specs.Opening.{CanStart}
 
 pub trace_on : (map trace : List ℕ) (e : Explanation) (m : Map) (t : Trace Global) → map_of map ≡ Ok m → Tells trace t → IsJudgedAs m t.history e → IsTraceExplained map trace e

@@ -8,3 +8,4 @@ mod Farewells
 mod Stepped
 mod Arrivals
 mod Places
+mod Planned

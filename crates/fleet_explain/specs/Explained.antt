@@ -4,7 +4,7 @@ use Rattle.std.specs.declared.alloc.Global.{Global}
 use Rattle.fleet_map.specs.Text.{lines_of}
 use Rattle.fleet_map.specs.Grammar.{Map, map_of}
 use Rattle.fleet_map.specs.declared.fault.MapFault.TheVariants.{Cell}
-use Rattle.fleet_grid.specs.Floor.{Floor, floor_of}
+use Rattle.fleet_grid.specs.Floor.{Floor, floor_of_map}
 use Rattle.fleet_history.specs.History.{History}
 use Rattle.fleet_history.specs.Legal.{IsLegal}
 use Rattle.fleet_script.specs.Script.{Plan, script_of}
@@ -20,10 +20,6 @@ use Rattle.fleet_explain.specs.Starts.{IsStartFault}
 use Rattle.fleet_explain.specs.Served.{first_unserved}
 use Rattle.fleet_explain.specs.Entries.{kind_at}
 use Rattle.fleet_explain.specs.Details.{IsDetail}
-
--- the map of a text, as a floor
-abbrev pub floor_of_map : Map → Floor
-floor_of_map m = floor_of m.height m.width m.cells
 
 -- ---- a map
 

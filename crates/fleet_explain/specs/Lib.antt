@@ -7,5 +7,7 @@ pub mod Entries
 pub mod Only
 pub mod Details
 pub mod Explained
+pub mod Plans
+pub mod PlanSentences
 pub mod Sentences
 pub mod Places

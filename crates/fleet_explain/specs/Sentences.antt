@@ -27,9 +27,9 @@ use Rattle.fleet_explain.specs.Limits.{least_of, most_of, name_of}
 
 abbrev pub line_text : LineFault → List ℕ
 line_text line.NoRobots = codes "the script ends without a line `robots CELL ..`"
-line_text line.Unknown = codes "no line of a script begins with its first word"
-line_text line.Late = codes "a header line stands after an event line"
-line_text line.Twice = codes "a line with the same first word stands above it"
+line_text line.Unknown = codes "its first word begins no line of a script, which are `robots`, `clients`, `ties`, `turns`, the name of a limit, `post`, `take`, `give`, `collect`, `tick`, `shut`, and `#` in the first column"
+line_text line.Late = codes "it is a header line, and stands after an event line"
+line_text line.Twice = codes "a line with the same first word stands above it, and one is allowed"
 line_text (line.Form keyword) = codes "`" ++ keywords.name_of keyword ++ codes "` expects " ++ wants keyword
 
 abbrev pub map_text : MapFault → List ℕ

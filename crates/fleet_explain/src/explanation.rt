@@ -60,7 +60,11 @@ pub enum Explanation {
 }
 
 /// What is wrong with a map that has this fault. The only error is out of memory.
-fn map_explanation(alloc: Global, map: &[u8], fault: MapFault) -> Result<Explanation, AllocError>
+pub(crate) fn map_explanation(
+    alloc: Global,
+    map: &[u8],
+    fault: MapFault,
+) -> Result<Explanation, AllocError>
     requires { Fails fault (map_of map.now) }
     ensures { IfOk result (λ e. IsNoMap map.now e) }
 {

@@ -1,4 +1,4 @@
-//! What is wrong with a map, a script or a trace, in sentences.
+//! What is wrong with a map, a script, a trace or a plan, in sentences.
 #![tactic(auto)]
 
 mod arrival;
@@ -11,6 +11,8 @@ mod law;
 mod limits;
 mod line;
 mod opening;
+mod plan;
+mod plan_text;
 mod served;
 mod text;
 mod verdict;
@@ -24,3 +26,4 @@ pub use law::sentence_tells_place;
 pub use limits::{LimitFault, LimitKind};
 pub use line::LineFault;
 pub use opening::StartFault;
+pub use plan::{Misplaced, PlanExplanation, explain_plan};

@@ -40,7 +40,7 @@ impl fmt::Display for WantsText {
 
     fn fmt<W: fmt::Write>(&self, f: &mut fmt::Formatter<W>) -> fmt::Result {
         match self.0 {
-            Keyword::Robots => f.write_str("1 to 16 start cells"),
+            Keyword::Robots => f.write_str("1 to 16 start cells, with blanks between them"),
             Keyword::Clients => NumberText(1, 64).fmt(f),
             Keyword::Ties => f.write_str("`plain` or `south`"),
             Keyword::Turns => NumberText(1, 1_000_000).fmt(f),
@@ -66,9 +66,13 @@ impl fmt::Display for LineFault {
             LineFault::NoRobots => {
                 f.write_str("the script ends without a line `robots CELL ..`")
             }
-            LineFault::Unknown => f.write_str("no line of a script begins with its first word"),
-            LineFault::Late => f.write_str("a header line stands after an event line"),
-            LineFault::Twice => f.write_str("a line with the same first word stands above it"),
+            LineFault::Unknown => f.write_str(
+                "its first word begins no line of a script, which are `robots`, `clients`, `ties`, `turns`, the name of a limit, `post`, `take`, `give`, `collect`, `tick`, `shut`, and `#` in the first column",
+            ),
+            LineFault::Late => f.write_str("it is a header line, and stands after an event line"),
+            LineFault::Twice => f.write_str(
+                "a line with the same first word stands above it, and one is allowed",
+            ),
             LineFault::Form(keyword) => {
                 let (name, wants) = (keyword.name(), WantsText(keyword));
                 write!(f, "`{name}` expects {wants}")
@@ -105,7 +109,7 @@ impl fmt::Display for MapText {
 
 /// A cell, with its row and column on a map of this width.
 #[derive(Clone, Copy)]
-struct CellText(u32, u32);
+pub(crate) struct CellText(pub(crate) u32, pub(crate) u32);
 
 impl fmt::Display for CellText {
     ghost output = { λ t. Some (cell_text t.0 t.1) };

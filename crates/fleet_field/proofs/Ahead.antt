@@ -1,4 +1,4 @@
--- What a search ahead puts on a shelf.
+-- What a search ahead puts in a cache.
 use Rattle.std.proofs.Common.{◌≡◌, ℕ, ◌+◌, ◌<◌, ◌≤◌, ◌⊎◌, inl, inr, List, [], ◌∷◌, ◌++◌, length, get_or, slice_index, refl, sym, ap, subst, ◌∙◌, arith}
 use Rattle.std.specs.List.{All, Contains}
 use Rattle.std.proofs.lemmas.Bool.{cases_eq}
@@ -9,7 +9,7 @@ use Rattle.std.proofs.Math.Seq.{get_or-append_seam}
 use Rattle.fleet_grid.specs.Floor.{Floor}
 use Rattle.fleet_field.specs.Field.{Aim, aim_of, IsField}
 use Rattle.fleet_field.specs.Several.{AreFields}
-use Rattle.fleet_field.specs.Shelf.{HasKept, IsFieldOf}
+use Rattle.fleet_field.specs.FieldCache.{HasKept, IsFieldOf}
 use Rattle.fleet_field.specs.inside.Uses.{IsOneOf}
 use Rattle.fleet_field.proofs.Uses.{each_field, fields_count}
 

@@ -7,7 +7,7 @@ use Rattle.std.proofs.lemmas.List.Elements.{Contains-push_cases}
 use Rattle.fleet_grid.specs.Floor.{Floor}
 use Rattle.fleet_field.specs.Field.{Aim, IsField, aim_of}
 use Rattle.fleet_field.specs.Several.{AreFields}
-use Rattle.fleet_field.specs.Shelf.{HasKept, AreKept}
+use Rattle.fleet_field.specs.FieldCache.{HasKept, AreKept}
 use Rattle.fleet_field.specs.inside.Sorted.{AreSorted}
 use Rattle.fleet_field.specs.inside.Uses.{IsOneOf}
 use Rattle.fleet_field.proofs.Ahead.{kept_at, missing_more, each_pushed}

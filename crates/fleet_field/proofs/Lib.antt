@@ -13,7 +13,7 @@ pub mod Inverse
 pub mod Marks
 pub mod Descent
 pub mod Nearer
-pub mod Shelved
+pub mod Cached
 pub mod Ahead
 pub mod Halves
 pub mod Labels

@@ -3,7 +3,7 @@ use Rattle.std.proofs.Common.{◌≡◌, ℕ, zero, suc, ◌+◌, ◌<◌, ◌�
 use Rattle.std.specs.List.{remove}
 use Rattle.std.proofs.lemmas.List.{take-map}
 use Rattle.fleet_field.specs.Field.{Aim}
-use Rattle.fleet_field.specs.Shelf.{HasKept}
+use Rattle.fleet_field.specs.FieldCache.{HasKept}
 use Rattle.fleet_field.specs.inside.Queue.{goal_of}
 use Rattle.fleet_field.specs.inside.Uses.{IsOneOf}
 

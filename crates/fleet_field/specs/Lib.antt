@@ -1,7 +1,7 @@
 pub mod Field
 pub mod Kept
 pub mod Store
-pub mod Shelf
+pub mod FieldCache
 pub mod Several
 pub mod Compass
 pub mod inside

@@ -3,7 +3,7 @@ use Rattle.std.specs.Prelude.{◌≡◌, ◌≢◌, ℕ, ◌+◌, ◌-◌, ◌^�
 use Rattle.std.specs.List.{All}
 use Rattle.fleet_grid.specs.Floor.{Floor}
 use Rattle.fleet_field.specs.Field.{Aim, IsField}
-use Rattle.fleet_field.specs.Shelf.{Shelf}
+use Rattle.fleet_field.specs.FieldCache.{FieldCache}
 use Rattle.fleet_field.specs.declared.store.Held.{Held}
 
 -- what stands at a key
@@ -15,8 +15,8 @@ abbrev pub Serves : Floor → List (Option (Held Aim)) → Type 0
 Serves m store = (key : ℕ) (held : Held Aim) → shown store key ≡ Some held → IsField m held.field.goal held.field
 
 -- each kept field is one of this map
-abbrev pub Keeps : Floor → Shelf → Type 0
-Keeps m shelf = All (λ field. IsField m field.goal field) shelf.kept
+abbrev pub Keeps : Floor → FieldCache → Type 0
+Keeps m cache = All (λ field. IsField m field.goal field) cache.kept
 
 -- a goal can be held this many times more
 abbrev pub HasUsesLeft : List (Option (Held Aim)) → ℕ → ℕ → Type 0

@@ -3,7 +3,7 @@
 ghost use Rattle.std.specs.Prelude.{◌≡◌, ◌⊎◌, ◌↔◌, ℕ, ◌+◌, ◌≤◌, length, take, vec_len, IfSome, IfNone, IsSome, IsTrue};
 ghost use Rattle.std.specs.List.{All, Contains};
 ghost use Rattle.fleet_field.specs.Field.{Aim};
-ghost use Rattle.fleet_field.specs.Shelf.{HasKept, AreKept};
+ghost use Rattle.fleet_field.specs.FieldCache.{HasKept, AreKept};
 
 use crate::compass::Compass;
 use crate::queue::Queue;

@@ -2,6 +2,7 @@
 #![tactic(auto)]
 
 mod bits;
+mod cache;
 mod columns;
 mod compass;
 mod compasses;
@@ -14,13 +15,12 @@ mod keyed;
 mod queue;
 mod search;
 mod several;
-mod shelf;
 mod store;
 mod ways;
 mod work;
 
+pub use cache::FieldCache;
 pub use compass::Compass;
 pub use field::Field;
 pub use several::fields;
-pub use shelf::Shelf;
 pub use store::FieldStore;

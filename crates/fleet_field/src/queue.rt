@@ -3,7 +3,7 @@
 ghost use Rattle.std.specs.Prelude.{◌≡◌, ◌⊎◌, ℕ, ◌+◌, ◌<◌, ◌≤◌, [], ◌∷◌, length, slice_index, slice_index_or, take, MatchOption, OnOk};
 ghost use Rattle.std.specs.List.{remove};
 ghost use Rattle.fleet_field.specs.Field.{Aim};
-ghost use Rattle.fleet_field.specs.Shelf.{cells_kept, HasKept};
+ghost use Rattle.fleet_field.specs.FieldCache.{cells_kept, HasKept};
 ghost use Rattle.fleet_field.specs.inside.Uses.{IsOneOf};
 
 use crate::compass::Compass;

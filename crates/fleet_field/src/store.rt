@@ -8,11 +8,11 @@ ghost use Rattle.fleet_field.specs.Store.{shown, Serves, Keeps, IsOnce, IsHold, 
 ghost use Rattle.fleet_field.specs.Several.{AreHeld, HaveUsesLeft};
 ghost use Rattle.fleet_field.specs.declared.store.Held.{Held as HeldView};
 
+use crate::cache::FieldCache;
 use crate::compass::Compass;
 use crate::compasses::compasses;
 use crate::holds::{hold_with, missing_of, use_again};
 use crate::keyed::Keyed;
-use crate::shelf::Shelf;
 use fleet_grid::{Grid, Outlook, Ways};
 use std::alloc::{AllocError, Allocator, Global};
 use std::marker::Model;
@@ -71,23 +71,23 @@ impl<A: Allocator + Copy> FieldStore<A> {
         ensures serves { Serves grid.now self.new }
         ensures refused { OnErr result (self.new ≡ self.old) }
     {
-        self.hold_from(&mut Shelf::new(self.alloc, 0), grid, goal)
+        self.hold_from(&mut FieldCache::new(self.alloc, 0), grid, goal)
     }
 
     /// Holds the field of a goal, as `hold` does; a field that is kept takes no search.
     pub fn hold_from<B: Allocator + Copy>(
         &mut self,
-        shelf: &mut Shelf<A>,
+        cache: &mut FieldCache<A>,
         grid: &Grid<B>,
         goal: u32,
     ) -> Result<usize, AllocError>
         requires floor { IsFloor grid.now goal }
         requires serves { Serves grid.now self.old }
-        requires keeps { Keeps grid.now shelf.old }
+        requires keeps { Keeps grid.now cache.old }
         requires fewer { HasUsesLeft self.old goal 1 }
         ensures held { IfOk result (λ key. IsHold grid.now goal self.old self.new key) }
         ensures serves { Serves grid.now self.new }
-        ensures keeps { Keeps grid.now shelf.new }
+        ensures keeps { Keeps grid.now cache.new }
         ensures refused { OnErr result (self.new ≡ self.old) }
     {
         if let Some(key) = self.held.key_of(goal) {
@@ -95,7 +95,7 @@ impl<A: Allocator + Copy> FieldStore<A> {
             return Ok(key);
         }
         self.held.reserve(1)?;
-        let field = shelf.field(grid, goal, self.held.len().saturating_add(1))?;
+        let field = cache.field(grid, goal, self.held.len().saturating_add(1))?;
         Ok(self.held.insert_reserved(Held { field, uses: 1 }))
     }
 
@@ -106,6 +106,16 @@ impl<A: Allocator + Copy> FieldStore<A> {
         match self.held.key_of(goal) {
             Some(key) => self.held[key].uses < u32::MAX,
             None => true,
+        }
+    }
+
+    /// Whether some key shows the field of the goal.
+    pub fn has(&self, goal: u32) -> bool
+        ensures { IsTrue result ↔ ((key : ℕ) × (held : HeldView Aim) × (shown self.now key ≡ Some held) × (held.field.goal ≡ goal)) }
+    {
+        match self.held.key_of(goal) {
+            Some(_key) => true,
+            None => false,
         }
     }
 
@@ -121,20 +131,20 @@ impl<A: Allocator + Copy> FieldStore<A> {
         requires { IsSome (shown self.old key) }
         ensures { IsRelease self.old self.new key }
     {
-        self.release_to(&mut Shelf::new(self.alloc, 0), key);
+        self.release_to(&mut FieldCache::new(self.alloc, 0), key);
     }
 
-    /// Gives one hold of a key back. When the last hold is given back, the field goes to the shelf.
-    pub fn release_to(&mut self, shelf: &mut Shelf<A>, key: usize)
+    /// Gives one hold of a key back. When the last hold is given back, the field goes to the cache.
+    pub fn release_to(&mut self, cache: &mut FieldCache<A>, key: usize)
         requires { IsSome (shown self.old key) }
         ensures released { IsRelease self.old self.new key }
-        ensures keeps { (m : Floor) → Serves m self.old → Keeps m shelf.old → Keeps m shelf.new }
+        ensures keeps { (m : Floor) → Serves m self.old → Keeps m cache.old → Keeps m cache.new }
     {
         let uses = self.held[key].uses;
         if uses > 1 {
             self.held.set_uses(key, uses - 1);
         } else {
-            shelf.put(self.held.remove(key).field);
+            cache.put(self.held.remove(key).field);
         }
     }
 

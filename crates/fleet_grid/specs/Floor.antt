@@ -1,6 +1,7 @@
 -- The floor graph of a map: its cells are the numbers `row * width + col`, and its edges join floor cells that
 -- share a side. The letters are MovingAI's.
 use Rattle.std.specs.Prelude.{◌≡◌, ◌≢◌, ℕ, ◌+◌, ◌-◌, ◌*◌, ◌%◌, ◌≤◌, ◌||◌, ◌==◌, Bool, IsTrue, List, length, slice_index}
+use Rattle.fleet_map.specs.Grammar.{Map}
 use Rattle.fleet_grid.specs.declared.dir.Dir.{Dir}
 use Rattle.fleet_grid.specs.declared.dir.Dir.TheVariants.{North, East, South, West}
 
@@ -12,6 +13,10 @@ pub record Floor : Type 0 where
 
 abbrev pub floor_of : ℕ → ℕ → List ℕ → Floor
 floor_of height width letters = record { height = height; width = width; letters = letters }
+
+-- the map of a text, as a floor
+abbrev pub floor_of_map : Map → Floor
+floor_of_map m = floor_of m.height m.width m.cells
 
 -- both sides are at most 1,024, and there is a letter for each cell
 pub record HasForm (m : Floor) : Type 0 where

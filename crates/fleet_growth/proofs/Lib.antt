@@ -1,4 +1,5 @@
 mod Estimates
+pub mod Grown
 mod Read
 mod Searches
 mod Serving

@@ -52,7 +52,7 @@ new_not : (labels : List ℕ) (c k : ℕ) → c < length labels → (v : ℕ) �
 new_not labels c k inside v e q = (let l = new_here labels c k inside in let z : slice_index (set labels c (label k)) c ≡ 0 = ap (slice_index (set labels c (label k))) (sym q) ∙ e in omega (arith, l, z))
 
 module _ (m : Floor) (t : Target) (aimed : ℕ) (pos : 0 < t.width) (same : t.width ≡ m.width) where
-  -- each walk has so many steps away, exactly
+  -- each walk has exactly this many steps away
   pub away_of : (v : ℕ) (walk : List ℕ) → Walks (IsNeighbour m) v walk aimed → (a : ℕ) × (length walk + estimate t v ≡ estimate t aimed + 2 * a)
   away_of v [] w = (0, (let e : estimate t v ≡ estimate t aimed = ap (estimate t) w in omega (arith, e)))
   away_of v (c ∷ cs) w =

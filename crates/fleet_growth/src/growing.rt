@@ -1,6 +1,6 @@
 //! A field that is searched only as far as it is asked.
 
-ghost use Rattle.std.specs.Prelude.{◌≡◌, ℕ, ◌↔◌, IfOk, IsTrue};
+ghost use Rattle.std.specs.Prelude.{◌≡◌, ℕ, ◌↔◌, IfOk, OnOk, IsTrue};
 ghost use Rattle.fleet_grid.specs.Floor.{IsFloor, IsNeighbourIn};
 ghost use Rattle.fleet_grid.specs.Ways.{AreNearer, AreOpen, IsLess};
 ghost use Rattle.fleet_grid.specs.Distance.{distance};
@@ -37,19 +37,40 @@ impl<A: Allocator + Copy> GrowingField<A> {
         ensures serves { IfOk result (λ field. Serves grid.now field) }
         ensures goal { IfOk result (λ field. goal_of field ≡ goal) }
     {
-        let mut labels = Vec::new(alloc);
-        labels.resize(grid.cell_count() as usize, 0)?;
-        let mut next = Vec::new(alloc);
-        next.push(goal)?;
-        Ok(GrowingField {
+        let mut field = GrowingField {
             goal,
             target: Target::of(grid.width(), target),
             mark: 1,
-            labels,
+            labels: Vec::new(alloc),
             now: Vec::new(alloc),
-            next,
+            next: Vec::new(alloc),
             later: Vec::new(alloc),
-        })
+        };
+        field.restart(grid, goal, target)?;
+        Ok(field)
+    }
+
+    /// Makes the field one to another goal, as `new` does, in the memory that it has. After an error it is of no use.
+    pub fn restart<B: Allocator + Copy>(
+        &mut self,
+        grid: &Grid<B>,
+        goal: u32,
+        target: u32,
+    ) -> Result<(), AllocError>
+        requires { IsFloor grid.now goal }
+        ensures serves { OnOk result (Serves grid.now self.new) }
+        ensures goal { OnOk result (goal_of self.new ≡ goal) }
+    {
+        self.goal = goal;
+        self.target = Target::of(grid.width(), target);
+        self.mark = 1;
+        self.labels.clear();
+        self.now.clear();
+        self.next.clear();
+        self.later.clear();
+        self.labels.resize(grid.cell_count() as usize, 0)?;
+        self.next.push(goal)?;
+        Ok(())
     }
 
     /// Whether the neighbour in a direction is nearer to the goal than the cell, up to which the field is searched.

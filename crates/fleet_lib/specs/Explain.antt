@@ -4,6 +4,10 @@ use Rattle.fleet_explain.specs.declared.explanation.Explanation.{Explanation}
 use Rattle.fleet_explain.specs.declared.explanation.Explanation.TheVariants as explanation
 use Rattle.fleet_explain.specs.Explained.{IsMapExplained, IsScriptExplained, IsTraceExplained}
 use Rattle.fleet_explain.specs.Sentences.{sentence}
+use Rattle.fleet_explain.specs.declared.plan.PlanExplanation.{PlanExplanation}
+use Rattle.fleet_explain.specs.declared.plan.PlanExplanation.TheVariants as plan
+use Rattle.fleet_explain.specs.Plans.{IsPlanExplained}
+use Rattle.fleet_explain.specs.PlanSentences.{plan_sentence}
 use Rattle.fleet_lib.specs.Said.{Outcome}
 use Rattle.fleet_lib.specs.Check.{good}
 
@@ -30,3 +34,21 @@ IsScriptSaid map script o = (e : Explanation) × IsScriptExplained map script e 
 
 abbrev pub IsTraceSaid : List ℕ → List ℕ → Outcome → Type 0
 IsTraceSaid map trace o = (e : Explanation) × IsTraceExplained map trace e × (o ≡ outcome_of e)
+
+-- the status of `fleet check`
+abbrev pub plan_status : PlanExplanation → ℕ
+plan_status plan.Fine = 0
+plan_status (plan.Map e) = 4
+plan_status (plan.Line n form) = 6
+plan_status (plan.Cut n) = 6
+plan_status (plan.Scenario n) = 5
+plan_status (plan.Json f) = 6
+plan_status (plan.Head f) = 6
+plan_status (plan.Placed m) = 6
+plan_status (plan.Goals f) = 6
+
+abbrev pub plan_outcome : PlanExplanation → Outcome
+plan_outcome e = good (plan_sentence e ++ codes "\n") (plan_status e)
+
+abbrev pub IsPlanSaid : List ℕ → List ℕ → Outcome → Type 0
+IsPlanSaid map plan o = (e : PlanExplanation) × IsPlanExplained map plan e × (o ≡ plan_outcome e)

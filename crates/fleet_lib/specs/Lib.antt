@@ -1,7 +1,9 @@
 pub mod Convert
+pub mod Ended
 pub mod Explain
 pub mod Kept
 pub mod Names
+pub mod PlanTrace
 pub mod Said
 pub mod Stats
 pub mod Talk

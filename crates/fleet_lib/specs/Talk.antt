@@ -32,7 +32,7 @@ pub data Complains (c : Complaint) (old new : Option (List ℕ)) (status : ℕ) 
 abbrev pub complaint_of : TalkFault → Complaint
 complaint_of fault.Input = complaint.File
 complaint_of fault.Output = complaint.File
-complaint_of fault.Shelf = complaint.File
+complaint_of fault.Sink = complaint.File
 complaint_of (fault.Opening why) = complaint.Opening why
 complaint_of fault.NoMemory = complaint.Memory
 

@@ -19,7 +19,7 @@ pub const MOST_PLAN_BYTES: usize = 16_777_216;
 
 /// The line of a plan that is not valid.
 #[derive(Clone, Copy)]
-struct InvalidText(PlanFault);
+pub(crate) struct InvalidText(pub(crate) PlanFault);
 
 impl fmt::Display for InvalidText {
     ghost output = { λ t. Some (invalid_text t.0) };
@@ -49,7 +49,7 @@ fn invalid(alloc: Global, line: &str) -> Result<Said, AllocError>
 }
 
 /// An answer with this text for the error writer and this status.
-fn refused(alloc: Global, complaint: String, status: u8) -> Said
+pub(crate) fn refused(alloc: Global, complaint: String, status: u8) -> Said
     ensures { said_of result ≡ refused (string_bytes complaint) status }
 {
     Said {
@@ -80,7 +80,7 @@ fn said_of_goals(alloc: Global, time: u32, fault: GoalFault) -> Result<Said, All
 }
 
 /// The program's answer, made from the result for a map and a plan.
-fn said_of_answer(alloc: Global, answer: PlanAnswer) -> Result<Said, AllocError>
+pub(crate) fn said_of_answer(alloc: Global, answer: PlanAnswer) -> Result<Said, AllocError>
     ensures { IfOk result (λ s. said_of s ≡ outcome_of answer) }
 {
     match answer {

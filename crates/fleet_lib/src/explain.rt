@@ -2,11 +2,13 @@
 
 ghost use Rattle.std.specs.Prelude.{◌≡◌, ◌≤◌, length, IfOk};
 ghost use Rattle.fleet_lib.specs.Said.{said_of};
-ghost use Rattle.fleet_lib.specs.Explain.{status_of, outcome_of, IsMapSaid, IsScriptSaid, IsTraceSaid};
+ghost use Rattle.fleet_lib.specs.Explain.{status_of, outcome_of, plan_status, plan_outcome, IsMapSaid, IsScriptSaid, IsTraceSaid, IsPlanSaid};
 
 use crate::check::printed;
 use crate::said::Said;
-use fleet_explain::{Explanation, explain_map, explain_script, explain_trace};
+use fleet_explain::{
+    Explanation, PlanExplanation, explain_map, explain_plan, explain_script, explain_trace,
+};
 use std::alloc::{AllocError, Global};
 
 /// The greatest length of a script, in bytes.
@@ -55,4 +57,38 @@ pub fn answer_explain_trace(alloc: Global, map: &[u8], trace: &[u8]) -> Result<S
 {
     let explanation = explain_trace(alloc, map, trace)?;
     said_of_explanation(alloc, explanation)
+}
+
+/// The status of an explanation of a plan: that of `fleet check`.
+fn plan_status(explanation: PlanExplanation) -> u8
+    ensures { result ≡ plan_status explanation }
+{
+    match explanation {
+        PlanExplanation::Fine => 0,
+        PlanExplanation::Map(_) => 4,
+        PlanExplanation::Scenario(_) => 5,
+        PlanExplanation::Line(..)
+        | PlanExplanation::Cut(_)
+        | PlanExplanation::Json(_)
+        | PlanExplanation::Head(_)
+        | PlanExplanation::Placed(_)
+        | PlanExplanation::Goals(_) => 6,
+    }
+}
+
+/// The answer for an explanation of a plan: its sentence.
+fn said_of_plan(alloc: Global, explanation: PlanExplanation) -> Result<Said, AllocError>
+    ensures { IfOk result (λ s. said_of s ≡ plan_outcome explanation) }
+{
+    let text = format!(in alloc; "{explanation}\n")?;
+    printed(alloc, &text, plan_status(explanation))
+}
+
+/// The answer to a map and a plan: the sentence of `explain_plan`.
+pub fn answer_explain_plan(alloc: Global, map: &[u8], plan: &[u8]) -> Result<Said, AllocError>
+    requires { length plan.now ≤ 16777216 }
+    ensures { IfOk result (λ s. IsPlanSaid map.now plan.now (said_of s)) }
+{
+    let explanation = explain_plan(alloc, map, plan)?;
+    said_of_plan(alloc, explanation)
 }

@@ -3,10 +3,13 @@
 
 mod check;
 mod convert;
+mod ending;
 mod explain;
+mod holding;
 mod kept;
 mod live;
 mod names;
+mod plan_trace;
 mod said;
 mod stats;
 mod talk;
@@ -16,18 +19,21 @@ pub use check::{MOST_PLAN_BYTES, answer_check};
 pub use convert::answer_convert;
 pub use errands_text::{InputFault, read_up_to, trace_line, write_whole};
 pub use explain::{
-    MOST_SCRIPT_BYTES, answer_explain_map, answer_explain_script, answer_explain_trace,
+    MOST_SCRIPT_BYTES, answer_explain_map, answer_explain_plan, answer_explain_script,
+    answer_explain_trace,
 };
 pub use fleet_history::Chapter;
 pub use fleet_live::{LiveEnds, Pipes};
-pub use fleet_talk::{Ends, Settings, Shelf, ShelfFault};
+pub use fleet_plans::is_plan;
+pub use fleet_talk::{ChapterSink, Ends, Settings, SinkFault};
 pub use fleet_words::{
-    Check, Convert, Explain, Figures, Form, Job, Live, Shown, Stats, Talk, View, WordFault,
+    Check, Convert, Explain, Figures, Form, Job, Live, Shown, Stats, Talk, Target, View, WordFault,
     parse_words,
 };
 pub use kept::{KeptFault, KeptText};
 pub use live::run_live;
 pub use names::{NamesFault, last_chapter};
+pub use plan_trace::{Traced, answer_trace, as_trace};
 pub use said::{Said, fail, tell};
 pub use stats::answer_stats;
 pub use talk::{TalkTexts, run_talk};

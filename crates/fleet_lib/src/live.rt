@@ -3,15 +3,18 @@
 ghost use Rattle.std.specs.Prelude.{◌≡◌, ◌≤◌, ◌<◌, ◌⊎◌, ◌==◌, ℕ, Some, if◌then◌else◌, IfOk, IfSome, IfNone, length, map};
 ghost use Rattle.fleet_map.specs.Text.{number_of};
 
+use crate::ending::tell_end;
+use crate::kept::{KeptFault, kept_chapter};
 use crate::said::fail;
-use crate::talk::{TalkTexts, complain, complaint_of, grounds};
-use errands_text::{Complaint, HookKit, InputFault, write_whole};
+use crate::talk::{TalkTexts, complain, grounds};
+use errands_text::{HookKit, InputFault, write_whole};
 use fleet_grid::Grid;
+use fleet_history::Chapter;
 use fleet_hooks::{ArrivalHook, Farewell, Hooks, TieHook};
-use fleet_live::{LiveEnds, LiveSettings, keep_live, read_period};
+use fleet_live::{LiveEnds, LiveSettings, keep_live, read_period, resume_live};
 use fleet_map::text::number_up_to;
 use fleet_script::Head;
-use fleet_talk::{Ground, MOST_ROBOTS, Shelf, TalkFault};
+use fleet_talk::{ChapterSink, Ground, MOST_ROBOTS, ResumeFault};
 use fleet_words::Live;
 use std::alloc::{Alloc, AllocError, Global};
 use std::io::{Read, Write};
@@ -26,6 +29,9 @@ enum BadWord {
     Clients,
     Period,
     Tickers,
+    KeepEvery,
+    /// No folder is named in which chapters are kept so often.
+    NoFolder,
     Pipes,
     /// A pipe is named twice.
     Twice,
@@ -92,6 +98,26 @@ fn names_twice(words: &[String]) -> bool {
     false
 }
 
+/// How many clients the fleet has: as the head says, or the chapter that it goes on from; one if neither does.
+fn client_count(head: &Head, kept: &Option<Chapter>) -> usize {
+    match (head.clients, kept) {
+        (Some(clients), _) => clients as usize,
+        (None, Some(chapter)) => chapter.opening.clients.len(),
+        (None, None) => 1,
+    }
+}
+
+/// Whether each client that has pipes is there, and each pipe is named once.
+fn check_pipes(pipes: &[String], clients: usize) -> Result<(), BadWord> {
+    if pipes.len() > clients {
+        return Err(BadWord::Pipes);
+    }
+    if names_twice(pipes) {
+        return Err(BadWord::Twice);
+    }
+    Ok(())
+}
+
 /// Adds what the words say to the head.
 fn add_words(alloc: Global, head: &mut Head, live: &Live) -> Result<(), BadWord> {
     if let Some(cells) = &live.robots {
@@ -105,12 +131,6 @@ fn add_words(alloc: Global, head: &mut Head, live: &Live) -> Result<(), BadWord>
         if clients_in(count).is_none() || !head.add_header(alloc, MOST_ROBOTS, b"clients", count)? {
             return Err(BadWord::Clients);
         }
-    }
-    if live.pipes.len() > head.clients.unwrap_or(1) as usize {
-        return Err(BadWord::Pipes);
-    }
-    if names_twice(&live.pipes) {
-        return Err(BadWord::Twice);
     }
     Ok(())
 }
@@ -128,15 +148,20 @@ fn tickers_in(word: &[u8]) -> Option<u32>
     }
 }
 
+/// The microseconds that a word says, if there is one. One that says no time is at fault.
+fn time_in(word: &Option<String>, fault: BadWord) -> Result<Option<u32>, BadWord> {
+    match word {
+        None => Ok(None),
+        Some(word) => match read_period(word.as_bytes()) {
+            Some(micros) => Ok(Some(micros)),
+            None => Err(fault),
+        },
+    }
+}
+
 /// How the fleet is kept.
 fn settings_of(live: &Live) -> Result<LiveSettings, BadWord> {
-    let period = match &live.period {
-        None => None,
-        Some(word) => match read_period(word.as_bytes()) {
-            Some(micros) => Some(micros),
-            None => return Err(BadWord::Period),
-        },
-    };
+    let period = time_in(&live.period, BadWord::Period)?;
     let tickers = match &live.tickers {
         None => 1,
         Some(word) => match tickers_in(word.as_bytes()) {
@@ -144,9 +169,14 @@ fn settings_of(live: &Live) -> Result<LiveSettings, BadWord> {
             None => return Err(BadWord::Tickers),
         },
     };
+    let keep_every = time_in(&live.keep_every, BadWord::KeepEvery)?;
+    if keep_every.is_some() && live.traces.is_none() {
+        return Err(BadWord::NoFolder);
+    }
     Ok(LiveSettings {
         period,
         tickers,
+        keep_every,
         watch: live.watch,
     })
 }
@@ -158,6 +188,8 @@ fn complain_of_word<E: Write>(word: BadWord, error: &mut E) -> u8 {
         BadWord::Clients => "error: invalid value for '--clients <N>'\n",
         BadWord::Period => "error: invalid value for '--period <TIME>'\n",
         BadWord::Tickers => "error: invalid value for '--tickers <N>'\n",
+        BadWord::KeepEvery => "error: invalid value for '--keep-every <TIME>'\n",
+        BadWord::NoFolder => "error: '--keep-every' needs '--traces <DIR>'\n",
         BadWord::Pipes => "error: more '--client <IN,OUT>' than clients\n",
         BadWord::Twice => "error: a pipe is named twice for '--client <IN,OUT>'\n",
         BadWord::NoMemory => return fail(InputFault::NoMemory, error),
@@ -166,7 +198,7 @@ fn complain_of_word<E: Write>(word: BadWord, error: &mut E) -> u8 {
     2
 }
 
-/// Keeps a fleet with the hooks of `errands run`, for as many robots as it may have.
+/// Keeps a fleet with the hooks of `errands run`, for as many robots as it may have. It goes on from the chapter, if there is one.
 fn keep_with_hooks<
     R: Alloc<A = Global> + Clock + Threads + Sync + Wait + Copy + Send + Drop + 'static,
     I: Read + Send + Drop + 'static,
@@ -174,14 +206,14 @@ fn keep_with_hooks<
     P: Read + Send + Drop + 'static,
     Q: Write + Send + Drop + 'static,
     E: Write + Send + Drop + 'static,
-    S: Shelf + Send + Drop,
+    S: ChapterSink + Send + Drop,
 >(
     rt: &R,
-    grid: Grid,
-    head: Head,
+    (grid, head): (Grid, Head),
+    kept: Option<Chapter>,
     settings: LiveSettings,
     ends: LiveEnds<I, W, P, Q, E, S>,
-) -> Result<bool, TalkFault> {
+) -> Result<bool, ResumeFault> {
     let alloc = rt.alloc();
     let plain = Hooks::alike(
         alloc,
@@ -198,12 +230,27 @@ fn keep_with_hooks<
         Farewell::by_cell(),
     )?;
     let kit = HookKit { plain, south };
-    keep_live(rt, Ground { grid, kit, head }, settings, ends)
+    let ground = Ground { grid, kit, head };
+    match kept {
+        Some(chapter) => resume_live(rt, ground, chapter, settings, ends),
+        None => match keep_live(rt, ground, settings, ends) {
+            Ok(limited) => Ok(limited),
+            Err(fault) => Err(ResumeFault::Talk(fault)),
+        },
+    }
 }
 
-/// Keeps a fleet on the map in real time, or on demand. Returns the status: 0 good, 2 a word is wrong, 3 a line could
-/// not be read, or an answer or a chapter not written, 4 the map, 5 the script or the opening is refused, 7 out of
-/// memory, 8 a limit was met.
+/// The chapter that a fleet goes on from, if a file is given.
+fn chapter_in(alloc: Global, texts: TalkTexts<'_>) -> Result<Option<Chapter>, KeptFault> {
+    match texts.kept {
+        Some(kept) => Ok(Some(kept_chapter(alloc, kept)?)),
+        None => Ok(None),
+    }
+}
+
+/// Keeps a fleet on the map in real time, or on demand. It goes on from the chapter of a file, if one is given. Returns the
+/// status: 0 good, 2 a word is wrong, 3 a line could not be read, or an answer or a chapter not written, 4 the map, 5 the script
+/// or the opening, 6 the chapter to go on from is refused, 7 out of memory, 8 a limit was met.
 pub fn run_live<
     R: Alloc<A = Global> + Clock + Threads + Sync + Wait + Copy + Send + Drop + 'static,
     I: Read + Send + Drop + 'static,
@@ -211,7 +258,7 @@ pub fn run_live<
     P: Read + Send + Drop + 'static,
     Q: Write + Send + Drop + 'static,
     E: Write + Send + Drop + 'static,
-    S: Shelf + Send + Drop,
+    S: ChapterSink + Send + Drop,
     F: Write,
 >(rt: &R, texts: TalkTexts<'_>, live: &Live, ends: LiveEnds<I, W, P, Q, E, S>, error: &mut F) -> u8
     requires { length texts.script.now ≤ 16777216 }
@@ -229,9 +276,16 @@ pub fn run_live<
     if let Err(word) = add_words(alloc, &mut head, live) {
         return complain_of_word(word, error);
     }
-    match keep_with_hooks(rt, grid, head, settings, ends) {
-        Ok(false) => 0,
-        Ok(true) => complain(alloc, Complaint::Limit, error),
-        Err(fault) => complain(alloc, complaint_of(fault), error),
+    let kept = match chapter_in(alloc, texts) {
+        Ok(kept) => kept,
+        Err(fault) => return tell_end(alloc, texts, Err(fault), error),
+    };
+    if let Err(word) = check_pipes(&live.pipes, client_count(&head, &kept)) {
+        return complain_of_word(word, error);
     }
+    let ended = match keep_with_hooks(rt, (grid, head), kept, settings, ends) {
+        Ok(limited) => Ok(limited),
+        Err(fault) => Err(KeptFault::Resume(fault)),
+    };
+    tell_end(alloc, texts, ended, error)
 }

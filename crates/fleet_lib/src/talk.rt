@@ -1,20 +1,21 @@
 //! The word `talk`.
 
 ghost use Rattle.std.specs.Prelude.{◌≡◌, ◌≤◌, IfOk, IfErr, length};
+ghost use Rattle.std.specs.Io.Buffered.{reader_remaining};
+ghost use Rattle.std.specs.Option.{option_map};
 ghost use Rattle.fleet_talk.specs.Heading.{drafted};
+ghost use Rattle.fleet_lib.specs.Ended.{IsTalk, file_shown};
 ghost use Rattle.fleet_lib.specs.Talk.{Complains, IsGround, IsGroundFault, complaint_of};
 
-use crate::kept::{KeptFault, KeptText, complain_of_kept, kept_chapter};
+use crate::ending::tell_end;
+use crate::holding::hold;
+use crate::kept::KeptText;
 use crate::said::fail;
-use errands_text::{Complaint, HookKit, InputFault, write_whole};
+use errands_text::{Complaint, InputFault, write_whole};
 use fleet_grid::Grid;
-use fleet_history::Chapter;
-use fleet_hooks::{ArrivalHook, Farewell, Hooks, TieHook};
 use fleet_map::{MapFault, read_map};
 use fleet_script::{Head, ScriptFault};
-use fleet_talk::{
-    Ends, Ground, MOST_ROBOTS, ResumeFault, Settings, Shelf, TalkFault, converse, read_head, resume,
-};
+use fleet_talk::{ChapterSink, Ends, Settings, TalkFault, read_head};
 use std::alloc::{Alloc, AllocError, Global};
 use std::io::{Read, Write};
 
@@ -44,7 +45,7 @@ pub(crate) fn complaint_of(fault: TalkFault) -> Complaint
     ensures { result ≡ complaint_of fault }
 {
     match fault {
-        TalkFault::Input | TalkFault::Output | TalkFault::Shelf => Complaint::File,
+        TalkFault::Input | TalkFault::Output | TalkFault::Sink => Complaint::File,
         TalkFault::Opening(fault) => Complaint::Opening(fault),
         TalkFault::NoMemory => Complaint::Memory,
     }
@@ -72,76 +73,10 @@ pub(crate) fn grounds(alloc: Global, texts: TalkTexts<'_>) -> Result<(Grid, Head
     }
 }
 
-/// Holds a conversation with the hooks of `errands run`, for as many robots as it may have. The fleet goes on from the
-/// chapter, if there is one.
-fn converse_with_hooks<R: Alloc<A = Global>, I: Read, W: Write, S: Shelf>(
-    rt: &R,
-    (grid, head): (Grid, Head),
-    kept: Option<Chapter>,
-    settings: Settings,
-    ends: &mut Ends<I, W, S>,
-) -> Result<bool, ResumeFault> {
-    let alloc = rt.alloc();
-    let plain = Hooks::alike(
-        alloc,
-        MOST_ROBOTS,
-        TieHook::fixed([0; 4]),
-        ArrivalHook::fixed(0),
-        Farewell::fixed(0),
-    )?;
-    let south = Hooks::alike(
-        alloc,
-        MOST_ROBOTS,
-        TieHook::south_first(),
-        ArrivalHook::by_tick(),
-        Farewell::by_cell(),
-    )?;
-    let kit = HookKit { plain, south };
-    let ground = Ground { grid, kit, head };
-    match kept {
-        Some(chapter) => resume(rt, ground, chapter, settings, ends),
-        None => match converse(rt, ground, settings, ends) {
-            Ok(limited) => Ok(limited),
-            Err(fault) => Err(ResumeFault::Talk(fault)),
-        },
-    }
-}
-
-/// Holds a conversation. Its fleet goes on from the chapter of a file, if one is given.
-fn hold<R: Alloc<A = Global>, I: Read, W: Write, S: Shelf>(
-    rt: &R,
-    ground: (Grid, Head),
-    kept: Option<KeptText<'_>>,
-    settings: Settings,
-    ends: &mut Ends<I, W, S>,
-) -> Result<bool, KeptFault> {
-    let Some(kept) = kept else {
-        return Ok(converse_with_hooks(rt, ground, None, settings, ends)?);
-    };
-    let chapter = kept_chapter(rt.alloc(), kept)?;
-    Ok(converse_with_hooks(rt, ground, Some(chapter), settings, ends)?)
-}
-
-/// Prints why a conversation broke off, or was not held. Returns the status.
-fn complain_of_end<E: Write>(
-    alloc: Global,
-    texts: TalkTexts<'_>,
-    fault: KeptFault,
-    error: &mut E,
-) -> u8 {
-    if let KeptFault::Resume(ResumeFault::Talk(fault)) = fault {
-        return complain(alloc, complaint_of(fault), error);
-    }
-    match texts.kept {
-        Some(kept) => complain_of_kept(alloc, texts.map, kept, fault, error),
-        None => fail(InputFault::NoMemory, error),
-    }
-}
-
 /// Holds a conversation on the map. Returns the status: 0 good, 3 a line could not be read, or an answer or a chapter
 /// not written, 4 the map, 5 the script or the opening, 6 the chapter to go on from is refused, 7 out of memory, 8 a limit
 /// was met.
-pub fn run_talk<R: Alloc<A = Global>, I: Read, W: Write, S: Shelf, E: Write>(
+pub fn run_talk<R: Alloc<A = Global>, I: Read, W: Write, S: ChapterSink, E: Write>(
     rt: &R,
     texts: TalkTexts<'_>,
     settings: Settings,
@@ -149,15 +84,16 @@ pub fn run_talk<R: Alloc<A = Global>, I: Read, W: Write, S: Shelf, E: Write>(
     error: &mut E,
 ) -> u8
     requires { length texts.script.now ≤ 16777216 }
+    ensures { IsTalk texts.entry.map.now texts.entry.script.now (option_map file_shown texts.entry.kept) settings (reader_remaining I.remaining ends.old.input)
+        (W.contents ends.old.output) (W.contents ends.new.output) (record { old = S.kept ends.old.sink; new = S.kept ends.new.sink })
+        (E.contents error.old) (E.contents error.new) result }
 {
     let alloc = rt.alloc();
-    let ground = match grounds(alloc, texts) {
-        Ok(ground) => ground,
-        Err(complaint) => return complain(alloc, complaint, error),
-    };
-    match hold(rt, ground, texts.kept, settings, ends) {
-        Ok(false) => 0,
-        Ok(true) => complain(alloc, Complaint::Limit, error),
-        Err(fault) => complain_of_end(alloc, texts, fault, error),
+    match grounds(alloc, texts) {
+        Ok(ground) => {
+            let ended = hold(rt, ground, texts.kept, settings, ends);
+            tell_end(alloc, texts, ended, error)
+        }
+        Err(complaint) => complain(alloc, complaint, error),
     }
 }

@@ -9,7 +9,7 @@ use Rattle.fleet_lanes.specs.Names.{LaneName}
 use Rattle.fleet_office.specs.Chapters.{IsChapterOf}
 use Rattle.fleet_office.specs.Hall.{HallView}
 use Rattle.fleet_talk.specs.Chapters.{Adds, ChapterView, IsSound}
-use Rattle.fleet_talk.proofs.Shelving.{adds-none, adds-then}
+use Rattle.fleet_talk.proofs.Keeping.{adds-none, adds-then}
 use Rattle.live_parts.specs.Kept.{AreSound, KeepsFirst}
 use Rattle.fleet_live.specs.Handed.{IsConcluded, KeepsHanded, KeepsToEnd}
 

@@ -8,7 +8,7 @@ use Rattle.fleet_script.specs.Script.{Draft}
 use Rattle.errands_text.specs.Kit.{KitLaws}
 use Rattle.fleet_talk.specs.Conversation.{clients_in, laws_in, limits_in}
 use Rattle.live_parts.specs.declared.stop.Stop.{Stop}
-use Rattle.live_parts.specs.declared.stop.Stop.TheVariants.{Quit, Limit, Input, Output, Shelf, NoMemory}
+use Rattle.live_parts.specs.declared.stop.Stop.TheVariants.{Quit, Limit, Input, Output, Sink, NoMemory}
 use Rattle.fleet_talk.specs.declared.fault.TalkFault.{TalkFault}
 use Rattle.fleet_talk.specs.declared.fault.TalkFault.TheVariants as talk
 
@@ -32,5 +32,5 @@ ended_by Quit limited = Ok limited
 ended_by Limit limited = Ok true
 ended_by Input limited = Err talk.Input
 ended_by Output limited = Err talk.Output
-ended_by Shelf limited = Err talk.Shelf
+ended_by Sink limited = Err talk.Sink
 ended_by NoMemory limited = Err talk.NoMemory

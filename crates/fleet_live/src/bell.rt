@@ -26,6 +26,8 @@ pub(crate) enum Call {
     Tell,
     /// Say all figures.
     Show,
+    /// Hand out the chapter.
+    HandOut,
 }
 
 /// Requests that are not done yet.
@@ -36,6 +38,7 @@ struct Asks {
     settle: bool,
     tell: bool,
     show: bool,
+    hand_out: bool,
     /// Whether the first conversation's `quit` was read.
     quits: bool,
 }
@@ -43,7 +46,12 @@ struct Asks {
 impl Asks {
     /// Whether nothing is asked.
     fn is_quiet(&self) -> bool {
-        self.stop.is_none() && self.wishes.is_empty() && !self.settle && !self.tell && !self.show
+        self.stop.is_none()
+            && self.wishes.is_empty()
+            && !self.settle
+            && !self.tell
+            && !self.show
+            && !self.hand_out
     }
 
     /// What is to be done next.
@@ -54,6 +62,10 @@ impl Asks {
         if self.show {
             self.show = false;
             return Call::Show;
+        }
+        if self.hand_out {
+            self.hand_out = false;
+            return Call::HandOut;
         }
         if let Some(wish) = self.wishes.pop_front() {
             return Call::Grant(wish);
@@ -86,6 +98,7 @@ impl Bell {
                 settle: false,
                 tell: false,
                 show: false,
+                hand_out: false,
                 quits: false,
             }),
             rung: Condvar::new(),
@@ -128,6 +141,15 @@ impl Bell {
         let mut held = self.asks.lock(rt);
         let asks = &mut *held;
         asks.show = true;
+        mem::drop(held);
+        self.rung.notify_all();
+    }
+
+    /// Asks to hand out the chapter.
+    pub(crate) fn ask_to_hand_out<R: Wait>(&self, rt: &R) {
+        let mut held = self.asks.lock(rt);
+        let asks = &mut *held;
+        asks.hand_out = true;
         mem::drop(held);
         self.rung.notify_all();
     }

@@ -3,7 +3,7 @@
 use crate::voice::Voice;
 use fleet_book::Order;
 use fleet_office::{Guest, OfficeName};
-use live_parts::{Rights, post_in, post_text};
+use live_parts::{Rights, number_on, post_in, post_text};
 use std::alloc::{AllocError, Global};
 use std::mem;
 use std::sync::atomic::{AtomicU64, Ordering};
@@ -16,6 +16,8 @@ pub(crate) struct Conversation<N: OfficeName<Global>> {
     pub(crate) rights: Rights,
     pub(crate) voice: Arc<Voice>,
     guests: Mutex<Vec<Guest<N>>>,
+    /// By client, how many of its orders were taken before the fleet went on.
+    taken: Vec<u64>,
     /// How many requests the keeper has answered.
     granted: Mutex<u64>,
     /// Signalled when the keeper has answered one.
@@ -30,12 +32,14 @@ impl<N: OfficeName<Global>> Conversation<N> {
         rights: Rights,
         voice: Arc<Voice>,
         guests: Vec<Guest<N>>,
+        taken: Vec<u64>,
     ) -> Conversation<N> {
         Conversation {
             place,
             rights,
             voice,
             guests: Mutex::new(guests),
+            taken,
             granted: Mutex::new(0),
             answered: Condvar::new(),
             watching: AtomicU64::new(0),
@@ -56,7 +60,7 @@ impl<N: OfficeName<Global>> Conversation<N> {
         let guests = &mut *held;
         let posted = post_in(guests, client, order);
         let text = match posted {
-            Some(posted) => post_text(alloc, client, posted)?,
+            Some(posted) => post_text(alloc, client, number_on(&self.taken, client, posted))?,
             None => format!(in alloc; "no-client {client}\n")?,
         };
         self.voice.say(rt, mark, text.as_str())?;

@@ -24,9 +24,14 @@ fn new_conversation<N: OfficeName<Global>>(
     place: usize,
     rights: Rights,
     guests: Vec<Guest<N>>,
+    taken: &[u64],
 ) -> Result<Arc<Conversation<N>>, AllocError> {
     let voice = new_voice(alloc)?;
-    match Arc::new(alloc, Conversation::new(place, rights, voice, guests)) {
+    let taken = Vec::from_slice(alloc, taken)?;
+    match Arc::new(
+        alloc,
+        Conversation::new(place, rights, voice, guests, taken),
+    ) {
         Ok(one) => Ok(one),
         Err(_) => Err(AllocError),
     }
@@ -36,15 +41,16 @@ fn new_conversation<N: OfficeName<Global>>(
 fn own_conversation<N: OfficeName<Global>>(
     alloc: Global,
     guest: Guest<N>,
+    taken: &[u64],
 ) -> Result<Arc<Conversation<N>>, AllocError> {
     let place = (guest.number() as usize).saturating_add(1);
     let mut guests = Vec::with_capacity(alloc, 1)?;
     guests.push_reserved(guest);
     let rights = Rights {
-        rules: false,
+        is_operator: false,
         ticks: false,
     };
-    new_conversation(alloc, place, rights, guests)
+    new_conversation(alloc, place, rights, guests, taken)
 }
 
 /// The conversations: the first is that of the clients that have no pipes, the others are those of clients 0, 1, ..
@@ -53,6 +59,7 @@ pub(crate) fn conversations_of<N: OfficeName<Global>>(
     clients: Vec<Client>,
     pipes: usize,
     paced: bool,
+    taken: &[u64],
 ) -> Result<Vec<Arc<Conversation<N>>>, AllocError>
     requires { AreOn N.rings (cores clients.items) }
 {
@@ -63,17 +70,17 @@ pub(crate) fn conversations_of<N: OfficeName<Global>>(
     let mut own = Vec::new(alloc);
     for guest in guests {
         if (guest.number() as usize) < pipes {
-            push_one(&mut own, own_conversation(alloc, guest)?)?;
+            push_one(&mut own, own_conversation(alloc, guest, taken)?)?;
         } else if rest.push(guest).is_err() {
             return Err(AllocError);
         }
     }
     let rights = Rights {
-        rules: true,
+        is_operator: true,
         ticks: !paced,
     };
     let mut all = Vec::new(alloc);
-    push_one(&mut all, new_conversation(alloc, 0, rights, rest)?)?;
+    push_one(&mut all, new_conversation(alloc, 0, rights, rest, taken)?)?;
     for one in own {
         push_one(&mut all, one)?;
     }

@@ -15,7 +15,7 @@ use fleet_core::ChapterFault;
 use fleet_history::Chapter;
 use fleet_lanes::Client;
 use fleet_office::{ConcludeFault, Final, Guest, Home, Office, OfficeName, Ticker, clients_of};
-use fleet_talk::Shelf;
+use fleet_talk::ChapterSink;
 use live_parts::{Archive, Stop, notice_text};
 use std::alloc::{Alloc, AllocError, Global};
 use std::mem;
@@ -54,12 +54,12 @@ fn clients_home<N: OfficeName<Global>, R: Alloc<A = Global> + Wait>(
 
 /// Hands out the chapter, and keeps it after those that wait, or lets it wait. The error where it is the last is that a
 /// limit was met.
-fn turn_page<N: OfficeName<Global>, R: Wait, S: Shelf>(
+fn hand_out<N: OfficeName<Global>, R: Wait, S: ChapterSink>(
     rt: &R,
     office: &Office<N>,
     archive: &mut Archive<S>,
 ) -> Result<(), Stop>
-    ensures kept { OnOk result (KeepsHanded archive.old.waiting archive.new.waiting (S.kept archive.old.shelf) (S.kept archive.new.shelf)) }
+    ensures kept { OnOk result (KeepsHanded archive.old.waiting archive.new.waiting (S.kept archive.old.sink) (S.kept archive.new.sink)) }
 {
     match office.next_chapter(rt) {
         Ok(chapter) => archive.waiting.push(chapter)?,
@@ -72,7 +72,7 @@ fn turn_page<N: OfficeName<Global>, R: Wait, S: Shelf>(
 
 /// Concludes the office, in further chapters where orders are left that have no room in this one. If it cannot be
 /// concluded, it is returned, and why.
-fn conclude<N: OfficeName<Global>, R: Alloc<A = Global> + Wait, S: Shelf>(
+fn conclude<N: OfficeName<Global>, R: Alloc<A = Global> + Wait, S: ChapterSink>(
     rt: &R,
     home: Home<N>,
     archive: &mut Archive<S>,
@@ -80,7 +80,7 @@ fn conclude<N: OfficeName<Global>, R: Alloc<A = Global> + Wait, S: Shelf>(
     requires on { AreOn N.rings (cores home.clients.items) }
     ensures sound { IfOk result (λ end. (m : Floor) × IsSound m (history_of end.chapter)) }
     ensures concluded { IfOk result (λ end. IsConcluded N.rings N.start (chapter_shown end.chapter)) }
-    ensures kept { OnOk result (KeepsHanded archive.old.waiting archive.new.waiting (S.kept archive.old.shelf) (S.kept archive.new.shelf)) }
+    ensures kept { OnOk result (KeepsHanded archive.old.waiting archive.new.waiting (S.kept archive.old.sink) (S.kept archive.new.sink)) }
 {
     let mut home = home;
     for _ in rt.forever() {
@@ -92,7 +92,7 @@ fn conclude<N: OfficeName<Global>, R: Alloc<A = Global> + Wait, S: Shelf>(
         match office.conclude(rt.alloc(), clients, tickers) {
             Ok(end) => return Ok(end),
             Err((ConcludeFault::ChapterFull, back)) => {
-                match turn_page(rt, &back.office, archive) {
+                match hand_out(rt, &back.office, archive) {
                     Ok(()) => home = back,
                     Err(stop) => return Err((stop, back)),
                 }
@@ -188,13 +188,13 @@ fn say_ended<N: OfficeName<Global>, R: Alloc<A = Global> + Wait>(
 ) -> Result<(), AllocError> {
     let last = format!(in rt.alloc(); "ended {tick}\n")?;
     for one in conversations {
-        one.voice.say(rt, None, last.as_str())?;
+        one.voice.say_last(rt, last.as_str())?;
     }
     Ok(())
 }
 
 /// Keeps the last chapter, and says that the fleet ended.
-fn end_in<N: OfficeName<Global>, R: Alloc<A = Global> + Wait, S: Shelf>(
+fn end_in<N: OfficeName<Global>, R: Alloc<A = Global> + Wait, S: ChapterSink>(
     rt: &R,
     conversations: &[Arc<Conversation<N>>],
     archive: &mut Archive<S>,
@@ -202,7 +202,7 @@ fn end_in<N: OfficeName<Global>, R: Alloc<A = Global> + Wait, S: Shelf>(
     tick: u64,
 ) -> Result<(), Stop>
     requires sound { (m : Floor) × IsSound m (history_of chapter.now) }
-    ensures kept { OnOk result (Adds (S.kept archive.old.shelf) (S.kept archive.new.shelf) (archive.old.waiting ++ chapter_shown chapter.now ∷ [])) }
+    ensures kept { OnOk result (Adds (S.kept archive.old.sink) (S.kept archive.new.sink) (archive.old.waiting ++ chapter_shown chapter.now ∷ [])) }
 {
     let kept = archive.keep_last(chapter);
     say_ended(rt, conversations, tick)?;
@@ -210,14 +210,14 @@ fn end_in<N: OfficeName<Global>, R: Alloc<A = Global> + Wait, S: Shelf>(
 }
 
 /// Tells what nobody collected, keeps the last chapter, and says that the fleet ended.
-fn end_all<N: OfficeName<Global>, R: Alloc<A = Global> + Wait, S: Shelf>(
+fn end_all<N: OfficeName<Global>, R: Alloc<A = Global> + Wait, S: ChapterSink>(
     rt: &R,
     conversations: &[Arc<Conversation<N>>],
     archive: &mut Archive<S>,
     end: &Final,
 ) -> Result<(), Stop>
     requires sound { (m : Floor) × IsSound m (history_of end.now.chapter) }
-    ensures kept { OnOk result (Adds (S.kept archive.old.shelf) (S.kept archive.new.shelf) (archive.old.waiting ++ chapter_shown end.now.chapter ∷ [])) }
+    ensures kept { OnOk result (Adds (S.kept archive.old.sink) (S.kept archive.new.sink) (archive.old.waiting ++ chapter_shown end.now.chapter ∷ [])) }
 {
     let told = tell_rest(rt, conversations, &end.rest);
     let kept = end_in(rt, conversations, archive, &end.chapter, end.tick);
@@ -226,20 +226,20 @@ fn end_all<N: OfficeName<Global>, R: Alloc<A = Global> + Wait, S: Shelf>(
 }
 
 /// Ends an office that cannot be concluded: its chapter is kept as it is.
-fn end_office<N: OfficeName<Global>, R: Alloc<A = Global> + Wait, S: Shelf>(
+fn end_office<N: OfficeName<Global>, R: Alloc<A = Global> + Wait, S: ChapterSink>(
     rt: &R,
     conversations: &[Arc<Conversation<N>>],
     archive: &mut Archive<S>,
     office: Office<N>,
 ) -> Result<(), Stop>
-    ensures kept { OnOk result ((chapter : ChapterView Global) × Adds (S.kept archive.old.shelf) (S.kept archive.new.shelf) (archive.old.waiting ++ chapter ∷ [])) }
+    ensures kept { OnOk result ((chapter : ChapterView Global) × Adds (S.kept archive.old.sink) (S.kept archive.new.sink) (archive.old.waiting ++ chapter ∷ [])) }
 {
     let (chapter, tick) = office.into_chapter();
     end_in(rt, conversations, archive, &chapter, tick)
 }
 
 /// Ends an office that cannot be concluded: tells its notices, and keeps its chapter as it is.
-fn end_home<N: OfficeName<Global>, R: Alloc<A = Global> + Wait, S: Shelf>(
+fn end_home<N: OfficeName<Global>, R: Alloc<A = Global> + Wait, S: ChapterSink>(
     rt: &R,
     conversations: &[Arc<Conversation<N>>],
     archive: &mut Archive<S>,
@@ -258,14 +258,14 @@ fn end_home<N: OfficeName<Global>, R: Alloc<A = Global> + Wait, S: Shelf>(
 /// Ends the fleet: the guests come home, the office is concluded, what was not collected is told, and the last chapter
 /// is kept. If the office cannot be concluded, since the last chapter is full or memory ran out, the orders that are
 /// left are not judged, and all else is done.
-pub(crate) fn finish<N: OfficeName<Global>, R: Alloc<A = Global> + Wait, S: Shelf>(
+pub(crate) fn finish<N: OfficeName<Global>, R: Alloc<A = Global> + Wait, S: ChapterSink>(
     rt: &R,
     office: Office<N>,
     conversations: &[Arc<Conversation<N>>],
     tickers: Vec<Ticker<N>>,
     archive: &mut Archive<S>,
 ) -> Result<(), Stop>
-    ensures kept { OnOk result (KeepsToEnd N.rings N.start archive.old.waiting (S.kept archive.old.shelf) (S.kept archive.new.shelf)) }
+    ensures kept { OnOk result (KeepsToEnd N.rings N.start archive.old.waiting (S.kept archive.old.sink) (S.kept archive.new.sink)) }
 {
     let clients = match clients_home(rt, conversations) {
         Ok(clients) => clients,
@@ -282,7 +282,7 @@ pub(crate) fn finish<N: OfficeName<Global>, R: Alloc<A = Global> + Wait, S: Shel
     match conclude(rt, home, archive) {
         Ok(end) => end_all(rt, conversations, archive, &end),
         Err((stop, home)) => match end_home(rt, conversations, archive, home) {
-            Err(Stop::Shelf) => Err(Stop::Shelf),
+            Err(Stop::Sink) => Err(Stop::Sink),
             _ => Err(stop),
         },
     }

@@ -5,7 +5,7 @@ use crate::keeper::{Keeper, Turned};
 use crate::stage::{Round, Work};
 use fleet_core::{ChapterFault, ShutFault};
 use fleet_office::OfficeName;
-use fleet_talk::{Shelf, open_text};
+use fleet_talk::{ChapterSink, open_text};
 use live_parts::{Stop, Wanted, look_text, shut_text, tick_text};
 use std::alloc::{Alloc, AllocError, Global};
 use std::sync::Wait;
@@ -14,7 +14,7 @@ use std::sync::Wait;
 /// its `quit` was read, if no `tick` asks for more.
 const SURE_TURNS: u32 = 65_536;
 
-impl<N: OfficeName<Global>, S: Shelf> Keeper<'_, N, S> {
+impl<N: OfficeName<Global>, S: ChapterSink> Keeper<'_, N, S> {
     /// Whether the turn after `made` turns is the last of the `times` that were asked for: `quit` ends those that take long.
     fn is_last_turn<R: Wait>(&self, rt: &R, made: u32, times: u32) -> bool {
         times.saturating_sub(made) <= 1
@@ -55,18 +55,18 @@ impl<N: OfficeName<Global>, S: Shelf> Keeper<'_, N, S> {
         work: &mut Work<N>,
     ) -> Result<String, Stop> {
         let alloc = rt.alloc();
-        let page = match self.office.next_chapter(rt) {
-            Ok(page) => page,
+        let chapter = match self.office.next_chapter(rt) {
+            Ok(chapter) => chapter,
             Err(ChapterFault::BookSpent) => {
                 return Ok(String::from_str(alloc, "chapter-refused 1 book-spent\n")?);
             }
             Err(ChapterFault::NoMemory) => return Err(Stop::NoMemory),
         };
-        let (number, entries) = (page.number, page.entries.len());
-        if let Err(AllocError) = work.pages.push(page) {
+        let (number, entries) = (chapter.number, chapter.entries.len());
+        if let Err(AllocError) = work.chapters.push(chapter) {
             return Err(Stop::NoMemory);
         }
-        self.stage.keep_pages(rt, &mut work.pages)?;
+        self.stage.keep_chapters(rt, &mut work.chapters)?;
         Ok(format!(in alloc; "chapter {number} entries {entries}\n")?)
     }
 
@@ -79,7 +79,7 @@ impl<N: OfficeName<Global>, S: Shelf> Keeper<'_, N, S> {
         robot: u32,
     ) -> Result<String, Stop> {
         let mut done = self.office.shut(rt, robot);
-        if done == Err(ShutFault::ChapterFull) && self.turn_page(rt, work)? {
+        if done == Err(ShutFault::ChapterFull) && self.hand_out_full(rt, work)? {
             done = self.office.shut(rt, robot);
         }
         round.limited |= done == Err(ShutFault::ChapterFull);

@@ -8,7 +8,7 @@ use crate::conversation::Conversation;
 use crate::stage::{Round, Stage, Work};
 use fleet_core::ChapterFault;
 use fleet_office::{Office, OfficeName, TurnCause};
-use fleet_talk::Shelf;
+use fleet_talk::ChapterSink;
 use live_parts::{Stop, tick_text};
 use std::alloc::{Alloc, AllocError, Global};
 use std::sync::Wait;
@@ -33,14 +33,14 @@ pub(crate) struct Keeper<'a, N: OfficeName<Global>, S> {
     pub(crate) stage: &'a Stage<N, S>,
 }
 
-impl<N: OfficeName<Global>, S: Shelf> Keeper<'_, N, S> {
+impl<N: OfficeName<Global>, S: ChapterSink> Keeper<'_, N, S> {
     /// Tells each client all its notices, however few its outlet has room for, while there is room in its conversation.
     /// On demand the first conversation is told all, however long its reader takes.
     pub(crate) fn tell_all<R: Alloc<A = Global> + Wait>(&self, rt: &R) -> Result<(), AllocError> {
         for _ in rt.forever() {
             for one in &self.stage.conversations {
                 let told = one.tell(rt, rt.alloc())?;
-                if !told && !self.stage.paced && one.rights.rules {
+                if !told && !self.stage.paced && one.rights.is_operator {
                     self.tell_whole(rt, one)?;
                 }
             }
@@ -86,20 +86,35 @@ impl<N: OfficeName<Global>, S: Shelf> Keeper<'_, N, S> {
         Ok(())
     }
 
-    /// Hands out the chapter where it is full, and returns whether there is room for an entry now.
-    pub(crate) fn turn_page<R: Wait>(&self, rt: &R, work: &mut Work<N>) -> Result<bool, Stop>
-        ensures { result ≡ Ok true → IsTurned N.rings N.start self.now.stage.now.chapter work.old.pages work.new.pages }
+    /// Hands out the chapter where it has at least this many entries, and returns whether it has fewer now.
+    fn hand_out<R: Wait>(&self, rt: &R, least: u32, work: &mut Work<N>) -> Result<bool, Stop>
+        ensures { result ≡ Ok true → IsTurned N.rings N.start least work.old.chapters work.new.chapters }
     {
-        match self.office.turn_page(rt, self.stage.chapter) {
-            // The other ticker handed it out.
+        match self.office.grown_chapter(rt, least) {
+            // It has fewer, or the other ticker handed it out.
             Ok(None) => Ok(true),
-            Ok(Some(page)) => match work.pages.push(page) {
+            Ok(Some(chapter)) => match work.chapters.push(chapter) {
                 Ok(()) => Ok(true),
                 Err(AllocError) => Err(Stop::NoMemory),
             },
             Err(ChapterFault::BookSpent) => Ok(false),
             Err(ChapterFault::NoMemory) => Err(Stop::NoMemory),
         }
+    }
+
+    /// Hands out the chapter where it is full, and returns whether there is room for an entry now.
+    pub(crate) fn hand_out_full<R: Wait>(&self, rt: &R, work: &mut Work<N>) -> Result<bool, Stop>
+        ensures { result ≡ Ok true → IsTurned N.rings N.start self.now.stage.now.chapter work.old.chapters work.new.chapters }
+    {
+        self.hand_out(rt, self.stage.chapter, work)
+    }
+
+    /// Hands out the chapter where it has an entry, unless one before it waits to be kept, or it is the last.
+    fn hand_out_early<R: Wait>(&self, rt: &R, work: &mut Work<N>) -> Result<(), Stop> {
+        if !self.stage.has_unkept() {
+            self.hand_out(rt, 1, work)?;
+        }
+        Ok(())
     }
 
     /// Makes a turn, in the next chapter where this one is full.
@@ -121,7 +136,7 @@ impl<N: OfficeName<Global>, S: Shelf> Keeper<'_, N, S> {
                         TurnCause::ClockSpent => return Ok(Turned::ClockSpent),
                         TurnCause::NoMemory => return Err(Stop::NoMemory),
                         TurnCause::ChapterFull => {
-                            if !self.turn_page(rt, work)? {
+                            if !self.hand_out_full(rt, work)? {
                                 return Ok(Turned::ChapterFull);
                             }
                         }
@@ -148,7 +163,7 @@ impl<N: OfficeName<Global>, S: Shelf> Keeper<'_, N, S> {
             self.show_tick(rt, work)?;
         }
         if !self.stage.paced {
-            self.stage.keep_pages(rt, &mut work.pages)?;
+            self.stage.keep_chapters(rt, &mut work.chapters)?;
         }
         Ok(turned)
     }
@@ -172,7 +187,7 @@ impl<N: OfficeName<Global>, S: Shelf> Keeper<'_, N, S> {
                     if fault.cause != TurnCause::ChapterFull {
                         return Err(Stop::NoMemory);
                     }
-                    if !self.turn_page(rt, work)? {
+                    if !self.hand_out_full(rt, work)? {
                         break;
                     }
                 }
@@ -216,6 +231,7 @@ impl<N: OfficeName<Global>, S: Shelf> Keeper<'_, N, S> {
             Call::Settle => self.settle(rt, round, work),
             Call::Tell => Ok(self.tell_all(rt)?),
             Call::Show => Ok(self.show_figures(rt, round)?),
+            Call::HandOut => self.hand_out_early(rt, work),
         }
     }
 }

@@ -13,6 +13,7 @@ mod keeper;
 mod listening;
 mod live;
 mod pace;
+mod resuming;
 mod serving;
 mod stage;
 mod threads;
@@ -21,3 +22,4 @@ mod voice;
 
 pub use live::keep_live;
 pub use live_parts::{LiveEnds, LiveSettings, Pipes, read_period};
+pub use resuming::resume_live;

@@ -4,7 +4,7 @@ ghost use Rattle.std.specs.Prelude.{◌≡◌, ◌≤◌, ◌↔◌, ◌⊎◌, 
 ghost use Rattle.errands_text.specs.Kit.{kit_laws};
 ghost use Rattle.fleet_core.specs.Hooks.{laws_of};
 ghost use Rattle.fleet_core.specs.OpeningFaults.{IsNamed as IsNamedFault, IsRefused};
-ghost use Rattle.fleet_office.specs.Views.{IsNamed, world_at};
+ghost use Rattle.fleet_office.specs.Views.{AreOn, IsNamed, cores, world_at};
 ghost use Rattle.fleet_talk.specs.Heading.{drafted};
 ghost use Rattle.fleet_live.specs.Ended.{IsEnded, IsRefusedHead, ended_by, unopened};
 
@@ -16,8 +16,9 @@ use fleet_book::Limits;
 use fleet_core::OpenFault;
 use fleet_grid::Grid;
 use fleet_hooks::Hooks;
-use fleet_office::{Desk, Office, OfficeName};
-use fleet_talk::{Ground, Shelf, TALK_LIMITS, TalkFault};
+use fleet_lanes::Client;
+use fleet_office::{Desk, Office, OfficeName, Ticker};
+use fleet_talk::{ChapterSink, Ground, TALK_LIMITS, TalkFault};
 use live_parts::{LiveEnds, LiveSettings, Stop};
 use std::alloc::{Alloc, AllocError, Global};
 use std::io::{Read, Write};
@@ -71,11 +72,12 @@ impl Opening {
     }
 
     /// What is known of the fleet besides who talks to it.
-    fn site(&self, settings: LiveSettings) -> Site {
+    fn site(&self, alloc: Global, settings: LiveSettings) -> Site {
         Site {
             settings,
             cells: self.grid.cell_count(),
             chapter: self.limits.chapter,
+            taken: Vec::new(alloc),
         }
     }
 }
@@ -108,17 +110,17 @@ fn ended(stop: Stop, limited: bool) -> Result<bool, TalkFault>
         Stop::Limit => Ok(true),
         Stop::Input => Err(TalkFault::Input),
         Stop::Output => Err(TalkFault::Output),
-        Stop::Shelf => Err(TalkFault::Shelf),
+        Stop::Sink => Err(TalkFault::Sink),
         Stop::NoMemory => Err(TalkFault::NoMemory),
     }
 }
 
 /// Ends the fleet that its threads left. Returns whether a limit was met.
-fn end_fleet<N: OfficeName<Global>, R: Alloc<A = Global> + Clock + Threads + Wait, S: Shelf + Drop>(
-    rt: &R,
-    office: Office<N>,
-    left: Left<N, S>,
-) -> Result<bool, TalkFault>
+fn end_fleet<
+    N: OfficeName<Global>,
+    R: Alloc<A = Global> + Clock + Threads + Wait,
+    S: ChapterSink + Drop,
+>(rt: &R, office: Office<N>, left: Left<N, S>) -> Result<bool, TalkFault>
     ensures opened { IfErr result IsEnded }
 {
     let Left {
@@ -137,6 +139,7 @@ fn end_fleet<N: OfficeName<Global>, R: Alloc<A = Global> + Clock + Threads + Wai
         searches: _,
         round,
         archive,
+        before: _,
         waiting: _,
         kept: _,
     } = stage;
@@ -151,7 +154,37 @@ fn end_fleet<N: OfficeName<Global>, R: Alloc<A = Global> + Clock + Threads + Wai
     }
 }
 
-/// Keeps the fleet of an office that was opened, to its end.
+/// Keeps the fleet of an office to its end.
+pub(crate) fn keep_office<
+    N: OfficeName<Global> + Send + Sync + 'static,
+    R: Alloc<A = Global> + Clock + Threads + Sync + Wait + Copy + Send + Drop + 'static,
+    I: Read + Send + Drop + 'static,
+    W: Write + Send + Drop + 'static,
+    P: Read + Send + Drop + 'static,
+    Q: Write + Send + Drop + 'static,
+    E: Write + Send + Drop + 'static,
+    S: ChapterSink + Send + Drop,
+>(
+    rt: &R,
+    office: Office<N>,
+    clients: Vec<Client>,
+    ticker: Ticker<N>,
+    site: Site,
+    ends: LiveEnds<I, W, P, Q, E, S>,
+) -> Result<bool, TalkFault>
+    requires on { AreOn N.rings (cores clients.items) }
+    ensures opened { IfErr result IsEnded }
+{
+    match serve(rt, &office, clients, ticker, site, ends) {
+        Ok(left) => end_fleet(rt, office, left),
+        Err(AllocError) => {
+            mem::drop(office);
+            Err(TalkFault::NoMemory)
+        }
+    }
+}
+
+/// Keeps the fleet of an office that is opened here, to its end.
 fn keep_fleet<
     N: OfficeName<Global> + Send + Sync + 'static,
     R: Alloc<A = Global> + Clock + Threads + Sync + Wait + Copy + Send + Drop + 'static,
@@ -160,7 +193,7 @@ fn keep_fleet<
     P: Read + Send + Drop + 'static,
     Q: Write + Send + Drop + 'static,
     E: Write + Send + Drop + 'static,
-    S: Shelf + Send + Drop,
+    S: ChapterSink + Send + Drop,
 >(
     rt: &R,
     opening: Opening,
@@ -172,7 +205,7 @@ fn keep_fleet<
     ensures refused { (why : OpenFault) → IsNamedFault why →
         ((result ≡ Err (TalkFault.Opening why)) ↔ IsRefused opening.grid opening.starts.items (length opening.desk.clients) opening.desk.limits (laws_of opening.hooks) why) }
 {
-    let site = opening.site(settings);
+    let site = opening.site(rt.alloc(), settings);
     let Opening {
         desk,
         limits: _,
@@ -184,18 +217,12 @@ fn keep_fleet<
         Ok(opened) => opened,
         Err(fault) => return Err(unopened(fault)),
     };
-    match serve(rt, &office, clients, ticker, site, ends) {
-        Ok(left) => end_fleet(rt, office, left),
-        Err(AllocError) => {
-            mem::drop(office);
-            Err(TalkFault::NoMemory)
-        }
-    }
+    keep_office(rt, office, clients, ticker, site, ends)
 }
 
 /// Keeps a fleet in real time: opens an office with the head's robots and clients, lets each conversation post, look and be told in
 /// threads of its own, and makes turns at their deadlines, or where a line asks for them. It ends where the first conversation does.
-/// Each chapter goes to the shelf when it is handed out, and the last at the end. Returns whether a limit was met.
+/// Each chapter goes to the sink when it is handed out, and the last at the end. Returns whether a limit was met.
 ///
 /// If the fleet cannot be opened, the fault is `Opening` with the first reason that stands, or `NoMemory`.
 pub fn keep_live<
@@ -205,7 +232,7 @@ pub fn keep_live<
     P: Read + Send + Drop + 'static,
     Q: Write + Send + Drop + 'static,
     E: Write + Send + Drop + 'static,
-    S: Shelf + Send + Drop,
+    S: ChapterSink + Send + Drop,
 >(
     rt: &R,
     ground: Ground,

@@ -6,7 +6,7 @@ use crate::bell::Call;
 use crate::keeper::{Keeper, Turned};
 use crate::stage::{Round, Work};
 use fleet_office::OfficeName;
-use fleet_talk::Shelf;
+use fleet_talk::ChapterSink;
 use live_parts::{Stop, Tally, next_due};
 use std::alloc::{Alloc, Global};
 use std::mem;
@@ -74,7 +74,7 @@ impl Deadlines {
 }
 
 /// Says the counts of the time since the last line, where a minute went by, and how long robots wait.
-fn say_counts<N: OfficeName<Global>, R: Alloc<A = Global> + Wait, S: Shelf>(
+fn say_counts<N: OfficeName<Global>, R: Alloc<A = Global> + Wait, S: ChapterSink>(
     rt: &R,
     keeper: &Keeper<'_, N, S>,
     deadlines: &mut Deadlines,
@@ -93,19 +93,19 @@ fn say_counts<N: OfficeName<Global>, R: Alloc<A = Global> + Wait, S: Shelf>(
     Ok(())
 }
 
-/// Does what is to be done at once: says the figures, grants one wish of each conversation at most, and judges once what was posted. So none
+/// Does what is to be done at once: says the figures, hands out the chapter, grants one wish of each conversation at most, and judges once what was posted. So none
 /// of them holds up the turns, and turns that are all late hold up none of them.
-fn heed_some<N: OfficeName<Global>, R: Alloc<A = Global> + Wait, S: Shelf>(
+fn heed_some<N: OfficeName<Global>, R: Alloc<A = Global> + Wait, S: ChapterSink>(
     rt: &R,
     keeper: &Keeper<'_, N, S>,
     round: &mut Round,
     work: &mut Work<N>,
 ) -> Result<(), Stop> {
-    for _ in 0..=keeper.stage.conversations.len().saturating_add(1) {
+    for _ in 0..=keeper.stage.conversations.len().saturating_add(2) {
         let call = keeper.stage.bell.poll(rt);
         let is_last = match call {
             Call::Nothing | Call::Settle | Call::Tell => true,
-            Call::Grant(_) | Call::Show | Call::Stop(_) => false,
+            Call::Grant(_) | Call::Show | Call::HandOut | Call::Stop(_) => false,
         };
         keeper.heed(rt, round, work, call)?;
         if is_last {
@@ -116,7 +116,7 @@ fn heed_some<N: OfficeName<Global>, R: Alloc<A = Global> + Wait, S: Shelf>(
 }
 
 /// Makes a turn that is due, says the counts, and does what is to be done at once. The result has the next deadlines.
-fn turn_now<N: OfficeName<Global>, R: Alloc<A = Global> + Clock + Wait, S: Shelf>(
+fn turn_now<N: OfficeName<Global>, R: Alloc<A = Global> + Clock + Wait, S: ChapterSink>(
     rt: &R,
     keeper: &Keeper<'_, N, S>,
     round: &mut Round,
@@ -140,12 +140,11 @@ fn turn_now<N: OfficeName<Global>, R: Alloc<A = Global> + Clock + Wait, S: Shelf
 
 /// Makes a turn where it is due. Else searches ahead where that is to be done, or waits for the deadline or for something that is to
 /// be done. Without deadlines it waits for that alone.
-fn step<N: OfficeName<Global>, R: Alloc<A = Global> + Clock + Threads + Sync + Wait, S: Shelf>(
-    rt: &R,
-    keeper: &Keeper<'_, N, S>,
-    round: &mut Round,
-    work: &mut Work<N>,
-) -> Result<(), Stop> {
+fn step<
+    N: OfficeName<Global>,
+    R: Alloc<A = Global> + Clock + Threads + Sync + Wait,
+    S: ChapterSink,
+>(rt: &R, keeper: &Keeper<'_, N, S>, round: &mut Round, work: &mut Work<N>) -> Result<(), Stop> {
     let Some(deadlines) = round.deadlines else {
         let call = keeper.stage.bell.wait(rt);
         return keeper.heed(rt, round, work, call);
@@ -166,19 +165,18 @@ fn step<N: OfficeName<Global>, R: Alloc<A = Global> + Clock + Threads + Sync + W
 }
 
 /// Keeps the fleet until a chapter is handed out, or one that could not be kept is to be tried again.
-fn step_on<N: OfficeName<Global>, R: Alloc<A = Global> + Clock + Threads + Sync + Wait, S: Shelf>(
-    rt: &R,
-    keeper: &Keeper<'_, N, S>,
-    round: &mut Round,
-    work: &mut Work<N>,
-) -> Result<(), Stop> {
+fn step_on<
+    N: OfficeName<Global>,
+    R: Alloc<A = Global> + Clock + Threads + Sync + Wait,
+    S: ChapterSink,
+>(rt: &R, keeper: &Keeper<'_, N, S>, round: &mut Round, work: &mut Work<N>) -> Result<(), Stop> {
     if let Some(stop) = keeper.stage.bell.stop(rt) {
         return Err(stop);
     }
     round.retries = false;
     for _ in rt.forever() {
         step(rt, keeper, round, work)?;
-        if !work.pages.is_empty() || (round.retries && keeper.stage.is_behind()) {
+        if !work.chapters.is_empty() || (round.retries && keeper.stage.has_unkept()) {
             return Ok(());
         }
     }
@@ -198,7 +196,7 @@ fn stopped(stepped: Result<(), Stop>, kept: Result<(), Stop>) -> Result<(), Stop
 fn keep_for_a_chapter<
     N: OfficeName<Global>,
     R: Alloc<A = Global> + Clock + Threads + Sync + Wait,
-    S: Shelf,
+    S: ChapterSink,
 >(rt: &R, keeper: &Keeper<'_, N, S>, work: &mut Work<N>) -> Result<(), Stop> {
     let mut held = keeper.stage.round.lock(rt);
     let stepped = step_on(rt, keeper, &mut *held, work);
@@ -208,7 +206,7 @@ fn keep_for_a_chapter<
     }
     let mut archive = keeper.stage.archive.lock(rt);
     mem::drop(held);
-    let kept = keeper.stage.keep_in(rt, &mut *archive, &mut work.pages);
+    let kept = keeper.stage.keep_in(rt, &mut *archive, &mut work.chapters);
     stopped(stepped, kept)
 }
 
@@ -216,7 +214,7 @@ fn keep_for_a_chapter<
 pub(crate) fn keep_on<
     N: OfficeName<Global>,
     R: Alloc<A = Global> + Clock + Threads + Sync + Wait,
-    S: Shelf,
+    S: ChapterSink,
 >(rt: &R, keeper: &Keeper<'_, N, S>, work: &mut Work<N>) -> Stop {
     for _ in rt.forever() {
         if let Err(stop) = keep_for_a_chapter(rt, keeper, work) {

@@ -7,11 +7,13 @@ use crate::conversation::Conversation;
 use crate::conversations::{conversations_of, new_voice};
 use crate::pace::Deadlines;
 use crate::stage::{Round, Stage};
-use crate::threads::{start_listener, start_reader, start_ringer, start_writer};
+use crate::threads::{
+    start_chapter_ringer, start_listener, start_reader, start_ringer, start_writer,
+};
 use crate::tickers::work_all;
 use fleet_lanes::Client;
 use fleet_office::{Office, OfficeName, Ticker};
-use fleet_talk::Shelf;
+use fleet_talk::ChapterSink;
 use live_parts::{Archive, LiveEnds, LiveSettings, Pipes, Stop};
 use std::alloc::{Alloc, AllocError, Global};
 use std::io::{Read, Write};
@@ -42,15 +44,17 @@ pub(crate) struct Left<N: OfficeName<Global>, S> {
 }
 
 /// What a fleet is, besides who talks to it.
-#[derive(Clone, Copy)]
+#[derive(Drop)]
 pub(crate) struct Site {
     pub(crate) settings: LiveSettings,
     pub(crate) cells: u32,
     /// How many entries a full chapter has.
     pub(crate) chapter: u32,
+    /// By client, how many of its orders were taken before the fleet went on; none where it begins anew.
+    pub(crate) taken: Vec<u64>,
 }
 
-/// How many bytes of fields are kept on a map of so many cells, each of which takes a byte of a field.
+/// How many bytes of fields are kept on a map of this many cells, each of which takes a byte of a field.
 fn kept_bytes(cells: u32) -> usize {
     (KEPT_GOALS * cells as usize).max(LEAST_KEPT).min(MOST_KEPT)
 }
@@ -64,12 +68,12 @@ fn new_bell(alloc: Global) -> Result<Arc<Bell>, AllocError> {
 }
 
 /// What the tickers share, before the first thread.
-fn stage_of<N: OfficeName<Global>, R: Alloc<A = Global> + Clock, S: Shelf + Drop>(
+fn stage_of<N: OfficeName<Global>, R: Alloc<A = Global> + Clock, S: ChapterSink + Drop>(
     rt: &R,
     clients: Vec<Client>,
     pipes: usize,
-    site: Site,
-    shelf: S,
+    site: &Site,
+    sink: S,
 ) -> Result<Stage<N, S>, AllocError>
     requires { AreOn N.rings (cores clients.items) }
 {
@@ -79,7 +83,7 @@ fn stage_of<N: OfficeName<Global>, R: Alloc<A = Global> + Clock, S: Shelf + Drop
         Some(period) => Deadlines::new(rt, period),
         None => None,
     };
-    let conversations = conversations_of(alloc, clients, pipes, paced)?;
+    let conversations = conversations_of(alloc, clients, pipes, paced, &site.taken)?;
     let bell = new_bell(alloc)?;
     let counts = new_voice(alloc)?;
     Ok(Stage {
@@ -91,7 +95,8 @@ fn stage_of<N: OfficeName<Global>, R: Alloc<A = Global> + Clock, S: Shelf + Drop
         chapter: site.chapter,
         searches: paced && site.cells >= LARGE,
         round: Mutex::new(Round::new(deadlines)),
-        archive: Mutex::new(Archive::new(alloc, shelf)),
+        archive: Mutex::new(Archive::new(alloc, sink)),
+        before: 0,
         waiting: AtomicU64::new(0),
         kept: AtomicU64::new(0),
     })
@@ -168,6 +173,18 @@ fn start_figures<
     Ok(())
 }
 
+/// Starts the thread that asks for the next chapter, where that is wanted.
+fn start_chapters<
+    N: OfficeName<Global>,
+    R: Clock + Threads + Wait + Copy + Send + Drop + 'static,
+    S,
+>(rt: &R, stage: &Stage<N, S>, keep_every: Option<u32>) -> Result<(), AllocError> {
+    match keep_every {
+        Some(micros) => start_chapter_ringer(rt, &stage.bell, micros),
+        None => Ok(()),
+    }
+}
+
 /// Lets the clients talk and makes turns, until the fleet is to stop.
 pub(crate) fn serve<
     N: OfficeName<Global> + Send + Sync + 'static,
@@ -177,7 +194,7 @@ pub(crate) fn serve<
     P: Read + Send + Drop + 'static,
     Q: Write + Send + Drop + 'static,
     E: Write + Send + Drop + 'static,
-    S: Shelf + Send + Drop,
+    S: ChapterSink + Send + Drop,
 >(
     rt: &R,
     office: &Office<N>,
@@ -194,12 +211,19 @@ pub(crate) fn serve<
         pipes,
         counts,
         figures,
-        shelf,
+        sink,
     } = ends;
-    let LiveSettings { watch, tickers, .. } = site.settings;
+    let LiveSettings {
+        watch,
+        tickers,
+        keep_every,
+        ..
+    } = site.settings;
     office.keep(rt, kept_bytes(site.cells));
-    let mut stage = stage_of(rt, clients, pipes.len(), site, shelf)?;
+    let mut stage = stage_of(rt, clients, pipes.len(), &site, sink)?;
+    stage.before = office.queues(rt).total;
     start_figures(rt, &mut stage, figures)?;
+    start_chapters(rt, &stage, keep_every)?;
     let writer = start_all(rt, &stage, watch, (input, output), pipes, counts)?;
     let two = stage.paced && tickers > 1;
     let (tickers, stop) = work_all(rt, office, &stage, ticker, two)?;

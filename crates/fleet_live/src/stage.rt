@@ -8,7 +8,7 @@ use crate::pace::Deadlines;
 use crate::voice::Voice;
 use fleet_core::QueueReport;
 use fleet_office::{OfficeName, TickRecord, Ticker, TurnReport, WaitReport};
-use fleet_talk::Shelf;
+use fleet_talk::ChapterSink;
 use live_parts::{Archive, Figures, Notices, Stop, Tally, Unkept};
 use std::alloc::{Alloc, AllocError, Global};
 use std::sync::atomic::{AtomicU64, Ordering};
@@ -102,15 +102,17 @@ pub(crate) struct Stage<N: OfficeName<Global>, S> {
     pub(crate) round: Mutex<Round>,
     /// Held by the ticker that keeps a chapter. It is locked while the round is held, so chapters come in order.
     pub(crate) archive: Mutex<Archive<S>>,
+    /// How many errands were open at the start.
+    pub(crate) before: u64,
     /// How many chapters could not be kept and wait.
     pub(crate) waiting: AtomicU64,
     /// How many chapters were kept.
     pub(crate) kept: AtomicU64,
 }
 
-impl<N: OfficeName<Global>, S: Shelf> Stage<N, S> {
+impl<N: OfficeName<Global>, S: ChapterSink> Stage<N, S> {
     /// Whether a chapter could not be kept and waits.
-    pub(crate) fn is_behind(&self) -> bool {
+    pub(crate) fn has_unkept(&self) -> bool {
         self.waiting.load(Ordering::SeqCst) != 0
     }
 
@@ -138,6 +140,7 @@ impl<N: OfficeName<Global>, S: Shelf> Stage<N, S> {
             notices,
             waits,
             queues,
+            before: self.before,
             kept: self.kept.load(Ordering::SeqCst),
             waiting: self.waiting.load(Ordering::SeqCst),
         }
@@ -162,11 +165,11 @@ impl<N: OfficeName<Global>, S: Shelf> Stage<N, S> {
         &self,
         rt: &R,
         archive: &mut Archive<S>,
-        pages: &mut Unkept,
+        chapters: &mut Unkept,
     ) -> Result<(), Stop>
-        ensures none { OnOk result (pages.new ≡ []) }
+        ensures none { OnOk result (chapters.new ≡ []) }
     {
-        archive.waiting.append(pages)?;
+        archive.waiting.append(chapters)?;
         let all = archive.waiting.len();
         let kept = archive.keep();
         self.note_kept(all, archive.waiting.len());
@@ -181,15 +184,15 @@ impl<N: OfficeName<Global>, S: Shelf> Stage<N, S> {
     }
 
     /// Keeps these chapters.
-    pub(crate) fn keep_pages<R: Alloc<A = Global> + Wait>(
+    pub(crate) fn keep_chapters<R: Alloc<A = Global> + Wait>(
         &self,
         rt: &R,
-        pages: &mut Unkept,
+        chapters: &mut Unkept,
     ) -> Result<(), Stop>
-        ensures none { OnOk result (pages.new ≡ []) }
+        ensures none { OnOk result (chapters.new ≡ []) }
     {
         let mut held = self.archive.lock(rt);
-        self.keep_in(rt, &mut *held, pages)
+        self.keep_in(rt, &mut *held, chapters)
     }
 }
 
@@ -200,7 +203,7 @@ pub(crate) struct Work<N: OfficeName<Global>> {
     /// The last tick that it made.
     pub(crate) made: TickRecord,
     /// Chapters that were handed out and are not kept yet.
-    pub(crate) pages: Unkept,
+    pub(crate) chapters: Unkept,
 }
 
 impl<N: OfficeName<Global>> Work<N> {
@@ -209,7 +212,7 @@ impl<N: OfficeName<Global>> Work<N> {
         Ok(Work {
             ticker,
             made,
-            pages: Unkept::new(alloc),
+            chapters: Unkept::new(alloc),
         })
     }
 }

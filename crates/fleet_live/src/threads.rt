@@ -105,6 +105,27 @@ fn ring<R: Clock + Threads + Wait>(rt: &R, bell: &Bell) {
     }
 }
 
+/// Asks for the next chapter, each time that this many microseconds went by.
+fn ring_for_chapters<R: Clock + Threads + Wait>(rt: &R, bell: &Bell, micros: u32) {
+    for _ in rt.forever() {
+        thread::sleep(rt, Duration::from_micros(u64::from(micros)));
+        bell.ask_to_hand_out(rt);
+    }
+}
+
+/// Starts the thread that asks for the next chapter each time that this many microseconds went by. Nobody waits for it.
+pub(crate) fn start_chapter_ringer<R: Clock + Threads + Wait + Copy + Send + Drop + 'static>(
+    rt: &R,
+    bell: &Arc<Bell>,
+    micros: u32,
+) -> Result<(), AllocError> {
+    let (bell, own) = (Arc::try_clone(bell)?, *rt);
+    match thread::spawn(rt, move || ring_for_chapters(&own, &bell, micros)) {
+        Ok(_ringer) => Ok(()),
+        Err(_) => Err(AllocError),
+    }
+}
+
 /// Starts the thread that asks for the figures each second. Nobody waits for it.
 pub(crate) fn start_ringer<R: Clock + Threads + Wait + Copy + Send + Drop + 'static>(
     rt: &R,

@@ -6,7 +6,7 @@ use crate::keeper::Keeper;
 use crate::pace::keep_on;
 use crate::stage::{Stage, Work};
 use fleet_office::{Office, OfficeName, Ticker, side_by_side};
-use fleet_talk::Shelf;
+use fleet_talk::ChapterSink;
 use live_parts::Stop;
 use std::alloc::{Alloc, AllocError, Global};
 use std::sync::Wait;
@@ -21,18 +21,17 @@ struct Done<N: OfficeName<Global>> {
 }
 
 /// One ticker's work: it keeps the fleet until that is to stop.
-fn work_on<N: OfficeName<Global>, R: Alloc<A = Global> + Clock + Threads + Sync + Wait, S: Shelf>(
-    rt: &R,
-    office: &Office<N>,
-    stage: &Stage<N, S>,
-    work: Work<N>,
-) -> Done<N> {
+fn work_on<
+    N: OfficeName<Global>,
+    R: Alloc<A = Global> + Clock + Threads + Sync + Wait,
+    S: ChapterSink,
+>(rt: &R, office: &Office<N>, stage: &Stage<N, S>, work: Work<N>) -> Done<N> {
     let mut work = work;
     let stop = keep_on(rt, &Keeper { office, stage }, &mut work);
     let Work {
         ticker,
         made: _,
-        pages: _,
+        chapters: _,
     } = work;
     Done { ticker, stop }
 }
@@ -41,7 +40,7 @@ fn work_on<N: OfficeName<Global>, R: Alloc<A = Global> + Clock + Threads + Sync 
 fn work_both<
     N: OfficeName<Global> + Send + Sync,
     R: Alloc<A = Global> + Clock + Threads + Sync + Wait,
-    S: Shelf + Send,
+    S: ChapterSink + Send,
 >(
     rt: &R,
     office: &Office<N>,
@@ -88,7 +87,7 @@ fn home_of<N: OfficeName<Global>>(
 pub(crate) fn work_all<
     N: OfficeName<Global> + Send + Sync,
     R: Alloc<A = Global> + Clock + Threads + Sync + Wait,
-    S: Shelf + Send,
+    S: ChapterSink + Send,
 >(
     rt: &R,
     office: &Office<N>,

@@ -3,16 +3,16 @@
 use crate::bell::Bell;
 use errands_text::write_whole;
 use fleet_office::{Guest, OfficeName};
-use live_parts::{MOST_TEXT, Notices, Page, tell_each};
+use live_parts::{MOST_TEXT, Notices, Outbox, tell_each};
 use std::alloc::{AllocError, Global};
 use std::io::Write;
 use std::mem;
 use std::sync::{Condvar, Mutex, Wait};
 
-/// A page under its lock.
+/// An outbox under its lock.
 #[derive(Drop)]
 pub(crate) struct Voice {
-    page: Mutex<Page>,
+    outbox: Mutex<Outbox>,
     /// Signalled when there is something to write, or when nothing will follow.
     filled: Condvar,
     /// Signalled when everything that waited is being written, or cannot be written.
@@ -22,7 +22,7 @@ pub(crate) struct Voice {
 impl Voice {
     pub(crate) fn new(alloc: Global) -> Voice {
         Voice {
-            page: Mutex::new(Page::new(alloc)),
+            outbox: Mutex::new(Outbox::new(alloc)),
             filled: Condvar::new(),
             drained: Condvar::new(),
         }
@@ -35,14 +35,29 @@ impl Voice {
         mark: Option<&[u8]>,
         line: &str,
     ) -> Result<(), AllocError> {
-        let mut held = self.page.lock(rt);
-        let page = &mut *held;
-        // Nothing is said to a reader that went away: it would stay here for ever.
-        let done = if page.gone {
+        let mut held = self.outbox.lock(rt);
+        let outbox = &mut *held;
+        // Nothing is said to a reader that went away, where it would stay for ever, nor after the last line.
+        let done = if outbox.gone || outbox.ended {
             Ok(())
         } else {
-            page.say(mark, line)
+            outbox.say(mark, line)
         };
+        mem::drop(held);
+        self.filled.notify_all();
+        done
+    }
+
+    /// Says the last line: nothing is said after it.
+    pub(crate) fn say_last<R: Wait>(&self, rt: &R, line: &str) -> Result<(), AllocError> {
+        let mut held = self.outbox.lock(rt);
+        let outbox = &mut *held;
+        let done = if outbox.gone || outbox.ended {
+            Ok(())
+        } else {
+            outbox.say(None, line)
+        };
+        outbox.ended = true;
         mem::drop(held);
         self.filled.notify_all();
         done
@@ -50,9 +65,9 @@ impl Voice {
 
     /// Says a line where there is room, and leaves it out where there is none.
     pub(crate) fn say_if_room<R: Wait>(&self, rt: &R, line: &str) -> Result<(), AllocError> {
-        let mut held = self.page.lock(rt);
-        let page = &mut *held;
-        let done = page.say_if_room(line);
+        let mut held = self.outbox.lock(rt);
+        let outbox = &mut *held;
+        let done = outbox.say_if_room(line);
         mem::drop(held);
         self.filled.notify_all();
         done
@@ -60,12 +75,12 @@ impl Voice {
 
     /// Says a text, unless another waits to be written.
     pub(crate) fn say_alone<R: Wait>(&self, rt: &R, text: &str) -> Result<(), AllocError> {
-        let mut held = self.page.lock(rt);
-        let page = &mut *held;
-        let done = if page.gone || !page.text.is_empty() {
+        let mut held = self.outbox.lock(rt);
+        let outbox = &mut *held;
+        let done = if outbox.gone || !outbox.text.is_empty() {
             Ok(())
         } else {
-            page.say(None, text)
+            outbox.say(None, text)
         };
         mem::drop(held);
         self.filled.notify_all();
@@ -74,7 +89,7 @@ impl Voice {
 
     /// How many notices were told.
     pub(crate) fn notices<R: Wait>(&self, rt: &R) -> Notices {
-        let held = self.page.lock(rt);
+        let held = self.outbox.lock(rt);
         held.notices
     }
 
@@ -85,10 +100,10 @@ impl Voice {
         alloc: Global,
         guests: &mut [Guest<N>],
     ) -> Result<bool, AllocError> {
-        let mut held = self.page.lock(rt);
-        let page = &mut *held;
-        let all = tell_each(alloc, guests, page)?;
-        let is_empty = page.text.is_empty();
+        let mut held = self.outbox.lock(rt);
+        let outbox = &mut *held;
+        let all = tell_each(alloc, guests, outbox)?;
+        let is_empty = outbox.text.is_empty();
         mem::drop(held);
         if !is_empty {
             self.filled.notify_all();
@@ -98,52 +113,52 @@ impl Voice {
 
     /// Says that nothing follows.
     pub(crate) fn end<R: Wait>(&self, rt: &R) {
-        let mut held = self.page.lock(rt);
-        let page = &mut *held;
-        page.ended = true;
+        let mut held = self.outbox.lock(rt);
+        let outbox = &mut *held;
+        outbox.ended = true;
         mem::drop(held);
         self.filled.notify_all();
     }
 
     /// Whether the reader of the output went away.
     pub(crate) fn is_gone<R: Wait>(&self, rt: &R) -> bool {
-        let held = self.page.lock(rt);
+        let held = self.outbox.lock(rt);
         held.gone
     }
 
     /// Waits until there is room, nobody waits for it any more, or the reader of the output went away.
     pub(crate) fn wait_for_room<R: Wait>(&self, rt: &R) {
-        let held = self.drained.wait_while(rt, self.page.lock(rt), |page| {
-            !page.gone && !page.hurried && page.is_full()
+        let held = self.drained.wait_while(rt, self.outbox.lock(rt), |outbox| {
+            !outbox.gone && !outbox.hurried && outbox.is_full()
         });
         mem::drop(held);
     }
 
     /// Says that nobody waits for room any more.
     pub(crate) fn hurry<R: Wait>(&self, rt: &R) {
-        let mut held = self.page.lock(rt);
-        let page = &mut *held;
-        page.hurried = true;
+        let mut held = self.outbox.lock(rt);
+        let outbox = &mut *held;
+        outbox.hurried = true;
         mem::drop(held);
         self.drained.notify_all();
     }
 
     /// Waits for something to write, and takes it. `None` if nothing will follow.
     fn take<R: Wait>(&self, rt: &R, text: &mut Vec<u8>) {
-        let mut held = self.filled.wait_while(rt, self.page.lock(rt), |page| {
-            !page.ended && page.text.is_empty()
+        let mut held = self.filled.wait_while(rt, self.outbox.lock(rt), |outbox| {
+            !outbox.ended && outbox.text.is_empty()
         });
-        let page = &mut *held;
-        mem::swap(text, &mut page.text);
+        let outbox = &mut *held;
+        mem::swap(text, &mut outbox.text);
         mem::drop(held);
         self.drained.notify_all();
     }
 
     /// Says that the reader of the output went away, or that all was written.
     fn leave<R: Wait>(&self, rt: &R) {
-        let mut held = self.page.lock(rt);
-        let page = &mut *held;
-        page.gone = true;
+        let mut held = self.outbox.lock(rt);
+        let outbox = &mut *held;
+        outbox.gone = true;
         mem::drop(held);
         self.drained.notify_all();
     }

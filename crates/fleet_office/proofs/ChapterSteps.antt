@@ -15,7 +15,7 @@ use Rattle.fleet_core.specs.declared.faults.ChapterFault.{ChapterFault}
 use Rattle.fleet_lanes.specs.Names.{LaneName}
 use Rattle.fleet_lanes.specs.Ends.{EndView}
 use Rattle.fleet_office.specs.Hall.{HallView, IsLawful, next_hall}
-use Rattle.fleet_office.specs.Chapters.{IsChapterOf, TurnsPage}
+use Rattle.fleet_office.specs.Chapters.{IsChapterOf, HandsOutGrown}
 use Rattle.fleet_office.proofs.Places.{within}
 use Rattle.fleet_office.proofs.Sinces.{since-next, goes-next}
 
@@ -69,29 +69,29 @@ handed rings began v (Ok c) lawful is number planned advancing bounded = (
 )
 handed rings began v (Err e) lawful is number planned advancing bounded = tt
 
--- a page that was turned has at least as many entries as were asked for
-pub page-enough : {A E : Type 0} (h g : HallView A) (least : ℕ) (r : Result (Option (Chapter A)) E) → ((r ≡ Ok None) ↔ (length h.world.history.entries < least)) →
-    IfOk r (λ page. TurnsPage h page g) → IfOk r (λ page. IfSome page (λ c. least ≤ length (history_of c).entries))
-page-enough h g least (Ok None) few turned = tt
-page-enough {A = A} h g least (Ok (Some c)) few turned =
+-- a grown chapter that was handed out has at least as many entries as were asked for
+pub grown-enough : {A E : Type 0} (h g : HallView A) (least : ℕ) (r : Result (Option (Chapter A)) E) → ((r ≡ Ok None) ↔ (length h.world.history.entries < least)) →
+    IfOk r (λ found. HandsOutGrown h found g) → IfOk r (λ found. IfSome found (λ c. least ≤ length (history_of c).entries))
+grown-enough h g least (Ok None) few turned = tt
+grown-enough {A = A} h g least (Ok (Some c)) few turned =
     ⊎_elim
     (λ (more : least ≤ length h.world.history.entries). subst (λ n. least ≤ n) (sym (ap (λ (x : History A). length x.entries) turned.0)) more)
     (λ (less : length h.world.history.entries < least). absurd (some_is_none (few.1 less)))
     (at_least least (length h.world.history.entries))
-page-enough h g least (Err e) few turned = tt
+grown-enough h g least (Err e) few turned = tt
 
 -- what holds where a call is refused holds with a fact more
 pub with-fact : {X P Q : Type 0} → Q → (X ↔ P) → (X ↔ (Q × P))
 with-fact q h = ((λ x. (q, h.0 x)), (λ p. h.1 p.1))
 
 -- and is the chapter of a lawful hall
-pub page-handed : {A E : Type 0} (rings : List (LaneName A)) (began : World A) (h g : HallView A) (r : Result (Option (Chapter A)) E) → IsLawful rings began h.world h.ends h.total →
+pub grown-handed : {A E : Type 0} (rings : List (LaneName A)) (began : World A) (h g : HallView A) (r : Result (Option (Chapter A)) E) → IsLawful rings began h.world h.ends h.total →
     EachTick (IsPlanned h.world.floor h.world.ties) h.world.history →
     (IsBridgeless (IsNeighbour h.world.floor) → EachTick (IsAdvancingTick h.world.floor) h.world.history) →
     (IsBridgeless (IsNeighbour h.world.floor) → WaitsAreBounded h.world.floor h.world.history) →
-    IfOk r (λ page. TurnsPage h page g) → IfOk r (λ page. IfSome page (λ c. (v : HallView A) × IsChapterOf rings began v c.number (history_of c)))
-page-handed rings began h g (Ok None) lawful planned advancing bounded turned = tt
-page-handed rings began h g (Ok (Some c)) lawful planned advancing bounded turned = (
+    IfOk r (λ found. HandsOutGrown h found g) → IfOk r (λ found. IfSome found (λ c. (v : HallView A) × IsChapterOf rings began v c.number (history_of c)))
+grown-handed rings began h g (Ok None) lawful planned advancing bounded turned = tt
+grown-handed rings began h g (Ok (Some c)) lawful planned advancing bounded turned = (
   h,
   record {
     lawful = lawful;
@@ -102,7 +102,7 @@ page-handed rings began h g (Ok (Some c)) lawful planned advancing bounded turne
     bounded = λ b. subst (WaitsAreBounded h.world.floor) (sym turned.0) (bounded b);
   },
 )
-page-handed rings began h g (Err e) lawful planned advancing bounded turned = tt
+grown-handed rings began h g (Err e) lawful planned advancing bounded turned = tt
 
 abbrev hall_of : {A : Type 0} → World A → List (EndView A) → ℕ → HallView A
 hall_of w ends t = record { world = w; ends = ends; total = t }

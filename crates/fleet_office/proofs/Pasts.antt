@@ -363,7 +363,7 @@ module _ {A : Type 0} (m : Floor) (o : Opening A) (c : ℕ) (lawful : IsLegal m 
             ]
       ]
 
-  -- so many orders of a client may have been taken, and so many notices told it, before
+  -- how many orders of a client may have been taken, and how many notices told it, before
   pub past : (orders_before : List Order) × (told_before : List Notice) × KeepsRing (start o) c orders_before told_before
   past = (
     before,

@@ -22,6 +22,6 @@ pub record IsChapterOf {A : Type 0} (rings : List (LaneName A)) (began : World A
   pub bounded : IsBridgeless (IsNeighbour hall.world.floor) → WaitsAreBounded hall.world.floor h
 
 -- the hall's chapter was handed out and the next begun, or the hall stayed as it was
-abbrev pub TurnsPage : {A : Type 0} → HallView A → Option (Chapter A) → HallView A → Type 0
-TurnsPage h None g = g ≡ h
-TurnsPage h (Some chapter) g = (history_of chapter ≡ h.world.history) × (chapter.number ≡ h.world.number) × (g ≡ next_hall h)
+abbrev pub HandsOutGrown : {A : Type 0} → HallView A → Option (Chapter A) → HallView A → Type 0
+HandsOutGrown h None g = g ≡ h
+HandsOutGrown h (Some chapter) g = (history_of chapter ≡ h.world.history) × (chapter.number ≡ h.world.number) × (g ≡ next_hall h)

@@ -8,7 +8,7 @@ ghost use Rattle.fleet_history.specs.Laws.{EachTick};
 ghost use Rattle.fleet_history.specs.Legal.{IsLegal};
 ghost use Rattle.fleet_planner.specs.Planned.{IsPlanned, IsAdvancingTick};
 ghost use Rattle.fleet_bound.specs.Bound.{WaitsAreBounded};
-ghost use Rattle.fleet_office.specs.Chapters.{IsChapterOf, TurnsPage};
+ghost use Rattle.fleet_office.specs.Chapters.{IsChapterOf, HandsOutGrown};
 ghost use Rattle.fleet_office.specs.Hall.{HallView, IsLawful, next_hall};
 
 use crate::hall::{Hall, HallOf};
@@ -41,11 +41,11 @@ impl<N: OfficeName<A>, A: Allocator + Copy> HallState<N, A> {
 
     /// Returns the current chapter and begins the next, if the chapter has at least this many entries. `None` if it has
     /// fewer; nothing changes then.
-    pub fn turn_page(&mut self, least: u32) -> Result<Option<Chapter<A>>, ChapterFault>
+    pub fn grown_chapter(&mut self, least: u32) -> Result<Option<Chapter<A>>, ChapterFault>
         ensures few { (result ≡ Ok None) ↔ (length self.old.world.history.entries < least) }
         ensures book_spent { (result ≡ Err ChapterFault.BookSpent) ↔
             ((least ≤ length self.old.world.history.entries) × (self.old.world.number + 1 ≡ self.old.world.limits.chapters)) }
-        ensures ok { IfOk result (λ page. TurnsPage self.old page self.new) }
+        ensures ok { IfOk result (λ found. HandsOutGrown self.old found self.new) }
         ensures err { OnErr result (self.new ≡ self.old) }
     {
         if self.core.chapter().entries.len() < least as usize {
@@ -97,15 +97,15 @@ impl<N: OfficeName<A>, A: Allocator + Copy> Hall<N, A> {
     /// fewer; nothing changes then.
     ///
     /// If it has that many, refused as `next_chapter` is.
-    pub fn turn_page(&mut self, least: u32) -> Result<Option<Chapter<A>>, ChapterFault>
+    pub fn grown_chapter(&mut self, least: u32) -> Result<Option<Chapter<A>>, ChapterFault>
         requires { 0 ≤ self.old.state.total }
         ensures few { (result ≡ Ok None) ↔ (length self.old.state.world.history.entries < least) }
         ensures book_spent { (result ≡ Err ChapterFault.BookSpent) ↔
             ((least ≤ length self.old.state.world.history.entries) × (self.old.state.world.number + 1 ≡ self.old.state.world.limits.chapters)) }
-        ensures ok { IfOk result (λ page. TurnsPage self.old.state page self.new.state) }
+        ensures ok { IfOk result (λ found. HandsOutGrown self.old.state found self.new.state) }
         ensures err { OnErr result (self.new.state ≡ self.old.state) }
     {
-        self.state.turn_page(least)
+        self.state.grown_chapter(least)
     }
 }
 
@@ -115,11 +115,15 @@ impl<N: OfficeName<A>, A: Allocator + Copy> Office<N, A> {
     /// begins the next.
     ///
     /// If it has that many, refused as `next_chapter` is; a refused call changes nothing.
-    pub fn turn_page<R: Wait>(&self, rt: &R, least: u32) -> Result<Option<Chapter<A>>, ChapterFault>
+    pub fn grown_chapter<R: Wait>(
+        &self,
+        rt: &R,
+        least: u32,
+    ) -> Result<Option<Chapter<A>>, ChapterFault>
         requires { least < 2 ^ 32 }
         ensures few { (result ≡ Ok None) → (h : HallView A) × IsLawful N.rings N.start h.world h.ends h.total × (length h.world.history.entries < least) }
-        ensures enough { IfOk result (λ page. IfSome page (λ chapter. least ≤ length (history_of chapter).entries)) }
-        ensures handed { IfOk result (λ page. IfSome page (λ chapter.
+        ensures enough { IfOk result (λ found. IfSome found (λ chapter. least ≤ length (history_of chapter).entries)) }
+        ensures handed { IfOk result (λ found. IfSome found (λ chapter.
             (h : HallView A) × IsChapterOf N.rings N.start h chapter.number (history_of chapter))) }
         ensures spent { (result ≡ Err ChapterFault.BookSpent) → (h : HallView A) × IsLawful N.rings N.start h.world h.ends h.total
             × (least ≤ length h.world.history.entries) × (h.world.number + 1 ≡ h.world.limits.chapters) }
@@ -127,7 +131,7 @@ impl<N: OfficeName<A>, A: Allocator + Copy> Office<N, A> {
         let mut held = self.hall.lock(rt);
         let hall = &mut *held;
         hall.state.recall_laws();
-        hall.turn_page(least)
+        hall.grown_chapter(least)
     }
 
     /// Ends an office that cannot be concluded: returns its chapter as it is, and the number of ticks made in all chapters. Orders

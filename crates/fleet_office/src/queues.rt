@@ -19,6 +19,11 @@ impl<N: OfficeName<A>, A: Allocator + Copy> HallState<N, A> {
         self.recall_laws();
         self.core.queues()
     }
+
+    /// How many bytes the distance fields take that it keeps.
+    pub fn kept_bytes(&self) -> u64 {
+        self.core.kept_bytes()
+    }
 }
 
 impl<N: OfficeName<A>, A: Allocator + Copy> Office<N, A> {
@@ -29,5 +34,11 @@ impl<N: OfficeName<A>, A: Allocator + Copy> Office<N, A> {
     {
         let hall = self.hall.lock(rt);
         hall.state.queues()
+    }
+
+    /// Returns how many bytes the distance fields take that are kept, as it is when the lock is held.
+    pub fn kept_bytes<R: Wait>(&self, rt: &R) -> u64 {
+        let hall = self.hall.lock(rt);
+        hall.state.kept_bytes()
     }
 }

@@ -1,6 +1,6 @@
 //! What each robot sees from its cell, collected in one pass before the planning.
 
-ghost use Rattle.std.specs.Prelude.{◌≡◌, ℕ, ◌<◌, ◌≤◌, length, slice_index};
+ghost use Rattle.std.specs.Prelude.{◌≡◌, ℕ, ◌<◌, ◌≤◌, length, slice_index, OnOk};
 ghost use Rattle.fleet_grid.specs.Floor.{HasForm, IsFloor};
 ghost use Rattle.fleet_grid.specs.Ways.{AreOpen};
 ghost use Rattle.fleet_pibt.specs.inside.Around.{IsSpot, IsAround, AreArounds, IsAsked, AreAsked, cell_in};
@@ -90,36 +90,45 @@ fn look<A: Allocator + Copy>(grid: &Grid<A>, own: u32, outlook: Outlook) -> Arou
 fn ask<G: Guide, A: Allocator + Copy>(
     grid: &Grid<A>,
     from: &[u32],
-    goals: &G,
+    goals: &mut G,
     arounds: &mut [Around],
-)
+) -> Result<(), G::Fault>
     requires same_length { length arounds.old ≡ length from.now }
     requires few { length from.now ≤ 512 }
     requires floor { (r : ℕ) → r < length from.now → IsFloor grid.now (slice_index from.now r) }
-    requires shows { G.shows goals.now grid.now }
-    ensures { AreAsked grid.now (G.goal_of goals.now) (G.distance goals.now) from.now arounds.new }
+    requires shows { G.shows goals.old grid.now }
+    ensures asked { OnOk result (AreAsked grid.now (G.goal_of goals.old) (G.distance goals.old grid.now) from.now arounds.new) }
+    ensures goals { G.goal_of goals.new ≡ G.goal_of goals.old }
+    ensures distances { G.distance goals.new ≡ G.distance goals.old }
+    ensures shows { G.shows goals.new grid.now }
+    ensures stays { G.stays goals.old goals.new }
 {
     for (robot, seen) in arounds.iter_mut().enumerate() {
-        let outlook = goals.outlook(grid, robot as u32, from[robot]);
+        let outlook = goals.outlook(grid, robot as u32, from[robot])?;
         seen.nearer = outlook.nearer;
         seen.exits = outlook.exits;
     }
+    Ok(())
 }
 
 /// Writes down what each robot sees.
 pub(crate) fn gather<G: Guide, A: Allocator + Copy>(
     grid: &Grid<A>,
     from: &[u32],
-    goals: &G,
+    goals: &mut G,
     arounds: &mut [Around],
-)
+) -> Result<(), G::Fault>
     requires same_length { length arounds.old ≡ length from.now }
     requires few { length from.now ≤ 512 }
     requires floor { (r : ℕ) → r < length from.now → IsFloor grid.now (slice_index from.now r) }
-    requires shows { G.shows goals.now grid.now }
-    ensures { AreArounds grid.now (G.goal_of goals.now) (G.distance goals.now) from.now arounds.new }
+    requires shows { G.shows goals.old grid.now }
+    ensures arounds { OnOk result (AreArounds grid.now (G.goal_of goals.old) (G.distance goals.old grid.now) from.now arounds.new) }
+    ensures goals { G.goal_of goals.new ≡ G.goal_of goals.old }
+    ensures distances { G.distance goals.new ≡ G.distance goals.old }
+    ensures shows { G.shows goals.new grid.now }
+    ensures stays { G.stays goals.old goals.new }
 {
-    ask(grid, from, goals, arounds);
+    ask(grid, from, goals, arounds)?;
     for (robot, seen) in arounds.iter_mut().enumerate() {
         let outlook = Outlook {
             nearer: seen.nearer,
@@ -127,4 +136,5 @@ pub(crate) fn gather<G: Guide, A: Allocator + Copy>(
         };
         *seen = look(grid, from[robot], outlook);
     }
+    Ok(())
 }

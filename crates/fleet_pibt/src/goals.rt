@@ -1,6 +1,6 @@
 //! What a step asks about the robots' goals.
 
-ghost use Rattle.std.specs.Prelude.{◌≡◌, ◌↔◌, ℕ, Option, None, IsSome, IsTrue};
+ghost use Rattle.std.specs.Prelude.{◌≡◌, ◌↔◌, ℕ, Option, None, IfOk, IsSome, IsTrue};
 ghost use Rattle.fleet_grid.specs.Floor.{Floor, IsFloor, IsNeighbourIn};
 ghost use Rattle.fleet_grid.specs.Ways.{AreNearer, AreOpen, IsLess};
 
@@ -41,17 +41,41 @@ pub trait Goals {
     }
 }
 
-/// Goals that tell both kinds of ways at once, so that one read of memory may answer both.
-pub trait Guide: Goals {
+/// What a step asks about the robots' goals, once for each robot: both kinds of ways at once, so that one read of memory may
+/// answer both. A guide may search before it answers, and the search may fail.
+pub trait Guide {
+    /// Why there is no answer.
+    type Fault: Drop;
+
+    ghost goal_of: { Self → ℕ → Option ℕ };
+
+    ghost distance: { Self → Floor → ℕ → ℕ → Option ℕ };
+
     ghost shows: { Self → Floor → Type 0 };
 
-    /// What the robot sees from a floor cell of the map that these goals show. An idle robot has no way that leads nearer.
-    fn outlook<A: Allocator + Copy>(&self, grid: &Grid<A>, robot: u32, cell: u32) -> Outlook
-        requires shows { shows self.now grid.now }
+    ghost stays: { Self → Self → Type 0 };
+
+    /// What the robot sees from a floor cell of the map that these goals show. An idle robot has no way that leads nearer. The
+    /// goals stay as they are, with or without an answer.
+    fn outlook<A: Allocator + Copy>(
+        &mut self,
+        grid: &Grid<A>,
+        robot: u32,
+        cell: u32,
+    ) -> Result<Outlook, Self::Fault>
+        requires shows { shows self.old grid.now }
         requires floor { IsFloor grid.now cell }
-        ensures nearer { IsSome (Self.goal_of self.now robot) → AreNearer grid.now (Self.distance self.now robot) cell result.nearer.byte }
-        ensures idle { Self.goal_of self.now robot ≡ None → result.nearer.byte ≡ 0 }
-        ensures exits { AreOpen grid.now cell result.exits.byte };
+        ensures nearer { IfOk result (λ outlook. IsSome (goal_of self.old robot) → AreNearer grid.now (distance self.old grid.now robot) cell outlook.nearer.byte) }
+        ensures idle { IfOk result (λ outlook. goal_of self.old robot ≡ None → outlook.nearer.byte ≡ 0) }
+        ensures exits { IfOk result (λ outlook. AreOpen grid.now cell outlook.exits.byte) }
+        ensures goals { goal_of self.new ≡ goal_of self.old }
+        ensures distances { distance self.new ≡ distance self.old }
+        ensures shows { shows self.new grid.now }
+        ensures stays { stays self.old self.new };
+
+    ghost stays_same: { (s : Self) → stays s s };
+
+    ghost stays_on: { (a b c : Self) → stays a b → stays b c → stays a c };
 }
 
 /// The floor neighbour of the cell in a direction; where there is none, the cell.

@@ -3,8 +3,9 @@
 ghost use Rattle.fleet_grid.specs.Floor.{Floor};
 
 use crate::goals::{Goals, Guide};
-use fleet_grid::{Grid, Outlook, Ways};
+use fleet_grid::{Grid, Outlook};
 use std::alloc::Allocator;
+use std::convert::Infallible;
 
 /// Any goals; the exits of a cell are read from the map.
 #[derive(Drop)]
@@ -12,31 +13,30 @@ pub(crate) struct OnMap<'a, G> {
     pub(crate) goals: &'a G,
 }
 
-impl<'a, G: Goals> Goals for OnMap<'a, G> {
+impl<'a, G: Goals> Guide for OnMap<'a, G> {
+    type Fault = Infallible;
+
     ghost goal_of = { λ s. G.goal_of s.goals.now };
 
-    ghost distance = { λ s. G.distance s.goals.now };
+    ghost distance = { λ s _. G.distance s.goals.now };
 
-    fn goal(&self, robot: u32) -> Option<u32> {
-        self.goals.goal(robot)
-    }
-
-    fn at(&self, robot: u32, cell: u32) -> Option<u32> {
-        self.goals.at(robot, cell)
-    }
-
-    fn ways<A: Allocator + Copy>(&self, grid: &Grid<A>, robot: u32, cell: u32) -> Ways {
-        self.goals.ways(grid, robot, cell)
-    }
-}
-
-impl<'a, G: Goals> Guide for OnMap<'a, G> {
     ghost shows = { λ _ _. Unit {0} };
 
-    fn outlook<A: Allocator + Copy>(&self, grid: &Grid<A>, robot: u32, cell: u32) -> Outlook {
-        Outlook {
+    ghost stays = { λ _ _. Unit {0} };
+
+    ghost stays_same = { λ _. tt };
+
+    ghost stays_on = { λ _ _ _ _ _. tt };
+
+    fn outlook<A: Allocator + Copy>(
+        &mut self,
+        grid: &Grid<A>,
+        robot: u32,
+        cell: u32,
+    ) -> Result<Outlook, Infallible> {
+        Ok(Outlook {
             nearer: self.goals.ways(grid, robot, cell),
             exits: grid.exits(cell),
-        }
+        })
     }
 }

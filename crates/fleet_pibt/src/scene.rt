@@ -8,7 +8,7 @@ ghost use Rattle.fleet_pibt.specs.inside.Candidate.{IsCandidate};
 
 use crate::around::Around;
 use crate::choice::{Candidate, cells, in_order};
-use crate::goals::Goals;
+use crate::goals::Guide;
 use crate::sight::Sight;
 use fleet_grid::{Dir, Grid};
 use fleet_hooks::{TieHook, TieView};
@@ -41,12 +41,12 @@ pub(crate) struct Scene<'a, G, A: Allocator + Copy> {
     pub(crate) tick: u64,
 }
 
-impl<'a, G: Goals, A: Allocator + Copy> Sight for Scene<'a, G, A> {
-    ghost setting = { λ s. setting s.grid.now s.from.now (G.goal_of s.goals.now) (G.distance s.goals.now) (map (λ h. h.law) s.ties.now) };
+impl<'a, G: Guide, A: Allocator + Copy> Sight for Scene<'a, G, A> {
+    ghost setting = { λ s. setting s.grid.now s.from.now (G.goal_of s.goals.now) (G.distance s.goals.now s.grid.now) (map (λ h. h.law) s.ties.now) };
 
     ghost is_whole = { λ s.
         IsWhole
-        (setting s.grid.now s.from.now (G.goal_of s.goals.now) (G.distance s.goals.now) (map (λ h. h.law) s.ties.now))
+        (setting s.grid.now s.from.now (G.goal_of s.goals.now) (G.distance s.goals.now s.grid.now) (map (λ h. h.law) s.ties.now))
         s.arounds.now };
 
     ghost is_scene = { λ s whole. whole.scene };
@@ -68,7 +68,7 @@ impl<'a, G: Goals, A: Allocator + Copy> Sight for Scene<'a, G, A> {
     }
 }
 
-impl<'a, G: Goals, A: Allocator + Copy> Scene<'a, G, A> {
+impl<'a, G: Guide, A: Allocator + Copy> Scene<'a, G, A> {
     /// The candidate of the own cell of a robot that sees this.
     fn staying(&self, robot: u32, around: Around) -> Candidate
         requires whole { ⟦<Scene<'a, G, A> as Sight>⟧.is_whole self.now }

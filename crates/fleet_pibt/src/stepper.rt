@@ -1,6 +1,6 @@
 //! One step of all robots.
 
-ghost use Rattle.std.specs.Prelude.{IfOk, ◌≡◌, ℕ, ◌<◌, ◌≤◌, length, map, slice_get, slice_index, Some};
+ghost use Rattle.std.specs.Prelude.{IfOk, OnOk, ◌≡◌, ℕ, ◌<◌, ◌≤◌, length, map, slice_get, slice_index, Some};
 ghost use Rattle.fleet_grid.specs.Floor.{HasForm, IsFloor, IsNeighbour};
 ghost use Rattle.fleet_grid.specs.Step.{IsPlacement, IsConflictFree};
 ghost use Rattle.fleet_grid.specs.Walk.{IsBridgeless};
@@ -108,41 +108,50 @@ impl<A: Allocator + Copy> Stepper<A> {
             slice_get (map (λ h. h.law) ties.now) e ≡ Some law →
             IsByLaw grid.now law g (slice_index from.now e) (slice_index to.new e) }
     {
-        self.step_by(grid, from, waits, &OnMap { goals }, ties, tick, to);
+        let mut guide = OnMap { goals };
+        match self.step_by(grid, from, waits, &mut guide, ties, tick, to) {
+            Ok(()) => {}
+        }
     }
 
-    /// Does what `step` does, for goals that tell the exits of a cell with the ways to the goal.
+    /// Does what `step` does, for goals that tell the exits of a cell with the ways to the goal. A robot's guide that gives no
+    /// answer is the only error; no robot is planned then.
     pub fn step_by<G: Guide>(
         &mut self,
         grid: &Grid<A>,
         from: &[u32],
         waits: &[Option<u64>],
-        goals: &G,
+        goals: &mut G,
         ties: &[TieHook],
         tick: u64,
         to: &mut [u32],
-    )
+    ) -> Result<(), G::Fault>
         requires placed { IsPlacement grid.now from.now }
         requires few { length from.now ≤ 512 }
         requires waited { length waits.now ≡ length from.now }
         requires tied { length ties.now ≡ length from.now }
         requires same_length { length to.old ≡ length from.now }
         requires made { self.old ≡ record { cells = length grid.now.letters; robots = length from.now } }
-        requires goals { AreGoals grid.now from.now waits.now (G.goal_of goals.now) (G.distance goals.now) }
-        requires shows { G.shows goals.now grid.now }
+        requires goals { AreGoals grid.now from.now waits.now (G.goal_of goals.old) (G.distance goals.old grid.now) }
+        requires shows { G.shows goals.old grid.now }
         ensures made { self.new ≡ self.old }
-        ensures stepped { IsStepped grid.now waits.now (G.goal_of goals.now) (map (λ h. h.law) ties.now) from.now to.new }
+        ensures goals { G.goal_of goals.new ≡ G.goal_of goals.old }
+        ensures distances { G.distance goals.new ≡ G.distance goals.old }
+        ensures shows { G.shows goals.new grid.now }
+        ensures stays { G.stays goals.old goals.new }
+        ensures stepped { OnOk result (IsStepped grid.now waits.now (G.goal_of goals.old) (map (λ h. h.law) ties.now) from.now to.new) }
     {
-        see(grid, from, goals, &mut self.arounds, &mut self.board.seats);
+        see(grid, from, goals, &mut self.arounds, &mut self.board.seats)?;
         let scene = Scene {
             grid,
-            goals,
+            goals: &*goals,
             from,
             ties,
             arounds: &self.arounds,
             tick,
         };
         decide(&scene, from, waits, &mut self.queue, &mut self.board, to);
+        Ok(())
     }
 }
 
@@ -150,17 +159,21 @@ impl<A: Allocator + Copy> Stepper<A> {
 fn see<G: Guide, A: Allocator + Copy>(
     grid: &Grid<A>,
     from: &[u32],
-    goals: &G,
+    goals: &mut G,
     arounds: &mut [Around],
     seats: &mut Seats<A>,
-)
+) -> Result<(), G::Fault>
     requires same_length { length arounds.old ≡ length from.now }
     requires few { length from.now ≤ 512 }
     requires floor { (r : ℕ) → r < length from.now → IsFloor grid.now (slice_index from.now r) }
-    requires shows { G.shows goals.now grid.now }
+    requires shows { G.shows goals.old grid.now }
     requires cells { length seats.old.standing ≡ length grid.now.letters }
     requires nobody { IsEmpty seats.old.standing }
-    ensures arounds { AreArounds grid.now (G.goal_of goals.now) (G.distance goals.now) from.now arounds.new }
+    ensures arounds { OnOk result (AreArounds grid.now (G.goal_of goals.old) (G.distance goals.old grid.now) from.now arounds.new) }
+    ensures goals { G.goal_of goals.new ≡ G.goal_of goals.old }
+    ensures distances { G.distance goals.new ≡ G.distance goals.old }
+    ensures shows { G.shows goals.new grid.now }
+    ensures stays { G.stays goals.old goals.new }
     ensures cells { length seats.new.standing ≡ length seats.old.standing }
     ensures nobody { IsEmpty seats.new.standing }
     ensures holder { seats.new.holder ≡ seats.old.holder }
@@ -168,8 +181,9 @@ fn see<G: Guide, A: Allocator + Copy>(
 {
     // The count comes with the form of the map, which the proof reads.
     let _cells = grid.cell_count();
-    gather(grid, from, goals, arounds);
+    gather(grid, from, goals, arounds)?;
     fetch(arounds, seats);
+    Ok(())
 }
 
 /// Plans the robots in their order of priority on an empty board, writes out where each goes, and empties the board again.

@@ -6,13 +6,12 @@ use Rattle.std.proofs.lemmas.Bool.{cases_eq}
 use Rattle.std.proofs.lemmas.List.{length-replicate, length-set, get_or-set_same, get_or-set_other}
 use Rattle.fleet_grid.specs.Floor.{Floor, IsFloor, IsNeighbour}
 use Rattle.fleet_grid.specs.Walk.{IsBridgeless}
-use Rattle.fleet_field.specs.Field.{Aim}
 use Rattle.fleet_field.specs.Store.{Keeps}
 use Rattle.fleet_queue.specs.declared.errand.Errand.{Errand}
 use Rattle.fleet_queue.specs.Queue.{Queue}
 use Rattle.fleet_history.specs.History.{History, robots, front}
 use Rattle.fleet_history.proofs.Reach.{front-reach}
-use Rattle.fleet_planner.specs.Aims.{goals_of, AreOn}
+use Rattle.fleet_planner.specs.Courses.{Courses, goals_of, AreOn}
 use Rattle.fleet_planner.specs.Planned.{goals, cell_of}
 use Rattle.fleet_state.specs.Robots.{queue_at}
 use Rattle.fleet_state.specs.State.{State, IsStateOf}
@@ -31,21 +30,15 @@ replicate_none zero r = refl
 replicate_none (suc n) zero = refl
 replicate_none (suc n) (suc r) = replicate_none n r
 
-goals_none : (n : ℕ) → goals_of (replicate n None) ≡ replicate n None
-goals_none zero = refl
-goals_none (suc n) = ap (λ (t : List (Option ℕ)). None ∷ t) (goals_none n)
+pub aimed-none : (queues : List Queue) (aims : Courses) → goals_of aims ≡ replicate (length queues) None → AreAimedBelow queues 0 (goals_of aims)
+aimed-none queues aims none = record {
+  count = ap length none ∙ length-replicate (length queues) None;
+  aimed = λ r l known. absurd (omega (arith, l));
+  idle = λ r l known. ap (λ (gs : List (Option ℕ)). get_or gs r None) none ∙ replicate_none (length queues) r;
+}
 
-pub aimed-none : (queues : List Queue) (aims : List (Option Aim)) → aims ≡ replicate (length queues) None → AreAimedBelow queues 0 (goals_of aims)
-aimed-none queues aims none =
-    let same : goals_of aims ≡ replicate (length queues) None = ap goals_of none ∙ goals_none (length queues) in
-    record {
-      count = ap length same ∙ length-replicate (length queues) None;
-      aimed = λ r l known. absurd (omega (arith, l));
-      idle = λ r l known. ap (λ (gs : List (Option ℕ)). get_or gs r None) same ∙ replicate_none (length queues) r;
-    }
-
-pub none-count : (n : ℕ) (aims : List (Option Aim)) → aims ≡ replicate n None → length aims ≡ n
-none-count n aims none = ap length none ∙ length-replicate {A = Option Aim} n None
+pub none-count : (n : ℕ) (aims : Courses) → goals_of aims ≡ replicate n None → length (goals_of aims) ≡ n
+none-count n aims none = ap length none ∙ length-replicate {A = Option ℕ} n None
 
 -- one robot more, which has an errand
 pub aimed-more : (queues : List Queue) (n : ℕ) (gs : List (Option ℕ)) (o : Option Errand) (f : Errand) → n < length queues → o ≡ slice_get (queue_at queues n).items 0 → o ≡ Some f →

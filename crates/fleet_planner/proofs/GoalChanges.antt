@@ -7,7 +7,7 @@ use Rattle.std.proofs.lemmas.List.{append-nil, length-append, length-set, get_or
 use Rattle.std.proofs.lemmas.List.Elements.{All-nil, All-append}
 use Rattle.std.proofs.lemmas.Option.{slice_get_within, get_or_from_slice_get}
 use Rattle.fleet_grid.specs.Floor.{Floor, IsFloor}
-use Rattle.fleet_planner.specs.Aims.{goals_of}
+use Rattle.fleet_planner.specs.Courses.{goals_of}
 use Rattle.fleet_planner.specs.Turned.{turned, AreFloorTurns, AreKnownTurns}
 use Rattle.fleet_planner.specs.declared.turns.GoalChange.{GoalChange}
 use Rattle.fleet_queue.specs.declared.errand.Errand.{Errand}

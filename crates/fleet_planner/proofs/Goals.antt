@@ -1,5 +1,5 @@
 -- What a world keeps, waits, aims and cells, is what a step by priority inheritance asks for.
-use Rattle.std.proofs.Common.{◌≡◌, ℕ, ◌<◌, ◌↔◌, List, length, Option, Some, None, IsSome, sym, refl, ◌∙◌, subst, arith, inr, slice_index}
+use Rattle.std.proofs.Common.{◌≡◌, ℕ, ◌<◌, ◌↔◌, List, length, Option, Some, None, IsSome, sym, refl, ap, ◌∙◌, subst, arith, inr, slice_index, slice_index_or}
 use Rattle.std.specs.Prelude.{slice_get}
 use Rattle.std.proofs.Math.Path.{fun_ext}
 use Rattle.fleet_grid.specs.Floor.{Floor, IsNeighbour}
@@ -11,9 +11,8 @@ use Rattle.fleet_history.specs.Waits.{wait, wait_for}
 use Rattle.fleet_history.specs.Legal.{IsLegal}
 use Rattle.fleet_history.proofs.Legal.{length-place}
 use Rattle.fleet_history.proofs.Reach.{front-reach}
-use Rattle.fleet_field.specs.Field.{Aim}
-use Rattle.fleet_planner.specs.Aims.{goals_of, goal, distance, AreOn}
-use Rattle.fleet_planner.proofs.Measured.{goal_at, are_goals}
+use Rattle.fleet_planner.specs.Courses.{Courses, goals_of, goal, away}
+use Rattle.fleet_planner.proofs.Measured.{are_goals}
 use Rattle.fleet_pibt.specs.Goals.{AreGoals}
 use Rattle.fleet_pibt.specs.Order.{wait_of}
 use Rattle.fleet_pibt.specs.Eldest.{IsEldest}
@@ -22,10 +21,6 @@ use Rattle.fleet_pibt.specs.Advancing.{Advances, IsAdvancing, IsOpenAhead}
 use Rattle.fleet_pibt.specs.Ties.{IsByLaw}
 use Rattle.fleet_planner.specs.Planned.{waits, goals, goal_of, cell_of, IsPlannedBy}
 use Rattle.fleet_planner.proofs.Lists.{item_of}
-
--- the goals that the aims show are those of a list
-pub goal_is : (aims : List (Option Aim)) → goal aims ≡ goal_of (goals_of aims)
-goal_is aims = fun_ext (λ r. goal_at aims (goals_of aims) refl r)
 
 -- a wait is there where a front is
 waits_some : {A : Type 0} (h : History A) (r : ℕ) (o : Option Errand) → IsSome (cell_of o) ↔ IsSome (wait_for h r o)
@@ -36,13 +31,13 @@ front_of : (o : Option Errand) (g : ℕ) → cell_of o ≡ Some g → (f : Erran
 front_of None g e = cc
 front_of (Some f) g e = (f, refl, cc)
 
--- after a legal history the aims at the fronts' cells are goals that the robots can reach, with their distances
-pub kept_goals : {A : Type 0} (m : Floor) (h : History A) (aims : List (Option Aim)) → IsLegal m h → goals_of aims ≡ goals h → AreOn m aims →
-    AreGoals m (place h) (waits h) (goal aims) (distance aims)
-kept_goals m h aims legal same on =
+-- after a legal history the courses to the fronts' cells have goals that the robots can reach, with their distances
+pub kept_goals : {A : Type 0} (m : Floor) (h : History A) (aims : Courses) → IsLegal m h → goals_of aims ≡ goals h →
+    AreGoals m (place h) (waits h) (goal aims) (away aims m)
+kept_goals m h aims legal same =
     let at : (r : ℕ) → r < length (place h) → goal aims r ≡ cell_of (front h r) =
-    (λ r l. goal_at aims (goals h) same r ∙ item_of (λ q. cell_of (front h q)) (robots h) r (omega (arith, length-place m h legal))) in
-    are_goals m (place h) (waits h) aims on
+    (λ r l. ap (λ (gs : List (Option ℕ)). slice_index_or gs r None) same ∙ item_of (λ q. cell_of (front h q)) (robots h) r (omega (arith, length-place m h legal))) in
+    are_goals m (place h) (waits h) aims
     (λ r l.
     let w : wait_of (waits h) r ≡ wait h r = item_of (wait h) (robots h) r (omega (arith, length-place m h legal)) in
     rw (at r l, w) (waits_some h r (front h r)))
@@ -54,16 +49,3 @@ kept_goals m h aims legal same on =
 pub planned-advances : (m : Floor) (ties : List TieLaw) (ws gs : List (Option ℕ)) (from to : List ℕ) → IsBridgeless (IsNeighbour m) →
     IsPlannedBy m ties ws gs from to → IsAdvancing m ws (goal_of gs) from to
 planned-advances m ties ws gs from to none planned e g eldest is = planned.advances e g eldest is (λ w near nearer. inr (none (slice_index from e) w))
-
-module _ {m : Floor} {ties : List TieLaw} {ws : List (Option ℕ)} {from to : List ℕ} (aims : List (Option Aim)) where
-  -- a step by the goals of the aims is a step by the list of goals
-  pub planned-from : IsPurposeful m (goal aims) from to →
-      ((e g : ℕ) → IsEldest ws e → goal aims e ≡ Some g → IsOpenAhead m from g (slice_index from e) → Advances m g (slice_index from e) (slice_index to e)) →
-      ((e g : ℕ) (law : TieLaw) → IsEldest ws e → goal aims e ≡ Some g → IsOpenAhead m from g (slice_index from e) → slice_get ties e ≡ Some law →
-      IsByLaw m law g (slice_index from e) (slice_index to e)) →
-      IsPlannedBy m ties ws (goals_of aims) from to
-  planned-from purposeful advances by_law = record {
-    purposeful = subst (λ (gs : ℕ → Option ℕ). IsPurposeful m gs from to) (goal_is aims) purposeful;
-    advances = λ e g eldest is. advances e g eldest (goal_at aims (goals_of aims) refl e ∙ is);
-    by_law = λ e g law eldest is. by_law e g law eldest (goal_at aims (goals_of aims) refl e ∙ is);
-  }

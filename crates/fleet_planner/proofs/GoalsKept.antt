@@ -7,9 +7,8 @@ use Rattle.std.proofs.lemmas.List.FromFn.{length-range_with_len}
 use Rattle.std.proofs.lemmas.Bool.{cases_eq, cases_lt, cases_Bool, eq-eqb, ne_eqb}
 use Rattle.fleet_grid.specs.Floor.{Floor, IsFloor, IsNeighbour}
 use Rattle.fleet_grid.specs.Walk.{IsBridgeless}
-use Rattle.fleet_field.specs.Field.{Aim}
 use Rattle.fleet_field.specs.Store.{Keeps}
-use Rattle.fleet_planner.specs.Aims.{goals_of, goal_in, AreOn}
+use Rattle.fleet_planner.specs.Courses.{Courses, goals_of, AreOn}
 use Rattle.fleet_hooks.specs.declared.law.TieLaw.{TieLaw}
 use Rattle.fleet_queue.specs.declared.errand.Errand.{Errand}
 use Rattle.fleet_queue.specs.Queue.{Queue}
@@ -186,15 +185,19 @@ module _ {A : Type 0} {m : Floor} {h : History A} {s : State A} {p : Planner} (k
     kept = a.kept;
   }
 
-  -- other fields may be kept
-  pub aimed-kept : {q : Planner} → q.aims ≡ p.aims → q.size ≡ p.size → q.bridgeless ≡ p.bridgeless → Keeps m q.kept → IsAimed m h q
-  aimed-kept same size bridge kept = record {
-    aimed = ap goals_of same ∙ a.aimed;
-    on = subst (AreOn m) (sym same) a.on;
+  -- the fields may be others
+  pub aimed-still : {q : Planner} → goals_of q.aims ≡ goals_of p.aims → AreOn m q.aims → q.size ≡ p.size → q.bridgeless ≡ p.bridgeless → Keeps m q.kept → IsAimed m h q
+  aimed-still same on size bridge kept = record {
+    aimed = same ∙ a.aimed;
+    on = on;
     sized = size ∙ a.sized;
     bridge = subst (λ b. IsTrue b ↔ IsBridgeless (IsNeighbour m)) (sym bridge) a.bridge;
     kept = kept;
   }
+
+  -- other fields may be kept
+  pub aimed-kept : {q : Planner} → q.aims ≡ p.aims → q.size ≡ p.size → q.bridgeless ≡ p.bridgeless → Keeps m q.kept → IsAimed m h q
+  aimed-kept same size bridge kept = aimed-still (ap goals_of same) (subst (AreOn m) (sym same) a.on) size bridge kept
 
   pub aimed-tick : {q : Planner} (to : List ℕ) (arrived : List Arrival) (farewells : List Bye) → map due_of arrived ≡ due h to → goals_of q.aims ≡ goals_ticked s.queues to → AreOn m q.aims →
       q.size ≡ p.size → q.bridgeless ≡ p.bridgeless → Keeps m q.kept → IsAimed m (after h (entry.Tick to arrived farewells)) q
@@ -226,16 +229,12 @@ replicate_none zero r = refl
 replicate_none (suc n) zero = refl
 replicate_none (suc n) (suc r) = replicate_none n r
 
-goals_none : (n : ℕ) → goals_of (replicate n None) ≡ replicate n None
-goals_none zero = refl
-goals_none (suc n) = ap (λ (t : List (Option ℕ)). None ∷ t) (goals_none n)
-
-pub aimed-start : {A : Type 0} (m : Floor) (o : Opening A) (n : ℕ) (p : Planner) → length o.robots ≡ n → ((r : ℕ) → unfinished (start o) r ≡ []) → p.aims ≡ replicate n None → AreOn m p.aims →
+pub aimed-start : {A : Type 0} (m : Floor) (o : Opening A) (n : ℕ) (p : Planner) → length o.robots ≡ n → ((r : ℕ) → unfinished (start o) r ≡ []) → goals_of p.aims ≡ replicate n None → AreOn m p.aims →
     p.size ≡ record { cells = length m.letters; robots = n } → (IsTrue p.bridgeless ↔ IsBridgeless (IsNeighbour m)) → Keeps m p.kept → IsAimed m (start o) p
 aimed-start {A = A} m o n p count none idle on sized bridge kept =
     let h : History A = start o in
     record {
-      aimed = ap goals_of idle ∙ goals_none n ∙ listed (robots h) (λ r. cell_of (front h r)) (replicate n None) (length-replicate n None ∙ sym count)
+      aimed = idle ∙ listed (robots h) (λ r. cell_of (front h r)) (replicate n None) (length-replicate n None ∙ sym count)
           (λ r l. replicate_none n r ∙ sym (ap (λ xs. cell_of (slice_get xs 0)) (none r)));
       on = on;
       sized = sized ∙ ap (λ (k : ℕ). record { cells = length m.letters; robots = k }) (sym count);
@@ -262,6 +261,6 @@ idle-is h ws same = (
   ],
 )
 
--- there is an aim for each robot
-pub aims-count : {A : Type 0} (h : History A) (a : List (Option Aim)) → goals_of a ≡ goals h → length a ≡ robots h
-aims-count h a same = sym (length-map a goal_in) ∙ ap length same ∙ length-by_robot (robots h) (λ r. cell_of (front h r))
+-- there is a goal for each robot
+pub aims-count : {A : Type 0} (h : History A) (aims : Courses) → goals_of aims ≡ goals h → length (goals_of aims) ≡ robots h
+aims-count h aims same = ap length same ∙ length-by_robot (robots h) (λ r. cell_of (front h r))

@@ -12,3 +12,5 @@ pub mod Refused
 pub mod GoalsKept
 pub mod GoalChanges
 pub mod FirstGoals
+pub mod Merged
+pub mod Starts

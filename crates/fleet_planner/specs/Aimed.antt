@@ -3,11 +3,10 @@ use Rattle.std.specs.Prelude.{ℕ, ◌≡◌, ◌<◌, ◌↔◌, Bool, IsTrue, 
 use Rattle.std.specs.List.{flat_map, range_with_len}
 use Rattle.fleet_grid.specs.Floor.{Floor, IsNeighbour}
 use Rattle.fleet_grid.specs.Walk.{IsBridgeless}
-use Rattle.fleet_field.specs.Field.{Aim}
-use Rattle.fleet_field.specs.Shelf.{Shelf}
+use Rattle.fleet_field.specs.FieldCache.{FieldCache}
 use Rattle.fleet_field.specs.Store.{Keeps}
 use Rattle.fleet_planner.specs.declared.turns.GoalChange.{GoalChange}
-use Rattle.fleet_planner.specs.Aims.{goals_of, AreOn}
+use Rattle.fleet_planner.specs.Courses.{Courses, goals_of, AreOn}
 use Rattle.fleet_pibt.specs.Size.{Size}
 use Rattle.fleet_queue.specs.declared.errand.Errand.{Errand}
 use Rattle.fleet_queue.specs.Queue.{Queue}
@@ -25,10 +24,10 @@ use Rattle.fleet_state.specs.State.{State, IsStateOf}
 -- what each robot aims at, the size of the fleet and its map, whether the map has no bridge, and the fields of goals that
 -- no robot has any more
 pub record Planner : Type 0 where
-  pub aims : List (Option Aim)
+  pub aims : Courses
   pub size : Size
   pub bridgeless : Bool
-  pub kept : Shelf
+  pub kept : FieldCache
 
 -- the planner goes by the goals after the history
 pub record IsAimed {A : Type 0} (m : Floor) (h : History A) (p : Planner) : Type 0 where
@@ -92,7 +91,7 @@ IsIdle h = (r : ℕ) → r < robots h → front h r ≡ None
 
 -- a planner of this many robots that have no goals
 pub record IsNewPlanner (m : Floor) (robots : ℕ) (p : Planner) : Type 0 where
-  pub none : p.aims ≡ replicate robots None
+  pub none : goals_of p.aims ≡ replicate robots None
   pub on : AreOn m p.aims
   pub size : p.size ≡ record { cells = length m.letters; robots = robots }
   pub bridge : IsTrue p.bridgeless ↔ IsBridgeless (IsNeighbour m)

@@ -1,2 +1,3 @@
 -- What only proofs and private functions use.
 pub mod Turns
+pub mod Started

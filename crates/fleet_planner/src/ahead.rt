@@ -1,11 +1,15 @@
 //! Goals of the next errands.
 
-ghost use Rattle.std.specs.Prelude.{ℕ, ◌<◌, length, slice_index, IfSome, IfOk};
+ghost use Rattle.std.specs.Prelude.{◌≡◌, ℕ, ◌<◌, length, slice_index, IfSome, IfOk, OnErr};
+ghost use Rattle.fleet_field.specs.Store.{Keeps};
 ghost use Rattle.fleet_grid.specs.Floor.{IsFloor};
 
+use fleet_field::FieldCache;
 use fleet_grid::Grid;
 use fleet_queue::ErrandQueue;
+use fleet_state::FleetState;
 use std::alloc::{AllocError, Allocator};
+use std::thread::Threads;
 
 /// Whether the front errand of one of the queues has the cell, so that its robot aims at it.
 fn is_front<A: Allocator + Copy>(queues: &[ErrandQueue<A>], cell: u32) -> bool {
@@ -36,7 +40,7 @@ fn goal_ahead<A: Allocator + Copy>(
 }
 
 /// The cells of the errands after the queues' fronts at which no robot aims.
-pub(crate) fn goals_ahead<A: Allocator + Copy>(
+fn goals_ahead<A: Allocator + Copy>(
     alloc: A,
     grid: &Grid<A>,
     queues: &[ErrandQueue<A>],
@@ -50,4 +54,20 @@ pub(crate) fn goals_ahead<A: Allocator + Copy>(
         }
     }
     Ok(goals)
+}
+
+/// Searches the fields of the robots' next goals side by side, and answers whether all fit in the cache.
+pub(crate) fn search_goals<A: Allocator + Copy + Send + Sync>(
+    rt: &(impl Threads + Sync),
+    alloc: A,
+    grid: &Grid<A>,
+    state: &FleetState<A>,
+    cache: &mut FieldCache<A>,
+) -> Result<bool, AllocError>
+    requires { Keeps grid.now cache.old }
+    ensures keeps { Keeps grid.now cache.new }
+    ensures refused { OnErr result (cache.new ≡ cache.old) }
+{
+    let goals = goals_ahead(alloc, grid, state.queues())?;
+    cache.search_ahead(rt, grid, &goals)
 }

@@ -3,14 +3,15 @@
 ghost use Rattle.std.specs.Prelude.{◌≡◌, ℕ, ◌<◌, ◌≤◌, Some, None, length, replicate, slice_set, IfOk, OnOk, OnErr};
 ghost use Rattle.fleet_field.specs.Store.{Keeps};
 ghost use Rattle.fleet_grid.specs.Floor.{Floor, IsFloor};
+ghost use Rattle.fleet_grid.specs.Ways.{AreNearer, AreOpen};
 ghost use Rattle.fleet_planner.specs.Aims.{goals_of, goal, distance, AreOn};
 ghost use Rattle.fleet_planner.specs.Turned.{turned, AreFloorTurns, AreKnownTurns};
 
 use crate::keys::{distance_of, goal_of, outlook_of, ways_of};
 use crate::turns::{GoalChange, turn_to};
-use fleet_field::{FieldStore, Shelf};
+use fleet_field::{FieldCache, FieldStore};
 use fleet_grid::{Grid, Outlook, Ways};
-use fleet_pibt::{Goals, Guide};
+use fleet_pibt::Goals;
 use std::alloc::{AllocError, Allocator, Global};
 use std::marker::Model;
 
@@ -65,10 +66,10 @@ impl<A: Allocator + Copy> Aims<A> {
     }
 
     /// Gives the robot a goal, which is a floor cell, in place of the goal that it had. All goals are on one map, and
-    /// fields that no robot needs any more go to the shelf.
+    /// fields that no robot needs any more go to the cache.
     pub fn aim<B: Allocator + Copy>(
         &mut self,
-        shelf: &mut Shelf<A>,
+        cache: &mut FieldCache<A>,
         grid: &Grid<B>,
         robot: u32,
         goal: u32,
@@ -76,10 +77,10 @@ impl<A: Allocator + Copy> Aims<A> {
         requires known { robot < length self.old }
         requires floor { IsFloor grid.now goal }
         requires on { AreOn grid.now self.old }
-        requires keeps { Keeps grid.now shelf.old }
+        requires keeps { Keeps grid.now cache.old }
         ensures count { length self.new ≡ length self.old }
         ensures on { AreOn grid.now self.new }
-        ensures keeps { Keeps grid.now shelf.new }
+        ensures keeps { Keeps grid.now cache.new }
         ensures goals { OnOk result (goals_of self.new ≡ slice_set (goals_of self.old) robot (Some goal)) }
         ensures refused { OnErr result (self.new ≡ self.old) }
     {
@@ -87,7 +88,7 @@ impl<A: Allocator + Copy> Aims<A> {
             robot,
             goal: Some(goal),
         };
-        self.turn(shelf, grid, &[turn])
+        self.turn(cache, grid, &[turn])
     }
 
     /// Gives the robots of these changes their new goals, which are floor cells, or no goal. If two changes are for one
@@ -95,7 +96,7 @@ impl<A: Allocator + Copy> Aims<A> {
     /// kept are searched one after another. It allocates no list.
     pub fn turn<B: Allocator + Copy>(
         &mut self,
-        shelf: &mut Shelf<A>,
+        cache: &mut FieldCache<A>,
         grid: &Grid<B>,
         turns: &[GoalChange],
     ) -> Result<(), AllocError>
@@ -103,21 +104,37 @@ impl<A: Allocator + Copy> Aims<A> {
         requires known { AreKnownTurns (length self.old) turns.now }
         requires floor { AreFloorTurns grid.now turns.now }
         requires on { AreOn grid.now self.old }
-        requires keeps { Keeps grid.now shelf.old }
+        requires keeps { Keeps grid.now cache.old }
         ensures count { length self.new ≡ length self.old }
         ensures on { AreOn grid.now self.new }
-        ensures keeps { Keeps grid.now shelf.new }
+        ensures keeps { Keeps grid.now cache.new }
         ensures goals { OnOk result (goals_of self.new ≡ turned turns.now (goals_of self.old)) }
         ensures refused { OnErr result (self.new ≡ self.old) }
     {
         turn_to(
-            shelf,
+            cache,
             grid,
             &mut self.store,
             &mut self.keys,
             &mut self.fresh,
             turns,
         )
+    }
+
+    /// Whether some robot's goal is this one.
+    pub(crate) fn has(&self, goal: u32) -> bool {
+        self.store.has(goal)
+    }
+
+    /// What the robot sees from a floor cell of the map. Without a goal no way leads nearer.
+    pub fn outlook<B: Allocator + Copy>(&self, grid: &Grid<B>, robot: u32, cell: u32) -> Outlook
+        requires on { AreOn grid.now self.now }
+        requires floor { IsFloor grid.now cell }
+        ensures nearer { AreNearer grid.now (distance self.now robot) cell result.nearer.byte }
+        ensures idle { goal self.now robot ≡ None → result.nearer.byte ≡ 0 }
+        ensures exits { AreOpen grid.now cell result.exits.byte }
+    {
+        outlook_of(&self.store, &self.keys, grid, robot, cell)
     }
 }
 
@@ -136,13 +153,5 @@ impl<A: Allocator + Copy> Goals for Aims<A> {
 
     fn ways<B: Allocator + Copy>(&self, grid: &Grid<B>, robot: u32, cell: u32) -> Ways {
         ways_of(&self.store, &self.keys, grid, robot, cell)
-    }
-}
-
-impl<A: Allocator + Copy> Guide for Aims<A> {
-    ghost shows = { λ s m. AreOn m s };
-
-    fn outlook<B: Allocator + Copy>(&self, grid: &Grid<B>, robot: u32, cell: u32) -> Outlook {
-        outlook_of(&self.store, &self.keys, grid, robot, cell)
     }
 }

@@ -4,13 +4,17 @@
 
 mod ahead;
 mod aims;
+mod courses;
 mod keys;
 mod mover;
 mod planner;
+mod recent;
+mod started;
 mod turns;
 mod waits;
 
 pub use aims::Aims;
-pub use planner::{Planner, is_nobody};
+pub use courses::Courses;
+pub use planner::Planner;
 pub use turns::GoalChange;
-pub use waits::eldest;
+pub use waits::{eldest, is_nobody};

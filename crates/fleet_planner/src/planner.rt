@@ -1,12 +1,12 @@
 //! What the robots need from tick to tick: their goals, and the step by priority inheritance with backtracking.
 
 ghost use Rattle.std.specs.Prelude.{◌≡◌, ◌<◌, ◌≤◌, ◌^◌, ◌↔◌, ℕ, IsTrue, None, slice_get, length, map, replicate, vec_capacity, IfOk, OnOk, OnErr};
+ghost use Rattle.fleet_field.specs.FieldCache.{bytes_kept};
 ghost use Rattle.fleet_field.specs.Store.{Keeps};
 ghost use Rattle.fleet_grid.specs.Floor.{Floor, IsNeighbour};
 ghost use Rattle.fleet_grid.specs.Step.{IsConflictFree};
 ghost use Rattle.fleet_grid.specs.Walk.{IsBridgeless};
-ghost use Rattle.fleet_planner.specs.Aims.{goals_of, AreOn};
-ghost use Rattle.fleet_pibt.specs.Order.{wait_of};
+ghost use Rattle.fleet_planner.specs.Courses.{goals_of, AreOn};
 ghost use Rattle.fleet_planner.specs.Planned.{IsPlannedBy, cell_of};
 ghost use Rattle.fleet_state.specs.Robots.{queue_at};
 ghost use Rattle.fleet_state.specs.State.{IsStateOf, robot_count};
@@ -14,13 +14,13 @@ ghost use Rattle.fleet_history.specs.History.{History};
 ghost use Rattle.fleet_planner.specs.Aimed.{IsAimed, MayPlan, MayBegin, begun, begun_goals, first_goals, goals_ticked, turns_ticked};
 ghost use Rattle.fleet_planner.specs.Aimed.{IsNewPlanner};
 
-use crate::ahead::goals_ahead;
-use crate::aims::Aims;
+use crate::ahead::search_goals;
+use crate::courses::Courses;
 use crate::mover::{TickInput, plan};
 use crate::turns::GoalChange;
 use fleet_book::{Order, Verdict};
 use fleet_bridge::first_bridge;
-use fleet_field::Shelf;
+use fleet_field::FieldCache;
 use fleet_grid::Grid;
 use fleet_hooks::TieHook;
 use fleet_pibt::Stepper;
@@ -35,10 +35,10 @@ const KEPT_BYTES: usize = 256 << 20;
 /// What each robot aims at, the means to plan a step, and the fields of goals that no robot has any more.
 #[derive(Drop)]
 pub struct Planner<A: Allocator + Copy = Global> {
-    aims: Aims<A>,
+    aims: Courses<A>,
     stepper: Stepper<A>,
     bridgeless: bool,
-    shelf: Shelf<A>,
+    cache: FieldCache<A>,
     /// The turns of the last tick, with room for all robots.
     turns: Vec<GoalChange, A>,
 }
@@ -46,12 +46,13 @@ pub struct Planner<A: Allocator + Copy = Global> {
 impl<A: Allocator + Copy> Model for Planner<A> {
     ghost use Rattle.std.specs.Prelude.{◌≤◌, length, vec_capacity};
     ghost use Rattle.fleet_planner.specs.Aimed.{Planner};
+    ghost use Rattle.fleet_planner.specs.Courses.{goals_of};
 
     ghost Value = { Planner };
 
-    ghost view = { λ p. record { aims = p.aims; size = p.stepper; bridgeless = p.bridgeless; kept = p.shelf } };
+    ghost view = { λ p. record { aims = p.aims; size = p.stepper; bridgeless = p.bridgeless; kept = p.cache } };
 
-    ghost invariant = { λ p. length p.aims ≤ vec_capacity p.turns };
+    ghost invariant = { λ p. length (goals_of p.aims) ≤ vec_capacity p.turns };
 }
 
 impl<A: Allocator + Copy> Planner<A> {
@@ -62,13 +63,13 @@ impl<A: Allocator + Copy> Planner<A> {
     {
         let bridgeless = has_no_bridge(alloc, grid)?;
         let turns = Vec::with_capacity(alloc, robots)?;
-        let aims = Aims::new(alloc, robots)?;
+        let aims = Courses::new(alloc, robots, grid.cell_count())?;
         let stepper = Stepper::new(alloc, grid.cell_count(), robots as u32)?;
         Ok(Planner {
             aims,
             stepper,
             bridgeless,
-            shelf: Shelf::new(alloc, KEPT_BYTES),
+            cache: FieldCache::new(alloc, KEPT_BYTES),
             turns,
         })
     }
@@ -79,7 +80,7 @@ impl<A: Allocator + Copy> Planner<A> {
         ensures { IfOk result (λ p. (h : History A) → IsStateOf grid.now h state.now → IsAimed grid.now h p) }
     {
         let mut planner = Planner::open(alloc, grid, state.robots())?;
-        aim_fronts(&mut planner.aims, &mut planner.shelf, grid, state)?;
+        aim_fronts(&mut planner.aims, &mut planner.cache, grid, state)?;
         Ok(planner)
     }
 
@@ -90,7 +91,14 @@ impl<A: Allocator + Copy> Planner<A> {
         ensures bridge { self.new.bridgeless ≡ self.old.bridgeless }
         ensures keeps { (m : Floor) → Keeps m self.old.kept → Keeps m self.new.kept }
     {
-        self.shelf.keep(bytes);
+        self.cache.keep(bytes);
+    }
+
+    /// The bytes of these fields, one for each cell; of more than 2^64 - 1 this number.
+    pub fn kept_bytes(&self) -> usize
+        ensures { result ≡ bytes_kept self.now.kept.kept }
+    {
+        self.cache.kept_bytes()
     }
 
     /// Whether the map has no bridge.
@@ -100,7 +108,8 @@ impl<A: Allocator + Copy> Planner<A> {
         self.bridgeless
     }
 
-    /// Where the robots go in the next tick.
+    /// Where the robots go in the next tick. A robot's own field grows until it tells the ways from the robot's cell. The only
+    /// error is out of memory; the goals stay as they are.
     pub fn plan(
         &mut self,
         alloc: A,
@@ -111,7 +120,11 @@ impl<A: Allocator + Copy> Planner<A> {
         requires may { MayPlan grid.now state.now self.old }
         requires tied { length ties.now ≡ robot_count state.now }
         requires early { state.now.tick < 2 ^ 63 }
-        ensures same { self.new ≡ self.old }
+        ensures goals { goals_of self.new.aims ≡ goals_of self.old.aims }
+        ensures on { AreOn grid.now self.new.aims }
+        ensures size { self.new.size ≡ self.old.size }
+        ensures bridge { self.new.bridgeless ≡ self.old.bridgeless }
+        ensures keeps { Keeps grid.now self.new.kept }
         ensures conflict_free { IfOk result (λ to. IsConflictFree grid.now state.now.cells to.items) }
         ensures planned { IfOk result (λ to. IsPlannedBy grid.now (map (λ h. h.law) ties.now) state.now.waits (goals_of self.old.aims) state.now.cells to.items) }
     {
@@ -120,7 +133,7 @@ impl<A: Allocator + Copy> Planner<A> {
             waits: state.waits(),
             tick: state.clock() + 1,
         };
-        plan(alloc, grid, input, &self.aims, &mut self.stepper, ties)
+        plan(alloc, grid, input, &mut self.aims, &mut self.stepper, ties)
     }
 
     /// Gives the robot of an accepted order its cell as the goal, if the errand is the robot's first. `state` is the
@@ -141,7 +154,10 @@ impl<A: Allocator + Copy> Planner<A> {
         ensures refused { OnErr result (self.new.aims ≡ self.old.aims) }
     {
         match first_goal(state, order, verdict) {
-            Some((robot, cell)) => self.aims.aim(&mut self.shelf, grid, robot, cell),
+            Some((robot, cell)) => {
+                self.aims
+                    .aim(&mut self.cache, grid, state.place(), robot, cell)
+            },
             None => Ok(()),
         }
     }
@@ -164,7 +180,8 @@ impl<A: Allocator + Copy> Planner<A> {
         ensures refused { OnErr result (self.new.aims ≡ self.old.aims) }
     {
         put_turns(state, to, &mut self.turns);
-        self.aims.turn(&mut self.shelf, grid, self.turns.as_slice())
+        self.aims
+            .turn(&mut self.cache, grid, to, self.turns.as_slice())
     }
 }
 
@@ -184,50 +201,34 @@ impl<A: Allocator + Copy + Send + Sync> Planner<A> {
         ensures keeps { Keeps grid.now self.new.kept }
         ensures refused { OnErr result (self.new ≡ self.old) }
     {
-        let _have_all_place = search_goals(rt, alloc, grid, state, &mut self.shelf)?;
+        let _have_all_place = search_goals(rt, alloc, grid, state, &mut self.cache)?;
         Ok(())
     }
 }
 
 /// Gives each robot, of which none has a goal yet, the cell of its first errand.
 fn aim_fronts<A: Allocator + Copy>(
-    aims: &mut Aims<A>,
-    shelf: &mut Shelf<A>,
+    aims: &mut Courses<A>,
+    cache: &mut FieldCache<A>,
     grid: &Grid<A>,
     state: &FleetState<A>,
 ) -> Result<(), AllocError>
     requires is { (h : History A) × IsStateOf grid.now h state.now }
-    requires none { aims.old ≡ replicate (robot_count state.now) None }
+    requires none { goals_of aims.old ≡ replicate (robot_count state.now) None }
     requires on { AreOn grid.now aims.old }
-    requires keeps { Keeps grid.now shelf.old }
+    requires keeps { Keeps grid.now cache.old }
     ensures goals { OnOk result (goals_of aims.new ≡ first_goals state.now.queues) }
-    ensures count { length aims.new ≡ length aims.old }
+    ensures count { length (goals_of aims.new) ≡ length (goals_of aims.old) }
     ensures on { AreOn grid.now aims.new }
-    ensures keeps { Keeps grid.now shelf.new }
+    ensures keeps { Keeps grid.now cache.new }
 {
     for r in 0..state.robots() {
         let robot = r as u32;
         if let Some(front) = state.front(robot) {
-            aims.aim(shelf, grid, robot, front.cell)?;
+            aims.aim(cache, grid, state.place(), robot, front.cell)?;
         }
     }
     Ok(())
-}
-
-/// Searches the fields of the robots' next goals side by side, and answers whether all fit on the shelf.
-fn search_goals<A: Allocator + Copy + Send + Sync>(
-    rt: &(impl Threads + Sync),
-    alloc: A,
-    grid: &Grid<A>,
-    state: &FleetState<A>,
-    shelf: &mut Shelf<A>,
-) -> Result<bool, AllocError>
-    requires { Keeps grid.now shelf.old }
-    ensures keeps { Keeps grid.now shelf.new }
-    ensures refused { OnErr result (shelf.new ≡ shelf.old) }
-{
-    let goals = goals_ahead(alloc, grid, state.queues())?;
-    shelf.search_ahead(rt, grid, &goals)
 }
 
 /// The turns that a tick to these cells brings, sorted by robot, in place of what the list held.
@@ -285,16 +286,4 @@ fn has_no_bridge<A: Allocator + Copy>(alloc: A, grid: &Grid<A>) -> Result<bool, 
     ensures { IfOk result (λ none. IsTrue none ↔ IsBridgeless (IsNeighbour grid.now)) }
 {
     Ok(first_bridge(alloc, grid)?.is_none())
-}
-
-/// Whether nobody waits.
-pub fn is_nobody(waits: &[Option<u64>]) -> bool
-    ensures { IsTrue result ↔ ((r : ℕ) → wait_of waits.now r ≡ None) }
-{
-    for r in 0..waits.len() {
-        if let Some(_wait) = waits[r] {
-            return false;
-        }
-    }
-    true
 }

@@ -8,7 +8,7 @@ ghost use Rattle.fleet_planner.specs.Keys.{holders, fields_of, AreCounted, AreOw
 ghost use Rattle.fleet_planner.specs.Turned.{turned, AreFloorTurns, AreKnownTurns};
 ghost use Rattle.fleet_planner.specs.inside.Turns.{dealt, AreFewUses, AreShownOn};
 
-use fleet_field::{FieldStore, Shelf};
+use fleet_field::{FieldCache, FieldStore};
 use fleet_grid::Grid;
 use std::alloc::{AllocError, Allocator};
 
@@ -24,7 +24,7 @@ pub struct GoalChange {
 /// Holds the field of each new goal, and puts the keys into `fresh`, one for each change. If a hold fails, the keys
 /// held before it are in `fresh`.
 fn hold_goals<A: Allocator + Copy, B: Allocator + Copy>(
-    shelf: &mut Shelf<A>,
+    cache: &mut FieldCache<A>,
     grid: &Grid<B>,
     store: &mut FieldStore<A>,
     fresh: &mut Vec<Option<usize>, A>,
@@ -34,19 +34,19 @@ fn hold_goals<A: Allocator + Copy, B: Allocator + Copy>(
     requires floor { AreFloorTurns grid.now turns.now }
     requires uses { AreFewUses store.old 512 }
     requires serves { Serves grid.now store.old }
-    requires keeps { Keeps grid.now shelf.old }
+    requires keeps { Keeps grid.now cache.old }
     requires empty { fresh.old.items ≡ [] }
     requires room { length turns.now ≤ vec_capacity fresh.old }
     ensures counted { (keys : List (Option ℕ)) → AreCounted store.old keys [] → AreCounted store.new keys fresh.new.items }
     ensures shown { AreShownOn store.old store.new }
     ensures goals { OnOk result (goals_of (fields_of store.new fresh.new.items) ≡ map (λ t. t.goal) turns.now) }
     ensures serves { Serves grid.now store.new }
-    ensures keeps { Keeps grid.now shelf.new }
+    ensures keeps { Keeps grid.now cache.new }
     ensures room { vec_capacity fresh.new ≡ vec_capacity fresh.old }
 {
     for turn in turns {
         let key = match turn.goal {
-            Some(goal) => Some(store.hold_from(shelf, grid, goal)?),
+            Some(goal) => Some(store.hold_from(cache, grid, goal)?),
             None => None,
         };
         fresh.push_reserved(key);
@@ -72,7 +72,7 @@ fn deal(keys: &mut [Option<usize>], fresh: &mut [Option<usize>], turns: &[GoalCh
 
 /// Gives the keys in `fresh` back. What nobody holds then goes to what is kept.
 fn give_back<A: Allocator + Copy>(
-    shelf: &mut Shelf<A>,
+    cache: &mut FieldCache<A>,
     store: &mut FieldStore<A>,
     fresh: &mut Vec<Option<usize>, A>,
 )
@@ -81,11 +81,11 @@ fn give_back<A: Allocator + Copy>(
     ensures kept { AreKept store.old store.new }
     ensures empty { fresh.new.items ≡ [] }
     ensures room { vec_capacity fresh.new ≡ vec_capacity fresh.old }
-    ensures keeps { (m : Floor) → Serves m store.old → Keeps m shelf.old → Keeps m shelf.new }
+    ensures keeps { (m : Floor) → Serves m store.old → Keeps m cache.old → Keeps m cache.new }
 {
     for at in 0..fresh.len() {
         if let Some(key) = fresh[at] {
-            store.release_to(shelf, key);
+            store.release_to(cache, key);
         }
     }
     fresh.clear();
@@ -94,7 +94,7 @@ fn give_back<A: Allocator + Copy>(
 /// Makes the changes. New goals are held before any key is given back, so that all goals stay as they were if memory
 /// runs out. Between calls `fresh` is empty.
 pub(crate) fn turn_to<A: Allocator + Copy, B: Allocator + Copy>(
-    shelf: &mut Shelf<A>,
+    cache: &mut FieldCache<A>,
     grid: &Grid<B>,
     store: &mut FieldStore<A>,
     keys: &mut [Option<usize>],
@@ -106,23 +106,23 @@ pub(crate) fn turn_to<A: Allocator + Copy, B: Allocator + Copy>(
     requires floor { AreFloorTurns grid.now turns.now }
     requires own { AreOwn store.old keys.old }
     requires on { AreOn grid.now (fields_of store.old keys.old) }
-    requires keeps { Keeps grid.now shelf.old }
+    requires keeps { Keeps grid.now cache.old }
     requires empty { fresh.old.items ≡ [] }
     requires room { length keys.old ≤ vec_capacity fresh.old }
     ensures own { AreOwn store.new keys.new }
     ensures on { AreOn grid.now (fields_of store.new keys.new) }
-    ensures keeps { Keeps grid.now shelf.new }
+    ensures keeps { Keeps grid.now cache.new }
     ensures count { length keys.new ≡ length keys.old }
     ensures goals { OnOk result (goals_of (fields_of store.new keys.new) ≡ turned turns.now (goals_of (fields_of store.old keys.old))) }
     ensures refused { OnErr result (fields_of store.new keys.new ≡ fields_of store.old keys.old) }
     ensures empty { fresh.new.items ≡ [] }
     ensures room { vec_capacity fresh.new ≡ vec_capacity fresh.old }
 {
-    if let Err(refused) = hold_goals(shelf, grid, store, fresh, turns) {
-        give_back(shelf, store, fresh);
+    if let Err(refused) = hold_goals(cache, grid, store, fresh, turns) {
+        give_back(cache, store, fresh);
         return Err(refused);
     }
     deal(keys, fresh.as_mut_slice(), turns);
-    give_back(shelf, store, fresh);
+    give_back(cache, store, fresh);
     Ok(())
 }

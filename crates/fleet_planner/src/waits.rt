@@ -1,6 +1,6 @@
-//! Which robot has waited longest.
+//! Which robot has waited longest, and whether any waits.
 
-ghost use Rattle.std.specs.Prelude.{◌≡◌, ℕ, ◌+◌, ◌<◌, ◌≤◌, None, length, MatchOption};
+ghost use Rattle.std.specs.Prelude.{◌≡◌, ◌↔◌, ℕ, ◌+◌, ◌<◌, ◌≤◌, None, length, IsTrue, MatchOption};
 ghost use Rattle.fleet_pibt.specs.Order.{wait_of};
 ghost use Rattle.fleet_pibt.specs.Eldest.{IsEldest, IsEldestOf};
 
@@ -35,4 +35,16 @@ pub fn eldest(waits: &[Option<u64>]) -> Option<u32>
         found = longer(waits, found, robot as u32);
     }
     found
+}
+
+/// Whether nobody waits.
+pub fn is_nobody(waits: &[Option<u64>]) -> bool
+    ensures { IsTrue result ↔ ((r : ℕ) → wait_of waits.now r ≡ None) }
+{
+    for r in 0..waits.len() {
+        if let Some(_wait) = waits[r] {
+            return false;
+        }
+    }
+    true
 }

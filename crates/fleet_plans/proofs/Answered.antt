@@ -9,6 +9,8 @@ use Rattle.fleet_grid.specs.Floor.{Floor}
 use Rattle.fleet_plans.specs.Goals.{Asked}
 use Rattle.fleet_plans.specs.Answer.{IsNamed, IsJudged, IsTextAnswer, no_plan, judged}
 use Rattle.fleet_plans.specs.Reading.{IsTextPlan, IsTextFault, head_lines}
+use Rattle.fleet_plans.specs.Study as study
+use Rattle.fleet_plans.specs.Study.{IsTextStudy}
 use Rattle.fleet_plans.specs.declared.answer.PlanAnswer.{PlanAnswer}
 use Rattle.fleet_plans.specs.declared.text.TextFault.{TextFault}
 use Rattle.fleet_plans.specs.declared.fault.PlanTextFault.{PlanTextFault}
@@ -30,6 +32,19 @@ module _ (m : Map) (w h : ℕ) (floor : Floor) (of : IsOf m w h floor) (asked : 
       let P : ℕ → ℕ → Type 0 = λ x y. IsTextPlan x y text goals places in
       judged goals places (subst (λ (x : ℕ). P x m.height) of.wide (subst (λ (y : ℕ). P w y) of.tall read))
       (subst (λ (f : Floor). IsJudged f asked (head_lines text) goals places a) of.on is)
+
+module _ (m : Map) (w h : ℕ) (floor : Floor) (of : IsOf m w h floor) (asked : Asked) (text : List ℕ) (a : PlanAnswer) where
+  pub text_is_unread : (kept : List (List ℕ)) (fault : TextFault) → IsTextFault w h text fault → IsNamed (lines_of text) fault a → IsTextStudy asked m text a kept
+  text_is_unread kept fault fails named =
+      let P : ℕ → ℕ → Type 0 = λ x y. IsTextFault x y text fault in
+      study.unread fault (subst (λ (x : ℕ). P x m.height) of.wide (subst (λ (y : ℕ). P w y) of.tall fails)) named
+
+  pub text_is_read : (goals : Option (List ℕ)) (places kept : List (List ℕ)) → IsTextPlan w h text goals places → IsJudged floor asked (head_lines text) goals places a → kept ≡ places → IsTextStudy asked m text a kept
+  text_is_read goals places kept plan is same =
+      let P : ℕ → ℕ → Type 0 = λ x y. IsTextPlan x y text goals places in
+      subst (λ (ps : List (List ℕ)). IsTextStudy asked m text a ps) (sym same)
+      (study.read goals (subst (λ (x : ℕ). P x m.height) of.wide (subst (λ (y : ℕ). P w y) of.tall plan))
+      (subst (λ (f : Floor). IsJudged f asked (head_lines text) goals places a) of.on is))
 
 pub map_fails : {X : Type 0} (fault named : MapFault) (read : Result X MapFault) → Fails fault read → named ≡ fault → named ≢ map_fault.NoMemory → read ≡ Err named
 map_fails {X} fault named read fails same ne =

@@ -1,5 +1,5 @@
 -- What a judge knows after one more placement.
-use Rattle.std.proofs.Common.{◌≡◌, ℕ, ◌+◌, ◌-◌, ◌<◌, ◌≤◌, inl, inr, List, [], ◌∷◌, ◌++◌, length, slice_index, Option, Some, None, refl, sym, subst, ◌∙◌, arith}
+use Rattle.std.proofs.Common.{◌≡◌, ℕ, ◌+◌, ◌-◌, ◌<◌, ◌≤◌, inl, inr, List, [], ◌∷◌, ◌++◌, length, slice_index, Option, Some, None, option_map, refl, sym, ap, subst, ◌∙◌, arith}
 use Rattle.std.proofs.lemmas.Bool.{cases_eq}
 use Rattle.std.proofs.lemmas.List.{get_or_append_left, get_or_push, length-append}
 use Rattle.fleet_grid.specs.Floor.{Floor}
@@ -8,7 +8,7 @@ use Rattle.fleet_check.specs.Fault.{IsPlacementFault, IsFirstFault}
 use Rattle.fleet_plans.specs.declared.judging.PlanFault.{PlanFault}
 use Rattle.fleet_plans.specs.Valid.{place_at, AreStepsFree}
 use Rattle.fleet_plans.specs.Costs.{AreCostsBy, IsNoted}
-use Rattle.fleet_plans.specs.Judge.{Judged, HasPassed, HasFailed, IsSoFar, HasJudged}
+use Rattle.fleet_plans.specs.Judge.{Judged, HasPassed, HasFailed, IsSoFar, AreKept, HasJudged}
 use Rattle.fleet_plans.proofs.Moves.{costs_along, costs_more}
 
 length_more : (places : List (List ℕ)) (place : List ℕ) → length (places ++ place ∷ []) ≡ length places + 1
@@ -111,8 +111,14 @@ module _ (m : Floor) (places : List (List ℕ)) (place : List ℕ) where
         ];
       }
 
+-- what is kept grows with what was given
+pub kept_more : (kept : Option (List (List ℕ))) (places : List (List ℕ)) (place : List ℕ) → AreKept kept places → AreKept (option_map (λ (ps : List (List ℕ)). ps ++ place ∷ []) kept) (places ++ place ∷ [])
+kept_more None places place are = tt
+kept_more (Some kept) places place are = ap (λ (ps : List (List ℕ)). ps ++ place ∷ []) are
+
 -- a judge before and after it takes one more placement
-module _ (m : Floor) (places : List (List ℕ)) (place : List ℕ) (old new : Judged) (was : HasJudged m places old) (on : new.floor ≡ old.floor) (counted : new.count ≡ old.count + 1) where
+module _ (m : Floor) (places : List (List ℕ)) (place : List ℕ) (old new : Judged) (was : HasJudged m places old) (on : new.floor ≡ old.floor) (counted : new.count ≡ old.count + 1)
+    (grown : new.kept ≡ option_map (λ (ps : List (List ℕ)). ps ++ place ∷ []) old.kept) where
   count_more : new.count ≡ length (places ++ place ∷ [])
   count_more = omega (arith, counted, was.count_is, length_more places place)
 
@@ -124,6 +130,7 @@ module _ (m : Floor) (places : List (List ℕ)) (place : List ℕ) (old new : Ju
     on = on ∙ was.on;
     count_is = count_more;
     so_far = subst (λ (o : Option PlanFault). IsSoFar m (places ++ place ∷ []) new.first new.last new.costs o) (sym is) far;
+    keeps = subst (λ (o : Option (List (List ℕ))). AreKept o (places ++ place ∷ [])) (sym grown) (kept_more old.kept places place was.keeps);
   }
 
   pub judged_on : (f : PlanFault) → old.fault ≡ Some f → new.fault ≡ Some f → HasJudged m (places ++ place ∷ []) new

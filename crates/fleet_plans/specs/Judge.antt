@@ -17,6 +17,8 @@ pub record Judged : Type 0 where
   pub costs : List ℕ
   -- the first fault
   pub fault : Option PlanFault
+  -- all placements, if they are kept
+  pub kept : Option (List (List ℕ))
 
 -- no placement is at fault, these are the first and the last, and these are the costs
 pub record HasPassed (m : Floor) (places : List (List ℕ)) (first last costs : List ℕ) : Type 0 where
@@ -35,8 +37,14 @@ abbrev pub IsSoFar : Floor → List (List ℕ) → List ℕ → List ℕ → Lis
 IsSoFar m places first last costs None = HasPassed m places first last costs
 IsSoFar m places first last costs (Some f) = HasFailed m places f
 
+-- if placements are kept, they are these
+abbrev pub AreKept : Option (List (List ℕ)) → List (List ℕ) → Type 0
+AreKept None places = Unit {0}
+AreKept (Some kept) places = kept ≡ places
+
 -- the judge has been given exactly these placements, on this map
 pub record HasJudged (m : Floor) (places : List (List ℕ)) (judge : Judged) : Type 0 where
   pub on : judge.floor ≡ m
   pub count_is : judge.count ≡ length places
   pub so_far : IsSoFar m places judge.first judge.last judge.costs judge.fault
+  pub keeps : AreKept judge.kept places

@@ -17,8 +17,11 @@ pub mod Scenario
 pub mod Goals
 pub mod Paths
 pub mod Agents
+pub mod Table
+pub mod Schedule
 pub mod Reading
 pub mod Misspelt
 pub mod Answer
+pub mod Study
 pub mod Cut
 pub mod inside

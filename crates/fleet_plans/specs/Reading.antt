@@ -2,7 +2,7 @@
 use Rattle.std.specs.Prelude.{◌≡◌, ℕ, List, [], Option, None, Ok}
 use Rattle.fleet_map.specs.Text.{lines_of}
 use Rattle.fleet_plans.specs.declared.form.TextForm.{TextForm}
-use Rattle.fleet_plans.specs.declared.form.TextForm.TheVariants.{Headed, Bare, Agents, Json}
+use Rattle.fleet_plans.specs.declared.form.TextForm.TheVariants.{Headed, Bare, Agents, Json, Table, Schedule}
 use Rattle.fleet_plans.specs.declared.text.TextFault.{TextFault}
 use Rattle.fleet_plans.specs.declared.text.TextFault.TheVariants as fault
 use Rattle.fleet_plans.specs.Form.{form_of}
@@ -11,6 +11,8 @@ use Rattle.fleet_plans.specs.Places.{places_of}
 use Rattle.fleet_plans.specs.Text.{source_of, IsReadAs}
 use Rattle.fleet_plans.specs.Agents.{IsAgentsPlan, IsNoAgents}
 use Rattle.fleet_plans.specs.Runners.{IsRunnersPlan, IsRunnersFault}
+use Rattle.fleet_plans.specs.Table.{table_of, IsTablePlan}
+use Rattle.fleet_plans.specs.Schedule.{schedule_of, IsScheduled}
 use Rattle.fleet_plans.specs.Shown.{FailsAt}
 
 -- a text in this form has these goals and these placements; without a head it names no goals
@@ -19,6 +21,8 @@ IsPlanBy Headed w h text goals places = IsReadAs w h (source_of w h text) goals 
 IsPlanBy Bare w h text goals places = (goals ≡ None) × (places_of w h blank_head [] 1 (lines_of text) ≡ Ok places)
 IsPlanBy Agents w h text goals places = (goals ≡ None) × IsAgentsPlan w h text places
 IsPlanBy Json w h text goals places = IsRunnersPlan w h text goals places
+IsPlanBy Table w h text goals places = (goals ≡ None) × IsTablePlan w h text places
+IsPlanBy Schedule w h text goals places = (goals ≡ None) × IsScheduled w h text places
 
 -- why a text in this form is no plan, unless memory ran out
 abbrev pub IsFaultBy : TextForm → ℕ → ℕ → List ℕ → TextFault → Type 0
@@ -30,6 +34,10 @@ IsFaultBy Agents w h text (fault.Lines f) = IsNoAgents w h text f
 IsFaultBy Agents w h text (fault.Json f) = ⊥
 IsFaultBy Json w h text (fault.Lines f) = ⊥
 IsFaultBy Json w h text (fault.Json f) = IsRunnersFault w h text f
+IsFaultBy Table w h text (fault.Lines f) = FailsAt f (table_of w h (lines_of text))
+IsFaultBy Table w h text (fault.Json f) = ⊥
+IsFaultBy Schedule w h text (fault.Lines f) = FailsAt f (schedule_of w h 1 (lines_of text))
+IsFaultBy Schedule w h text (fault.Json f) = ⊥
 
 abbrev pub IsTextPlan : ℕ → ℕ → List ℕ → Option (List ℕ) → List (List ℕ) → Type 0
 IsTextPlan w h text goals places = IsPlanBy (form_of text) w h text goals places
@@ -43,6 +51,8 @@ head_by Headed text = lines_of text
 head_by Bare text = []
 head_by Agents text = []
 head_by Json text = []
+head_by Table text = []
+head_by Schedule text = []
 
 abbrev pub head_lines : List ℕ → List (List ℕ)
 head_lines text = head_by (form_of text) text

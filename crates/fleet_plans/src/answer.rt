@@ -10,6 +10,7 @@ ghost use Rattle.fleet_plans.specs.Judge.{HasJudged};
 ghost use Rattle.fleet_plans.specs.Reading.{head_lines};
 ghost use Rattle.fleet_plans.specs.Shown.{goals_in};
 ghost use Rattle.fleet_plans.specs.inside.Answered.{IsOf};
+ghost use Rattle.fleet_plans.specs.Study.{IsTextStudy};
 ghost use Rattle.fleet_plans.specs.Answer.{at_line, valid_answer, IsNamed, IsJudged, IsTextAnswer, IsAnswerTo, IsPlanAnswer, IsSolutionAnswer, fault_text, goals_text, report_text};
 
 use crate::claims::{HeadFault, line_count, unmet};
@@ -166,7 +167,7 @@ fn named(text: &[u8], fault: TextFault) -> Result<PlanAnswer, AllocError>
 }
 
 /// The answer to a plan's text on the map of a new judge.
-fn answer_text(
+pub(crate) fn answer_text(
     alloc: Global,
     demand: Demand<'_>,
     sides: Sides,
@@ -175,7 +176,9 @@ fn answer_text(
 ) -> Result<PlanAnswer, AllocError>
     requires short { length text.now ≤ 16777216 }
     requires fresh { HasJudged judge.old.floor [] judge.old }
-    ensures { (m : Map) → IsOf m sides.width sides.height judge.old.floor → IfOk result (λ answer. IsTextAnswer (asked_by demand.entry) m text.now answer) }
+    ensures answer { (m : Map) → IsOf m sides.width sides.height judge.old.floor → IfOk result (λ answer. IsTextAnswer (asked_by demand.entry) m text.now answer) }
+    // If the judge keeps placements, they are those of the plan.
+    ensures kept { (m : Map) (places : List (List ℕ)) → IsOf m sides.width sides.height judge.old.floor → judge.new.kept ≡ Some places → IfOk result (λ answer. IsTextStudy (asked_by demand.entry) m text.now answer places) }
 {
     match read_text(alloc, sides, text, judge) {
         Ok(goals) => Ok(answer_of(demand, headed(text), lent(&goals), judge)),

@@ -1,15 +1,16 @@
 //! A judge of plans that is given one placement after the other.
 
-ghost use Rattle.std.specs.Prelude.{◌≡◌, ◌≤◌, ◌<◌, ◌+◌, ◌++◌, ◌∷◌, ◌^◌, ℕ, List, [], length, slice_index, None, MatchOption, OnOk, IfOk, IfErr, IsOk, IsSome};
+ghost use Rattle.std.specs.Prelude.{◌≡◌, ◌≤◌, ◌<◌, ◌+◌, ◌++◌, ◌∷◌, ◌^◌, ℕ, List, [], length, slice_index, Some, None, MatchOption, OnOk, IfOk, IfErr, IsOk, IsSome, option_map};
 ghost use Rattle.fleet_grid.specs.Floor.{Floor};
 ghost use Rattle.fleet_plans.specs.Valid.{IsValidPlan, IsPlanFault, place_at, last_of};
 ghost use Rattle.fleet_plans.specs.Report.{IsReportOf};
 ghost use Rattle.fleet_plans.specs.Costs.{IsNoted};
-ghost use Rattle.fleet_plans.specs.Judge.{HasJudged};
+ghost use Rattle.fleet_plans.specs.Judge.{AreKept, HasJudged};
 ghost use Rattle.fleet_plans.specs.Shown.{goals_in};
 
 use crate::costs::{note_moves, zeros};
 use crate::judging::{PlanFault, first_fault, step_fault};
+use crate::placements::Placements;
 use crate::report::{PlanReport, report_of};
 use fleet_check::StepChecker;
 use fleet_grid::Grid;
@@ -17,8 +18,8 @@ use std::alloc::{AllocError, Allocator, Global};
 use std::marker::Model;
 
 /// A judge of one plan. It is given the robots' cells at one time after the other, from time 0 on, and keeps only the
-/// last of these placements, each robot's cost, and the first fault. Contracts see what it keeps as a `Judged`, and
-/// `HasJudged m places judge` says that it was given exactly these placements on the map m.
+/// last of these placements, each robot's cost, and the first fault; if it is asked to, all placements. Contracts see what
+/// it keeps as a `Judged`, and `HasJudged m places judge` says that it was given exactly these placements on the map m.
 #[derive(Drop)]
 pub struct PlanJudge<'a, A: Allocator + Copy = Global, B: Allocator + Copy = Global> {
     alloc: A,
@@ -29,6 +30,7 @@ pub struct PlanJudge<'a, A: Allocator + Copy = Global, B: Allocator + Copy = Glo
     last: Vec<u32, A>,
     costs: Vec<u32, A>,
     fault: Option<PlanFault>,
+    kept: Option<Placements<A>>,
 }
 
 impl<'a, A: Allocator + Copy, B: Allocator + Copy> Model for PlanJudge<'a, A, B> {
@@ -37,9 +39,24 @@ impl<'a, A: Allocator + Copy, B: Allocator + Copy> Model for PlanJudge<'a, A, B>
 
     ghost Value = { Judged };
 
-    ghost view = { λ j. record { floor = j.grid.now; count = j.count; first = j.first.items; last = j.last.items; costs = j.costs.items; fault = j.fault } };
+    ghost view = { λ j. record { floor = j.grid.now; count = j.count; first = j.first.items; last = j.last.items; costs = j.costs.items; fault = j.fault; kept = j.kept } };
 
     ghost invariant = { λ j. IsKept j.grid.now j.count j.first.items j.last.items j.costs.items };
+}
+
+/// Adds the placement to those that are kept, if any are. If memory runs out, nothing changes.
+fn keep<A: Allocator + Copy>(
+    kept: &mut Option<Placements<A>>,
+    place: &[u32],
+) -> Result<(), AllocError>
+    ensures added { OnOk result (kept.new ≡ option_map (λ places. places ++ place.now ∷ []) kept.old) }
+    ensures same { IfErr result (λ _. kept.new ≡ kept.old) }
+    ensures none { kept.old ≡ None → IsOk result }
+{
+    match kept {
+        Some(places) => places.push(place),
+        None => Ok(()),
+    }
 }
 
 /// Writes the placement over the last one, and this time at the robots that moved to it.
@@ -60,9 +77,11 @@ fn step<A: Allocator + Copy>(
 }
 
 impl<'a, A: Allocator + Copy, B: Allocator + Copy> PlanJudge<'a, A, B> {
-    /// A judge that was given no placement yet. It takes no memory.
-    pub fn new(alloc: A, grid: &'a Grid<B>) -> PlanJudge<'a, A, B>
-        ensures { HasJudged grid.now [] result }
+    /// A judge that was given no placement yet, and adds to these placements, which are none, if it has them.
+    fn with_kept(alloc: A, grid: &'a Grid<B>, kept: Option<Placements<A>>) -> PlanJudge<'a, A, B>
+        requires { AreKept kept [] }
+        ensures judged { HasJudged grid.now [] result }
+        ensures kept { result.kept ≡ kept }
     {
         PlanJudge {
             alloc,
@@ -73,11 +92,35 @@ impl<'a, A: Allocator + Copy, B: Allocator + Copy> PlanJudge<'a, A, B> {
             last: Vec::new(alloc),
             costs: Vec::new(alloc),
             fault: None,
+            kept,
         }
     }
 
+    /// A judge that was given no placement yet. It takes no memory, and keeps no placement but the first and the last.
+    pub fn new(alloc: A, grid: &'a Grid<B>) -> PlanJudge<'a, A, B>
+        ensures judged { HasJudged grid.now [] result }
+        ensures kept { result.kept ≡ None }
+    {
+        PlanJudge::with_kept(alloc, grid, None)
+    }
+
+    /// A judge that was given no placement yet, and keeps all that it is given.
+    pub(crate) fn keeping(alloc: A, grid: &'a Grid<B>) -> PlanJudge<'a, A, B>
+        ensures judged { HasJudged grid.now [] result }
+        ensures kept { result.kept ≡ Some [] }
+    {
+        PlanJudge::with_kept(alloc, grid, Some(Placements::new(alloc)))
+    }
+
+    /// Gives out the placements that were kept. From then on none are.
+    pub(crate) fn take_kept(&mut self) -> Option<Placements<A>>
+        ensures { result ≡ self.old.kept }
+    {
+        self.kept.take()
+    }
+
     /// Takes the robots' cells at the next time; item r is the cell of robot r. After the first fault placements are
-    /// counted and not looked at.
+    /// counted, and kept if they are to be, and not looked at.
     ///
     /// An error means that memory ran out. Then the judge has not taken the placement, and nothing changes.
     pub fn take(&mut self, place: &[u32]) -> Result<(), AllocError>
@@ -86,10 +129,12 @@ impl<'a, A: Allocator + Copy, B: Allocator + Copy> PlanJudge<'a, A, B> {
         ensures taken { (m : Floor) (places : List (List ℕ)) → HasJudged m places self.old → OnOk result (HasJudged m (places ++ place.now ∷ []) self.new) }
         ensures counted { OnOk result (self.new.count ≡ self.old.count + 1) }
         ensures kept { IfErr result (λ _. self.new ≡ self.old) }
-        // After the first fault no memory is asked for.
-        ensures faulty { IsSome self.old.fault → IsOk result }
+        ensures grown { OnOk result (self.new.kept ≡ option_map (λ places. places ++ place.now ∷ []) self.old.kept) }
+        // After the first fault no memory is asked for, unless placements are kept.
+        ensures faulty { IsSome self.old.fault → self.old.kept ≡ None → IsOk result }
     {
         if self.fault.is_some() {
+            keep(&mut self.kept, place)?;
             self.count += 1;
             return Ok(());
         }
@@ -108,13 +153,19 @@ impl<'a, A: Allocator + Copy, B: Allocator + Copy> PlanJudge<'a, A, B> {
         ensures taken { (m : Floor) (places : List (List ℕ)) → HasJudged m places self.old → OnOk result (HasJudged m (places ++ place.now ∷ []) self.new) }
         ensures counted { OnOk result (self.new.count ≡ self.old.count + 1) }
         ensures kept { IfErr result (λ _. self.new ≡ self.old) }
+        ensures grown { OnOk result (self.new.kept ≡ option_map (λ places. places ++ place.now ∷ []) self.old.kept) }
     {
         match first_fault(self.alloc, self.grid, place)? {
-            Some(fault) => self.fault = Some(PlanFault { time: 0, fault }),
+            Some(fault) => {
+                keep(&mut self.kept, place)?;
+                self.fault = Some(PlanFault { time: 0, fault });
+            }
             None => {
                 let first = Vec::from_slice(self.alloc, place)?;
                 let last = Vec::from_slice(self.alloc, place)?;
-                self.costs = zeros(self.alloc, place.len())?;
+                let costs = zeros(self.alloc, place.len())?;
+                keep(&mut self.kept, place)?;
+                self.costs = costs;
                 self.checker = StepChecker::new(self.alloc, place.len());
                 self.first = first;
                 self.last = last;
@@ -132,9 +183,12 @@ impl<'a, A: Allocator + Copy, B: Allocator + Copy> PlanJudge<'a, A, B> {
         ensures taken { (m : Floor) (places : List (List ℕ)) → HasJudged m places self.old → OnOk result (HasJudged m (places ++ place.now ∷ []) self.new) }
         ensures counted { OnOk result (self.new.count ≡ self.old.count + 1) }
         ensures kept { IfErr result (λ _. self.new ≡ self.old) }
+        ensures grown { OnOk result (self.new.kept ≡ option_map (λ places. places ++ place.now ∷ []) self.old.kept) }
     {
         let time = self.count as u32;
-        if let Some(fault) = step_fault(&mut self.checker, self.grid, &self.last, place)? {
+        let found = step_fault(&mut self.checker, self.grid, &self.last, place)?;
+        keep(&mut self.kept, place)?;
+        if let Some(fault) = found {
             self.fault = Some(PlanFault { time, fault });
             self.count += 1;
             return Ok(());

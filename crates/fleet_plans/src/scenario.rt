@@ -29,7 +29,7 @@ pub(crate) struct Scenario {
 }
 
 /// The word at this place of a line, counted from 0; empty if there is none.
-fn word_at(line: &[u8], place: usize) -> &[u8]
+pub(crate) fn word_at(line: &[u8], place: usize) -> &[u8]
     ensures { result.now ≡ word_at line.now place }
 {
     let mut rest = line;
@@ -45,7 +45,7 @@ fn word_at(line: &[u8], place: usize) -> &[u8]
 }
 
 /// The cell in the column and the row that two words say.
-fn cell_of(sides: Sides, x: &[u8], y: &[u8]) -> Option<u32>
+pub(crate) fn cell_of(sides: Sides, x: &[u8], y: &[u8]) -> Option<u32>
     ensures { result ≡ cell_of sides.width sides.height x.now y.now }
 {
     let column = coordinate_of(x)?;

@@ -17,7 +17,9 @@ use crate::judge::PlanJudge;
 use crate::places::read_places;
 use crate::plan::read_plan;
 use crate::runners::{RunnersFault, read_runners};
+use crate::schedule::read_schedule;
 use crate::sides::Sides;
+use crate::table::read_table;
 use fleet_history::Row;
 use std::alloc::{Allocator, Global};
 
@@ -74,6 +76,14 @@ pub(crate) fn read_text<B: Allocator + Copy>(
             Ok(()) => Ok(None),
             Err(fault) => Err(TextFault::Json(fault)),
         },
+        TextForm::Table => match read_table(alloc, sides, text, judge) {
+            Ok(()) => Ok(None),
+            Err(fault) => Err(TextFault::Lines(fault)),
+        },
+        TextForm::Schedule => match read_schedule(alloc, sides, text, judge) {
+            Ok(()) => Ok(None),
+            Err(fault) => Err(TextFault::Lines(fault)),
+        },
     }
 }
 
@@ -87,5 +97,7 @@ pub(crate) fn headed(text: &[u8]) -> &[u8]
         TextForm::Bare => &[],
         TextForm::Agents => &[],
         TextForm::Json => &[],
+        TextForm::Table => &[],
+        TextForm::Schedule => &[],
     }
 }

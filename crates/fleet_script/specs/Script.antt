@@ -112,7 +112,7 @@ abbrev pub with_limit_line : Draft → Option Limit → List (List ℕ) → Opti
 with_limit_line d None words = None
 with_limit_line d (Some limit) words = option_map (λ g. record d { limits = g }) (with_limit d.limits limit words)
 
--- the script with one more header line, where a fleet has so many robots at most
+-- the script with one more header line, where a fleet has at most this many robots
 abbrev pub with_header_within : ℕ → Draft → List ℕ → List (List ℕ) → Option Draft
 with_header_within most d key words =
     if bytes_eq key (codes "robots") then option_map (λ cells. record d { starts = Some cells }) (if_new d.starts (starts_within most words))

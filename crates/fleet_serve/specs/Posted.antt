@@ -138,7 +138,7 @@ pub record HasCounted {A : Type 0} (events : List Event) (most : ℕ) (client : 
   pub run : HasRun events most client full
   pub counted : lane_full ≡ min full (2 ^ 32 - 1)
 
--- the clients have run their lines, and so many posts met a full lane
+-- the clients have run their lines, and this many posts met a full lane
 pub record AllHaveRun {A : Type 0} (events : List Event) (most : ℕ) (cs : List (ClientView A)) (lane_full : ℕ) : Type 0 where
   pub counts : List FullPosts
   pub count : length counts ≡ length cs

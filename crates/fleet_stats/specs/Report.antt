@@ -3,7 +3,7 @@ use Rattle.std.specs.Prelude.{◌≡◌, ℕ, List, length, Ok}
 use Rattle.std.specs.declared.alloc.Global.{Global}
 use Rattle.fleet_map.specs.Grammar.{Map, Fails, map_of}
 use Rattle.fleet_map.specs.declared.fault.MapFault.{MapFault}
-use Rattle.fleet_grid.specs.Floor.{Floor, floor_of}
+use Rattle.fleet_grid.specs.Floor.{Floor, floor_of_map}
 use Rattle.fleet_trace.specs.Trace.{Trace}
 use Rattle.fleet_stats.specs.declared.fault.StatsFault.{StatsFault}
 use Rattle.fleet_stats.specs.declared.fault.StatsFault.TheVariants as fault
@@ -35,10 +35,6 @@ IsReport form.Cells m ts n text = text ≡ cells_table m.width n.stood (length m
 pub record IsReported {A : Type 0} (what : StatsForm) (m : Floor) (ts : List (Trace A)) (text : List ℕ) : Type 0 where
   pub sound : AreSound m ts
   pub is : IsReport what m ts (run_noted ts) text
-
--- the map of a text, as a floor
-abbrev pub floor_of_map : Map → Floor
-floor_of_map m = floor_of m.height m.width m.cells
 
 -- the text for traces on a map: they follow one another, each is legal, and the figures are those of what is recorded of them
 pub record IsStatsOn (what : StatsForm) (m : Floor) (texts : List (List ℕ)) (text : List ℕ) : Type 0 where

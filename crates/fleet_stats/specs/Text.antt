@@ -153,7 +153,7 @@ ticks_head = codes "tick,arrivals,moves,idle,longest_wait\n"
 abbrev pub ticks_table : List TickRow → List ℕ
 ticks_table rows = ticks_head ++ flat_map tick_line rows
 
--- a cell on which robots with errands stood, so many times
+-- a cell on which robots with errands stood, and how often
 abbrev pub cell_line : ℕ → ℕ → ℕ → List ℕ
 cell_line width cell stands =
     if stands == 0 then []

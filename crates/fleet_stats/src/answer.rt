@@ -1,13 +1,14 @@
 //! The figures for the text of a map and for traces on it.
 
 ghost use Rattle.std.specs.Prelude.{◌≡◌, ◌≤◌, map, IfOk, IfErr, string_bytes};
+ghost use Rattle.fleet_grid.specs.Floor.{floor_of_map};
 ghost use Rattle.fleet_map.specs.Form.{HasSides};
 ghost use Rattle.fleet_map.specs.Grammar.{view};
 ghost use Rattle.fleet_trace.specs.Trace.{trace_of};
 ghost use Rattle.fleet_stats.specs.Chapters.{IsUnfollowed};
 ghost use Rattle.fleet_stats.specs.Figures.{rows_in};
 ghost use Rattle.fleet_stats.specs.Rows.{shown};
-ghost use Rattle.fleet_stats.specs.Report.{IsSummarized, IsReport, IsReported, IsStatsOn, IsStats, IsNoneOn, IsNone, floor_of_map};
+ghost use Rattle.fleet_stats.specs.Report.{IsSummarized, IsReport, IsReported, IsStatsOn, IsStats, IsNoneOn, IsNone};
 
 use crate::chapters::chapters_in_turn;
 use crate::errands::errand_rows;

@@ -6,7 +6,7 @@ ghost use Rattle.fleet_field.specs.Store.{Keeps};
 ghost use Rattle.fleet_stats.specs.Rows.{away};
 ghost use Rattle.fleet_stats.specs.inside.Fields.{AreReady, IsBlank};
 
-use fleet_field::{FieldStore, Shelf};
+use fleet_field::{FieldCache, FieldStore};
 use fleet_grid::Grid;
 use std::alloc::{AllocError, Global};
 
@@ -17,7 +17,7 @@ const KEPT_BYTES: usize = 16_777_216;
 #[derive(Drop)]
 pub(crate) struct Fields {
     pub(crate) store: FieldStore,
-    pub(crate) shelf: Shelf,
+    pub(crate) cache: FieldCache,
 }
 
 /// No fields yet.
@@ -26,30 +26,30 @@ pub(crate) fn no_fields(alloc: Global) -> Result<Fields, AllocError>
 {
     Ok(Fields {
         store: FieldStore::new(alloc)?,
-        shelf: Shelf::new(alloc, KEPT_BYTES),
+        cache: FieldCache::new(alloc, KEPT_BYTES),
     })
 }
 
 /// How far apart two cells are; `None` if no walk joins them or one is not floor.
 fn away_by(
     store: &mut FieldStore,
-    shelf: &mut Shelf,
+    cache: &mut FieldCache,
     grid: &Grid,
     from: u32,
     to: u32,
 ) -> Result<Option<u32>, AllocError>
     requires blank { IsBlank store.old }
-    requires keeps { Keeps grid.now shelf.old }
+    requires keeps { Keeps grid.now cache.old }
     ensures away { IfOk result (λ distance. distance ≡ away grid.now from to) }
     ensures blank { IsBlank store.new }
-    ensures keeps { Keeps grid.now shelf.new }
+    ensures keeps { Keeps grid.now cache.new }
 {
     if !grid.is_floor(from) || !grid.is_floor(to) {
         return Ok(None);
     }
-    let key = store.hold_from(shelf, grid, to)?;
+    let key = store.hold_from(cache, grid, to)?;
     let distance = store.at(key, from);
-    store.release_to(shelf, key);
+    store.release_to(cache, key);
     Ok(distance)
 }
 
@@ -64,5 +64,5 @@ pub(crate) fn away(
     ensures away { IfOk result (λ distance. distance ≡ away grid.now from to) }
     ensures ready { AreReady grid.now fields.new }
 {
-    away_by(&mut fields.store, &mut fields.shelf, grid, from, to)
+    away_by(&mut fields.store, &mut fields.cache, grid, from, to)
 }

@@ -46,7 +46,7 @@ fn accepted_before(clients: &[ClientState], client: u32) -> u64
     }
 }
 
-/// The time of the errand of this number, where so many were accepted before these times.
+/// The time of the errand of this number, where this many were accepted before these times.
 fn time_in(before: u64, number: u64, times: &[u64]) -> Option<u64>
     ensures { result ≡ time_in before number times.now }
 {

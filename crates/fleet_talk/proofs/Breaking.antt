@@ -65,7 +65,7 @@ module _ {A : Type 0} (fault : TalkFault) (roll : Bool) where
   pub until-unwritten : (s m : Talk A) (xs ys : List Act) (a c : Option (List ℕ)) (o q text : List ℕ) → Talks roll s xs text m → SaysUntil fault a c o q text → TalksUntil fault roll s (xs ++ ys) a c o q
   until-unwritten s m xs ys a c o q text talks says = record { done = xs; left = ys; parts = refl; text = text; last = m; talks = talks; says = says }
 
-  -- an act failed that was done so many times before
+  -- an act failed that was done this many times before
   pub until-times : (s m : Talk A) (act : Act) (k n : ℕ) (a b : Option (List ℕ)) (o p q text : List ℕ) → k < n → Talks roll s (replicate k act) text m → Says a b o p text → IsMidway fault → q ≡ p
       → TalksUntil fault roll s (replicate n act) a b o q
   until-times s m act k n a b o p q text within talks says is same =

@@ -14,12 +14,12 @@ use Rattle.errands_text.specs.Transfer.{AppendsPrefix}
 use Rattle.fleet_world.specs.Talk.{Talk}
 use Rattle.fleet_talk.specs.declared.ends.Settings.{Settings}
 use Rattle.fleet_talk.specs.declared.fault.TalkFault.{TalkFault}
-use Rattle.fleet_talk.specs.declared.fault.TalkFault.TheVariants.{Input, Output, Shelf, Opening as Unopened, NoMemory}
+use Rattle.fleet_talk.specs.declared.fault.TalkFault.TheVariants.{Input, Output, Sink, Opening as Unopened, NoMemory}
 use Rattle.fleet_talk.specs.Act.{acts_from}
 use Rattle.fleet_talk.specs.Acts.{Talks}
 use Rattle.fleet_talk.specs.Broken.{IsMidway, SaysUntil}
 use Rattle.fleet_talk.specs.Chapters.{Adds, ChapterView, KeepsAll, KeepsLast, KeepsTurned}
-use Rattle.fleet_talk.specs.Conversation.{Terms, Shelved, IsConversation, unopened, talked, IsBegun, in_head, in_talk, IsRefusedHead, MayOpen, ComesTo, head_in, opened, acts_of, clients_in, limits_in, laws_in}
+use Rattle.fleet_talk.specs.Conversation.{Terms, KeptChapters, IsConversation, unopened, talked, IsBegun, in_head, in_talk, IsRefusedHead, MayOpen, ComesTo, head_in, opened, acts_of, clients_in, limits_in, laws_in}
 use Rattle.fleet_talk.specs.Ending.{Keeps, IsSame, Finishes, written, unwritten}
 use Rattle.fleet_talk.specs.Heard.{Opening, Head, all_of, heard_lines}
 use Rattle.fleet_talk.specs.Heading.{HearsAll, HearsUntil}
@@ -27,7 +27,7 @@ use Rattle.fleet_talk.specs.Refusals.{talk_fault}
 use Rattle.fleet_talk.specs.Says.{Says}
 use Rattle.fleet_talk.specs.Talked.{TalksUntil}
 use Rattle.fleet_talk.proofs.Saying.{prefix-after, says-then, until-then}
-use Rattle.fleet_talk.proofs.Shelving.{adds-none, keeps-all}
+use Rattle.fleet_talk.proofs.Keeping.{adds-none, keeps-all}
 
 -- ---- the last write
 
@@ -61,7 +61,7 @@ begun on bytes text chapters (talked o at may answers last talks is kept) = in_t
 
 -- ---- the clauses of a conversation
 
-abbrev pub Whole : Terms → Shelved → Option (List ℕ) → Option (List ℕ) → List ℕ → Type 0
+abbrev pub Whole : Terms → KeptChapters → Option (List ℕ) → Option (List ℕ) → List ℕ → Type 0
 Whole on k a c bytes = (text : List ℕ) × (chapters : List (ChapterView Global)) × IsConversation on bytes text chapters × Appends a c text × Adds k.old k.new chapters
 
 abbrev pub Broken : Terms → Option (List ℕ) → Option (List ℕ) → List ℕ → Type 0
@@ -73,52 +73,52 @@ CutShort on a c bytes = (text : List ℕ) × IsBegun on bytes text × AppendsPre
 abbrev pub Refused : Terms → Option (List ℕ) → Option (List ℕ) → OpenFault → List ℕ → Type 0
 Refused on a c f bytes = (text : List ℕ) × IsRefusedHead on bytes text f × Appends a c text
 
-abbrev Come : Terms → Option (List ℕ) → Option (List ℕ) → Option (List ℕ) → List ℕ → Shelved → Result (Unit {0}) TalkFault → Type 0
+abbrev Come : Terms → Option (List ℕ) → Option (List ℕ) → Option (List ℕ) → List ℕ → KeptChapters → Result (Unit {0}) TalkFault → Type 0
 Come on known a b p k ended = IfSome known (λ bytes. ComesTo on bytes a b [] p k ended)
 
-whole_at : (on : Terms) (k : Shelved) (known a b c : Option (List ℕ)) (p : List ℕ) (ended : Result (Unit {0}) TalkFault) (x : Bool) → IsSame ended (Ok x) → Come on known a b p k ended → Appends b c p → IfSome known (Whole on k a c)
+whole_at : (on : Terms) (k : KeptChapters) (known a b c : Option (List ℕ)) (p : List ℕ) (ended : Result (Unit {0}) TalkFault) (x : Bool) → IsSame ended (Ok x) → Come on known a b p k ended → Appends b c p → IfSome known (Whole on k a c)
 whole_at on k None a b c p ended x same h all = tt
 whole_at on k (Some bytes) a b c p (Ok done) x same (text, chapters, is, says, kept) all = (text, chapters, is, written_all a b c p text says all, kept)
 whole_at on k (Some bytes) a b c p (Err f) x same h all = let bad : Ok x ≡ err f = same in absurd cc
 
-pub finish-whole : (on : Terms) (k : Shelved) (known a b c : Option (List ℕ)) (p : List ℕ) (ended : Result (Unit {0}) TalkFault) (result : Result Bool TalkFault) → Come on known a b p k ended → Finishes ended b c p result → OnOk result (IfSome known (Whole on k a c))
+pub finish-whole : (on : Terms) (k : KeptChapters) (known a b c : Option (List ℕ)) (p : List ℕ) (ended : Result (Unit {0}) TalkFault) (result : Result Bool TalkFault) → Come on known a b p k ended → Finishes ended b c p result → OnOk result (IfSome known (Whole on k a c))
 finish-whole on k known a b c p ended (Err f) h last = tt
 finish-whole on k known a b c p ended (Ok x) h (written all same) = whole_at on k known a b c p ended x same h all
 finish-whole on k known a b c p ended (Ok x) h (unwritten part none) = let bad : Ok x ≡ err Output = none in absurd cc
 
-refused_at : (on : Terms) (k : Shelved) (known a b c : Option (List ℕ)) (p : List ℕ) (f : OpenFault) → Come on known a b p k (Err (Unopened f)) → Appends b c p → IfSome known (Refused on a c f)
+refused_at : (on : Terms) (k : KeptChapters) (known a b c : Option (List ℕ)) (p : List ℕ) (f : OpenFault) → Come on known a b p k (Err (Unopened f)) → Appends b c p → IfSome known (Refused on a c f)
 refused_at on k None a b c p f h all = tt
 refused_at on k (Some bytes) a b c p f (text, is, says) all = (text, is, written_all a b c p text says all)
 
-pub finish-refused : (on : Terms) (k : Shelved) (known a b c : Option (List ℕ)) (p : List ℕ) (ended : Result (Unit {0}) TalkFault) (result : Result Bool TalkFault) → Come on known a b p k ended → Finishes ended b c p result
+pub finish-refused : (on : Terms) (k : KeptChapters) (known a b c : Option (List ℕ)) (p : List ℕ) (ended : Result (Unit {0}) TalkFault) (result : Result Bool TalkFault) → Come on known a b p k ended → Finishes ended b c p result
     → (f : OpenFault) → result ≡ Err (Unopened f) → IfSome known (Refused on a c f)
 finish-refused on k known a b c p ended result h (written all same) f is = refused_at on k known a b c p f (subst (Come on known a b p k) (came ended result (Unopened f) same is) h) all
 finish-refused on k known a b c p ended result h (unwritten part none) f is = let bad : Output ≡ Unopened f = same_err Output (Unopened f) (sym none ∙ is) in absurd cc
 
-broken_at : (on : Terms) (k : Shelved) (known a b c : Option (List ℕ)) (p : List ℕ) (f : TalkFault) → IsMidway f → Come on known a b p k (Err f) → Appends b c p → IfSome known (Broken on a c)
+broken_at : (on : Terms) (k : KeptChapters) (known a b c : Option (List ℕ)) (p : List ℕ) (f : TalkFault) → IsMidway f → Come on known a b p k (Err f) → Appends b c p → IfSome known (Broken on a c)
 broken_at on k None a b c p f mid h all = tt
 broken_at on k (Some bytes) a b c p Input mid (text, is, says) all = (text, is, written_all a b c p text says all)
-broken_at on k (Some bytes) a b c p Shelf mid (text, is, says) all = (text, is, written_all a b c p text says all)
+broken_at on k (Some bytes) a b c p Sink mid (text, is, says) all = (text, is, written_all a b c p text says all)
 broken_at on k (Some bytes) a b c p NoMemory mid (text, is, says) all = (text, is, written_all a b c p text says all)
 broken_at on k (Some bytes) a b c p Output mid h all = absurd mid
 broken_at on k (Some bytes) a b c p (Unopened f) mid h all = absurd mid
 
-pub finish-broken : (on : Terms) (k : Shelved) (known a b c : Option (List ℕ)) (p : List ℕ) (ended : Result (Unit {0}) TalkFault) (result : Result Bool TalkFault) → Come on known a b p k ended → Finishes ended b c p result
+pub finish-broken : (on : Terms) (k : KeptChapters) (known a b c : Option (List ℕ)) (p : List ℕ) (ended : Result (Unit {0}) TalkFault) (result : Result Bool TalkFault) → Come on known a b p k ended → Finishes ended b c p result
     → IfErr result (λ f. IsMidway f → IfSome known (Broken on a c))
 finish-broken on k known a b c p ended (Ok x) h last = tt
 finish-broken on k known a b c p ended (Err f) h (written all same) = λ mid. broken_at on k known a b c p f mid (subst (Come on known a b p k) (came ended (Err f) f same refl) h) all
 finish-broken on k known a b c p ended (Err f) h (unwritten part none) = λ mid. absurd (subst IsMidway (same_err f Output none) mid)
 
-cut_at : (on : Terms) (k : Shelved) (known a b c : Option (List ℕ)) (p : List ℕ) → Come on known a b p k (Err Output) → AppendsPrefix b c p → IfSome known (CutShort on a c)
+cut_at : (on : Terms) (k : KeptChapters) (known a b c : Option (List ℕ)) (p : List ℕ) → Come on known a b p k (Err Output) → AppendsPrefix b c p → IfSome known (CutShort on a c)
 cut_at on k None a b c p h part = tt
 cut_at on k (Some bytes) a b c p (text, is, (prefix, none)) (n, within, taken) =
     (text, is, written_none a b c text prefix (subst (λ (l : List ℕ). Appends b c l) (ap (take n) none ∙ take_none n) taken))
 
-cut_short : (on : Terms) (k : Shelved) (known a b c : Option (List ℕ)) (p : List ℕ) (ended : Result (Unit {0}) TalkFault) → Come on known a b p k ended → AppendsPrefix b c p → IfSome known (CutShort on a c)
+cut_short : (on : Terms) (k : KeptChapters) (known a b c : Option (List ℕ)) (p : List ℕ) (ended : Result (Unit {0}) TalkFault) → Come on known a b p k ended → AppendsPrefix b c p → IfSome known (CutShort on a c)
 cut_short on k None a b c p ended h part = tt
 cut_short on k (Some bytes) a b c p (Ok done) (text, chapters, is, says, kept) part = (text, begun on bytes text chapters is, written_part a b c p text says part)
 cut_short on k (Some bytes) a b c p (Err Input) (text, is, says) part = (text, is, written_part a b c p text says part)
-cut_short on k (Some bytes) a b c p (Err Shelf) (text, is, says) part = (text, is, written_part a b c p text says part)
+cut_short on k (Some bytes) a b c p (Err Sink) (text, is, says) part = (text, is, written_part a b c p text says part)
 cut_short on k (Some bytes) a b c p (Err NoMemory) (text, is, says) part = (text, is, written_part a b c p text says part)
 cut_short on k (Some bytes) a b c p (Err Output) h part = cut_at on k (Some bytes) a b c p h part
 cut_short on k (Some bytes) a b c p (Err (Unopened f)) (text, is, says) part =
@@ -127,7 +127,7 @@ cut_short on k (Some bytes) a b c p (Err (Unopened f)) (text, is, says) part =
 pub whole_prefix : (b c : Option (List ℕ)) (p : List ℕ) → Appends b c p → AppendsPrefix b c p
 whole_prefix b c p all = (length p, omega arith, subst (λ (l : List ℕ). Appends b c l) (sym (take_all (length p) p (omega arith))) all)
 
-pub finish-unwritten : (on : Terms) (k : Shelved) (known a b c : Option (List ℕ)) (p : List ℕ) (ended : Result (Unit {0}) TalkFault) (result : Result Bool TalkFault) → Come on known a b p k ended → Finishes ended b c p result
+pub finish-unwritten : (on : Terms) (k : KeptChapters) (known a b c : Option (List ℕ)) (p : List ℕ) (ended : Result (Unit {0}) TalkFault) (result : Result Bool TalkFault) → Come on known a b p k ended → Finishes ended b c p result
     → result ≡ Err Output → IfSome known (CutShort on a c)
 finish-unwritten on k known a b c p ended result h (written all same) is = cut_short on k known a b c p ended h (whole_prefix b c p all)
 finish-unwritten on k known a b c p ended result h (unwritten part none) is = cut_short on k known a b c p ended h part
@@ -135,11 +135,11 @@ finish-unwritten on k known a b c p ended result h (unwritten part none) is = cu
 -- ---- what a conversation comes to
 
 -- the head broke off
-pub come-head : (on : Terms) (k : Shelved) (known a b : Option (List ℕ)) (o p : List ℕ) (f : TalkFault) → IfSome known (λ xs. HearsUntil f on.settings on.head xs a b o p) → IfSome known (λ xs. ComesTo on xs a b o p k (Err f))
+pub come-head : (on : Terms) (k : KeptChapters) (known a b : Option (List ℕ)) (o p : List ℕ) (f : TalkFault) → IfSome known (λ xs. HearsUntil f on.settings on.head xs a b o p) → IfSome known (λ xs. ComesTo on xs a b o p k (Err f))
 come-head on k None a b o p f h = tt
 come-head on k (Some xs) a b o p Input h = (all_of h.said, in_head h.said h.left h.parts refl, h.says)
 come-head on k (Some xs) a b o p Output h = (all_of h.said, in_head h.said h.left h.parts refl, h.says)
-come-head on k (Some xs) a b o p Shelf h = (all_of h.said, in_head h.said h.left h.parts refl, h.says)
+come-head on k (Some xs) a b o p Sink h = (all_of h.said, in_head h.said h.left h.parts refl, h.says)
 come-head on k (Some xs) a b o p NoMemory h = (all_of h.said, in_head h.said h.left h.parts refl, h.says)
 come-head on k (Some xs) a b o p (Unopened f) h = absurd h.says
 
@@ -154,7 +154,7 @@ abbrev pub Opens : Terms → Option (List ℕ) → Option (List ℕ) → Draft �
 Opens on known left e line first a b o p = IfSome known (λ xs. HearsAll on.settings on.head xs left e line (Some first) a b o p)
 
 -- it is refused, or memory runs out
-pub come-refused : (on : Terms) (k : Shelved) (known left a b : Option (List ℕ)) (e : Draft) (line : List ℕ) (first : ℕ) (o p : List ℕ) (f : OpenFault) → Opens on known left e line first a b o p
+pub come-refused : (on : Terms) (k : KeptChapters) (known left a b : Option (List ℕ)) (e : Draft) (line : List ℕ) (first : ℕ) (o p : List ℕ) (f : OpenFault) → Opens on known left e line first a b o p
     → ((starts : List ℕ) → e.starts ≡ Some starts → IsNamed f → IsRefused on.floor starts (clients_in e) (limits_in e) (laws_in on.kit e starts) f)
     → IfSome known (λ xs. ComesTo on xs a b o p k (Err (talk_fault f)))
 come-refused on k None left a b e line first o p f h refused = tt
@@ -181,13 +181,13 @@ record Talked (on : Terms) (bytes : List ℕ) (o : Opening) (a b c : Option (Lis
 abbrev SaidAll : Terms → Opening → Talk Global → Option (List ℕ) → Option (List ℕ) → List ℕ → List ℕ → Type 0
 SaidAll on o last b c p q = (text : List ℕ) × Talks on.settings.roll (opened on o) (acts_of on o) text last × Says b c p q text
 
-come_all : (on : Terms) (k : Shelved) (bytes : List ℕ) (o : Opening) (last : Talk Global) (a b c : Option (List ℕ)) (w p q : List ℕ) → Talked on bytes o a b c w p q → SaidAll on o last b c p q
+come_all : (on : Terms) (k : KeptChapters) (bytes : List ℕ) (o : Opening) (last : Talk Global) (a b c : Option (List ℕ)) (w p q : List ℕ) → Talked on bytes o a b c w p q → SaidAll on o last b c p q
     → KeepsAll k.old k.new (opened on o) last → ComesTo on bytes a c w q k (Ok tt)
 come_all on k bytes o last a b c w p q t (text, talks, says) (chapters, are, kept) =
     (all_of (head_in on bytes).said ++ text, chapters, talked o t.at t.may text last talks refl are, says-then a b c w p q (all_of (head_in on bytes).said) text t.says says, kept)
 
 -- the last chapter was not kept
-come_unkept : (on : Terms) (k : Shelved) (bytes : List ℕ) (o : Opening) (last : Talk Global) (a b c : Option (List ℕ)) (w p q : List ℕ) (f : TalkFault) → Talked on bytes o a b c w p q → SaidAll on o last b c p q
+come_unkept : (on : Terms) (k : KeptChapters) (bytes : List ℕ) (o : Opening) (last : Talk Global) (a b c : Option (List ℕ)) (w p q : List ℕ) (f : TalkFault) → Talked on bytes o a b c w p q → SaidAll on o last b c p q
     → IsMidway f → ComesTo on bytes a c w q k (Err f)
 come_unkept on k bytes o last a b c w p q f t (answers, talks, told) mid = by f mid
   where
@@ -199,12 +199,12 @@ come_unkept on k bytes o last a b c w p q f t (answers, talks, told) mid = by f 
 
     by : (f : TalkFault) → IsMidway f → ComesTo on bytes a c w q k (Err f)
     by Input mid = (all_of (head_in on bytes).said ++ answers, is, says)
-    by Shelf mid = (all_of (head_in on bytes).said ++ answers, is, says)
+    by Sink mid = (all_of (head_in on bytes).said ++ answers, is, says)
     by NoMemory mid = (all_of (head_in on bytes).said ++ answers, is, says)
     by Output mid = absurd mid
     by (Unopened f) mid = absurd mid
 
-come_until : (on : Terms) (k : Shelved) (bytes : List ℕ) (o : Opening) (a b c : Option (List ℕ)) (w p q : List ℕ) (f : TalkFault) → Talked on bytes o a b c w p q
+come_until : (on : Terms) (k : KeptChapters) (bytes : List ℕ) (o : Opening) (a b c : Option (List ℕ)) (w p q : List ℕ) (f : TalkFault) → Talked on bytes o a b c w p q
     → TalksUntil f on.settings.roll (opened {A = Global} on o) (acts_of on o) b c p q → ComesTo on bytes a c w q k (Err f)
 come_until on k bytes o a b c w p q f t u = by f (until-then f a b c w p q (all_of (head_in on bytes).said) u.text t.says u.says)
   where
@@ -217,7 +217,7 @@ come_until on k bytes o a b c w p q f t u = by f (until-then f a b c w p q (all_
     by : (f : TalkFault) → SaysUntil f a c w q (all_of (head_in on bytes).said ++ u.text) → ComesTo on bytes a c w q k (Err f)
     by Input s = (all_of (head_in on bytes).said ++ u.text, is, s)
     by Output s = (all_of (head_in on bytes).said ++ u.text, is, s)
-    by Shelf s = (all_of (head_in on bytes).said ++ u.text, is, s)
+    by Sink s = (all_of (head_in on bytes).said ++ u.text, is, s)
     by NoMemory s = (all_of (head_in on bytes).said ++ u.text, is, s)
     by (Unopened f) s = absurd s
 

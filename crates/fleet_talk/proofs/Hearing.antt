@@ -20,7 +20,7 @@ all-append : (xs ys : List (List ℕ)) → all_of (xs ++ ys) ≡ all_of xs ++ al
 all-append [] ys = refl
 all-append (x ∷ xs) ys = ap (λ l. x ++ l) (all-append xs ys) ∙ sym (append_assoc x (all_of xs) (all_of ys))
 
-said-append : (xs ys : List (List ℕ)) (h : Head) → with_said xs (with_said ys h) ≡ with_said (xs ++ ys) h
+pub said-append : (xs ys : List (List ℕ)) (h : Head) → with_said xs (with_said ys h) ≡ with_said (xs ++ ys) h
 said-append xs ys h = ap (λ (l : List (List ℕ)). record { said = l; opening = h.opening }) (sym (append_assoc xs ys h.said))
 
 opens-starts : (d : Draft) (asked : Asked) (starts : List ℕ) → opens d asked ≡ Some starts → d.starts ≡ Some starts
@@ -35,21 +35,21 @@ opens-starts d Long starts is = absurd cc
 
 module _ (settings : Settings) where
   -- what comes of a line
-  abbrev step_of : Draft → ℕ → List ℕ → List (List ℕ) → Line → Head
+  abbrev pub step_of : Draft → ℕ → List ℕ → List (List ℕ) → Line → Head
   step_of d n bytes lines l =
       cond (is_quit l.asked) no_head
       (unless_opened (opens d l.asked) (λ starts. record { starts = starts; head = d; number = n; lines = bytes ∷ lines })
       (with_said (texts_at settings d l) (head_of settings (unwrap_or (with_head_line d l l.asked) d) (n + 1) lines)))
 
-  head-more : (d e : Draft) (n : ℕ) (bytes : List ℕ) (lines : List (List ℕ)) (l : Line) → l ≡ line_in n bytes → IsOfHead d l → e ≡ unwrap_or (with_head_line d l l.asked) d
+  pub head-more : (d e : Draft) (n : ℕ) (bytes : List ℕ) (lines : List (List ℕ)) (l : Line) → l ≡ line_in n bytes → IsOfHead d l → e ≡ unwrap_or (with_head_line d l l.asked) d
       → head_of settings d n (bytes ∷ lines) ≡ with_said (texts_at settings d l) (head_of settings e (n + 1) lines)
   head-more d e n bytes lines l line of same = ap (step_of d n bytes lines) (sym line) ∙ rw (of.goes, of.unopened, same) refl
 
-  head-opens : (d : Draft) (n : ℕ) (bytes : List ℕ) (lines : List (List ℕ)) (l : Line) (starts : List ℕ) → l ≡ line_in n bytes → is_quit l.asked ≡ false → opens d l.asked ≡ Some starts
+  pub head-opens : (d : Draft) (n : ℕ) (bytes : List ℕ) (lines : List (List ℕ)) (l : Line) (starts : List ℕ) → l ≡ line_in n bytes → is_quit l.asked ≡ false → opens d l.asked ≡ Some starts
       → head_of settings d n (bytes ∷ lines) ≡ record { said = []; opening = Some (record { starts = starts; head = d; number = n; lines = bytes ∷ lines }) }
   head-opens d n bytes lines l starts line goes opened = ap (step_of d n bytes lines) (sym line) ∙ rw (goes, opened) refl
 
-  head-over : (d : Draft) (n : ℕ) (bytes : List ℕ) (lines : List (List ℕ)) (l : Line) → l ≡ line_in n bytes → is_quit l.asked ≡ true → head_of settings d n (bytes ∷ lines) ≡ no_head
+  pub head-over : (d : Draft) (n : ℕ) (bytes : List ℕ) (lines : List (List ℕ)) (l : Line) → l ≡ line_in n bytes → is_quit l.asked ≡ true → head_of settings d n (bytes ∷ lines) ≡ no_head
   head-over d n bytes lines l line quit = ap (step_of d n bytes lines) (sym line) ∙ rw quit refl
 
   -- nothing was heard yet

@@ -1,8 +1,9 @@
 pub mod Lines
 pub mod Scripts
 pub mod Saying
-pub mod Shelving
+pub mod Keeping
 pub mod Hearing
+pub mod Heads
 pub mod Talking
 pub mod Rolling
 pub mod Breaking

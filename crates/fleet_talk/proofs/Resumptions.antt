@@ -20,14 +20,14 @@ use Rattle.fleet_script.specs.Script.{Draft}
 use Rattle.fleet_world.specs.Talk.{Talk}
 use Rattle.fleet_talk.specs.declared.ends.Settings.{Settings}
 use Rattle.fleet_talk.specs.declared.fault.TalkFault.{TalkFault}
-use Rattle.fleet_talk.specs.declared.fault.TalkFault.TheVariants.{Input, Output, Shelf, Opening as Unopened, NoMemory}
+use Rattle.fleet_talk.specs.declared.fault.TalkFault.TheVariants.{Input, Output, Sink, Opening as Unopened, NoMemory}
 use Rattle.fleet_talk.specs.declared.resuming.ResumeFault.{ResumeFault}
 use Rattle.fleet_talk.specs.declared.resuming.ResumeFault.TheVariants.{Robots, Clients, Chapter, Talk as Broke}
 use Rattle.fleet_talk.specs.Act.{acts_from}
 use Rattle.fleet_talk.specs.Acts.{Talks}
 use Rattle.fleet_talk.specs.Broken.{IsMidway}
 use Rattle.fleet_talk.specs.Chapters.{Adds, ChapterView, KeepsLast, KeepsTurned}
-use Rattle.fleet_talk.specs.Conversation.{Shelved, Terms}
+use Rattle.fleet_talk.specs.Conversation.{KeptChapters, Terms}
 use Rattle.fleet_talk.specs.Ending.{Keeps, IsSame, Finishes, written, unwritten}
 use Rattle.fleet_talk.specs.Heard.{IsNext, heard_lines}
 use Rattle.fleet_talk.specs.Resumed.{ComesOpen, IsAnswered, IsAnsweredInPart, IsResumeFault, IsResumption, IsResumptionBegun, MayResume, disagreement, is_other, laws_after, limits_after, resumed}
@@ -36,7 +36,7 @@ use Rattle.fleet_talk.proofs.Breaking.{until-none}
 use Rattle.fleet_talk.proofs.Finishing.{written_all, written_part, written_none, take_none, err, same_err, came, whole_prefix}
 use Rattle.fleet_talk.proofs.Onward.{TalksAll}
 use Rattle.fleet_talk.proofs.Saying.{midway, says-none}
-use Rattle.fleet_talk.proofs.Shelving.{keeps-all}
+use Rattle.fleet_talk.proofs.Keeping.{keeps-all}
 
 -- ---- the fleet
 
@@ -136,7 +136,7 @@ pub come-open : (settings : Settings) (before mid after : Option (List (ChapterV
 come-open settings before mid after None a b w p s last ended result all until turned keeps kept = tt
 come-open settings before mid after (Some xs) a b w p s last ended result all until turned keeps kept = by ended result all until turned keeps kept
   where
-    k : Shelved
+    k : KeptChapters
     k = record { old = before; new = after }
 
     by : (ended result : Result (Unit {0}) TalkFault) → OnOk ended (TalksAll settings s (acts_from settings 1 (heard_lines xs)) last a b w p)
@@ -151,10 +151,10 @@ come-open settings before mid after (Some xs) a b w p s last ended result all un
 
 -- ---- the last write
 
-abbrev Come : Settings → Talk Global → Option (List ℕ) → Option (List ℕ) → Option (List ℕ) → List ℕ → Shelved → Result (Unit {0}) TalkFault → Type 0
+abbrev Come : Settings → Talk Global → Option (List ℕ) → Option (List ℕ) → Option (List ℕ) → List ℕ → KeptChapters → Result (Unit {0}) TalkFault → Type 0
 Come settings s known a b p k ended = IfSome known (λ bytes. ComesOpen settings s bytes a b [] p k ended)
 
-abbrev pub Whole : Settings → Talk Global → Shelved → Option (List ℕ) → Option (List ℕ) → List ℕ → Type 0
+abbrev pub Whole : Settings → Talk Global → KeptChapters → Option (List ℕ) → Option (List ℕ) → List ℕ → Type 0
 Whole settings s k a c bytes = (text : List ℕ) × (chapters : List (ChapterView Global)) × IsAnswered settings s bytes text chapters × Appends a c text × Adds k.old k.new chapters
 
 abbrev pub Broken : Settings → Talk Global → Option (List ℕ) → Option (List ℕ) → List ℕ → Type 0
@@ -163,7 +163,7 @@ Broken settings s a c bytes = (text : List ℕ) × IsAnsweredInPart settings s b
 abbrev pub CutShort : Settings → Talk Global → Option (List ℕ) → Option (List ℕ) → List ℕ → Type 0
 CutShort settings s a c bytes = (text : List ℕ) × IsAnsweredInPart settings s bytes text × AppendsPrefix a c text
 
-module _ (settings : Settings) (s : Talk Global) (k : Shelved) where
+module _ (settings : Settings) (s : Talk Global) (k : KeptChapters) where
   whole_at : (known a b c : Option (List ℕ)) (p : List ℕ) (ended : Result (Unit {0}) TalkFault) (x : Bool) → IsSame ended (Ok x) → Come settings s known a b p k ended → Appends b c p → IfSome known (Whole settings s k a c)
   whole_at None a b c p ended x same h all = tt
   whole_at (Some bytes) a b c p (Ok done) x same (text, chapters, is, says, kept) all = (text, chapters, is, written_all a b c p text says all, kept)
@@ -177,7 +177,7 @@ module _ (settings : Settings) (s : Talk Global) (k : Shelved) where
   broken_at : (known a b c : Option (List ℕ)) (p : List ℕ) (f : TalkFault) → IsMidway f → Come settings s known a b p k (Err f) → Appends b c p → IfSome known (Broken settings s a c)
   broken_at None a b c p f mid h all = tt
   broken_at (Some bytes) a b c p Input mid (text, is, says) all = (text, is, written_all a b c p text says all)
-  broken_at (Some bytes) a b c p Shelf mid (text, is, says) all = (text, is, written_all a b c p text says all)
+  broken_at (Some bytes) a b c p Sink mid (text, is, says) all = (text, is, written_all a b c p text says all)
   broken_at (Some bytes) a b c p NoMemory mid (text, is, says) all = (text, is, written_all a b c p text says all)
   broken_at (Some bytes) a b c p Output mid h all = absurd mid
   broken_at (Some bytes) a b c p (Unopened f) mid h all = absurd mid
@@ -192,7 +192,7 @@ module _ (settings : Settings) (s : Talk Global) (k : Shelved) where
   cut_short None a b c p ended h part = tt
   cut_short (Some bytes) a b c p (Ok done) (text, chapters, is, says, kept) part = (text, in_whole settings s bytes text is.last is.talks, written_part a b c p text says part)
   cut_short (Some bytes) a b c p (Err Input) (text, is, says) part = (text, is, written_part a b c p text says part)
-  cut_short (Some bytes) a b c p (Err Shelf) (text, is, says) part = (text, is, written_part a b c p text says part)
+  cut_short (Some bytes) a b c p (Err Sink) (text, is, says) part = (text, is, written_part a b c p text says part)
   cut_short (Some bytes) a b c p (Err NoMemory) (text, is, says) part = (text, is, written_part a b c p text says part)
   cut_short (Some bytes) a b c p (Err Output) (text, is, (prefix, none)) (n, within, taken) =
       (text, is, written_none a b c text prefix (subst (λ (l : List ℕ). Appends b c l) (ap (take n) none ∙ take_none n) taken))
@@ -206,7 +206,7 @@ module _ (settings : Settings) (s : Talk Global) (k : Shelved) where
 -- ---- a fleet that goes on
 
 module _ (on : Terms) (c : ChapterView Global) (s : Talk Global) (same : s ≡ resumed on.kit on.floor on.head c) (may : MayResume on.kit on.floor on.head c) where
-  pub resumption-whole : (known a b : Option (List ℕ)) (k : Shelved) → IfSome known (Whole on.settings s k a b)
+  pub resumption-whole : (known a b : Option (List ℕ)) (k : KeptChapters) → IfSome known (Whole on.settings s k a b)
       → IfSome known (λ bytes. (text : List ℕ) × (chapters : List (ChapterView Global)) × IsResumption on c bytes text chapters × Appends a b text × Adds k.old k.new chapters)
   resumption-whole None a b k h = tt
   resumption-whole (Some bytes) a b k (text, chapters, is, taken, kept) =

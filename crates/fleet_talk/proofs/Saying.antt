@@ -7,7 +7,7 @@ use Rattle.std.proofs.KnownBytes.{Appends-nil, Appends-trans}
 use Rattle.std.proofs.Math.Seq.{take-append-add}
 use Rattle.errands_text.specs.Transfer.{AppendsPrefix}
 use Rattle.fleet_talk.specs.declared.fault.TalkFault.{TalkFault}
-use Rattle.fleet_talk.specs.declared.fault.TalkFault.TheVariants.{Input, Output, Shelf, Opening, NoMemory}
+use Rattle.fleet_talk.specs.declared.fault.TalkFault.TheVariants.{Input, Output, Sink, Opening, NoMemory}
 use Rattle.fleet_talk.specs.Broken.{IsMidway, SaysUntil}
 use Rattle.fleet_talk.specs.Says.{Says}
 
@@ -39,7 +39,7 @@ at-fault (Err f) e P is p = subst P (sym is) p
 -- a fault after which all waits that was said
 pub midway : (fault : TalkFault) (a b : Option (List ℕ)) (o p text : List ℕ) → IsMidway fault → Says a b o p text → SaysUntil fault a b o p text
 midway Input a b o p text is says = says
-midway Shelf a b o p text is says = says
+midway Sink a b o p text is says = says
 midway NoMemory a b o p text is says = says
 midway Output a b o p text is says = absurd is
 midway (Opening why) a b o p text is says = absurd is
@@ -53,7 +53,7 @@ prefix-after a b c first text whole (n, within, taken) =
 -- a text, and then one up to a fault
 pub until-then : (fault : TalkFault) (a b c : Option (List ℕ)) (o p q first rest : List ℕ) → Says a b o p first → SaysUntil fault b c p q rest → SaysUntil fault a c o q (first ++ rest)
 until-then Input a b c o p q first rest x y = says-then a b c o p q first rest x y
-until-then Shelf a b c o p q first rest x y = says-then a b c o p q first rest x y
+until-then Sink a b c o p q first rest x y = says-then a b c o p q first rest x y
 until-then NoMemory a b c o p q first rest x y = says-then a b c o p q first rest x y
 until-then Output a b c o p q first rest x (prefix, none) =
     let all : x.written ++ (p ++ rest) ≡ o ++ (first ++ rest) = sym (append_assoc x.written p rest) ∙ (ap (λ l. l ++ rest) x.same ∙ append_assoc o first rest) in
@@ -63,7 +63,7 @@ until-then (Opening why) a b c o p q first rest x y = absurd y
 -- a text that was added, and the writing of it up to a fault
 pub until-written : (fault : TalkFault) (a b : Option (List ℕ)) (o p q text : List ℕ) → p ≡ o ++ text → SaysUntil fault a b p q [] → SaysUntil fault a b o q text
 until-written Input a b o p q text is w = says-written a b o p q text is w
-until-written Shelf a b o p q text is w = says-written a b o p q text is w
+until-written Sink a b o p q text is w = says-written a b o p q text is w
 until-written NoMemory a b o p q text is w = says-written a b o p q text is w
 until-written Output a b o p q text is (prefix, none) = (subst (λ (l : List ℕ). AppendsPrefix a b l) (append-nil p ∙ is) prefix, none)
 until-written (Opening why) a b o p q text is w = absurd w

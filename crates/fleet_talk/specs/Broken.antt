@@ -2,14 +2,14 @@
 use Rattle.std.specs.Prelude.{◌≡◌, ℕ, List, [], ◌++◌, Option}
 use Rattle.errands_text.specs.Transfer.{AppendsPrefix}
 use Rattle.fleet_talk.specs.declared.fault.TalkFault.{TalkFault}
-use Rattle.fleet_talk.specs.declared.fault.TalkFault.TheVariants.{Input, Output, Shelf, Opening, NoMemory}
+use Rattle.fleet_talk.specs.declared.fault.TalkFault.TheVariants.{Input, Output, Sink, Opening, NoMemory}
 use Rattle.fleet_talk.specs.Says.{Says}
 
 -- a fault that leaves what waits to be written
 abbrev pub IsMidway : TalkFault → Type 0
 IsMidway Input = Unit {0}
 IsMidway Output = ⊥
-IsMidway Shelf = Unit {0}
+IsMidway Sink = Unit {0}
 IsMidway (Opening why) = ⊥
 IsMidway NoMemory = Unit {0}
 
@@ -17,6 +17,6 @@ IsMidway NoMemory = Unit {0}
 abbrev pub SaysUntil : TalkFault → Option (List ℕ) → Option (List ℕ) → List ℕ → List ℕ → List ℕ → Type 0
 SaysUntil Input before after waited waits text = Says before after waited waits text
 SaysUntil Output before after waited waits text = AppendsPrefix before after (waited ++ text) × (waits ≡ [])
-SaysUntil Shelf before after waited waits text = Says before after waited waits text
+SaysUntil Sink before after waited waits text = Says before after waited waits text
 SaysUntil (Opening why) before after waited waits text = ⊥
 SaysUntil NoMemory before after waited waits text = Says before after waited waits text

@@ -1,4 +1,4 @@
--- The chapters of a conversation, as a shelf keeps them.
+-- The chapters of a conversation, as a sink keeps them.
 use Rattle.std.specs.Prelude.{⊤, ◌≡◌, ℕ, ◌+◌, List, [], ◌∷◌, ◌++◌, Option, Some, None}
 use Rattle.fleet_grid.specs.Floor.{Floor, IsNeighbour}
 use Rattle.fleet_grid.specs.Walk.{IsBridgeless}

@@ -12,7 +12,7 @@ use Rattle.errands_text.specs.Kit.{KitLaws, cut_laws}
 use Rattle.fleet_world.specs.Talk.{Talk, opened_talk}
 use Rattle.fleet_talk.specs.declared.ends.Settings.{Settings}
 use Rattle.fleet_talk.specs.declared.fault.TalkFault.{TalkFault}
-use Rattle.fleet_talk.specs.declared.fault.TalkFault.TheVariants.{Input, Output, Shelf, Opening as Unopened, NoMemory}
+use Rattle.fleet_talk.specs.declared.fault.TalkFault.TheVariants.{Input, Output, Sink, Opening as Unopened, NoMemory}
 use Rattle.fleet_talk.specs.declared.ground.TheConstants.{TALK_LIMITS}
 use Rattle.fleet_talk.specs.Act.{Act, acts_from}
 use Rattle.fleet_talk.specs.Acts.{Talks}
@@ -82,20 +82,20 @@ pub record IsRefusedHead (on : Terms) (bytes text : List ℕ) (why : OpenFault) 
 
 -- ---- how one ends
 
--- what a shelf had kept before, and what it has kept now
-pub record Shelved : Type 0 where
+-- what a sink had kept before, and what it has kept now
+pub record KeptChapters : Type 0 where
   pub old : Option (List (ChapterView Global))
   pub new : Option (List (ChapterView Global))
 
--- what was said of an input when the conversation came to this end, what a writer took of it, and what a shelf kept
-abbrev pub ComesTo : Terms → List ℕ → Option (List ℕ) → Option (List ℕ) → List ℕ → List ℕ → Shelved → Result (Unit {0}) TalkFault → Type 0
-ComesTo on bytes before after waited waits shelf (Ok done) =
-    (text : List ℕ) × (chapters : List (ChapterView Global)) × IsConversation on bytes text chapters × Says before after waited waits text × Adds shelf.old shelf.new chapters
-ComesTo on bytes before after waited waits shelf (Err Input) = (text : List ℕ) × IsBegun on bytes text × SaysUntil Input before after waited waits text
-ComesTo on bytes before after waited waits shelf (Err Output) = (text : List ℕ) × IsBegun on bytes text × SaysUntil Output before after waited waits text
-ComesTo on bytes before after waited waits shelf (Err Shelf) = (text : List ℕ) × IsBegun on bytes text × SaysUntil Shelf before after waited waits text
-ComesTo on bytes before after waited waits shelf (Err (Unopened why)) = (text : List ℕ) × IsRefusedHead on bytes text why × Says before after waited waits text
-ComesTo on bytes before after waited waits shelf (Err NoMemory) = (text : List ℕ) × IsBegun on bytes text × SaysUntil NoMemory before after waited waits text
+-- what was said of an input when the conversation came to this end, what a writer took of it, and what a sink kept
+abbrev pub ComesTo : Terms → List ℕ → Option (List ℕ) → Option (List ℕ) → List ℕ → List ℕ → KeptChapters → Result (Unit {0}) TalkFault → Type 0
+ComesTo on bytes before after waited waits sink (Ok done) =
+    (text : List ℕ) × (chapters : List (ChapterView Global)) × IsConversation on bytes text chapters × Says before after waited waits text × Adds sink.old sink.new chapters
+ComesTo on bytes before after waited waits sink (Err Input) = (text : List ℕ) × IsBegun on bytes text × SaysUntil Input before after waited waits text
+ComesTo on bytes before after waited waits sink (Err Output) = (text : List ℕ) × IsBegun on bytes text × SaysUntil Output before after waited waits text
+ComesTo on bytes before after waited waits sink (Err Sink) = (text : List ℕ) × IsBegun on bytes text × SaysUntil Sink before after waited waits text
+ComesTo on bytes before after waited waits sink (Err (Unopened why)) = (text : List ℕ) × IsRefusedHead on bytes text why × Says before after waited waits text
+ComesTo on bytes before after waited waits sink (Err NoMemory) = (text : List ℕ) × IsBegun on bytes text × SaysUntil NoMemory before after waited waits text
 
 -- ---- scripts
 

@@ -4,7 +4,9 @@ pub mod Says
 pub mod Act
 pub mod Heard
 pub mod Broken
+pub mod Due
 pub mod Heading
+pub mod Heads
 pub mod HeadFile
 pub mod Look
 pub mod Listed

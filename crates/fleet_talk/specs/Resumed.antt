@@ -1,19 +1,18 @@
 -- A conversation whose fleet goes on from a chapter that was kept.
-use Rattle.std.specs.Prelude.{◌≡◌, ℕ, Bool, false, not, ◌==◌, nat_lt, List, ◌++◌, length, replicate, Option, Some, None, Result, Ok, Err, unwrap_or, if◌then◌else◌}
+use Rattle.std.specs.Prelude.{◌≡◌, ℕ, Bool, false, not, ◌==◌, nat_lt, List, ◌++◌, length, Option, Some, None, Result, Ok, Err, unwrap_or, if◌then◌else◌}
 use Rattle.std.specs.List.{list_any}
 use Rattle.std.specs.Option.{option_map}
 use Rattle.std.specs.declared.alloc.Global.{Global}
 use Rattle.fleet_grid.specs.Floor.{Floor}
 use Rattle.fleet_book.specs.declared.limits.Limits.{Limits}
 use Rattle.fleet_history.specs.declared.history.Opening.{Opening}
-use Rattle.fleet_history.specs.History.{clients}
 use Rattle.fleet_core.specs.Core.{World}
 use Rattle.fleet_core.specs.Hooks.{HookLaws}
 use Rattle.fleet_reopen.specs.declared.fault.ReopenFault.TheVariants as reopen_fault
 use Rattle.fleet_reopen.specs.Reopening.{CanReopen, IsReopenFault, reopened_world}
 use Rattle.fleet_script.specs.Script.{Draft, limits_over}
 use Rattle.errands_text.specs.Kit.{KitLaws, cut_laws}
-use Rattle.fleet_world.specs.Talk.{Talk, none_waiting, talk_of}
+use Rattle.fleet_world.specs.Talk.{Talk, quiet_talk}
 use Rattle.fleet_talk.specs.declared.ends.Settings.{Settings}
 use Rattle.fleet_talk.specs.declared.fault.TalkFault.{TalkFault}
 use Rattle.fleet_talk.specs.declared.ground.TheConstants.{TALK_LIMITS}
@@ -23,7 +22,7 @@ use Rattle.fleet_talk.specs.Act.{Act, acts_from}
 use Rattle.fleet_talk.specs.Acts.{Talks}
 use Rattle.fleet_talk.specs.Broken.{SaysUntil}
 use Rattle.fleet_talk.specs.Chapters.{Adds, AreChapters, ChapterView}
-use Rattle.fleet_talk.specs.Conversation.{Shelved, Terms}
+use Rattle.fleet_talk.specs.Conversation.{KeptChapters, Terms}
 use Rattle.fleet_talk.specs.Heard.{heard_lines}
 use Rattle.fleet_talk.specs.Says.{Says}
 
@@ -55,13 +54,13 @@ laws_after kit d o = cut_laws (length o.robots) (if unwrap_or d.south (has_stamp
 
 -- ---- the fleet
 
--- a world whose clients did nothing yet
-abbrev pub quiet : {A : Type 0} → World A → Talk A
-quiet w = talk_of w (replicate (clients w.history) none_waiting)
+-- the world of the fleet that goes on from a chapter
+abbrev pub world_after : {A : Type 0} → KitLaws → Floor → Draft → ChapterView A → World A
+world_after kit m d c = reopened_world m c.number c.history (limits_after d c.history.opening) (laws_after kit d c.history.opening)
 
--- the fleet that goes on from a chapter
+-- that fleet: its clients did nothing yet
 abbrev pub resumed : {A : Type 0} → KitLaws → Floor → Draft → ChapterView A → Talk A
-resumed kit m d c = quiet (reopened_world m c.number c.history (limits_after d c.history.opening) (laws_after kit d c.history.opening))
+resumed kit m d c = quiet_talk (world_after kit m d c)
 
 -- a fleet goes on from the chapter
 pub record MayResume {A : Type 0} (kit : KitLaws) (m : Floor) (d : Draft) (c : ChapterView A) : Type 0 where
@@ -99,10 +98,10 @@ pub record IsAnsweredInPart (settings : Settings) (s : Talk Global) (bytes text 
   pub talks : Talks settings.roll s done text last
 
 -- to what a conversation with an open fleet came
-abbrev pub ComesOpen : Settings → Talk Global → List ℕ → Option (List ℕ) → Option (List ℕ) → List ℕ → List ℕ → Shelved → Result (Unit {0}) TalkFault → Type 0
-ComesOpen settings s bytes before after waited waits shelf (Ok done) =
-    (text : List ℕ) × (chapters : List (ChapterView Global)) × IsAnswered settings s bytes text chapters × Says before after waited waits text × Adds shelf.old shelf.new chapters
-ComesOpen settings s bytes before after waited waits shelf (Err why) = (text : List ℕ) × IsAnsweredInPart settings s bytes text × SaysUntil why before after waited waits text
+abbrev pub ComesOpen : Settings → Talk Global → List ℕ → Option (List ℕ) → Option (List ℕ) → List ℕ → List ℕ → KeptChapters → Result (Unit {0}) TalkFault → Type 0
+ComesOpen settings s bytes before after waited waits sink (Ok done) =
+    (text : List ℕ) × (chapters : List (ChapterView Global)) × IsAnswered settings s bytes text chapters × Says before after waited waits text × Adds sink.old sink.new chapters
+ComesOpen settings s bytes before after waited waits sink (Err why) = (text : List ℕ) × IsAnsweredInPart settings s bytes text × SaysUntil why before after waited waits text
 
 -- the text and the chapters of a whole conversation whose fleet goes on from a chapter
 pub record IsResumption (on : Terms) (c : ChapterView Global) (bytes text : List ℕ) (chapters : List (ChapterView Global)) : Type 0 where

@@ -1,7 +1,7 @@
 //! A conversation as a whole.
 
 ghost use Rattle.std.specs.Prelude.{◌≡◌, ◌≤◌, ◌↔◌, ◌∷◌, ℕ, List, [], Ok, Err, Some, OnOk, IfOk, IfErr, IfSome, vec_len};
-ghost use Rattle.std.specs.Io.Buffered.{reader_remaining};
+ghost use Rattle.std.specs.Io.Buffered.{reader_buffer, reader_remaining};
 ghost use Rattle.std.specs.Io.KnownBytes.{Appends};
 ghost use Rattle.std.specs.declared.alloc.Global.{Global};
 ghost use Rattle.fleet_grid.specs.Floor.{Floor};
@@ -16,11 +16,12 @@ ghost use Rattle.fleet_world.specs.Talk.{opened_talk};
 ghost use Rattle.fleet_talk.specs.Broken.{IsMidway};
 ghost use Rattle.fleet_talk.specs.Chapters.{Adds, ChapterView, IsSound, chapter_shown};
 ghost use Rattle.fleet_talk.specs.Conversation.{ComesTo, IsBegun, IsConversation, IsRefusedHead, Terms, clients_in, laws_in, limits_in};
+ghost use Rattle.fleet_talk.specs.Due.{IsDone};
 ghost use Rattle.fleet_talk.specs.Ending.{Finishes, Keeps};
 ghost use Rattle.fleet_talk.specs.Heading.{drafted};
 ghost use Rattle.fleet_talk.specs.Refusals.{talk_fault};
 
-use crate::ends::{Ends, Settings, Shelf};
+use crate::ends::{ChapterSink, Ends, Settings};
 use crate::fault::TalkFault;
 use crate::going::go_on;
 use crate::ground::{Ground, TALK_LIMITS};
@@ -78,16 +79,16 @@ fn opening_fault(fault: OpenFault) -> TalkFault
 }
 
 /// Keeps the last chapter, however the conversation ended.
-pub(crate) fn keep_last<S: Shelf>(
-    shelf: &mut S,
+pub(crate) fn keep_last<S: ChapterSink>(
+    sink: &mut S,
     chapter: &Chapter,
     ended: Result<(), TalkFault>,
 ) -> Result<(), TalkFault>
     requires sound { (m : Floor) × IsSound m (history_of chapter.now) }
     ensures ended { Keeps ended result }
-    ensures kept { OnOk result (Adds (S.kept shelf.old) (S.kept shelf.new) (chapter_shown chapter.now ∷ [])) }
+    ensures kept { OnOk result (Adds (S.kept sink.old) (S.kept sink.new) (chapter_shown chapter.now ∷ [])) }
 {
-    let kept = shelf.keep(chapter);
+    let kept = sink.keep(chapter);
     ended?;
     Ok(kept?)
 }
@@ -108,18 +109,19 @@ pub(crate) fn end<W: Write>(
 }
 
 /// Holds a conversation; the last answers are left for the caller to write.
-fn hold<R: Alloc<A = Global>, I: Read, W: Write, S: Shelf>(
+fn hold<R: Alloc<A = Global>, I: Read, W: Write, S: ChapterSink>(
     rt: &R,
     ground: Ground,
     ends: &mut Ends<I, W, S>,
     pen: &mut Pen,
 ) -> Result<(), TalkFault>
     // Of each call: only a call with a condition may hand on closures.
-    requires { 0 ≤ vec_len ground.kit.plain.ties }
+    requires closures { 0 ≤ vec_len ground.kit.plain.ties }
+    requires done { IsDone (reader_buffer ends.old.input) pen.old.out.items }
     ensures { IfSome (reader_remaining I.remaining ends.old.input) (λ bytes.
         ComesTo (record { kit = kit_laws ground.kit; floor = ground.grid; settings = pen.old.settings; head = drafted ground.head }) bytes
         (W.contents ends.old.output) (W.contents ends.new.output) pen.old.out.items pen.new.out.items
-        (record { old = S.kept ends.old.shelf; new = S.kept ends.new.shelf }) result) }
+        (record { old = S.kept ends.old.sink; new = S.kept ends.new.sink }) result) }
 {
     let alloc = rt.alloc();
     let Ground { grid, kit, head } = ground;
@@ -131,7 +133,7 @@ fn hold<R: Alloc<A = Global>, I: Read, W: Write, S: Shelf>(
                 let mut session = session;
                 let ended = go_on(rt, &mut session, ends, &mut bytes, pen, first);
                 let (_grid, chapter) = session.finish();
-                keep_last(&mut ends.shelf, &chapter, ended)
+                keep_last(&mut ends.sink, &chapter, ended)
             }
             Err(fault) => Err(opening_fault(fault)),
         },
@@ -147,9 +149,9 @@ fn hold<R: Alloc<A = Global>, I: Read, W: Write, S: Shelf>(
 }
 
 /// Holds a conversation: hears its head, opens the fleet at the first line that asks something of it, and answers each line as
-/// `errands run` does, until the input ends or a line says `quit`. Each chapter goes to the shelf when it is handed out, and the last
+/// `errands run` does, until the input ends or a line says `quit`. Each chapter goes to the sink when it is handed out, and the last
 /// at the end. Returns whether a limit was met.
-pub fn converse<R: Alloc<A = Global>, I: Read, W: Write, S: Shelf>(
+pub fn converse<R: Alloc<A = Global>, I: Read, W: Write, S: ChapterSink>(
     rt: &R,
     ground: Ground,
     settings: Settings,
@@ -161,7 +163,7 @@ pub fn converse<R: Alloc<A = Global>, I: Read, W: Write, S: Shelf>(
     ensures ended { OnOk result (IfSome (reader_remaining I.remaining ends.old.input) (λ bytes. (text : List ℕ) × (chapters : List (ChapterView Global))
         × IsConversation (record { kit = kit_laws ground.kit; floor = ground.grid; settings = settings; head = drafted ground.head }) bytes text chapters
         × Appends (W.contents ends.old.output) (W.contents ends.new.output) text
-        × Adds (S.kept ends.old.shelf) (S.kept ends.new.shelf) chapters)) }
+        × Adds (S.kept ends.old.sink) (S.kept ends.new.sink) chapters)) }
     // The answers to the head's lines were written, and the fleet is refused for this reason.
     ensures refused { (why : OpenFault) → result ≡ Err (TalkFault.Opening why) → IfSome (reader_remaining I.remaining ends.old.input) (λ bytes. (text : List ℕ)
         × IsRefusedHead (record { kit = kit_laws ground.kit; floor = ground.grid; settings = settings; head = drafted ground.head }) bytes text why

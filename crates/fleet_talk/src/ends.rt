@@ -21,39 +21,39 @@ pub struct Settings {
 
 /// Why a chapter was not kept.
 #[derive(Clone, Copy, Debug, PartialEq, Eq)]
-pub enum ShelfFault {
+pub enum SinkFault {
     /// A file could not be made or written.
     File,
     NoMemory,
 }
 
-impl From<AllocError> for ShelfFault {
+impl From<AllocError> for SinkFault {
     ghost use Rattle.std.specs.Prelude.{◌≡◌};
-    ghost use Rattle.fleet_talk.specs.declared.ends.ShelfFault.TheVariants.{NoMemory};
+    ghost use Rattle.fleet_talk.specs.declared.ends.SinkFault.TheVariants.{NoMemory};
 
     ghost from_gives = { λ _ e. e ≡ NoMemory };
 
-    fn from(_error: AllocError) -> ShelfFault {
-        ShelfFault::NoMemory
+    fn from(_error: AllocError) -> SinkFault {
+        SinkFault::NoMemory
     }
 }
 
 /// Where a conversation's chapters go.
-pub trait Shelf {
+pub trait ChapterSink {
     /// The chapters that it kept, in order, where that is known; of files it is not.
     ghost kept: { Self → Option (List (ChapterView Global)) };
 
     /// Keeps a chapter, which is legal, and each tick of which advances where its map has no bridge. After a fault it is not kept.
-    fn keep(&mut self, chapter: &Chapter) -> Result<(), ShelfFault>
+    fn keep(&mut self, chapter: &Chapter) -> Result<(), SinkFault>
         requires sound { (m : Floor) × IsSound m (history_of chapter.now) }
         ensures ok { OnOk result (Adds (kept self.old) (kept self.new) (chapter_shown chapter.now ∷ [])) }
         ensures err { OnErr result (kept self.new ≡ kept self.old) };
 }
 
-/// The reader of the lines, the writer of the answers, and the shelf of the chapters.
+/// The reader of the lines, the writer of the answers, and the sink of the chapters.
 #[derive(Drop)]
 pub struct Ends<I, W, S> {
     pub input: BufReader<I>,
     pub output: W,
-    pub shelf: S,
+    pub sink: S,
 }

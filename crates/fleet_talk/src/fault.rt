@@ -1,6 +1,6 @@
 //! Why a conversation breaks off.
 
-use crate::ends::ShelfFault;
+use crate::ends::SinkFault;
 use crate::input_line::LineFault;
 use fleet_core::OpenFault;
 use std::alloc::AllocError;
@@ -13,7 +13,7 @@ pub enum TalkFault {
     /// An answer could not be written.
     Output,
     /// A chapter could not be kept.
-    Shelf,
+    Sink,
     /// The fleet was not opened.
     Opening(OpenFault),
     NoMemory,
@@ -43,15 +43,15 @@ impl From<LineFault> for TalkFault {
     }
 }
 
-impl From<ShelfFault> for TalkFault {
+impl From<SinkFault> for TalkFault {
     ghost use Rattle.fleet_talk.specs.Broken.{IsMidway};
 
     ghost from_gives = { λ _ f. IsMidway f };
 
-    fn from(fault: ShelfFault) -> TalkFault {
+    fn from(fault: SinkFault) -> TalkFault {
         match fault {
-            ShelfFault::File => TalkFault::Shelf,
-            ShelfFault::NoMemory => TalkFault::NoMemory,
+            SinkFault::File => TalkFault::Sink,
+            SinkFault::NoMemory => TalkFault::NoMemory,
         }
     }
 }

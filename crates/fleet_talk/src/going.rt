@@ -14,7 +14,7 @@ ghost use Rattle.fleet_talk.specs.Says.{Says, marked};
 ghost use Rattle.fleet_talk.specs.Talked.{TalksUntil};
 
 use crate::ask::{Asked, Line, is_quit, line_of};
-use crate::ends::{Ends, Shelf};
+use crate::ends::{ChapterSink, Ends};
 use crate::fault::TalkFault;
 use crate::listed::listed_text;
 use crate::look::look_line;
@@ -58,7 +58,7 @@ fn list(
 }
 
 /// Does what a line asks.
-fn do_asked<R: Alloc<A = Global>, I, W: Write, S: Shelf>(
+fn do_asked<R: Alloc<A = Global>, I, W: Write, S: ChapterSink>(
     rt: &R,
     session: &mut Session,
     ends: &mut Ends<I, W, S>,
@@ -68,7 +68,7 @@ fn do_asked<R: Alloc<A = Global>, I, W: Write, S: Shelf>(
     requires { 0 ≤ session.old.world.core.number }
     ensures talks { OnOk result ((text : List ℕ) × Talks pen.old.settings.roll (talk session.old) (acts_asked (line_shown line.entry) line.entry.asked) text (talk session.new)
         × Says (W.contents ends.old.output) (W.contents ends.new.output) pen.old.out.items pen.new.out.items text) }
-    ensures kept { OnOk result (KeepsTurned (S.kept ends.old.shelf) (S.kept ends.new.shelf) (talk session.old) (talk session.new)) }
+    ensures kept { OnOk result (KeepsTurned (S.kept ends.old.sink) (S.kept ends.new.sink) (talk session.old) (talk session.new)) }
     ensures broken { IfErr result (λ fault. TalksUntil fault pen.old.settings.roll (talk session.old) (acts_asked (line_shown line.entry) line.entry.asked)
         (W.contents ends.old.output) (W.contents ends.new.output) pen.old.out.items pen.new.out.items) }
     ensures settings { pen.new.settings ≡ pen.old.settings }
@@ -77,7 +77,7 @@ fn do_asked<R: Alloc<A = Global>, I, W: Write, S: Shelf>(
     match line.asked {
         Asked::Nothing | Asked::Quit => Ok(()),
         Asked::Events(more) => play_all(rt, session, ends, pen, line.mark, more),
-        Asked::Chapter => next_chapter(rt.alloc(), session, &mut ends.shelf, pen, line.mark),
+        Asked::Chapter => next_chapter(rt.alloc(), session, &mut ends.sink, pen, line.mark),
         Asked::Look => Ok(show(rt.alloc(), session, pen, line.mark)?),
         Asked::Open(client) => Ok(list(rt.alloc(), session, pen, line.mark, client)?),
         Asked::Other | Asked::Long => Ok(pen.say_bad(rt.alloc(), line)?),
@@ -85,7 +85,7 @@ fn do_asked<R: Alloc<A = Global>, I, W: Write, S: Shelf>(
 }
 
 /// Answers a line.
-fn answer<R: Alloc<A = Global>, I, W: Write, S: Shelf>(
+fn answer<R: Alloc<A = Global>, I, W: Write, S: ChapterSink>(
     rt: &R,
     session: &mut Session,
     ends: &mut Ends<I, W, S>,
@@ -95,7 +95,7 @@ fn answer<R: Alloc<A = Global>, I, W: Write, S: Shelf>(
     requires { 0 ≤ session.old.world.core.number }
     ensures talks { OnOk result ((text : List ℕ) × Talks pen.old.settings.roll (talk session.old) (acts_on pen.old.settings (line_shown line.entry)) text (talk session.new)
         × Says (W.contents ends.old.output) (W.contents ends.new.output) pen.old.out.items pen.new.out.items text) }
-    ensures kept { OnOk result (KeepsTurned (S.kept ends.old.shelf) (S.kept ends.new.shelf) (talk session.old) (talk session.new)) }
+    ensures kept { OnOk result (KeepsTurned (S.kept ends.old.sink) (S.kept ends.new.sink) (talk session.old) (talk session.new)) }
     ensures broken { IfErr result (λ fault. TalksUntil fault pen.old.settings.roll (talk session.old) (acts_on pen.old.settings (line_shown line.entry))
         (W.contents ends.old.output) (W.contents ends.new.output) pen.old.out.items pen.new.out.items) }
     ensures settings { pen.new.settings ≡ pen.old.settings }
@@ -106,7 +106,7 @@ fn answer<R: Alloc<A = Global>, I, W: Write, S: Shelf>(
 }
 
 /// Answers the line that was just read, which has this number, and all lines that follow.
-pub(crate) fn go_on<R: Alloc<A = Global>, I: Read, W: Write, S: Shelf>(
+pub(crate) fn go_on<R: Alloc<A = Global>, I: Read, W: Write, S: ChapterSink>(
     rt: &R,
     session: &mut Session,
     ends: &mut Ends<I, W, S>,
@@ -118,7 +118,7 @@ pub(crate) fn go_on<R: Alloc<A = Global>, I: Read, W: Write, S: Shelf>(
     ensures talks { OnOk result (IfSome (reader_remaining I.remaining ends.old.input) (λ xs. (text : List ℕ)
         × Talks pen.old.settings.roll (talk session.old) (acts_from pen.old.settings first (bytes.old.items ∷ heard_lines xs)) text (talk session.new)
         × Says (W.contents ends.old.output) (W.contents ends.new.output) pen.old.out.items pen.new.out.items text)) }
-    ensures kept { OnOk result (KeepsTurned (S.kept ends.old.shelf) (S.kept ends.new.shelf) (talk session.old) (talk session.new)) }
+    ensures kept { OnOk result (KeepsTurned (S.kept ends.old.sink) (S.kept ends.new.sink) (talk session.old) (talk session.new)) }
     ensures broken { IfErr result (λ fault. IfSome (reader_remaining I.remaining ends.old.input) (λ xs.
         TalksUntil fault pen.old.settings.roll (talk session.old) (acts_from pen.old.settings first (bytes.old.items ∷ heard_lines xs))
         (W.contents ends.old.output) (W.contents ends.new.output) pen.old.out.items pen.new.out.items)) }
@@ -130,7 +130,7 @@ pub(crate) fn go_on<R: Alloc<A = Global>, I: Read, W: Write, S: Shelf>(
         }
         answer(rt, session, ends, pen, line)?;
         write_if_due(ends, pen)?;
-        if !next_line(&mut ends.input, bytes)? {
+        if !next_line(&mut ends.input, pen, bytes)? {
             return Ok(());
         }
     }

@@ -1,9 +1,10 @@
 //! The header lines of a conversation.
 
 ghost use Rattle.std.specs.Prelude.{◌≡◌, ◌≤◌, ◌^◌, ◌<◌, true, false, List, [], length, None, OnOk, OnErr, IfOk, IfErr, IfSome, is_some};
-ghost use Rattle.std.specs.Io.Buffered.{reader_remaining};
+ghost use Rattle.std.specs.Io.Buffered.{reader_buffer, reader_remaining};
 ghost use Rattle.fleet_map.specs.Text.{lines_of, words_of};
 ghost use Rattle.fleet_script.specs.Shown.{IsTaken};
+ghost use Rattle.fleet_talk.specs.Due.{IsDone};
 ghost use Rattle.fleet_talk.specs.Heard.{all_of, header_texts, opens, with_head_line, with_words};
 ghost use Rattle.fleet_talk.specs.HeadFile.{IsHeadFault, SaysHead, with_file_line};
 ghost use Rattle.fleet_talk.specs.Heading.{Follows, HearsAll, HearsUntil, IsOfHead, IsPartly, drafted, is_good, texts_at};
@@ -111,16 +112,17 @@ pub(crate) fn hear_head<I: Read, W: Write, S>(
     bytes: &mut Vec<u8>,
     pen: &mut Pen,
 ) -> Result<Option<u64>, TalkFault>
+    requires { IsDone (reader_buffer ends.old.input) pen.old.out.items }
     ensures all { IfOk result (λ at. IfSome (reader_remaining I.remaining ends.old.input) (λ xs.
         HearsAll pen.old.settings (drafted head.old) xs (reader_remaining I.remaining ends.new.input) (drafted head.new) bytes.new.items at
         (W.contents ends.old.output) (W.contents ends.new.output) pen.old.out.items pen.new.out.items)) }
     ensures broken { IfErr result (λ fault. IfSome (reader_remaining I.remaining ends.old.input) (λ xs.
         HearsUntil fault pen.old.settings (drafted head.old) xs (W.contents ends.old.output) (W.contents ends.new.output) pen.old.out.items pen.new.out.items)) }
     ensures settings { pen.new.settings ≡ pen.old.settings }
-    ensures shelf { ends.new.shelf ≡ ends.old.shelf }
+    ensures sink { ends.new.sink ≡ ends.old.sink }
 {
     for number in 1..u64::MAX {
-        if !next_line(&mut ends.input, bytes)? {
+        if !next_line(&mut ends.input, pen, bytes)? {
             return Ok(None);
         }
         match answer_header(alloc, head, line_of(number, bytes), pen)? {

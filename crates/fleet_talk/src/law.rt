@@ -7,7 +7,7 @@ ghost use Rattle.fleet_book.specs.declared.event.Event.{Event};
 ghost use Rattle.fleet_book.specs.declared.limits.Limits.{Limits};
 ghost use Rattle.fleet_core.specs.Hooks.{HookLaws, AreOrderly};
 ghost use Rattle.fleet_core.specs.Opening.{CanOpen};
-ghost use Rattle.fleet_script.specs.Script.{Plan, script_of};
+ghost use Rattle.fleet_script.specs.Script.{Draft, Plan, script_of};
 ghost use Rattle.fleet_world.specs.declared.reply.Reply.{Reply};
 ghost use Rattle.fleet_world.specs.Run.{State, Run, opened_state};
 ghost use Rattle.errands_text.specs.Kit.{KitLaws, chosen_laws};
@@ -17,7 +17,9 @@ ghost use Rattle.fleet_talk.specs.Act.{play};
 ghost use Rattle.fleet_talk.specs.Acts.{Talks};
 ghost use Rattle.fleet_talk.specs.Chapters.{ChapterView};
 ghost use Rattle.fleet_talk.specs.Conversation.{IsConversation, NamesLimits, head_in, plain_terms};
-ghost use Rattle.fleet_talk.specs.Heard.{AreShort};
+ghost use Rattle.fleet_talk.specs.declared.ends.Settings.{Settings};
+ghost use Rattle.fleet_talk.specs.Heads.{IsHead};
+ghost use Rattle.fleet_talk.specs.Heard.{AreShort, head_of};
 
 /// A conversation in which no chapter is handed out is a run: from the opening on, it prints what `errands run` prints
 /// for the same events from the same opening, and ends in the same world.
@@ -38,4 +40,10 @@ pub fn a_script_is_a_run()
         script_of bytes ≡ Ok plan → AreShort bytes → IfSome (head_in (plain_terms kit m) bytes).opening (λ o. NamesLimits o.head) → IsConversation (plain_terms kit m) bytes text chapters →
         (replies : List Reply) × (last : State Global) × Run (opened_state m plan.starts plan.clients plan.limits (chosen_laws kit plan)) plan.events replies last
         × (text ≡ run_text plan.events replies last.world.history.entries) }
+{}
+
+/// The head of a conversation: its first lines belong to it, each of which is a header line, a comment, blank, or bad; and it
+/// ends with the input, at a line that says `quit`, or at the first line that asks something of a fleet whose robots it named.
+pub fn a_head_is_by_its_lines()
+    ensures { (settings : Settings) (file : Draft) (lines : List (List ℕ)) → IsHead settings file lines (head_of settings file 1 lines) }
 {}

@@ -13,7 +13,7 @@ ghost use Rattle.fleet_talk.specs.Said.{IsAdded, IsKept, under};
 ghost use Rattle.fleet_talk.specs.Says.{Says, chapter_text, marked};
 ghost use Rattle.fleet_talk.specs.Talked.{TalksUntil};
 
-use crate::ends::{Ends, Shelf};
+use crate::ends::{ChapterSink, Ends};
 use crate::fault::TalkFault;
 use crate::pen::Pen;
 use crate::writing::write_if_full;
@@ -39,20 +39,20 @@ fn wants_room(roll: bool, reply: Reply) -> bool
 }
 
 /// Keeps a chapter that was handed out, and says so.
-fn keep<S: Shelf>(
+fn keep<S: ChapterSink>(
     alloc: Global,
     chapter: &Chapter,
-    shelf: &mut S,
+    sink: &mut S,
     pen: &mut Pen,
     mark: Option<&[u8]>,
 ) -> Result<(), TalkFault>
     requires sound { (m : Floor) × IsSound m (history_of chapter.now) }
-    ensures kept { OnOk result (Adds (S.kept shelf.old) (S.kept shelf.new) (chapter_shown chapter.now ∷ [])) }
+    ensures kept { OnOk result (Adds (S.kept sink.old) (S.kept sink.new) (chapter_shown chapter.now ∷ [])) }
     ensures ok { OnOk result (IsAdded pen.old pen.new (marked (under mark.entry) (chapter_text chapter.now.number (length chapter.now.entries.items)))) }
     ensures err { OnErr result (IsKept pen.old pen.new) }
     ensures midway { IfErr result (λ fault. IsMidway fault) }
 {
-    shelf.keep(chapter)?;
+    sink.keep(chapter)?;
     let number = chapter.number;
     let entries = chapter.entries.len();
     let text = format!(in alloc; "chapter {number} entries {entries}\n")?;
@@ -60,22 +60,22 @@ fn keep<S: Shelf>(
 }
 
 /// Hands out the chapter and says so, or says nothing if it is the last. Returns whether it was handed out.
-fn hand_out<S: Shelf>(
+fn hand_out<S: ChapterSink>(
     alloc: Global,
     session: &mut Session,
-    shelf: &mut S,
+    sink: &mut S,
     pen: &mut Pen,
     mark: Option<&[u8]>,
 ) -> Result<bool, TalkFault>
     requires { 0 ≤ session.old.world.core.number }
     ensures ok { IfOk result (λ handed. (text : List ℕ) × Turns handed (talk session.old) (under mark.entry) text (talk session.new) × IsAdded pen.old pen.new text) }
-    ensures kept { OnOk result (KeepsTurned (S.kept shelf.old) (S.kept shelf.new) (talk session.old) (talk session.new)) }
+    ensures kept { OnOk result (KeepsTurned (S.kept sink.old) (S.kept sink.new) (talk session.old) (talk session.new)) }
     ensures err { OnErr result (IsKept pen.old pen.new) }
     ensures midway { IfErr result (λ fault. IsMidway fault) }
 {
     match session.next_chapter() {
         Ok(chapter) => {
-            keep(alloc, &chapter, shelf, pen, mark)?;
+            keep(alloc, &chapter, sink, pen, mark)?;
             Ok(true)
         }
         Err(ChapterFault::BookSpent) => Ok(false),
@@ -84,20 +84,20 @@ fn hand_out<S: Shelf>(
 }
 
 /// Returns the current chapter and begins the next, or says that it is the last.
-pub(crate) fn next_chapter<S: Shelf>(
+pub(crate) fn next_chapter<S: ChapterSink>(
     alloc: Global,
     session: &mut Session,
-    shelf: &mut S,
+    sink: &mut S,
     pen: &mut Pen,
     mark: Option<&[u8]>,
 ) -> Result<(), TalkFault>
     requires { 0 ≤ session.old.world.core.number }
     ensures ok { OnOk result ((text : List ℕ) × HandsOut (talk session.old) (under mark.entry) text (talk session.new) × IsAdded pen.old pen.new text) }
-    ensures kept { OnOk result (KeepsTurned (S.kept shelf.old) (S.kept shelf.new) (talk session.old) (talk session.new)) }
+    ensures kept { OnOk result (KeepsTurned (S.kept sink.old) (S.kept sink.new) (talk session.old) (talk session.new)) }
     ensures err { OnErr result (IsKept pen.old pen.new) }
     ensures midway { IfErr result (λ fault. IsMidway fault) }
 {
-    if hand_out(alloc, session, shelf, pen, mark)? {
+    if hand_out(alloc, session, sink, pen, mark)? {
         return Ok(());
     }
     Ok(pen.say(alloc, mark, "chapter-refused 1 book-spent\n")?)
@@ -141,17 +141,17 @@ fn play<R: Alloc<A = Global>>(
 }
 
 /// `play_on`, which may have said that a chapter was handed out where the event itself fails.
-fn play_in_room<R: Alloc<A = Global>, S: Shelf>(
+fn play_in_room<R: Alloc<A = Global>, S: ChapterSink>(
     rt: &R,
     session: &mut Session,
-    shelf: &mut S,
+    sink: &mut S,
     pen: &mut Pen,
     mark: Option<&[u8]>,
     event: Event,
 ) -> Result<(), TalkFault>
     requires { 0 ≤ session.old.world.core.number }
     ensures ok { OnOk result ((text : List ℕ) × Does pen.old.settings.roll (talk session.old) (play (under mark.entry) event) text (talk session.new) × IsAdded pen.old pen.new text) }
-    ensures kept { OnOk result (KeepsTurned (S.kept shelf.old) (S.kept shelf.new) (talk session.old) (talk session.new)) }
+    ensures kept { OnOk result (KeepsTurned (S.kept sink.old) (S.kept sink.new) (talk session.old) (talk session.new)) }
     ensures err { OnErr result ((text : List ℕ) × IsAdded pen.old pen.new text) }
     ensures midway { IfErr result (λ fault. IsMidway fault) }
 {
@@ -159,7 +159,7 @@ fn play_in_room<R: Alloc<A = Global>, S: Shelf>(
     if !wants_room(pen.settings.roll, reply) {
         return Ok(tell(rt.alloc(), session, pen, mark, event, reply)?);
     }
-    if hand_out(rt.alloc(), session, shelf, pen, mark)? {
+    if hand_out(rt.alloc(), session, sink, pen, mark)? {
         return Ok(play(rt, session, pen, mark, event)?);
     }
     Ok(tell(rt.alloc(), session, pen, mark, event, reply)?)
@@ -167,22 +167,22 @@ fn play_in_room<R: Alloc<A = Global>, S: Shelf>(
 
 /// Does one event. If it is refused because the chapter is full, and that may be handed out unasked, it is done in the
 /// next chapter. If it fails, nothing is answered.
-fn play_on<R: Alloc<A = Global>, S: Shelf>(
+fn play_on<R: Alloc<A = Global>, S: ChapterSink>(
     rt: &R,
     session: &mut Session,
-    shelf: &mut S,
+    sink: &mut S,
     pen: &mut Pen,
     mark: Option<&[u8]>,
     event: Event,
 ) -> Result<(), TalkFault>
     requires { 0 ≤ session.old.world.core.number }
     ensures ok { OnOk result ((text : List ℕ) × Does pen.old.settings.roll (talk session.old) (play (under mark.entry) event) text (talk session.new) × IsAdded pen.old pen.new text) }
-    ensures kept { OnOk result (KeepsTurned (S.kept shelf.old) (S.kept shelf.new) (talk session.old) (talk session.new)) }
+    ensures kept { OnOk result (KeepsTurned (S.kept sink.old) (S.kept sink.new) (talk session.old) (talk session.new)) }
     ensures err { OnErr result (IsKept pen.old pen.new) }
     ensures midway { IfErr result (λ fault. IsMidway fault) }
 {
     let said = pen.out.len();
-    match play_in_room(rt, session, shelf, pen, mark, event) {
+    match play_in_room(rt, session, sink, pen, mark, event) {
         Ok(()) => Ok(()),
         Err(fault) => {
             pen.take_back(said);
@@ -192,7 +192,7 @@ fn play_on<R: Alloc<A = Global>, S: Shelf>(
 }
 
 /// Does the events of a line.
-pub(crate) fn play_all<R: Alloc<A = Global>, I, W: Write, S: Shelf>(
+pub(crate) fn play_all<R: Alloc<A = Global>, I, W: Write, S: ChapterSink>(
     rt: &R,
     session: &mut Session,
     ends: &mut Ends<I, W, S>,
@@ -203,14 +203,14 @@ pub(crate) fn play_all<R: Alloc<A = Global>, I, W: Write, S: Shelf>(
     requires { 0 ≤ session.old.world.core.number }
     ensures talks { OnOk result ((text : List ℕ) × Talks pen.old.settings.roll (talk session.old) (replicate more.times (play (under mark.entry) more.event)) text (talk session.new)
         × Says (W.contents ends.old.output) (W.contents ends.new.output) pen.old.out.items pen.new.out.items text) }
-    ensures kept { OnOk result (KeepsTurned (S.kept ends.old.shelf) (S.kept ends.new.shelf) (talk session.old) (talk session.new)) }
+    ensures kept { OnOk result (KeepsTurned (S.kept ends.old.sink) (S.kept ends.new.sink) (talk session.old) (talk session.new)) }
     ensures broken { IfErr result (λ fault. TalksUntil fault pen.old.settings.roll (talk session.old) (replicate more.times (play (under mark.entry) more.event))
         (W.contents ends.old.output) (W.contents ends.new.output) pen.old.out.items pen.new.out.items) }
     ensures settings { pen.new.settings ≡ pen.old.settings }
     ensures input { ends.new.input ≡ ends.old.input }
 {
     for _ in 0..more.times {
-        play_on(rt, session, &mut ends.shelf, pen, mark, more.event)?;
+        play_on(rt, session, &mut ends.sink, pen, mark, more.event)?;
         write_if_full(pen, &mut ends.output)?;
     }
     Ok(())

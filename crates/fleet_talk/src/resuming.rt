@@ -1,27 +1,24 @@
 //! A fleet that goes on from a chapter that was kept.
 
-ghost use Rattle.std.specs.Prelude.{◌≡◌, ◌≤◌, None, IfOk, IfErr, OnOk, length, replicate, vec_len, if◌then◌else◌, unwrap_or};
+ghost use Rattle.std.specs.Prelude.{◌≡◌, ◌≤◌, None, IfOk, IfErr, OnOk, length, vec_len, if◌then◌else◌, unwrap_or};
 ghost use Rattle.std.specs.Option.{option_map};
 ghost use Rattle.errands_text.specs.Kit.{kit_laws};
 ghost use Rattle.fleet_core.specs.Hooks.{laws_of};
 ghost use Rattle.fleet_world.specs.Keeps.{talk};
-ghost use Rattle.fleet_world.specs.Talk.{none_waiting};
 ghost use Rattle.fleet_talk.specs.Chapters.{chapter_shown};
 ghost use Rattle.fleet_talk.specs.Heading.{drafted};
-ghost use Rattle.fleet_talk.specs.Resumed.{IsResumeFault, MayResume, disagreement, has_stamps, is_other, laws_after, limits_after, quiet, resumed};
+ghost use Rattle.fleet_talk.specs.Resumed.{IsResumeFault, MayResume, disagreement, has_stamps, is_other, laws_after, limits_after, resumed, world_after};
 
 use crate::fault::TalkFault;
 use crate::ground::{Ground, TALK_LIMITS};
 use errands_text::HookKit;
 use fleet_book::Limits;
 use fleet_core::World;
-use fleet_grid::Grid;
 use fleet_history::{Chapter, Opening};
-use fleet_hooks::{ArrivalHook, Farewell, Hooks, TieHook};
-use fleet_map::read_map;
+use fleet_hooks::Hooks;
 use fleet_reopen::{ReopenFault, reopen_world};
 use fleet_script::Head;
-use fleet_world::{Session, Waiting};
+use fleet_world::Session;
 use std::alloc::{AllocError, Global};
 
 /// Why a conversation does not go on from a chapter, or how it broke off.
@@ -126,50 +123,31 @@ pub fn hooks_after(kit: HookKit, head: &Head, opening: &Opening) -> Hooks
     kit.choose(south).cut(opening.robots.len())
 }
 
-/// A map of one cell.
-const CELL: &[u8] = b"type octile\nheight 1\nwidth 1\nmap\n.\n";
-
-/// What waits of clients that did nothing. Only a session makes these lists: here that of a world which is let go.
-fn nothing_waits(alloc: Global, clients: usize) -> Result<Vec<Waiting>, AllocError>
-    ensures { IfOk result (λ waiting. waiting.items ≡ replicate clients none_waiting) }
+/// The world of the fleet that goes on from a chapter: that of `reopen_world`, with the limits of `limits_after` and the closures
+/// of `hooks_after`.
+///
+/// Refused in this order: header lines that name another number of robots or of clients than the chapter has, and what
+/// `reopen_world` refuses.
+pub fn world_after(alloc: Global, ground: Ground, chapter: &Chapter) -> Result<World, ResumeFault>
+    // Of each call: only a call with a condition may hand on closures that another crate hands out.
+    requires { 0 ≤ vec_len ground.kit.plain.ties }
+    ensures ok { IfOk result (λ w. w.core ≡ world_after (kit_laws ground.kit) ground.grid (drafted ground.head) (chapter_shown chapter.now)) }
+    ensures may { OnOk result (MayResume (kit_laws ground.kit) ground.grid (drafted ground.head) (chapter_shown chapter.now)) }
+    ensures fault { IfErr result (λ fault. IsResumeFault (kit_laws ground.kit) ground.grid (drafted ground.head) (chapter_shown chapter.now) fault) }
 {
-    let Ok(clients) = u32::try_from(clients) else {
-        return Err(AllocError);
-    };
-    let Ok(map) = read_map(alloc, CELL) else {
-        return Err(AllocError);
-    };
-    let grid = Grid::new(map)?;
-    let starts = Vec::from_slice(alloc, &[0])?;
-    let hooks = Hooks::alike(
-        alloc,
-        1,
-        TieHook::fixed([0; 4]),
-        ArrivalHook::fixed(0),
-        Farewell::fixed(0),
-    )?;
-    match Session::open(alloc, grid, starts, clients, TALK_LIMITS, hooks) {
-        Ok(session) => {
-            let Session { world, waiting } = session;
-            let _left = world.finish();
-            Ok(waiting)
+    let Ground { grid, kit, head } = ground;
+    match disagreement(&head, &chapter.opening) {
+        Some(fault) => {
+            drop(kit);
+            return Err(fault);
         }
-        Err(_) => Err(AllocError),
+        None => {}
     }
-}
-
-/// A session over a world whose clients did nothing yet.
-fn session_over(alloc: Global, world: World) -> Result<Session, AllocError>
-    // Of each call: only a call with a condition may hand on closures.
-    requires { 0 ≤ world.core.number }
-    ensures { IfOk result (λ s. talk s ≡ quiet world.core) }
-{
-    match nothing_waits(alloc, world.clients()) {
-        Ok(waiting) => Ok(Session { world, waiting }),
-        Err(AllocError) => {
-            let _left = world.finish();
-            Err(AllocError)
-        }
+    let limits = limits_after(&head, &chapter.opening);
+    let hooks = hooks_after(kit, &head, &chapter.opening);
+    match reopen_world(alloc, grid, chapter, limits, hooks) {
+        Ok(world) => Ok(world),
+        Err(fault) => Err(ResumeFault::Chapter(fault)),
     }
 }
 
@@ -185,18 +163,8 @@ pub(crate) fn reopen(
     ensures may { OnOk result (MayResume (kit_laws ground.kit) ground.grid (drafted ground.head) (chapter_shown chapter.now)) }
     ensures fault { IfErr result (λ fault. IsResumeFault (kit_laws ground.kit) ground.grid (drafted ground.head) (chapter_shown chapter.now) fault) }
 {
-    let Ground { grid, kit, head } = ground;
-    match disagreement(&head, &chapter.opening) {
-        Some(fault) => {
-            drop(kit);
-            return Err(fault);
-        }
-        None => {}
-    }
-    let limits = limits_after(&head, &chapter.opening);
-    let hooks = hooks_after(kit, &head, &chapter.opening);
-    match reopen_world(alloc, grid, chapter, limits, hooks) {
-        Ok(world) => Ok(session_over(alloc, world)?),
-        Err(fault) => Err(ResumeFault::Chapter(fault)),
+    match world_after(alloc, ground, chapter) {
+        Ok(world) => Ok(Session::over(alloc, world)?),
+        Err(fault) => Err(fault),
     }
 }

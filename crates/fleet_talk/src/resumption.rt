@@ -1,7 +1,7 @@
 //! A conversation whose fleet goes on from a chapter.
 
 ghost use Rattle.std.specs.Prelude.{◌≡◌, ◌≤◌, ℕ, List, Err, OnOk, IfErr, IfSome, vec_len};
-ghost use Rattle.std.specs.Io.Buffered.{reader_remaining};
+ghost use Rattle.std.specs.Io.Buffered.{reader_buffer, reader_remaining};
 ghost use Rattle.std.specs.Io.KnownBytes.{Appends};
 ghost use Rattle.std.specs.declared.alloc.Global.{Global};
 ghost use Rattle.errands_text.specs.Kit.{kit_laws};
@@ -11,6 +11,7 @@ ghost use Rattle.fleet_talk.specs.Act.{acts_from};
 ghost use Rattle.fleet_talk.specs.Acts.{Talks};
 ghost use Rattle.fleet_talk.specs.Broken.{IsMidway};
 ghost use Rattle.fleet_talk.specs.Chapters.{Adds, ChapterView, KeepsTurned, chapter_shown};
+ghost use Rattle.fleet_talk.specs.Due.{IsDone};
 ghost use Rattle.fleet_talk.specs.Heading.{drafted};
 ghost use Rattle.fleet_talk.specs.Heard.{heard_lines};
 ghost use Rattle.fleet_talk.specs.Resumed.{ComesOpen, IsAnswered, IsAnsweredInPart, IsRefusal, IsResumeFault, IsResumption, IsResumptionBegun};
@@ -18,7 +19,7 @@ ghost use Rattle.fleet_talk.specs.Says.{Says};
 ghost use Rattle.fleet_talk.specs.Talked.{TalksUntil};
 
 use crate::conversation::{end, keep_last};
-use crate::ends::{Ends, Settings, Shelf};
+use crate::ends::{ChapterSink, Ends, Settings};
 use crate::fault::TalkFault;
 use crate::going::go_on;
 use crate::ground::Ground;
@@ -31,50 +32,52 @@ use std::alloc::{Alloc, Global};
 use std::io::{Read, Write};
 
 /// Answers all lines of the input.
-fn answer_all<R: Alloc<A = Global>, I: Read, W: Write, S: Shelf>(
+fn answer_all<R: Alloc<A = Global>, I: Read, W: Write, S: ChapterSink>(
     rt: &R,
     session: &mut Session,
     ends: &mut Ends<I, W, S>,
     pen: &mut Pen,
 ) -> Result<(), TalkFault>
-    requires { 0 ≤ session.old.world.core.number }
+    requires number { 0 ≤ session.old.world.core.number }
+    requires done { IsDone (reader_buffer ends.old.input) pen.old.out.items }
     ensures talks { OnOk result (IfSome (reader_remaining I.remaining ends.old.input) (λ xs. (text : List ℕ)
         × Talks pen.old.settings.roll (talk session.old) (acts_from pen.old.settings 1 (heard_lines xs)) text (talk session.new)
         × Says (W.contents ends.old.output) (W.contents ends.new.output) pen.old.out.items pen.new.out.items text)) }
-    ensures kept { OnOk result (KeepsTurned (S.kept ends.old.shelf) (S.kept ends.new.shelf) (talk session.old) (talk session.new)) }
+    ensures kept { OnOk result (KeepsTurned (S.kept ends.old.sink) (S.kept ends.new.sink) (talk session.old) (talk session.new)) }
     ensures broken { IfErr result (λ fault. IfSome (reader_remaining I.remaining ends.old.input) (λ xs.
         TalksUntil fault pen.old.settings.roll (talk session.old) (acts_from pen.old.settings 1 (heard_lines xs))
         (W.contents ends.old.output) (W.contents ends.new.output) pen.old.out.items pen.new.out.items)) }
 {
     let mut bytes = Vec::new(rt.alloc());
-    if !next_line(&mut ends.input, &mut bytes)? {
+    if !next_line(&mut ends.input, pen, &mut bytes)? {
         return Ok(());
     }
     go_on(rt, session, ends, &mut bytes, pen, 1)
 }
 
 /// Holds a conversation with an open fleet; the last answers are left for the caller to write.
-fn hold_open<R: Alloc<A = Global>, I: Read, W: Write, S: Shelf>(
+fn hold_open<R: Alloc<A = Global>, I: Read, W: Write, S: ChapterSink>(
     rt: &R,
     session: Session,
     ends: &mut Ends<I, W, S>,
     pen: &mut Pen,
 ) -> Result<(), TalkFault>
     // Of each call: only a call with a condition may hand on closures.
-    requires { 0 ≤ session.world.core.number }
+    requires number { 0 ≤ session.world.core.number }
+    requires done { IsDone (reader_buffer ends.old.input) pen.old.out.items }
     ensures { IfSome (reader_remaining I.remaining ends.old.input) (λ bytes.
         ComesOpen pen.old.settings (talk session) bytes
         (W.contents ends.old.output) (W.contents ends.new.output) pen.old.out.items pen.new.out.items
-        (record { old = S.kept ends.old.shelf; new = S.kept ends.new.shelf }) result) }
+        (record { old = S.kept ends.old.sink; new = S.kept ends.new.sink }) result) }
 {
     let mut session = session;
     let ended = answer_all(rt, &mut session, ends, pen);
     let (_grid, chapter) = session.finish();
-    keep_last(&mut ends.shelf, &chapter, ended)
+    keep_last(&mut ends.sink, &chapter, ended)
 }
 
 /// Holds a conversation with an open fleet, from the first line on. Returns whether a limit was met.
-fn converse_open<R: Alloc<A = Global>, I: Read, W: Write, S: Shelf>(
+fn converse_open<R: Alloc<A = Global>, I: Read, W: Write, S: ChapterSink>(
     rt: &R,
     session: Session,
     settings: Settings,
@@ -85,7 +88,7 @@ fn converse_open<R: Alloc<A = Global>, I: Read, W: Write, S: Shelf>(
     ensures ended { OnOk result (IfSome (reader_remaining I.remaining ends.old.input) (λ bytes. (text : List ℕ) × (chapters : List (ChapterView Global))
         × IsAnswered settings (talk session) bytes text chapters
         × Appends (W.contents ends.old.output) (W.contents ends.new.output) text
-        × Adds (S.kept ends.old.shelf) (S.kept ends.new.shelf) chapters)) }
+        × Adds (S.kept ends.old.sink) (S.kept ends.new.sink) chapters)) }
     ensures broken { IfErr result (λ fault. IsMidway fault → IfSome (reader_remaining I.remaining ends.old.input) (λ bytes. (text : List ℕ)
         × IsAnsweredInPart settings (talk session) bytes text
         × Appends (W.contents ends.old.output) (W.contents ends.new.output) text)) }
@@ -99,12 +102,12 @@ fn converse_open<R: Alloc<A = Global>, I: Read, W: Write, S: Shelf>(
 }
 
 /// Holds a conversation whose fleet goes on from a chapter: it is open before the first line, and each line is answered as `converse`
-/// does after the head. Each chapter goes to the shelf when it is handed out, and the last at the end. Returns whether a limit
+/// does after the head. Each chapter goes to the sink when it is handed out, and the last at the end. Returns whether a limit
 /// was met.
 ///
 /// Refused in this order, before a line is read: header lines that name another number of robots or of clients than the chapter
 /// has, and what `reopen_world` refuses.
-pub fn resume<R: Alloc<A = Global>, I: Read, W: Write, S: Shelf>(
+pub fn resume<R: Alloc<A = Global>, I: Read, W: Write, S: ChapterSink>(
     rt: &R,
     ground: Ground,
     chapter: Chapter,
@@ -117,7 +120,7 @@ pub fn resume<R: Alloc<A = Global>, I: Read, W: Write, S: Shelf>(
     ensures ended { OnOk result (IfSome (reader_remaining I.remaining ends.old.input) (λ bytes. (text : List ℕ) × (chapters : List (ChapterView Global))
         × IsResumption (record { kit = kit_laws ground.kit; floor = ground.grid; settings = settings; head = drafted ground.head }) (chapter_shown chapter) bytes text chapters
         × Appends (W.contents ends.old.output) (W.contents ends.new.output) text
-        × Adds (S.kept ends.old.shelf) (S.kept ends.new.shelf) chapters)) }
+        × Adds (S.kept ends.old.sink) (S.kept ends.new.sink) chapters)) }
     // No fleet goes on from the chapter, for this reason.
     ensures refused { IfErr result (λ fault. IsRefusal fault → IsResumeFault (kit_laws ground.kit) ground.grid (drafted ground.head) (chapter_shown chapter) fault) }
     // Then no line was read, and nothing written or kept.

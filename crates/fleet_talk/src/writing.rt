@@ -1,7 +1,9 @@
 //! When what was said is written.
 
 ghost use Rattle.std.specs.Prelude.{◌≡◌, [], OnOk, IfErr};
+ghost use Rattle.std.specs.Io.Buffered.{reader_buffer};
 ghost use Rattle.fleet_talk.specs.Broken.{SaysUntil};
+ghost use Rattle.fleet_talk.specs.Due.{IsDone, has_line};
 ghost use Rattle.fleet_talk.specs.Says.{Says};
 
 use crate::ends::Ends;
@@ -13,6 +15,7 @@ use std::io::{Read, Write};
 fn write_now<W: Write>(pen: &mut Pen, output: &mut W) -> Result<(), TalkFault>
     ensures says { OnOk result (Says (W.contents output.old) (W.contents output.new) pen.old.out.items pen.new.out.items []) }
     ensures broken { IfErr result (λ fault. SaysUntil fault (W.contents output.old) (W.contents output.new) pen.old.out.items pen.new.out.items []) }
+    ensures waits { pen.new.out.items ≡ [] }
     ensures settings { pen.new.settings ≡ pen.old.settings }
 {
     if pen.write_out(output) {
@@ -34,6 +37,13 @@ pub(crate) fn write_if_full<W: Write>(pen: &mut Pen, output: &mut W) -> Result<(
     write_now(pen, output)
 }
 
+/// Whether a whole line is among the bytes.
+fn has_line(bytes: &[u8]) -> bool
+    ensures { result ≡ has_line bytes.now }
+{
+    bytes.iter().any(|byte| *byte == b'\n')
+}
+
 /// Writes the answers if no whole line is in the reader's buffer, or if much text waits.
 pub(crate) fn write_if_due<I: Read, W: Write, S>(
     ends: &mut Ends<I, W, S>,
@@ -41,12 +51,13 @@ pub(crate) fn write_if_due<I: Read, W: Write, S>(
 ) -> Result<(), TalkFault>
     ensures says { OnOk result (Says (W.contents ends.old.output) (W.contents ends.new.output) pen.old.out.items pen.new.out.items []) }
     ensures broken { IfErr result (λ fault. SaysUntil fault (W.contents ends.old.output) (W.contents ends.new.output) pen.old.out.items pen.new.out.items []) }
+    // So no answer waits while the next line has to be waited for.
+    ensures done { IsDone (reader_buffer ends.old.input) pen.new.out.items }
     ensures settings { pen.new.settings ≡ pen.old.settings }
     ensures input { ends.new.input ≡ ends.old.input }
-    ensures shelf { ends.new.shelf ≡ ends.old.shelf }
+    ensures sink { ends.new.sink ≡ ends.old.sink }
 {
-    let has_line = ends.input.buffer().iter().any(|byte| *byte == b'\n');
-    if has_line && !pen.is_full() {
+    if has_line(ends.input.buffer()) && !pen.is_full() {
         return Ok(());
     }
     write_now(pen, &mut ends.output)

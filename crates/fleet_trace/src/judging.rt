@@ -93,7 +93,7 @@ fn judge_entries<A: Allocator + Copy>(
 }
 
 /// The state after the entries that follow an opening that is in order, if they are legal.
-fn state_behind<A: Allocator + Copy>(
+fn state_after<A: Allocator + Copy>(
     alloc: A,
     grid: &Grid<A>,
     opening: &Opening<A>,
@@ -124,12 +124,12 @@ fn judge_behind<A: Allocator + Copy>(
     ensures ok { OnOk result (IsLegal grid.now (with_entries (start opening.now) entries.now)) }
     ensures fault { IfErr result (λ fault. IsEntryFault grid.now (with_entries (start opening.now) entries.now) fault) }
 {
-    let _state = state_behind(alloc, grid, opening, entries)?;
+    let _state = state_after(alloc, grid, opening, entries)?;
     Ok(())
 }
 
 /// Judges the entries after an opening that is in order, by the opening with its clock and waits set to 0.
-fn judge_calmly<A: Allocator + Copy>(
+fn judge_from_zero<A: Allocator + Copy>(
     alloc: A,
     grid: &Grid<A>,
     opening: &Opening<A>,
@@ -158,5 +158,5 @@ pub fn judge<A: Allocator + Copy>(
     if !is_in_order(alloc, grid, &chapter.opening)? {
         return Err(JudgeFault::Illegal { at: 0, rule: 1 });
     }
-    judge_calmly(alloc, grid, &chapter.opening, entries)
+    judge_from_zero(alloc, grid, &chapter.opening, entries)
 }

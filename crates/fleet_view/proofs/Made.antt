@@ -1,10 +1,11 @@
 -- The page of chapters that are judged.
 use Rattle.std.proofs.Common.{◌≡◌, ℕ, List, map, Ok, subst}
 use Rattle.std.specs.declared.alloc.Global.{Global}
+use Rattle.fleet_grid.specs.Floor.{floor_of_map}
 use Rattle.fleet_map.specs.Grammar.{Map, map_of}
 use Rattle.fleet_trace.specs.Trace.{Trace}
 use Rattle.fleet_view.specs.declared.verdict.ChapterVerdict.{ChapterVerdict}
-use Rattle.fleet_view.specs.Verdicts.{AreVerdicts, floor_of_map}
+use Rattle.fleet_view.specs.Verdicts.{AreVerdicts}
 use Rattle.fleet_view.specs.Page.{page_text}
 use Rattle.fleet_view.specs.View.{AreOn, IsJudgedPage, IsPage}
 

@@ -2,17 +2,13 @@
 use Rattle.std.specs.Prelude.{ℕ, List, [], ◌∷◌, ◌++◌, codes, decimal}
 use Rattle.std.specs.List.{flat_map}
 use Rattle.fleet_map.specs.Grammar.{Map}
-use Rattle.fleet_grid.specs.Floor.{Floor, floor_of}
+use Rattle.fleet_grid.specs.Floor.{Floor, floor_of_map}
 use Rattle.fleet_history.specs.History.{History}
 use Rattle.fleet_history.specs.Legal.{IsLegal}
 use Rattle.fleet_trace.specs.Judged.{IsFirstIllegal}
 use Rattle.fleet_trace.specs.Trace.{Trace}
 use Rattle.fleet_view.specs.declared.verdict.ChapterVerdict.{ChapterVerdict}
 use Rattle.fleet_view.specs.declared.verdict.ChapterVerdict.TheVariants.{Legal, Illegal}
-
--- the floor of a map
-abbrev pub floor_of_map : Map → Floor
-floor_of_map m = floor_of m.height m.width m.cells
 
 -- the judge's verdict on a history
 abbrev pub IsVerdictOn : {A : Type 0} → Floor → History A → ChapterVerdict → Type 0

@@ -1,6 +1,7 @@
 -- The result of a map's text and of traces on it.
 use Rattle.std.specs.Prelude.{◌≡◌, ◌+◌, ℕ, List, length, Option, Some, None, Ok}
 use Rattle.std.specs.declared.alloc.Global.{Global}
+use Rattle.fleet_grid.specs.Floor.{floor_of_map}
 use Rattle.fleet_map.specs.Grammar.{Map, Fails, map_of}
 use Rattle.fleet_trace.specs.Trace.{Trace}
 use Rattle.fleet_view.specs.declared.fault.ViewFault.{ViewFault}
@@ -8,7 +9,7 @@ use Rattle.fleet_view.specs.declared.fault.ViewFault.TheVariants as fault
 use Rattle.fleet_view.specs.Chapters.{TellEach, TellsNot, first_unfit}
 use Rattle.fleet_view.specs.Cells.{first_off}
 use Rattle.fleet_view.specs.declared.verdict.ChapterVerdict.{ChapterVerdict}
-use Rattle.fleet_view.specs.Verdicts.{AreVerdicts, floor_of_map}
+use Rattle.fleet_view.specs.Verdicts.{AreVerdicts}
 use Rattle.fleet_view.specs.Page.{page_text}
 use Rattle.fleet_view.specs.Picture.{picture_text}
 

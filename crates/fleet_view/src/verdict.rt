@@ -1,11 +1,12 @@
 //! What the judge says of each chapter.
 
 ghost use Rattle.std.specs.Prelude.{◌≡◌, map, IfOk};
+ghost use Rattle.fleet_grid.specs.Floor.{floor_of_map};
 ghost use Rattle.fleet_map.specs.Form.{HasSides};
 ghost use Rattle.fleet_map.specs.Grammar.{view};
 ghost use Rattle.fleet_history.specs.History.{history_of};
 ghost use Rattle.fleet_trace.specs.Trace.{trace_of};
-ghost use Rattle.fleet_view.specs.Verdicts.{AreVerdicts, IsVerdictOn, floor_of_map};
+ghost use Rattle.fleet_view.specs.Verdicts.{AreVerdicts, IsVerdictOn};
 
 use fleet_grid::Grid;
 use fleet_history::Chapter;

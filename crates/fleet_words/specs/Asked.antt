@@ -10,8 +10,9 @@ use Rattle.fleet_words.specs.declared.view.Shown.TheVariants.{Page, Moving, Stil
 use Rattle.fleet_words.specs.declared.view.View.{View as ViewJob}
 use Rattle.fleet_words.specs.declared.check.Check.{Check as CheckJob}
 use Rattle.fleet_words.specs.declared.talk.Talk.{Talk as TalkJob}
-use Rattle.fleet_words.specs.declared.convert.Form.{Form}
 use Rattle.fleet_words.specs.declared.convert.Form.TheVariants.{Pibt2, Moves, Lorr}
+use Rattle.fleet_words.specs.declared.convert.Target.{Target}
+use Rattle.fleet_words.specs.declared.convert.Target.TheVariants as target
 use Rattle.fleet_words.specs.declared.convert.Convert.{Convert as ConvertJob}
 use Rattle.fleet_words.specs.declared.explain.Explain.{Explain as ExplainJob}
 use Rattle.fleet_words.specs.declared.live.Live.{Live as LiveJob}
@@ -49,23 +50,24 @@ pub record IsTalk (rows : List Row) (talk : TalkJob) : Type 0 where
   pub marks : talk.marks ≡ has_flag (codes "marks") rows
   pub roll : talk.roll ≡ has_flag (codes "roll") rows
 
--- the form of a name
-abbrev pub form_named : Text → Option Form
-form_named word =
-    if bytes_eq word (codes "pibt2") then Some Pibt2
-    else if bytes_eq word (codes "moves") then Some Moves
-    else if bytes_eq word (codes "lorr") then Some Lorr
+-- the target of a name: a plan in a form, or a trace
+abbrev pub target_named : Text → Option Target
+target_named word =
+    if bytes_eq word (codes "pibt2") then Some (target.Plan Pibt2)
+    else if bytes_eq word (codes "moves") then Some (target.Plan Moves)
+    else if bytes_eq word (codes "lorr") then Some (target.Plan Lorr)
+    else if bytes_eq word (codes "trace") then Some target.Trace
     else None
 
--- the form that the words after `convert` name
-abbrev pub form_in : List Row → Option Form
-form_in rows = option_and_then form_named (first_of (codes "to") rows)
+-- the target that the words after `convert` name
+abbrev pub target_in : List Row → Option Target
+target_in rows = option_and_then target_named (first_of (codes "to") rows)
 
 -- what the words after `convert` ask for
 pub record IsConvert (rows : List Row) (convert : ConvertJob) : Type 0 where
-  pub form : convert.form ≡ form_in rows
+  pub target : convert.target ≡ target_in rows
   pub floor : first_of (codes "MAP") rows ≡ Some (string_bytes convert.map)
-  pub trace : first_of (codes "TRACE") rows ≡ Some (string_bytes convert.trace)
+  pub input : first_of (codes "INPUT") rows ≡ Some (string_bytes convert.input)
 
 -- what the words after `explain` ask for
 pub record IsExplain (rows : List Row) (explain : ExplainJob) : Type 0 where
@@ -81,6 +83,8 @@ pub record IsLive (rows : List Row) (live : LiveJob) : Type 0 where
   pub period : first_of (codes "period") rows ≡ option_map (λ s. string_bytes s) live.period
   pub tickers : first_of (codes "tickers") rows ≡ option_map (λ s. string_bytes s) live.tickers
   pub traces : first_of (codes "traces") rows ≡ option_map (λ s. string_bytes s) live.traces
+  pub resume : live.resume ≡ has_flag (codes "resume") rows
+  pub keep_every : first_of (codes "keep-every") rows ≡ option_map (λ s. string_bytes s) live.keep_every
   pub metrics : first_of (codes "metrics") rows ≡ option_map (λ s. string_bytes s) live.metrics
   pub pipes : or_none (all_of (codes "client") rows) ≡ map (λ s. string_bytes s) live.pipes.items
   pub watch : live.watch ≡ has_flag (codes "watch") rows

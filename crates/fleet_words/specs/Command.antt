@@ -17,19 +17,20 @@ abbrev pub talk_app : App
 talk_app = with_rules (new_app (codes "talk"))
     (flag_rule (codes "marks") ∷ flag_rule (codes "roll") ∷ value_rule (codes "traces") ∷ flag_rule (codes "resume") ∷ file_rule (codes "MAP") ∷ new_rule (codes "SCRIPT") ∷ [])
 
--- convert --to FORM MAP TRACE
+-- convert --to FORM MAP INPUT
 abbrev pub convert_app : App
-convert_app = with_rules (new_app (codes "convert")) (required_value_rule (codes "to") ∷ file_rule (codes "MAP") ∷ file_rule (codes "TRACE") ∷ [])
+convert_app = with_rules (new_app (codes "convert")) (required_value_rule (codes "to") ∷ file_rule (codes "MAP") ∷ file_rule (codes "INPUT") ∷ [])
 
 -- explain MAP [INPUT]
 abbrev pub explain_app : App
 explain_app = with_rules (new_app (codes "explain")) (file_rule (codes "MAP") ∷ new_rule (codes "INPUT") ∷ [])
 
--- live [--robots CELLS] [--clients N] [--period TIME] [--tickers N] [--client IN,OUT].. [--watch] [--traces DIR] [--metrics FILE] MAP [SCRIPT]
+-- live [--robots CELLS] [--clients N] [--period TIME] [--tickers N] [--client IN,OUT].. [--watch] [--traces DIR] [--resume] [--keep-every TIME]
+-- [--metrics FILE] MAP [SCRIPT]
 abbrev pub live_app : App
 live_app = with_rules (new_app (codes "live"))
     (value_rule (codes "robots") ∷ value_rule (codes "clients") ∷ value_rule (codes "period") ∷ value_rule (codes "tickers") ∷ values_rule (codes "client")
-    ∷ flag_rule (codes "watch") ∷ value_rule (codes "traces") ∷ value_rule (codes "metrics") ∷ file_rule (codes "MAP") ∷ new_rule (codes "SCRIPT") ∷ [])
+    ∷ flag_rule (codes "watch") ∷ value_rule (codes "traces") ∷ flag_rule (codes "resume") ∷ value_rule (codes "keep-every") ∷ value_rule (codes "metrics") ∷ file_rule (codes "MAP") ∷ new_rule (codes "SCRIPT") ∷ [])
 
 -- stats [--json] [--csv TABLE] MAP TRACE..
 abbrev pub stats_app : App

@@ -2,7 +2,7 @@
 
 ghost use Rattle.std.specs.Prelude.{◌≡◌, IfOk};
 ghost use Rattle.clap.specs.Words.{found_of, rows_of};
-ghost use Rattle.fleet_words.specs.Asked.{IsConvert, form_in, form_named};
+ghost use Rattle.fleet_words.specs.Asked.{IsConvert, target_in, target_named};
 
 use crate::arguments::MAP;
 use clap::ArgMatches;
@@ -20,56 +20,68 @@ pub enum Form {
     Lorr,
 }
 
-/// To write a trace on a map as a plan.
+/// What a trace or a plan is turned into.
+#[derive(Clone, Copy, Debug, PartialEq, Eq)]
+pub enum Target {
+    /// A trace becomes a plan in this form.
+    Plan(Form),
+    /// A plan becomes a trace.
+    Trace,
+}
+
+/// To write a trace on a map as a plan, or a plan as a trace.
 #[derive(Debug, Drop)]
 pub struct Convert {
     /// `None` if the word is not the name of a form.
-    pub form: Option<Form>,
+    pub target: Option<Target>,
     pub map: String,
-    pub trace: String,
+    /// The trace or the plan.
+    pub input: String,
 }
 
-/// `convert --to FORM MAP TRACE`.
+/// `convert --to FORM MAP INPUT`.
 pub(crate) const CONVERT: Word<'static> = Word {
     name: "convert",
-    about: "Prints the placements of a trace as a plan that the tools of other planners read",
+    about: "Prints a trace as a plan that the tools of other planners read, or a plan as a trace",
     example: "Example: fleet convert --to pibt2 ring.map two_robots.trace > plan.txt",
     arguments: &[
         Argument {
             name: "to",
             kind: Kind::RequiredValue("FORM"),
-            help: "The form of the plan: pibt2 (lines of cells), moves (lines of move letters), or lorr (the JSON of the League of Robot Runners)",
+            help: "The form of the plan: pibt2 (lines of cells), moves (lines of move letters), or lorr (the JSON of the League of Robot Runners); or trace, if a plan is to become a trace",
         },
         MAP,
         Argument {
-            name: "TRACE",
+            name: "INPUT",
             kind: Kind::File,
-            help: "What `errands run --trace` or `errands serve` wrote",
+            help: "What `errands run --trace` or `errands serve` wrote; with `--to trace`, a plan",
         },
     ],
 };
 
-/// The form with a given name.
-fn form_named(name: &str) -> Option<Form>
-    ensures { result ≡ form_named name.now }
+/// The target with a given name.
+fn target_named(name: &str) -> Option<Target>
+    ensures { result ≡ target_named name.now }
 {
     if name == "pibt2" {
-        Some(Form::Pibt2)
+        Some(Target::Plan(Form::Pibt2))
     } else if name == "moves" {
-        Some(Form::Moves)
+        Some(Target::Plan(Form::Moves))
     } else if name == "lorr" {
-        Some(Form::Lorr)
+        Some(Target::Plan(Form::Lorr))
+    } else if name == "trace" {
+        Some(Target::Trace)
     } else {
         None
     }
 }
 
-/// The form that the words name.
-fn form_in(matches: &ArgMatches<'_>) -> Option<Form>
-    ensures { result ≡ form_in (rows_of (found_of matches.now)) }
+/// The target that the words name.
+fn target_in(matches: &ArgMatches<'_>) -> Option<Target>
+    ensures { result ≡ target_in (rows_of (found_of matches.now)) }
 {
     match matches.get_str("to") {
-        Some(word) => form_named(word),
+        Some(word) => target_named(word),
         None => None,
     }
 }
@@ -78,8 +90,8 @@ fn form_in(matches: &ArgMatches<'_>) -> Option<Form>
 pub(crate) fn convert_in(alloc: Global, matches: &ArgMatches<'_>) -> Result<Convert, AllocError>
     ensures { IfOk result (λ convert. IsConvert (rows_of (found_of matches.now)) convert) }
 {
-    let form = form_in(matches);
+    let target = target_in(matches);
     let map = word_for(alloc, matches, "MAP")?;
-    let trace = word_for(alloc, matches, "TRACE")?;
-    Ok(Convert { form, map, trace })
+    let input = word_for(alloc, matches, "INPUT")?;
+    Ok(Convert { target, map, input })
 }

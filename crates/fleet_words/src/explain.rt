@@ -9,25 +9,25 @@ use clap::ArgMatches;
 use command_words::{Argument, Kind, Word, some_word_for, word_for};
 use std::alloc::{AllocError, Global};
 
-/// To say what is wrong with a map, or with a script or a trace on it.
+/// To say what is wrong with a map, or with a script, a trace or a plan on it.
 #[derive(Debug, Drop)]
 pub struct Explain {
     pub map: String,
-    /// A script or a trace, if one is named.
+    /// A script, a trace or a plan, if one is named.
     pub other: Option<String>,
 }
 
 /// `explain MAP [INPUT]`.
 pub(crate) const EXPLAIN: Word<'static> = Word {
     name: "explain",
-    about: "Says in a sentence what is wrong with a map, or with a script or a trace on it",
+    about: "Says in a sentence what is wrong with a map, or with a script, a trace or a plan on it",
     example: "Example: fleet explain ring.map two_robots.script",
     arguments: &[
         MAP,
         Argument {
             name: "INPUT",
             kind: Kind::OptionalFile,
-            help: "A script, or a trace",
+            help: "A script, a trace, or a plan",
         },
     ],
 };

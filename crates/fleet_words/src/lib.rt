@@ -15,7 +15,7 @@ mod words;
 
 pub use check::Check;
 pub use command_words::WordFault;
-pub use convert::{Convert, Form};
+pub use convert::{Convert, Form, Target};
 pub use explain::Explain;
 pub use live::Live;
 pub use stats::{Figures, Stats};

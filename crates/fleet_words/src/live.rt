@@ -4,7 +4,7 @@ ghost use Rattle.std.specs.Prelude.{◌≡◌, IfOk};
 ghost use Rattle.clap.specs.Words.{found_of, rows_of};
 ghost use Rattle.fleet_words.specs.Asked.{IsLive};
 
-use crate::arguments::{MAP, SCRIPT, TRACES};
+use crate::arguments::{MAP, RESUME, SCRIPT, TRACES};
 use clap::ArgMatches;
 use command_words::{Argument, Kind, Word, has_flag, some_word_for, some_words_for, word_for};
 use std::alloc::{AllocError, Global};
@@ -25,6 +25,10 @@ pub struct Live {
     pub tickers: Option<String>,
     /// The folder for the traces of chapters.
     pub traces: Option<String>,
+    /// Whether the fleet goes on from the last chapter in the folder.
+    pub resume: bool,
+    /// How often a chapter is kept at least.
+    pub keep_every: Option<String>,
     /// The file for figures.
     pub metrics: Option<String>,
     /// The pipes of clients 0, 1, ..: the pipe from which their lines come, a comma, and the pipe for what is printed
@@ -35,7 +39,7 @@ pub struct Live {
 }
 
 /// `live [--robots CELLS] [--clients N] [--period TIME] [--tickers N] [--client IN,OUT].. [--watch] [--traces DIR]
-/// [--metrics FILE] MAP [SCRIPT]`.
+/// [--resume] [--keep-every TIME] [--metrics FILE] MAP [SCRIPT]`.
 pub(crate) const LIVE: Word<'static> = Word {
     name: "live",
     about: "Keeps a fleet in real time for clients that post errands and are told what became of them",
@@ -72,6 +76,12 @@ pub(crate) const LIVE: Word<'static> = Word {
             help: "Say where the robots stand after each tick",
         },
         TRACES,
+        RESUME,
+        Argument {
+            name: "keep-every",
+            kind: Kind::Value("TIME"),
+            help: "Write a chapter at least so often, as 10s",
+        },
         Argument {
             name: "metrics",
             kind: Kind::Value("FILE"),
@@ -93,6 +103,7 @@ pub(crate) fn live_in(alloc: Global, matches: &ArgMatches<'_>) -> Result<Live, A
     let period = some_word_for(alloc, matches, "period")?;
     let tickers = some_word_for(alloc, matches, "tickers")?;
     let traces = some_word_for(alloc, matches, "traces")?;
+    let keep_every = some_word_for(alloc, matches, "keep-every")?;
     let metrics = some_word_for(alloc, matches, "metrics")?;
     let pipes = some_words_for(alloc, matches, "client")?;
     Ok(Live {
@@ -103,6 +114,8 @@ pub(crate) fn live_in(alloc: Global, matches: &ArgMatches<'_>) -> Result<Live, A
         period,
         tickers,
         traces,
+        resume: has_flag(matches, "resume"),
+        keep_every,
         metrics,
         pipes,
         watch: has_flag(matches, "watch"),

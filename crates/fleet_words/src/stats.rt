@@ -54,7 +54,7 @@ pub(crate) const STATS: Word<'static> = Word {
         Argument {
             name: "TRACE",
             kind: Kind::Files,
-            help: "What `errands run --trace` or `errands serve` wrote; several are chapters that follow one another",
+            help: "What `errands run --trace` or `errands serve` wrote; several are chapters that follow one another; or a plan",
         },
     ],
 };

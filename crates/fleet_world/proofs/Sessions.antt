@@ -56,7 +56,7 @@ module _ {A : Type 0} (s : State A) (f : IsFresh s) where
   found : (c : ℕ) → c < clients s.world.history → waiting (forget s) c ≡ forget_lists (lists s c)
   found c l = get_or-map forget_lists s.clients c no_lists none_waiting (omega (arith, f.rings.list_count))
 
-  -- so many orders of a client were taken, and sent
+  -- how many orders of a client were taken, and sent
   taken_is : (c : ℕ) → c < clients s.world.history → taken_count s.world.history c ≡ length (lists s c).taken
   taken_is c l = omega (arith, taken-length s.world.floor s.world.history c f.legal, f.unknown c l, ap length (f.rings.each c l).taken)
 

@@ -63,7 +63,11 @@ with_waiting w s c l = record { world = w; clients = slice_set s.clients c l }
 abbrev pub opened_talk : {A : Type 0} → Floor → List ℕ → ℕ → Limits → HookLaws → Talk A
 opened_talk m starts n limits laws = record { world = opened_world m starts n limits laws; clients = replicate n none_waiting }
 
--- the same in the world's next chapter
+-- a world whose clients did nothing yet
+abbrev pub quiet_talk : {A : Type 0} → World A → Talk A
+quiet_talk w = talk_of w (replicate (clients w.history) none_waiting)
+
+-- a talk in its world's next chapter
 abbrev pub next_talk : {A : Type 0} → Talk A → Talk A
 next_talk s = record { world = next_world s.world; clients = s.clients }
 

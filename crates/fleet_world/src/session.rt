@@ -11,7 +11,7 @@ ghost use Rattle.fleet_core.specs.Core.{opened_world, next_world};
 ghost use Rattle.fleet_core.specs.Hooks.{laws_of, AreOrderly};
 ghost use Rattle.fleet_core.specs.Opening.{CanOpen};
 ghost use Rattle.fleet_core.specs.OpeningFaults.{IsRefused, IsNamed};
-ghost use Rattle.fleet_world.specs.Talk.{none_waiting, talk_of, opened_talk, next_talk};
+ghost use Rattle.fleet_world.specs.Talk.{none_waiting, talk_of, opened_talk, quiet_talk, next_talk};
 
 use crate::waiting::Waiting;
 use fleet_book::Limits;
@@ -56,6 +56,24 @@ impl<A: Allocator + Copy> Session<A> {
             Err(AllocError) => {
                 let_go(world);
                 Err(OpenFault::NoMemory)
+            }
+        }
+    }
+
+    /// A session over a world that is there already, as one that goes on from a chapter that was kept. Nothing waits of its
+    /// clients.
+    ///
+    /// Refused out of memory alone; the world is let go then.
+    pub fn over(alloc: A, world: World<A>) -> Result<Session<A>, AllocError>
+        // Of each call: the checker lets closures come from another crate only in a call with a `requires`.
+        requires { 0 ≤ world.core.number }
+        ensures { IfOk result (λ s. talk_of s.world.core s.waiting.items ≡ quiet_talk world.core) }
+    {
+        match nothing_waits(alloc, world.clients()) {
+            Ok(waiting) => Ok(Session { world, waiting }),
+            Err(AllocError) => {
+                let_go(world);
+                Err(AllocError)
             }
         }
     }

@@ -8,7 +8,7 @@
 //! - `== streams`: whether the program ends as it should where each read and each write fails in turn.
 //! - `== twoways`: whether two ways of judging traces come to one answer, on seeded worlds and damaged traces. It has
 //!   no rows.
-//! - `== talk`: what is said in conversations as `fleet talk` holds them, also by readers, writers and shelves that
+//! - `== talk`: what is said in conversations as `fleet talk` holds them, also by readers, writers and sinks that
 //!   fail.
 //! - `== live`: what is said in the first conversation of fleets on demand, as `fleet live` keeps them, and what was
 //!   kept of them.

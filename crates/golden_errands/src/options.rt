@@ -1,5 +1,6 @@
 //! Options of a conversation's test case: lines `+ OPTION` before the lines of the conversation.
 
+use fleet_lib::KeptText;
 use std::alloc::{AllocError, Global};
 use test_kit::{Block, cut_line};
 
@@ -68,18 +69,41 @@ impl<'a> Conversation<'a> {
         None
     }
 
-    /// The file of header lines that its options `+ script LINE` have.
-    pub(crate) fn script(self, alloc: Global) -> Result<Vec<u8>, AllocError> {
-        let mut script = Vec::new(alloc);
+    /// The file of the chapter that the fleet goes on from, by an option `+ kept N TEXT` with one digit N.
+    pub(crate) fn kept(self) -> Option<KeptText<'a>> {
+        let (digit, told) = self.after(b"+ kept ")?.split_first()?;
+        Some(KeptText {
+            name: "kept.json",
+            number: u32::from(digit.saturating_sub(b'0')),
+            text: told.strip_prefix(b" ").unwrap_or(told),
+        })
+    }
+
+    /// The number of the first chapter that is kept.
+    pub(crate) fn first_chapter(self) -> u64 {
+        match self.kept() {
+            Some(text) => u64::from(text.number) + 1,
+            None => 0,
+        }
+    }
+
+    /// The lines that its options `START LINE` have, each with its line feed.
+    pub(crate) fn lines_after(self, alloc: Global, start: &[u8]) -> Result<Vec<u8>, AllocError> {
+        let mut lines = Vec::new(alloc);
         let mut rest = self.options;
         for _line in 0..self.options.len() {
             let (line, after) = cut_line(rest);
-            if let Some(told) = line.strip_prefix(b"+ script") {
-                script.extend_from_slice(told.strip_prefix(b" ").unwrap_or(told))?;
-                script.push(b'\n')?;
+            if let Some(told) = line.strip_prefix(start) {
+                lines.extend_from_slice(told.strip_prefix(b" ").unwrap_or(told))?;
+                lines.push(b'\n')?;
             }
             rest = after;
         }
-        Ok(script)
+        Ok(lines)
+    }
+
+    /// The file of header lines that its options `+ script LINE` have.
+    pub(crate) fn script(self, alloc: Global) -> Result<Vec<u8>, AllocError> {
+        self.lines_after(alloc, b"+ script")
     }
 }

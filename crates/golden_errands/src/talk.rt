@@ -4,7 +4,7 @@
 //! A case begins with a line `case: NAME`. Lines that begin with `+ ` follow: `+ marks` and `+ roll` are the
 //! settings, `+ script LINE` is a line of the file of header lines, `+ kept N TEXT` the chapter from which the fleet goes
 //! on, by a file for chapter N, `+ map NAME` another map, `+ cut` takes the last line feed away, and `+ trials` asks for
-//! the trials of readers, writers and shelves that fail. The other lines are those of the conversation.
+//! the trials of readers, writers and sinks that fail. The other lines are those of the conversation.
 
 mod case;
 mod hold;

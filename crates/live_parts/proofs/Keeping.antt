@@ -4,7 +4,7 @@ use Rattle.std.specs.Prelude.{slice_index_or}
 use Rattle.std.specs.List.{AllByRecursion}
 use Rattle.std.proofs.lemmas.List.{append-nil}
 use Rattle.fleet_talk.specs.Chapters.{Adds, ChapterView}
-use Rattle.fleet_talk.proofs.Shelving.{adds-then}
+use Rattle.fleet_talk.proofs.Keeping.{adds-then}
 use Rattle.live_parts.specs.Kept.{KeepsFirst}
 
 pub first-is : {X : Type 0} (xs : List X) (x : X) → 0 < length xs → x ≡ slice_index_or xs 0 x → xs ≡ x ∷ drop 1 xs

@@ -19,7 +19,7 @@ where_granted granted asked = if granted then asked else demand.Bad
 abbrev pub event_asked : Rights → Event → ℕ → Demand
 event_asked rights (Post client order) times = demand.Post client order
 event_asked rights Tick times = where_granted rights.ticks (demand.Ask (wanted.Tick times))
-event_asked rights (Shut robot) times = where_granted rights.rules (demand.Ask (wanted.Shut robot))
+event_asked rights (Shut robot) times = where_granted rights.is_operator (demand.Ask (wanted.Shut robot))
 event_asked rights event times = demand.Bad
 
 -- `watch on` and `watch off`
@@ -36,7 +36,7 @@ demand_of rights asked.Nothing told = demand.Nothing
 demand_of rights (asked.Events more) told = event_asked rights more.event more.times
 demand_of rights asked.Look told = demand.Ask wanted.Look
 demand_of rights (asked.Open client) told = demand.Open client
-demand_of rights asked.Chapter told = where_granted rights.rules (demand.Ask wanted.Chapter)
-demand_of rights asked.Quit told = where_granted rights.rules demand.Quit
-demand_of rights asked.Other told = where_granted rights.rules (watch_asked (words_of told))
+demand_of rights asked.Chapter told = where_granted rights.is_operator (demand.Ask wanted.Chapter)
+demand_of rights asked.Quit told = where_granted rights.is_operator demand.Quit
+demand_of rights asked.Other told = where_granted rights.is_operator (watch_asked (words_of told))
 demand_of rights asked.Long told = demand.Bad

@@ -57,7 +57,7 @@ limit_text (Some most) = gauge (codes "fleet_wait_limit_ticks") (codes "A number
 abbrev pub gauges_text : Figures → List ℕ
 gauges_text f =
     gauge (codes "fleet_turn_latest_microseconds") (codes "How long after its deadline a turn began at most.") f.tally.latest
-    ++ gauge (codes "fleet_errands_open") (codes "Errands by a verdict that was told, without an arrival that was told.") (open_count f.notices)
+    ++ gauge (codes "fleet_errands_open") (codes "Errands by a verdict that was told, without an arrival that was told.") (open_count f.before f.notices)
     ++ gauge (codes "fleet_queued_errands") (codes "Errands in the robots' queues.") f.queues.total
     ++ gauge (codes "fleet_queue_longest") (codes "Errands in the longest queue.") f.queues.longest
     ++ gauge (codes "fleet_wait_ticks") (codes "How long the robot has waited that has waited longest; 0 if none has an errand.") (unwrap_or f.waits.longest 0)

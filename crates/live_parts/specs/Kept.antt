@@ -1,4 +1,4 @@
--- The chapters of a fleet in real time, as a shelf keeps them.
+-- The chapters of a fleet in real time, as a sink keeps them.
 use Rattle.std.specs.Prelude.{◌≡◌, List, ◌++◌, Option}
 use Rattle.std.specs.List.{AllByRecursion}
 use Rattle.fleet_grid.specs.Floor.{Floor}

@@ -3,7 +3,8 @@ pub mod Demand
 pub mod Figures
 pub mod Kept
 pub mod Notices
-pub mod Page
+pub mod Onward
+pub mod Outbox
 pub mod Period
 pub mod Posted
 pub mod Said

@@ -26,13 +26,13 @@ kind verdict.TooLate = 12
 abbrev pub told_count : Notices → Verdict → ℕ
 told_count n v = slice_index n.verdicts (kind v)
 
--- how many errands were accepted and neither withdrawn nor done, by what was told
-abbrev pub open_count : Notices → ℕ
-open_count n = told_count n (verdict.Accepted 0) - told_count n verdict.Withdrawn - n.arrived
-
 -- a sum that stops at the greatest number of 64 bits
 abbrev pub capped : ℕ → ℕ → ℕ
 capped a b = min (a + b) (2 ^ 64 - 1)
+
+-- how many errands are open, by what was told, where this many were open before: those that were accepted and neither withdrawn nor done
+abbrev pub open_count : ℕ → Notices → ℕ
+open_count before n = capped before (told_count n (verdict.Accepted 0)) - told_count n verdict.Withdrawn - n.arrived
 
 -- with one more notice
 abbrev pub counted : Notices → Notice → Notices

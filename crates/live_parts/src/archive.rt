@@ -1,4 +1,4 @@
-//! The shelf of a fleet's chapters, and the chapters that wait for it.
+//! The sink of a fleet's chapters, and the chapters that wait for it.
 
 ghost use Rattle.std.specs.Prelude.{◌≡◌, ◌∷◌, ◌++◌, [], Ok, true, OnOk};
 ghost use Rattle.fleet_grid.specs.Floor.{Floor};
@@ -9,26 +9,26 @@ ghost use Rattle.live_parts.specs.Kept.{KeepsFirst};
 use crate::stop::Stop;
 use crate::unkept::Unkept;
 use fleet_history::Chapter;
-use fleet_talk::Shelf;
+use fleet_talk::ChapterSink;
 use std::alloc::{AllocError, Global};
 
 /// With this many chapters that wait, the fleet stops.
 const MOST_WAITING: usize = 16;
 
-/// A shelf, and the chapters that wait for it, in order. No chapter is kept before those that wait.
+/// A sink, and the chapters that wait for it, in order. No chapter is kept before those that wait.
 #[derive(Drop)]
 pub struct Archive<S> {
-    pub shelf: S,
+    pub sink: S,
     pub waiting: Unkept,
 }
 
-impl<S: Shelf> Archive<S> {
-    pub fn new(alloc: Global, shelf: S) -> Archive<S>
-        ensures shelf { result.shelf ≡ shelf }
+impl<S: ChapterSink> Archive<S> {
+    pub fn new(alloc: Global, sink: S) -> Archive<S>
+        ensures sink { result.sink ≡ sink }
         ensures waiting { result.waiting ≡ [] }
     {
         Archive {
-            shelf,
+            sink,
             waiting: Unkept::new(alloc),
         }
     }
@@ -36,12 +36,12 @@ impl<S: Shelf> Archive<S> {
     /// Keeps the chapters that wait, in order, until one cannot be kept. Returns whether all were kept; with 16 or more
     /// that still wait the error is that a chapter could not be kept.
     pub fn keep(&mut self) -> Result<bool, Stop>
-        ensures kept { KeepsFirst self.old.waiting self.new.waiting (S.kept self.old.shelf) (S.kept self.new.shelf) }
+        ensures kept { KeepsFirst self.old.waiting self.new.waiting (S.kept self.old.sink) (S.kept self.new.sink) }
         ensures all { (result ≡ Ok true) → self.new.waiting ≡ [] }
     {
-        match self.waiting.keep_on(&mut self.shelf) {
+        match self.waiting.keep_on(&mut self.sink) {
             Ok(()) => Ok(true),
-            Err(Stop::Shelf) if self.waiting.len() < MOST_WAITING => Ok(false),
+            Err(Stop::Sink) if self.waiting.len() < MOST_WAITING => Ok(false),
             Err(stop) => Err(stop),
         }
     }
@@ -49,9 +49,9 @@ impl<S: Shelf> Archive<S> {
     /// Keeps the last chapter, after those that wait.
     pub fn keep_last(&mut self, chapter: &Chapter) -> Result<(), Stop>
         requires sound { (m : Floor) × IsSound m (history_of chapter.now) }
-        ensures kept { OnOk result (Adds (S.kept self.old.shelf) (S.kept self.new.shelf) (self.old.waiting ++ chapter_shown chapter.now ∷ [])) }
+        ensures kept { OnOk result (Adds (S.kept self.old.sink) (S.kept self.new.sink) (self.old.waiting ++ chapter_shown chapter.now ∷ [])) }
     {
-        self.waiting.keep_on(&mut self.shelf)?;
-        Ok(self.shelf.keep(chapter)?)
+        self.waiting.keep_on(&mut self.sink)?;
+        Ok(self.sink.keep(chapter)?)
     }
 }

@@ -40,7 +40,7 @@ pub enum Demand {
 #[derive(Clone, Copy, Debug, PartialEq, Eq)]
 pub struct Rights {
     /// Whether it shuts robots, hands out chapters, watches, and ends the fleet.
-    pub rules: bool,
+    pub is_operator: bool,
     /// Whether it makes ticks.
     pub ticks: bool,
 }
@@ -59,7 +59,7 @@ fn event_asked(rights: Rights, event: Event, times: u32) -> Demand
     match event {
         Event::Post(client, order) => Demand::Post(client, order),
         Event::Tick => where_granted(rights.ticks, Demand::Ask(Wanted::Tick(times))),
-        Event::Shut(robot) => where_granted(rights.rules, Demand::Ask(Wanted::Shut(robot))),
+        Event::Shut(robot) => where_granted(rights.is_operator, Demand::Ask(Wanted::Shut(robot))),
         Event::Take(_) | Event::Give(_) | Event::Collect(_) => Demand::Bad,
     }
 }
@@ -99,9 +99,9 @@ pub fn demand_of(rights: Rights, line: Line<'_>) -> Demand
         Asked::Events(more) => event_asked(rights, more.event, more.times),
         Asked::Look => Demand::Ask(Wanted::Look),
         Asked::Open(client) => Demand::Open(client),
-        Asked::Chapter => where_granted(rights.rules, Demand::Ask(Wanted::Chapter)),
-        Asked::Quit => where_granted(rights.rules, Demand::Quit),
-        Asked::Other => where_granted(rights.rules, watch_asked(line.told)),
+        Asked::Chapter => where_granted(rights.is_operator, Demand::Ask(Wanted::Chapter)),
+        Asked::Quit => where_granted(rights.is_operator, Demand::Quit),
+        Asked::Other => where_granted(rights.is_operator, watch_asked(line.told)),
         Asked::Long => Demand::Bad,
     }
 }

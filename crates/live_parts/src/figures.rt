@@ -37,6 +37,8 @@ pub struct Figures {
     pub notices: Notices,
     pub waits: WaitReport,
     pub queues: QueueReport,
+    /// How many errands were open at the start.
+    pub before: u64,
     /// How many chapters were kept.
     pub kept: u64,
     /// How many chapters wait to be kept.
@@ -162,7 +164,7 @@ impl Figures {
             text,
             "fleet_errands_open",
             "Errands by a verdict that was told, without an arrival that was told.",
-            self.notices.open(),
+            self.notices.open(self.before),
         )?;
         add_gauge(
             text,

@@ -74,11 +74,13 @@ impl Notices {
         self.verdicts[place_of(verdict)]
     }
 
-    /// How many errands were accepted and neither withdrawn nor done, by the notices that were told.
-    pub(crate) fn open(&self) -> u64
-        ensures { result ≡ open_count self.now }
+    /// How many errands are open, by the notices that were told, where this many were open before: those that were accepted and
+    /// neither withdrawn nor done.
+    pub(crate) fn open(&self, before: u64) -> u64
+        ensures { result ≡ open_count before self.now }
     {
-        self.verdicts[0]
+        before
+            .saturating_add(self.verdicts[0])
             .saturating_sub(self.verdicts[2])
             .saturating_sub(self.arrived)
     }

@@ -1,6 +1,6 @@
 //! Why a fleet stops.
 
-use fleet_talk::ShelfFault;
+use fleet_talk::SinkFault;
 use std::alloc::AllocError;
 
 /// Why the fleet stops.
@@ -13,7 +13,7 @@ pub enum Stop {
     /// The reader of the first conversation's output went away.
     Output,
     /// A chapter could not be kept.
-    Shelf,
+    Sink,
     /// No tick can follow.
     Limit,
     NoMemory,
@@ -25,11 +25,11 @@ impl From<AllocError> for Stop {
     }
 }
 
-impl From<ShelfFault> for Stop {
-    fn from(fault: ShelfFault) -> Stop {
+impl From<SinkFault> for Stop {
+    fn from(fault: SinkFault) -> Stop {
         match fault {
-            ShelfFault::File => Stop::Shelf,
-            ShelfFault::NoMemory => Stop::NoMemory,
+            SinkFault::File => Stop::Sink,
+            SinkFault::NoMemory => Stop::NoMemory,
         }
     }
 }

@@ -2,10 +2,10 @@
 
 ghost use Rattle.std.specs.Prelude.{◌≡◌, ◌≤◌, ◌+◌, ◌==◌, [], Ok, None, true, false, length, OnOk, IfNone, IfSome};
 ghost use Rattle.std.specs.List.{position};
-ghost use Rattle.live_parts.specs.Page.{AreTold, FindNothing, IsTold};
+ghost use Rattle.live_parts.specs.Outbox.{AreTold, FindNothing, IsTold};
 ghost use Rattle.live_parts.specs.Posted.{PostsOne};
 
-use crate::page::Page;
+use crate::outbox::Outbox;
 use crate::said::notice_text;
 use fleet_book::Order;
 use fleet_lanes::PostFault;
@@ -39,17 +39,17 @@ pub fn post_in<N: OfficeName<Global>>(
 fn tell_next<N: OfficeName<Global>>(
     alloc: Global,
     guest: &mut Guest<N>,
-    page: &mut Page,
+    outbox: &mut Outbox,
 ) -> Result<bool, AllocError>
-    ensures told { OnOk result (IsTold guest.old guest.new page.old page.new) }
-    ensures one { (result ≡ Ok true) → length page.old.text.items + 1 ≤ length page.new.text.items }
+    ensures told { OnOk result (IsTold guest.old guest.new outbox.old outbox.new) }
+    ensures one { (result ≡ Ok true) → length outbox.old.text.items + 1 ≤ length outbox.new.text.items }
     ensures all { (result ≡ Ok false) → guest.new.known ≡ [] }
 {
     match guest.collect() {
         Some(notice) => {
             let text = notice_text(alloc, guest.number(), notice)?;
-            page.say(None, text.as_str())?;
-            page.notices.count(notice);
+            outbox.say(None, text.as_str())?;
+            outbox.notices.count(notice);
             Ok(true)
         }
         None => Ok(false),
@@ -60,17 +60,17 @@ fn tell_next<N: OfficeName<Global>>(
 fn tell<N: OfficeName<Global>>(
     alloc: Global,
     guest: &mut Guest<N>,
-    page: &mut Page,
+    outbox: &mut Outbox,
 ) -> Result<bool, AllocError>
-    ensures told { OnOk result (IsTold guest.old guest.new page.old page.new) }
+    ensures told { OnOk result (IsTold guest.old guest.new outbox.old outbox.new) }
     ensures all { (result ≡ Ok true) → guest.new.known ≡ [] }
-    ensures full { (result ≡ Ok false) → 65536 ≤ length page.new.text.items }
+    ensures full { (result ≡ Ok false) → 65536 ≤ length outbox.new.text.items }
 {
     for _ in 0..HANDFUL {
-        if page.is_full() {
+        if outbox.is_full() {
             return Ok(false);
         }
-        if !tell_next(alloc, guest, page)? {
+        if !tell_next(alloc, guest, outbox)? {
             return Ok(true);
         }
     }
@@ -81,17 +81,17 @@ fn tell<N: OfficeName<Global>>(
 pub fn tell_each<N: OfficeName<Global>>(
     alloc: Global,
     guests: &mut [Guest<N>],
-    page: &mut Page,
+    outbox: &mut Outbox,
 ) -> Result<bool, AllocError>
-    ensures told { OnOk result (AreTold guests.old guests.new page.old page.new) }
+    ensures told { OnOk result (AreTold guests.old guests.new outbox.old outbox.new) }
     ensures all { (result ≡ Ok true) → FindNothing guests.new }
-    ensures full { (result ≡ Ok false) → 65536 ≤ length page.new.text.items }
+    ensures full { (result ≡ Ok false) → 65536 ≤ length outbox.new.text.items }
 {
     let Some((first, rest)) = guests.split_first_mut() else {
         return Ok(true);
     };
-    if !tell(alloc, first, page)? {
+    if !tell(alloc, first, outbox)? {
         return Ok(false);
     }
-    tell_each(alloc, rest, page)
+    tell_each(alloc, rest, outbox)
 }

@@ -9,7 +9,7 @@ ghost use Rattle.live_parts.specs.Kept.{AreSound, KeepsFirst};
 
 use crate::stop::Stop;
 use fleet_history::Chapter;
-use fleet_talk::{Shelf, ShelfFault};
+use fleet_talk::{ChapterSink, SinkFault};
 use std::alloc::{AllocError, Global};
 use std::collections::VecDeque;
 use std::marker::Model;
@@ -35,17 +35,17 @@ impl Model for Unkept {
 }
 
 /// Keeps chapters from the front on, and removes each that was kept.
-fn keep_from_front<S: Shelf>(
-    shelf: &mut S,
+fn keep_from_front<S: ChapterSink>(
+    sink: &mut S,
     chapters: &mut VecDeque<Chapter>,
-) -> Result<(), ShelfFault>
+) -> Result<(), SinkFault>
     requires sound { AreSound (map chapter_shown chapters.old.items) }
-    ensures kept { KeepsFirst (map chapter_shown chapters.old.items) (map chapter_shown chapters.new.items) (S.kept shelf.old) (S.kept shelf.new) }
+    ensures kept { KeepsFirst (map chapter_shown chapters.old.items) (map chapter_shown chapters.new.items) (S.kept sink.old) (S.kept sink.new) }
     ensures sound { AreSound (map chapter_shown chapters.new.items) }
     ensures none { OnOk result (chapters.new.items ≡ []) }
 {
     while let Some(chapter) = chapters.front() {
-        shelf.keep(chapter)?;
+        sink.keep(chapter)?;
         mem::drop(chapters.pop_front());
     }
     Ok(())
@@ -107,11 +107,11 @@ impl Unkept {
         self.chapters.append(&mut others.chapters)
     }
 
-    /// Keeps them on a shelf, in order. Each that was kept is removed: after a fault the others are left.
-    pub fn keep_on<S: Shelf>(&mut self, shelf: &mut S) -> Result<(), Stop>
-        ensures kept { KeepsFirst self.old self.new (S.kept shelf.old) (S.kept shelf.new) }
+    /// Keeps them on a sink, in order. Each that was kept is removed: after a fault the others are left.
+    pub fn keep_on<S: ChapterSink>(&mut self, sink: &mut S) -> Result<(), Stop>
+        ensures kept { KeepsFirst self.old self.new (S.kept sink.old) (S.kept sink.new) }
         ensures none { OnOk result (self.new ≡ []) }
     {
-        Ok(keep_from_front(shelf, &mut self.chapters)?)
+        Ok(keep_from_front(sink, &mut self.chapters)?)
     }
 }

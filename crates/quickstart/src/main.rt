@@ -22,7 +22,7 @@ const MAP: &[u8] = b"type octile\nheight 2\nwidth 3\nmap\n...\n...\n";
 
 /// Begins the next chapter of the history if this one is full. A program that keeps its history stores the old chapter
 /// here.
-fn turn_page(world: &mut World) -> Result<()>
+fn begin_next_if_full(world: &mut World) -> Result<()>
     requires { 0 < clients world.old.core.history }
     ensures { OnOk result (0 < clients world.new.core.history) }
 {
@@ -50,7 +50,7 @@ fn play<R: Alloc<A = Global> + Print>(rt: &R, world: &mut World) -> Result<()>
         }
         let report = world.tick(rt)?;
         println!(rt; "tick {}: {:?}", report.tick, world.placement())?;
-        turn_page(world)?;
+        begin_next_if_full(world)?;
     }
     for _ in 0..world.pending_count(0) {
         if let Some(notice) = world.give(0) {

@@ -8,9 +8,9 @@ ghost use Rattle.fleet_planner.specs.Aims.{AreOn};
 
 use crate::floor::grid_of;
 use allowed::are_allowed;
-use fleet_field::Shelf;
+use fleet_field::FieldCache;
 use fleet_grid::Grid;
-use fleet_pibt::{Goals, Guide};
+use fleet_pibt::Goals;
 use fleet_planner::{Aims, GoalChange};
 use std::alloc::{AllocError, Allocator, Global};
 use std::process::Abort;
@@ -39,39 +39,39 @@ fn both(first: Option<u32>, second: Option<u32>) -> [GoalChange; 2] {
 fn aim_at_corner<A: Allocator + Copy>(
     rt: &impl Abort,
     aims: &mut Aims<A>,
-    shelf: &mut Shelf<A>,
+    cache: &mut FieldCache<A>,
     grid: &Grid,
     robot: u32,
 ) -> Result<(), AllocError>
     requires known { robot < 2 }
     requires robots { length aims.old ≡ 2 }
     requires on { AreOn grid.now aims.old }
-    requires keeps { Keeps grid.now shelf.old }
+    requires keeps { Keeps grid.now cache.old }
     ensures robots { length aims.new ≡ 2 }
     ensures on { AreOn grid.now aims.new }
-    ensures keeps { Keeps grid.now shelf.new }
+    ensures keeps { Keeps grid.now cache.new }
 {
     assert!(rt; grid.is_floor(8));
-    aims.aim(shelf, grid, robot, 8)
+    aims.aim(cache, grid, robot, 8)
 }
 
 /// Gives two robots new goals.
 fn turn_both<A: Allocator + Copy>(
     rt: &impl Abort,
     aims: &mut Aims<A>,
-    shelf: &mut Shelf<A>,
+    cache: &mut FieldCache<A>,
     grid: &Grid,
     turns: &[GoalChange; 2],
 ) -> Result<(), AllocError>
     requires robots { length aims.old ≡ 2 }
     requires on { AreOn grid.now aims.old }
-    requires keeps { Keeps grid.now shelf.old }
+    requires keeps { Keeps grid.now cache.old }
     ensures robots { length aims.new ≡ 2 }
     ensures on { AreOn grid.now aims.new }
-    ensures keeps { Keeps grid.now shelf.new }
+    ensures keeps { Keeps grid.now cache.new }
 {
     assert!(rt; are_allowed(grid, 2, turns));
-    aims.turn(shelf, grid, turns)
+    aims.turn(cache, grid, turns)
 }
 
 /// Whether the two robots have these goals.
@@ -110,26 +110,26 @@ fn check_aimed<A: Allocator + Copy>(rt: &impl Abort, aims: &Aims<A>, grid: &Grid
 fn aim_and_turn<A: Allocator + Copy>(
     rt: &impl Abort,
     aims: &mut Aims<A>,
-    shelf: &mut Shelf<A>,
+    cache: &mut FieldCache<A>,
     grid: &Grid,
 )
     requires robots { length aims.old ≡ 2 }
     requires on { AreOn grid.now aims.old }
-    requires keeps { Keeps grid.now shelf.old }
+    requires keeps { Keeps grid.now cache.old }
 {
     assert!(rt; have_goals(aims, None, None) && is_away(aims, 0, 8, None));
-    aim_at_corner(rt, aims, shelf, grid, 0).expect(rt, "memory for a goal");
+    aim_at_corner(rt, aims, cache, grid, 0).expect(rt, "memory for a goal");
     check_aimed(rt, aims, grid);
-    aim_at_corner(rt, aims, shelf, grid, 1).expect(rt, "memory for a goal");
-    turn_both(rt, aims, shelf, grid, &both(Some(1), Some(8))).expect(rt, "memory for goals");
+    aim_at_corner(rt, aims, cache, grid, 1).expect(rt, "memory for a goal");
+    turn_both(rt, aims, cache, grid, &both(Some(1), Some(8))).expect(rt, "memory for goals");
     assert!(rt; have_goals(aims, Some(1), Some(8)));
     assert!(rt; is_away(aims, 0, 8, Some(3)) && is_away(aims, 1, 1, Some(3)));
 }
 
 fn aim_and_turn_over(rt: &impl Abort, alloc: impl Allocator + Copy, grid: &Grid) {
     let mut aims = Aims::new(alloc, 2).expect(rt, "memory for robots");
-    let mut shelf = Shelf::new(alloc, 4096);
-    aim_and_turn(rt, &mut aims, &mut shelf, grid);
+    let mut cache = FieldCache::new(alloc, 4096);
+    aim_and_turn(rt, &mut aims, &mut cache, grid);
 }
 
 #[test]
@@ -147,20 +147,20 @@ fn goal_after(refused: bool) -> u32 {
 fn is_turn_refused<A: Allocator + Copy>(
     rt: &impl Abort,
     aims: &mut Aims<A>,
-    shelf: &mut Shelf<A>,
+    cache: &mut FieldCache<A>,
     grid: &Grid,
 ) -> bool
     requires robots { length aims.old ≡ 2 }
     requires on { AreOn grid.now aims.old }
-    requires keeps { Keeps grid.now shelf.old }
+    requires keeps { Keeps grid.now cache.old }
 {
-    let first = aim_at_corner(rt, aims, shelf, grid, 0).is_err();
+    let first = aim_at_corner(rt, aims, cache, grid, 0).is_err();
     assert!(rt; aims.goal(0).is_none() == first);
-    aim_at_corner(rt, aims, shelf, grid, 0).expect(rt, "memory for a goal");
+    aim_at_corner(rt, aims, cache, grid, 0).expect(rt, "memory for a goal");
     let turns = both(Some(1), Some(5));
-    let second = turn_both(rt, aims, shelf, grid, &turns).is_err();
+    let second = turn_both(rt, aims, cache, grid, &turns).is_err();
     assert!(rt; aims.goal(0) == Some(goal_after(second)));
-    turn_both(rt, aims, shelf, grid, &turns).expect(rt, "memory for goals");
+    turn_both(rt, aims, cache, grid, &turns).expect(rt, "memory for goals");
     assert!(rt; is_away(aims, 0, 0, Some(1)) && is_away(aims, 1, 8, Some(1)));
     first || second
 }
@@ -169,8 +169,8 @@ fn is_refused(rt: &impl Abort, heap: impl Allocator + Copy, grid: &Grid) -> bool
     let Ok(mut aims) = Aims::new(heap, 2) else {
         return true;
     };
-    let mut shelf = Shelf::new(heap, 4096);
-    is_turn_refused(rt, &mut aims, &mut shelf, grid)
+    let mut cache = FieldCache::new(heap, 4096);
+    is_turn_refused(rt, &mut aims, &mut cache, grid)
 }
 
 #[test]
@@ -190,18 +190,18 @@ fn refused_growths(rt: HostRuntime) {
 fn turn_without_memory<A: Allocator + Copy>(
     rt: &impl Abort,
     aims: &mut Aims<A>,
-    shelf: &mut Shelf<A>,
+    cache: &mut FieldCache<A>,
     grid: &Grid,
 ) -> bool
     requires robots { length aims.old ≡ 2 }
     requires on { AreOn grid.now aims.old }
-    requires keeps { Keeps grid.now shelf.old }
+    requires keeps { Keeps grid.now cache.old }
 {
-    let Ok(()) = aim_at_corner(rt, aims, shelf, grid, 0) else {
+    let Ok(()) = aim_at_corner(rt, aims, cache, grid, 0) else {
         return false;
     };
-    assert!(rt; turn_both(rt, aims, shelf, grid, &both(Some(8), None)).is_ok());
-    assert!(rt; turn_both(rt, aims, shelf, grid, &both(None, None)).is_ok());
+    assert!(rt; turn_both(rt, aims, cache, grid, &both(Some(8), None)).is_ok());
+    assert!(rt; turn_both(rt, aims, cache, grid, &both(None, None)).is_ok());
     true
 }
 
@@ -209,8 +209,8 @@ fn turn_over(rt: &impl Abort, heap: impl Allocator + Copy, grid: &Grid) -> bool 
     let Ok(mut aims) = Aims::new(heap, 2) else {
         return false;
     };
-    let mut shelf = Shelf::new(heap, 4096);
-    turn_without_memory(rt, &mut aims, &mut shelf, grid)
+    let mut cache = FieldCache::new(heap, 4096);
+    turn_without_memory(rt, &mut aims, &mut cache, grid)
 }
 
 /// Robots that keep their goals, share one, or lose them, take no memory.

@@ -16,6 +16,8 @@ mod plan_judge;
 #[cfg(test)]
 mod plan_texts;
 #[cfg(test)]
+mod plan_words;
+#[cfg(test)]
 mod planted;
 #[cfg(test)]
 mod reopened;

@@ -273,6 +273,64 @@ class Programs:
             self.fleet("row", [0], traces="")
         self.assertEqual(os.listdir(folder), ["chapter-0.json"])
 
+    def test_goes_on(self):
+        words = dict(clients=2, traces=self.traces(), resume=True, queue=3)
+        # An empty folder begins anew.
+        with self.fleet("ring", [0, 3], **words) as fleet:
+            self.assertEqual((fleet.go(0, 11).accepted(), fleet.go(1, 4, client=1).accepted()), (1, 1))
+            fleet.close_client(1)
+            fleet.shut(1)
+            fleet.tick()
+            cells = fleet.cells
+        # Either class goes on from what either kept.
+        for made, kind in enumerate(KINDS, 1):
+            with self.open(kind, "ring", [0, 3], **words) as fleet:
+                self.assertEqual(fleet.look(), Look(made, made, 0, 0, fleet.look().within, cells))
+                self.assertEqual([errand.number for errand in fleet.open_errands()], list(range(1, made + 1)))
+                self.assertEqual(fleet.open_errands(1), [OpenErrand(1, 1, 1, 4, 1)])
+                self.assertEqual(fleet.go(0, 11 - made).accepted(), made + 1)
+                for robot, client, name in ((0, 1, "client-closed"), (1, 0, "robot-shut")):
+                    self.refused(OrderRefused, name, fleet.go(robot, 4, client=client).accepted)
+                fleet.tick()
+                cells = fleet.cells
+        with self.fleet("ring", [0, 3], **words) as fleet:
+            fleet.tick(fleet.look().within)
+            told = [(one.client, one.number) for one in fleet.arrivals]
+            self.assertEqual(sorted(told), [(0, 1), (0, 2), (0, 3), (1, 1)])
+            self.assertEqual([one.robot for one in fleet.farewells], [1])
+
+    def test_does_not_go_on(self):
+        folder = self.traces()
+        words = dict(clients=2, traces=folder, resume=True, queue=3)
+        with self.fleet("ring", [0, 3], **words) as fleet:
+            fleet.tick()
+
+        def fails(told, robots=(0, 3), **more):
+            with self.subTest(told), self.assertRaises(FileFailed) as caught:
+                self.fleet("ring", robots, **{**words, **more})
+            self.assertIn(told, str(caught.exception))
+
+        name = folder / "chapter-0.json"
+        fails("robots", [0])
+        fails("clients", clients=1)
+        fails("the limits `queue` and `life`" if self.kind is library.Fleet else "another `queue` or `life`", queue=4)
+        fails("no chapter follows", chapters=1)
+        text = name.read_text()
+        for told, broken in (
+            ("not JSON", text[:-3]), ("the form of a trace", '{"version":2}'), ("it is chapter 5", text.replace('"chapter":0', '"chapter":5')),
+            ("entry 1", text.replace('[0,3],[]', '[0,11],[]')),
+        ):
+            name.write_text(broken)
+            fails(told)
+        name.rename(folder / "chapter-00.json")
+        fails("no chapter has this name")
+        (folder / "chapter-00.json").rename(folder / "chapter-2.json")
+        (folder / "chapter-0.json").write_text(text)
+        fails("chapter-1.json: it is missing")
+        self.assertEqual(sorted(os.listdir(folder)), ["chapter-0.json", "chapter-2.json"])
+        with self.assertRaises(OutOfRange):
+            self.fleet("ring", [0, 3], resume=True)
+
     def test_a_last_chapter_that_is_lost(self):
         for raised in (FileFailed, KeyError):
             folder = self.traces("lost")

@@ -34,10 +34,12 @@ class InProcessTest(unittest.TestCase):
             for _ in range(40):
                 signal.setitimer(signal.ITIMER_REAL, 0.0001 + 0.0005 * stopped % 0.01)
                 try:
-                    fleet.tick(200)
+                    try:
+                        fleet.tick(200)
+                    finally:
+                        signal.setitimer(signal.ITIMER_REAL, 0)
                 except KeyboardInterrupt:
                     stopped += 1
-                signal.setitimer(signal.ITIMER_REAL, 0)
                 # Each call is made whole or not at all.
                 tick = fleet.look().tick
                 self.assertIn(tick - done, (0, 200))

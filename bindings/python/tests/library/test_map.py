@@ -1,13 +1,20 @@
 """Tests of a map that is read once. What is wanted is worked out by hand."""
 
 import copy
+import os
 import unittest
 
 from nashirudder import OutOfRange, Refused
-from nashirudder.library import FAR, Map
+from nashirudder.library import FAR, Map, is_proved
 
 RING = "type octile\nheight 3\nwidth 4\nmap\n....\n.@..\n....\n"
 APART = "type octile\nheight 1\nwidth 3\nmap\n.@.\n"
+
+
+class LibraryTest(unittest.TestCase):
+    @unittest.skipUnless("NASHIRUDDER_PROVED" in os.environ, "tools/build_c sets NASHIRUDDER_PROVED")
+    def test_says_whether_it_is_proved(self):
+        self.assertIs(is_proved(), os.environ["NASHIRUDDER_PROVED"] == "yes")
 
 
 class MapTest(unittest.TestCase):

@@ -292,6 +292,25 @@ class LiveTest(unittest.TestCase):
         self.assertEqual(lines, [f"@t tick {tick}: 0 8", f"ended {tick}"])
         self.assertTrue(65536 <= tick < 1000000)
 
+    def test_nothing_is_said_after_ended(self):
+        # The fleet ends at its limits, while the client still posts.
+        script = os.path.join(self.folder.name, "limits.txt")
+        with open(script, "w") as file:
+            file.write("chapter 4\nchapters 2\n")
+        for _ in range(20):
+            words = [PROGRAM, "live", "--robots", "0,8", "--period", "2ms", self.map, script]
+            with subprocess.Popen(words, stdin=subprocess.PIPE, stdout=subprocess.PIPE, stderr=subprocess.PIPE, bufsize=0) as process:
+                try:
+                    for cell in (3, 1) * 100:
+                        process.stdin.write(f"post 0 go 0 {cell}\n".encode())
+                        time.sleep(0.001)
+                except BrokenPipeError:
+                    pass
+                lines = process.stdout.read().decode().splitlines()
+                self.assertEqual(process.stderr.read(), b"fleet: limit\n")
+            self.assertEqual(process.returncode, 8)
+            self.assertEqual([line.split()[0] for line in lines].index("ended"), len(lines) - 1)
+
     def test_signals_end_the_fleet(self):
         for number in (signal.SIGTERM, signal.SIGINT):
             folder = self.traces()

@@ -2,65 +2,27 @@
 compared with the model in tools/talk, or with a fleet that never stopped.
 """
 
-import importlib.util
 import json
 import os
 import pathlib
 import random
 import shutil
 import subprocess
-import tempfile
 import unittest
 
-from nashirudder import FileFailed, Fleet, OrderRefused, OutOfRange, finding
+from kept_chapters import OPEN, PROGRAM, RING, KeptChaptersTest, model
+from nashirudder import FileFailed, Fleet, OrderRefused, OutOfRange
 
-PROGRAM = finding.program(os.environ.get("FLEET"))
-TOP = pathlib.Path(__file__).resolve().parents[4]
-
-RING = "type octile\nheight 3\nwidth 3\nmap\n...\n.@.\n...\n"
 WALLED = "type octile\nheight 3\nwidth 3\nmap\n...\n@@.\n...\n"
-OPEN = "type octile\nheight 4\nwidth 5\nmap\n.....\n..@..\n.@...\n.....\n"
 
 
-def model():
-    found = importlib.util.spec_from_file_location("talk_model", TOP / "tools" / "talk" / "model.py")
-    module = importlib.util.module_from_spec(found)
-    found.loader.exec_module(module)
-    return module
-
-
-class ResumeTest(unittest.TestCase):
-    def setUp(self):
-        folder = tempfile.TemporaryDirectory()
-        self.addCleanup(folder.cleanup)
-        self.path = pathlib.Path(folder.name)
-        self.traces = self.path / "traces"
-        self.traces.mkdir()
-        self.map = self.path / "site.map"
-        self.map.write_text(RING)
-
+class ResumeTest(KeptChaptersTest):
     def talk(self, lines, *words, script=None):
         """What the program says to lines: output, complaint, status."""
-        head = []
-        if script is not None:
-            (self.path / "head").write_text(script)
-            head = [self.path / "head"]
-        said = subprocess.run(
-            [PROGRAM, "talk", "--traces", self.traces, *words, self.map, *head], input=lines.encode(), capture_output=True
-        )
-        return said.stdout.decode(), said.stderr.decode(), said.returncode
+        return self.run_program(["talk", "--traces", self.traces, *words, self.map, *self.head(script)], lines)
 
     def on(self, lines, *words, script=None):
         return self.talk(lines, "--resume", *words, script=script)
-
-    def chapters(self):
-        return sorted(name for name in os.listdir(self.traces))
-
-    def refused(self, told, status, script=None):
-        """The fleet does not go on, says why, and leaves the folder as it is."""
-        before = {name: (self.traces / name).read_bytes() for name in self.chapters()}
-        self.assertEqual(self.on("look\n", script=script), ("", f"fleet: file {told}\n", status))
-        self.assertEqual({name: (self.traces / name).read_bytes() for name in self.chapters()}, before)
 
     def test_begins_and_goes_on(self):
         # An empty folder begins anew; errand 1 is done, errand 2 is under way, and number 3 follows.
@@ -203,7 +165,8 @@ class ResumeTest(unittest.TestCase):
         fleet.go(0, 2).accepted()
         fleet._program.process.kill()
         fleet._program.process.wait()
-        self.assertEqual(self.chapters(), ["chapter-0.json", "fleet.lock"])
+        self.assertEqual(self.chapters(), ["chapter-0.json"])
+        self.assertTrue((self.traces / "fleet.lock").exists())
         self.assertEqual(self.on("open 0\n")[0], "open 0 number 1 robot 0 cell 1 place 1\nopen 0 end 1\n")
 
     def test_chapters_follow_one_another(self):
@@ -237,7 +200,7 @@ class ResumeTest(unittest.TestCase):
         """Random conversations, each cut in four. What a fleet that goes on says is what the model says of it; and its
         orders, ticks and arrivals are those that the model has of a fleet that never stopped.
         """
-        models = model()
+        models = model("talk")
         for seed in range(40):
             draw = random.Random(seed)
             text = draw.choice((RING, OPEN, WALLED))

@@ -61,7 +61,7 @@ class HeaderTest(unittest.TestCase):
             self.assertEqual(fields, list(STRUCTS[name]._fields_), name)
 
     def test_functions(self):
-        form = r"^(?:NASHIRUDDER_MUST_USE )?(nashirudder_code|uint32_t|size_t|void) nashirudder_(\w+)\(([^)]*)\);"
+        form = r"^(?:NASHIRUDDER_MUST_USE )?(nashirudder_code|uint32_t|size_t|bool|void) nashirudder_(\w+)\(([^)]*)\);"
         found = re.findall(form, BARE, re.M)
         self.assertEqual({name for _, name, _ in found}, set(calls.FUNCTIONS))
         for _, name, parameters in found:

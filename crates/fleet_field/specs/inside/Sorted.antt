@@ -1,7 +1,7 @@
 -- Goals that have a kept field, and goals that have not.
 use Rattle.std.specs.Prelude.{ℕ, ◌+◌, ◌<◌, ◌≤◌, ◌⊎◌, List, length, slice_index}
 use Rattle.fleet_field.specs.Field.{Aim}
-use Rattle.fleet_field.specs.Shelf.{AreKept}
+use Rattle.fleet_field.specs.FieldCache.{AreKept}
 use Rattle.fleet_field.specs.inside.Uses.{IsOneOf}
 
 -- the first n goals, in two lists: those that have a kept field, and those that have none

@@ -1,4 +1,4 @@
--- The figures of robots that have gone so many steps, are on their last cells, and have costs.
+-- The figures of robots that have gone this many steps, are on their last cells, and have costs.
 use Rattle.std.specs.Prelude.{◌≡◌, ℕ, List, length, sum, Option, option_map}
 use Rattle.fleet_plans.specs.Costs.{greatest}
 use Rattle.fleet_plans.specs.Report.{goals_reached}

@@ -51,7 +51,7 @@ impl<T: Drop> From<AllocFailed<T>> for RunnersFault {
 
 impl RunnersKey {
     /// The key as a plan writes it.
-    fn word(self) -> &'static str
+    pub fn word(self) -> &'static str
         ensures { result.now ≡ key_text self }
     {
         match self {

@@ -13,4 +13,4 @@ IsBlank store = (key : ℕ) → shown store key ≡ None
 -- nothing is held, and what is kept is of the map
 pub record AreReady (m : Floor) (fields : Fields) : Type 0 where
   pub blank : IsBlank fields.store
-  pub keeps : Keeps m fields.shelf
+  pub keeps : Keeps m fields.cache

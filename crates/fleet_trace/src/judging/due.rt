@@ -11,7 +11,7 @@ ghost use Rattle.fleet_trace.specs.inside.Calm.{calm};
 ghost use Rattle.fleet_trace.specs.Judged.{before};
 
 use super::calm::calm_opening;
-use super::state_behind;
+use super::state_after;
 use fleet_book::{Order, Verdict};
 use fleet_grid::Grid;
 use fleet_history::{Chapter, Entry};
@@ -30,7 +30,7 @@ fn calm_state<A: Allocator + Copy>(
     ensures { IfOk result (λ s. IsStateOf grid.now (with_entries (start (calm chapter.now.opening)) (take entries chapter.now.entries.items)) s) }
 {
     let calm = calm_opening(alloc, &chapter.opening)?;
-    match state_behind(alloc, grid, &calm, &chapter.entries[..entries]) {
+    match state_after(alloc, grid, &calm, &chapter.entries[..entries]) {
         Ok(state) => Ok(state),
         Err(_memory) => Err(AllocError),
     }

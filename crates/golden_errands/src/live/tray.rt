@@ -1,8 +1,8 @@
-//! A shelf that counts, and may fail.
+//! A sink that counts, and may fail.
 
 ghost use Rattle.std.specs.Prelude.{None};
 
-use fleet_lib::{Chapter, Shelf, ShelfFault};
+use fleet_lib::{Chapter, ChapterSink, SinkFault};
 use std::alloc::{AllocError, Global};
 use std::sync::Arc;
 use std::sync::atomic::{AtomicU64, Ordering};
@@ -10,6 +10,8 @@ use std::sync::atomic::{AtomicU64, Ordering};
 /// What a tray was given.
 #[derive(Drop)]
 pub(crate) struct Counts {
+    /// The number of the first chapter.
+    first: u64,
     /// How many chapters were kept.
     chapters: AtomicU64,
     /// How many entries they have.
@@ -19,8 +21,9 @@ pub(crate) struct Counts {
 }
 
 impl Counts {
-    pub(crate) fn new(alloc: Global) -> Result<Arc<Counts>, AllocError> {
+    pub(crate) fn new(alloc: Global, first: u64) -> Result<Arc<Counts>, AllocError> {
         let counts = Counts {
+            first,
             chapters: AtomicU64::new(0),
             entries: AtomicU64::new(0),
             astray: AtomicU64::new(0),
@@ -44,23 +47,23 @@ impl Counts {
     }
 }
 
-/// A shelf that counts what it is given, once it has failed so often.
+/// A sink that counts what it is given, once it has failed so often.
 #[derive(Drop)]
 pub(crate) struct Tray {
     pub(crate) counts: Arc<Counts>,
     pub(crate) fails: u64,
 }
 
-impl Shelf for Tray {
+impl ChapterSink for Tray {
     ghost kept = { λ _. None };
 
-    fn keep(&mut self, chapter: &Chapter) -> Result<(), ShelfFault> {
+    fn keep(&mut self, chapter: &Chapter) -> Result<(), SinkFault> {
         if self.fails > 0 {
             self.fails -= 1;
-            return Err(ShelfFault::File);
+            return Err(SinkFault::File);
         }
-        let number = self.counts.chapters.fetch_add(1, Ordering::SeqCst);
-        if number != u64::from(chapter.number) {
+        let before = self.counts.chapters.fetch_add(1, Ordering::SeqCst);
+        if self.counts.first.saturating_add(before) != u64::from(chapter.number) {
             self.counts.astray.fetch_add(1, Ordering::SeqCst);
         }
         let entries = chapter.entries.len() as u64;

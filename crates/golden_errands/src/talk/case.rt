@@ -1,7 +1,6 @@
 //! Test cases of conversations.
 
 use crate::options::Conversation;
-use fleet_lib::KeptText;
 use std::alloc::{AllocError, Global};
 
 /// A ring of eight cells.
@@ -46,24 +45,6 @@ impl<'a> Case<'a> {
             roll: talk.has(b"+ roll"),
             has_trials: talk.has(b"+ trials"),
             lines,
-        }
-    }
-
-    /// The file of the chapter that the fleet goes on from, by an option `+ kept N TEXT` with one digit N.
-    pub(crate) fn kept(self) -> Option<KeptText<'a>> {
-        let (digit, told) = self.talk.after(b"+ kept ")?.split_first()?;
-        Some(KeptText {
-            name: "kept.json",
-            number: u32::from(digit.saturating_sub(b'0')),
-            text: told.strip_prefix(b" ").unwrap_or(told),
-        })
-    }
-
-    /// The number of the first chapter that is kept.
-    pub(crate) fn first_chapter(self) -> u64 {
-        match self.kept() {
-            Some(text) => u64::from(text.number) + 1,
-            None => 0,
         }
     }
 

@@ -73,7 +73,7 @@ fn ends_of(
     Ok(Ends {
         input,
         output: Sink::new(alloc, streams.output),
-        shelf: Tray {
+        sink: Tray {
             first,
             taken: 0,
             room: streams.chapters,
@@ -93,11 +93,11 @@ pub(crate) fn outcome_of<R: Alloc<A = Global>>(
     if script.len() > 16_777_216 {
         return Err(AllocError);
     }
-    let mut ends = ends_of(alloc, streams, lines, case.first_chapter())?;
+    let mut ends = ends_of(alloc, streams, lines, case.talk.first_chapter())?;
     let texts = TalkTexts {
         map: case.map,
         script: &script,
-        kept: case.kept(),
+        kept: case.talk.kept(),
     };
     let settings = Settings {
         marks: case.marks,
@@ -105,7 +105,7 @@ pub(crate) fn outcome_of<R: Alloc<A = Global>>(
     };
     let mut error = Sink::new(alloc, Room::ALL);
     let status = run_talk(rt, texts, settings, &mut ends, &mut error);
-    let chapters = ends.shelf.taken;
+    let chapters = ends.sink.taken;
     Ok(Outcome {
         output: ends.output.bytes,
         status,

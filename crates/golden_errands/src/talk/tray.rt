@@ -1,8 +1,8 @@
-//! A shelf that fails.
+//! A sink that fails.
 
 ghost use Rattle.std.specs.Prelude.{None};
 
-use fleet_lib::{Chapter, Shelf, ShelfFault};
+use fleet_lib::{Chapter, ChapterSink, SinkFault};
 
 /// Takes chapters in their order from one number on, and keeps none. It fails when this many were taken.
 #[derive(Clone, Copy, Drop)]
@@ -12,13 +12,13 @@ pub(crate) struct Tray {
     pub(crate) room: u64,
 }
 
-impl Shelf for Tray {
+impl ChapterSink for Tray {
     ghost kept = { λ _. None };
 
-    fn keep(&mut self, chapter: &Chapter) -> Result<(), ShelfFault> {
+    fn keep(&mut self, chapter: &Chapter) -> Result<(), SinkFault> {
         let next = self.first.saturating_add(self.taken);
         if self.taken == self.room || u64::from(chapter.number) != next {
-            return Err(ShelfFault::File);
+            return Err(SinkFault::File);
         }
         self.taken = self.taken.saturating_add(1);
         Ok(())

@@ -1,4 +1,4 @@
-//! Trials of a case: its reader, its writer and its shelf fail, each in turn.
+//! Trials of a case: its reader, its writer and its sink fail, each in turn.
 
 use super::case::Case;
 use super::hold::{Outcome, Streams, outcome_of};

@@ -1,7 +1,7 @@
 //! Calls on an office, each made again if memory runs out.
 
 use crate::rows::case::Step;
-use crate::rows::live::{tell_ahead, tell_page, tell_settle, tell_turn_into};
+use crate::rows::live::{tell_ahead, tell_grown, tell_settle, tell_turn_into};
 use fleet_core::{ChapterFault, ShutFault};
 use fleet_history::{Chapter, Entry};
 use fleet_office::{Guest, Look, Office, OfficeName, Ticker, TurnCause, TurnFault, TurnReport};
@@ -234,7 +234,7 @@ pub(crate) fn tell_answer<
         Step::Split(ticker) => tell_split(tickers, ticker, told),
         Step::Shut(robot) => tell_shut(rt, office, robot, told),
         Step::NextChapter => tell_next(rt, office, told),
-        Step::TurnPage(least) => tell_page(rt, office, least, told),
+        Step::TurnPage(least) => tell_grown(rt, office, least, told),
         Step::Keep(bytes) => {
             office.keep(rt, bytes);
             told.push_str("kept")

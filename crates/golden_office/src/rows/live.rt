@@ -71,17 +71,17 @@ pub(crate) fn tell_turn_into<N: OfficeName<A>, A: Allocator + Copy, R: Alloc<A =
 }
 
 /// Prints the chapter that had at least this many entries.
-pub(crate) fn tell_page<N: OfficeName<A>, A: Allocator + Copy, R: Wait>(
+pub(crate) fn tell_grown<N: OfficeName<A>, A: Allocator + Copy, R: Wait>(
     rt: &R,
     office: &Office<N, A>,
     least: u32,
     told: &mut String,
 ) -> Result<(), AllocError> {
-    let page = match office.turn_page(rt, least) {
-        Err(ChapterFault::NoMemory) => office.turn_page(rt, least),
-        page => page,
+    let found = match office.grown_chapter(rt, least) {
+        Err(ChapterFault::NoMemory) => office.grown_chapter(rt, least),
+        found => found,
     };
-    match page {
+    match found {
         Ok(Some(chapter)) => tell_chapter(&chapter, told),
         Ok(None) => told.push_str("none"),
         Err(fault) => write!(told, "{fault:?}"),

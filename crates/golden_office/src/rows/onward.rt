@@ -1,4 +1,4 @@
-//! The cases of an office that lives on: verdicts without a tick, a tick that its turn shows, pages, and fields searched ahead.
+//! The cases of an office that lives on: verdicts without a tick, a tick that its turn shows, chapters, and fields searched ahead.
 
 use crate::rows::case::{Case, Step};
 use crate::rows::table::{TO_0, TO_1, TO_2, TWO_CELLS};
@@ -19,7 +19,7 @@ pub(crate) const SETTLE: Case<'static> = Case {
     ..TWO_CELLS
 };
 
-/// An order without room in its chapter ends the takes. One that asks for a fuller chapter than there is turns no page.
+/// An order without room in its chapter ends the takes. One that asks for a fuller chapter than there is turns no found.
 pub(crate) const SETTLE_FULL_CHAPTER: Case<'static> = Case {
     name: "office_settle_full_chapter",
     limits: Limits {
@@ -86,7 +86,7 @@ const THREE_CELLS: Case<'static> = Case {
     ..TWO_CELLS
 };
 
-/// The first turn arrives, and searches the field of the next errand.
+/// The first turn arrives, and the second searches the field of the next errand, as far as the robot's cell.
 pub(crate) const SEARCHED_LATE: Case<'static> = Case {
     name: "office_searched_late",
     steps: &[
@@ -94,6 +94,7 @@ pub(crate) const SEARCHED_LATE: Case<'static> = Case {
         Step::Post(0, TO_2),
         Step::Settle,
         Step::Keep(65_536),
+        Step::Turn(0),
         Step::Turn(0),
     ],
     ..THREE_CELLS

@@ -135,19 +135,23 @@ pub(crate) fn tell_refused<R: Alloc<A = Global> + Threads + Sync + Wait>(
     tell_findings(rt, meter, case, &row, told)
 }
 
-/// The allocations of the case's first turn.
+/// The allocations of the case's last turn.
 fn growths_of_turn<R: Alloc<A = Global> + Threads + Sync + Wait>(
     rt: &R,
     meter: &Meter<Global>,
     case: &Case<'_>,
 ) -> Result<Option<u64>, AllocError> {
     let row = text_of(rt, meter, case)?;
+    let mut last = None;
     for (number, step) in case.steps.iter().enumerate() {
         if matches!(step, Step::Turn(_)) {
-            return growths(rt, meter, case, Call::Step(number), &row);
+            last = Some(number);
         }
     }
-    Ok(None)
+    match last {
+        Some(number) => growths(rt, meter, case, Call::Step(number), &row),
+        None => Ok(None),
+    }
 }
 
 /// Prints whether a turn allocates less where the field that it needs was searched before.

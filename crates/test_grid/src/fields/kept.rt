@@ -6,7 +6,7 @@ ghost use Rattle.fleet_field.specs.Store.{Keeps, Serves};
 
 use super::ring;
 use crate::floor::are_floor;
-use fleet_field::{FieldStore, Shelf};
+use fleet_field::{FieldCache, FieldStore};
 use fleet_grid::Grid;
 use std::alloc::{AllocError, Allocator, Global};
 use std::process::Abort;
@@ -16,32 +16,32 @@ use test_kit::Refusing;
 /// Holds the goal, asks how far the cell is, and releases the goal.
 fn visit<A: Allocator + Copy>(
     store: &mut FieldStore<A>,
-    shelf: &mut Shelf<A>,
+    cache: &mut FieldCache<A>,
     grid: &Grid,
     goal: u32,
     cell: u32,
 ) -> Result<Option<u32>, AllocError>
     requires floor { IsFloor grid.now goal }
     requires serves { Serves grid.now store.old }
-    requires keeps { Keeps grid.now shelf.old }
+    requires keeps { Keeps grid.now cache.old }
     ensures serves { Serves grid.now store.new }
-    ensures keeps { Keeps grid.now shelf.new }
+    ensures keeps { Keeps grid.now cache.new }
 {
     if !store.can_hold(goal) {
         return Err(AllocError);
     }
-    let key = store.hold_from(shelf, grid, goal)?;
+    let key = store.hold_from(cache, grid, goal)?;
     if !store.is_held(key) {
         return Err(AllocError);
     }
     let away = store.at(key, cell);
-    store.release_to(shelf, key);
+    store.release_to(cache, key);
     Ok(away)
 }
 
 /// Whether the goal's field is kept. It is taken out.
-fn is_kept<A: Allocator + Copy>(shelf: &mut Shelf<A>, goal: u32) -> bool {
-    shelf.take(goal).is_some()
+fn is_kept<A: Allocator + Copy>(cache: &mut FieldCache<A>, goal: u32) -> bool {
+    cache.take(goal).is_some()
 }
 
 /// Visits cell 0 and then another cell. Returns how far that cell is from cell 8, and whether the field of cell 0 is
@@ -49,20 +49,20 @@ fn is_kept<A: Allocator + Copy>(shelf: &mut Shelf<A>, goal: u32) -> bool {
 fn visit_both<A: Allocator + Copy>(
     rt: &impl Abort,
     store: &mut FieldStore<A>,
-    shelf: &mut Shelf<A>,
+    cache: &mut FieldCache<A>,
     grid: &Grid,
     other: u32,
 ) -> Option<(Option<u32>, bool)>
     requires zero { IsFloor grid.now 0 }
     requires other { IsFloor grid.now other }
     requires serves { Serves grid.now store.old }
-    requires keeps { Keeps grid.now shelf.old }
+    requires keeps { Keeps grid.now cache.old }
 {
-    if visit(store, shelf, grid, 0, 8).is_err() {
+    if visit(store, cache, grid, 0, 8).is_err() {
         return None;
     }
-    let away = visit(store, shelf, grid, other, 8).expect(rt, "memory for a field");
-    Some((away, is_kept(shelf, 0)))
+    let away = visit(store, cache, grid, other, 8).expect(rt, "memory for a field");
+    Some((away, is_kept(cache, 0)))
 }
 
 /// Two visits with a heap.
@@ -76,8 +76,8 @@ fn visit_both_over<A: Allocator + Copy>(
     requires other { IsFloor grid.now other }
 {
     let mut store = FieldStore::new(heap).expect(rt, "memory for a store");
-    let mut shelf = Shelf::new(heap, 4096);
-    visit_both(rt, &mut store, &mut shelf, grid, other)
+    let mut cache = FieldCache::new(heap, 4096);
+    visit_both(rt, &mut store, &mut cache, grid, other)
 }
 
 /// If the heap had no memory left after the first visit, any allocation in a second visit of the same cell would be
@@ -115,28 +115,28 @@ fn kept_goes_before_want_of_memory(rt: HostRuntime) {
 }
 
 /// Whether the fields of cells 2, 0 and 8 are kept.
-fn take_corners(shelf: &mut Shelf) -> [bool; 3] {
-    [is_kept(shelf, 2), is_kept(shelf, 0), is_kept(shelf, 8)]
+fn take_corners(cache: &mut FieldCache) -> [bool; 3] {
+    [is_kept(cache, 2), is_kept(cache, 0), is_kept(cache, 8)]
 }
 
 /// Visits cells 0 and 2, then cell 0 again, and then cell 8.
 fn visit_corners(
     rt: &impl Abort,
     store: &mut FieldStore,
-    shelf: &mut Shelf,
+    cache: &mut FieldCache,
     grid: &Grid,
 ) -> [bool; 3]
     requires zero { IsFloor grid.now 0 }
     requires two { IsFloor grid.now 2 }
     requires eight { IsFloor grid.now 8 }
     requires serves { Serves grid.now store.old }
-    requires keeps { Keeps grid.now shelf.old }
+    requires keeps { Keeps grid.now cache.old }
 {
-    let _first = visit(store, shelf, grid, 0, 8).expect(rt, "memory for a field");
-    let _second = visit(store, shelf, grid, 2, 8).expect(rt, "memory for a field");
-    let _again = visit(store, shelf, grid, 0, 8).expect(rt, "memory for a field");
-    let _third = visit(store, shelf, grid, 8, 8).expect(rt, "memory for a field");
-    take_corners(shelf)
+    let _first = visit(store, cache, grid, 0, 8).expect(rt, "memory for a field");
+    let _second = visit(store, cache, grid, 2, 8).expect(rt, "memory for a field");
+    let _again = visit(store, cache, grid, 0, 8).expect(rt, "memory for a field");
+    let _third = visit(store, cache, grid, 8, 8).expect(rt, "memory for a field");
+    take_corners(cache)
 }
 
 /// Two fields of nine cells fit.
@@ -144,47 +144,52 @@ fn visit_corners(
 fn longest_unused_goes_first(rt: HostRuntime) {
     let grid = ring(&rt, rt.alloc());
     let mut store = FieldStore::new(rt.alloc()).expect(&rt, "memory for a store");
-    let mut shelf = Shelf::new(rt.alloc(), 26);
-    assert!(rt; visit_corners(&rt, &mut store, &mut shelf, &grid) == [false, true, true]);
+    let mut cache = FieldCache::new(rt.alloc(), 26);
+    assert!(rt; visit_corners(&rt, &mut store, &mut cache, &grid) == [false, true, true]);
 }
 
 /// Whether all these goals have a kept field, if two fields fit.
 fn is_searched(
     rt: &(impl Abort + Threads + Sync),
-    shelf: &mut Shelf,
+    cache: &mut FieldCache,
     grid: &Grid,
     goals: &[u32],
 ) -> bool
-    requires { Keeps grid.now shelf.old }
-    ensures { Keeps grid.now shelf.new }
+    requires { Keeps grid.now cache.old }
+    ensures { Keeps grid.now cache.new }
 {
     assert!(rt; are_floor(grid, goals));
-    shelf
+    cache
         .search_ahead(rt, grid, goals)
         .expect(rt, "memory for fields")
 }
 
-fn visit_searched(rt: &impl Abort, alloc: Global, shelf: &mut Shelf, grid: &Grid) -> Option<u32>
+fn visit_searched(
+    rt: &impl Abort,
+    alloc: Global,
+    cache: &mut FieldCache,
+    grid: &Grid,
+) -> Option<u32>
     requires floor { IsFloor grid.now 8 }
-    requires keeps { Keeps grid.now shelf.old }
+    requires keeps { Keeps grid.now cache.old }
 {
     let mut store = FieldStore::new(alloc).expect(rt, "memory for a store");
-    visit(&mut store, shelf, grid, 8, 0).expect(rt, "memory for a field")
+    visit(&mut store, cache, grid, 8, 0).expect(rt, "memory for a field")
 }
 
 fn search_and_visit(
     rt: &(impl Abort + Threads + Sync),
     alloc: Global,
-    shelf: &mut Shelf,
+    cache: &mut FieldCache,
     grid: &Grid,
 )
     requires floor { IsFloor grid.now 8 }
-    requires keeps { Keeps grid.now shelf.old }
+    requires keeps { Keeps grid.now cache.old }
 {
-    assert!(rt; is_searched(rt, shelf, grid, &[0, 2]));
-    assert!(rt; !is_searched(rt, shelf, grid, &[0, 8, 2]));
-    assert!(rt; visit_searched(rt, alloc, shelf, grid) == Some(4));
-    assert!(rt; take_corners(shelf) == [false, true, true]);
+    assert!(rt; is_searched(rt, cache, grid, &[0, 2]));
+    assert!(rt; !is_searched(rt, cache, grid, &[0, 8, 2]));
+    assert!(rt; visit_searched(rt, alloc, cache, grid) == Some(4));
+    assert!(rt; take_corners(cache) == [false, true, true]);
 }
 
 /// Two fields fit. The fields searched ahead are found; they replaced the fields of other goals that were unused
@@ -192,8 +197,8 @@ fn search_and_visit(
 #[test]
 fn searched_ahead(rt: HostRuntime) {
     let grid = ring(&rt, rt.alloc());
-    let mut shelf = Shelf::new(rt.alloc(), 26);
-    search_and_visit(&rt, rt.alloc(), &mut shelf, &grid);
+    let mut cache = FieldCache::new(rt.alloc(), 26);
+    search_and_visit(&rt, rt.alloc(), &mut cache, &grid);
 }
 
 /// Whether a field is kept until the number of bytes is made smaller.
@@ -202,10 +207,10 @@ fn keep_less(rt: &impl Abort, alloc: Global, store: &mut FieldStore, grid: &Grid
     requires serves { Serves grid.now store.old }
     ensures serves { Serves grid.now store.new }
 {
-    let mut shelf = Shelf::new(alloc, 4096);
-    let _kept = visit(store, &mut shelf, grid, 0, 8).expect(rt, "memory for a field");
-    shelf.keep(8);
-    is_kept(&mut shelf, 0)
+    let mut cache = FieldCache::new(alloc, 4096);
+    let _kept = visit(store, &mut cache, grid, 0, 8).expect(rt, "memory for a field");
+    cache.keep(8);
+    is_kept(&mut cache, 0)
 }
 
 /// Whether a field is kept if the bytes are too few for one.
@@ -213,7 +218,7 @@ fn keep_none(rt: &impl Abort, alloc: Global, store: &mut FieldStore, grid: &Grid
     requires floor { IsFloor grid.now 2 }
     requires serves { Serves grid.now store.old }
 {
-    let mut small = Shelf::new(alloc, 8);
+    let mut small = FieldCache::new(alloc, 8);
     let _gone = visit(store, &mut small, grid, 2, 8).expect(rt, "memory for a field");
     is_kept(&mut small, 2)
 }

@@ -1,6 +1,6 @@
+use Rattle.fleet_grid.specs.Floor.{floor_of_map}
 use Rattle.fleet_map.specs.Grammar.{view}
 use Rattle.fleet_history.specs.History.{history_of}
-use Rattle.errands_lib.specs.Answer.{floor_of_map}
 use Rattle.errands_lib.proofs.Outcomes.{illegal_is}
 use Rattle.errands_lib.proofs.judgement.judge_chapter.Goals as goal
 

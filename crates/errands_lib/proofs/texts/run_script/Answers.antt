@@ -1,12 +1,13 @@
 use Rattle.std.specs.declared.alloc.Global.{Global}
 use Rattle.std.proofs.Common.{rules, refl, Ok, Err, length, sym, ap, ◌∙◌}
+use Rattle.fleet_grid.specs.Floor.{floor_of_map}
 use Rattle.fleet_world.specs.declared.faults.RunFault.{RunFault}
 use Rattle.fleet_map.specs.Grammar.{view}
 use Rattle.fleet_world.specs.Run.{State}
 use Rattle.fleet_world.specs.Played.{end_of}
 use Rattle.fleet_core.specs.Hooks.{laws_of}
 use Rattle.errands_text.specs.Kit.{kit_laws}
-use Rattle.errands_lib.specs.Answer.{IsScriptOutcome, floor_of_map}
+use Rattle.errands_lib.specs.Answer.{IsScriptOutcome}
 use Rattle.fleet_script.specs.Shown.{plan}
 use Rattle.errands_lib.proofs.Outcomes.{run_length, said_is, ran_is, lawful_is, none_refused, refused_is}
 use Rattle.errands_text.proofs.Kits.{first_laws, chosen_is}

@@ -1,6 +1,7 @@
-use Rattle.std.proofs.Common.{refl, arith}
+use Rattle.std.proofs.Common.{refl, ap, arith}
 use Rattle.std.proofs.lemmas.Result.{IfOk-from_err}
-use Rattle.fleet_core.proofs.Refusals.{all_err, on_ok_map}
+use Rattle.fleet_planner.specs.Courses.{goals_of}
+use Rattle.fleet_core.proofs.Refusals.{all_err, on_ok_map, on_err_map}
 use Rattle.fleet_core.proofs.entries.make_begun.Goals as goal
 
 pub begin-requires : goal.begin-requires
@@ -21,5 +22,5 @@ returns g c = record {
   goals = c.begin.ensures.goals;
   room = on_ok_map c.begin.result (λ goals. omega (arith, c.in_ok-reserve.ensures.ok)) c.begin.ensures.goals;
   same = record { on = c.begin.ensures.on; size = c.begin.ensures.size; bridge = c.begin.ensures.bridge; keeps = c.begin.ensures.keeps };
-  refused = c.begin.ensures.refused;
+  refused = on_err_map c.begin.result (λ same. ap goals_of same) c.begin.ensures.refused;
 }

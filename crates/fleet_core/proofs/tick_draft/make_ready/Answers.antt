@@ -1,6 +1,7 @@
-use Rattle.std.proofs.Common.{refl, arith}
+use Rattle.std.proofs.Common.{refl, ap, arith}
 use Rattle.std.proofs.lemmas.Result.{IfOk-from_err}
-use Rattle.fleet_core.proofs.Refusals.{all_err, on_ok_map}
+use Rattle.fleet_planner.specs.Courses.{goals_of}
+use Rattle.fleet_core.proofs.Refusals.{all_err, on_ok_map, on_err_map}
 use Rattle.fleet_core.proofs.tick_draft.make_ready.Goals as goal
 
 pub turn-requires : goal.turn-requires
@@ -19,5 +20,5 @@ returns g c = record {
   items = c.reserve.ensures.items;
   ready = on_ok_map c.turn.result (λ goals. record { goals = goals; room = omega (arith, c.in_ok-reserve.ensures.ok) }) c.turn.ensures.goals;
   same = record { on = c.turn.ensures.on; size = c.turn.ensures.size; bridge = c.turn.ensures.bridge; keeps = c.turn.ensures.keeps };
-  refused = c.turn.ensures.refused;
+  refused = on_err_map c.turn.result (λ same. ap goals_of same) c.turn.ensures.refused;
 }

@@ -25,3 +25,23 @@ returns-clause-step g c = record {
       c.in_ok-arrived.ensures.leaving stamped others m h is (shows ∙ ap (due h) (sym c.as_slice.ensures.value))
       ∙ ap (λ (to : List ℕ). leaving h (after h (entry.Tick to stamped others))) c.as_slice.ensures.value;
 }
+
+-- the planner goes by the same map
+
+pub returns-in_err-to-clause-goals : goal.returns-in_err-to-clause-goals
+returns-in_err-to-clause-goals g c = c.plan.ensures.goals
+
+pub returns-in_err-to-clause-same : goal.returns-in_err-to-clause-same
+returns-in_err-to-clause-same g c = record { on = c.plan.ensures.on; size = c.plan.ensures.size; bridge = c.plan.ensures.bridge; keeps = c.plan.ensures.keeps }
+
+pub returns-in_err-arrived-clause-goals : goal.returns-in_err-arrived-clause-goals
+returns-in_err-arrived-clause-goals g c = c.plan.ensures.goals
+
+pub returns-in_err-arrived-clause-same : goal.returns-in_err-arrived-clause-same
+returns-in_err-arrived-clause-same g c = record { on = c.plan.ensures.on; size = c.plan.ensures.size; bridge = c.plan.ensures.bridge; keeps = c.plan.ensures.keeps }
+
+pub returns-clause-goals : goal.returns-clause-goals
+returns-clause-goals g c = c.plan.ensures.goals
+
+pub returns-clause-same : goal.returns-clause-same
+returns-clause-same g c = record { on = c.plan.ensures.on; size = c.plan.ensures.size; bridge = c.plan.ensures.bridge; keeps = c.plan.ensures.keeps }

@@ -1,9 +1,9 @@
 use Rattle.std.proofs.Common.{ℕ, slice_index, take, refl, subst, ◌∙◌, arith}
 use Rattle.std.specs.List.{Contains}
 use Rattle.std.proofs.lemmas.List.Elements.{All-contains_itself}
-use Rattle.fleet_field.specs.Shelf.{HasKept}
+use Rattle.fleet_field.specs.FieldCache.{HasKept}
 use Rattle.fleet_field.proofs.Fronted.{kept_through, within_next}
-use Rattle.fleet_field.proofs.Shelved.{all_among}
+use Rattle.fleet_field.proofs.Cached.{all_among}
 use Rattle.fleet_field.proofs.kept.all_to_front.Goals as goal
 
 pub loop-goal-init : goal.loop-goal-init

@@ -1,6 +1,6 @@
 use Rattle.std.proofs.Common.{◌≡◌, ℕ, ◌<◌, length, slice_index, take}
 use Rattle.std.specs.List.{All, Contains}
-use Rattle.fleet_field.specs.Shelf.{HasKept, AreKept}
+use Rattle.fleet_field.specs.FieldCache.{HasKept, AreKept}
 use Rattle.fleet_field.proofs.kept.all_to_front.Given as goal
 
 abbrev pub invariant-loop-goal : goal.invariant-loop-goal

@@ -1,5 +1,5 @@
 use Rattle.std.proofs.Common.{ℕ, ◌<◌, slice_index}
-use Rattle.fleet_field.specs.Shelf.{HasKept}
+use Rattle.fleet_field.specs.FieldCache.{HasKept}
 use Rattle.fleet_field.proofs.kept.has_all.Given as goal
 
 abbrev pub invariant-loop-goal : goal.invariant-loop-goal

@@ -1,7 +1,7 @@
 use Rattle.std.proofs.Common.{◌≡◌, ℕ, ◌+◌, ◌≤◌, ◌⊎◌, length, take, vec_len}
 use Rattle.std.specs.List.{All, Contains}
 use Rattle.fleet_field.specs.Field.{Aim}
-use Rattle.fleet_field.specs.Shelf.{HasKept}
+use Rattle.fleet_field.specs.FieldCache.{HasKept}
 use Rattle.fleet_field.proofs.kept.put_first.Given as goal
 
 abbrev pub invariant-loop-field : goal.invariant-loop-field

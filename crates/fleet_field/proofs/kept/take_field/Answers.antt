@@ -2,9 +2,9 @@ use Rattle.std.proofs.Common.{◌≡◌, ◌⊎◌, List, take, sym, subst}
 use Rattle.std.specs.List.{All, Contains}
 use Rattle.std.proofs.lemmas.List.Elements.{All-contains_itself}
 use Rattle.fleet_field.specs.Field.{Aim}
-use Rattle.fleet_field.specs.Shelf.{HasKept}
+use Rattle.fleet_field.specs.FieldCache.{HasKept}
 use Rattle.fleet_field.proofs.Fronted.{within_without}
-use Rattle.fleet_field.proofs.Shelved.{among_removed}
+use Rattle.fleet_field.proofs.Cached.{among_removed}
 use Rattle.fleet_field.proofs.kept.take_field.Goals as goal
 
 pub returns-in_err-at-clause-others : goal.returns-in_err-at-clause-others

@@ -6,5 +6,5 @@ use Rattle.fleet_live.proofs.ending.conclude.Given as goal
 abbrev pub invariant-loop : goal.invariant-loop
 invariant-loop g l = record {
   on : AreOn g.N.OfficeName.rings (cores l.home.clients.items);
-  kept : KeepsHanded l.fn.archive.waiting l.archive.waiting (g.S.Shelf.kept l.fn.archive.shelf) (g.S.Shelf.kept l.archive.shelf);
+  kept : KeepsHanded l.fn.archive.waiting l.archive.waiting (g.S.ChapterSink.kept l.fn.archive.sink) (g.S.ChapterSink.kept l.archive.sink);
 }

@@ -1,4 +1,5 @@
 use Rattle.std.proofs.Common.{slice_index, arith}
+use Rattle.std.proofs.lemmas.Result.{IfOk-from_err}
 use Rattle.fleet_pibt.specs.inside.Around.{IsAround, IsAsked}
 use Rattle.fleet_pibt.proofs.Seen.{seen-more, seen-all, seen-at, seen-below}
 use Rattle.fleet_pibt.proofs.around.gather.Goals as goal
@@ -17,24 +18,39 @@ loop-robot-preserved g c =
     let seen = c.loop-robot.arounds in
     let robot = c.loop-robot.robot in
     let inside = seen-at seen robot _ (omega (arith, c.loop-robot-test.true, c.loop-robot.auto.arounds)) in
-    let asked : IsAsked m (g.G.Goals.goal_of goals robot) (g.G.Goals.distance goals robot) (slice_index from robot) c.look.result.nearer.byte c.look.result.exits.byte =
+    let asked : IsAsked m (g.G.Guide.goal_of goals robot) (g.G.Guide.distance goals m robot) (slice_index from robot) c.look.result.nearer.byte c.look.result.exits.byte =
     rw (c.look.ensures.nearer, c.look.ensures.exits) (c.loop-robot.invariant.0 robot _ inside) in (
-      seen-all (λ r around. IsAsked m (g.G.Goals.goal_of goals r) (g.G.Goals.distance goals r) (slice_index from r) around.nearer.byte around.exits.byte) seen robot c.look.result c.loop-robot.invariant.0 asked,
+      seen-all (λ r around. IsAsked m (g.G.Guide.goal_of goals r) (g.G.Guide.distance goals m r) (slice_index from r) around.nearer.byte around.exits.byte) seen robot c.look.result c.loop-robot.invariant.0 asked,
       seen-more (λ r around. IsAround m (slice_index from r) around) seen robot c.look.result c.loop-robot.invariant.1 c.look.ensures.cells,
     )
 
 pub look-requires-clause-exits : goal.look-requires-clause-exits
 look-requires-clause-exits g c = (c.loop-robot.invariant.0 c.loop-robot.robot _ (seen-at c.loop-robot.arounds c.loop-robot.robot _ (omega (arith, c.loop-robot-test.true, c.loop-robot.auto.arounds)))).opens
 
+pub returns-in_err-ask : goal.returns-in_err-ask
+returns-in_err-ask g c = record {
+  arounds = IfOk-from_err c.from_residual.result _ c.from_residual.ensures.0;
+  goals = c.ask.ensures.goals;
+  distances = c.ask.ensures.distances;
+  shows = c.ask.ensures.shows;
+  stays = c.ask.ensures.stays;
+}
+
 pub returns : goal.returns
 returns g c = record {
-  same_length = omega (arith, c.loop-robot.auto.arounds, c.ask.auto.arounds, c.requires.same_length);
-  each = λ r around e. c.loop-robot.invariant.1 r around (let l = seen-below c.loop-robot.arounds r around e in omega (arith, l, c.loop-robot.auto.arounds, c.loop-robot-test.false)) e;
-  asked = c.loop-robot.invariant.0;
+  arounds = record {
+    same_length = omega (arith, c.loop-robot.auto.arounds, c.ask.auto.arounds, c.requires.same_length);
+    each = λ r around e. c.loop-robot.invariant.1 r around (let l = seen-below c.loop-robot.arounds r around e in omega (arith, l, c.loop-robot.auto.arounds, c.loop-robot-test.false)) e;
+    asked = c.loop-robot.invariant.0;
+  };
+  goals = c.ask.ensures.goals;
+  distances = c.ask.ensures.distances;
+  shows = c.ask.ensures.shows;
+  stays = c.ask.ensures.stays;
 }
 
 pub loop-robot-init : goal.loop-robot-init
-loop-robot-init g c = (c.ask.ensures, λ r around less. absurd (omega (arith, less)))
+loop-robot-init g c = (c.in_ok-ask.ensures.asked, λ r around less. absurd (omega (arith, less)))
 
 pub bounds-from-robot : goal.bounds-from-robot
 bounds-from-robot g c = omega (arith, c.loop-robot-test.true, c.ask.auto.arounds, c.requires.same_length)

@@ -1,4 +1,6 @@
 -- What each robot sees, and the seats as they were.
+use Rattle.std.proofs.Common.{refl}
+use Rattle.std.proofs.lemmas.Result.{IfOk-from_err}
 use Rattle.fleet_pibt.proofs.Spots.{sides-inside}
 use Rattle.fleet_pibt.proofs.stepper.see.Goals as goal
 
@@ -15,22 +17,33 @@ pub gather-requires-clause-shows : goal.gather-requires-clause-shows
 gather-requires-clause-shows g c = c.requires.shows
 
 pub fetch-requires-clause-inside : goal.fetch-requires-clause-inside
-fetch-requires-clause-inside g c = rw c.requires.cells (sides-inside c.args.grid.now _ _ c.args.from.now c.gather.new.arounds c.gather.ensures c.requires.floor)
+fetch-requires-clause-inside g c = rw c.requires.cells (sides-inside c.args.grid.now _ _ c.args.from.now c.gather.new.arounds c.in_ok-gather.ensures.arounds c.requires.floor)
 
 pub fetch-requires-clause-empty : goal.fetch-requires-clause-empty
 fetch-requires-clause-empty g c = c.requires.nobody
 
-pub returns-clause-arounds : goal.returns-clause-arounds
-returns-clause-arounds g c = c.gather.ensures
+pub returns-in_err-gather : goal.returns-in_err-gather
+returns-in_err-gather g c = record {
+  arounds = IfOk-from_err c.from_residual.result _ c.from_residual.ensures.0;
+  goals = c.gather.ensures.goals;
+  distances = c.gather.ensures.distances;
+  shows = c.gather.ensures.shows;
+  stays = c.gather.ensures.stays;
+  cells = refl;
+  nobody = c.requires.nobody;
+  holder = refl;
+  form = c.cell_count-cells.ensures.form;
+}
 
-pub returns-clause-cells : goal.returns-clause-cells
-returns-clause-cells g c = c.fetch.ensures.same_length
-
-pub returns-clause-nobody : goal.returns-clause-nobody
-returns-clause-nobody g c = c.fetch.ensures.empty
-
-pub returns-clause-holder : goal.returns-clause-holder
-returns-clause-holder g c = c.fetch.ensures.holder
-
-pub returns-clause-form : goal.returns-clause-form
-returns-clause-form g c = c.cell_count-cells.ensures.form
+pub returns : goal.returns
+returns g c = record {
+  arounds = c.in_ok-gather.ensures.arounds;
+  goals = c.gather.ensures.goals;
+  distances = c.gather.ensures.distances;
+  shows = c.gather.ensures.shows;
+  stays = c.gather.ensures.stays;
+  cells = c.fetch.ensures.same_length;
+  nobody = c.fetch.ensures.empty;
+  holder = c.fetch.ensures.holder;
+  form = c.cell_count-cells.ensures.form;
+}

@@ -12,10 +12,10 @@ pub returns-clause-conflict_free : goal.returns-clause-conflict_free
 returns-clause-conflict_free g c =
     let many : c.in_ok-to.to.len ≡ length c.step_into.new.to =
     omega (arith, c.in_ok-to.to.ok.0, c.step_into.auto.to, ap length c.as_mut_slice.ensures.value) in
-    rw (whole c.in_ok-to.to.len c.step_into.new.to c.in_ok-to.to.items many) c.step_into.ensures.conflict_free
+    rw (whole c.in_ok-to.to.len c.step_into.new.to c.in_ok-to.to.items many) c.in_ok-step_into.ensures.conflict_free
 
 pub returns-clause-planned : goal.returns-clause-planned
 returns-clause-planned g c =
     let many : c.in_ok-to.to.len ≡ length c.step_into.new.to =
     omega (arith, c.in_ok-to.to.ok.0, c.step_into.auto.to, ap length c.as_mut_slice.ensures.value) in
-    rw (whole c.in_ok-to.to.len c.step_into.new.to c.in_ok-to.to.items many) c.step_into.ensures.planned
+    rw (whole c.in_ok-to.to.len c.step_into.new.to c.in_ok-to.to.items many) c.in_ok-step_into.ensures.planned

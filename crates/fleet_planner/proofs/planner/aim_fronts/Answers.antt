@@ -1,6 +1,6 @@
-use Rattle.std.proofs.Common.{◌∙◌, ◌<◌, length, refl, sym, arith}
-use Rattle.fleet_planner.specs.Aims.{goals_of}
-use Rattle.fleet_state.proofs.Parts.{robots-few}
+use Rattle.std.proofs.Common.{◌∙◌, ◌<◌, ℕ, List, length, ap, refl, sym, arith}
+use Rattle.fleet_planner.specs.Courses.{goals_of}
+use Rattle.fleet_state.proofs.Parts.{cell-count, queue-count, robots-few}
 use Rattle.fleet_planner.proofs.FirstGoals.{none-count, aimed-none, aimed-more, aimed-idle, aimed-all, first-floor}
 use Rattle.fleet_planner.proofs.planner.aim_fronts.Goals as goal
 use Rattle.fleet_planner.proofs.planner.aim_fronts.Goals.{in-Some+in_ok-aim, in_default}
@@ -20,6 +20,10 @@ pub aim-requires-clause-known : goal.aim-requires-clause-known
 aim-requires-clause-known g c =
     omega (arith, c.loop-r-test.true, c.robots-r-end.ensures.count, c.loop-r.invariant.count, none-count (length c.args.state.now.queues) c.args.aims.now c.requires.none)
 
+pub aim-requires-clause-cells : goal.aim-requires-clause-cells
+aim-requires-clause-cells g c =
+    omega (arith, c.loop-r.invariant.count, none-count (length c.args.state.now.queues) c.args.aims.now c.requires.none, ap (λ (cells : List ℕ). length cells) c.place.ensures.cells, cell-count c.requires.is.1, queue-count c.requires.is.1)
+
 pub aim-requires-clause-floor : goal.aim-requires-clause-floor
 aim-requires-clause-floor g c =
     first-floor c.requires.is.1 c.loop-r.r c.in-Some.front (omega (arith, c.loop-r-test.true, c.robots-r-end.ensures.count)) (sym (c.front.ensures.of c.args.grid.now c.requires.is.0 c.requires.is.1) ∙ c.in-Some.is)
@@ -34,13 +38,13 @@ loop-r-preserved g c =
         aimed = rw (w.aims-is, w.in_ok-aim.ensures.goals) (aimed-more queues c.loop-r.r (goals_of c.loop-r.aims) c.front.result w.in-Some.front less c.front.ensures.first w.in-Some.is i.aimed);
         count = rw w.aims-is (w.aim.ensures.count ∙ i.count);
         on = rw w.aims-is w.aim.ensures.on;
-        keeps = rw w.shelf-is w.aim.ensures.keeps;
+        keeps = rw w.cache-is w.aim.ensures.keeps;
       }
       | in_default w ↦ record {
         aimed = rw w.aims-is (aimed-idle queues c.loop-r.r (goals_of c.loop-r.aims) c.front.result c.front.ensures.first w.in_default.is i.aimed);
         count = rw w.aims-is i.count;
         on = rw w.aims-is i.on;
-        keeps = rw w.shelf-is i.keeps;
+        keeps = rw w.cache-is i.keeps;
       }
     ]
 

@@ -43,12 +43,12 @@ loop-at-preserved g c =
           record {
             counted = λ keys counted. subst (λ (s : List (Option (Held Aim))). AreCounted s keys (drop (n + 1) fresh)) (sym w.store-is) (back keys counted).0;
             kept = subst (AreKept c.args.store.now) (sym w.store-is) (kept_on c.args.store.now c.loop-at.store w.release_to.new.self i.kept (back c.requires.counted.0 c.requires.counted.1).1);
-            keeps = λ m serves keeps. subst (Keeps m) (sym w.shelf-is) (w.release_to.ensures.keeps m (serves_kept m c.args.store.now c.loop-at.store i.kept serves) (i.keeps m serves keeps));
+            keeps = λ m serves keeps. subst (Keeps m) (sym w.cache-is) (w.release_to.ensures.keeps m (serves_kept m c.args.store.now c.loop-at.store i.kept serves) (i.keeps m serves keeps));
           })
       | in_default w ↦ record {
         counted = λ keys counted. subst (λ (s : List (Option (Held Aim))). AreCounted s keys (drop (n + 1) fresh)) (sym w.store-is) (passed c.loop-at.store keys (drop (n + 1) fresh) (spare None w.in_default.is keys counted));
         kept = subst (AreKept c.args.store.now) (sym w.store-is) i.kept;
-        keeps = λ m serves keeps. subst (Keeps m) (sym w.shelf-is) (i.keeps m serves keeps);
+        keeps = λ m serves keeps. subst (Keeps m) (sym w.cache-is) (i.keeps m serves keeps);
       }
     ]
 

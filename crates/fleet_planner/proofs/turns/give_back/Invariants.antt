@@ -8,5 +8,5 @@ abbrev pub invariant-loop-at : goal.invariant-loop-at
 invariant-loop-at g l = record {
   counted : (keys : List (Option ℕ)) → AreCounted l.fn.store keys l.fresh.items → AreCounted l.store keys (drop l.at l.fresh.items);
   kept : AreKept l.fn.store l.store;
-  keeps : (m : Floor) → Serves m l.fn.store → Keeps m l.fn.shelf → Keeps m l.shelf;
+  keeps : (m : Floor) → Serves m l.fn.store → Keeps m l.fn.cache → Keeps m l.cache;
 }

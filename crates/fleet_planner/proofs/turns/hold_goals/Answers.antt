@@ -87,14 +87,14 @@ loop-turn-preserved g c =
             holding = holding_is turns old (n + 1) new c.match-turn.store fresh c.push_reserved.new.self.items (Some key) c.match-turn.key w.store-is c.push_reserved.ensures.items w.key-is
                 (holding_goal c.args.grid.now w.in-Some.goal turns old n d before new fresh key less w.in-Some.is held.held i.holding);
             serves = subst (Serves c.args.grid.now) (sym w.store-is) held.serves;
-            keeps = subst (Keeps c.args.grid.now) (sym w.shelf-is) held.keeps;
+            keeps = subst (Keeps c.args.grid.now) (sym w.cache-is) held.keeps;
             room = room;
           })
       | in-None w ↦ record {
         holding = holding_is turns old (n + 1) before c.match-turn.store fresh c.push_reserved.new.self.items None c.match-turn.key w.store-is c.push_reserved.ensures.items w.key-is
             (holding_idle turns old n d before fresh less w.in-None.is i.holding);
         serves = subst (Serves c.args.grid.now) (sym w.store-is) i.serves;
-        keeps = subst (Keeps c.args.grid.now) (sym w.shelf-is) i.keeps;
+        keeps = subst (Keeps c.args.grid.now) (sym w.cache-is) i.keeps;
         room = room;
       }
     ]

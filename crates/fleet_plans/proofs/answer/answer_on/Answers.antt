@@ -5,5 +5,5 @@ use Rattle.fleet_plans.proofs.answer.answer_on.Goals as goal
 
 pub returns : goal.returns
 returns c =
-    c.answer_text.ensures (view c.args.map)
-    (record { wide = c.sides_of-sides.ensures.width; tall = c.sides_of-sides.ensures.height; on = c.new-2.ensures.on ∙ c.in_ok-grid.ensures })
+    c.answer_text.ensures.answer (view c.args.map)
+    (record { wide = c.sides_of-sides.ensures.width; tall = c.sides_of-sides.ensures.height; on = c.new-2.ensures.judged.on ∙ c.in_ok-grid.ensures })

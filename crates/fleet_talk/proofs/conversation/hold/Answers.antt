@@ -8,23 +8,23 @@ use Rattle.fleet_history.specs.History.{history_of}
 use Rattle.fleet_world.specs.Keeps.{talk}
 use Rattle.fleet_talk.specs.declared.fault.TalkFault.{TalkFault}
 use Rattle.fleet_talk.specs.Chapters.{ChapterView, KeepsTurned}
-use Rattle.fleet_talk.specs.Conversation.{ComesTo, Shelved, Terms}
+use Rattle.fleet_talk.specs.Conversation.{ComesTo, KeptChapters, Terms}
 use Rattle.fleet_talk.specs.Heading.{HearsAll, drafted}
 use Rattle.fleet_talk.proofs.Finishing.{come-head, come-unopened, come-refused, come-talk}
-use Rattle.fleet_talk.proofs.Shelving.{keeps-last, sound-is}
+use Rattle.fleet_talk.proofs.Keeping.{keeps-last, sound-is}
 use Rattle.fleet_talk.proofs.conversation.hold.Goals as goal
 
 pub returns-in-Ok : goal.returns-in-Ok
 returns-in-Ok g c =
     let on : Terms = record { kit = kit_laws c.args.ground.kit; floor = c.args.ground.grid; settings = c.args.pen.now.settings; head = drafted c.args.ground.head } in
-    let before = g.S.Shelf.kept c.args.ends.now.shelf in
-    let mid = g.S.Shelf.kept c.go_on-ended.new.ends.shelf in
-    let after = g.S.Shelf.kept c.keep_last.new.shelf in
+    let before = g.S.ChapterSink.kept c.args.ends.now.sink in
+    let mid = g.S.ChapterSink.kept c.go_on-ended.new.ends.sink in
+    let after = g.S.ChapterSink.kept c.keep_last.new.sink in
     let last = talk c.go_on-ended.new.session in
     come-talk on before mid after (reader_remaining g.I.Read.remaining c.args.ends.now.input) (reader_remaining g.I.Read.remaining c.hear_head.new.ends.input) (g.W.Write.contents c.args.ends.now.output) (g.W.Write.contents c.hear_head.new.ends.output) (g.W.Write.contents c.go_on-ended.new.ends.output) (drafted c.hear_head.new.head) c.hear_head.new.bytes.items c.in-Ok-Some.first c.args.pen.now.out.items c.hear_head.new.pen.out.items c.go_on-ended.new.pen.out.items c.hear_head.new.pen.settings (talk c.in-Ok.session) last c.go_on-ended.result c.keep_last.result
     (subst (λ (at : Option ℕ). IfSome (reader_remaining g.I.Read.remaining c.args.ends.now.input) (λ xs. HearsAll c.args.pen.now.settings (drafted c.args.ground.head) xs (reader_remaining g.I.Read.remaining c.hear_head.new.ends.input) (drafted c.hear_head.new.head) c.hear_head.new.bytes.items at (g.W.Write.contents c.args.ends.now.output) (g.W.Write.contents c.hear_head.new.ends.output) c.args.pen.now.out.items c.hear_head.new.pen.out.items)) c.in-Ok-Some.field-0-is c.in-Ok-Some.ensures.all)
     c.hear_head.ensures.settings c.in-Ok.ensures.can c.in-Ok.ensures.orderly c.in-Ok.ensures.ok c.go_on-ended.ensures.talks c.go_on-ended.ensures.broken
-    (subst (λ (known : Option (List (ChapterView Global))). OnOk c.go_on-ended.result (KeepsTurned known mid (talk c.in-Ok.session) last)) (ap g.S.Shelf.kept c.hear_head.ensures.shelf) c.go_on-ended.ensures.kept)
+    (subst (λ (known : Option (List (ChapterView Global))). OnOk c.go_on-ended.result (KeepsTurned known mid (talk c.in-Ok.session) last)) (ap g.S.ChapterSink.kept c.hear_head.ensures.sink) c.go_on-ended.ensures.kept)
     c.keep_last.ensures.ended
     (keeps-last c.keep_last.result mid after last c.finish-grid.result.1.number (history_of c.finish-grid.result.1) c.finish-grid.ensures.number c.finish-grid.ensures.history c.finish-grid.ensures.legal c.finish-grid.ensures.advancing c.keep_last.ensures.kept)
 
@@ -36,7 +36,7 @@ keep_last-requires g c =
 pub returns-in-Ok-Some : goal.returns-in-Ok-Some
 returns-in-Ok-Some g c =
     let on : Terms = record { kit = kit_laws c.args.ground.kit; floor = c.args.ground.grid; settings = c.args.pen.now.settings; head = drafted c.args.ground.head } in
-    let k : Shelved = record { old = g.S.Shelf.kept c.args.ends.now.shelf; new = g.S.Shelf.kept c.hear_head.new.ends.shelf } in
+    let k : KeptChapters = record { old = g.S.ChapterSink.kept c.args.ends.now.sink; new = g.S.ChapterSink.kept c.hear_head.new.ends.sink } in
     subst (λ (fault : TalkFault). IfSome (reader_remaining g.I.Read.remaining c.args.ends.now.input) (λ xs. ComesTo on xs (g.W.Write.contents c.args.ends.now.output) (g.W.Write.contents c.hear_head.new.ends.output) c.args.pen.now.out.items c.hear_head.new.pen.out.items k (Err fault))) (sym c.opening_fault.ensures)
     (come-refused on k (reader_remaining g.I.Read.remaining c.args.ends.now.input) (reader_remaining g.I.Read.remaining c.hear_head.new.ends.input) (g.W.Write.contents c.args.ends.now.output) (g.W.Write.contents c.hear_head.new.ends.output) (drafted c.hear_head.new.head) c.hear_head.new.bytes.items c.in-Ok-Some.first c.args.pen.now.out.items c.hear_head.new.pen.out.items c.in-Err-open.fault
     (subst (λ (at : Option ℕ). IfSome (reader_remaining g.I.Read.remaining c.args.ends.now.input) (λ xs. HearsAll c.args.pen.now.settings (drafted c.args.ground.head) xs (reader_remaining g.I.Read.remaining c.hear_head.new.ends.input) (drafted c.hear_head.new.head) c.hear_head.new.bytes.items at (g.W.Write.contents c.args.ends.now.output) (g.W.Write.contents c.hear_head.new.ends.output) c.args.pen.now.out.items c.hear_head.new.pen.out.items)) c.in-Ok-Some.field-0-is c.in-Ok-Some.ensures.all)
@@ -45,13 +45,13 @@ returns-in-Ok-Some g c =
 pub returns-in-Ok-None : goal.returns-in-Ok-None
 returns-in-Ok-None g c =
     let on : Terms = record { kit = kit_laws c.args.ground.kit; floor = c.args.ground.grid; settings = c.args.pen.now.settings; head = drafted c.args.ground.head } in
-    let k : Shelved = record { old = g.S.Shelf.kept c.args.ends.now.shelf; new = g.S.Shelf.kept c.hear_head.new.ends.shelf } in
-    come-unopened on (g.S.Shelf.kept c.args.ends.now.shelf) (g.S.Shelf.kept c.hear_head.new.ends.shelf) (reader_remaining g.I.Read.remaining c.args.ends.now.input) (reader_remaining g.I.Read.remaining c.hear_head.new.ends.input) (g.W.Write.contents c.args.ends.now.output) (g.W.Write.contents c.hear_head.new.ends.output) (drafted c.hear_head.new.head) c.hear_head.new.bytes.items c.args.pen.now.out.items c.hear_head.new.pen.out.items
-    (ap g.S.Shelf.kept c.hear_head.ensures.shelf)
+    let k : KeptChapters = record { old = g.S.ChapterSink.kept c.args.ends.now.sink; new = g.S.ChapterSink.kept c.hear_head.new.ends.sink } in
+    come-unopened on (g.S.ChapterSink.kept c.args.ends.now.sink) (g.S.ChapterSink.kept c.hear_head.new.ends.sink) (reader_remaining g.I.Read.remaining c.args.ends.now.input) (reader_remaining g.I.Read.remaining c.hear_head.new.ends.input) (g.W.Write.contents c.args.ends.now.output) (g.W.Write.contents c.hear_head.new.ends.output) (drafted c.hear_head.new.head) c.hear_head.new.bytes.items c.args.pen.now.out.items c.hear_head.new.pen.out.items
+    (ap g.S.ChapterSink.kept c.hear_head.ensures.sink)
     (subst (λ (at : Option ℕ). IfSome (reader_remaining g.I.Read.remaining c.args.ends.now.input) (λ xs. HearsAll c.args.pen.now.settings (drafted c.args.ground.head) xs (reader_remaining g.I.Read.remaining c.hear_head.new.ends.input) (drafted c.hear_head.new.head) c.hear_head.new.bytes.items at (g.W.Write.contents c.args.ends.now.output) (g.W.Write.contents c.hear_head.new.ends.output) c.args.pen.now.out.items c.hear_head.new.pen.out.items)) c.in-Ok-None.field-0-is c.in-Ok-None.ensures.all)
 
 pub returns : goal.returns
 returns g c =
     let on : Terms = record { kit = kit_laws c.args.ground.kit; floor = c.args.ground.grid; settings = c.args.pen.now.settings; head = drafted c.args.ground.head } in
-    let k : Shelved = record { old = g.S.Shelf.kept c.args.ends.now.shelf; new = g.S.Shelf.kept c.hear_head.new.ends.shelf } in
+    let k : KeptChapters = record { old = g.S.ChapterSink.kept c.args.ends.now.sink; new = g.S.ChapterSink.kept c.hear_head.new.ends.sink } in
     come-head on k (reader_remaining g.I.Read.remaining c.args.ends.now.input) (g.W.Write.contents c.args.ends.now.output) (g.W.Write.contents c.hear_head.new.ends.output) c.args.pen.now.out.items c.hear_head.new.pen.out.items c.in-Err.fault c.in-Err.ensures.broken

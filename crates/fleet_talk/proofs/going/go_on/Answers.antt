@@ -14,11 +14,11 @@ use Rattle.fleet_talk.specs.Lines.{line_shown}
 use Rattle.fleet_talk.specs.Talked.{TalksUntil}
 use Rattle.fleet_talk.proofs.Onward.{goes-none, goes-fault, goes-over, goes-broken, goes-unwritten, goes-unread, goes-end, goes-more}
 use Rattle.fleet_talk.proofs.Saying.{at-fault}
-use Rattle.fleet_talk.proofs.Shelving.{keeps-same, keeps-then}
+use Rattle.fleet_talk.proofs.Keeping.{keeps-same, keeps-then}
 use Rattle.fleet_talk.proofs.going.go_on.Goals as goal
 
 pub loop-number-init : goal.loop-number-init
-loop-number-init g c = record { goes = goes-none c.args.pen.now.settings (talk c.args.session.now) c.args.first c.args.bytes.now.items (reader_remaining g.I.Read.remaining c.args.ends.now.input) (g.W.Write.contents c.args.ends.now.output) c.args.pen.now.out.items; kept = keeps-same (g.S.Shelf.kept c.args.ends.now.shelf) (talk c.args.session.now) (talk c.args.session.now) refl; settings = refl }
+loop-number-init g c = record { goes = goes-none c.args.pen.now.settings (talk c.args.session.now) c.args.first c.args.bytes.now.items (reader_remaining g.I.Read.remaining c.args.ends.now.input) (g.W.Write.contents c.args.ends.now.output) c.args.pen.now.out.items; kept = keeps-same (g.S.ChapterSink.kept c.args.ends.now.sink) (talk c.args.session.now) (talk c.args.session.now) refl; settings = refl }
 
 pub returns-then-is_quit-clause-talks : goal.returns-then-is_quit-clause-talks
 returns-then-is_quit-clause-talks g c = goes-over c.args.pen.now.settings (talk c.args.session.now) (λ xs. acts_from c.args.pen.now.settings c.args.first (c.args.bytes.now.items ∷ heard_lines xs)) (reader_remaining g.I.Read.remaining c.args.ends.now.input) (reader_remaining g.I.Read.remaining c.loop-number.ends.input) (talk c.loop-number.session) c.loop-number.number c.loop-number.bytes.items (g.W.Write.contents c.args.ends.now.output) (g.W.Write.contents c.loop-number.ends.output) c.args.pen.now.out.items c.loop-number.pen.out.items c.loop-number.invariant.goes (line_shown c.line_of-line.result) (c.line_of-line.ensures ∙ ap (line_in c.loop-number.number) c.deref.ensures.value) (sym c.is_quit.ensures ∙ c.if-is_quit.true)
@@ -52,8 +52,8 @@ returns-then-not-branch-clause-talks g c =
     goes-end c.args.pen.now.settings (talk c.args.session.now) (λ xs. acts_from c.args.pen.now.settings c.args.first (c.args.bytes.now.items ∷ heard_lines xs)) (reader_remaining g.I.Read.remaining c.args.ends.now.input) (reader_remaining g.I.Read.remaining c.loop-number.ends.input) (talk c.loop-number.session) c.loop-number.number c.loop-number.bytes.items (g.W.Write.contents c.args.ends.now.output) (g.W.Write.contents c.loop-number.ends.output) c.args.pen.now.out.items c.loop-number.pen.out.items c.loop-number.invariant.goes (line_shown c.line_of-line.result) (c.line_of-line.ensures ∙ ap (line_in c.loop-number.number) c.deref.ensures.value) (sym c.is_quit.ensures ∙ c.if-is_quit.false) (talk c.answer.new.session) (g.W.Write.contents c.answer.new.ends.output) c.answer.new.pen.out.items text (subst (λ (st : Settings). Talks st.roll (talk c.loop-number.session) (acts_on st (line_shown c.line_of-line.result)) text (talk c.answer.new.session)) c.loop-number.invariant.settings talks) says (g.W.Write.contents c.write_if_due.new.ends.output) c.write_if_due.new.pen.out.items c.in_ok-write_if_due.ensures.says (reader_remaining g.I.Read.remaining c.next_line.new.input) c.in_ok-next_line.field-0 c.next_line.new.bytes.items next c.if-not-branch.true
 
 pub returns-then-not-branch-clause-kept : goal.returns-then-not-branch-clause-kept
-returns-then-not-branch-clause-kept g c = keeps-then (g.S.Shelf.kept c.args.ends.now.shelf) (g.S.Shelf.kept c.loop-number.ends.shelf) (g.S.Shelf.kept c.write_if_due.new.ends.shelf) (talk c.args.session.now) (talk c.loop-number.session) (talk c.answer.new.session) c.loop-number.invariant.kept
-    (subst (λ (known : Option (List (ChapterView Global))). KeepsTurned (g.S.Shelf.kept c.loop-number.ends.shelf) known (talk c.loop-number.session) (talk c.answer.new.session)) (sym (ap g.S.Shelf.kept c.write_if_due.ensures.shelf)) c.in_ok-answer.ensures.kept)
+returns-then-not-branch-clause-kept g c = keeps-then (g.S.ChapterSink.kept c.args.ends.now.sink) (g.S.ChapterSink.kept c.loop-number.ends.sink) (g.S.ChapterSink.kept c.write_if_due.new.ends.sink) (talk c.args.session.now) (talk c.loop-number.session) (talk c.answer.new.session) c.loop-number.invariant.kept
+    (subst (λ (known : Option (List (ChapterView Global))). KeepsTurned (g.S.ChapterSink.kept c.loop-number.ends.sink) known (talk c.loop-number.session) (talk c.answer.new.session)) (sym (ap g.S.ChapterSink.kept c.write_if_due.ensures.sink)) c.in_ok-answer.ensures.kept)
 
 pub loop-number-preserved : goal.loop-number-preserved
 loop-number-preserved g c =
@@ -62,8 +62,8 @@ loop-number-preserved g c =
     let next = subst (λ (o : Option (List ℕ)). IfSome o (λ ys. IsNext ys (reader_remaining g.I.Read.remaining c.next_line.new.input) c.in_ok-next_line.field-0 c.next_line.new.bytes.items)) (ap (reader_remaining g.I.Read.remaining) input) c.in_ok-next_line.ensures.next in
     record {
       goes = goes-more c.args.pen.now.settings (talk c.args.session.now) (λ xs. acts_from c.args.pen.now.settings c.args.first (c.args.bytes.now.items ∷ heard_lines xs)) (reader_remaining g.I.Read.remaining c.args.ends.now.input) (reader_remaining g.I.Read.remaining c.loop-number.ends.input) (talk c.loop-number.session) c.loop-number.number c.loop-number.bytes.items (g.W.Write.contents c.args.ends.now.output) (g.W.Write.contents c.loop-number.ends.output) c.args.pen.now.out.items c.loop-number.pen.out.items c.loop-number.invariant.goes (line_shown c.line_of-line.result) (c.line_of-line.ensures ∙ ap (line_in c.loop-number.number) c.deref.ensures.value) (sym c.is_quit.ensures ∙ c.if-is_quit.false) (talk c.answer.new.session) (g.W.Write.contents c.answer.new.ends.output) c.answer.new.pen.out.items text (subst (λ (st : Settings). Talks st.roll (talk c.loop-number.session) (acts_on st (line_shown c.line_of-line.result)) text (talk c.answer.new.session)) c.loop-number.invariant.settings talks) says (g.W.Write.contents c.write_if_due.new.ends.output) c.write_if_due.new.pen.out.items c.in_ok-write_if_due.ensures.says (reader_remaining g.I.Read.remaining c.next_line.new.input) c.in_ok-next_line.field-0 c.next_line.new.bytes.items next c.if-not-branch.false;
-      kept = keeps-then (g.S.Shelf.kept c.args.ends.now.shelf) (g.S.Shelf.kept c.loop-number.ends.shelf) (g.S.Shelf.kept c.write_if_due.new.ends.shelf) (talk c.args.session.now) (talk c.loop-number.session) (talk c.answer.new.session) c.loop-number.invariant.kept
-          (subst (λ (known : Option (List (ChapterView Global))). KeepsTurned (g.S.Shelf.kept c.loop-number.ends.shelf) known (talk c.loop-number.session) (talk c.answer.new.session)) (sym (ap g.S.Shelf.kept c.write_if_due.ensures.shelf)) c.in_ok-answer.ensures.kept);
+      kept = keeps-then (g.S.ChapterSink.kept c.args.ends.now.sink) (g.S.ChapterSink.kept c.loop-number.ends.sink) (g.S.ChapterSink.kept c.write_if_due.new.ends.sink) (talk c.args.session.now) (talk c.loop-number.session) (talk c.answer.new.session) c.loop-number.invariant.kept
+          (subst (λ (known : Option (List (ChapterView Global))). KeepsTurned (g.S.ChapterSink.kept c.loop-number.ends.sink) known (talk c.loop-number.session) (talk c.answer.new.session)) (sym (ap g.S.ChapterSink.kept c.write_if_due.ensures.sink)) c.in_ok-answer.ensures.kept);
       settings = c.write_if_due.ensures.settings ∙ (c.answer.ensures.settings ∙ c.loop-number.invariant.settings);
     }
 

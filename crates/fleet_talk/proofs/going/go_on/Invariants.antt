@@ -13,6 +13,6 @@ invariant-loop-number g l = record {
   goes : IfSome (reader_remaining g.I.Read.remaining l.fn.ends.input) (λ xs. Goes l.fn.pen.settings (talk l.fn.session) (acts_from l.fn.pen.settings l.fn.first (l.fn.bytes.items ∷ heard_lines xs))
       (reader_remaining g.I.Read.remaining l.ends.input) (talk l.session) l.number l.bytes.items
       (g.W.Write.contents l.fn.ends.output) (g.W.Write.contents l.ends.output) l.fn.pen.out.items l.pen.out.items);
-  kept : KeepsTurned (g.S.Shelf.kept l.fn.ends.shelf) (g.S.Shelf.kept l.ends.shelf) (talk l.fn.session) (talk l.session);
+  kept : KeepsTurned (g.S.ChapterSink.kept l.fn.ends.sink) (g.S.ChapterSink.kept l.ends.sink) (talk l.fn.session) (talk l.session);
   settings : l.pen.settings ≡ l.fn.pen.settings;
 }

@@ -1,9 +1,10 @@
 -- A line of the head, and where the head ends.
 use Rattle.std.proofs.Common.{◌∙◌, ◌+◌, ℕ, List, Option, IfSome, refl, sym, ap, subst}
-use Rattle.std.specs.Io.Buffered.{reader_remaining}
+use Rattle.std.specs.Io.Buffered.{reader_buffer, reader_remaining}
 use Rattle.fleet_talk.specs.declared.heading.After.{After}
 use Rattle.fleet_talk.specs.declared.fault.TalkFault.TheVariants.{Input, NoMemory}
 use Rattle.fleet_talk.specs.Ask.{line_in}
+use Rattle.fleet_talk.specs.Due.{IsDone}
 use Rattle.fleet_talk.specs.Heading.{Follows, Hears, drafted}
 use Rattle.fleet_talk.specs.Lines.{line_shown}
 use Rattle.fleet_talk.proofs.Hearing.{hears-none, hears-fault, hears-end, hears-more, hears-unwritten, hears-opens, hears-over, hears-partly}
@@ -11,7 +12,7 @@ use Rattle.fleet_talk.proofs.Saying.{at-fault}
 use Rattle.fleet_talk.proofs.heading.hear_head.Goals as goal
 
 pub loop-number-init : goal.loop-number-init
-loop-number-init g c = record { hears = hears-none c.args.pen.now.settings (drafted c.args.head.now) (reader_remaining g.I.Read.remaining c.args.ends.now.input) (g.W.Write.contents c.args.ends.now.output) c.args.pen.now.out.items; settings = refl; shelf = refl }
+loop-number-init g c = record { hears = hears-none c.args.pen.now.settings (drafted c.args.head.now) (reader_remaining g.I.Read.remaining c.args.ends.now.input) (g.W.Write.contents c.args.ends.now.output) c.args.pen.now.out.items; settings = refl; sink = refl; done = c.requires }
 
 pub returns-in_err-next_line-clause-broken : goal.returns-in_err-next_line-clause-broken
 returns-in_err-next_line-clause-broken g c =
@@ -47,7 +48,8 @@ loop-number-preserved g c =
           (g.W.Write.contents c.args.ends.now.output) (g.W.Write.contents c.write_if_due.new.ends.output) c.args.pen.now.out.items c.write_if_due.new.pen.out.items))
           (ap (reader_remaining g.I.Read.remaining) (sym c.write_if_due.ensures.input)) hears;
       settings = c.write_if_due.ensures.settings ∙ (follows.2.settings ∙ c.loop-number.invariant.settings);
-      shelf = c.write_if_due.ensures.shelf ∙ c.loop-number.invariant.shelf;
+      sink = c.write_if_due.ensures.sink ∙ c.loop-number.invariant.sink;
+      done = subst (λ (buffered : List ℕ). IsDone buffered c.write_if_due.new.pen.out.items) (ap reader_buffer (sym c.write_if_due.ensures.input)) c.write_if_due.ensures.done;
     }
 
 pub returns-clause-broken : goal.returns-clause-broken

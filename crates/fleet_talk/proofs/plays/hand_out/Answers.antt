@@ -2,7 +2,7 @@
 use Rattle.std.proofs.Common.{refl}
 use Rattle.fleet_history.specs.History.{history_of}
 use Rattle.fleet_world.specs.Keeps.{talk}
-use Rattle.fleet_talk.proofs.Shelving.{keeps-one, sound-is}
+use Rattle.fleet_talk.proofs.Keeping.{keeps-one, sound-is}
 use Rattle.fleet_talk.proofs.plays.hand_out.Goals as goal
 
 pub keep-requires : goal.keep-requires
@@ -13,5 +13,5 @@ keep-requires g c =
 pub returns-in_ok-keep-in-Ok-clause-kept : goal.returns-in_ok-keep-in-Ok-clause-kept
 returns-in_ok-keep-in-Ok-clause-kept g c =
     let world = c.args.session.now.world.core in
-    keeps-one (g.S.Shelf.kept c.args.shelf.now) (g.S.Shelf.kept c.keep.new.shelf) (talk c.args.session.now) (talk c.next_chapter.new.self) c.in-Ok.chapter.number (history_of c.in-Ok.chapter)
+    keeps-one (g.S.ChapterSink.kept c.args.sink.now) (g.S.ChapterSink.kept c.keep.new.sink) (talk c.args.session.now) (talk c.next_chapter.new.self) c.in-Ok.chapter.number (history_of c.in-Ok.chapter)
     c.in-Ok.ensures.number c.in-Ok.ensures.history (sound-is world.floor world.history world.history refl c.in-Ok.ensures.legal c.in-Ok.ensures.advancing) c.in-Ok.ensures.next c.in_ok-keep-in-Ok.ensures.kept

@@ -2,7 +2,7 @@
 use Rattle.std.proofs.Common.{refl}
 use Rattle.std.proofs.lemmas.Result.{on_ok_weaker}
 use Rattle.fleet_world.specs.Keeps.{talk}
-use Rattle.fleet_talk.proofs.Shelving.{step-beginning}
+use Rattle.fleet_talk.proofs.Keeping.{step-beginning}
 use Rattle.fleet_talk.proofs.plays.play.Goals as goal
 
 pub returns-clause-ok : goal.returns-clause-ok

@@ -7,12 +7,12 @@ use Rattle.fleet_talk.specs.Acts.{Does}
 use Rattle.fleet_talk.specs.Said.{under}
 use Rattle.fleet_talk.proofs.Breaking.{until-times, until-times-written}
 use Rattle.fleet_talk.proofs.Saying.{at-fault, says-none, says-then, says-written}
-use Rattle.fleet_talk.proofs.Shelving.{keeps-same, keeps-then}
+use Rattle.fleet_talk.proofs.Keeping.{keeps-same, keeps-then}
 use Rattle.fleet_talk.proofs.Talking.{talks-more}
 use Rattle.fleet_talk.proofs.plays.play_all.Goals as goal
 
 pub loop-init : goal.loop-init
-loop-init g c = record { talks = ([], (refl, refl), says-none _ _); kept = keeps-same (g.S.Shelf.kept c.args.ends.now.shelf) (talk c.args.session.now) (talk c.args.session.now) refl; settings = refl; input = refl }
+loop-init g c = record { talks = ([], (refl, refl), says-none _ _); kept = keeps-same (g.S.ChapterSink.kept c.args.ends.now.sink) (talk c.args.session.now) (talk c.args.session.now) refl; settings = refl; input = refl }
 
 pub loop-preserved : goal.loop-preserved
 loop-preserved g c =
@@ -26,7 +26,7 @@ loop-preserved g c =
         talks-more c.args.pen.now.settings.roll (talk c.args.session.now) (talk c.loop.session) (talk c.play_on.new.session) act c.loop.counter text more talks does,
         says-then _ _ _ _ _ _ text more says (says-written _ _ _ _ _ more added.out c.in_ok-write_if_full.ensures.says),
       );
-      kept = keeps-then (g.S.Shelf.kept c.args.ends.now.shelf) (g.S.Shelf.kept c.loop.ends.shelf) (g.S.Shelf.kept c.play_on.new.shelf) (talk c.args.session.now) (talk c.loop.session) (talk c.play_on.new.session) c.loop.invariant.kept c.in_ok-play_on.ensures.kept;
+      kept = keeps-then (g.S.ChapterSink.kept c.args.ends.now.sink) (g.S.ChapterSink.kept c.loop.ends.sink) (g.S.ChapterSink.kept c.play_on.new.sink) (talk c.args.session.now) (talk c.loop.session) (talk c.play_on.new.session) c.loop.invariant.kept c.in_ok-play_on.ensures.kept;
       settings = c.write_if_full.ensures.settings ∙ (added.settings ∙ c.loop.invariant.settings);
       input = c.loop.invariant.input;
     }

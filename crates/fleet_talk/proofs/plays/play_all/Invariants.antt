@@ -13,7 +13,7 @@ abbrev pub invariant-loop : goal.invariant-loop
 invariant-loop g l = record {
   talks : (text : List ℕ) × Talks l.fn.pen.settings.roll (talk l.fn.session) (replicate l.counter (play (under l.mark) l.more.event)) text (talk l.session)
       × Says (g.W.Write.contents l.fn.ends.output) (g.W.Write.contents l.ends.output) l.fn.pen.out.items l.pen.out.items text;
-  kept : KeepsTurned (g.S.Shelf.kept l.fn.ends.shelf) (g.S.Shelf.kept l.ends.shelf) (talk l.fn.session) (talk l.session);
+  kept : KeepsTurned (g.S.ChapterSink.kept l.fn.ends.sink) (g.S.ChapterSink.kept l.ends.sink) (talk l.fn.session) (talk l.session);
   settings : l.pen.settings ≡ l.fn.pen.settings;
   input : l.ends.input ≡ l.fn.ends.input;
 }

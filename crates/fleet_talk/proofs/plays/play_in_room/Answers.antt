@@ -4,7 +4,7 @@ use Rattle.fleet_world.specs.Keeps.{talk}
 use Rattle.fleet_talk.specs.Acts.{Turns}
 use Rattle.fleet_talk.specs.Said.{under}
 use Rattle.fleet_talk.proofs.Rolling.{plays-here, plays-last, plays-next}
-use Rattle.fleet_talk.proofs.Shelving.{keeps-same, keeps-then, step-beginning}
+use Rattle.fleet_talk.proofs.Keeping.{keeps-same, keeps-then, step-beginning}
 use Rattle.fleet_talk.proofs.plays.play_in_room.Goals as goal
 
 pub returns-then-not-wants_room-clause-ok : goal.returns-then-not-wants_room-clause-ok
@@ -28,8 +28,8 @@ returns-then-branch-clause-kept g c =
     let mid = talk c.step.new.self in
     let next = talk c.hand_out.new.session in
     let end = talk c.play.new.session in
-    let old = g.S.Shelf.kept c.args.shelf.now in
-    let kept = g.S.Shelf.kept c.hand_out.new.shelf in
+    let old = g.S.ChapterSink.kept c.args.sink.now in
+    let kept = g.S.ChapterSink.kept c.hand_out.new.sink in
     let stepped = keeps-same old start mid (step-beginning start mid c.args.event c.in_ok-reply.reply c.in_ok-reply.ensures.step) in
     keeps-then old kept kept start next end (keeps-then old old kept start mid next stepped c.in_ok-hand_out.ensures.kept) (keeps-same kept next end c.in_ok-play.ensures.same)
 
@@ -46,6 +46,6 @@ pub returns-clause-kept : goal.returns-clause-kept
 returns-clause-kept g c =
     let start = talk c.args.session.now in
     let mid = talk c.step.new.self in
-    let old = g.S.Shelf.kept c.args.shelf.now in
+    let old = g.S.ChapterSink.kept c.args.sink.now in
     let stepped = keeps-same old start mid (step-beginning start mid c.args.event c.in_ok-reply.reply c.in_ok-reply.ensures.step) in
-    keeps-then old old (g.S.Shelf.kept c.hand_out.new.shelf) start mid (talk c.hand_out.new.session) stepped c.in_ok-hand_out.ensures.kept
+    keeps-then old old (g.S.ChapterSink.kept c.hand_out.new.sink) start mid (talk c.hand_out.new.session) stepped c.in_ok-hand_out.ensures.kept

@@ -5,7 +5,7 @@ use Rattle.errands_text.specs.Kit.{kit_laws}
 use Rattle.fleet_world.specs.Keeps.{talk}
 use Rattle.fleet_talk.specs.declared.fault.TalkFault.TheVariants.{Output}
 use Rattle.fleet_talk.specs.Chapters.{chapter_shown}
-use Rattle.fleet_talk.specs.Conversation.{Shelved, Terms}
+use Rattle.fleet_talk.specs.Conversation.{KeptChapters, Terms}
 use Rattle.fleet_talk.specs.Heading.{drafted}
 use Rattle.fleet_talk.proofs.Resumptions.{resumption-whole, resumption-broken, resumption-cut, same-broke}
 use Rattle.fleet_talk.proofs.resumption.resume.Goals as goal
@@ -13,7 +13,7 @@ use Rattle.fleet_talk.proofs.resumption.resume.Goals as goal
 pub returns-in-Ok-converse_open-clause-ended : goal.returns-in-Ok-converse_open-clause-ended
 returns-in-Ok-converse_open-clause-ended g c =
     let on : Terms = record { kit = kit_laws c.args.ground.kit; floor = c.args.ground.grid; settings = c.args.settings; head = drafted c.args.ground.head } in
-    let k : Shelved = record { old = g.S.Shelf.kept c.args.ends.now.shelf; new = g.S.Shelf.kept c.converse_open.new.ends.shelf } in
+    let k : KeptChapters = record { old = g.S.ChapterSink.kept c.args.ends.now.sink; new = g.S.ChapterSink.kept c.converse_open.new.ends.sink } in
     resumption-whole on (chapter_shown c.args.chapter) (talk c.in-Ok.session) c.in-Ok.ensures.ok c.in-Ok.ensures.may (reader_remaining g.I.Read.remaining c.args.ends.now.input) (g.W.Write.contents c.args.ends.now.output) (g.W.Write.contents c.converse_open.new.ends.output) k
     c.in-Ok-converse_open.ensures.ended
 

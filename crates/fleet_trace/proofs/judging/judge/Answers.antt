@@ -13,18 +13,18 @@ pub returns-then-not-branch-clause-legal : goal.returns-then-not-branch-clause-l
 returns-then-not-branch-clause-legal g c = λ legal.
     absurd (impossible (sym c.if-not-branch.true ∙ c.in_ok-is_in_order.ensures.1 (legal-opening c.args.grid.now (history_of c.args.chapter.now) legal)))
 
-pub judge_calmly-requires-clause-order : goal.judge_calmly-requires-clause-order
-judge_calmly-requires-clause-order g c = c.in_ok-is_in_order.ensures.0 c.if-not-branch.false
+pub judge_from_zero-requires-clause-order : goal.judge_from_zero-requires-clause-order
+judge_from_zero-requires-clause-order g c = c.in_ok-is_in_order.ensures.0 c.if-not-branch.false
 
 pub returns-clause-ok : goal.returns-clause-ok
 returns-clause-ok g c =
-    subst (λ (es : List (Entry _)). OnOk c.judge_calmly.result (IsLegal c.args.grid.now (with_entries (start c.args.chapter.now.opening) es))) c.as_slice-entries.ensures.value c.judge_calmly.ensures.ok
+    subst (λ (es : List (Entry _)). OnOk c.judge_from_zero.result (IsLegal c.args.grid.now (with_entries (start c.args.chapter.now.opening) es))) c.as_slice-entries.ensures.value c.judge_from_zero.ensures.ok
 
 pub returns-clause-fault : goal.returns-clause-fault
 returns-clause-fault g c =
-    subst (λ (es : List (Entry _)). IfErr c.judge_calmly.result (λ fault. IsJudgeFault c.args.grid.now (with_entries (start c.args.chapter.now.opening) es) fault)) c.as_slice-entries.ensures.value c.judge_calmly.ensures.fault
+    subst (λ (es : List (Entry _)). IfErr c.judge_from_zero.result (λ fault. IsJudgeFault c.args.grid.now (with_entries (start c.args.chapter.now.opening) es) fault)) c.as_slice-entries.ensures.value c.judge_from_zero.ensures.fault
 
 pub returns-clause-legal : goal.returns-clause-legal
 returns-clause-legal g c = λ legal.
-    legal-memory c.args.grid.now (history_of c.args.chapter.now) legal c.judge_calmly.result
-    (subst (λ (es : List (Entry _)). IfErr c.judge_calmly.result (λ fault. IsJudgeFault c.args.grid.now (with_entries (start c.args.chapter.now.opening) es) fault)) c.as_slice-entries.ensures.value c.judge_calmly.ensures.fault)
+    legal-memory c.args.grid.now (history_of c.args.chapter.now) legal c.judge_from_zero.result
+    (subst (λ (es : List (Entry _)). IfErr c.judge_from_zero.result (λ fault. IsJudgeFault c.args.grid.now (with_entries (start c.args.chapter.now.opening) es) fault)) c.as_slice-entries.ensures.value c.judge_from_zero.ensures.fault)

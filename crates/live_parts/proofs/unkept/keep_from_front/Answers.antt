@@ -13,6 +13,6 @@ loop-chapter-preserved g c =
     let some : 0 < length c.loop-chapter.chapters.items = search rules in
     let is = first-is xs x some c.in-Some.ensures.lookup ∙ ap (λ l. x ∷ l) (sym c.pop_front.ensures.rest) in
     record {
-      kept = keeps-next chapter_shown (map chapter_shown c.args.chapters.now.items) xs ys x (g.S.Shelf.kept c.args.shelf.now) (g.S.Shelf.kept c.loop-chapter.shelf) (g.S.Shelf.kept c.keep.new.self) is c.loop-chapter.invariant.kept c.in_ok-keep.ensures.ok;
+      kept = keeps-next chapter_shown (map chapter_shown c.args.chapters.now.items) xs ys x (g.S.ChapterSink.kept c.args.sink.now) (g.S.ChapterSink.kept c.loop-chapter.sink) (g.S.ChapterSink.kept c.keep.new.self) is c.loop-chapter.invariant.kept c.in_ok-keep.ensures.ok;
       sound = all-left IsKeepable chapter_shown xs ys x is c.loop-chapter.invariant.sound;
     }

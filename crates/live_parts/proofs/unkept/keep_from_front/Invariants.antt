@@ -6,7 +6,7 @@ use Rattle.live_parts.proofs.unkept.keep_from_front.Given as goal
 
 abbrev pub invariant-loop-chapter : goal.invariant-loop-chapter
 invariant-loop-chapter g l = record {
-  kept : KeepsFirst (map chapter_shown l.fn.chapters.items) (map chapter_shown l.chapters.items) (g.S.Shelf.kept l.fn.shelf) (g.S.Shelf.kept l.shelf);
+  kept : KeepsFirst (map chapter_shown l.fn.chapters.items) (map chapter_shown l.chapters.items) (g.S.ChapterSink.kept l.fn.sink) (g.S.ChapterSink.kept l.sink);
   sound : AreSound (map chapter_shown l.chapters.items);
 }
 

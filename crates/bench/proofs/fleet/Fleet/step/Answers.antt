@@ -15,7 +15,7 @@ step_by-requires-clause-shows g c = c.requires.serves.each
 pub returns-clause-way : goal.returns-clause-way
 returns-clause-way g c =
     let s = c.args.self.now in
-    let free = c.step_by.ensures.stepped.conflict_free in
+    let free = c.in-Ok.ensures.stepped.conflict_free in
     let size : s.to.len ≡ length c.step_by.new.to = omega (arith, s.to.ok.0, c.requires.way.next, free.same_length, ap length c.deref-2.ensures.value) in
     way_for c.args.site.now.grid c.args.site.now.home (length c.args.fields.now) s.from.items s.to.items c.deref-2.result.now c.step_by.new.to c.swap.new.x.items c.swap.new.y.items s.waits.items s.aims.items
     c.deref-2.ensures.value (ap (λ v. v.items) c.swap.ensures.x_after ∙ seam s.to.len c.step_by.new.to (drop (length c.step_by.new.to) s.to.items) size) (ap (λ v. v.items) c.swap.ensures.y_after) c.requires.way free
@@ -33,7 +33,7 @@ pub returns-clause-conflict_free : goal.returns-clause-conflict_free
 returns-clause-conflict_free g c =
     let s = c.args.self.now in
     let m = c.args.site.now.grid in
-    let free = c.step_by.ensures.stepped.conflict_free in
+    let free = c.in-Ok.ensures.stepped.conflict_free in
     let size : s.to.len ≡ length c.step_by.new.to = omega (arith, s.to.ok.0, c.requires.way.next, free.same_length, ap length c.deref-2.ensures.value) in
     let to : c.swap.new.x.items ≡ c.step_by.new.to = ap (λ v. v.items) c.swap.ensures.x_after ∙ seam s.to.len c.step_by.new.to (drop (length c.step_by.new.to) s.to.items) size in
     subst (λ (from : List ℕ). IsConflictFree m from c.swap.new.x.items) c.deref-2.ensures.value (subst (λ (x : List ℕ). IsConflictFree m c.deref-2.result.now x) (sym to) free)

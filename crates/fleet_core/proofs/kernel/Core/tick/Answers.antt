@@ -2,7 +2,7 @@ use Rattle.std.proofs.Common.{◌≡◌, ◌∙◌, ◌+◌, ◌<◌, List, ℕ,
 use Rattle.std.specs.Option.{option_map}
 use Rattle.std.proofs.lemmas.List.{length-map}
 use Rattle.std.proofs.lemmas.Result.{err_from_is_err_and}
-use Rattle.fleet_planner.specs.Aims.{goals_of}
+use Rattle.fleet_planner.specs.Courses.{goals_of}
 use Rattle.fleet_hooks.specs.declared.law.TieLaw.{TieLaw}
 use Rattle.fleet_history.specs.declared.history.Entry.TheVariants as entry
 use Rattle.fleet_history.specs.History.{history_of, clock, after}

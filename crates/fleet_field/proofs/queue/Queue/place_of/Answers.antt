@@ -2,7 +2,7 @@ use Rattle.std.proofs.Common.{◌≡◌, ◌+◌, ◌<◌, List, length, slice_i
 use Rattle.fleet_field.proofs.Queued.{found_first, found_second, found_nowhere}
 use Rattle.fleet_field.specs.inside.Queue.{Queue}
 use Rattle.fleet_field.specs.Field.{Aim}
-use Rattle.fleet_field.specs.Shelf.{HasKept}
+use Rattle.fleet_field.specs.FieldCache.{HasKept}
 use Rattle.fleet_field.proofs.queue.Queue.place_of.Goals as goal
 
 pub returns-in-Some : goal.returns-in-Some

@@ -4,7 +4,7 @@ use Rattle.fleet_field.specs.Field.{Aim}
 use Rattle.fleet_field.specs.Store.{shown, IsRelease}
 use Rattle.fleet_field.specs.declared.store.Held.{Held}
 use Rattle.fleet_field.proofs.Shares.{once_same, once_less, released_more, released_last}
-use Rattle.fleet_field.proofs.Shelved.{keeps_put}
+use Rattle.fleet_field.proofs.Cached.{keeps_put}
 use Rattle.fleet_field.proofs.store.FieldStore.release_to.Goals as goal
 
 pub invariant_of-self : goal.invariant_of-self
@@ -18,7 +18,7 @@ invariant_of-self-else-uses-gt1 g c =
 pub returns-else-uses-gt1-clause-keeps : goal.returns-else-uses-gt1-clause-keeps
 returns-else-uses-gt1-clause-keeps g c = λ m serves keeps.
     let was : shown c.args.self.now c.args.key ≡ Some _ = sym (ap (λ s. shown s c.args.key) c.self.view_is) ∙ c.remove.ensures.value in
-    keeps_put m c.remove.result.field c.args.shelf.now.kept c.put.new.self.kept c.put.ensures (serves c.args.key _ was) keeps
+    keeps_put m c.remove.result.field c.args.cache.now.kept c.put.new.self.kept c.put.ensures (serves c.args.key _ was) keeps
 
 pub returns-then-uses-gt1-clause-released : goal.returns-then-uses-gt1-clause-released
 returns-then-uses-gt1-clause-released g c =

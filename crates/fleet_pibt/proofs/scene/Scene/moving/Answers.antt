@@ -12,7 +12,7 @@ pub returns-clause-candidate : goal.returns-clause-candidate
 returns-clause-candidate g c =
     let seen = c.requires.whole.gathered.each c.args.robot c.args.around c.requires.seen in
     let self = c.args.self.now in
-    let s : Setting = setting self.grid.now self.from.now (g.G.Goals.goal_of self.goals.now) (g.G.Goals.distance self.goals.now) (map (λ h. h.law) self.ties.now) in
+    let s : Setting = setting self.grid.now self.from.now (g.G.Guide.goal_of self.goals.now) (g.G.Guide.distance self.goals.now self.grid.now) (map (λ h. h.law) self.ties.now) in
     candidate-from s c.args.robot c.args.dir _ c.beside-cell.result c.cost_beside.result c.rank.result c.rank_beside.result c.number.result c.has.result _ seen c.beside-cell.ensures c.if-cell-around.false
     (c.requires.whole.rated c.args.robot c.args.around c.requires.seen c.args.dir)
     c.has.ensures c.cost_beside.ensures

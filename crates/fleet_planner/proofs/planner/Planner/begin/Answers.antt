@@ -1,7 +1,7 @@
-use Rattle.std.proofs.Common.{◌∙◌, ℕ, Option, Some, refl, ap, arith, sym, subst}
-use Rattle.fleet_planner.specs.Aims.{goals_of}
+use Rattle.std.proofs.Common.{◌∙◌, ℕ, List, length, Option, Some, refl, ap, arith, sym, subst}
+use Rattle.fleet_planner.specs.Courses.{goals_of}
 use Rattle.fleet_history.proofs.Legal.{accepted-robot}
-use Rattle.fleet_state.proofs.Parts.{queue-count}
+use Rattle.fleet_state.proofs.Parts.{cell-count, queue-count}
 use Rattle.fleet_planner.specs.Aimed.{IsAimed, Planner, begun_goals}
 use Rattle.fleet_planner.proofs.GoalsKept.{aims-count, begun-known}
 use Rattle.fleet_planner.proofs.Refused.{on_ok_map, on_err_map}
@@ -18,6 +18,12 @@ aim-requires-clause-known g c =
     let a = subst (IsAimed c.args.grid.now may.history) (sym c.self.view_is) may.aimed in
     let first = begun-known c.args.grid.now may.history c.args.state.now.queues c.requires.client c.args.order c.args.verdict c.in-Some.robot c.in-Some.cell c.requires.verdict (sym c.first_goal.ensures ∙ c.in-Some.is) in
     omega (arith, aims-count may.history c.self.inside.aims a.aimed, first.0)
+
+pub aim-requires-clause-cells : goal.aim-requires-clause-cells
+aim-requires-clause-cells g c =
+    let may = c.requires.may in
+    let a = subst (IsAimed c.args.grid.now may.history) (sym c.self.view_is) may.aimed in
+    omega (arith, aims-count may.history c.self.inside.aims a.aimed, ap (λ (cells : List ℕ). length cells) c.place.ensures.cells, cell-count may.is)
 
 pub aim-requires-clause-on : goal.aim-requires-clause-on
 aim-requires-clause-on g c =

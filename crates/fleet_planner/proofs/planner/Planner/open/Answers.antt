@@ -1,7 +1,7 @@
 use Rattle.std.proofs.Common.{◌≡◌, ◌∙◌, ℕ, List, Option, None, length, ap, arith}
 use Rattle.std.proofs.lemmas.List.{length-replicate}
 use Rattle.std.proofs.lemmas.Result.{IfOk-from_err}
-use Rattle.fleet_field.specs.Field.{Aim}
+use Rattle.fleet_planner.specs.Courses.{goals_of}
 use Rattle.fleet_planner.proofs.planner.Planner.open.Goals as goal
 
 pub returns-in_err-bridgeless : goal.returns-in_err-bridgeless
@@ -18,7 +18,7 @@ returns-in_err-stepper g c = IfOk-from_err c.from_residual-in_err-stepper.result
 
 pub invariant_of-result : goal.invariant_of-result
 invariant_of-result g c =
-    let count : length c.in_ok-aims.aims ≡ c.args.robots = ap (λ (aims : List (Option Aim)). length aims) c.in_ok-aims.ensures.none ∙ length-replicate c.args.robots None in
+    let count : length (goals_of c.in_ok-aims.aims) ≡ c.args.robots = ap (λ (goals : List (Option ℕ)). length goals) c.in_ok-aims.ensures.none ∙ length-replicate c.args.robots None in
     let room = c.in_ok-turns.ensures.capacity in
     omega (arith, count, room)
 
@@ -26,7 +26,7 @@ pub returns : goal.returns
 returns g c = record {
   none = c.in_ok-aims.ensures.none;
   on = c.in_ok-aims.ensures.on c.args.grid.now;
-  size = c.in_ok-stepper.ensures ∙ ap (λ (n : ℕ). record { cells = n; robots = c.args.robots }) c.cell_count.ensures.value;
+  size = c.in_ok-stepper.ensures ∙ ap (λ (n : ℕ). record { cells = n; robots = c.args.robots }) c.cell_count-2.ensures.value;
   bridge = c.in_ok-bridgeless.ensures;
   keeps = c.new-3.ensures.keeps c.args.grid.now;
 }

@@ -1,4 +1,6 @@
-use Rattle.std.proofs.Common.{arith, ◌≡◌, ◌∙◌, ℕ, length, ap, sym, subst}
+use Rattle.std.proofs.Common.{arith, ◌≡◌, ◌≤◌, ◌∙◌, ℕ, List, Option, length, vec_capacity, ap, sym, subst}
+use Rattle.fleet_planner.specs.Courses.{goals_of}
+use Rattle.fleet_planner.proofs.Merged.{still_goals}
 use Rattle.fleet_history.specs.History.{robots}
 use Rattle.fleet_history.proofs.Legal.{legal-opening, legal-placement}
 use Rattle.fleet_planner.proofs.Goals.{kept_goals}
@@ -31,20 +33,26 @@ pub plan-requires-clause-goals : goal.plan-requires-clause-goals
 plan-requires-clause-goals g c =
     let may = c.requires.may in
     let a = subst (IsAimed c.args.grid.now may.history) (sym c.self.view_is) may.aimed in
-    rw (c.place.ensures.cells, cells-of may.is, c.waits.ensures.waits, waits-of may.is) (kept_goals c.args.grid.now may.history c.self.inside.aims may.is.legal a.aimed a.on)
+    rw (c.place.ensures.cells, cells-of may.is, c.waits.ensures.waits, waits-of may.is) (kept_goals c.args.grid.now may.history c.self.inside.aims may.is.legal a.aimed)
 
 pub plan-requires-clause-on : goal.plan-requires-clause-on
 plan-requires-clause-on g c = (subst (IsAimed c.args.grid.now c.requires.may.history) (sym c.self.view_is) c.requires.may.aimed).on
 
 pub invariant_of-self : goal.invariant_of-self
-invariant_of-self g c = c.self.invariant
+invariant_of-self g c = subst (λ (goals : List (Option ℕ)). length goals ≤ vec_capacity c.self.inside.turns) (sym (still_goals c.plan.ensures.still)) c.self.invariant
 
 pub returns : goal.returns
 returns g c =
+    let may = c.requires.may in
+    let a = subst (IsAimed c.args.grid.now may.history) (sym c.self.view_is) may.aimed in
     record {
-      same = rw c.plan.ensures.made c.self.view_is;
+      goals = still_goals c.plan.ensures.still ∙ ap (λ (p : Planner). goals_of p.aims) c.self.view_is;
+      on = c.plan.ensures.on;
+      size = c.plan.ensures.made ∙ ap (λ (p : Planner). p.size) c.self.view_is;
+      bridge = ap (λ (p : Planner). p.bridgeless) c.self.view_is;
+      keeps = a.kept;
       conflict_free = rw c.place.ensures.cells at c.plan.ensures.conflict_free;
-      planned = rw (c.waits.ensures.waits, c.place.ensures.cells, ap (λ (p : Planner). p.aims) c.self.view_is) at c.plan.ensures.planned;
+      planned = rw (c.waits.ensures.waits, c.place.ensures.cells, ap (λ (p : Planner). goals_of p.aims) c.self.view_is) at c.plan.ensures.planned;
     }
 
 pub overflow_add-input : goal.overflow_add-input

@@ -1,6 +1,6 @@
 use Rattle.std.proofs.Common.{ap, sym, subst, arith}
 use Rattle.fleet_field.specs.Store.{Keeps}
-use Rattle.fleet_planner.specs.Aims.{AreOn}
+use Rattle.fleet_planner.specs.Courses.{AreOn}
 use Rattle.fleet_planner.specs.Aimed.{Planner, IsNewPlanner}
 use Rattle.fleet_state.proofs.Parts.{robots-few}
 use Rattle.fleet_planner.proofs.FirstGoals.{aimed-first}

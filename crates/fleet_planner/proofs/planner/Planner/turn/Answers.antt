@@ -1,5 +1,5 @@
 use Rattle.std.proofs.Common.{arith, ◌∙◌, List, length, ap, sym, subst}
-use Rattle.fleet_planner.specs.Aims.{goals_of}
+use Rattle.fleet_planner.specs.Courses.{goals_of}
 use Rattle.fleet_planner.specs.Turned.{turned}
 use Rattle.fleet_planner.specs.declared.turns.GoalChange.{GoalChange}
 use Rattle.fleet_state.proofs.Parts.{queue-count, robots-few}
@@ -37,6 +37,12 @@ pub turn-requires-clause-floor : goal.turn-requires-clause-floor
 turn-requires-clause-floor g c =
     let may = c.requires.may in
     rw (c.as_slice.ensures.value, c.put_turns.ensures.turns) (turns-floor may.is may.aimed c.args.to.now)
+
+pub turn-requires-clause-cells : goal.turn-requires-clause-cells
+turn-requires-clause-cells g c =
+    let may = c.requires.may in
+    let a = subst (IsAimed c.args.grid.now may.history) (sym c.self.view_is) may.aimed in
+    omega (arith, aims-count may.history c.self.inside.aims a.aimed, c.requires.same, queue-count may.is)
 
 pub turn-requires-clause-on : goal.turn-requires-clause-on
 turn-requires-clause-on g c =

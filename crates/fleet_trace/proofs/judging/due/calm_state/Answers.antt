@@ -7,10 +7,10 @@ use Rattle.fleet_trace.specs.Judged.{before}
 use Rattle.fleet_trace.proofs.CalmOpening.{calm-order}
 use Rattle.fleet_trace.proofs.judging.due.calm_state.Goals as goal
 
-pub state_behind-requires-clause-order : goal.state_behind-requires-clause-order
-state_behind-requires-clause-order g c =
+pub state_after-requires-clause-order : goal.state_after-requires-clause-order
+state_after-requires-clause-order g c =
     calm-order c.args.grid.now c.args.chapter.now.opening c.in_ok-calm.calm (take c.args.entries c.args.chapter.now.entries.items) c.in_ok-calm.ensures
     (legal-opening c.args.grid.now (before (history_of c.args.chapter.now) c.args.entries) c.requires.legal)
 
-pub state_behind-requires-clause-early : goal.state_behind-requires-clause-early
-state_behind-requires-clause-early g c = subst (λ (o : Opening _). o.tick ≡ 0) (sym c.in_ok-calm.ensures) refl
+pub state_after-requires-clause-early : goal.state_after-requires-clause-early
+state_after-requires-clause-early g c = subst (λ (o : Opening _). o.tick ≡ 0) (sym c.in_ok-calm.ensures) refl

@@ -10,7 +10,7 @@ pub returns : goal.returns
 returns c =
     on_ok_weaker c.add_limit.result
     (seven (gauge (codes "fleet_turn_latest_microseconds") (codes "How long after its deadline a turn began at most.") c.args.self.now.tally.latest)
-    (gauge (codes "fleet_errands_open") (codes "Errands by a verdict that was told, without an arrival that was told.") (open_count c.args.self.now.notices))
+    (gauge (codes "fleet_errands_open") (codes "Errands by a verdict that was told, without an arrival that was told.") (open_count c.args.self.now.before c.args.self.now.notices))
     (gauge (codes "fleet_queued_errands") (codes "Errands in the robots' queues.") c.args.self.now.queues.total)
     (gauge (codes "fleet_queue_longest") (codes "Errands in the longest queue.") c.args.self.now.queues.longest)
     (gauge (codes "fleet_wait_ticks") (codes "How long the robot has waited that has waited longest; 0 if none has an errand.") (unwrap_or c.args.self.now.waits.longest 0))

@@ -1,0 +1,56 @@
+"""A fleet in this process that goes on from a chapter that was kept: the rules are those of `fleet talk --resume`
+(docs/PROTOCOL.md, "Going on").
+"""
+
+import json
+from typing import Dict, NoReturn, Optional
+
+from . import opening
+from .errors import FileFailed, Refused
+from .finding import Place
+from .folder import KeptChapter
+from .handle import Handle
+
+# Why no fleet goes on from a chapter, in the words of nashirudder.h. The others are faults of the map and the limits.
+_REASONS = {
+    "trace-not-json", "trace-version", "trace-shape", "chapter-illegal", "laws-differ", "limits-differ",
+    "chapters-spent", "waited-too-long",
+}
+
+
+def _told_by(text: bytes) -> Dict[str, int]:
+    """What the text of a chapter tells; nothing, if it is no such text, of which the library says more."""
+    try:
+        told = json.loads(text)
+        found = {"chapter": told["chapter"], "queue": told["opening"]["queue"], "life": told["opening"]["life"]}
+    except (ValueError, LookupError, TypeError, RecursionError):
+        return {}
+    return found if all(type(number) is int and 0 <= number <= 2**40 for number in found.values()) else {}
+
+
+def _refuse(kept: KeptChapter, why: str, cause: Optional[Exception] = None) -> NoReturn:
+    raise FileFailed(f"the fleet does not go on: {kept.name}: {why}") from cause
+
+
+def reopened(told: opening.Opening, kept: KeptChapter, built: Optional[Place]) -> Handle:
+    """The fleet that goes on from the chapter of a file. `queue` and `life` are the chapter's where the caller does not
+    say them. Raises FileFailed if no fleet goes on from it.
+    """
+    of_chapter = _told_by(kept.text)
+    number = of_chapter.pop("chapter", kept.number)
+    limits = {**opening.ENDLESS, **of_chapter, **told.limits}
+    try:
+        handle = Handle.reopen(opening.read_map(told.map), kept.text, built=built, **limits)
+    except Refused as refused:
+        if refused.name not in _REASONS:
+            raise
+        _refuse(kept, refused.sentence, refused)
+    if number == kept.number and handle.robots() == len(told.robots) and handle.clients() == told.clients:
+        return handle
+    robots, clients = handle.robots(), handle.clients()
+    handle.close()
+    if number != kept.number:
+        _refuse(kept, f"it is chapter {number}")
+    if robots != len(told.robots):
+        _refuse(kept, f"it has {robots} robots, and not {len(told.robots)}")
+    _refuse(kept, f"it has {clients} clients, and not {told.clients}")

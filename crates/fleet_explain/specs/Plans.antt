@@ -1,0 +1,54 @@
+-- What is wrong with a plan.
+use Rattle.std.specs.Prelude.{◌≡◌, ℕ, ◌-◌, List, slice_index, Ok}
+use Rattle.fleet_map.specs.Grammar.{Map, map_of}
+use Rattle.fleet_check.specs.declared.fault.StepFault.{StepFault}
+use Rattle.fleet_check.specs.declared.fault.StepFault.TheVariants as step
+use Rattle.fleet_plans.specs.declared.answer.PlanAnswer.{PlanAnswer}
+use Rattle.fleet_plans.specs.declared.answer.PlanAnswer.TheVariants as answer
+use Rattle.fleet_plans.specs.declared.form.TextForm.{TextForm}
+use Rattle.fleet_plans.specs.declared.judging.PlanFault.{PlanFault}
+use Rattle.fleet_plans.specs.Form.{form_of}
+use Rattle.fleet_plans.specs.Goals.{Nothing}
+use Rattle.fleet_plans.specs.Study.{IsTextStudy}
+use Rattle.fleet_plans.specs.Valid.{place_at}
+use Rattle.fleet_explain.specs.declared.explanation.Explanation.{Explanation}
+use Rattle.fleet_explain.specs.declared.explanation.Explanation.TheVariants as explanation
+use Rattle.fleet_explain.specs.declared.plan.PlanExplanation.{PlanExplanation}
+use Rattle.fleet_explain.specs.declared.plan.PlanExplanation.TheVariants as plan
+use Rattle.fleet_explain.specs.declared.plan.Misplaced.{Misplaced}
+use Rattle.fleet_explain.specs.Explained.{IsNoMap}
+
+-- the first robot at fault
+abbrev pub robot_of : StepFault → ℕ
+robot_of step.Length = 0
+robot_of (step.OffFloor r) = r
+robot_of (step.NotAdjacent r) = r
+robot_of step.NoMemory = 0
+robot_of (step.Vertex i j) = i
+robot_of (step.Swap i j) = i
+
+-- the fault of a plan on a map of this width, with the cells of the first robot at fault at the time before and at its time
+abbrev pub misplaced : ℕ → List (List ℕ) → PlanFault → Misplaced
+misplaced width places f = record {
+  time = f.time;
+  fault = f.fault;
+  width = width;
+  from = slice_index (place_at places (f.time - 1)) (robot_of f.fault);
+  to = slice_index (place_at places f.time) (robot_of f.fault);
+}
+
+-- what is wrong with a text in this form, on a map of this width, if these are its placements and this is said of it
+abbrev pub plan_explained : TextForm → ℕ → List (List ℕ) → PlanAnswer → PlanExplanation
+plan_explained form width places (answer.Map f) = plan.Map (explanation.Map f)
+plan_explained form width places (answer.Text n) = plan.Line n form
+plan_explained form width places (answer.Cut n) = plan.Cut n
+plan_explained form width places (answer.Scenario n) = plan.Scenario n
+plan_explained form width places (answer.Json f) = plan.Json f
+plan_explained form width places (answer.Head f) = plan.Head f
+plan_explained form width places (answer.Valid report) = plan.Fine
+plan_explained form width places (answer.Invalid f) = plan.Placed (misplaced width places f)
+plan_explained form width places (answer.Goals time f) = plan.Goals f
+
+pub data IsPlanExplained (map text : List ℕ) (e : PlanExplanation) : Type 0 where
+  no_map : (x : Explanation) → IsNoMap map x → e ≡ plan.Map x → IsPlanExplained map text e
+  on_map : (m : Map) (a : PlanAnswer) (places : List (List ℕ)) → map_of map ≡ Ok m → IsTextStudy Nothing m text a places → e ≡ plan_explained (form_of text) m.width places a → IsPlanExplained map text e

@@ -1,0 +1,86 @@
+//! Plans as traces.
+
+ghost use Rattle.std.specs.Prelude.{◌≡◌, ◌≤◌, length, IfOk};
+ghost use Rattle.fleet_lib.specs.Said.{said_of};
+ghost use Rattle.fleet_lib.specs.PlanTrace.{plan_refused, untraced, IsTraceOutcome, IsTracedBy, IsTracedAs};
+
+use crate::check::{InvalidText, MOST_PLAN_BYTES, refused, said_of_answer};
+use crate::said::Said;
+use fleet_convert::{TracingFault, trace_of_plan};
+use fleet_plans::{PlanAnswer, is_plan};
+use std::alloc::{AllocError, Global};
+
+/// A trace, or what there is to say where a plan gives none.
+#[derive(Debug, Drop)]
+pub enum Traced {
+    Trace(Vec<u8>),
+    Refused(Said),
+}
+
+/// The answer to a plan that gives no trace.
+fn plan_refused(alloc: Global, answer: PlanAnswer) -> Result<Said, AllocError>
+    ensures { IfOk result (λ s. said_of s ≡ plan_refused answer) }
+{
+    match answer {
+        PlanAnswer::Invalid(fault) => {
+            let line = InvalidText(fault);
+            let text = format!(in alloc; "fleet: {line}")?;
+            Ok(refused(alloc, text, 6))
+        }
+        other => said_of_answer(alloc, other),
+    }
+}
+
+/// The answer where there is no trace.
+fn untraced(alloc: Global, fault: TracingFault) -> Result<Said, AllocError>
+    ensures { IfOk result (λ s. said_of s ≡ untraced fault) }
+{
+    match fault {
+        TracingFault::NoPlan(answer) => plan_refused(alloc, answer),
+        TracingFault::Illegal { at, rule } => {
+            let text = format!(in alloc; "fleet: illegal {at} {rule}\n")?;
+            Ok(refused(alloc, text, 6))
+        }
+        TracingFault::NoMemory => {
+            let text = String::from_str(alloc, "fleet: memory\n")?;
+            Ok(refused(alloc, text, 7))
+        }
+    }
+}
+
+/// The answer to a map and a plan that is to be a trace: what `trace_of_plan` makes of them.
+pub fn answer_trace(alloc: Global, map: &[u8], plan: &[u8]) -> Result<Said, AllocError>
+    requires { length plan.now ≤ 16777216 }
+    ensures { IfOk result (λ s. IsTraceOutcome map.now plan.now (said_of s)) }
+{
+    match trace_of_plan(alloc, map, plan) {
+        Ok(text) => Ok(Said {
+            output: Vec::from_slice(alloc, text.as_bytes())?,
+            status: 0,
+            complaint: String::new(alloc),
+        }),
+        Err(fault) => untraced(alloc, fault),
+    }
+}
+
+/// The trace of a plan.
+fn trace_made(alloc: Global, map: &[u8], plan: &[u8]) -> Result<Traced, AllocError>
+    requires { length plan.now ≤ 16777216 }
+    ensures { IfOk result (λ t. IsTracedBy map.now plan.now t) }
+{
+    match trace_of_plan(alloc, map, plan) {
+        Ok(text) => Ok(Traced::Trace(Vec::from_slice(alloc, text.as_bytes())?)),
+        Err(fault) => Ok(Traced::Refused(untraced(alloc, fault)?)),
+    }
+}
+
+/// A text that is a plan, as a trace; any other text as it is.
+pub fn as_trace(alloc: Global, map: &[u8], input: Vec<u8>) -> Result<Traced, AllocError>
+    ensures { IfOk result (λ t. IsTracedAs map.now input.items t) }
+{
+    if input.len() <= MOST_PLAN_BYTES && is_plan(&input) {
+        trace_made(alloc, map, &input)
+    } else {
+        Ok(Traced::Trace(input))
+    }
+}

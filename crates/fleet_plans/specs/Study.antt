@@ -1,0 +1,24 @@
+-- What there is to say of a map and a plan's text, and where the plan has its robots.
+use Rattle.std.specs.Prelude.{◌≡◌, ℕ, List, Option, Ok, Err}
+use Rattle.fleet_map.specs.declared.fault.MapFault.{MapFault}
+use Rattle.fleet_map.specs.Grammar.{Map, map_of}
+use Rattle.fleet_map.specs.Text.{lines_of}
+use Rattle.fleet_grid.specs.Floor.{floor_of}
+use Rattle.fleet_plans.specs.declared.answer.PlanAnswer.{PlanAnswer}
+use Rattle.fleet_plans.specs.declared.answer.PlanAnswer.TheVariants as answer
+use Rattle.fleet_plans.specs.declared.study.Study.{Study}
+use Rattle.fleet_plans.specs.declared.text.TextFault.{TextFault}
+use Rattle.fleet_plans.specs.Answer.{IsNamed, IsJudged}
+use Rattle.fleet_plans.specs.Goals.{Asked, Nothing}
+use Rattle.fleet_plans.specs.Reading.{IsTextPlan, IsTextFault, head_lines}
+
+-- the text is no plan, or these are its placements, and this is said of them
+pub data IsTextStudy (asked : Asked) (m : Map) (text : List ℕ) (a : PlanAnswer) (places : List (List ℕ)) : Type 0 where
+  unread : (fault : TextFault) → IsTextFault m.width m.height text fault → IsNamed (lines_of text) fault a → IsTextStudy asked m text a places
+  read : (goals : Option (List ℕ)) → IsTextPlan m.width m.height text goals places → IsJudged (floor_of m.height m.width m.cells) asked (head_lines text) goals places a
+      → IsTextStudy asked m text a places
+
+-- the map before both
+pub data IsStudy (map text : List ℕ) (s : Study) : Type 0 where
+  without_map : (fault : MapFault) → map_of map ≡ Err fault → s.answer ≡ answer.Map fault → IsStudy map text s
+  with_map : (m : Map) → map_of map ≡ Ok m → s.width ≡ m.width → IsTextStudy Nothing m text s.answer s.places → IsStudy map text s

@@ -1,0 +1,62 @@
+//! Plans in the other words: the sentence on a plan, and the trace of one. The expected values were worked out by hand.
+
+use fleet_convert::{TracingFault, trace_of_plan};
+use fleet_explain::explain_plan;
+use fleet_plans::is_plan;
+use std::alloc::{AllocError, Global};
+
+/// A ring of eight cells.
+const MAP: &str = "type octile\nheight 3\nwidth 3\nmap\n...\n.@.\n...\n";
+
+/// Two robots along the upper and the lower side.
+const PLAN: &str = "0:(0,0),(2,2),\n1:(1,0),(1,2),\n";
+
+const TRACE: &str =
+    r#"{"chapter":0,"entries":[["tick",[1,7],[],[]]],"opening":{"clients":[[0,0,0,false]],"life":1000000,"queue":16,"robots":[[0,false,null,[],[0,0],[0,0]],[8,false,null,[],[0,0],[0,0]]],"tick":0},"version":2}"#;
+
+/// The sentence about the plan.
+fn sentence(alloc: Global, plan: &str) -> Result<String, AllocError> {
+    if plan.len() > 4096 {
+        return Err(AllocError);
+    }
+    let explanation = explain_plan(alloc, MAP.as_bytes(), plan.as_bytes())?;
+    format!(in alloc; "{explanation}")
+}
+
+#[test]
+fn plans_are_explained(rt: HostRuntime) {
+    let alloc = rt.alloc();
+    assert_eq!(rt;
+        sentence(alloc, PLAN).expect(&rt, "memory").as_str(),
+        "all in order"
+    );
+    assert_eq!(rt;
+        sentence(alloc, "0:(0,0),(2,0),\n1:(1,0),(1,0),\n")
+            .expect(&rt, "memory")
+            .as_str(),
+        "the plan: time 1: robots 0 and 1 are both on cell 1 (row 0, column 1)"
+    );
+    assert_eq!(rt;
+        sentence(alloc, "0:(0,0),(9,9),\n")
+            .expect(&rt, "memory")
+            .as_str(),
+        "the plan: time 0: robot 1 is on a cell outside of the map, which is no floor"
+    );
+}
+
+#[test]
+fn plans_become_traces(rt: HostRuntime) {
+    let alloc = rt.alloc();
+    let trace = trace_of_plan(alloc, MAP.as_bytes(), PLAN.as_bytes());
+    assert!(rt; matches!(trace, Ok(text) if text.as_str() == TRACE));
+    let none = trace_of_plan(alloc, MAP.as_bytes(), b"0:(0,0),(0,0),\n");
+    assert!(rt; matches!(none, Err(TracingFault::NoPlan(_))));
+}
+
+#[test]
+fn plans_are_told_from_scripts(rt: HostRuntime) {
+    assert!(rt; is_plan(PLAN.as_bytes()));
+    assert!(rt; is_plan(b"{\"actualPaths\":[]}"));
+    assert!(rt; !is_plan(TRACE.as_bytes()));
+    assert!(rt; !is_plan(b"# a=b\nrobots 0\n"));
+}
