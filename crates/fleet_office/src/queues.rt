@@ -37,7 +37,9 @@ impl<N: OfficeName<A>, A: Allocator + Copy> Office<N, A> {
     }
 
     /// Returns how many bytes the distance fields take that are kept, as it is when the lock is held.
-    pub fn kept_bytes<R: Wait>(&self, rt: &R) -> u64 {
+    pub fn kept_bytes<R: Wait>(&self, rt: &R) -> u64
+        requires { 0 ≤ 1 }
+    {
         let hall = self.hall.lock(rt);
         hall.state.kept_bytes()
     }
