@@ -23,3 +23,9 @@ pub mod Unseen
 pub mod Fronted
 pub mod Queued
 pub mod Beside
+mod Estimates
+pub mod Grown
+mod Read
+mod Searches
+mod Serving
+mod Settled

@@ -4,4 +4,5 @@ pub mod Store
 pub mod FieldCache
 pub mod Several
 pub mod Compass
+pub mod Growing
 pub mod inside

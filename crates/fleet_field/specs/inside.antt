@@ -6,3 +6,6 @@ pub mod Uses
 pub mod Work
 pub mod Sorted
 pub mod Queue
+pub mod Estimate
+pub mod Known
+pub mod Left

@@ -1,4 +1,5 @@
-//! Distances to a goal on the floor of a map: one field, several at once, and a store of fields that are shared.
+//! Distances to a goal on the floor of a map: one field, several at once, a store of fields that are shared, and a field that is
+//! searched only as far as it is asked.
 #![tactic(auto)]
 
 mod bits;
@@ -9,18 +10,23 @@ mod compasses;
 mod field;
 mod flood;
 mod fronts;
+mod growing;
 mod holds;
 mod kept;
 mod keyed;
 mod queue;
 mod search;
+mod settling;
 mod several;
+mod spreading;
 mod store;
+mod target;
 mod ways;
 mod work;
 
 pub use cache::FieldCache;
 pub use compass::Compass;
 pub use field::Field;
+pub use growing::GrowingField;
 pub use several::fields;
 pub use store::FieldStore;

@@ -3,8 +3,8 @@ use Rattle.std.proofs.Common.{◌≡◌, ℕ, zero, suc, ◌<◌, ◌≤◌, ◌
 use Rattle.std.proofs.lemmas.List.{length-map, get_or-map, get_or_past, map-set}
 use Rattle.fleet_field.specs.Field.{Aim}
 use Rattle.fleet_grid.specs.Floor.{Floor}
-use Rattle.fleet_growth.specs.Field.{Growth, IsGrown}
-use Rattle.fleet_growth.specs.declared.growing.GrowingField.{GrowingField}
+use Rattle.fleet_field.specs.Growing.{Growth, IsGrown}
+use Rattle.fleet_field.specs.declared.growing.GrowingField.{GrowingField}
 use Rattle.fleet_planner.specs.Aims.{goal_in, goals_of as shared_goals, goal as shared_goal}
 use Rattle.fleet_planner.specs.Courses.{Courses, goals_of, goal, own_goal, first_of, growth_in, merged, AreOn, AreStill}
 use Rattle.fleet_planner.proofs.Fields.{goals_of-at}

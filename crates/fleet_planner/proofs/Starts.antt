@@ -3,7 +3,7 @@ use Rattle.std.proofs.Common.{◌≡◌, ℕ, zero, suc, ◌+◌, ◌<◌, ◌�
 use Rattle.std.specs.Prelude.{slice_get}
 use Rattle.std.proofs.lemmas.List.{length-set, length-map, map-set, drop_more, drop_all}
 use Rattle.fleet_grid.specs.Floor.{Floor, IsFloor}
-use Rattle.fleet_growth.specs.Field.{Growth, IsGrown}
+use Rattle.fleet_field.specs.Growing.{Growth, IsGrown}
 use Rattle.fleet_planner.specs.Courses.{own_goal, first_of, merged}
 use Rattle.fleet_planner.specs.Turned.{turned, AreFloorTurns, AreKnownTurns}
 use Rattle.fleet_planner.specs.declared.turns.GoalChange.{GoalChange}

@@ -4,8 +4,8 @@ use Rattle.std.specs.Prelude.{◌≡◌, ℕ, List, [], ◌∷◌, Option, Some,
 use Rattle.fleet_grid.specs.Floor.{Floor}
 use Rattle.fleet_grid.specs.Distance.{distance}
 use Rattle.fleet_field.specs.Field.{Aim}
-use Rattle.fleet_growth.specs.declared.growing.GrowingField.{GrowingField}
-use Rattle.fleet_growth.specs.Field.{Growth, IsGrown, growth_of}
+use Rattle.fleet_field.specs.declared.growing.GrowingField.{GrowingField}
+use Rattle.fleet_field.specs.Growing.{Growth, IsGrown, growth_of}
 use Rattle.fleet_planner.specs.Aims.{goals_of as shared_goals, AreOn as AreSharedOn}
 
 -- what each robot aims at by a shared field, and each robot's own field

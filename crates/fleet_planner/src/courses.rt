@@ -4,7 +4,7 @@ ghost use Rattle.std.specs.Prelude.{◌≡◌, ℕ, ◌<◌, ◌≤◌, Some, No
 ghost use Rattle.fleet_field.specs.Store.{Keeps};
 ghost use Rattle.fleet_grid.specs.Floor.{Floor, IsFloor};
 ghost use Rattle.fleet_grid.specs.Ways.{AreNearer, AreOpen};
-ghost use Rattle.fleet_growth.specs.Field.{Growth, IsGrown};
+ghost use Rattle.fleet_field.specs.Growing.{Growth, IsGrown};
 ghost use Rattle.fleet_planner.specs.Aims.{AreOn as AreSharedOn, goal as shared_goal};
 ghost use Rattle.fleet_planner.specs.Courses.{goals_of, goal, away, way_to, first_of, own_goal, growth_in, AreOn, AreStill};
 ghost use Rattle.fleet_planner.specs.Turned.{turned, AreFloorTurns, AreKnownTurns};
@@ -12,9 +12,8 @@ ghost use Rattle.fleet_planner.specs.Turned.{turned, AreFloorTurns, AreKnownTurn
 use crate::aims::Aims;
 use crate::started::{Started, place_own};
 use crate::turns::GoalChange;
-use fleet_field::FieldCache;
+use fleet_field::{FieldCache, GrowingField};
 use fleet_grid::{Grid, Outlook};
-use fleet_growth::GrowingField;
 use fleet_pibt::Guide;
 use std::alloc::{AllocError, Allocator, Global};
 use std::marker::Model;

@@ -9,9 +9,8 @@ ghost use Rattle.fleet_planner.specs.inside.Started.{IsStart, AreStarts, shared_
 use crate::aims::Aims;
 use crate::recent::RecentGoals;
 use crate::turns::GoalChange;
-use fleet_field::FieldCache;
+use fleet_field::{FieldCache, GrowingField};
 use fleet_grid::Grid;
-use fleet_growth::GrowingField;
 use std::alloc::{AllocError, Allocator};
 use std::mem;
 

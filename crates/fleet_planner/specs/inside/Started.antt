@@ -1,7 +1,7 @@
 -- How turns are made ready: which robots get fields of their own.
 use Rattle.std.specs.Prelude.{⊤, ◌≡◌, ℕ, List, [], ◌∷◌, Option, Some, None, slice_set}
 use Rattle.fleet_grid.specs.Floor.{Floor}
-use Rattle.fleet_growth.specs.Field.{Growth, IsGrown}
+use Rattle.fleet_field.specs.Growing.{Growth, IsGrown}
 use Rattle.fleet_planner.specs.declared.turns.GoalChange.{GoalChange}
 
 -- a field for a turn's goal, or none

@@ -1,12 +1,12 @@
 //! A field that grows, asked for each cell of the ring in turn, and on a floor in two parts.
 
 ghost use Rattle.fleet_grid.specs.Floor.{IsFloor};
-ghost use Rattle.fleet_growth.specs.Field.{Serves, goal_of};
+ghost use Rattle.fleet_field.specs.Growing.{Serves, goal_of};
 
 use super::{EXITS, WAYS, ring};
 use crate::floor::grid_of;
+use fleet_field::GrowingField;
 use fleet_grid::Grid;
-use fleet_growth::GrowingField;
 use std::process::Abort;
 
 /// The ways from a floor cell, nearer and all.

@@ -1,8 +1,8 @@
 use Rattle.std.proofs.Common.{◌≡◌, Option, sym, ap, subst}
 use Rattle.std.specs.Prelude.{IfOk}
 use Rattle.fleet_grid.specs.Ways.{AreNearer}
-use Rattle.fleet_growth.proofs.Grown.{grown_serves}
-use Rattle.fleet_growth.specs.Field.{growth_of}
+use Rattle.fleet_field.proofs.Grown.{grown_serves}
+use Rattle.fleet_field.specs.Growing.{growth_of}
 use Rattle.fleet_planner.specs.Aims.{goal as shared_goal}
 use Rattle.fleet_planner.specs.Courses.{growth_in, own_goal, first_of, way_to}
 use Rattle.fleet_planner.proofs.Measured.{shared-nearer}

@@ -2,7 +2,7 @@ use Rattle.std.proofs.Common.{◌≡◌, ℕ, List, Option, Some, None, length, 
 use Rattle.std.proofs.lemmas.List.{length-map}
 use Rattle.std.proofs.lemmas.Result.{IfOk-from_err}
 use Rattle.fleet_field.specs.Field.{Aim}
-use Rattle.fleet_growth.specs.Field.{Growth, IsGrown}
+use Rattle.fleet_field.specs.Growing.{Growth, IsGrown}
 use Rattle.fleet_planner.specs.Aims.{goal_in, goals_of as shared_goals}
 use Rattle.fleet_planner.specs.Courses.{Courses, goals_of, growth_in, own_goal, merged, AreOn}
 use Rattle.fleet_planner.specs.Turned.{turned, AreKnownTurns}

@@ -2,7 +2,7 @@ use Rattle.std.proofs.Common.{◌≡◌, ℕ, ◌+◌, List, [], ◌∷◌, ◌+
 use Rattle.std.proofs.lemmas.List.{take_more, take_all, map_push}
 use Rattle.std.proofs.lemmas.Option.{slice_get-get_or}
 use Rattle.std.proofs.lemmas.Result.{IfOk-from_err}
-use Rattle.fleet_growth.specs.Field.{Growth}
+use Rattle.fleet_field.specs.Growing.{Growth}
 use Rattle.fleet_planner.specs.Courses.{growth_in}
 use Rattle.fleet_planner.specs.inside.Started.{AreStarts, shared_part, shared_parts}
 use Rattle.fleet_planner.specs.declared.turns.GoalChange.{GoalChange}

@@ -1,0 +1,56 @@
+-- A field that is searched only as far as it is asked.
+use Rattle.std.specs.Prelude.{◌≡◌, ◌≢◌, ℕ, ◌+◌, ◌*◌, ◌⊎◌, [], length, slice_index}
+use Rattle.fleet_grid.specs.Floor.{Floor, HasForm, IsFloor}
+use Rattle.fleet_field.specs.declared.growing.GrowingField.{GrowingField}
+use Rattle.fleet_field.specs.declared.target.Target.{Target}
+use Rattle.fleet_field.specs.inside.Left.{Search}
+use Rattle.fleet_field.specs.inside.Known.{IsKnown, label, zero_count}
+
+-- how far it is searched
+abbrev pub search_of : {A : Type 0} → GrowingField A → Search
+search_of f = record { labels = f.labels.items; now = f.now.items; next = f.next.items; later = f.later.items }
+
+-- a field's goal and target, the label of the cells to which the search comes now, and how far it is searched
+pub record Growth : Type 0 where
+  pub goal : ℕ
+  pub target : Target
+  pub mark : ℕ
+  pub search : Search
+
+abbrev pub growth_of : {A : Type 0} → GrowingField A → Growth
+growth_of f = record { goal = f.goal; target = f.target; mark = f.mark; search = search_of f }
+
+-- what the field knows is so on this map, and enough to go on
+pub record Serves {A : Type 0} (m : Floor) (f : GrowingField A) : Type 0 where
+  pub form : HasForm m
+  pub goal : IsFloor m f.goal
+  pub width : f.target.width ≡ m.width
+  pub steps : ℕ
+  pub mark : f.mark ≡ label steps
+  pub known : IsKnown m f.target f.goal steps (search_of f)
+
+-- the same of what a field knows, without its memory
+pub record IsGrown (m : Floor) (f : Growth) : Type 0 where
+  pub form : HasForm m
+  pub goal : IsFloor m f.goal
+  pub width : f.target.width ≡ m.width
+  pub steps : ℕ
+  pub mark : f.mark ≡ label steps
+  pub known : IsKnown m f.target f.goal steps f.search
+
+abbrev pub goal_of : {A : Type 0} → GrowingField A → ℕ
+goal_of f = f.goal
+
+-- it has come to all cells with as few steps away as any, and to this cell, or to all that it can
+pub record IsSettled {A : Type 0} (f : GrowingField A) (cell : ℕ) : Type 0 where
+  pub left : f.now.items ≡ []
+  pub emptied : f.next.items ≡ []
+  pub found : (slice_index f.labels.items cell ≢ 0) ⊎ (f.later.items ≡ [])
+
+-- how much is left to do in this round: it falls with each cell that is taken from a list
+abbrev pub to_do : {A : Type 0} → GrowingField A → ℕ
+to_do f = length f.now.items + length f.next.items + 2 * zero_count f.labels.items
+
+-- how many cells may come to wait for later rounds, with those that wait
+abbrev pub may_wait : {A : Type 0} → GrowingField A → ℕ
+may_wait f = length f.later.items + 4 * (length f.now.items + zero_count f.labels.items)
