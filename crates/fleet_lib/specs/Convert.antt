@@ -7,8 +7,8 @@ use Rattle.fleet_convert.specs.declared.conversion.PlanForm.TheVariants as plan_
 use Rattle.fleet_convert.specs.declared.conversion.ConvertFault.{ConvertFault}
 use Rattle.fleet_convert.specs.declared.conversion.ConvertFault.TheVariants as fault
 use Rattle.fleet_convert.specs.Converted.{IsConverted, IsUnconverted}
-use Rattle.fleet_words.specs.declared.convert.Form.{Form}
-use Rattle.fleet_words.specs.declared.convert.Form.TheVariants.{Pibt2, Moves, Lorr}
+use Rattle.fleet_lib.specs.declared.words.convert.Form.{Form}
+use Rattle.fleet_lib.specs.declared.words.convert.Form.TheVariants.{Pibt2, Moves, Lorr}
 use Rattle.fleet_lib.specs.Said.{Outcome}
 
 abbrev pub form_of : Form → PlanForm

@@ -9,3 +9,5 @@ pub mod Stats
 pub mod Talk
 pub mod View
 pub mod Check
+pub mod Command
+pub mod Asked

@@ -8,8 +8,8 @@ use Rattle.fleet_stats.specs.declared.fault.StatsFault.TheVariants as fault
 use Rattle.fleet_stats.specs.declared.answer.StatsForm.{StatsForm}
 use Rattle.fleet_stats.specs.declared.answer.StatsForm.TheVariants as form
 use Rattle.fleet_stats.specs.Report.{IsStats, IsNone}
-use Rattle.fleet_words.specs.declared.stats.Figures.{Figures}
-use Rattle.fleet_words.specs.declared.stats.Figures.TheVariants as figures
+use Rattle.fleet_lib.specs.declared.words.stats.Figures.{Figures}
+use Rattle.fleet_lib.specs.declared.words.stats.Figures.TheVariants as figures
 use Rattle.fleet_lib.specs.Said.{Outcome}
 
 abbrev pub form_of : Figures → StatsForm

@@ -5,8 +5,8 @@ use Rattle.errands_text.specs.Complaint.{complaint_text}
 use Rattle.fleet_view.specs.declared.fault.ViewFault.{ViewFault}
 use Rattle.fleet_view.specs.declared.fault.ViewFault.TheVariants as fault
 use Rattle.fleet_view.specs.View.{IsPage, IsPicture, IsUnshown}
-use Rattle.fleet_words.specs.declared.view.Shown.{Shown}
-use Rattle.fleet_words.specs.declared.view.Shown.TheVariants.{Page, Moving, Still}
+use Rattle.fleet_lib.specs.declared.words.view.Shown.{Shown}
+use Rattle.fleet_lib.specs.declared.words.view.Shown.TheVariants.{Page, Moving, Still}
 use Rattle.fleet_lib.specs.Said.{Outcome}
 
 -- the page or the picture that was asked for

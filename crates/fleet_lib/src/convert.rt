@@ -5,9 +5,9 @@ ghost use Rattle.fleet_lib.specs.Said.{said_of};
 ghost use Rattle.fleet_lib.specs.Convert.{IsConvertOutcome, form_of, fault_text, fault_status, faulty};
 
 use crate::said::Said;
+use crate::words::Form;
 use errands_text::Complaint;
 use fleet_convert::{ConvertFault, PlanForm, convert};
-use fleet_words::Form;
 use std::alloc::{AllocError, Global};
 use std::fmt;
 

@@ -14,6 +14,7 @@ mod said;
 mod stats;
 mod talk;
 mod view;
+mod words;
 
 pub use check::{MOST_PLAN_BYTES, answer_check};
 pub use convert::answer_convert;
@@ -26,10 +27,6 @@ pub use fleet_history::Chapter;
 pub use fleet_live::{LiveEnds, Pipes};
 pub use fleet_plans::is_plan;
 pub use fleet_talk::{ChapterSink, Ends, Settings, SinkFault};
-pub use fleet_words::{
-    Check, Convert, Explain, Figures, Form, Job, Live, Shown, Stats, Talk, Target, View, WordFault,
-    parse_words,
-};
 pub use kept::{KeptFault, KeptText};
 pub use live::run_live;
 pub use names::{NamesFault, last_chapter};
@@ -38,3 +35,7 @@ pub use said::{Said, fail, tell};
 pub use stats::answer_stats;
 pub use talk::{TalkTexts, run_talk};
 pub use view::{MOST_TRACE_BYTES, answer_view};
+pub use words::{
+    Check, Convert, Explain, Figures, Form, Job, Live, Shown, Stats, Talk, Target, View, WordFault,
+    parse_words,
+};

@@ -5,9 +5,9 @@ ghost use Rattle.fleet_lib.specs.Said.{said_of};
 ghost use Rattle.fleet_lib.specs.Stats.{IsStatsOutcome, fault_status, fault_text, faulty, form_of, name_at};
 
 use crate::said::Said;
+use crate::words::Figures;
 use errands_text::Complaint;
 use fleet_stats::{StatsFault, StatsForm, stats};
-use fleet_words::Figures;
 use std::alloc::{AllocError, Global};
 
 /// What is asked for.

@@ -6,9 +6,9 @@ ghost use Rattle.fleet_lib.specs.Said.{said_of};
 ghost use Rattle.fleet_lib.specs.View.{IsShown, IsViewOutcome, fault_text, fault_status, faulty};
 
 use crate::said::Said;
+use crate::words::Shown;
 use errands_text::Complaint;
 use fleet_view::{ViewFault, view_page, view_picture};
-use fleet_words::Shown;
 use std::alloc::{AllocError, Global};
 use std::fmt;
 

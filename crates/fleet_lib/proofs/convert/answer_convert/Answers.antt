@@ -5,7 +5,7 @@ use Rattle.fleet_lib.specs.Said.{Outcome}
 use Rattle.fleet_lib.specs.Convert.{form_of, good, refused}
 use Rattle.fleet_convert.specs.declared.conversion.PlanForm.{PlanForm}
 use Rattle.fleet_convert.specs.Converted.{IsConverted}
-use Rattle.fleet_words.specs.declared.convert.Form.{Form}
+use Rattle.fleet_lib.specs.declared.words.convert.Form.{Form}
 use Rattle.fleet_lib.specs.Convert.{IsConvertOutcome}
 use Rattle.fleet_lib.proofs.convert.answer_convert.Goals as goal
 

@@ -3,7 +3,7 @@ use Rattle.std.proofs.Common.{◌≡◌, ℕ, List, [], refl, map, string_bytes}
 use Rattle.std.proofs.lemmas.Result.{IfOk-weaker}
 use Rattle.fleet_stats.specs.Report.{IsStats}
 use Rattle.fleet_stats.specs.declared.answer.StatsForm.{StatsForm}
-use Rattle.fleet_words.specs.declared.stats.Figures.{Figures}
+use Rattle.fleet_lib.specs.declared.words.stats.Figures.{Figures}
 use Rattle.fleet_lib.specs.Said.{Outcome}
 use Rattle.fleet_lib.specs.Stats.{IsStatsOutcome, form_of, good, refused}
 use Rattle.fleet_lib.proofs.stats.answer_stats.Goals as goal

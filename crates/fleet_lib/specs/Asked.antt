@@ -1,0 +1,123 @@
+-- What the words ask for.
+use Rattle.std.specs.Prelude.{◌≡◌, Bool, true, false, List, map, Option, Some, None, codes, string_bytes, if◌then◌else◌}
+use Rattle.std.specs.Option.{option_map, option_and_then}
+use Rattle.std.specs.Str.{bytes_eq}
+use Rattle.std.specs.Str.Parse.{digits_value, without_leading_plus}
+use Rattle.clap.specs.Words.{Text, Row, first_of, all_of}
+use Rattle.command_words.specs.Values.{has_flag, or_none}
+use Rattle.fleet_lib.specs.declared.words.view.Shown.{Shown}
+use Rattle.fleet_lib.specs.declared.words.view.Shown.TheVariants.{Page, Moving, Still}
+use Rattle.fleet_lib.specs.declared.words.view.View.{View as ViewJob}
+use Rattle.fleet_lib.specs.declared.words.check.Check.{Check as CheckJob}
+use Rattle.fleet_lib.specs.declared.words.talk.Talk.{Talk as TalkJob}
+use Rattle.fleet_lib.specs.declared.words.convert.Form.TheVariants.{Pibt2, Moves, Lorr}
+use Rattle.fleet_lib.specs.declared.words.convert.Target.{Target}
+use Rattle.fleet_lib.specs.declared.words.convert.Target.TheVariants as target
+use Rattle.fleet_lib.specs.declared.words.convert.Convert.{Convert as ConvertJob}
+use Rattle.fleet_lib.specs.declared.words.explain.Explain.{Explain as ExplainJob}
+use Rattle.fleet_lib.specs.declared.words.live.Live.{Live as LiveJob}
+use Rattle.fleet_lib.specs.declared.words.stats.Figures.{Figures}
+use Rattle.fleet_lib.specs.declared.words.stats.Figures.TheVariants as figures
+use Rattle.fleet_lib.specs.declared.words.stats.Stats.{Stats as StatsJob}
+use Rattle.fleet_lib.specs.declared.words.job.Job.{Job}
+use Rattle.fleet_lib.specs.declared.words.job.Job.TheVariants as job
+
+-- how the words after `view` say that traces are shown
+abbrev pub IsShownAs : List Row → Shown → Type 0
+IsShownAs rows Page = (first_of (codes "tick") rows ≡ None) × (has_flag (codes "svg") rows ≡ false)
+IsShownAs rows Moving = (first_of (codes "tick") rows ≡ None) × (has_flag (codes "svg") rows ≡ true)
+IsShownAs rows (Still tick) = (word : Text) × (first_of (codes "tick") rows ≡ Some word) × (tick ≡ digits_value 10 (without_leading_plus word))
+
+-- what the words after `view` ask for
+pub record IsView (rows : List Row) (view : ViewJob) : Type 0 where
+  pub floor : first_of (codes "MAP") rows ≡ Some (string_bytes view.map)
+  pub traces : all_of (codes "TRACE") rows ≡ Some (map (λ s. string_bytes s) view.traces.items)
+  pub shown : IsShownAs rows view.shown
+
+-- what the words after `check` ask for
+pub record IsCheck (rows : List Row) (check : CheckJob) : Type 0 where
+  pub strict : check.strict ≡ has_flag (codes "strict") rows
+  pub goals : first_of (codes "goals") rows ≡ option_map (λ s. string_bytes s) check.goals
+  pub floor : first_of (codes "MAP") rows ≡ Some (string_bytes check.map)
+  pub plan : first_of (codes "PLAN") rows ≡ Some (string_bytes check.plan)
+
+-- what the words after `talk` ask for
+pub record IsTalk (rows : List Row) (talk : TalkJob) : Type 0 where
+  pub floor : first_of (codes "MAP") rows ≡ Some (string_bytes talk.map)
+  pub script : first_of (codes "SCRIPT") rows ≡ option_map (λ s. string_bytes s) talk.script
+  pub traces : first_of (codes "traces") rows ≡ option_map (λ s. string_bytes s) talk.traces
+  pub resume : talk.resume ≡ has_flag (codes "resume") rows
+  pub marks : talk.marks ≡ has_flag (codes "marks") rows
+  pub roll : talk.roll ≡ has_flag (codes "roll") rows
+
+-- the target of a name: a plan in a form, or a trace
+abbrev pub target_named : Text → Option Target
+target_named word =
+    if bytes_eq word (codes "pibt2") then Some (target.Plan Pibt2)
+    else if bytes_eq word (codes "moves") then Some (target.Plan Moves)
+    else if bytes_eq word (codes "lorr") then Some (target.Plan Lorr)
+    else if bytes_eq word (codes "trace") then Some target.Trace
+    else None
+
+-- the target that the words after `convert` name
+abbrev pub target_in : List Row → Option Target
+target_in rows = option_and_then target_named (first_of (codes "to") rows)
+
+-- what the words after `convert` ask for
+pub record IsConvert (rows : List Row) (convert : ConvertJob) : Type 0 where
+  pub target : convert.target ≡ target_in rows
+  pub floor : first_of (codes "MAP") rows ≡ Some (string_bytes convert.map)
+  pub input : first_of (codes "INPUT") rows ≡ Some (string_bytes convert.input)
+
+-- what the words after `explain` ask for
+pub record IsExplain (rows : List Row) (explain : ExplainJob) : Type 0 where
+  pub floor : first_of (codes "MAP") rows ≡ Some (string_bytes explain.map)
+  pub other : first_of (codes "INPUT") rows ≡ option_map (λ s. string_bytes s) explain.other
+
+-- what the words after `live` ask for
+pub record IsLive (rows : List Row) (live : LiveJob) : Type 0 where
+  pub floor : first_of (codes "MAP") rows ≡ Some (string_bytes live.map)
+  pub script : first_of (codes "SCRIPT") rows ≡ option_map (λ s. string_bytes s) live.script
+  pub robots : first_of (codes "robots") rows ≡ option_map (λ s. string_bytes s) live.robots
+  pub clients : first_of (codes "clients") rows ≡ option_map (λ s. string_bytes s) live.clients
+  pub period : first_of (codes "period") rows ≡ option_map (λ s. string_bytes s) live.period
+  pub tickers : first_of (codes "tickers") rows ≡ option_map (λ s. string_bytes s) live.tickers
+  pub traces : first_of (codes "traces") rows ≡ option_map (λ s. string_bytes s) live.traces
+  pub resume : live.resume ≡ has_flag (codes "resume") rows
+  pub keep_every : first_of (codes "keep-every") rows ≡ option_map (λ s. string_bytes s) live.keep_every
+  pub metrics : first_of (codes "metrics") rows ≡ option_map (λ s. string_bytes s) live.metrics
+  pub pipes : or_none (all_of (codes "client") rows) ≡ map (λ s. string_bytes s) live.pipes.items
+  pub watch : live.watch ≡ has_flag (codes "watch") rows
+
+-- the table of a name
+abbrev pub table_named : Text → Option Figures
+table_named word =
+    if bytes_eq word (codes "errands") then Some figures.Errands
+    else if bytes_eq word (codes "ticks") then Some figures.Ticks
+    else if bytes_eq word (codes "cells") then Some figures.Cells
+    else None
+
+-- how figures are printed, by whether JSON is asked for and by the word for a table: not both
+abbrev pub figures_by : Bool → Option Text → Option Figures
+figures_by json None = Some (if json then figures.Json else figures.Lines)
+figures_by true (Some word) = None
+figures_by false (Some word) = table_named word
+
+abbrev pub figures_in : List Row → Option Figures
+figures_in rows = figures_by (has_flag (codes "json") rows) (first_of (codes "csv") rows)
+
+-- what the words after `stats` ask for
+pub record IsStats (rows : List Row) (stats : StatsJob) : Type 0 where
+  pub floor : first_of (codes "MAP") rows ≡ Some (string_bytes stats.map)
+  pub traces : all_of (codes "TRACE") rows ≡ Some (map (λ s. string_bytes s) stats.traces.items)
+  pub figures : stats.figures ≡ figures_in rows
+
+-- the job of a subcommand and the words that stand for its arguments
+abbrev pub IsJobOf : Option (Text × List Row) → Job → Type 0
+IsJobOf found (job.View view) = (rows : List Row) × (found ≡ Some (codes "view", rows)) × IsView rows view
+IsJobOf found (job.Check check) = (rows : List Row) × (found ≡ Some (codes "check", rows)) × IsCheck rows check
+IsJobOf found (job.Talk talk) = (rows : List Row) × (found ≡ Some (codes "talk", rows)) × IsTalk rows talk
+IsJobOf found (job.Convert convert) = (rows : List Row) × (found ≡ Some (codes "convert", rows)) × IsConvert rows convert
+IsJobOf found (job.Explain explain) = (rows : List Row) × (found ≡ Some (codes "explain", rows)) × IsExplain rows explain
+IsJobOf found (job.Live live) = (rows : List Row) × (found ≡ Some (codes "live", rows)) × IsLive rows live
+IsJobOf found (job.Stats stats) = (rows : List Row) × (found ≡ Some (codes "stats", rows)) × IsStats rows stats

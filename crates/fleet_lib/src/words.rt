@@ -1,0 +1,23 @@
+//! The command line of the program `fleet`, as `clap` reads it, and the job that it names. Each subcommand has a file of its own (such as `view`), a
+//! variant of `Job`, and a line in `program` and in `job_from`.
+
+mod arguments;
+mod check;
+mod convert;
+mod explain;
+mod job;
+mod live;
+mod program;
+mod stats;
+mod talk;
+mod view;
+
+pub use check::Check;
+pub use command_words::WordFault;
+pub use convert::{Convert, Form, Target};
+pub use explain::Explain;
+pub use job::{Job, parse_words};
+pub use live::Live;
+pub use stats::{Figures, Stats};
+pub use talk::Talk;
+pub use view::{Shown, View};

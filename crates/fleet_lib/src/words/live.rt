@@ -1,0 +1,123 @@
+//! The word `live`.
+
+ghost use Rattle.std.specs.Prelude.{◌≡◌, IfOk};
+ghost use Rattle.clap.specs.Words.{found_of, rows_of};
+ghost use Rattle.fleet_lib.specs.Asked.{IsLive};
+
+use crate::words::arguments::{MAP, RESUME, SCRIPT, TRACES};
+use clap::ArgMatches;
+use command_words::{Argument, Kind, Word, has_flag, some_word_for, some_words_for, word_for};
+use std::alloc::{AllocError, Global};
+
+/// To keep a fleet in real time.
+#[derive(Debug, Drop)]
+pub struct Live {
+    pub map: String,
+    /// A file of header lines.
+    pub script: Option<String>,
+    /// The start cells of the robots, with commas between them.
+    pub robots: Option<String>,
+    /// The number of clients.
+    pub clients: Option<String>,
+    /// The time between two turns.
+    pub period: Option<String>,
+    /// The number of tickers.
+    pub tickers: Option<String>,
+    /// The folder for the traces of chapters.
+    pub traces: Option<String>,
+    /// Whether the fleet goes on from the last chapter in the folder.
+    pub resume: bool,
+    /// How often a chapter is kept at least.
+    pub keep_every: Option<String>,
+    /// The file for figures.
+    pub metrics: Option<String>,
+    /// The pipes of clients 0, 1, ..: the pipe from which their lines come, a comma, and the pipe for what is printed
+    /// for them.
+    pub pipes: Vec<String>,
+    /// Whether tick lines are printed from the start.
+    pub watch: bool,
+}
+
+/// `live [--robots CELLS] [--clients N] [--period TIME] [--tickers N] [--client IN,OUT].. [--watch] [--traces DIR]
+/// [--resume] [--keep-every TIME] [--metrics FILE] MAP [SCRIPT]`.
+pub(crate) const LIVE: Word<'static> = Word {
+    name: "live",
+    about: "Keeps a fleet in real time for clients that post errands and are told what became of them",
+    example: "Example: fleet live --robots 0,8 --period 20ms ring.map",
+    arguments: &[
+        Argument {
+            name: "robots",
+            kind: Kind::Value("CELLS"),
+            help: "The robots' start cells, as 0,5,9",
+        },
+        Argument {
+            name: "clients",
+            kind: Kind::Value("N"),
+            help: "The number of clients, 1 if not given",
+        },
+        Argument {
+            name: "period",
+            kind: Kind::Value("TIME"),
+            help: "The time between two turns, as 20ms; without it a turn is made by `tick`",
+        },
+        Argument {
+            name: "tickers",
+            kind: Kind::Value("N"),
+            help: "1 or 2 tickers, 1 if not given: with 2, turns go on while a full chapter is written",
+        },
+        Argument {
+            name: "client",
+            kind: Kind::Values("IN,OUT"),
+            help: "The named pipes of the next client, from 0: its lines, and what it is told",
+        },
+        Argument {
+            name: "watch",
+            kind: Kind::Flag,
+            help: "Say where the robots stand after each tick",
+        },
+        TRACES,
+        RESUME,
+        Argument {
+            name: "keep-every",
+            kind: Kind::Value("TIME"),
+            help: "Write a chapter at least so often, as 10s",
+        },
+        Argument {
+            name: "metrics",
+            kind: Kind::Value("FILE"),
+            help: "Write figures into FILE each second, as Prometheus reads them",
+        },
+        MAP,
+        SCRIPT,
+    ],
+};
+
+/// What the arguments of `live` ask for.
+pub(crate) fn live_in(alloc: Global, matches: &ArgMatches<'_>) -> Result<Live, AllocError>
+    ensures { IfOk result (λ live. IsLive (rows_of (found_of matches.now)) live) }
+{
+    let map = word_for(alloc, matches, "MAP")?;
+    let script = some_word_for(alloc, matches, "SCRIPT")?;
+    let robots = some_word_for(alloc, matches, "robots")?;
+    let clients = some_word_for(alloc, matches, "clients")?;
+    let period = some_word_for(alloc, matches, "period")?;
+    let tickers = some_word_for(alloc, matches, "tickers")?;
+    let traces = some_word_for(alloc, matches, "traces")?;
+    let keep_every = some_word_for(alloc, matches, "keep-every")?;
+    let metrics = some_word_for(alloc, matches, "metrics")?;
+    let pipes = some_words_for(alloc, matches, "client")?;
+    Ok(Live {
+        map,
+        script,
+        robots,
+        clients,
+        period,
+        tickers,
+        traces,
+        resume: has_flag(matches, "resume"),
+        keep_every,
+        metrics,
+        pipes,
+        watch: has_flag(matches, "watch"),
+    })
+}

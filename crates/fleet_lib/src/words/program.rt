@@ -1,0 +1,31 @@
+//! The program `fleet` and its words.
+
+ghost use Rattle.std.specs.Prelude.{◌≡◌};
+ghost use Rattle.command_words.specs.Table.{program_app};
+ghost use Rattle.fleet_lib.specs.Command.{fleet_app};
+
+use crate::words::check::CHECK;
+use crate::words::convert::CONVERT;
+use crate::words::explain::EXPLAIN;
+use crate::words::live::LIVE;
+use crate::words::stats::STATS;
+use crate::words::talk::TALK;
+use crate::words::view::VIEW;
+use command_words::Program;
+
+/// The program.
+pub(crate) const FLEET: Program<'static> = Program {
+    name: "fleet",
+    about: "Looks at fleets of robots: shows traces of what they did and counts figures of them, judges plans and writes them, answers lines as they come, and keeps fleets in real time",
+    version: "0.1.0",
+    note: None,
+    needs_word: true,
+    words: &[VIEW, CHECK, TALK, CONVERT, EXPLAIN, LIVE, STATS],
+};
+
+/// The program with its words. Only this function names the constant, since a proof has it at each step of the function.
+pub(crate) fn program() -> Program<'static>
+    ensures { program_app result ≡ fleet_app }
+{
+    FLEET
+}
