@@ -1,6 +1,6 @@
 //! A trace as a plan in each form. The expected values were worked out by hand from the robots' cells.
 
-use fleet_convert::{ConvertFault, PlanForm, convert};
+use fleet_convert::{ConvertFault, Listing, PlanForm, convert};
 use fleet_plans::{PlanAnswer, check_texts};
 use std::alloc::Global;
 
@@ -19,6 +19,15 @@ const MOVES: &str = "form=moves\nstarts=(0,0),(2,2),\nsolution=\nrrw\nllw\n";
 const RUNNERS: &str =
     "{\"actionModel\":\"MAPF\",\"teamSize\":2,\"start\":[[0,0,\"E\"],[2,2,\"E\"]],\"actualPaths\":[\"R,R,W\",\"L,L,W\"]}\n";
 
+const AGENTS: &str =
+    "Agent 0: (0,0)->(0,1)->(0,2)->(0,2)->\nAgent 1: (2,2)->(2,1)->(2,0)->(2,0)->\n";
+
+const TABLE: &str =
+    "agent,time,row,column\n0,0,0,0\n0,1,0,1\n0,2,0,2\n0,3,0,2\n1,0,2,2\n1,1,2,1\n1,2,2,0\n1,3,2,0\n";
+
+const SCHEDULE: &str =
+    "schedule:\n  agent0:\n    - x: 0\n      y: 0\n      t: 0\n    - x: 1\n      y: 0\n      t: 1\n    - x: 2\n      y: 0\n      t: 2\n    - x: 2\n      y: 0\n      t: 3\n  agent1:\n    - x: 2\n      y: 2\n      t: 0\n    - x: 1\n      y: 2\n      t: 1\n    - x: 0\n      y: 2\n      t: 2\n    - x: 0\n      y: 2\n      t: 3\n";
+
 /// The plan in this form; an empty text if there is none.
 fn plan(alloc: Global, form: PlanForm) -> String {
     match convert(alloc, form, MAP.as_bytes(), TRACE.as_bytes()) {
@@ -36,9 +45,24 @@ fn plans_in_each_form(rt: HostRuntime) {
 }
 
 #[test]
+fn plans_robot_by_robot(rt: HostRuntime) {
+    let alloc = rt.alloc();
+    assert!(rt; plan(alloc, PlanForm::Listed(Listing::Agents)).as_str() == AGENTS);
+    assert!(rt; plan(alloc, PlanForm::Listed(Listing::Table)).as_str() == TABLE);
+    assert!(rt; plan(alloc, PlanForm::Listed(Listing::Schedule)).as_str() == SCHEDULE);
+}
+
+#[test]
 fn converted_plans_are_valid(rt: HostRuntime) {
     let alloc = rt.alloc();
-    for form in [PlanForm::Pibt2, PlanForm::Moves, PlanForm::Runners] {
+    for form in [
+        PlanForm::Pibt2,
+        PlanForm::Moves,
+        PlanForm::Runners,
+        PlanForm::Listed(Listing::Agents),
+        PlanForm::Listed(Listing::Table),
+        PlanForm::Listed(Listing::Schedule),
+    ] {
         let text = plan(alloc, form);
         if text.len() > 4096 {
             continue;
