@@ -39,6 +39,7 @@ wanted_text form.Headed = codes "is neither `KEY=VALUE` before `solution=`, nor 
 wanted_text form.Bare = codes "is not that of the next time, `TIME:(X,Y),..`"
 wanted_text form.Agents = codes "is not that of the next robot, `Agent K: (ROW,COLUMN)->..`"
 wanted_text form.Json = codes "is not allowed where it is"
+wanted_text form.PlannerJson = codes "is not allowed where it is"
 wanted_text form.Schedule = codes "is none of `agentK:`, `- x: COLUMN`, `y: ROW` and `t: TIME`, or not that of the next cell"
 wanted_text form.Table = codes "is not that of the next cell, `AGENT,TIME,ROW,COLUMN`, after `agent,time,row,column`"
 

@@ -74,7 +74,7 @@ fn wanted(form: TextForm) -> &'static str
         }
         TextForm::Bare => "is not that of the next time, `TIME:(X,Y),..`",
         TextForm::Agents => "is not that of the next robot, `Agent K: (ROW,COLUMN)->..`",
-        TextForm::Json => "is not allowed where it is",
+        TextForm::Json | TextForm::PlannerJson => "is not allowed where it is",
         TextForm::Schedule =>
             "is none of `agentK:`, `- x: COLUMN`, `y: ROW` and `t: TIME`, or not that of the next cell",
         TextForm::Table =>

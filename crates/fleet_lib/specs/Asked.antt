@@ -8,6 +8,9 @@ use Rattle.command_words.specs.Values.{has_flag, or_none}
 use Rattle.fleet_lib.specs.declared.words.view.Shown.{Shown}
 use Rattle.fleet_lib.specs.declared.words.view.Shown.TheVariants.{Page, Moving, Still}
 use Rattle.fleet_lib.specs.declared.words.view.View.{View as ViewJob}
+use Rattle.fleet_plans.specs.declared.form.TextForm.TheVariants as text_form
+use Rattle.fleet_lib.specs.declared.words.check.FormAsked.{FormAsked}
+use Rattle.fleet_lib.specs.declared.words.check.FormAsked.TheVariants.{Found, Named, Unknown}
 use Rattle.fleet_lib.specs.declared.words.check.Check.{Check as CheckJob}
 use Rattle.fleet_lib.specs.declared.words.talk.Talk.{Talk as TalkJob}
 use Rattle.fleet_convert.specs.declared.conversion.PlanForm.TheVariants.{Pibt2, Moves, Runners, Listed}
@@ -35,9 +38,31 @@ pub record IsView (rows : List Row) (view : ViewJob) : Type 0 where
   pub traces : all_of (codes "TRACE") rows ≡ Some (map (λ s. string_bytes s) view.traces.items)
   pub shown : IsShownAs rows view.shown
 
+-- the form of a name
+abbrev pub form_named : Text → FormAsked
+form_named word =
+    if bytes_eq word (codes "lines") then Named text_form.Headed
+    else if bytes_eq word (codes "bare") then Named text_form.Bare
+    else if bytes_eq word (codes "agents") then Named text_form.Agents
+    else if bytes_eq word (codes "table") then Named text_form.Table
+    else if bytes_eq word (codes "yaml") then Named text_form.Schedule
+    else if bytes_eq word (codes "lorr") then Named text_form.Json
+    else if bytes_eq word (codes "lorr-planner") then Named text_form.PlannerJson
+    else Unknown
+
+-- the form that is read where this is named
+abbrev pub form_asked : Option Text → FormAsked
+form_asked None = Found
+form_asked (Some word) = form_named word
+
+-- the form that the words after `check` name
+abbrev pub form_in : List Row → FormAsked
+form_in rows = form_asked (first_of (codes "form") rows)
+
 -- what the words after `check` ask for
 pub record IsCheck (rows : List Row) (check : CheckJob) : Type 0 where
   pub strict : check.strict ≡ has_flag (codes "strict") rows
+  pub form : check.form ≡ form_in rows
   pub goals : first_of (codes "goals") rows ≡ option_map (λ s. string_bytes s) check.goals
   pub floor : first_of (codes "MAP") rows ≡ Some (string_bytes check.map)
   pub plan : first_of (codes "PLAN") rows ≡ Some (string_bytes check.plan)

@@ -1,17 +1,19 @@
 -- What the word `check` prints.
-use Rattle.std.specs.Prelude.{◌≡◌, ℕ, Bool, true, false, List, [], ◌++◌, Option, Some, None, codes, decimal}
+use Rattle.std.specs.Prelude.{◌≡◌, ℕ, Bool, List, [], ◌++◌, Option, Some, None, codes, decimal}
 use Rattle.errands_text.specs.declared.said.Complaint.TheVariants as complaint
 use Rattle.errands_text.specs.Complaint.{complaint_text}
 use Rattle.fleet_plans.specs.declared.answer.PlanAnswer.{PlanAnswer}
 use Rattle.fleet_plans.specs.declared.answer.PlanAnswer.TheVariants as answer
+use Rattle.fleet_plans.specs.declared.form.TextForm.{TextForm}
 use Rattle.fleet_plans.specs.declared.judging.PlanFault.{PlanFault}
 use Rattle.fleet_plans.specs.declared.goals.GoalFault.{GoalFault}
 use Rattle.fleet_plans.specs.declared.goals.GoalFault.TheVariants.{NoGoals, OffStart, OffGoal}
 use Rattle.fleet_plans.specs.declared.misspelt.Misspelt.{Misspelt}
-use Rattle.fleet_plans.specs.Answer.{IsPlanAnswer, IsSolutionAnswer, IsScenarioAnswer, fault_text, report_text}
+use Rattle.fleet_plans.specs.Answer.{IsFormAnswer, fault_text, report_text}
 use Rattle.fleet_plans.specs.Claims.{head_text}
 use Rattle.fleet_plans.specs.Misspelt.{misspelt_of, misspelt_text}
-use Rattle.fleet_plans.specs.Reading.{head_lines}
+use Rattle.fleet_plans.specs.Form.{form_of}
+use Rattle.fleet_plans.specs.Reading.{head_by}
 use Rattle.fleet_plans.specs.Told.{told_text}
 use Rattle.fleet_lib.specs.Said.{Outcome}
 
@@ -49,12 +51,15 @@ abbrev pub noted : Option Misspelt → Outcome → Outcome
 noted None o = o
 noted (Some m) o = record o { complaint = codes "fleet: " ++ (misspelt_text m ++ (codes "\n" ++ o.complaint)) }
 
--- a scenario asks for more than the goals that the plan names
-abbrev pub IsAnswerBy : Bool → Option (List ℕ) → List ℕ → List ℕ → PlanAnswer → Type 0
-IsAnswerBy strict (Some scenario) map plan a = IsScenarioAnswer map scenario plan a
-IsAnswerBy false None map plan a = IsPlanAnswer map plan a
-IsAnswerBy true None map plan a = IsSolutionAnswer map plan a
+-- the form in which a plan is read: the one that is named, or else that of the text
+abbrev pub form_by : Option TextForm → List ℕ → TextForm
+form_by None plan = form_of plan
+form_by (Some form) plan = form
+
+-- what is said of a plan that is read in this form
+abbrev pub IsOutcomeBy : TextForm → Bool → Option (List ℕ) → List ℕ → List ℕ → Outcome → Type 0
+IsOutcomeBy form strict scenario map plan o = (a : PlanAnswer) × IsFormAnswer form strict scenario map plan a × (o ≡ noted (misspelt_of 1 (head_by form plan)) (outcome_of a))
 
 -- what is said to a map and a plan, of which it may be asked that each robot ends on its goal, or does what a scenario says
-abbrev pub IsCheckOutcome : Bool → Option (List ℕ) → List ℕ → List ℕ → Outcome → Type 0
-IsCheckOutcome strict scenario map plan o = (a : PlanAnswer) × IsAnswerBy strict scenario map plan a × (o ≡ noted (misspelt_of 1 (head_lines plan)) (outcome_of a))
+abbrev pub IsCheckOutcome : Option TextForm → Bool → Option (List ℕ) → List ℕ → List ℕ → Outcome → Type 0
+IsCheckOutcome form strict scenario map plan o = IsOutcomeBy (form_by form plan) strict scenario map plan o

@@ -8,9 +8,9 @@ abbrev pub view_app : App
 view_app = with_rules (new_app (codes "view"))
     (flag_rule (codes "svg") ∷ number_rule (codes "tick") ∷ file_rule (codes "MAP") ∷ files_rule (codes "TRACE") ∷ [])
 
--- check [--strict] [--goals SCENARIO] MAP PLAN
+-- check [--strict] [--form FORM] [--goals SCENARIO] MAP PLAN
 abbrev pub check_app : App
-check_app = with_rules (new_app (codes "check")) (flag_rule (codes "strict") ∷ value_rule (codes "goals") ∷ file_rule (codes "MAP") ∷ file_rule (codes "PLAN") ∷ [])
+check_app = with_rules (new_app (codes "check")) (flag_rule (codes "strict") ∷ value_rule (codes "form") ∷ value_rule (codes "goals") ∷ file_rule (codes "MAP") ∷ file_rule (codes "PLAN") ∷ [])
 
 -- talk [--marks] [--roll] [--traces DIR] [--resume] MAP [SCRIPT]
 abbrev pub talk_app : App

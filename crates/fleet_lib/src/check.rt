@@ -3,13 +3,13 @@
 ghost use Rattle.std.specs.Prelude.{◌≡◌, ◌≤◌, Some, length, string_bytes, IfOk, IfSome};
 ghost use Rattle.std.specs.Option.{option_copied};
 ghost use Rattle.fleet_lib.specs.Said.{said_of};
-ghost use Rattle.fleet_lib.specs.Check.{IsAnswerBy, IsCheckOutcome, good, refused, outcome_of, goals_outcome, noted, invalid_text};
+ghost use Rattle.fleet_lib.specs.Check.{form_by, IsCheckOutcome, good, refused, outcome_of, goals_outcome, noted, invalid_text};
 
 use crate::said::Said;
 use errands_text::Complaint;
 use fleet_plans::{
-    FaultText, GoalFault, Misspelt, PlanAnswer, PlanFault, check_scenario, check_solution,
-    check_texts, first_misspelt,
+    FaultText, GoalFault, Misspelt, PlanAnswer, PlanFault, TextForm, check_form, first_misspelt,
+    form_of,
 };
 use std::alloc::{AllocError, Global};
 use std::fmt;
@@ -142,33 +142,20 @@ fn noted(alloc: Global, found: Option<Misspelt>, said: Said) -> Result<Said, All
     })
 }
 
-/// What there is to say of a map and a plan.
-fn check_plan(
-    alloc: Global,
-    strict: bool,
-    scenario: Option<&[u8]>,
-    map: &[u8],
-    plan: &[u8],
-) -> Result<PlanAnswer, AllocError>
-    requires scenario { IfSome scenario (λ text. length text.now ≤ 16777216) }
-    requires plan { length plan.now ≤ 16777216 }
-    ensures { IfOk result (λ answer. IsAnswerBy strict (option_copied scenario.entry) map.now plan.now answer) }
+/// The form in which a plan is read: the one that is named, or else that of the text.
+fn form_by(form: Option<TextForm>, plan: &[u8]) -> TextForm
+    ensures { result ≡ form_by form plan.now }
 {
-    match scenario {
-        Some(text) => check_scenario(alloc, map, text, plan),
-        None => {
-            if strict {
-                check_solution(alloc, map, plan)
-            } else {
-                check_texts(alloc, map, plan)
-            }
-        }
+    match form {
+        Some(named) => named,
+        None => form_of(plan),
     }
 }
 
-/// The answer to a map and a plan: what `check_texts`, `check_solution` or `check_scenario` answers, as text.
+/// The answer to a map and a plan: what `check_form` answers, as text. If no form is named, it is that of the text.
 pub fn answer_check(
     alloc: Global,
+    form: Option<TextForm>,
     strict: bool,
     scenario: Option<&[u8]>,
     map: &[u8],
@@ -176,9 +163,10 @@ pub fn answer_check(
 ) -> Result<Said, AllocError>
     requires scenario { IfSome scenario (λ text. length text.now ≤ 16777216) }
     requires plan { length plan.now ≤ 16777216 }
-    ensures { IfOk result (λ s. IsCheckOutcome strict (option_copied scenario.entry) map.now plan.now (said_of s)) }
+    ensures { IfOk result (λ s. IsCheckOutcome form strict (option_copied scenario.entry) map.now plan.now (said_of s)) }
 {
-    let answer = check_plan(alloc, strict, scenario, map, plan)?;
+    let form = form_by(form, plan);
+    let answer = check_form(alloc, form, strict, scenario, map, plan)?;
     let said = said_of_answer(alloc, answer)?;
-    noted(alloc, first_misspelt(plan), said)
+    noted(alloc, first_misspelt(form, plan), said)
 }

@@ -25,7 +25,7 @@ pub use explain::{
 };
 pub use fleet_history::Chapter;
 pub use fleet_live::{LiveEnds, Pipes};
-pub use fleet_plans::is_plan;
+pub use fleet_plans::{TextForm, is_plan};
 pub use fleet_talk::{ChapterSink, Ends, Settings, SinkFault};
 pub use kept::{KeptFault, KeptText};
 pub use live::run_live;
@@ -36,6 +36,6 @@ pub use stats::answer_stats;
 pub use talk::{TalkTexts, run_talk};
 pub use view::{MOST_TRACE_BYTES, answer_view};
 pub use words::{
-    Check, Convert, Explain, Figures, Job, Live, Shown, Stats, Talk, Target, View, WordFault,
-    parse_words,
+    Check, Convert, Explain, Figures, FormAsked, Job, Live, Shown, Stats, Talk, Target, View,
+    WordFault, parse_words,
 };

@@ -12,7 +12,7 @@ mod stats;
 mod talk;
 mod view;
 
-pub use check::Check;
+pub use check::{Check, FormAsked};
 pub use command_words::WordFault;
 pub use convert::{Convert, Target};
 pub use explain::Explain;

@@ -1,5 +1,5 @@
 -- What there is to say of a map and a plan's text, and what it prints as.
-use Rattle.std.specs.Prelude.{◌≡◌, ◌≢◌, ℕ, List, [], ◌++◌, length, Option, Some, None, Ok, Err, codes, decimal, nat_lt, if◌then◌else◌}
+use Rattle.std.specs.Prelude.{◌≡◌, ◌≢◌, ℕ, Bool, true, false, List, [], ◌++◌, length, Option, Some, None, Ok, Err, codes, decimal, nat_lt, if◌then◌else◌}
 use Rattle.fleet_map.specs.declared.fault.MapFault.{MapFault}
 use Rattle.fleet_map.specs.Grammar.{Map, map_of}
 use Rattle.fleet_map.specs.Text.{lines_of}
@@ -10,6 +10,7 @@ use Rattle.fleet_plans.specs.declared.answer.PlanAnswer.{PlanAnswer}
 use Rattle.fleet_plans.specs.declared.answer.PlanAnswer.TheVariants as answer
 use Rattle.fleet_plans.specs.declared.claims.HeadFault.{HeadFault}
 use Rattle.fleet_plans.specs.declared.goals.GoalFault.{GoalFault}
+use Rattle.fleet_plans.specs.declared.form.TextForm.{TextForm}
 use Rattle.fleet_plans.specs.declared.judging.PlanFault.{PlanFault}
 use Rattle.fleet_plans.specs.declared.report.PlanReport.{PlanReport}
 use Rattle.fleet_plans.specs.declared.fault.PlanTextFault.TheVariants as line_fault
@@ -21,7 +22,8 @@ use Rattle.fleet_plans.specs.Report.{IsReportOf}
 use Rattle.fleet_plans.specs.Claims.{unmet}
 use Rattle.fleet_plans.specs.Scenario.{scenario_of, Trips}
 use Rattle.fleet_plans.specs.Goals.{Asked, Nothing, OwnGoals, OfTrips, undone}
-use Rattle.fleet_plans.specs.Reading.{IsTextPlan, IsTextFault, head_lines}
+use Rattle.fleet_plans.specs.Form.{form_of}
+use Rattle.fleet_plans.specs.Reading.{IsPlanBy, IsFaultBy, head_by}
 
 -- ---- a text that is no plan
 
@@ -57,34 +59,44 @@ pub data IsJudged (m : Floor) (asked : Asked) (head : List (List ℕ)) (goals : 
       → a ≡ valid_answer asked head goals (place_at places 0) (last_of places) report → IsJudged m asked head goals places a
   conflict : (fault : PlanFault) → IsPlanFault m places fault.time fault.fault → a ≡ answer.Invalid fault → IsJudged m asked head goals places a
 
--- the text first, then the plan
-pub data IsTextAnswer (asked : Asked) (m : Map) (text : List ℕ) (a : PlanAnswer) : Type 0 where
-  no_plan : (fault : TextFault) → IsTextFault m.width m.height text fault → IsNamed (lines_of text) fault a → IsTextAnswer asked m text a
-  judged : (goals : Option (List ℕ)) (places : List (List ℕ)) → IsTextPlan m.width m.height text goals places
-      → IsJudged (floor_of m.height m.width m.cells) asked (head_lines text) goals places a → IsTextAnswer asked m text a
+-- the text, read in this form, first, then the plan
+pub data IsTextAnswer (asked : Asked) (m : Map) (form : TextForm) (text : List ℕ) (a : PlanAnswer) : Type 0 where
+  no_plan : (fault : TextFault) → IsFaultBy form m.width m.height text fault → IsNamed (lines_of text) fault a → IsTextAnswer asked m form text a
+  judged : (goals : Option (List ℕ)) (places : List (List ℕ)) → IsPlanBy form m.width m.height text goals places
+      → IsJudged (floor_of m.height m.width m.cells) asked (head_by form text) goals places a → IsTextAnswer asked m form text a
 
 -- the map before both
-pub data IsAnswerTo (asked : Asked) (map text : List ℕ) (a : PlanAnswer) : Type 0 where
-  no_map : (fault : MapFault) → map_of map ≡ Err fault → a ≡ answer.Map fault → IsAnswerTo asked map text a
-  on_map : (m : Map) → map_of map ≡ Ok m → IsTextAnswer asked m text a → IsAnswerTo asked map text a
+pub data IsAnswerTo (asked : Asked) (map : List ℕ) (form : TextForm) (text : List ℕ) (a : PlanAnswer) : Type 0 where
+  no_map : (fault : MapFault) → map_of map ≡ Err fault → a ≡ answer.Map fault → IsAnswerTo asked map form text a
+  on_map : (m : Map) → map_of map ≡ Ok m → IsTextAnswer asked m form text a → IsAnswerTo asked map form text a
 
--- nothing is asked of the robots' last cells
+-- nothing is asked of the robots' last cells; the text says its form
 abbrev pub IsPlanAnswer : List ℕ → List ℕ → PlanAnswer → Type 0
-IsPlanAnswer map text a = IsAnswerTo Nothing map text a
+IsPlanAnswer map text a = IsAnswerTo Nothing map (form_of text) text a
 
 -- each robot has to end on its goal
 abbrev pub IsSolutionAnswer : List ℕ → List ℕ → PlanAnswer → Type 0
-IsSolutionAnswer map text a = IsAnswerTo OwnGoals map text a
+IsSolutionAnswer map text a = IsAnswerTo OwnGoals map (form_of text) text a
 
 -- the scenario, then the plan, whose robots have to begin and end as the scenario says
-pub data IsOnScenario (m : Map) (scenario text : List ℕ) (a : PlanAnswer) : Type 0 where
-  without_trips : (line : ℕ) → scenario_of m.width m.height (lines_of scenario) ≡ Err line → a ≡ answer.Scenario line → IsOnScenario m scenario text a
-  with_trips : (trips : Trips) → scenario_of m.width m.height (lines_of scenario) ≡ Ok trips → IsTextAnswer (OfTrips trips) m text a → IsOnScenario m scenario text a
+pub data IsOnScenario (m : Map) (scenario : List ℕ) (form : TextForm) (text : List ℕ) (a : PlanAnswer) : Type 0 where
+  without_trips : (line : ℕ) → scenario_of m.width m.height (lines_of scenario) ≡ Err line → a ≡ answer.Scenario line → IsOnScenario m scenario form text a
+  with_trips : (trips : Trips) → scenario_of m.width m.height (lines_of scenario) ≡ Ok trips → IsTextAnswer (OfTrips trips) m form text a → IsOnScenario m scenario form text a
 
 -- the map before both
-pub data IsScenarioAnswer (map scenario text : List ℕ) (a : PlanAnswer) : Type 0 where
-  without_map : (fault : MapFault) → map_of map ≡ Err fault → a ≡ answer.Map fault → IsScenarioAnswer map scenario text a
-  with_map : (m : Map) → map_of map ≡ Ok m → IsOnScenario m scenario text a → IsScenarioAnswer map scenario text a
+pub data IsTripsAnswer (map scenario : List ℕ) (form : TextForm) (text : List ℕ) (a : PlanAnswer) : Type 0 where
+  without_map : (fault : MapFault) → map_of map ≡ Err fault → a ≡ answer.Map fault → IsTripsAnswer map scenario form text a
+  with_map : (m : Map) → map_of map ≡ Ok m → IsOnScenario m scenario form text a → IsTripsAnswer map scenario form text a
+
+-- the text says its form
+abbrev pub IsScenarioAnswer : List ℕ → List ℕ → List ℕ → PlanAnswer → Type 0
+IsScenarioAnswer map scenario text a = IsTripsAnswer map scenario (form_of text) text a
+
+-- a form is named; a scenario asks for more than the goals that the plan names
+abbrev pub IsFormAnswer : TextForm → Bool → Option (List ℕ) → List ℕ → List ℕ → PlanAnswer → Type 0
+IsFormAnswer form strict (Some scenario) map text a = IsTripsAnswer map scenario form text a
+IsFormAnswer form false None map text a = IsAnswerTo Nothing map form text a
+IsFormAnswer form true None map text a = IsAnswerTo OwnGoals map form text a
 
 -- the kind of a fault, with its robots
 abbrev pub fault_text : StepFault → List ℕ

@@ -3,7 +3,7 @@ use Rattle.std.specs.Prelude.{ℕ, Bool, true, false, List, [], ◌∷◌, lengt
 use Rattle.std.specs.Str.{bytes_eq}
 use Rattle.std.specs.Char.{is_ascii_digit}
 use Rattle.fleet_plans.specs.declared.form.TextForm.{TextForm}
-use Rattle.fleet_plans.specs.declared.form.TextForm.TheVariants.{Headed, Bare, Agents, Json, Table, Schedule}
+use Rattle.fleet_plans.specs.declared.form.TextForm.TheVariants.{Headed, Bare, Agents, Json, PlannerJson, Table, Schedule}
 use Rattle.fleet_map.specs.Text.{lines_of}
 use Rattle.fleet_plans.specs.Head.{split_once}
 use Rattle.fleet_plans.specs.Runners.{is_json}
@@ -53,6 +53,7 @@ has_head (line ∷ lines) = is_pair line
 -- whether a text is taken for a plan: a text in JSON if it names paths, any other by its first line
 abbrev pub is_plan_by : TextForm → List ℕ → Bool
 is_plan_by Json text = has_word (codes "\"actualPaths\"") text
+is_plan_by PlannerJson text = false
 is_plan_by Bare text = true
 is_plan_by Agents text = true
 is_plan_by Table text = true

@@ -1,11 +1,11 @@
--- The plan that a text has, by its form, and why it has none.
+-- The plan that a text has in a form, and why it has none.
 use Rattle.std.specs.Prelude.{◌≡◌, ℕ, List, [], Option, None, Ok}
 use Rattle.fleet_map.specs.Text.{lines_of}
 use Rattle.fleet_plans.specs.declared.form.TextForm.{TextForm}
-use Rattle.fleet_plans.specs.declared.form.TextForm.TheVariants.{Headed, Bare, Agents, Json, Table, Schedule}
+use Rattle.fleet_plans.specs.declared.form.TextForm.TheVariants.{Headed, Bare, Agents, Json, PlannerJson, Table, Schedule}
+use Rattle.fleet_plans.specs.declared.runners.fault.RunnersKey.TheVariants.{ActualPaths, PlannerPaths}
 use Rattle.fleet_plans.specs.declared.text.TextFault.{TextFault}
 use Rattle.fleet_plans.specs.declared.text.TextFault.TheVariants as fault
-use Rattle.fleet_plans.specs.Form.{form_of}
 use Rattle.fleet_plans.specs.Head.{blank_head}
 use Rattle.fleet_plans.specs.Places.{places_of}
 use Rattle.fleet_plans.specs.Text.{source_of, IsReadAs}
@@ -20,7 +20,8 @@ abbrev pub IsPlanBy : TextForm → ℕ → ℕ → List ℕ → Option (List ℕ
 IsPlanBy Headed w h text goals places = IsReadAs w h (source_of w h text) goals places
 IsPlanBy Bare w h text goals places = (goals ≡ None) × (places_of w h blank_head [] 1 (lines_of text) ≡ Ok places)
 IsPlanBy Agents w h text goals places = (goals ≡ None) × IsAgentsPlan w h text places
-IsPlanBy Json w h text goals places = IsRunnersPlan w h text goals places
+IsPlanBy Json w h text goals places = IsRunnersPlan ActualPaths w h text goals places
+IsPlanBy PlannerJson w h text goals places = IsRunnersPlan PlannerPaths w h text goals places
 IsPlanBy Table w h text goals places = (goals ≡ None) × IsTablePlan w h text places
 IsPlanBy Schedule w h text goals places = (goals ≡ None) × IsScheduled w h text places
 
@@ -33,26 +34,20 @@ IsFaultBy Bare w h text (fault.Json f) = ⊥
 IsFaultBy Agents w h text (fault.Lines f) = IsNoAgents w h text f
 IsFaultBy Agents w h text (fault.Json f) = ⊥
 IsFaultBy Json w h text (fault.Lines f) = ⊥
-IsFaultBy Json w h text (fault.Json f) = IsRunnersFault w h text f
+IsFaultBy Json w h text (fault.Json f) = IsRunnersFault ActualPaths w h text f
+IsFaultBy PlannerJson w h text (fault.Lines f) = ⊥
+IsFaultBy PlannerJson w h text (fault.Json f) = IsRunnersFault PlannerPaths w h text f
 IsFaultBy Table w h text (fault.Lines f) = FailsAt f (table_of w h (lines_of text))
 IsFaultBy Table w h text (fault.Json f) = ⊥
 IsFaultBy Schedule w h text (fault.Lines f) = FailsAt f (schedule_of w h 1 (lines_of text))
 IsFaultBy Schedule w h text (fault.Json f) = ⊥
 
-abbrev pub IsTextPlan : ℕ → ℕ → List ℕ → Option (List ℕ) → List (List ℕ) → Type 0
-IsTextPlan w h text goals places = IsPlanBy (form_of text) w h text goals places
-
-abbrev pub IsTextFault : ℕ → ℕ → List ℕ → TextFault → Type 0
-IsTextFault w h text f = IsFaultBy (form_of text) w h text f
-
--- the lines of a text's head; only a text in the form of one has them
+-- the lines of the head of a text in this form
 abbrev pub head_by : TextForm → List ℕ → List (List ℕ)
 head_by Headed text = lines_of text
 head_by Bare text = []
 head_by Agents text = []
 head_by Json text = []
+head_by PlannerJson text = []
 head_by Table text = []
 head_by Schedule text = []
-
-abbrev pub head_lines : List ℕ → List (List ℕ)
-head_lines text = head_by (form_of text) text

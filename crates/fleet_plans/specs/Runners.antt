@@ -7,14 +7,15 @@ use Rattle.std.specs.Option.{option_map, option_and_then}
 use Rattle.std.specs.Str.{bytes_eq}
 use Rattle.serde_json.specs.Data.{Data, Items, no_items, item}
 use Rattle.serde_json.specs.Find.{get, at, as_str, as_array, as_number, as_u64}
-use Rattle.fleet_plans.specs.declared.runners.fault.RunnersKey.TheVariants.{ActionModel, Start, TeamSize, ActualPaths}
+use Rattle.fleet_plans.specs.declared.runners.fault.RunnersKey.{RunnersKey}
+use Rattle.fleet_plans.specs.declared.runners.fault.RunnersKey.TheVariants.{ActionModel, Start, TeamSize}
 use Rattle.fleet_plans.specs.declared.runners.fault.RunnersFault.{RunnersFault}
 use Rattle.fleet_plans.specs.declared.runners.fault.RunnersFault.TheVariants.{NotJson, Key, Item, NoMemory}
 use Rattle.fleet_grid.specs.declared.dir.Dir.{Dir}
 use Rattle.fleet_plans.specs.Cells.{parts_of, cell_at}
 use Rattle.fleet_plans.specs.Turning.{dirs_in, turned_paths}
 use Rattle.fleet_plans.specs.Text.{Source, Walked, IsPlanOf}
-use Rattle.fleet_plans.specs.Told.{or_fault, if_told, IsJson}
+use Rattle.fleet_plans.specs.Told.{key_text, or_fault, if_told, IsJson}
 
 -- ---- the form of a text
 
@@ -82,16 +83,16 @@ path_from text = if nat_le (length text) 16777216 then track_of [] (parts_of tex
 abbrev pub path_in : Data → Option (List ℕ)
 path_in d = option_and_then path_from (as_str d)
 
--- the paths of n robots, after these
-unfoldable pub paths_of : ℕ → List (List ℕ) → Items → Result (List (List ℕ)) RunnersFault
-paths_of robots tracks no_items = if length tracks == robots then Ok tracks else Err (Key ActualPaths)
-paths_of robots tracks (item d ds) =
+-- the paths of n robots, after these; they stand under this key
+unfoldable pub paths_of : RunnersKey → ℕ → List (List ℕ) → Items → Result (List (List ℕ)) RunnersFault
+paths_of key robots tracks no_items = if length tracks == robots then Ok tracks else Err (Key key)
+paths_of key robots tracks (item d ds) =
     if nat_lt (length tracks) robots
-    then if_told (or_fault (Item ActualPaths (length tracks)) (path_in d)) (λ track. paths_of robots (tracks ++ track ∷ []) ds)
-    else Err (Key ActualPaths)
+    then if_told (or_fault (Item key (length tracks)) (path_in d)) (λ track. paths_of key robots (tracks ++ track ∷ []) ds)
+    else Err (Key key)
 
-abbrev pub paths_in : ℕ → Data → Result (List (List ℕ)) RunnersFault
-paths_in robots d = if_told (or_fault (Key ActualPaths) (option_and_then as_array (get (codes "actualPaths") d))) (paths_of robots [])
+abbrev pub paths_in : RunnersKey → ℕ → Data → Result (List (List ℕ)) RunnersFault
+paths_in key robots d = if_told (or_fault (Key key) (option_and_then as_array (get (key_text key) d))) (paths_of key robots [])
 
 -- ---- the plan
 
@@ -127,30 +128,30 @@ dirs_by false d = Ok []
 dirs_by true d = dirs_in d
 
 -- the tracks of n robots
-abbrev pub tracks_by : Bool → ℕ → List Dir → Data → Result (List (List ℕ)) RunnersFault
-tracks_by false robots dirs d = paths_in robots d
-tracks_by true robots dirs d = turned_paths dirs d
+abbrev pub tracks_by : RunnersKey → Bool → ℕ → List Dir → Data → Result (List (List ℕ)) RunnersFault
+tracks_by key false robots dirs d = paths_in key robots d
+tracks_by key true robots dirs d = turned_paths key dirs d
 
 -- by whether robots turn
-abbrev pub runners_by : ℕ → ℕ → Data → Option Bool → Result Source RunnersFault
-runners_by w h d None = Err (Key ActionModel)
-runners_by w h d (Some turns) = if_told (starts_in w h d) (λ starts. if_told (dirs_by turns d) (λ dirs. sized starts d (tracks_by turns (length starts) dirs d)))
+abbrev pub runners_by : RunnersKey → ℕ → ℕ → Data → Option Bool → Result Source RunnersFault
+runners_by key w h d None = Err (Key ActionModel)
+runners_by key w h d (Some turns) = if_told (starts_in w h d) (λ starts. if_told (dirs_by turns d) (λ dirs. sized starts d (tracks_by key turns (length starts) dirs d)))
 
--- what a value is, or the first fault; it names no goals
-abbrev pub runners_of : ℕ → ℕ → Data → Result Source RunnersFault
-runners_of w h d = runners_by w h d (turns_in (get (codes "actionModel") d))
+-- what a value is, with the paths under this key, or the first fault; it names no goals
+abbrev pub runners_of : RunnersKey → ℕ → ℕ → Data → Result Source RunnersFault
+runners_of key w h d = runners_by key w h d (turns_in (get (codes "actionModel") d))
 
 -- what was told is such a plan
 abbrev pub IsToldAs : ℕ → ℕ → Result Source RunnersFault → Option (List ℕ) → List (List ℕ) → Type 0
 IsToldAs w h told goals places = (source : Source) × (told ≡ Ok source) × IsPlanOf w h source goals places
 
 -- the text is that of such a plan
-abbrev pub IsRunnersPlan : ℕ → ℕ → List ℕ → Option (List ℕ) → List (List ℕ) → Type 0
-IsRunnersPlan w h text goals places = (d : Data) × IsJson text d × IsToldAs w h (runners_of w h d) goals places
+abbrev pub IsRunnersPlan : RunnersKey → ℕ → ℕ → List ℕ → Option (List ℕ) → List (List ℕ) → Type 0
+IsRunnersPlan key w h text goals places = (d : Data) × IsJson text d × IsToldAs w h (runners_of key w h d) goals places
 
 -- why the text is no such plan, unless memory ran out
-abbrev pub IsRunnersFault : ℕ → ℕ → List ℕ → RunnersFault → Type 0
-IsRunnersFault w h text NotJson = (d : Data) → IsJson text d → ⊥
-IsRunnersFault w h text (Key key) = (d : Data) × IsJson text d × (runners_of w h d ≡ Err (Key key))
-IsRunnersFault w h text (Item key robot) = (d : Data) × IsJson text d × (runners_of w h d ≡ Err (Item key robot))
-IsRunnersFault w h text NoMemory = Unit {0}
+abbrev pub IsRunnersFault : RunnersKey → ℕ → ℕ → List ℕ → RunnersFault → Type 0
+IsRunnersFault paths w h text NotJson = (d : Data) → IsJson text d → ⊥
+IsRunnersFault paths w h text (Key key) = (d : Data) × IsJson text d × (runners_of paths w h d ≡ Err (Key key))
+IsRunnersFault paths w h text (Item key robot) = (d : Data) × IsJson text d × (runners_of paths w h d ≡ Err (Item key robot))
+IsRunnersFault paths w h text NoMemory = Unit {0}

@@ -6,17 +6,23 @@ use Rattle.fleet_map.specs.Text.{lines_of}
 use Rattle.fleet_grid.specs.Floor.{floor_of}
 use Rattle.fleet_plans.specs.declared.answer.PlanAnswer.{PlanAnswer}
 use Rattle.fleet_plans.specs.declared.answer.PlanAnswer.TheVariants as answer
+use Rattle.fleet_plans.specs.declared.form.TextForm.{TextForm}
 use Rattle.fleet_plans.specs.declared.study.Study.{Study}
 use Rattle.fleet_plans.specs.declared.text.TextFault.{TextFault}
 use Rattle.fleet_plans.specs.Answer.{IsNamed, IsJudged}
 use Rattle.fleet_plans.specs.Goals.{Asked, Nothing}
-use Rattle.fleet_plans.specs.Reading.{IsTextPlan, IsTextFault, head_lines}
+use Rattle.fleet_plans.specs.Form.{form_of}
+use Rattle.fleet_plans.specs.Reading.{IsPlanBy, IsFaultBy, head_by}
 
--- the text is no plan, or these are its placements, and this is said of them
-pub data IsTextStudy (asked : Asked) (m : Map) (text : List ℕ) (a : PlanAnswer) (places : List (List ℕ)) : Type 0 where
-  unread : (fault : TextFault) → IsTextFault m.width m.height text fault → IsNamed (lines_of text) fault a → IsTextStudy asked m text a places
-  read : (goals : Option (List ℕ)) → IsTextPlan m.width m.height text goals places → IsJudged (floor_of m.height m.width m.cells) asked (head_lines text) goals places a
-      → IsTextStudy asked m text a places
+-- the text is no plan in this form, or these are its placements, and this is said of them
+pub data IsFormStudy (asked : Asked) (m : Map) (form : TextForm) (text : List ℕ) (a : PlanAnswer) (places : List (List ℕ)) : Type 0 where
+  unread : (fault : TextFault) → IsFaultBy form m.width m.height text fault → IsNamed (lines_of text) fault a → IsFormStudy asked m form text a places
+  read : (goals : Option (List ℕ)) → IsPlanBy form m.width m.height text goals places → IsJudged (floor_of m.height m.width m.cells) asked (head_by form text) goals places a
+      → IsFormStudy asked m form text a places
+
+-- the text says its form
+abbrev pub IsTextStudy : Asked → Map → List ℕ → PlanAnswer → List (List ℕ) → Type 0
+IsTextStudy asked m text a places = IsFormStudy asked m (form_of text) text a places
 
 -- the map before both
 pub data IsStudy (map text : List ℕ) (s : Study) : Type 0 where

@@ -3,7 +3,7 @@ use Rattle.std.specs.Prelude.{◌≡◌, ℕ, List, ◌++◌, Option, Some, None
 use Rattle.serde_json.specs.Data.{Data}
 use Rattle.serde_json.specs.Read.{read}
 use Rattle.fleet_plans.specs.declared.runners.fault.RunnersKey.{RunnersKey}
-use Rattle.fleet_plans.specs.declared.runners.fault.RunnersKey.TheVariants.{ActionModel, Start, TeamSize, ActualPaths}
+use Rattle.fleet_plans.specs.declared.runners.fault.RunnersKey.TheVariants.{ActionModel, Start, TeamSize, ActualPaths, PlannerPaths}
 use Rattle.fleet_plans.specs.declared.runners.fault.RunnersFault.{RunnersFault}
 use Rattle.fleet_plans.specs.declared.runners.fault.RunnersFault.TheVariants.{NotJson, Key, Item, NoMemory}
 
@@ -12,6 +12,7 @@ key_text ActionModel = codes "actionModel"
 key_text Start = codes "start"
 key_text TeamSize = codes "teamSize"
 key_text ActualPaths = codes "actualPaths"
+key_text PlannerPaths = codes "plannerPaths"
 
 -- a fault as it prints
 abbrev pub told_text : RunnersFault → List ℕ

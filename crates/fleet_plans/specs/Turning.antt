@@ -7,11 +7,12 @@ use Rattle.serde_json.specs.Data.{Data, Items, no_items, item}
 use Rattle.serde_json.specs.Find.{get, at, as_str, as_array}
 use Rattle.fleet_grid.specs.declared.dir.Dir.{Dir}
 use Rattle.fleet_grid.specs.declared.dir.Dir.TheVariants.{North, East, South, West}
-use Rattle.fleet_plans.specs.declared.runners.fault.RunnersKey.TheVariants.{Start, ActualPaths}
+use Rattle.fleet_plans.specs.declared.runners.fault.RunnersKey.{RunnersKey}
+use Rattle.fleet_plans.specs.declared.runners.fault.RunnersKey.TheVariants.{Start}
 use Rattle.fleet_plans.specs.declared.runners.fault.RunnersFault.{RunnersFault}
 use Rattle.fleet_plans.specs.declared.runners.fault.RunnersFault.TheVariants.{Key, Item}
 use Rattle.fleet_plans.specs.Cells.{parts_of}
-use Rattle.fleet_plans.specs.Told.{or_fault, if_told}
+use Rattle.fleet_plans.specs.Told.{or_fault, if_told, key_text}
 
 -- the letter of a move in a direction
 abbrev pub letter_of : Dir → ℕ
@@ -84,14 +85,15 @@ dirs_in d = if_told (or_fault (Key Start) (option_and_then as_array (get (codes 
 
 -- ---- paths
 
-abbrev pub told_track : ℕ → Data → Option Dir → Result (List ℕ) RunnersFault
-told_track robot d None = Err (Key ActualPaths)
-told_track robot d (Some dir) = or_fault (Item ActualPaths robot) (turned_in dir d)
+-- the path of a robot, which stands under this key
+abbrev pub told_track : RunnersKey → ℕ → Data → Option Dir → Result (List ℕ) RunnersFault
+told_track key robot d None = Err (Key key)
+told_track key robot d (Some dir) = or_fault (Item key robot) (turned_in dir d)
 
 -- the paths of robots that begin in these directions, after these paths
-unfoldable pub turned_of : List Dir → List (List ℕ) → Items → Result (List (List ℕ)) RunnersFault
-turned_of dirs tracks no_items = if length tracks == length dirs then Ok tracks else Err (Key ActualPaths)
-turned_of dirs tracks (item d ds) = if_told (told_track (length tracks) d (slice_get dirs (length tracks))) (λ track. turned_of dirs (tracks ++ track ∷ []) ds)
+unfoldable pub turned_of : RunnersKey → List Dir → List (List ℕ) → Items → Result (List (List ℕ)) RunnersFault
+turned_of key dirs tracks no_items = if length tracks == length dirs then Ok tracks else Err (Key key)
+turned_of key dirs tracks (item d ds) = if_told (told_track key (length tracks) d (slice_get dirs (length tracks))) (λ track. turned_of key dirs (tracks ++ track ∷ []) ds)
 
-abbrev pub turned_paths : List Dir → Data → Result (List (List ℕ)) RunnersFault
-turned_paths dirs d = if_told (or_fault (Key ActualPaths) (option_and_then as_array (get (codes "actualPaths") d))) (turned_of dirs [])
+abbrev pub turned_paths : RunnersKey → List Dir → Data → Result (List (List ℕ)) RunnersFault
+turned_paths key dirs d = if_told (or_fault (Key key) (option_and_then as_array (get (key_text key) d))) (turned_of key dirs [])

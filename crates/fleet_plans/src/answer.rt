@@ -7,14 +7,14 @@ ghost use Rattle.fleet_map.specs.Grammar.{Map, view};
 ghost use Rattle.fleet_map.specs.Text.{lines_of};
 ghost use Rattle.fleet_plans.specs.Goals.{asked_by};
 ghost use Rattle.fleet_plans.specs.Judge.{HasJudged};
-ghost use Rattle.fleet_plans.specs.Reading.{head_lines};
 ghost use Rattle.fleet_plans.specs.Shown.{goals_in};
 ghost use Rattle.fleet_plans.specs.inside.Answered.{IsOf};
-ghost use Rattle.fleet_plans.specs.Study.{IsTextStudy};
+ghost use Rattle.fleet_plans.specs.Study.{IsFormStudy};
 ghost use Rattle.fleet_plans.specs.Answer.{at_line, valid_answer, IsNamed, IsJudged, IsTextAnswer, IsAnswerTo, IsPlanAnswer, IsSolutionAnswer, fault_text, goals_text, report_text};
 
 use crate::claims::{HeadFault, line_count, unmet};
 use crate::fault::PlanTextFault;
+use crate::form::{TextForm, form_of};
 use crate::goals::{Demand, GoalFault, undone};
 use crate::judge::PlanJudge;
 use crate::judging::PlanFault;
@@ -166,42 +166,45 @@ fn named(text: &[u8], fault: TextFault) -> Result<PlanAnswer, AllocError>
     }
 }
 
-/// The answer to a plan's text on the map of a new judge.
+/// The answer to a plan's text in this form, on the map of a new judge.
 pub(crate) fn answer_text(
     alloc: Global,
     demand: Demand<'_>,
+    form: TextForm,
     sides: Sides,
     text: &[u8],
     judge: &mut PlanJudge,
 ) -> Result<PlanAnswer, AllocError>
     requires short { length text.now ≤ 16777216 }
     requires fresh { HasJudged judge.old.floor [] judge.old }
-    ensures answer { (m : Map) → IsOf m sides.width sides.height judge.old.floor → IfOk result (λ answer. IsTextAnswer (asked_by demand.entry) m text.now answer) }
+    ensures answer { (m : Map) → IsOf m sides.width sides.height judge.old.floor → IfOk result (λ answer. IsTextAnswer (asked_by demand.entry) m form text.now answer) }
     // If the judge keeps placements, they are those of the plan.
-    ensures kept { (m : Map) (places : List (List ℕ)) → IsOf m sides.width sides.height judge.old.floor → judge.new.kept ≡ Some places → IfOk result (λ answer. IsTextStudy (asked_by demand.entry) m text.now answer places) }
+    ensures kept { (m : Map) (places : List (List ℕ)) → IsOf m sides.width sides.height judge.old.floor → judge.new.kept ≡ Some places → IfOk result (λ answer. IsFormStudy (asked_by demand.entry) m form text.now answer places) }
 {
-    match read_text(alloc, sides, text, judge) {
-        Ok(goals) => Ok(answer_of(demand, headed(text), lent(&goals), judge)),
+    match read_text(alloc, form, sides, text, judge) {
+        Ok(goals) => Ok(answer_of(demand, headed(form, text), lent(&goals), judge)),
         Err(fault) => named(text, fault),
     }
 }
 
-/// The answer to a plan's text on a map.
+/// The answer to a plan's text in this form, on a map.
 pub(crate) fn answer_on(
     alloc: Global,
     demand: Demand<'_>,
     map: MapText,
+    form: TextForm,
     text: &[u8],
 ) -> Result<PlanAnswer, AllocError>
     requires sides { HasSides (view map) }
     requires short { length text.now ≤ 16777216 }
-    ensures { IfOk result (λ answer. IsTextAnswer (asked_by demand.entry) (view map) text.now answer) }
+    ensures { IfOk result (λ answer. IsTextAnswer (asked_by demand.entry) (view map) form text.now answer) }
 {
     let sides = sides_of(&map);
     let grid = Grid::new(map)?;
     answer_text(
         alloc,
         demand,
+        form,
         sides,
         text,
         &mut PlanJudge::new(alloc, &grid),
@@ -219,18 +222,20 @@ pub(crate) fn map_fault(fault: MapFault) -> Result<MapFault, AllocError>
     }
 }
 
-/// The answer to the text of a map and of a plan, of which it may be asked that it leads the robots to their goals.
-fn answer_to(
+/// The answer to the text of a map and of a plan in this form, of which it may be asked that it leads the robots to their
+/// goals.
+pub(crate) fn answer_to(
     alloc: Global,
     demand: Demand<'_>,
     map: &[u8],
+    form: TextForm,
     text: &[u8],
 ) -> Result<PlanAnswer, AllocError>
     requires { length text.now ≤ 16777216 }
-    ensures { IfOk result (λ answer. IsAnswerTo (asked_by demand.entry) map.now text.now answer) }
+    ensures { IfOk result (λ answer. IsAnswerTo (asked_by demand.entry) map.now form text.now answer) }
 {
     match read_map(alloc, map) {
-        Ok(map) => answer_on(alloc, demand, map, text),
+        Ok(map) => answer_on(alloc, demand, map, form, text),
         Err(fault) => Ok(PlanAnswer::Map(map_fault(fault)?)),
     }
 }
@@ -241,7 +246,7 @@ pub fn check_texts(alloc: Global, map: &[u8], text: &[u8]) -> Result<PlanAnswer,
     requires { length text.now ≤ 16777216 }
     ensures { IfOk result (λ answer. IsPlanAnswer map.now text.now answer) }
 {
-    answer_to(alloc, Demand::Nothing, map, text)
+    answer_to(alloc, Demand::Nothing, map, form_of(text), text)
 }
 
 /// The answer of `check_texts`, where a plan is valid only if each robot ends on its goal.
@@ -249,7 +254,7 @@ pub fn check_solution(alloc: Global, map: &[u8], text: &[u8]) -> Result<PlanAnsw
     requires { length text.now ≤ 16777216 }
     ensures { IfOk result (λ answer. IsSolutionAnswer map.now text.now answer) }
 {
-    answer_to(alloc, Demand::OwnGoals, map, text)
+    answer_to(alloc, Demand::OwnGoals, map, form_of(text), text)
 }
 
 /// A step's fault as it is printed: its kind, and its robots.

@@ -17,8 +17,10 @@ pub enum TextForm {
     Bare,
     /// A line `Agent K:` for each robot, with its cells.
     Agents,
-    /// JSON, as the League of Robot Runners has plans.
+    /// JSON, as the League of Robot Runners has plans, with the paths that the robots went.
     Json,
+    /// The same, with the paths that the planner asked for. No text is found to have this form: a caller names it.
+    PlannerJson,
     /// A table with a line for each cell of each robot's path.
     Table,
     /// YAML, as libMultiRobotPlanning has plans.
@@ -131,6 +133,7 @@ pub fn is_plan(text: &[u8]) -> bool
 {
     match form_of(text) {
         TextForm::Json => has_word(text, b"\"actualPaths\""),
+        TextForm::PlannerJson => false,
         TextForm::Bare => true,
         TextForm::Agents => true,
         TextForm::Table => true,

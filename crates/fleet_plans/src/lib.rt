@@ -31,7 +31,7 @@ mod tracks;
 mod walk;
 
 pub use answer::{FaultText, PlanAnswer, check_solution, check_texts};
-pub use asked::check_scenario;
+pub use asked::{check_form, check_scenario};
 pub use claims::{HeadFault, HeadKey};
 pub use fault::PlanTextFault;
 pub use form::{TextForm, form_of, is_plan};

@@ -4,9 +4,10 @@ ghost use Rattle.std.specs.Prelude.{◌≡◌, ◌≤◌, ◌-◌, [], Some, len
 ghost use Rattle.std.specs.Str.{str_eq_ignore_ascii_case};
 ghost use Rattle.fleet_map.specs.Text.{lines_of, words_of};
 ghost use Rattle.fleet_plans.specs.Head.{split_once};
-ghost use Rattle.fleet_plans.specs.Reading.{head_lines};
+ghost use Rattle.fleet_plans.specs.Reading.{head_by};
 ghost use Rattle.fleet_plans.specs.Misspelt.{known_text, without_s, is_like, like_of, like_in, misspelt_of, misspelt_text};
 
+use crate::form::TextForm;
 use crate::head::split_once;
 use crate::text::headed;
 use fleet_map::text::{first_line, first_word};
@@ -133,14 +134,14 @@ fn like_in(number: u32, line: &[u8]) -> Option<Misspelt>
     Some(Misspelt { line: number, key })
 }
 
-/// The first line of a plan's head that says nothing, and whose key is like one that says something.
+/// The first line of the head of a plan in this form that says nothing, and whose key is like one that says something.
 #[tactic(auto, unfolding(crate::specs::Misspelt::misspelt_of))]
-pub fn first_misspelt(text: &[u8]) -> Option<Misspelt>
+pub fn first_misspelt(form: TextForm, text: &[u8]) -> Option<Misspelt>
     requires { length text.now ≤ 16777216 }
-    ensures { result ≡ misspelt_of 1 (head_lines text.now) }
+    ensures { result ≡ misspelt_of 1 (head_by form text.now) }
 {
     let mut number = 1;
-    let mut rest = headed(text);
+    let mut rest = headed(form, text);
     while let Some((line, after)) = first_line(rest) {
         if line == b"solution=".as_slice() {
             return None;

@@ -104,9 +104,10 @@ fn dirs_by(alloc: Global, turns: bool, plan: &Value) -> Result<Row<Dir>, Runners
     }
 }
 
-/// The robots' tracks.
+/// The robots' tracks, which stand under this key.
 fn tracks_by(
     alloc: Global,
+    key: RunnersKey,
     turns: bool,
     robots: usize,
     dirs: &[Dir],
@@ -114,26 +115,27 @@ fn tracks_by(
 ) -> Result<Vec<Row<u8>>, RunnersFault>
     requires robots { robots ≤ 16777216 }
     requires few { length dirs.now ≤ 16777216 }
-    ensures read { Tells (λ tracks. tracks.items) result (tracks_by turns robots dirs.now (view plan.now)) }
+    ensures read { Tells (λ tracks. tracks.items) result (tracks_by key turns robots dirs.now (view plan.now)) }
     ensures short { IfOk result (λ tracks. (r : ℕ) → length (slice_index_or tracks.items r []) ≤ 16777216) }
 {
     if turns {
-        read_turned(alloc, dirs, plan)
+        read_turned(alloc, key, dirs, plan)
     } else {
-        read_paths(alloc, robots, plan)
+        read_paths(alloc, key, robots, plan)
     }
 }
 
-/// Gives the judge the placements of the plan that a JSON value says.
+/// Gives the judge the placements of the plan that a JSON value says, with the paths under this key.
 fn judge_value<B: Allocator + Copy>(
     alloc: Global,
+    key: RunnersKey,
     sides: Sides,
     value: &Value,
     judge: &mut PlanJudge<Global, B>,
 ) -> Result<(), RunnersFault>
     requires fresh { HasJudged judge.old.floor [] judge.old }
-    ensures read { IfOk result (λ _. IsGiven judge.old.floor (IsToldAs sides.width sides.height (runners_of sides.width sides.height (view value.now)) None) judge.new) }
-    ensures fault { IfErr result (λ fault. IsToldFault fault (runners_of sides.width sides.height (view value.now))) }
+    ensures read { IfOk result (λ _. IsGiven judge.old.floor (IsToldAs sides.width sides.height (runners_of key sides.width sides.height (view value.now)) None) judge.new) }
+    ensures fault { IfErr result (λ fault. IsToldFault fault (runners_of key sides.width sides.height (view value.now))) }
 {
     let Some(turns) = turns(value) else {
         return Err(RunnersFault::Key(RunnersKey::ActionModel));
@@ -143,28 +145,30 @@ fn judge_value<B: Allocator + Copy>(
     if !has_size(value, starts.len()) {
         return Err(RunnersFault::Key(RunnersKey::TeamSize));
     }
-    let tracks = tracks_by(alloc, turns, starts.len(), dirs.as_slice(), value)?;
+    let tracks = tracks_by(alloc, key, turns, starts.len(), dirs.as_slice(), value)?;
     let lent = lent(alloc, &tracks)?;
     Ok(walk(alloc, sides, starts.as_slice(), &lent, judge)?)
 }
 
 /// Gives the judge the placements of a plan in JSON, in the form of the League of Robot Runners: `start` has each
 /// robot's row and column, and `actualPaths` its steps, as letters U, D, L, R, W separated by commas; for robots that
-/// turn, `start` has the direction as well, and the letters are F, R, C, W. Such a plan names no goals.
+/// turn, `start` has the direction as well, and the letters are F, R, C, W. Such a plan names no goals. The steps may be
+/// asked for under another key, `plannerPaths`.
 ///
 /// The fault is the first one, with the keys in the order of `RunnersKey`.
 pub(crate) fn read_runners<B: Allocator + Copy>(
     alloc: Global,
+    key: RunnersKey,
     sides: Sides,
     text: &[u8],
     judge: &mut PlanJudge<Global, B>,
 ) -> Result<(), RunnersFault>
     requires fresh { HasJudged judge.old.floor [] judge.old }
-    ensures read { IfOk result (λ _. IsGiven judge.old.floor (IsRunnersPlan sides.width sides.height text.now None) judge.new) }
-    ensures fault { IfErr result (λ fault. IsRunnersFault sides.width sides.height text.now fault) }
+    ensures read { IfOk result (λ _. IsGiven judge.old.floor (IsRunnersPlan key sides.width sides.height text.now None) judge.new) }
+    ensures fault { IfErr result (λ fault. IsRunnersFault key sides.width sides.height text.now fault) }
 {
     match Value::from_slice(alloc, text) {
-        Ok(value) => judge_value(alloc, sides, &value, judge),
+        Ok(value) => judge_value(alloc, key, sides, &value, judge),
         Err(error) => {
             if error.is_memory() {
                 Err(RunnersFault::NoMemory)

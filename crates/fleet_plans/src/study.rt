@@ -4,9 +4,10 @@ ghost use Rattle.std.specs.Prelude.{◌≡◌, ◌≤◌, length, IfOk};
 ghost use Rattle.fleet_map.specs.Form.{HasSides};
 ghost use Rattle.fleet_map.specs.Grammar.{view};
 ghost use Rattle.fleet_plans.specs.Goals.{Nothing};
-ghost use Rattle.fleet_plans.specs.Study.{IsTextStudy, IsStudy};
+ghost use Rattle.fleet_plans.specs.Study.{IsFormStudy, IsStudy};
 
 use crate::answer::{PlanAnswer, answer_text, map_fault, sides_of};
+use crate::form::{TextForm, form_of};
 use crate::goals::Demand;
 use crate::judge::PlanJudge;
 use crate::placements::Placements;
@@ -25,17 +26,17 @@ pub struct Study {
     pub places: Placements,
 }
 
-/// What there is to say of a plan's text on a map that was read.
-fn study_on(alloc: Global, map: MapText, text: &[u8]) -> Result<Study, AllocError>
+/// What there is to say of a plan's text in this form, on a map that was read.
+fn study_on(alloc: Global, map: MapText, form: TextForm, text: &[u8]) -> Result<Study, AllocError>
     requires sides { HasSides (view map) }
     requires short { length text.now ≤ 16777216 }
     ensures width { IfOk result (λ s. s.width ≡ map.width) }
-    ensures study { IfOk result (λ s. IsTextStudy Nothing (view map) text.now s.answer s.places) }
+    ensures study { IfOk result (λ s. IsFormStudy Nothing (view map) form text.now s.answer s.places) }
 {
     let sides = sides_of(&map);
     let grid = Grid::new(map)?;
     let mut judge = PlanJudge::keeping(alloc, &grid);
-    let answer = answer_text(alloc, Demand::Nothing, sides, text, &mut judge)?;
+    let answer = answer_text(alloc, Demand::Nothing, form, sides, text, &mut judge)?;
     // The judge keeps its placements, so that this never fails.
     let Some(places) = judge.take_kept() else {
         return Err(AllocError);
@@ -54,7 +55,7 @@ pub fn study_texts(alloc: Global, map: &[u8], text: &[u8]) -> Result<Study, Allo
     ensures { IfOk result (λ s. IsStudy map.now text.now s) }
 {
     match read_map(alloc, map) {
-        Ok(map) => study_on(alloc, map, text),
+        Ok(map) => study_on(alloc, map, form_of(text), text),
         Err(fault) => {
             let fault = map_fault(fault)?;
             Ok(Study {

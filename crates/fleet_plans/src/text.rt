@@ -5,18 +5,18 @@ ghost use Rattle.fleet_map.specs.Text.{lines_of};
 ghost use Rattle.fleet_plans.specs.Head.{blank_head};
 ghost use Rattle.fleet_plans.specs.Places.{places_of};
 ghost use Rattle.fleet_plans.specs.Judge.{HasJudged};
-ghost use Rattle.fleet_plans.specs.Reading.{IsTextPlan, IsTextFault, head_lines};
+ghost use Rattle.fleet_plans.specs.Reading.{IsPlanBy, IsFaultBy, head_by};
 ghost use Rattle.fleet_plans.specs.Shown.{FailsAt};
 ghost use Rattle.fleet_plans.specs.inside.Given.{IsGiven};
 
 use crate::agents::read_agents;
 use crate::fault::PlanTextFault;
-use crate::form::{TextForm, form_of};
+use crate::form::TextForm;
 use crate::head::Head;
 use crate::judge::PlanJudge;
 use crate::places::read_places;
 use crate::plan::read_plan;
-use crate::runners::{RunnersFault, read_runners};
+use crate::runners::{RunnersFault, RunnersKey, read_runners};
 use crate::schedule::read_schedule;
 use crate::sides::Sides;
 use crate::table::read_table;
@@ -47,19 +47,20 @@ fn read_bare<B: Allocator + Copy>(
     read_places(alloc, sides, &Head::new(), 1, text, judge)
 }
 
-/// Gives the judge the placements of a text, and returns the plan's goals, if it names any.
+/// Gives the judge the placements of a text in this form, and returns the plan's goals, if it names any.
 pub(crate) fn read_text<B: Allocator + Copy>(
     alloc: Global,
+    form: TextForm,
     sides: Sides,
     text: &[u8],
     judge: &mut PlanJudge<Global, B>,
 ) -> Result<Option<Row<u32>>, TextFault>
     requires short { length text.now ≤ 16777216 }
     requires fresh { HasJudged judge.old.floor [] judge.old }
-    ensures read { IfOk result (λ goals. IsGiven judge.old.floor (IsTextPlan sides.width sides.height text.now goals) judge.new) }
-    ensures fault { IfErr result (λ fault. IsTextFault sides.width sides.height text.now fault) }
+    ensures read { IfOk result (λ goals. IsGiven judge.old.floor (IsPlanBy form sides.width sides.height text.now goals) judge.new) }
+    ensures fault { IfErr result (λ fault. IsFaultBy form sides.width sides.height text.now fault) }
 {
-    match form_of(text) {
+    match form {
         TextForm::Headed => match read_plan(alloc, sides, text, judge) {
             Ok(goals) => Ok(goals),
             Err(fault) => Err(TextFault::Lines(fault)),
@@ -72,10 +73,18 @@ pub(crate) fn read_text<B: Allocator + Copy>(
             Ok(()) => Ok(None),
             Err(fault) => Err(TextFault::Lines(fault)),
         },
-        TextForm::Json => match read_runners(alloc, sides, text, judge) {
-            Ok(()) => Ok(None),
-            Err(fault) => Err(TextFault::Json(fault)),
-        },
+        TextForm::Json => {
+            match read_runners(alloc, RunnersKey::ActualPaths, sides, text, judge) {
+                Ok(()) => Ok(None),
+                Err(fault) => Err(TextFault::Json(fault)),
+            }
+        }
+        TextForm::PlannerJson => {
+            match read_runners(alloc, RunnersKey::PlannerPaths, sides, text, judge) {
+                Ok(()) => Ok(None),
+                Err(fault) => Err(TextFault::Json(fault)),
+            }
+        }
         TextForm::Table => match read_table(alloc, sides, text, judge) {
             Ok(()) => Ok(None),
             Err(fault) => Err(TextFault::Lines(fault)),
@@ -87,16 +96,17 @@ pub(crate) fn read_text<B: Allocator + Copy>(
     }
 }
 
-/// The text of which the head is looked at: none where the text has no head.
-pub(crate) fn headed(text: &[u8]) -> &[u8]
-    ensures lines { lines_of result.now ≡ head_lines text.now }
+/// The text of which the head is looked at: none where a text in this form has no head.
+pub(crate) fn headed(form: TextForm, text: &[u8]) -> &[u8]
+    ensures lines { lines_of result.now ≡ head_by form text.now }
     ensures within { length result.now ≤ length text.now }
 {
-    match form_of(text) {
+    match form {
         TextForm::Headed => text,
         TextForm::Bare => &[],
         TextForm::Agents => &[],
         TextForm::Json => &[],
+        TextForm::PlannerJson => &[],
         TextForm::Table => &[],
         TextForm::Schedule => &[],
     }

@@ -1,8 +1,8 @@
 //! Plans in each form, valid and with each kind of fault. The expected values were worked out by hand.
 
 use fleet_plans::{
-    FaultText, GoalFault, KnownKey, Misspelt, PlanAnswer, check_scenario, check_solution,
-    check_texts, first_misspelt,
+    FaultText, GoalFault, KnownKey, Misspelt, PlanAnswer, TextForm, check_form, check_scenario,
+    check_solution, check_texts, first_misspelt,
 };
 use std::alloc::{AllocError, Global};
 
@@ -77,6 +77,9 @@ const AGENTS_STAY: &str = "Agent 0: (0,0)->(0,1)->(0,2)->(1,2)\nAgent 1: (1,0)->
 const AGENTS_SWAP: &str = "Agent 0: (0,0)->(1,0)->\nAgent 1: (1,0)->(0,0)->\n";
 
 const AGENT_TWO: &str = "Agent 0: (0,0)->\nAgent 2: (1,0)->\n";
+
+/// Both robots stay; the planner asked them to exchange their cells.
+const ASKED: &str = r#"{"start":[[0,0],[0,1]],"actualPaths":["W","W"],"plannerPaths":["R","L"]}"#;
 
 /// What is said of an answer; `plan N` for a text that is no plan.
 fn said(alloc: Global, answer: PlanAnswer) -> Result<String, AllocError> {
@@ -237,13 +240,40 @@ fn robots_do_what_a_scenario_says(rt: HostRuntime) {
     }
 }
 
+/// The answer to a plan in this form on the map.
+fn form_answer(alloc: Global, form: TextForm, plan: &str) -> Result<String, AllocError> {
+    if plan.len() > 4096 {
+        return Err(AllocError);
+    }
+    let answer = check_form(alloc, form, false, None, MAP.as_bytes(), plan.as_bytes())?;
+    said(alloc, answer)
+}
+
+#[test]
+fn forms_are_named(rt: HostRuntime) {
+    let cases = [
+        (TextForm::PlannerJson, ASKED, "1 swap 0 1"),
+        (
+            TextForm::Json,
+            ASKED,
+            "valid 1 2\nsum-of-costs 0\nmakespan 0\n",
+        ),
+        (TextForm::PlannerJson, RUNNERS, "plan plannerPaths"),
+        (TextForm::Bare, CELLS, "plan 1"),
+    ];
+    for (form, plan, expected) in &cases {
+        let said = form_answer(rt.alloc(), *form, plan).expect(&rt, "memory for an answer");
+        assert_eq!(rt; said.as_str(), *expected);
+    }
+}
+
 #[test]
 fn misspelt_keys_are_found(rt: HostRuntime) {
     let goals = Misspelt {
         line: 2,
         key: KnownKey::Goals,
     };
-    let found = first_misspelt(b"starts=(0,0)\n Goal =(0,0)\nsolution=\n");
+    let found = first_misspelt(TextForm::Headed, b"starts=(0,0)\n Goal =(0,0)\nsolution=\n");
     assert_eq!(rt; found, Some(goals));
-    assert_eq!(rt; first_misspelt(CELLS.as_bytes()), None);
+    assert_eq!(rt; first_misspelt(TextForm::Headed, CELLS.as_bytes()), None);
 }

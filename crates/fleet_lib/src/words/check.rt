@@ -2,25 +2,38 @@
 
 ghost use Rattle.std.specs.Prelude.{◌≡◌, IfOk};
 ghost use Rattle.clap.specs.Words.{found_of, rows_of};
-ghost use Rattle.fleet_lib.specs.Asked.{IsCheck};
+ghost use Rattle.fleet_lib.specs.Asked.{IsCheck, form_in, form_named};
 
 use crate::words::arguments::MAP;
 use clap::ArgMatches;
 use command_words::{Argument, Kind, Word, has_flag, some_word_for, word_for};
+use fleet_plans::TextForm;
 use std::alloc::{AllocError, Global};
+
+/// In which form a plan is read.
+#[derive(Clone, Copy, Debug, PartialEq, Eq)]
+pub enum FormAsked {
+    /// In the form of its text.
+    Found,
+    /// In this one.
+    Named(TextForm),
+    /// In none: the word is not the name of a form.
+    Unknown,
+}
 
 /// To judge a plan on a map.
 #[derive(Debug, Drop)]
 pub struct Check {
     /// Whether each robot has to end on its goal.
     pub strict: bool,
+    pub form: FormAsked,
     /// A scenario with the robots' starts and goals.
     pub goals: Option<String>,
     pub map: String,
     pub plan: String,
 }
 
-/// `check [--strict] [--goals SCENARIO] MAP PLAN`.
+/// `check [--strict] [--form FORM] [--goals SCENARIO] MAP PLAN`.
 pub(crate) const CHECK: Word<'static> = Word {
     name: "check",
     about: "Judges a plan of any planner on a map: whether it is free of conflicts, and what it costs",
@@ -32,6 +45,11 @@ pub(crate) const CHECK: Word<'static> = Word {
             help: "Call a plan valid only if each robot ends on its goal",
         },
         Argument {
+            name: "form",
+            kind: Kind::Value("FORM"),
+            help: "Read the plan in this form, whatever it begins with: lines (with a head), bare (lines of cells without a head), agents, table, yaml, lorr, or lorr-planner (the planner's paths)",
+        },
+        Argument {
             name: "goals",
             kind: Kind::Value("SCENARIO"),
             help: "Call a plan valid only if its robots begin and end as this scenario (.scen) says",
@@ -40,10 +58,43 @@ pub(crate) const CHECK: Word<'static> = Word {
         Argument {
             name: "PLAN",
             kind: Kind::File,
-            help: "A plan: lines of cells as pibt2 and LaCAM write them, with or without a head; lines of moves; paths of agents as CBS writes them; or the JSON of the League of Robot Runners",
+            help: "A plan: lines of cells as pibt2 and LaCAM write them, with or without a head; lines of moves; paths of agents as CBS writes them; a table (CSV); the YAML of libMultiRobotPlanning; or the JSON of the League of Robot Runners",
         },
     ],
 };
+
+/// The form with a given name.
+fn form_named(name: &str) -> FormAsked
+    ensures { result ≡ form_named name.now }
+{
+    if name == "lines" {
+        FormAsked::Named(TextForm::Headed)
+    } else if name == "bare" {
+        FormAsked::Named(TextForm::Bare)
+    } else if name == "agents" {
+        FormAsked::Named(TextForm::Agents)
+    } else if name == "table" {
+        FormAsked::Named(TextForm::Table)
+    } else if name == "yaml" {
+        FormAsked::Named(TextForm::Schedule)
+    } else if name == "lorr" {
+        FormAsked::Named(TextForm::Json)
+    } else if name == "lorr-planner" {
+        FormAsked::Named(TextForm::PlannerJson)
+    } else {
+        FormAsked::Unknown
+    }
+}
+
+/// The form that the words name.
+fn form_in(matches: &ArgMatches<'_>) -> FormAsked
+    ensures { result ≡ form_in (rows_of (found_of matches.now)) }
+{
+    match matches.get_str("form") {
+        Some(word) => form_named(word),
+        None => FormAsked::Found,
+    }
+}
 
 /// What the arguments of `check` ask for.
 pub(crate) fn check_in(alloc: Global, matches: &ArgMatches<'_>) -> Result<Check, AllocError>
@@ -54,6 +105,7 @@ pub(crate) fn check_in(alloc: Global, matches: &ArgMatches<'_>) -> Result<Check,
     let plan = word_for(alloc, matches, "PLAN")?;
     Ok(Check {
         strict: has_flag(matches, "strict"),
+        form: form_in(matches),
         goals,
         map,
         plan,

@@ -18,6 +18,8 @@ pub enum RunnersKey {
     TeamSize,
     /// `actualPaths`
     ActualPaths,
+    /// `plannerPaths`
+    PlannerPaths,
 }
 
 /// Why a text is not a plan in JSON. The keys are checked in the order of `RunnersKey`.
@@ -59,6 +61,7 @@ impl RunnersKey {
             RunnersKey::Start => "start",
             RunnersKey::TeamSize => "teamSize",
             RunnersKey::ActualPaths => "actualPaths",
+            RunnersKey::PlannerPaths => "plannerPaths",
         }
     }
 }

@@ -65,22 +65,27 @@ fn path_of(alloc: Global, value: &Value) -> Result<Option<Row<u8>>, AllocError>
     track_of(alloc, text.as_bytes())
 }
 
-/// The paths of n robots.
+/// The paths of n robots, which stand under this key.
 #[tactic(auto, unfolding(crate::specs::Runners::paths_of))]
-fn all_paths(alloc: Global, robots: usize, values: &[Value]) -> Result<Vec<Row<u8>>, RunnersFault>
+fn all_paths(
+    alloc: Global,
+    key: RunnersKey,
+    robots: usize,
+    values: &[Value],
+) -> Result<Vec<Row<u8>>, RunnersFault>
     requires { robots ≤ 16777216 }
-    ensures read { Tells (λ tracks. tracks.items) result (paths_of robots [] (items_view values.now)) }
+    ensures read { Tells (λ tracks. tracks.items) result (paths_of key robots [] (items_view values.now)) }
     ensures short { IfOk result (λ tracks. (r : ℕ) → length (slice_index_or tracks.items r []) ≤ 16777216) }
 {
     let mut tracks = Vec::new(alloc);
     let mut rest = values;
     while let Some((value, after)) = rest.split_first() {
         if tracks.len() >= robots {
-            return Err(RunnersFault::Key(RunnersKey::ActualPaths));
+            return Err(RunnersFault::Key(key));
         }
         let Some(track) = path_of(alloc, value)? else {
             let robot = tracks.len() as u32;
-            return Err(RunnersFault::Item(RunnersKey::ActualPaths, robot));
+            return Err(RunnersFault::Item(key, robot));
         };
         tracks.push(track)?;
         rest = after;
@@ -88,22 +93,23 @@ fn all_paths(alloc: Global, robots: usize, values: &[Value]) -> Result<Vec<Row<u
     if tracks.len() == robots {
         Ok(tracks)
     } else {
-        Err(RunnersFault::Key(RunnersKey::ActualPaths))
+        Err(RunnersFault::Key(key))
     }
 }
 
-/// The paths of a plan's n robots.
+/// The paths of a plan's n robots, under this key.
 pub(super) fn read_paths(
     alloc: Global,
+    key: RunnersKey,
     robots: usize,
     plan: &Value,
 ) -> Result<Vec<Row<u8>>, RunnersFault>
     requires { robots ≤ 16777216 }
-    ensures read { Tells (λ tracks. tracks.items) result (paths_in robots (view plan.now)) }
+    ensures read { Tells (λ tracks. tracks.items) result (paths_in key robots (view plan.now)) }
     ensures short { IfOk result (λ tracks. (r : ℕ) → length (slice_index_or tracks.items r []) ≤ 16777216) }
 {
-    match plan.get("actualPaths").and_then(values_of) {
-        Some(values) => all_paths(alloc, robots, values),
-        None => Err(RunnersFault::Key(RunnersKey::ActualPaths)),
+    match plan.get(key.word()).and_then(values_of) {
+        Some(values) => all_paths(alloc, key, robots, values),
+        None => Err(RunnersFault::Key(key)),
     }
 }

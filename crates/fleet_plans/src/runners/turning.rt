@@ -169,60 +169,67 @@ pub(super) fn read_dirs(alloc: Global, plan: &Value) -> Result<Row<Dir>, Runners
     }
 }
 
-/// The letters of the robot's path.
+/// The letters of the robot's path, which stands under this key.
 fn told_track(
     alloc: Global,
+    key: RunnersKey,
     dirs: &[Dir],
     robot: usize,
     value: &Value,
 ) -> Result<Row<u8>, RunnersFault>
     requires { robot < 2 ^ 32 }
-    ensures read { Tells (λ track. track) result (told_track robot (view value.now) (slice_get dirs.now robot)) }
+    ensures read { Tells (λ track. track) result (told_track key robot (view value.now) (slice_get dirs.now robot)) }
     ensures few { IfOk result (λ letters. length letters ≤ 16777216) }
     ensures inside { IfOk result (λ letters. robot < length dirs.now) }
 {
     let Some(dir) = dirs.get(robot) else {
-        return Err(RunnersFault::Key(RunnersKey::ActualPaths));
+        return Err(RunnersFault::Key(key));
     };
     match turned_in(alloc, *dir, value)? {
         Some(track) => Ok(track),
-        None => Err(RunnersFault::Item(RunnersKey::ActualPaths, robot as u32)),
+        None => Err(RunnersFault::Item(key, robot as u32)),
     }
 }
 
-/// The paths of robots that begin in these directions.
+/// The paths of robots that begin in these directions. They stand under this key.
 #[tactic(auto, unfolding(crate::specs::Turning::turned_of))]
-fn all_turned(alloc: Global, dirs: &[Dir], values: &[Value]) -> Result<Vec<Row<u8>>, RunnersFault>
+fn all_turned(
+    alloc: Global,
+    key: RunnersKey,
+    dirs: &[Dir],
+    values: &[Value],
+) -> Result<Vec<Row<u8>>, RunnersFault>
     requires { length dirs.now ≤ 16777216 }
-    ensures read { Tells (λ tracks. tracks.items) result (turned_of dirs.now [] (items_view values.now)) }
+    ensures read { Tells (λ tracks. tracks.items) result (turned_of key dirs.now [] (items_view values.now)) }
     ensures short { IfOk result (λ tracks. (r : ℕ) → length (slice_index_or tracks.items r []) ≤ 16777216) }
 {
     let mut tracks = Vec::new(alloc);
     let mut rest = values;
     while let Some((value, after)) = rest.split_first() {
-        let track = told_track(alloc, dirs, tracks.len(), value)?;
+        let track = told_track(alloc, key, dirs, tracks.len(), value)?;
         tracks.push(track)?;
         rest = after;
     }
     if tracks.len() == dirs.len() {
         Ok(tracks)
     } else {
-        Err(RunnersFault::Key(RunnersKey::ActualPaths))
+        Err(RunnersFault::Key(key))
     }
 }
 
-/// The paths of a plan's robots, which begin in these directions.
+/// The paths of a plan's robots, under this key. The robots begin in these directions.
 pub(super) fn read_turned(
     alloc: Global,
+    key: RunnersKey,
     dirs: &[Dir],
     plan: &Value,
 ) -> Result<Vec<Row<u8>>, RunnersFault>
     requires { length dirs.now ≤ 16777216 }
-    ensures read { Tells (λ tracks. tracks.items) result (turned_paths dirs.now (view plan.now)) }
+    ensures read { Tells (λ tracks. tracks.items) result (turned_paths key dirs.now (view plan.now)) }
     ensures short { IfOk result (λ tracks. (r : ℕ) → length (slice_index_or tracks.items r []) ≤ 16777216) }
 {
-    match plan.get("actualPaths").and_then(values_of) {
-        Some(values) => all_turned(alloc, dirs, values),
-        None => Err(RunnersFault::Key(RunnersKey::ActualPaths)),
+    match plan.get(key.word()).and_then(values_of) {
+        Some(values) => all_turned(alloc, key, dirs, values),
+        None => Err(RunnersFault::Key(key)),
     }
 }

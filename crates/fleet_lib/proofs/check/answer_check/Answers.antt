@@ -1,11 +1,13 @@
 -- What is said is that of the answer, after what is said of the head.
-use Rattle.std.proofs.Common.{◌≡◌, Option, ap, ◌∙◌}
+use Rattle.std.proofs.Common.{◌≡◌, Option, ap, ◌∙◌, subst}
 use Rattle.std.proofs.lemmas.Result.{IfOk-weaker}
+use Rattle.std.specs.Option.{option_copied}
 use Rattle.fleet_lib.specs.Said.{Outcome, said_of}
-use Rattle.fleet_lib.specs.Check.{noted, outcome_of}
+use Rattle.fleet_lib.specs.Check.{noted, outcome_of, IsOutcomeBy}
+use Rattle.fleet_plans.specs.declared.form.TextForm.{TextForm}
 use Rattle.fleet_plans.specs.declared.misspelt.Misspelt.{Misspelt}
 use Rattle.fleet_plans.specs.Misspelt.{misspelt_of}
-use Rattle.fleet_plans.specs.Reading.{head_lines}
+use Rattle.fleet_plans.specs.Reading.{head_by}
 use Rattle.fleet_lib.proofs.check.answer_check.Goals as goal
 
 after_head : (o is : Outcome) (found line : Option Misspelt) (said : Outcome) → o ≡ noted found said → found ≡ line → said ≡ is → o ≡ noted line is
@@ -14,7 +16,9 @@ after_head o is found line said first head answer = first ∙ (ap (λ (f : Optio
 pub returns : goal.returns
 returns c =
     let answer = c.in_ok-answer.answer in
-    let line = misspelt_of 1 (head_lines c.args.plan.now) in
+    let form = c.form_by-form.result in
+    let line = misspelt_of 1 (head_by form c.args.plan.now) in
     IfOk-weaker c.noted.result _ _
-    (λ s e. (answer, c.in_ok-answer.ensures, after_head (said_of s) (outcome_of answer) c.first_misspelt.result line (said_of c.in_ok-said.said) e c.first_misspelt.ensures c.in_ok-said.ensures))
+    (λ s e. subst (λ (f : TextForm). IsOutcomeBy f c.args.strict (option_copied c.args.scenario) c.args.map.now c.args.plan.now (said_of s)) c.form_by-form.ensures
+    (answer, c.in_ok-answer.ensures, after_head (said_of s) (outcome_of answer) c.first_misspelt.result line (said_of c.in_ok-said.said) e c.first_misspelt.ensures c.in_ok-said.ensures))
     c.noted.ensures

@@ -10,7 +10,7 @@ use Rattle.fleet_plans.proofs.answer.answer_to.Goals as goal
 pub returns-in-Ok : goal.returns-in-Ok
 returns-in-Ok c =
     let m = view c.in-Ok.map in
-    if_ok_then c.answer_on.result (IsTextAnswer (asked_by c.args.demand) m c.args.text.now) (IsAnswerTo (asked_by c.args.demand) c.args.map.now c.args.text.now) (λ a is. on_map m c.in-Ok.ensures.exact is) c.answer_on.ensures
+    if_ok_then c.answer_on.result (IsTextAnswer (asked_by c.args.demand) m c.args.form c.args.text.now) (IsAnswerTo (asked_by c.args.demand) c.args.map.now c.args.form c.args.text.now) (λ a is. on_map m c.in-Ok.ensures.exact is) c.answer_on.ensures
 
 pub returns-in_ok-map_fault-in-Err : goal.returns-in_ok-map_fault-in-Err
 returns-in_ok-map_fault-in-Err c =

@@ -29,8 +29,8 @@ returns-in-Ok c =
     let asks : Asked = OfTrips (record { starts = c.as_slice.result.now; goals = c.as_slice-in-Ok.result.now }) in
     let same : asks ≡ OfTrips trips = same_trips c.as_slice.result.now c.in-Ok.trips.starts c.as_slice-in-Ok.result.now c.in-Ok.trips.goals c.as_slice.ensures c.as_slice-in-Ok.ensures in
     let read = of_map m c.sides_of.result.width c.sides_of.result.height c.sides_of.ensures.width c.sides_of.ensures.height lines (Ok trips) c.in-Ok.ensures in
-    if_ok_then c.answer_on.result (IsTextAnswer asks m text) (IsOnScenario m c.args.scenario.now text)
-    (λ a is. with_trips trips read (subst (λ (x : Asked). IsTextAnswer x m text a) same is)) c.answer_on.ensures
+    if_ok_then c.answer_on.result (IsTextAnswer asks m c.args.form text) (IsOnScenario m c.args.scenario.now c.args.form text)
+    (λ a is. with_trips trips read (subst (λ (x : Asked). IsTextAnswer x m c.args.form text a) same is)) c.answer_on.ensures
 
 pub returns-in_ok-line_of-in-Err : goal.returns-in_ok-line_of-in-Err
 returns-in_ok-line_of-in-Err c =

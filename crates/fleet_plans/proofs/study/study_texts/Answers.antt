@@ -1,8 +1,9 @@
 -- What is said on a map, and where there is none.
-use Rattle.std.proofs.Common.{◌≡◌, refl}
+use Rattle.std.proofs.Common.{◌≡◌, refl, subst}
 use Rattle.fleet_map.specs.Grammar.{view, map_of}
+use Rattle.fleet_plans.specs.declared.form.TextForm.{TextForm}
 use Rattle.fleet_plans.specs.Goals.{Nothing}
-use Rattle.fleet_plans.specs.Study.{IsTextStudy, IsStudy, without_map, with_map}
+use Rattle.fleet_plans.specs.Study.{IsFormStudy, IsStudy, without_map, with_map}
 use Rattle.fleet_plans.proofs.Answered.{map_fails}
 use Rattle.fleet_plans.proofs.Givings.{if_ok_both}
 use Rattle.fleet_plans.proofs.study.study_texts.Goals as goal
@@ -11,7 +12,8 @@ pub returns-in-Ok : goal.returns-in-Ok
 returns-in-Ok c =
     let m = view c.in-Ok.map in
     let text = c.args.text.now in
-    if_ok_both c.study_on.result (λ s. s.width ≡ m.width) (λ s. IsTextStudy Nothing m text s.answer s.places) (IsStudy c.args.map.now text) (λ s width is. with_map m c.in-Ok.ensures.exact width is)
+    if_ok_both c.study_on.result (λ s. s.width ≡ m.width) (λ s. IsFormStudy Nothing m c.form_of.result text s.answer s.places) (IsStudy c.args.map.now text)
+    (λ s width is. with_map m c.in-Ok.ensures.exact width (subst (λ (f : TextForm). IsFormStudy Nothing m f text s.answer s.places) c.form_of.ensures is))
     c.study_on.ensures.width c.study_on.ensures.study
 
 pub returns-in_ok-fault-in-Err : goal.returns-in_ok-fault-in-Err

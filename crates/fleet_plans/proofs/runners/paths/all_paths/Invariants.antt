@@ -5,7 +5,7 @@ use Rattle.fleet_plans.proofs.runners.paths.all_paths.Given as goal
 
 abbrev pub invariant-loop-value : goal.invariant-loop-value
 invariant-loop-value l = record {
-  read : paths_of l.robots l.tracks.items (items_view l.rest) ≡ paths_of l.robots [] (items_view l.values);
+  read : paths_of l.key l.robots l.tracks.items (items_view l.rest) ≡ paths_of l.key l.robots [] (items_view l.values);
   few : length l.tracks.items ≤ l.robots;
   short : (r : ℕ) → length (slice_index_or l.tracks.items r []) ≤ 16777216;
 }

@@ -5,7 +5,7 @@ use Rattle.fleet_plans.proofs.runners.turning.all_turned.Given as goal
 
 abbrev pub invariant-loop-value : goal.invariant-loop-value
 invariant-loop-value l = record {
-  read : turned_of l.dirs l.tracks.items (items_view l.rest) ≡ turned_of l.dirs [] (items_view l.values);
+  read : turned_of l.key l.dirs l.tracks.items (items_view l.rest) ≡ turned_of l.key l.dirs [] (items_view l.values);
   few : length l.tracks.items ≤ length l.dirs;
   short : (r : ℕ) → length (slice_index_or l.tracks.items r []) ≤ 16777216;
 }
