@@ -6,7 +6,7 @@ use Rattle.fleet_plans.proofs.misspelt.first_misspelt.Given as goal
 
 abbrev pub invariant-loop-line : goal.invariant-loop-line
 invariant-loop-line l = record {
-  left : misspelt_of l.number (lines_of l.rest) ≡ misspelt_of 1 (head_by l.form l.text);
+  left : misspelt_of l.number (lines_of l.rest) ≡ misspelt_of 1 (head_by l.fn.form l.text);
   room : l.number + length l.rest ≤ 1 + length l.text;
 }
 
