@@ -206,7 +206,8 @@ impl<N: OfficeName<Global>, S: ChapterSink> Keeper<'_, N, S> {
             return Ok(());
         };
         let (waits, queues) = (self.office.waits(rt), self.office.queues(rt));
-        let figures = self.stage.figures(rt, round.all, waits, queues);
+        let bytes = self.office.kept_bytes(rt);
+        let figures = self.stage.figures(rt, round.all, waits, queues, bytes);
         let text = figures.text(rt.alloc())?;
         voice.say_alone(rt, text.as_str())
     }
