@@ -2,11 +2,11 @@
 use Rattle.std.specs.Prelude.{◌≡◌, ℕ, Bool, true, false, List, Option, Some, None, Result, Ok, Err, IfSome}
 use Rattle.std.specs.declared.alloc.Global.{Global}
 use Rattle.std.specs.Io.KnownBytes.{Appends}
-use Rattle.errands_text.specs.Kit.{kit_of}
-use Rattle.errands_text.specs.Transfer.{AppendsPrefix}
-use Rattle.errands_text.specs.declared.input.InputFault.TheVariants as input_fault
-use Rattle.errands_text.specs.declared.said.Complaint.{Complaint}
-use Rattle.errands_text.specs.declared.said.Complaint.TheVariants as complaint
+use Rattle.fleet_text.specs.Kit.{kit_of}
+use Rattle.fleet_text.specs.Transfer.{AppendsPrefix}
+use Rattle.fleet_text.specs.declared.input.InputFault.TheVariants as input_fault
+use Rattle.fleet_text.specs.declared.said.Complaint.{Complaint}
+use Rattle.fleet_text.specs.declared.said.Complaint.TheVariants as complaint
 use Rattle.fleet_grid.specs.Floor.{Floor}
 use Rattle.fleet_history.specs.declared.history.Chapter.{Chapter}
 use Rattle.fleet_reopen.specs.declared.fault.ReopenFault.TheVariants as reopen_fault

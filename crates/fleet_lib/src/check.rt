@@ -6,11 +6,11 @@ ghost use Rattle.fleet_lib.specs.Said.{said_of};
 ghost use Rattle.fleet_lib.specs.Check.{IsAnswerBy, IsCheckOutcome, good, refused, outcome_of, goals_outcome, noted, invalid_text};
 
 use crate::said::Said;
-use errands_text::Complaint;
 use fleet_plans::{
     FaultText, GoalFault, Misspelt, PlanAnswer, PlanFault, check_scenario, check_solution,
     check_texts, first_misspelt,
 };
+use fleet_text::Complaint;
 use std::alloc::{AllocError, Global};
 use std::fmt;
 

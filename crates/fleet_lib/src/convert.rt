@@ -6,8 +6,8 @@ ghost use Rattle.fleet_lib.specs.Convert.{IsConvertOutcome, form_of, fault_text,
 
 use crate::said::Said;
 use crate::words::Form;
-use errands_text::Complaint;
 use fleet_convert::{ConvertFault, PlanForm, convert};
+use fleet_text::Complaint;
 use std::alloc::{AllocError, Global};
 use std::fmt;
 

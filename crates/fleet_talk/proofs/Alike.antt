@@ -8,8 +8,8 @@ use Rattle.fleet_core.specs.Hooks.{HookLaws}
 use Rattle.fleet_script.specs.Script.{Draft, Plan, blank_draft, limits_of, script_of}
 use Rattle.fleet_world.specs.declared.reply.Reply.{Reply}
 use Rattle.fleet_world.specs.Run.{State, Run, opened_state}
-use Rattle.errands_text.specs.Kit.{KitLaws, chosen_laws}
-use Rattle.errands_text.specs.Output.{run_text}
+use Rattle.fleet_text.specs.Kit.{KitLaws, chosen_laws}
+use Rattle.fleet_text.specs.Output.{run_text}
 use Rattle.fleet_world.specs.Talk.{Talk}
 use Rattle.fleet_talk.specs.Act.{Act, play}
 use Rattle.fleet_talk.specs.Acts.{Talks}

@@ -10,7 +10,7 @@ use Rattle.fleet_core.specs.OpeningFaults.{IsRefused, IsNamed}
 use Rattle.fleet_core.specs.declared.faults.OpenFault.{OpenFault}
 use Rattle.fleet_core.specs.declared.faults.OpenFault.TheVariants as why
 use Rattle.fleet_script.specs.Script.{Draft}
-use Rattle.errands_text.specs.Transfer.{AppendsPrefix}
+use Rattle.fleet_text.specs.Transfer.{AppendsPrefix}
 use Rattle.fleet_world.specs.Talk.{Talk}
 use Rattle.fleet_talk.specs.declared.ends.Settings.{Settings}
 use Rattle.fleet_talk.specs.declared.fault.TalkFault.{TalkFault}

@@ -5,8 +5,8 @@ use Rattle.std.specs.Option.{option_map}
 use Rattle.std.proofs.lemmas.Option.{same_Some}
 use Rattle.std.specs.declared.alloc.Global.{Global}
 use Rattle.std.specs.Io.KnownBytes.{Appends}
-use Rattle.errands_text.specs.Transfer.{AppendsPrefix}
-use Rattle.errands_text.specs.Kit.{KitLaws, cut_laws}
+use Rattle.fleet_text.specs.Transfer.{AppendsPrefix}
+use Rattle.fleet_text.specs.Kit.{KitLaws, cut_laws}
 use Rattle.fleet_core.specs.Hooks.{HookLaws}
 use Rattle.fleet_hooks.specs.declared.law.StampLaw.{StampLaw}
 use Rattle.fleet_hooks.specs.declared.law.TieLaw.{TieLaw}

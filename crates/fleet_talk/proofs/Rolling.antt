@@ -8,7 +8,7 @@ use Rattle.fleet_core.specs.declared.faults.ShutFault.TheVariants as shut_fault
 use Rattle.fleet_world.specs.declared.reply.Reply.{Reply}
 use Rattle.fleet_world.specs.declared.reply.Reply.TheVariants.{Posted, LaneFull, Took, LaneEmpty, TakeRefused, Ticked, TickRefused, Gave, NothingPending, OutletFull, Collected, NothingThere, ShutDone, ShutRefused, NoClient}
 use Rattle.fleet_world.specs.Talk.{Talk, TalkStep}
-use Rattle.errands_text.specs.Output.{event_text}
+use Rattle.fleet_text.specs.Output.{event_text}
 use Rattle.fleet_talk.specs.declared.pen.Pen.{Pen}
 use Rattle.fleet_talk.specs.Act.{play}
 use Rattle.fleet_talk.specs.Acts.{Does, NeedsRoom, Plays, Turns, last_entry, rolls, stays, wants_room}

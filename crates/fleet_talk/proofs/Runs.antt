@@ -17,7 +17,7 @@ use Rattle.fleet_core.specs.Opening.{CanOpen}
 use Rattle.fleet_world.specs.declared.reply.Reply.{Reply}
 use Rattle.fleet_world.specs.declared.reply.Reply.TheVariants.{Posted, LaneFull, Took, LaneEmpty, TakeRefused, Ticked, TickRefused, Gave, NothingPending, OutletFull, Collected, NothingThere, ShutDone, ShutRefused, NoClient}
 use Rattle.fleet_world.specs.Run.{State, Run, opened_state}
-use Rattle.errands_text.specs.Output.{event_text, run_text, entries_made}
+use Rattle.fleet_text.specs.Output.{event_text, run_text, entries_made}
 use Rattle.fleet_world.specs.Talk.{Talk, TalkStep, forget, opened_talk}
 use Rattle.fleet_world.specs.inside.Shown.{IsFresh}
 use Rattle.fleet_world.proofs.Sessions.{step-of, fresh-step, fresh-opened, forget-opened}

@@ -6,7 +6,7 @@ use Rattle.std.proofs.lemmas.Result.{on_ok_weaker}
 use Rattle.fleet_book.specs.declared.event.Event.{Event}
 use Rattle.fleet_history.specs.declared.history.Entry.{Entry}
 use Rattle.fleet_world.specs.declared.reply.Reply.{Reply}
-use Rattle.errands_text.specs.Output.{event_text}
+use Rattle.fleet_text.specs.Output.{event_text}
 use Rattle.fleet_world.specs.Talk.{Talk}
 use Rattle.fleet_talk.specs.declared.ends.Settings.{Settings}
 use Rattle.fleet_talk.specs.declared.pen.Pen.{Pen}

@@ -8,7 +8,7 @@ use Rattle.fleet_core.specs.declared.faults.TickFault.TheVariants as tick_fault
 use Rattle.fleet_core.specs.declared.faults.ShutFault.TheVariants as shut_fault
 use Rattle.fleet_world.specs.declared.reply.Reply.{Reply}
 use Rattle.fleet_world.specs.declared.reply.Reply.TheVariants.{TakeRefused, TickRefused, ShutRefused}
-use Rattle.errands_text.specs.Output.{event_text}
+use Rattle.fleet_text.specs.Output.{event_text}
 use Rattle.fleet_world.specs.Talk.{Talk, TalkStep, next_talk}
 use Rattle.fleet_talk.specs.Act.{Act, say, play, turn, show, list}
 use Rattle.fleet_talk.specs.Says.{marked, chapter_text, refused_text}

@@ -8,7 +8,7 @@ use Rattle.fleet_core.specs.Opening.{CanOpen}
 use Rattle.fleet_core.specs.OpeningFaults.{IsRefused}
 use Rattle.fleet_core.specs.declared.faults.OpenFault.{OpenFault}
 use Rattle.fleet_script.specs.Script.{Draft, blank_draft, limits_over}
-use Rattle.errands_text.specs.Kit.{KitLaws, cut_laws}
+use Rattle.fleet_text.specs.Kit.{KitLaws, cut_laws}
 use Rattle.fleet_world.specs.Talk.{Talk, opened_talk}
 use Rattle.fleet_talk.specs.declared.ends.Settings.{Settings}
 use Rattle.fleet_talk.specs.declared.fault.TalkFault.{TalkFault}

@@ -9,7 +9,7 @@ use Rattle.fleet_pibt.specs.Eldest.{IsEldest}
 use Rattle.fleet_planner.specs.Aimed.{IsIdle}
 use Rattle.fleet_planner.specs.Planned.{waits}
 use Rattle.fleet_core.specs.Core.{World}
-use Rattle.errands_text.specs.Output.{place_text}
+use Rattle.fleet_text.specs.Output.{place_text}
 
 abbrev pub eldest_text : Option ℕ → List ℕ
 eldest_text None = codes " idle"

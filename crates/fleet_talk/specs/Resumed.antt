@@ -11,7 +11,7 @@ use Rattle.fleet_core.specs.Hooks.{HookLaws}
 use Rattle.fleet_reopen.specs.declared.fault.ReopenFault.TheVariants as reopen_fault
 use Rattle.fleet_reopen.specs.Reopening.{CanReopen, IsReopenFault, reopened_world}
 use Rattle.fleet_script.specs.Script.{Draft, limits_over}
-use Rattle.errands_text.specs.Kit.{KitLaws, cut_laws}
+use Rattle.fleet_text.specs.Kit.{KitLaws, cut_laws}
 use Rattle.fleet_world.specs.Talk.{Talk, quiet_talk}
 use Rattle.fleet_talk.specs.declared.ends.Settings.{Settings}
 use Rattle.fleet_talk.specs.declared.fault.TalkFault.{TalkFault}

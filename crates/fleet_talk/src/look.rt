@@ -1,7 +1,7 @@
 //! How the fleet stands.
 
 ghost use Rattle.std.specs.Prelude.{◌≡◌, ◌++◌, OnOk, IfOk, string_bytes};
-ghost use Rattle.errands_text.specs.Output.{place_text};
+ghost use Rattle.fleet_text.specs.Output.{place_text};
 ghost use Rattle.fleet_talk.specs.Look.{IsLook, eldest_text, within_text, standing_text};
 
 use fleet_core::World;

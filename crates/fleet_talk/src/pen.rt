@@ -1,14 +1,14 @@
 //! Answers that are not written yet.
 
 ghost use Rattle.std.specs.Prelude.{◌≡◌, ◌++◌, [], ◌∷◌, IsTrue, OnOk, OnErr, string_bytes, take};
-ghost use Rattle.errands_text.specs.Transfer.{AppendsPrefix};
+ghost use Rattle.fleet_text.specs.Transfer.{AppendsPrefix};
 ghost use Rattle.fleet_talk.specs.Says.{marked, Says};
 ghost use Rattle.fleet_talk.specs.Said.{IsAdded, IsKept, under, bad_said, end_said};
 
 use crate::ask::Line;
 use crate::ends::Settings;
 use crate::marks::add_lines;
-use errands_text::write_whole;
+use fleet_text::write_whole;
 use std::alloc::{AllocError, Global};
 use std::io::Write;
 

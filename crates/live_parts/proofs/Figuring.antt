@@ -1,6 +1,6 @@
 -- Figures that are written one after another.
 use Rattle.std.proofs.Common.{◌≡◌, ◌∙◌, ℕ, List, [], ◌++◌, ap}
-use Rattle.errands_text.proofs.RunLines.{on}
+use Rattle.fleet_text.proofs.RunLines.{on}
 
 pub three : (a b c t u v w : List ℕ) → u ≡ t ++ a → v ≡ u ++ b → w ≡ v ++ c → w ≡ t ++ (a ++ b ++ c)
 three a b c t u v w one two last = on t (a ++ b) c v w (on t a b u v one two) last

@@ -5,7 +5,7 @@ use Rattle.fleet_core.specs.declared.faults.ShutFault.{ShutFault}
 use Rattle.fleet_lanes.specs.declared.fault.PostFault.{PostFault}
 use Rattle.fleet_lanes.specs.declared.fault.PostFault.TheVariants as post_fault
 use Rattle.fleet_office.specs.declared.look.Look.{Look}
-use Rattle.errands_text.specs.Output.{notice_text, place_text, shut_fault_text}
+use Rattle.fleet_text.specs.Output.{notice_text, place_text, shut_fault_text}
 use Rattle.fleet_talk.specs.Look.{eldest_text, within_text}
 
 -- the answer to an order that client c posted

@@ -3,13 +3,13 @@
 ghost use Rattle.std.specs.Prelude.{◌≡◌, ◌++◌, IfOk, OnOk, string_bytes};
 ghost use Rattle.live_parts.specs.Said.{post_text, shut_text, notice_line, tick_line, look_line};
 
-use errands_text::write_event;
 use fleet_book::{Event, Notice};
 use fleet_core::ShutFault;
 use fleet_history::Entry;
 use fleet_lanes::PostFault;
 use fleet_office::{Look, TickRecord};
 use fleet_talk::{write_cells, write_eldest, write_within};
+use fleet_text::write_event;
 use fleet_world::Reply;
 use std::alloc::{AllocError, Global};
 use std::fmt::Write;

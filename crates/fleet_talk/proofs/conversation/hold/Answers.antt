@@ -3,7 +3,7 @@ use Rattle.std.proofs.Common.{ℕ, List, Option, Err, IfSome, refl, sym, ap, sub
 use Rattle.std.specs.Prelude.{OnOk}
 use Rattle.std.specs.declared.alloc.Global.{Global}
 use Rattle.std.specs.Io.Buffered.{reader_remaining}
-use Rattle.errands_text.specs.Kit.{kit_laws}
+use Rattle.fleet_text.specs.Kit.{kit_laws}
 use Rattle.fleet_history.specs.History.{history_of}
 use Rattle.fleet_world.specs.Keeps.{talk}
 use Rattle.fleet_talk.specs.declared.fault.TalkFault.{TalkFault}

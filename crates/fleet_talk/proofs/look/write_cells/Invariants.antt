@@ -1,5 +1,5 @@
 use Rattle.std.proofs.Common.{◌≡◌, ◌++◌, drop, string_bytes}
-use Rattle.errands_text.specs.Output.{place_text}
+use Rattle.fleet_text.specs.Output.{place_text}
 use Rattle.fleet_talk.proofs.look.write_cells.Given as goal
 
 abbrev pub invariant-loop-cell : goal.invariant-loop-cell

@@ -1,7 +1,7 @@
 -- A conversation whose fleet went on.
 use Rattle.std.proofs.Common.{Err, ap}
 use Rattle.std.specs.Io.Buffered.{reader_remaining}
-use Rattle.errands_text.specs.Kit.{kit_laws}
+use Rattle.fleet_text.specs.Kit.{kit_laws}
 use Rattle.fleet_world.specs.Keeps.{talk}
 use Rattle.fleet_talk.specs.declared.fault.TalkFault.TheVariants.{Output}
 use Rattle.fleet_talk.specs.Chapters.{chapter_shown}
