@@ -11,7 +11,8 @@ use Rattle.fleet_world.specs.declared.reply.Reply.TheVariants.{TakeRefused, Tick
 use Rattle.fleet_text.specs.Output.{event_text}
 use Rattle.fleet_world.specs.Talk.{Talk, TalkStep, next_talk}
 use Rattle.fleet_talk.specs.Act.{Act, say, play, turn, show, list}
-use Rattle.fleet_talk.specs.Says.{marked, chapter_text, refused_text}
+use Rattle.fleet_text.specs.Answers.{chapter_line, chapter_refused_line}
+use Rattle.fleet_talk.specs.Says.{marked}
 use Rattle.fleet_talk.specs.Look.{IsLook}
 use Rattle.fleet_talk.specs.Listed.{listed_text}
 
@@ -35,18 +36,18 @@ last_entry s = slice_get s.world.history.entries (length s.world.history.entries
 
 -- the chapter was handed out, or it was the last
 pub data HandsOut {A : Type 0} (s : Talk A) (mark : Option (List ℕ)) (text : List ℕ) (t : Talk A) : Type 0 where
-  handed : t ≡ next_talk s → text ≡ marked mark (chapter_text s.world.number (length s.world.history.entries)) → HandsOut s mark text t
-  spent : s.world.number + 1 ≡ s.world.limits.chapters → t ≡ s → text ≡ marked mark refused_text → HandsOut s mark text t
+  handed : t ≡ next_talk s → text ≡ marked mark (chapter_line s.world.number (length s.world.history.entries)) → HandsOut s mark text t
+  spent : s.world.number + 1 ≡ s.world.limits.chapters → t ≡ s → text ≡ marked mark chapter_refused_line → HandsOut s mark text t
 
 -- the chapter was handed out and this was said, or it was the last and nothing was said
 abbrev pub Turns : {A : Type 0} → Bool → Talk A → Option (List ℕ) → List ℕ → Talk A → Type 0
-Turns true s mark text t = (t ≡ next_talk s) × (text ≡ marked mark (chapter_text s.world.number (length s.world.history.entries)))
+Turns true s mark text t = (t ≡ next_talk s) × (text ≡ marked mark (chapter_line s.world.number (length s.world.history.entries)))
 Turns false s mark text t = (s.world.number + 1 ≡ s.world.limits.chapters) × (t ≡ s) × (text ≡ [])
 
 -- before an event: the chapter was handed out unasked, if that is to be and the event needs the room
 pub data Rolls {A : Type 0} (roll : Bool) (s : Talk A) (mark : Option (List ℕ)) (e : Event) (text : List ℕ) (t : Talk A) : Type 0 where
   stays : (roll ≡ true → NeedsRoom s e → s.world.number + 1 ≡ s.world.limits.chapters) → t ≡ s → text ≡ [] → Rolls roll s mark e text t
-  rolls : roll ≡ true → NeedsRoom s e → t ≡ next_talk s → text ≡ marked mark (chapter_text s.world.number (length s.world.history.entries)) → Rolls roll s mark e text t
+  rolls : roll ≡ true → NeedsRoom s e → t ≡ next_talk s → text ≡ marked mark (chapter_line s.world.number (length s.world.history.entries)) → Rolls roll s mark e text t
 
 -- the event was done, and this was said of its reply
 pub record Plays {A : Type 0} (s : Talk A) (mark : Option (List ℕ)) (e : Event) (text : List ℕ) (t : Talk A) : Type 0 where

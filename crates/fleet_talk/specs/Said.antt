@@ -5,7 +5,8 @@ use Rattle.std.specs.Option.{option_map}
 use Rattle.fleet_talk.specs.declared.ask.Line.{Line}
 use Rattle.fleet_talk.specs.declared.ends.Settings.{Settings}
 use Rattle.fleet_talk.specs.declared.pen.Pen.{Pen}
-use Rattle.fleet_talk.specs.Says.{marked, bad_line, end_line}
+use Rattle.fleet_text.specs.Answers.{bad_line}
+use Rattle.fleet_talk.specs.Says.{marked, end_line}
 
 -- a mark without where its bytes lie in memory
 abbrev pub under : Option (Bor (List ℕ)) → Option (List ℕ)

@@ -17,7 +17,7 @@ use crate::ask::{Asked, Line, is_quit, line_of};
 use crate::ends::{ChapterSink, Ends};
 use crate::fault::TalkFault;
 use crate::listed::listed_text;
-use crate::look::look_line;
+use crate::look::look_text;
 use crate::pen::Pen;
 use crate::plays::{next_chapter, play_all};
 use crate::reading::next_line;
@@ -37,7 +37,7 @@ fn show(
     ensures ok { OnOk result ((text : List ℕ) × Does pen.old.settings.roll (talk session.now) (show (under mark.entry)) text (talk session.now) × IsAdded pen.old pen.new text) }
     ensures err { OnErr result (IsKept pen.old pen.new) }
 {
-    let line = look_line(alloc, &session.world)?;
+    let line = look_text(alloc, &session.world)?;
     pen.say(alloc, mark, line.as_str())
 }
 

@@ -29,8 +29,6 @@ pub use ground::{Ground, MOST_LINE, MOST_ROBOTS, TALK_LIMITS};
 pub use heading::read_head;
 pub use input_line::{LineFault, read_line};
 pub use law::{a_conversation_is_a_run, a_head_is_by_its_lines, a_script_is_a_run};
-pub use listed::open_text;
-pub use look::{write_cells, write_eldest, write_within};
 pub use marks::add_marked;
 pub use resuming::{ResumeFault, disagreement, hooks_after, limits_after, world_after};
 pub use resumption::resume;

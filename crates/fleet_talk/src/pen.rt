@@ -8,7 +8,7 @@ ghost use Rattle.fleet_talk.specs.Said.{IsAdded, IsKept, under, bad_said, end_sa
 use crate::ask::Line;
 use crate::ends::Settings;
 use crate::marks::add_lines;
-use fleet_text::write_whole;
+use fleet_text::{bad_line, write_whole};
 use std::alloc::{AllocError, Global};
 use std::io::Write;
 
@@ -61,8 +61,7 @@ impl Pen {
         ensures ok { OnOk result (IsAdded self.old self.new (bad_said line.entry)) }
         ensures err { OnErr result (IsKept self.old self.new) }
     {
-        let number = line.number;
-        let text = format!(in alloc; "bad-line {number}\n")?;
+        let text = bad_line(alloc, line.number)?;
         self.say(alloc, line.mark, text.as_str())
     }
 

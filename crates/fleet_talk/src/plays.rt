@@ -10,7 +10,8 @@ ghost use Rattle.fleet_talk.specs.Acts.{Does, HandsOut, Plays, Talks, Turns, las
 ghost use Rattle.fleet_talk.specs.Broken.{IsMidway};
 ghost use Rattle.fleet_talk.specs.Chapters.{Adds, IsSound, KeepsTurned, beginning, chapter_shown};
 ghost use Rattle.fleet_talk.specs.Said.{IsAdded, IsKept, under};
-ghost use Rattle.fleet_talk.specs.Says.{Says, chapter_text, marked};
+ghost use Rattle.fleet_text.specs.Answers.{chapter_line};
+ghost use Rattle.fleet_talk.specs.Says.{Says, marked};
 ghost use Rattle.fleet_talk.specs.Talked.{TalksUntil};
 
 use crate::ends::{ChapterSink, Ends};
@@ -21,7 +22,7 @@ use fleet_book::Event;
 use fleet_core::{ChapterFault, ShutFault, TakeFault, TickFault};
 use fleet_history::Chapter;
 use fleet_script::Repeat;
-use fleet_text::{is_limit_met, write_event};
+use fleet_text::{chapter_line, chapter_refused_line, is_limit_met, write_event};
 use fleet_world::{Reply, Session};
 use std::alloc::{Alloc, AllocError, Global};
 use std::io::Write;
@@ -48,14 +49,12 @@ fn keep<S: ChapterSink>(
 ) -> Result<(), TalkFault>
     requires sound { (m : Floor) × IsSound m (history_of chapter.now) }
     ensures kept { OnOk result (Adds (S.kept sink.old) (S.kept sink.new) (chapter_shown chapter.now ∷ [])) }
-    ensures ok { OnOk result (IsAdded pen.old pen.new (marked (under mark.entry) (chapter_text chapter.now.number (length chapter.now.entries.items)))) }
+    ensures ok { OnOk result (IsAdded pen.old pen.new (marked (under mark.entry) (chapter_line chapter.now.number (length chapter.now.entries.items)))) }
     ensures err { OnErr result (IsKept pen.old pen.new) }
     ensures midway { IfErr result (λ fault. IsMidway fault) }
 {
     sink.keep(chapter)?;
-    let number = chapter.number;
-    let entries = chapter.entries.len();
-    let text = format!(in alloc; "chapter {number} entries {entries}\n")?;
+    let text = chapter_line(alloc, chapter.number, chapter.entries.len())?;
     Ok(pen.say(alloc, mark, text.as_str())?)
 }
 
@@ -100,7 +99,7 @@ pub(crate) fn next_chapter<S: ChapterSink>(
     if hand_out(alloc, session, sink, pen, mark)? {
         return Ok(());
     }
-    Ok(pen.say(alloc, mark, "chapter-refused 1 book-spent\n")?)
+    Ok(pen.say(alloc, mark, chapter_refused_line())?)
 }
 
 /// Says what is replied to an event that was done.

@@ -1,4 +1,5 @@
 pub mod Output
+pub mod Answers
 pub mod MapReport
 pub mod Complaint
 pub mod Transfer

@@ -75,36 +75,60 @@ arrival_text to a = arrival_line a (slice_index to a.robot)
 abbrev pub farewell_text : ℕ → ℕ → List ℕ
 farewell_text robot stamp = codes "farewell robot " ++ decimal robot ++ codes " stamp " ++ decimal stamp ++ codes "\n"
 
+-- where the robots stand after a tick
+abbrev pub tick_line : ℕ → List ℕ → List ℕ
+tick_line tick cells = codes "tick " ++ decimal tick ++ codes ":" ++ place_text cells ++ codes "\n"
+
 -- the lines of a tick: where the robots stand after it, who arrived and who said farewell
 abbrev pub tick_text : {A : Type 0} → ℕ → Option (Entry A) → List ℕ
 tick_text tick (Some (entry.Tick to arrived farewells)) =
-    codes "tick " ++ decimal tick ++ codes ":" ++ place_text to ++ codes "\n" ++ flat_map (arrival_text to) arrived ++ flat_map (λ bye. farewell_text bye.robot bye.stamp) farewells
+    tick_line tick to ++ flat_map (arrival_text to) arrived ++ flat_map (λ bye. farewell_text bye.robot bye.stamp) farewells
 tick_text tick _ = []
 
 abbrev pub parting_text : ℕ → Option ℕ → List ℕ
 parting_text robot None = []
 parting_text robot (Some stamp) = farewell_text robot stamp
 
+-- an order lies in client c's lane under this number
+abbrev pub posted_line : ℕ → ℕ → List ℕ
+posted_line c number = codes "posted " ++ decimal c ++ codes " " ++ decimal number ++ codes "\n"
+
+abbrev pub lane_full_line : ℕ → List ℕ
+lane_full_line c = codes "lane-full " ++ decimal c ++ codes "\n"
+
+abbrev pub no_client_line : ℕ → List ℕ
+no_client_line c = codes "no-client " ++ decimal c ++ codes "\n"
+
+-- a notice that client c collected
+abbrev pub notice_line : ℕ → Notice → List ℕ
+notice_line c notice = codes "collected " ++ decimal c ++ codes " " ++ notice_text notice ++ codes "\n"
+
+abbrev pub tick_refused_line : TickFault → List ℕ
+tick_refused_line fault = codes "tick-refused " ++ tick_fault_text fault ++ codes "\n"
+
+abbrev pub shut_refused_line : ℕ → ShutFault → List ℕ
+shut_refused_line robot fault = codes "shut-refused " ++ decimal robot ++ codes " " ++ shut_fault_text fault ++ codes "\n"
+
 -- the lines of an event with its reply, where the entry is the one that it made
 abbrev pub event_text : {A : Type 0} → Event → Reply → Option (Entry A) → List ℕ
-event_text (Post c order) (Posted n) e = codes "posted " ++ decimal c ++ codes " " ++ decimal n ++ codes "\n"
-event_text (Post c order) LaneFull e = codes "lane-full " ++ decimal c ++ codes "\n"
-event_text (Post c order) NoClient e = codes "no-client " ++ decimal c ++ codes "\n"
+event_text (Post c order) (Posted n) e = posted_line c n
+event_text (Post c order) LaneFull e = lane_full_line c
+event_text (Post c order) NoClient e = no_client_line c
 event_text (Take c) (Took n v) e = codes "took " ++ decimal c ++ codes " " ++ decimal n ++ codes " " ++ verdict_text v ++ codes "\n"
 event_text (Take c) LaneEmpty e = codes "lane-empty " ++ decimal c ++ codes "\n"
 event_text (Take c) (TakeRefused fault) e = codes "take-refused " ++ decimal c ++ codes " " ++ take_fault_text fault ++ codes "\n"
-event_text (Take c) NoClient e = codes "no-client " ++ decimal c ++ codes "\n"
+event_text (Take c) NoClient e = no_client_line c
 event_text Tick (Ticked report) e = tick_text report.tick e
-event_text Tick (TickRefused fault) e = codes "tick-refused " ++ tick_fault_text fault ++ codes "\n"
+event_text Tick (TickRefused fault) e = tick_refused_line fault
 event_text (Give c) (Gave seq) e = codes "gave " ++ decimal c ++ codes " " ++ decimal seq ++ codes "\n"
 event_text (Give c) NothingPending e = codes "nothing " ++ decimal c ++ codes "\n"
 event_text (Give c) OutletFull e = codes "outlet-full " ++ decimal c ++ codes "\n"
-event_text (Give c) NoClient e = codes "no-client " ++ decimal c ++ codes "\n"
-event_text (Collect c) (Collected n) e = codes "collected " ++ decimal c ++ codes " " ++ notice_text n ++ codes "\n"
+event_text (Give c) NoClient e = no_client_line c
+event_text (Collect c) (Collected n) e = notice_line c n
 event_text (Collect c) NothingThere e = codes "none " ++ decimal c ++ codes "\n"
-event_text (Collect c) NoClient e = codes "no-client " ++ decimal c ++ codes "\n"
+event_text (Collect c) NoClient e = no_client_line c
 event_text (Shut r) (ShutDone parting) e = codes "shut " ++ decimal r ++ codes "\n" ++ parting_text r parting
-event_text (Shut r) (ShutRefused fault) e = codes "shut-refused " ++ decimal r ++ codes " " ++ shut_fault_text fault ++ codes "\n"
+event_text (Shut r) (ShutRefused fault) e = shut_refused_line r fault
 -- the core gives no other reply to an event
 event_text event reply e = []
 

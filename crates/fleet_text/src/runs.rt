@@ -2,13 +2,13 @@
 
 ghost use Rattle.std.specs.Prelude.{◌≡◌, ◌++◌, ◌∷◌, [], OnOk, IfOk, string_bytes, drop, codes, decimal, option_copied, Option, Some, None, slice_get, length, ◌≤◌};
 ghost use Rattle.fleet_history.specs.declared.history.Entry.{Entry};
-ghost use Rattle.fleet_text.specs.Output.{parting_text, event_text, run_text, entries_made, is_limit_met};
+ghost use Rattle.fleet_text.specs.Output.{parting_text, event_text, run_text, entries_made, is_limit_met, notice_line, posted_line, shut_refused_line, tick_refused_line};
 
 use crate::texts::{
     FarewellLine, NoticeText, ShutFaultText, TakeFaultText, TickFaultText, VerdictText,
 };
 use crate::ticks::write_tick;
-use fleet_book::Order;
+use fleet_book::{Notice, Order};
 use fleet_history::Entry;
 use fleet_world::{Event, Reply, ShutFault, TakeFault, TickFault};
 use std::alloc::{AllocError, Allocator};
@@ -45,7 +45,7 @@ fn write_parting<A: Allocator + Copy>(
 }
 
 /// A line of a word, which ends with its blank, and of a number.
-fn write_numbered<A: Allocator + Copy>(
+pub(crate) fn write_numbered<A: Allocator + Copy>(
     out: &mut String<A>,
     word: &str,
     number: u32,
@@ -53,6 +53,17 @@ fn write_numbered<A: Allocator + Copy>(
     ensures { OnOk result (string_bytes out.new ≡ string_bytes out.old ++ (word.now ++ decimal number ++ codes "\n")) }
 {
     write!(out, "{word}{number}\n")
+}
+
+/// The line of an order that lies in a lane.
+pub(crate) fn write_posted<A: Allocator + Copy>(
+    out: &mut String<A>,
+    client: u32,
+    number: u64,
+) -> Result<(), AllocError>
+    ensures { OnOk result (string_bytes out.new ≡ string_bytes out.old ++ posted_line client number) }
+{
+    write!(out, "posted {client} {number}\n")
 }
 
 /// The line of a post.
@@ -66,7 +77,7 @@ fn write_post<A: Allocator + Copy>(
 {
     let _order = order;
     match reply {
-        Reply::Posted(number) => write!(out, "posted {client} {number}\n"),
+        Reply::Posted(number) => write_posted(out, client, number),
         Reply::LaneFull => write_numbered(out, "lane-full ", client),
         Reply::NoClient => write_numbered(out, "no-client ", client),
         _ => Ok(()),
@@ -113,6 +124,18 @@ fn write_give<A: Allocator + Copy>(
     }
 }
 
+/// The line of a notice.
+pub(crate) fn write_notice<A: Allocator + Copy>(
+    out: &mut String<A>,
+    client: u32,
+    notice: Notice,
+) -> Result<(), AllocError>
+    ensures { OnOk result (string_bytes out.new ≡ string_bytes out.old ++ notice_line client notice) }
+{
+    let notice = NoticeText(notice);
+    write!(out, "collected {client} {notice}\n")
+}
+
 /// The line of a notice that is collected.
 fn write_collect<A: Allocator + Copy>(
     out: &mut String<A>,
@@ -122,14 +145,23 @@ fn write_collect<A: Allocator + Copy>(
     ensures { OnOk result ((e : Option (Entry A)) → string_bytes out.new ≡ string_bytes out.old ++ event_text (Event.Collect client) reply e) }
 {
     match reply {
-        Reply::Collected(notice) => {
-            let notice = NoticeText(notice);
-            write!(out, "collected {client} {notice}\n")
-        }
+        Reply::Collected(notice) => write_notice(out, client, notice),
         Reply::NothingThere => write_numbered(out, "none ", client),
         Reply::NoClient => write_numbered(out, "no-client ", client),
         _ => Ok(()),
     }
+}
+
+/// The line of a shut that is refused.
+pub(crate) fn write_shut_refused<A: Allocator + Copy>(
+    out: &mut String<A>,
+    robot: u32,
+    fault: ShutFault,
+) -> Result<(), AllocError>
+    ensures { OnOk result (string_bytes out.new ≡ string_bytes out.old ++ shut_refused_line robot fault) }
+{
+    let fault = ShutFaultText(fault);
+    write!(out, "shut-refused {robot} {fault}\n")
 }
 
 /// The lines of a shut.
@@ -145,12 +177,20 @@ fn write_shut<A: Allocator + Copy>(
             write_numbered(out, "shut ", robot)?;
             write_parting(out, robot, parting)
         }
-        Reply::ShutRefused(fault) => {
-            let fault = ShutFaultText(fault);
-            write!(out, "shut-refused {robot} {fault}\n")
-        }
+        Reply::ShutRefused(fault) => write_shut_refused(out, robot, fault),
         _ => Ok(()),
     }
+}
+
+/// The line of a tick that is refused.
+pub(crate) fn write_tick_refused<A: Allocator + Copy>(
+    out: &mut String<A>,
+    fault: TickFault,
+) -> Result<(), AllocError>
+    ensures { OnOk result (string_bytes out.new ≡ string_bytes out.old ++ tick_refused_line fault) }
+{
+    let fault = TickFaultText(fault);
+    write!(out, "tick-refused {fault}\n")
 }
 
 /// The lines of all robots' step.
@@ -163,10 +203,7 @@ fn write_step<A: Allocator + Copy>(
 {
     match reply {
         Reply::Ticked(report) => write_tick(out, report.tick, entry),
-        Reply::TickRefused(fault) => {
-            let fault = TickFaultText(fault);
-            write!(out, "tick-refused {fault}\n")
-        }
+        Reply::TickRefused(fault) => write_tick_refused(out, fault),
         _ => Ok(()),
     }
 }

@@ -1,22 +1,47 @@
 //! What the program prints of a tick.
 
-ghost use Rattle.std.specs.Prelude.{◌≡◌, ◌++◌, OnOk, string_bytes, codes, decimal, option_copied, slice_index};
+ghost use Rattle.std.specs.Prelude.{◌≡◌, ◌++◌, IfOk, OnOk, string_bytes, option_copied, slice_index};
 ghost use Rattle.std.specs.List.{flat_map};
-ghost use Rattle.fleet_text.specs.Output.{place_text, arrival_text, farewell_text, tick_text};
+ghost use Rattle.fleet_text.specs.Output.{place_text, arrival_text, farewell_text, tick_line, tick_text};
 
 use crate::texts::{ArrivalLine, FarewellLine};
 use fleet_history::{Arrival, Bye, Entry};
-use std::alloc::{AllocError, Allocator};
+use std::alloc::{AllocError, Allocator, Global};
 use std::fmt::Write;
 
 /// The cells of a placement, each after a blank.
-fn write_place<A: Allocator + Copy>(out: &mut String<A>, cells: &[u32]) -> Result<(), AllocError>
+pub(crate) fn write_place<A: Allocator + Copy>(
+    out: &mut String<A>,
+    cells: &[u32],
+) -> Result<(), AllocError>
     ensures { OnOk result (string_bytes out.new ≡ string_bytes out.old ++ place_text cells.now) }
 {
     for cell in cells {
         write!(out, " {cell}")?;
     }
     Ok(())
+}
+
+/// The line that says where the robots stand after a tick.
+fn write_tick_line<A: Allocator + Copy>(
+    out: &mut String<A>,
+    tick: u64,
+    cells: &[u32],
+) -> Result<(), AllocError>
+    ensures { OnOk result (string_bytes out.new ≡ string_bytes out.old ++ tick_line tick cells.now) }
+{
+    write!(out, "tick {tick}:")?;
+    write_place(out, cells)?;
+    write!(out, "\n")
+}
+
+/// The line that says where the robots stand after a tick.
+pub fn tick_line(alloc: Global, tick: u64, cells: &[u32]) -> Result<String, AllocError>
+    ensures { IfOk result (λ line. string_bytes line ≡ tick_line tick cells.now) }
+{
+    let mut line = String::new(alloc);
+    write_tick_line(&mut line, tick, cells)?;
+    Ok(line)
 }
 
 fn cell_of(cells: &[u32], robot: u32) -> u32
@@ -69,11 +94,9 @@ fn write_moves<A: Allocator + Copy>(
     arrived: &[Arrival],
     farewells: &[Bye],
 ) -> Result<(), AllocError>
-    ensures { OnOk result (string_bytes out.new ≡ string_bytes out.old ++ (codes "tick " ++ decimal tick ++ codes ":" ++ place_text to.now ++ codes "\n" ++ flat_map (arrival_text to.now) arrived.now ++ flat_map (λ bye. farewell_text bye.robot bye.stamp) farewells.now)) }
+    ensures { OnOk result (string_bytes out.new ≡ string_bytes out.old ++ (tick_line tick to.now ++ flat_map (arrival_text to.now) arrived.now ++ flat_map (λ bye. farewell_text bye.robot bye.stamp) farewells.now)) }
 {
-    write!(out, "tick {tick}:")?;
-    write_place(out, to)?;
-    write!(out, "\n")?;
+    write_tick_line(out, tick, to)?;
     write_arrivals(out, to, arrived)?;
     write_farewells(out, farewells)
 }

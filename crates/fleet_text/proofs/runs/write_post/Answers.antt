@@ -1,8 +1,8 @@
 -- The lines that are told by a word and the client.
-use Rattle.std.proofs.Common.{refl, codes, decimal, string_bytes}
+use Rattle.std.proofs.Common.{refl, string_bytes}
 use Rattle.fleet_book.specs.declared.event.Event.TheVariants.{Post}
 use Rattle.fleet_world.specs.declared.reply.Reply.TheVariants.{LaneFull, NoClient, Posted}
-use Rattle.fleet_text.proofs.RunLines.{told, five}
+use Rattle.fleet_text.proofs.RunLines.{told}
 use Rattle.fleet_text.proofs.runs.write_post.Goals as goal
 
 pub returns-in-LaneFull : goal.returns-in-LaneFull
@@ -12,6 +12,4 @@ pub returns-in-NoClient : goal.returns-in-NoClient
 returns-in-NoClient g c = told c.write_numbered-in-NoClient.result (Post c.args.client c.args.order) c.args.reply NoClient (string_bytes c.args.out.now) (string_bytes c.write_numbered-in-NoClient.new.out) _ c.in-NoClient.is (λ e. refl) c.write_numbered-in-NoClient.ensures
 
 pub returns-in-Posted : goal.returns-in-Posted
-returns-in-Posted g c =
-    told c.write.result (Post c.args.client c.args.order) c.args.reply (Posted c.in-Posted.number) (string_bytes c.args.out.now) (string_bytes c.write.new.self) _ c.in-Posted.is
-    (λ e. five (codes "posted ") (decimal c.args.client) (codes " ") (decimal c.in-Posted.number) (codes "\n")) c.write.ensures.bytes
+returns-in-Posted g c = told c.write_posted.result (Post c.args.client c.args.order) c.args.reply (Posted c.in-Posted.number) (string_bytes c.args.out.now) (string_bytes c.write_posted.new.out) _ c.in-Posted.is (λ e. refl) c.write_posted.ensures

@@ -4,8 +4,8 @@ use Rattle.std.proofs.lemmas.List.{append_assoc}
 use Rattle.std.proofs.lemmas.Result.{on_ok_weaker}
 use Rattle.fleet_book.specs.declared.event.Event.TheVariants.{Shut}
 use Rattle.fleet_world.specs.declared.reply.Reply.TheVariants.{ShutDone, ShutRefused}
-use Rattle.fleet_text.specs.Output.{parting_text, shut_fault_text}
-use Rattle.fleet_text.proofs.RunLines.{told, five}
+use Rattle.fleet_text.specs.Output.{parting_text}
+use Rattle.fleet_text.proofs.RunLines.{told}
 use Rattle.fleet_text.proofs.runs.write_shut.Goals as goal
 
 pub returns-in_ok-write_numbered-in-ShutDone : goal.returns-in_ok-write_numbered-in-ShutDone
@@ -18,5 +18,5 @@ returns-in_ok-write_numbered-in-ShutDone g c =
 
 pub returns-in-ShutRefused : goal.returns-in-ShutRefused
 returns-in-ShutRefused g c =
-    told c.write.result (Shut c.args.robot) c.args.reply (ShutRefused c.in-ShutRefused.fault) (string_bytes c.args.out.now) (string_bytes c.write.new.self) _ c.in-ShutRefused.is
-    (λ e. five (codes "shut-refused ") (decimal c.args.robot) (codes " ") (shut_fault_text c.in-ShutRefused.fault) (codes "\n")) c.write.ensures.bytes
+    told c.write_shut_refused.result (Shut c.args.robot) c.args.reply (ShutRefused c.in-ShutRefused.fault) (string_bytes c.args.out.now) (string_bytes c.write_shut_refused.new.out) _
+    c.in-ShutRefused.is (λ e. refl) c.write_shut_refused.ensures
