@@ -27,7 +27,7 @@ shut_text robot (Err fault) = shut_refused_line robot fault
 
 -- a chapter was handed out
 abbrev pub chapter_line : ℕ → ℕ → List ℕ
-chapter_line number entries = codes "chapter " ++ decimal number ++ codes " entries " ++ decimal entries ++ codes "\n"
+chapter_line number entries = codes "chapter " ++ (decimal number ++ (codes " entries " ++ (decimal entries ++ codes "\n")))
 
 -- no chapter can follow
 abbrev pub chapter_refused_line : List ℕ

@@ -3,7 +3,7 @@ use Rattle.fleet_text.proofs.Kits.{laws-are, kit-is}
 use Rattle.fleet_text.proofs.kit.HookKit.for_robots.Goals as goal
 
 pub returns : goal.returns
-returns c =
+returns g c =
     let n = c.args.robots in
     kit-is
     (laws-are (λ h. h.law) (λ h. h.law) (λ h. h.law) n _ _ _
