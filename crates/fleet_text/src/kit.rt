@@ -1,6 +1,6 @@
 //! The hooks that a script chooses from.
 
-ghost use Rattle.std.specs.Prelude.{◌≡◌, if◌then◌else◌, IfOk};
+ghost use Rattle.std.specs.Prelude.{◌≡◌, ◌≤◌, if◌then◌else◌, IfOk};
 ghost use Rattle.fleet_core.specs.Hooks.{laws_of};
 ghost use Rattle.fleet_text.specs.Kit.{kit_laws, kit_of};
 
@@ -27,8 +27,9 @@ impl<A: Allocator + Copy> HookKit<A> {
 }
 
 impl HookKit {
-    /// The programs' hooks, for this many robots.
+    /// The programs' hooks, for this many robots. Each call meets the `requires`; no call may hand out hooks without one.
     pub fn for_robots(alloc: Global, robots: usize) -> Result<HookKit, AllocError>
+        requires { 0 ≤ robots }
         ensures { IfOk result (λ kit. kit_laws kit ≡ kit_of robots) }
     {
         let plain = Hooks::alike(
