@@ -11,6 +11,7 @@ ghost use Rattle.fleet_lib.specs.Ended.{EndsWith, IsEnded, broken_off, file_show
 use crate::kept::{KeptFault, KeptText, kept_chapter};
 use fleet_grid::Grid;
 use fleet_history::Chapter;
+use fleet_hooks::{ArrivalHook, Farewell, Hooks, TieHook};
 use fleet_script::Head;
 use fleet_talk::{
     ChapterSink, Ends, Ground, MOST_ROBOTS, ResumeFault, Settings, TalkFault, converse, resume,
@@ -63,7 +64,21 @@ fn hold_with_hooks<R: Alloc<A = Global>, I: Read, W: Write, S: ChapterSink>(
         (W.contents ends.old.output) (W.contents ends.new.output) (record { old = S.kept ends.old.sink; new = S.kept ends.new.sink }) result) }
 {
     let alloc = rt.alloc();
-    let kit = HookKit::for_robots(alloc, MOST_ROBOTS)?;
+    let plain = Hooks::alike(
+        alloc,
+        MOST_ROBOTS,
+        TieHook::fixed([0; 4]),
+        ArrivalHook::fixed(0),
+        Farewell::fixed(0),
+    )?;
+    let south = Hooks::alike(
+        alloc,
+        MOST_ROBOTS,
+        TieHook::south_first(),
+        ArrivalHook::by_tick(),
+        Farewell::by_cell(),
+    )?;
+    let kit = HookKit { plain, south };
     let (grid, head) = ground;
     hold_on(rt, Ground { grid, kit, head }, kept, settings, ends)
 }

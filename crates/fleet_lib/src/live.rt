@@ -10,6 +10,7 @@ use crate::talk::{TalkTexts, complain, grounds};
 use crate::words::Live;
 use fleet_grid::Grid;
 use fleet_history::Chapter;
+use fleet_hooks::{ArrivalHook, Farewell, Hooks, TieHook};
 use fleet_live::{LiveEnds, LiveSettings, keep_live, read_period, resume_live};
 use fleet_map::text::number_up_to;
 use fleet_script::Head;
@@ -214,7 +215,21 @@ fn keep_with_hooks<
     ends: LiveEnds<I, W, P, Q, E, S>,
 ) -> Result<bool, ResumeFault> {
     let alloc = rt.alloc();
-    let kit = HookKit::for_robots(alloc, MOST_ROBOTS)?;
+    let plain = Hooks::alike(
+        alloc,
+        MOST_ROBOTS,
+        TieHook::fixed([0; 4]),
+        ArrivalHook::fixed(0),
+        Farewell::fixed(0),
+    )?;
+    let south = Hooks::alike(
+        alloc,
+        MOST_ROBOTS,
+        TieHook::south_first(),
+        ArrivalHook::by_tick(),
+        Farewell::by_cell(),
+    )?;
+    let kit = HookKit { plain, south };
     let ground = Ground { grid, kit, head };
     match kept {
         Some(chapter) => resume_live(rt, ground, chapter, settings, ends),

@@ -1,11 +1,11 @@
 //! The hooks that a script chooses from.
 
-ghost use Rattle.std.specs.Prelude.{◌≡◌, ◌≤◌, if◌then◌else◌, IfOk};
+ghost use Rattle.std.specs.Prelude.{◌≡◌, if◌then◌else◌};
 ghost use Rattle.fleet_core.specs.Hooks.{laws_of};
-ghost use Rattle.fleet_text.specs.Kit.{kit_laws, kit_of};
+ghost use Rattle.fleet_text.specs.Kit.{kit_laws};
 
-use fleet_hooks::{ArrivalHook, Farewell, Hooks, TieHook};
-use std::alloc::{AllocError, Allocator, Global};
+use fleet_hooks::Hooks;
+use std::alloc::{Allocator, Global};
 
 /// The hooks of both choices, for each robot.
 #[derive(Drop)]
@@ -23,29 +23,5 @@ impl<A: Allocator + Copy> HookKit<A> {
     {
         let HookKit { plain, south } = self;
         if southern { south } else { plain }
-    }
-}
-
-impl HookKit {
-    /// The programs' hooks, for this many robots. Each call meets the `requires`; no call may hand out hooks without one.
-    pub fn for_robots(alloc: Global, robots: usize) -> Result<HookKit, AllocError>
-        requires { 0 ≤ robots }
-        ensures { IfOk result (λ kit. kit_laws kit ≡ kit_of robots) }
-    {
-        let plain = Hooks::alike(
-            alloc,
-            robots,
-            TieHook::fixed([0; 4]),
-            ArrivalHook::fixed(0),
-            Farewell::fixed(0),
-        )?;
-        let south = Hooks::alike(
-            alloc,
-            robots,
-            TieHook::south_first(),
-            ArrivalHook::by_tick(),
-            Farewell::by_cell(),
-        )?;
-        Ok(HookKit { plain, south })
     }
 }
