@@ -1,7 +1,7 @@
 -- One figure after another.
 use Rattle.std.proofs.Common.{◌∙◌, codes, string_bytes, unwrap_or, ap, ◌++◌, ℕ}
 use Rattle.std.proofs.lemmas.Result.{on_ok_weaker}
-use Rattle.errands_text.proofs.RunLines.{on}
+use Rattle.fleet_text.proofs.RunLines.{on}
 use Rattle.live_parts.specs.Figures.{gauge, limit_text}
 use Rattle.live_parts.proofs.figures.Figures.add_waits.Goals as goal
 
