@@ -1,4 +1,6 @@
 """Plans as text, in each form that `fleet check` reads, and the readers of what `fleet convert` writes."""
+import csv
+import io
 import json
 import re
 
@@ -357,4 +359,33 @@ def read_value(text):
     return [list(place) for place in zip(*paths)]
 
 
-READERS = {"pibt2": read_cells, "moves": read_moves, "lorr": read_value}
+def read_agents(text):
+    paths = []
+    for line in text.splitlines():
+        name, path = line.split(": ")
+        assert name == f"Agent {len(paths)}", line
+        paths.append([(x, y) for y, x in cells_in(path)])
+    return [list(place) for place in zip(*paths, strict=True)]
+
+
+def read_table(text):
+    paths = {}
+    for row in csv.DictReader(io.StringIO(text)):
+        path = paths.setdefault(int(row["agent"]), [])
+        assert int(row["time"]) == len(path), row
+        path.append((int(row["column"]), int(row["row"])))
+    return [list(place) for place in zip(*(paths[robot] for robot in range(len(paths))), strict=True)]
+
+
+def read_schedule(text):
+    first, *parts = re.split(r"^  agent(\d+):\n", text, flags=re.M)
+    assert first == "schedule:\n" and [int(name) for name in parts[::2]] == list(range(len(parts) // 2)), text
+    paths = []
+    for part in parts[1::2]:
+        cells = re.findall(r"^    - x: (\d+)\n      y: (\d+)\n      t: (\d+)\n", part, flags=re.M)
+        assert [int(t) for _, _, t in cells] == list(range(len(cells))), part
+        paths.append([(int(x), int(y)) for x, y, _ in cells])
+    return [list(place) for place in zip(*paths, strict=True)]
+
+
+READERS = {"pibt2": read_cells, "moves": read_moves, "lorr": read_value, "agents": read_agents, "table": read_table, "yaml": read_schedule}

@@ -40,7 +40,7 @@ pub(crate) fn run_convert<R: Files + Alloc<A = Global>, W: Write, E: Write>(
     let Some(target) = convert.target else {
         write_whole(
             error,
-            b"error: invalid value for '--to <FORM>'\n  [possible values: pibt2, moves, lorr, trace]\n",
+            b"error: invalid value for '--to <FORM>'\n  [possible values: pibt2, moves, lorr, agents, table, yaml, trace]\n",
         );
         return 2;
     };

@@ -1,11 +1,13 @@
 -- Lists that are written item by item.
-use Rattle.std.proofs.Common.{◌≡◌, ℕ, ◌+◌, ◌-◌, ◌<◌, ◌≤◌, List, [], ◌∷◌, ◌++◌, length, drop, map, slice_index, slice_index_or, codes, sym, ap, ◌∙◌, arith}
+use Rattle.std.proofs.Common.{◌≡◌, ℕ, ◌+◌, ◌-◌, ◌<◌, ◌≤◌, ◌/◌, ◌%◌, List, [], ◌∷◌, ◌++◌, length, drop, map, slice_index, slice_index_or, codes, sym, ap, ◌∙◌, arith}
 use Rattle.std.proofs.lemmas.List.{append_assoc, append-nil, drop_more, drop_all}
 use Rattle.fleet_plans.specs.Valid.{place_at}
 use Rattle.fleet_convert.specs.Cells.{place_line, places_text}
 use Rattle.fleet_convert.specs.declared.step.Step.{Step}
 use Rattle.fleet_convert.specs.Moves.{step_between, letter, steps_of, track_of, tracks_text}
 use Rattle.fleet_convert.specs.Runners.{capital, comma_before, path_from, paths_from}
+use Rattle.fleet_convert.specs.declared.listing.Listing.{Listing}
+use Rattle.fleet_convert.specs.Listing.{stand_text, stands_from, path_text, paths_text}
 use Rattle.fleet_convert.proofs.Steps.{steps_more, steps_over}
 
 -- one more item is written
@@ -49,3 +51,16 @@ pub next_path : (w r : ℕ) (places : List (List ℕ)) (starts old new whole ite
 next_path w r places starts old new whole item less same is all =
     one_more old new item (paths_from w places (r + 1) (drop (r + 1) starts)) whole is
     (ap (λ (l : List ℕ). old ++ (l ++ paths_from w places (r + 1) (drop (r + 1) starts))) same ∙ (ap (λ (ss : List ℕ). old ++ paths_from w places r ss) (sym (drop_more starts r 0 less)) ∙ all))
+
+pub next_stand : (listing : Listing) (w r t : ℕ) (places : List (List ℕ)) (cell : ℕ) (old new whole : List ℕ) → t < length places → cell ≡ slice_index (place_at places t) r
+    → new ≡ old ++ stand_text listing r t (cell / w) (cell % w) → old ++ stands_from listing w r t (drop t places) ≡ whole → new ++ stands_from listing w r (t + 1) (drop (t + 1) places) ≡ whole
+next_stand listing w r t places cell old new whole less same is all =
+    one_more old new (stand_text listing r t (cell / w) (cell % w)) (stands_from listing w r (t + 1) (drop (t + 1) places)) whole is
+    (ap (λ (n : ℕ). old ++ (stand_text listing r t (n / w) (n % w) ++ stands_from listing w r (t + 1) (drop (t + 1) places))) same
+    ∙ (ap (λ (ps : List (List ℕ)). old ++ stands_from listing w r t ps) (sym (drop_more places t [] less)) ∙ all))
+
+pub next_listed : (listing : Listing) (w r : ℕ) (places : List (List ℕ)) (starts old new whole : List ℕ) → r < length starts → new ≡ old ++ path_text listing w r places → old ++ paths_text listing w places r (drop r starts) ≡ whole
+    → new ++ paths_text listing w places (r + 1) (drop (r + 1) starts) ≡ whole
+next_listed listing w r places starts old new whole less is all =
+    one_more old new (path_text listing w r places) (paths_text listing w places (r + 1) (drop (r + 1) starts)) whole is
+    (ap (λ (ss : List ℕ). old ++ paths_text listing w places r ss) (sym (drop_more starts r 0 less)) ∙ all)

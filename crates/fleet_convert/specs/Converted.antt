@@ -10,19 +10,21 @@ use Rattle.fleet_trace.specs.Reads.{Tells, IsTraceFault}
 use Rattle.fleet_trace.specs.declared.fault.TraceFault.TheVariants as trace_fault
 use Rattle.fleet_trace.specs.Judged.{IsFirstIllegal}
 use Rattle.fleet_convert.specs.declared.conversion.PlanForm.{PlanForm}
-use Rattle.fleet_convert.specs.declared.conversion.PlanForm.TheVariants.{Pibt2, Moves, Runners}
+use Rattle.fleet_convert.specs.declared.conversion.PlanForm.TheVariants.{Pibt2, Moves, Runners, Listed}
 use Rattle.fleet_convert.specs.declared.conversion.ConvertFault.{ConvertFault}
 use Rattle.fleet_convert.specs.declared.conversion.ConvertFault.TheVariants as fault
 use Rattle.fleet_convert.specs.History.{places_in}
 use Rattle.fleet_convert.specs.Cells.{cells_plan}
 use Rattle.fleet_convert.specs.Moves.{moves_plan}
 use Rattle.fleet_convert.specs.Runners.{runners_plan}
+use Rattle.fleet_convert.specs.Listing.{listed_plan}
 
 -- the text of placements in a form, on a map of this width
 abbrev pub plan_text : PlanForm → ℕ → List (List ℕ) → List ℕ
 plan_text Pibt2 width places = cells_plan width places
 plan_text Moves width places = moves_plan width places
 plan_text Runners width places = runners_plan width places
+plan_text (Listed listing) width places = listed_plan listing width places
 
 -- the text is that of the placements of a history that is legal on the map
 pub record IsPlanOn (form : PlanForm) (m : Map) (h : History Global) (text : List ℕ) : Type 0 where

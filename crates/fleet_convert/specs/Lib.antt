@@ -2,5 +2,6 @@ pub mod History
 pub mod Cells
 pub mod Moves
 pub mod Runners
+pub mod Listing
 pub mod Converted
 pub mod PlanTrace

@@ -9,6 +9,7 @@ ghost use Rattle.fleet_convert.specs.Converted.{plan_text, IsPlanOn, IsNoPlanOn,
 
 use crate::cells::cells_plan;
 use crate::history::places_in;
+use crate::listing::{Listing, listed_plan};
 use crate::moves::moves_plan;
 use crate::runners::runners_plan;
 use fleet_grid::Grid;
@@ -28,6 +29,8 @@ pub enum PlanForm {
     Moves,
     /// The JSON of the League of Robot Runners, without rotation.
     Runners,
+    /// The cells of each robot.
+    Listed(Listing),
 }
 
 /// Why a map and a trace give no plan.
@@ -73,6 +76,7 @@ fn plan_text(
         PlanForm::Pibt2 => cells_plan(alloc, width, places),
         PlanForm::Moves => moves_plan(alloc, width, places),
         PlanForm::Runners => runners_plan(alloc, width, places),
+        PlanForm::Listed(listing) => listed_plan(alloc, listing, width, places),
     }
 }
 

@@ -64,7 +64,7 @@ fn step_between(width: u32, from: u32, to: u32) -> Step
 }
 
 /// The robot's cell in a placement; 0 if it has none.
-fn cell_of(place: &[u32], robot: usize) -> u32
+pub(crate) fn cell_of(place: &[u32], robot: usize) -> u32
     ensures { result ≡ slice_index place.now robot }
 {
     if robot < place.len() { place[robot] } else { 0 }

@@ -10,7 +10,8 @@ use Rattle.fleet_lib.specs.declared.words.view.Shown.TheVariants.{Page, Moving, 
 use Rattle.fleet_lib.specs.declared.words.view.View.{View as ViewJob}
 use Rattle.fleet_lib.specs.declared.words.check.Check.{Check as CheckJob}
 use Rattle.fleet_lib.specs.declared.words.talk.Talk.{Talk as TalkJob}
-use Rattle.fleet_lib.specs.declared.words.convert.Form.TheVariants.{Pibt2, Moves, Lorr}
+use Rattle.fleet_convert.specs.declared.conversion.PlanForm.TheVariants.{Pibt2, Moves, Runners, Listed}
+use Rattle.fleet_convert.specs.declared.listing.Listing.TheVariants.{Agents, Table, Schedule}
 use Rattle.fleet_lib.specs.declared.words.convert.Target.{Target}
 use Rattle.fleet_lib.specs.declared.words.convert.Target.TheVariants as target
 use Rattle.fleet_lib.specs.declared.words.convert.Convert.{Convert as ConvertJob}
@@ -55,7 +56,10 @@ abbrev pub target_named : Text → Option Target
 target_named word =
     if bytes_eq word (codes "pibt2") then Some (target.Plan Pibt2)
     else if bytes_eq word (codes "moves") then Some (target.Plan Moves)
-    else if bytes_eq word (codes "lorr") then Some (target.Plan Lorr)
+    else if bytes_eq word (codes "lorr") then Some (target.Plan Runners)
+    else if bytes_eq word (codes "agents") then Some (target.Plan (Listed Agents))
+    else if bytes_eq word (codes "table") then Some (target.Plan (Listed Table))
+    else if bytes_eq word (codes "yaml") then Some (target.Plan (Listed Schedule))
     else if bytes_eq word (codes "trace") then Some target.Trace
     else None
 

@@ -3,18 +3,10 @@ use Rattle.std.specs.Prelude.{◌≡◌, ℕ, List, [], ◌++◌, codes, decimal
 use Rattle.fleet_text.specs.declared.said.Complaint.TheVariants as complaint
 use Rattle.fleet_text.specs.Complaint.{complaint_text}
 use Rattle.fleet_convert.specs.declared.conversion.PlanForm.{PlanForm}
-use Rattle.fleet_convert.specs.declared.conversion.PlanForm.TheVariants as plan_form
 use Rattle.fleet_convert.specs.declared.conversion.ConvertFault.{ConvertFault}
 use Rattle.fleet_convert.specs.declared.conversion.ConvertFault.TheVariants as fault
 use Rattle.fleet_convert.specs.Converted.{IsConverted, IsUnconverted}
-use Rattle.fleet_lib.specs.declared.words.convert.Form.{Form}
-use Rattle.fleet_lib.specs.declared.words.convert.Form.TheVariants.{Pibt2, Moves, Lorr}
 use Rattle.fleet_lib.specs.Said.{Outcome}
-
-abbrev pub form_of : Form → PlanForm
-form_of Pibt2 = plan_form.Pibt2
-form_of Moves = plan_form.Moves
-form_of Lorr = plan_form.Runners
 
 -- how a fault is named: a map, a trace and a trace that is not legal as by `errands judge`
 abbrev pub fault_text : ConvertFault → List ℕ
@@ -33,6 +25,6 @@ abbrev pub faulty : ConvertFault → Outcome
 faulty f = record { output = []; status = fault_status f; complaint = codes "fleet: " ++ fault_text f ++ codes "\n" }
 
 -- what is said to a map and to a trace on it
-pub data IsConvertOutcome (form : Form) (map trace : List ℕ) (o : Outcome) : Type 0 where
-  good : (text : List ℕ) → IsConverted (form_of form) map trace text → o ≡ record { output = text; status = 0; complaint = [] } → IsConvertOutcome form map trace o
+pub data IsConvertOutcome (form : PlanForm) (map trace : List ℕ) (o : Outcome) : Type 0 where
+  good : (text : List ℕ) → IsConverted form map trace text → o ≡ record { output = text; status = 0; complaint = [] } → IsConvertOutcome form map trace o
   refused : (f : ConvertFault) → IsUnconverted map trace f → o ≡ faulty f → IsConvertOutcome form map trace o

@@ -2,25 +2,13 @@
 
 ghost use Rattle.std.specs.Prelude.{◌≡◌, Some, IfOk};
 ghost use Rattle.fleet_lib.specs.Said.{said_of};
-ghost use Rattle.fleet_lib.specs.Convert.{IsConvertOutcome, form_of, fault_text, fault_status, faulty};
+ghost use Rattle.fleet_lib.specs.Convert.{IsConvertOutcome, fault_text, fault_status, faulty};
 
 use crate::said::Said;
-use crate::words::Form;
 use fleet_convert::{ConvertFault, PlanForm, convert};
 use fleet_text::Complaint;
 use std::alloc::{AllocError, Global};
 use std::fmt;
-
-/// The form that a word names.
-fn form_of(form: Form) -> PlanForm
-    ensures { result ≡ form_of form }
-{
-    match form {
-        Form::Pibt2 => PlanForm::Pibt2,
-        Form::Moves => PlanForm::Moves,
-        Form::Lorr => PlanForm::Runners,
-    }
-}
 
 /// How a fault is named.
 #[derive(Clone, Copy)]
@@ -71,13 +59,13 @@ fn faulty(alloc: Global, fault: ConvertFault) -> Result<Said, AllocError>
 /// The answer to a map and a trace on it: the plan that `convert` makes of them.
 pub fn answer_convert(
     alloc: Global,
-    form: Form,
+    form: PlanForm,
     map: &[u8],
     trace: &[u8],
 ) -> Result<Said, AllocError>
     ensures { IfOk result (λ s. IsConvertOutcome form map.now trace.now (said_of s)) }
 {
-    match convert(alloc, form_of(form), map, trace) {
+    match convert(alloc, form, map, trace) {
         Ok(text) => Ok(Said {
             output: Vec::from_slice(alloc, text.as_bytes())?,
             status: 0,

@@ -36,6 +36,6 @@ pub use stats::answer_stats;
 pub use talk::{TalkTexts, run_talk};
 pub use view::{MOST_TRACE_BYTES, answer_view};
 pub use words::{
-    Check, Convert, Explain, Figures, Form, Job, Live, Shown, Stats, Talk, Target, View, WordFault,
+    Check, Convert, Explain, Figures, Job, Live, Shown, Stats, Talk, Target, View, WordFault,
     parse_words,
 };

@@ -14,7 +14,7 @@ mod view;
 
 pub use check::Check;
 pub use command_words::WordFault;
-pub use convert::{Convert, Form, Target};
+pub use convert::{Convert, Target};
 pub use explain::Explain;
 pub use job::{Job, parse_words};
 pub use live::Live;

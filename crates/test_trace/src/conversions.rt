@@ -1,6 +1,6 @@
 //! A trace as a plan in each form. The expected values were worked out by hand from the robots' cells.
 
-use fleet_convert::{ConvertFault, PlanForm, convert, trace_of_plan};
+use fleet_convert::{ConvertFault, Listing, PlanForm, convert, trace_of_plan};
 use std::alloc::Global;
 
 /// Two rows of three cells: 0, 1, 2 and below them 3, 4, 5.
@@ -17,6 +17,15 @@ const MOVES: &str = "form=moves\nstarts=(1,0),(0,1),\nsolution=\ndrulw\nuwwww\n"
 
 const RUNNERS: &str =
     "{\"actionModel\":\"MAPF\",\"teamSize\":2,\"start\":[[0,1,\"E\"],[1,0,\"E\"]],\"actualPaths\":[\"D,R,U,L,W\",\"U,W,W,W,W\"]}\n";
+
+const AGENTS: &str =
+    "Agent 0: (0,1)->(1,1)->(1,2)->(0,2)->(0,1)->(0,1)->\nAgent 1: (1,0)->(0,0)->(0,0)->(0,0)->(0,0)->(0,0)->\n";
+
+const TABLE: &str =
+    "agent,time,row,column\n0,0,0,1\n0,1,1,1\n0,2,1,2\n0,3,0,2\n0,4,0,1\n0,5,0,1\n1,0,1,0\n1,1,0,0\n1,2,0,0\n1,3,0,0\n1,4,0,0\n1,5,0,0\n";
+
+const SCHEDULE: &str =
+    "schedule:\n  agent0:\n    - x: 1\n      y: 0\n      t: 0\n    - x: 1\n      y: 1\n      t: 1\n    - x: 2\n      y: 1\n      t: 2\n    - x: 2\n      y: 0\n      t: 3\n    - x: 1\n      y: 0\n      t: 4\n    - x: 1\n      y: 0\n      t: 5\n  agent1:\n    - x: 0\n      y: 1\n      t: 0\n    - x: 0\n      y: 0\n      t: 1\n    - x: 0\n      y: 0\n      t: 2\n    - x: 0\n      y: 0\n      t: 3\n    - x: 0\n      y: 0\n      t: 4\n    - x: 0\n      y: 0\n      t: 5\n";
 
 /// The plan in this form; an empty text if there is none.
 fn plan(alloc: Global, form: PlanForm) -> String {
@@ -46,9 +55,24 @@ fn traced(alloc: Global, plan: &str) -> String {
 }
 
 #[test]
+fn plans_robot_by_robot(rt: HostRuntime) {
+    let alloc = rt.alloc();
+    assert!(rt; plan(alloc, PlanForm::Listed(Listing::Agents)).as_str() == AGENTS);
+    assert!(rt; plan(alloc, PlanForm::Listed(Listing::Table)).as_str() == TABLE);
+    assert!(rt; plan(alloc, PlanForm::Listed(Listing::Schedule)).as_str() == SCHEDULE);
+}
+
+#[test]
 fn converted_plans_are_read_back(rt: HostRuntime) {
     let alloc = rt.alloc();
-    for form in [PlanForm::Pibt2, PlanForm::Moves, PlanForm::Runners] {
+    for form in [
+        PlanForm::Pibt2,
+        PlanForm::Moves,
+        PlanForm::Runners,
+        PlanForm::Listed(Listing::Agents),
+        PlanForm::Listed(Listing::Table),
+        PlanForm::Listed(Listing::Schedule),
+    ] {
         let text = plan(alloc, form);
         assert!(rt; traced(alloc, text.as_str()).as_str() == TRACE);
     }

@@ -7,24 +7,14 @@ ghost use Rattle.fleet_lib.specs.Asked.{IsConvert, target_in, target_named};
 use crate::words::arguments::MAP;
 use clap::ArgMatches;
 use command_words::{Argument, Kind, Word, word_for};
+use fleet_convert::{Listing, PlanForm};
 use std::alloc::{AllocError, Global};
-
-/// The form of a plan's text.
-#[derive(Clone, Copy, Debug, PartialEq, Eq)]
-pub enum Form {
-    /// Lines of cells, as pibt2 and LaCAM write them.
-    Pibt2,
-    /// Lines of move letters.
-    Moves,
-    /// The JSON of the League of Robot Runners.
-    Lorr,
-}
 
 /// What a trace or a plan is turned into.
 #[derive(Clone, Copy, Debug, PartialEq, Eq)]
 pub enum Target {
     /// A trace becomes a plan in this form.
-    Plan(Form),
+    Plan(PlanForm),
     /// A plan becomes a trace.
     Trace,
 }
@@ -48,7 +38,7 @@ pub(crate) const CONVERT: Word<'static> = Word {
         Argument {
             name: "to",
             kind: Kind::RequiredValue("FORM"),
-            help: "The form of the plan: pibt2 (lines of cells), moves (lines of move letters), or lorr (the JSON of the League of Robot Runners); or trace, if a plan is to become a trace",
+            help: "The form of the plan: pibt2 (lines of cells), moves (lines of move letters), lorr (the JSON of the League of Robot Runners), agents (paths of agents, as CBS writes them), table (CSV: agent, time, row, column), or yaml (as libMultiRobotPlanning writes it); or trace, if a plan is to become a trace",
         },
         MAP,
         Argument {
@@ -64,11 +54,17 @@ fn target_named(name: &str) -> Option<Target>
     ensures { result ≡ target_named name.now }
 {
     if name == "pibt2" {
-        Some(Target::Plan(Form::Pibt2))
+        Some(Target::Plan(PlanForm::Pibt2))
     } else if name == "moves" {
-        Some(Target::Plan(Form::Moves))
+        Some(Target::Plan(PlanForm::Moves))
     } else if name == "lorr" {
-        Some(Target::Plan(Form::Lorr))
+        Some(Target::Plan(PlanForm::Runners))
+    } else if name == "agents" {
+        Some(Target::Plan(PlanForm::Listed(Listing::Agents)))
+    } else if name == "table" {
+        Some(Target::Plan(PlanForm::Listed(Listing::Table)))
+    } else if name == "yaml" {
+        Some(Target::Plan(PlanForm::Listed(Listing::Schedule)))
     } else if name == "trace" {
         Some(Target::Trace)
     } else {
