@@ -260,9 +260,9 @@ come-talk on before mid after (Some xs) left a b c e line first w p q settings s
         → OnOk ended (KeepsTurned before mid s.talk last.talk) → Keeps ended last.met result → OnOk result (KeepsLast mid after last.talk) → ComesTo on xs a c w q (record { old = before; new = after }) result
     by (Ok done) (Ok met) all until turned keeps kept =
         come_all on (record { old = before; new = after }) xs o last a b c w p q t (all_said on.settings settings rest first line b c p q left s (opened on o) last left_is same (ready starts starts_is) all)
-        (keeps-all before mid after (opened on o).talk last.talk (subst (λ (x : Fleet Global). KeepsTurned before mid x.talk last.talk) (ready starts starts_is) turned) kept) met keeps
+        (keeps-all before mid after (opened on o).talk last.talk (subst (λ (x : Fleet Global). KeepsTurned before mid x.talk last.talk) (ready starts starts_is) turned) kept) met keeps.0
     by (Ok done) (Err f) all until turned keeps kept =
-        come_unkept on (record { old = before; new = after }) xs o last a b c w p q f t (all_said on.settings settings rest first line b c p q left s (opened on o) last left_is same (ready starts starts_is) all) keeps
+        come_unkept on (record { old = before; new = after }) xs o last a b c w p q f t (all_said on.settings settings rest first line b c p q left s (opened on o) last left_is same (ready starts starts_is) all) keeps.1
     by (Err f) result all until turned keeps kept =
         subst (ComesTo on xs a c w q (record { old = before; new = after })) (sym keeps)
         (come_until on (record { old = before; new = after }) xs o a b c w p q f t (until_said on.settings settings rest first line b c p q left s (opened on o) f left_is same (ready starts starts_is) until))

@@ -145,8 +145,8 @@ come-open settings before mid after (Some xs) a b w p s last ended result all un
         → OnOk ended (KeepsTurned before mid s.talk last.talk) → Keeps ended last.met result → OnOk result (KeepsLast mid after last.talk) → ComesOpen settings s xs a b w p k result
     by (Ok done) (Ok met) (text, talks, says) until turned keeps kept =
         let (chapters, are, adds) = keeps-all before mid after s.talk last.talk turned kept in
-        (text, chapters, record { last = last; talks = talks; are = are; met = keeps }, says, adds)
-    by (Ok done) (Err f) (text, talks, says) until turned keeps kept = (text, in_whole settings s xs text last talks, midway f a b w p text keeps says)
+        (text, chapters, record { last = last; talks = talks; are = are; met = keeps.0 }, says, adds)
+    by (Ok done) (Err f) (text, talks, says) until turned keeps kept = (text, in_whole settings s xs text last talks, midway f a b w p text keeps.1 says)
     by (Err f) result all u turned keeps kept = subst (ComesOpen settings s xs a b w p k) (sym keeps)
         (u.text, record { done = u.done; left = u.left; parts = u.parts; last = u.last; talks = u.talks }, u.says)
 

@@ -1,5 +1,5 @@
 -- What follows the end of a conversation.
-use Rattle.std.specs.Prelude.{◌≡◌, ℕ, Bool, List, Option, Result, Ok, Err}
+use Rattle.std.specs.Prelude.{◌≡◌, ℕ, Bool, List, Option, Result, Ok, Err, IfOk, IfErr}
 use Rattle.errands_text.specs.Transfer.{AppendsPrefix}
 use Rattle.std.specs.Io.KnownBytes.{Appends}
 use Rattle.fleet_talk.specs.declared.fault.TalkFault.{TalkFault}
@@ -8,8 +8,7 @@ use Rattle.fleet_talk.specs.Broken.{IsMidway}
 
 -- the last chapter was kept or not, after the conversation ended so; whether a limit was met is returned where it was
 abbrev pub Keeps : Result (Unit {0}) TalkFault → Bool → Result Bool TalkFault → Type 0
-Keeps (Ok done) limited (Ok met) = met ≡ limited
-Keeps (Ok done) limited (Err fault) = IsMidway fault
+Keeps (Ok done) limited result = IfOk result (λ met. met ≡ limited) × IfErr result (λ fault. IsMidway fault)
 Keeps (Err fault) limited result = result ≡ Err fault
 
 -- what waits was written whole, or a write failed
