@@ -20,7 +20,7 @@ use Rattle.fleet_talk.specs.Broken.{IsMidway, SaysUntil}
 use Rattle.fleet_talk.specs.Chapters.{Adds, ChapterView, KeepsAll, KeepsLast, KeepsTurned}
 use Rattle.fleet_talk.specs.Conversation.{Terms, KeptChapters, IsConversation, unopened, talked, IsBegun, in_head, in_talk, IsRefusedHead, MayOpen, ComesTo, head_in, opened, acts_of, clients_in, limits_in, laws_in}
 use Rattle.fleet_talk.specs.Ending.{Keeps, Finishes, written, unwritten}
-use Rattle.fleet_talk.specs.Fleet.{Fleet, opened_fleet}
+use Rattle.fleet_talk.specs.Fleet.{Fleet}
 use Rattle.fleet_talk.specs.Heard.{Opening, Head, all_of, heard_lines}
 use Rattle.fleet_talk.specs.Heading.{HearsAll, HearsUntil}
 use Rattle.fleet_talk.specs.Refusals.{talk_fault}
