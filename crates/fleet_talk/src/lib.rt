@@ -14,6 +14,7 @@ mod line_part;
 mod listed;
 mod look;
 mod marks;
+mod open_fleet;
 mod pen;
 mod plays;
 mod reading;

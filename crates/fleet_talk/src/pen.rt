@@ -20,8 +20,6 @@ const MOST_TEXT: usize = 65_536;
 pub(crate) struct Pen {
     pub(crate) settings: Settings,
     pub(crate) out: Vec<u8>,
-    /// Whether a limit was met.
-    pub(crate) limited: bool,
 }
 
 impl Pen {
@@ -32,7 +30,6 @@ impl Pen {
         Pen {
             settings,
             out: Vec::new(alloc),
-            limited: false,
         }
     }
 
