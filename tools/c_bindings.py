@@ -1,5 +1,4 @@
 """What the header and the bindings say, and whether it is what the sources of fleet_c say: used by tools/build_c."""
-import ctypes
 import re
 import sys
 
@@ -89,7 +88,7 @@ def same(what, wanted, found):
     """Compares two tables, and names what differs."""
     for name in sorted(set(wanted) | set(found)):
         if wanted.get(name) != found.get(name):
-            fail(f"{what} {name}: the sources say {wanted.get(name)}, the bindings say {found.get(name)}")
+            fail(f"{what} {name}: the sources say {wanted.get(name)}, the header says {found.get(name)}")
     say(f"{what}s: {len(wanted)}, as in the sources")
 
 
@@ -152,44 +151,6 @@ def compare_rust():
         if layouts[name] != crossing[name]:
             fail(f"the struct {name} of bindings/rust has {layouts[name]}, and should have {crossing[name]}")
     say(f"bindings/rust: {len(declared)} functions and {len(layouts)} structs, as in the sources")
-
-
-# ctypes' type of a number
-CTYPES = {"u8": ctypes.c_uint8, "u32": ctypes.c_uint32, "u64": ctypes.c_uint64, "usize": ctypes.c_size_t, "bool": ctypes.c_bool}
-
-
-def python_type(calls, rattle):
-    array = re.fullmatch(r"\[(\w+); (\d+)\]", rattle)
-    if array:
-        return CTYPES[array[1]] * int(array[2])
-    return CTYPES[rattle] if rattle in CTYPES else getattr(calls, "C" + STRUCTS[rattle].capitalize())
-
-
-def python_parameter(calls, rattle):
-    """ctypes' types of the parameters that a parameter of an export is."""
-    lent = re.fullmatch(r"&(mut )?(\[)?(\w+)\]?", rattle)
-    if not lent:
-        return [] if rattle == "Global" else [python_type(calls, rattle)]
-    # Bytes that are only read are handed as Python's own.
-    behind = ctypes.c_char_p if lent[0] == "&[u8]" else ctypes.POINTER(python_type(calls, lent[3]))
-    return [behind, ctypes.c_size_t] if lent[2] else [behind]
-
-
-def compare_python():
-    """The functions and structs of bindings/python are those of the sources."""
-    sys.path.insert(0, str(BINDINGS / "python"))
-    from nashirudder import calls
-    wanted = {name.removeprefix("nashirudder_"): [word for _, rattle in parameters for word in python_parameter(calls, rattle)]
-              for _, name, parameters, _ in c_sources.exports_of(SOURCES)} | {"is_proved": []}
-    # A text that is written, for ctypes
-    wanted["message"][1] = ctypes.POINTER(ctypes.c_char)
-    same("Python function", wanted, {name: list(types) for name, types in calls.FUNCTIONS.items()})
-    results = {name.removeprefix("nashirudder_"): result for _, name, _, result in c_sources.exports_of(SOURCES)} | {"is_proved": "bool"}
-    same("Python result", {name: CTYPES[result] if result else None for name, result in results.items()},
-         {name: calls.RESULTS.get(name, ctypes.c_uint32) for name in calls.FUNCTIONS})
-    crossing = {name: fields for name, (_, fields) in CROSSING.items() if name not in OWNERS}
-    same("Python struct", {name: [(field, python_type(calls, rattle)) for field, rattle in fields] for name, fields in crossing.items()},
-         {name: getattr(calls, "C" + STRUCTS[name].capitalize())._fields_ for name in crossing})
 
 
 def compare_version(text):
@@ -257,4 +218,3 @@ def compare():
     defined = compare_header()
     compare_names(defined)
     compare_rust()
-    compare_python()
