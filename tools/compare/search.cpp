@@ -207,7 +207,7 @@ static void measure_check(const Map& map) {
     }
 }
 
-// ---- from a map to the first tick: the fields of all goals, searched one after another and on four threads
+// ---- from a map to the first tick: the fields of all goals, searched one after another
 
 static void measure_open(const Map& map) {
     Grid part_grid(map, pad_of(map));
@@ -215,29 +215,18 @@ static void measure_open(const Map& map) {
     Random thrown{13};
     for (int k = 0; k < 512; k++) goals.push_back(cells[thrown.below(cells.size())]);
     vector<Tie> ties(512, plain);
-    for (bool ahead : {false, true}) {
-        Random random{11};
-        Fleet f = fleet_of(map, cells, 512, 512, random);
-        Measure m;
-        double start = now();
-        Grid g(map, pad_of(map));
-        vector<vector<u32>> fields(goals.size());
-        auto search = [&](size_t first, size_t step) {
-            vector<u32> front, next;
-            for (size_t k = first; k < goals.size(); k += step) field_into(g, g.place(goals[k]), fields[k], front, next);
-        };
-        if (ahead) {
-            vector<std::thread> team;
-            for (size_t t = 0; t < 4; t++) team.emplace_back(search, t, 4);
-            for (auto& thread : team) thread.join();
-        } else {
-            search(0, 1);
-        }
-        Stepper stepper(map, g, f.from.size());
-        stepper.step(f, fields, ties, 0);
-        m.with(now() - start);
-        line(ahead ? "open_ahead" : "open", map.name, f.from.size(), f.from.size(), m);
-    }
+    Random random{11};
+    Fleet f = fleet_of(map, cells, 512, 512, random);
+    Measure m;
+    double start = now();
+    Grid g(map, pad_of(map));
+    vector<vector<u32>> fields(goals.size());
+    vector<u32> front, next;
+    for (size_t k = 0; k < goals.size(); k++) field_into(g, g.place(goals[k]), fields[k], front, next);
+    Stepper stepper(map, g, f.from.size());
+    stepper.step(f, fields, ties, 0);
+    m.with(now() - start);
+    line("open", map.name, f.from.size(), f.from.size(), m);
 }
 
 // ---- long runs

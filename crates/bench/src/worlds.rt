@@ -46,8 +46,8 @@ pub enum Work {
     Run { name: &'static str, before: u32 },
     /// A number of ticks in which the first robot goes to the first goal. The caller measures the time.
     Way { ticks: u32 },
-    /// The time since the start, when the first tick was made; whether fields were searched ahead.
-    Open { ahead: bool, start: Instant },
+    /// The time since the start, when the first tick was made.
+    Open { start: Instant },
     /// The chapter of a long run.
     Trace,
 }
@@ -165,11 +165,10 @@ fn work_on<R: Alloc<A = Global> + Clock + Files + Print + Threads + Sync>(
             }
             Ok(())
         }
-        Work::Open { ahead, start } => {
-            first_tick(rt, world, task.goals, ahead)?;
+        Work::Open { start } => {
+            first_tick(rt, world, task.goals);
             let found = Measure::NONE.with(start.elapsed(rt)?.as_nanos());
-            let name = if ahead { "open_ahead" } else { "open" };
-            print_measure(rt, name, task.map, count, count as u64, found)
+            print_measure(rt, "open", task.map, count, count as u64, found)
         }
         Work::Trace => {
             world.keep(KEPT);

@@ -3,9 +3,9 @@ use Rattle.std.proofs.Common.{◌≡◌, ℕ, Option, Some, None, List, Result, 
 use Rattle.std.specs.Prelude.{IfOk, IfSome}
 use Rattle.std.specs.declared.alloc.AllocError.{AllocError}
 use Rattle.errands_lib.specs.declared.job.Job.{Job}
-use Rattle.errands_text.specs.declared.said.Said.{Said}
-use Rattle.errands_text.specs.Said.{said}
-use Rattle.errands_text.specs.Kit.{KitLaws}
+use Rattle.fleet_text.specs.declared.said.Said.{Said}
+use Rattle.fleet_text.specs.Said.{said}
+use Rattle.fleet_text.specs.Kit.{KitLaws}
 use Rattle.errands_lib.specs.Outcome.{IsJobOutcome}
 
 -- what is said to the job at hand

@@ -18,12 +18,12 @@ use Rattle.fleet_history.specs.History.{History}
 use Rattle.fleet_trace.specs.declared.fault.JudgeFault.{JudgeFault}
 use Rattle.fleet_trace.specs.declared.fault.JudgeFault.TheVariants as judge_fault
 use Rattle.fleet_trace.specs.Judged.{IsFirstIllegal, IsJudgeFault}
-use Rattle.errands_text.specs.declared.said.Said.{Said}
-use Rattle.errands_text.specs.Outcome.{Outcome, IsMapNamed}
+use Rattle.fleet_text.specs.declared.said.Said.{Said}
+use Rattle.fleet_text.specs.Outcome.{Outcome, IsMapNamed}
 use Rattle.errands_lib.specs.Answer.{IsScriptOutcome, IsUnplayed, IsLawfulEnd, IsJudged, refused, ran, illegal, illegal_at, run_output, run_outcome}
 use Rattle.fleet_core.specs.Hooks.{HookLaws}
 use Rattle.fleet_script.specs.Script.{Plan}
-use Rattle.errands_text.specs.Kit.{KitLaws, chosen_laws}
+use Rattle.fleet_text.specs.Kit.{KitLaws, chosen_laws}
 use Rattle.fleet_map.specs.declared.fault.MapFault.{MapFault}
 use Rattle.fleet_map.specs.declared.fault.MapFault.TheVariants as map_fault
 use Rattle.fleet_map.specs.Grammar.{Fails, map_of}
@@ -33,7 +33,7 @@ use Rattle.fleet_core.specs.declared.faults.OpenFault.TheVariants as open_fault
 use Rattle.fleet_world.specs.declared.faults.RunFault.{RunFault}
 use Rattle.fleet_world.specs.declared.faults.RunFault.TheVariants as run_fault
 use Rattle.fleet_core.specs.OpeningFaults.{IsNamed, IsRefused}
-use Rattle.errands_text.specs.Said.{said}
+use Rattle.fleet_text.specs.Said.{said}
 use Rattle.fleet_script.specs.Shown.{FailsAt}
 use Rattle.fleet_script.specs.declared.script.ScriptFault.{ScriptFault}
 use Rattle.fleet_script.specs.declared.script.ScriptFault.TheVariants as script_fault

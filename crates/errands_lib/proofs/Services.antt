@@ -21,14 +21,14 @@ use Rattle.fleet_trace.specs.Text.{trace_text}
 use Rattle.fleet_serve.specs.declared.served.ServeFault.{ServeFault}
 use Rattle.fleet_serve.specs.declared.served.ServeFault.TheVariants as serve_fault
 use Rattle.fleet_serve.specs.Posted.{TakesPosted, TakesAll, AreFullCounted}
-use Rattle.errands_text.specs.declared.said.Said.{Said}
+use Rattle.fleet_text.specs.declared.said.Said.{Said}
 use Rattle.errands_lib.specs.declared.job.Job.{Job}
 use Rattle.errands_lib.specs.declared.job.Job.TheVariants as job
-use Rattle.errands_text.specs.Kit.{KitLaws, chosen_laws}
-use Rattle.errands_text.specs.Outcome.{Outcome}
+use Rattle.fleet_text.specs.Kit.{KitLaws, chosen_laws}
+use Rattle.fleet_text.specs.Outcome.{Outcome}
 use Rattle.errands_lib.specs.Answer.{limited}
 use Rattle.errands_lib.specs.Outcome.{MayOpen, IsServed, IsServedText, IsUnserved, IsServeOutcome, IsJobOutcome, refused, ended, served}
-use Rattle.errands_text.specs.Said.{said}
+use Rattle.fleet_text.specs.Said.{said}
 use Rattle.errands_lib.specs.Asked.{is_serve}
 
 -- what a serve on this map, with these laws, says of its chapter

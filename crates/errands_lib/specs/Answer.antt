@@ -27,14 +27,14 @@ use Rattle.fleet_trace.specs.Trace.{Trace}
 use Rattle.fleet_trace.specs.Text.{trace_text}
 use Rattle.fleet_trace.specs.Reads.{Tells, IsTraceFault}
 use Rattle.fleet_trace.specs.Judged.{IsFirstIllegal}
-use Rattle.errands_text.specs.declared.said.Complaint.TheVariants as complaint
+use Rattle.fleet_text.specs.declared.said.Complaint.TheVariants as complaint
 use Rattle.fleet_script.specs.Bundle.{HasNoScript, IsBundle}
 use Rattle.fleet_script.specs.Script.{Plan, script_of}
-use Rattle.errands_text.specs.Kit.{KitLaws, chosen_laws}
-use Rattle.errands_text.specs.Output.{run_text, is_limit_met}
-use Rattle.errands_text.specs.MapReport.{IsMapReport}
-use Rattle.errands_text.specs.Complaint.{complaint_line, status_of}
-use Rattle.errands_text.specs.Outcome.{Outcome, fault, good}
+use Rattle.fleet_text.specs.Kit.{KitLaws, chosen_laws}
+use Rattle.fleet_text.specs.Output.{run_text, is_limit_met}
+use Rattle.fleet_text.specs.MapReport.{IsMapReport}
+use Rattle.fleet_text.specs.Complaint.{complaint_line, status_of}
+use Rattle.fleet_text.specs.Outcome.{Outcome, fault, good}
 
 -- a fault other than out of memory
 abbrev pub IsTraceNamed : TraceFault → Type 0

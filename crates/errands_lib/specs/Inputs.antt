@@ -5,9 +5,9 @@ use Rattle.command_words.specs.declared.words.WordFault.{WordFault}
 use Rattle.command_words.specs.declared.words.WordFault.TheVariants as word_fault
 use Rattle.errands_lib.specs.Asked.{files_of, none, one, two}
 use Rattle.errands_lib.specs.Named.{AreTaken, Names}
-use Rattle.errands_text.specs.declared.input.InputFault.{InputFault}
-use Rattle.errands_text.specs.declared.input.InputFault.TheVariants as input_fault
-use Rattle.errands_text.specs.Transfer.{AppendsPrefix}
+use Rattle.fleet_text.specs.declared.input.InputFault.{InputFault}
+use Rattle.fleet_text.specs.declared.input.InputFault.TheVariants as input_fault
+use Rattle.fleet_text.specs.Transfer.{AppendsPrefix}
 use Rattle.errands_lib.specs.Laws.{program_laws}
 use Rattle.errands_lib.specs.Told.{Failed, IsShown}
 

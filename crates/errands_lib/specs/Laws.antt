@@ -1,5 +1,5 @@
 -- The laws of the program's own hooks.
-use Rattle.errands_text.specs.Kit.{KitLaws, kit_of}
+use Rattle.fleet_text.specs.Kit.{KitLaws, kit_of}
 
 -- those of a kit for 16 robots
 abbrev pub program_laws : KitLaws

@@ -20,10 +20,10 @@ use Rattle.fleet_serve.specs.declared.served.ServeFault.TheVariants as serve_fau
 use Rattle.fleet_serve.specs.Posted.{IsLine, IsFirstOther, TakesPosted, TakesAll, AreFullCounted}
 use Rattle.errands_lib.specs.declared.job.Job.{Job}
 use Rattle.errands_lib.specs.declared.job.Job.TheVariants as job
-use Rattle.errands_text.specs.declared.said.Complaint.TheVariants as complaint
+use Rattle.fleet_text.specs.declared.said.Complaint.TheVariants as complaint
 use Rattle.fleet_script.specs.Script.{Plan, script_of}
-use Rattle.errands_text.specs.Kit.{KitLaws, chosen_laws}
-use Rattle.errands_text.specs.Outcome.{Outcome, fault}
+use Rattle.fleet_text.specs.Kit.{KitLaws, chosen_laws}
+use Rattle.fleet_text.specs.Outcome.{Outcome, fault}
 use Rattle.errands_lib.specs.Answer.{IsBundleOutcome, IsJudgeOutcome, IsMapOutcome, IsPartsOutcome, limited}
 
 -- ---- a script that is served on a map

@@ -3,13 +3,13 @@ use Rattle.std.specs.Prelude.{◌≡◌, ℕ, ◌≤◌, Bool, true, false, List
 use Rattle.std.specs.Io.KnownBytes.{Appends}
 use Rattle.errands_lib.specs.declared.job.Job.{Job}
 use Rattle.errands_lib.specs.declared.job.Job.TheVariants as job
-use Rattle.errands_text.specs.declared.input.InputFault.{InputFault}
-use Rattle.errands_text.specs.declared.input.InputFault.TheVariants as input_fault
-use Rattle.errands_text.specs.Complaint.{complaint_line, complaint_of, status_of}
-use Rattle.errands_text.specs.Kit.{KitLaws}
-use Rattle.errands_text.specs.Outcome.{Outcome}
+use Rattle.fleet_text.specs.declared.input.InputFault.{InputFault}
+use Rattle.fleet_text.specs.declared.input.InputFault.TheVariants as input_fault
+use Rattle.fleet_text.specs.Complaint.{complaint_line, complaint_of, status_of}
+use Rattle.fleet_text.specs.Kit.{KitLaws}
+use Rattle.fleet_text.specs.Outcome.{Outcome}
 use Rattle.errands_lib.specs.Outcome.{IsJobOutcome}
-use Rattle.errands_text.specs.Transfer.{AppendsPrefix}
+use Rattle.fleet_text.specs.Transfer.{AppendsPrefix}
 
 -- whether the job names two files
 abbrev pub names_two : Job → Bool

@@ -2,14 +2,14 @@
 
 ghost use Rattle.std.specs.Prelude.{◌≡◌, ◌≤◌, false, length, IfOk};
 ghost use Rattle.errands_lib.specs.Asked.{is_serve};
-ghost use Rattle.errands_text.specs.Said.{said};
-ghost use Rattle.errands_text.specs.Kit.{kit_laws};
+ghost use Rattle.fleet_text.specs.Said.{said};
+ghost use Rattle.fleet_text.specs.Kit.{kit_laws};
 ghost use Rattle.errands_lib.specs.Outcome.{IsJobOutcome};
 
 use crate::job::Job;
 use crate::judgement::answer_trace;
 use crate::texts::{answer_bundle, answer_map, answer_parts};
-use errands_text::{HookKit, Said};
+use fleet_text::{HookKit, Said};
 use std::alloc::{Alloc, AllocError, Global};
 
 /// The answer to the texts of a job that is not a serve. The second text counts only if the job names two files.

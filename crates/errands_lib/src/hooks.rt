@@ -1,14 +1,14 @@
 //! The program's own hooks.
 
 ghost use Rattle.std.specs.Prelude.{◌≡◌, is_some, IfOk, IfSome, OnErr};
-ghost use Rattle.errands_text.specs.Transfer.{bytes_of};
+ghost use Rattle.fleet_text.specs.Transfer.{bytes_of};
 ghost use Rattle.errands_lib.specs.Laws.{program_laws};
 ghost use Rattle.errands_lib.specs.Told.{IsShown, names_two};
 
 use crate::job::Job;
 use crate::program::{fail, run_program};
-use errands_text::{HookKit, InputFault};
 use fleet_hooks::{ArrivalHook, Farewell, Hooks, TieHook};
+use fleet_text::{HookKit, InputFault};
 use std::alloc::{Alloc, AllocError, Global};
 use std::io::{Read, Write};
 use std::sync::Wait;

@@ -1,10 +1,10 @@
 //! What the program reads: files by their names, and standard input.
 
 ghost use Rattle.std.specs.Prelude.{ℕ, List, Result};
-ghost use Rattle.errands_text.specs.declared.input.InputFault.{InputFault};
+ghost use Rattle.fleet_text.specs.declared.input.InputFault.{InputFault};
 ghost use Rattle.errands_lib.specs.Inputs.{OpensBoth};
 
-use errands_text::InputFault;
+use fleet_text::InputFault;
 use std::io::Read;
 
 /// What the program reads from. `errands` has the files and the standard input of its process; a test has its own.

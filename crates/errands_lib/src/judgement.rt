@@ -5,15 +5,15 @@ ghost use Rattle.fleet_grid.specs.Floor.{floor_of_map};
 ghost use Rattle.fleet_map.specs.Form.{HasSides};
 ghost use Rattle.fleet_map.specs.Grammar.{view};
 ghost use Rattle.fleet_history.specs.History.{history_of};
-ghost use Rattle.errands_text.specs.Outcome.{good};
+ghost use Rattle.fleet_text.specs.Outcome.{good};
 ghost use Rattle.errands_lib.specs.Answer.{IsJudged, IsJudgeOutcome, IsTraceNamed, illegal_at};
-ghost use Rattle.errands_text.specs.Said.{said};
-ghost use Rattle.errands_text.specs.declared.said.Complaint.{Complaint};
+ghost use Rattle.fleet_text.specs.Said.{said};
+ghost use Rattle.fleet_text.specs.declared.said.Complaint.{Complaint};
 
-use errands_text::{Complaint, Said, faulty, map_complaint};
 use fleet_grid::Grid;
 use fleet_history::Chapter;
 use fleet_map::{MapText, read_map};
+use fleet_text::{Complaint, Said, faulty, map_complaint};
 use fleet_trace::{JudgeFault, TraceFault, judge, read_trace};
 use std::alloc::{AllocError, Global};
 

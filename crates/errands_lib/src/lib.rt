@@ -14,9 +14,9 @@ mod texts;
 mod words;
 
 pub use command_words::WordFault;
-pub use errands_text::{HookKit, InputFault, read_whole, write_whole};
 pub use fleet_script::{Script, ScriptFault, read_script};
 pub use fleet_serve::{Gate, ServeFault, Served, serve};
+pub use fleet_text::{HookKit, InputFault, read_whole, write_whole};
 pub use hooks::run_with_kit;
 pub use inputs::Inputs;
 pub use job::{Job, JobFiles, parse_words};

@@ -2,15 +2,15 @@
 
 ghost use Rattle.std.specs.Prelude.{◌≡◌, ◌≤◌, false, true, IfOk, IfSome, is_some, vec_len};
 ghost use Rattle.errands_lib.specs.Asked.{is_serve};
-ghost use Rattle.errands_text.specs.Transfer.{bytes_of};
+ghost use Rattle.fleet_text.specs.Transfer.{bytes_of};
 ghost use Rattle.errands_lib.specs.Told.{Failed, IsAnswer, IsTold, IsShown, names_two};
-ghost use Rattle.errands_text.specs.Kit.{kit_laws};
-ghost use Rattle.errands_text.specs.Said.{said as said_of};
+ghost use Rattle.fleet_text.specs.Kit.{kit_laws};
+ghost use Rattle.fleet_text.specs.Said.{said as said_of};
 
 use crate::answer::answer;
 use crate::job::Job;
 use crate::service::answer_job;
-use errands_text::{
+use fleet_text::{
     Complaint, HookKit, InputFault, Said, failure_line, read_other, read_whole, write_whole,
 };
 use std::alloc::{Alloc, Global};

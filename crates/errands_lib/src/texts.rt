@@ -6,20 +6,20 @@ ghost use Rattle.fleet_grid.specs.Floor.{floor_of_map};
 ghost use Rattle.fleet_map.specs.Form.{HasSides};
 ghost use Rattle.fleet_map.specs.Grammar.{map_of, view};
 ghost use Rattle.fleet_core.specs.OpeningFaults.{IsNamed};
-ghost use Rattle.errands_text.specs.Output.{is_limit_met};
+ghost use Rattle.fleet_text.specs.Output.{is_limit_met};
 ghost use Rattle.errands_lib.specs.Answer.{IsBundleOutcome, IsMapOutcome, IsDescribed, IsPartsOutcome, IsScriptOutcome, IsUnplayed, limited, run_output, run_outcome};
-ghost use Rattle.errands_text.specs.Kit.{kit_laws};
-ghost use Rattle.errands_text.specs.Said.{said};
+ghost use Rattle.fleet_text.specs.Kit.{kit_laws};
+ghost use Rattle.fleet_text.specs.Said.{said};
 ghost use Rattle.fleet_script.specs.Shown.{plan};
-ghost use Rattle.errands_text.specs.declared.said.Complaint.{Complaint};
+ghost use Rattle.fleet_text.specs.declared.said.Complaint.{Complaint};
 
-use errands_text::{
-    Complaint, HookKit, Said, faulty, is_limit_met, line_of, map_complaint, map_report, report,
-    trace_line,
-};
 use fleet_grid::Grid;
 use fleet_map::{MapText, read_map};
 use fleet_script::{Script, ScriptFault, read_script, split_bundle};
+use fleet_text::{
+    Complaint, HookKit, Said, faulty, is_limit_met, line_of, map_complaint, map_report, report,
+    trace_line,
+};
 use fleet_world::{Event, OpenFault, Played, Reply, RunFault, run};
 use std::alloc::{Alloc, AllocError, Global};
 

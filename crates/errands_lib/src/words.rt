@@ -1,7 +1,7 @@
 //! What the program does with its arguments.
 
 ghost use Rattle.std.specs.Prelude.{◌≡◌, IfSome, is_some, map, string_bytes};
-ghost use Rattle.errands_text.specs.Transfer.{bytes_of};
+ghost use Rattle.fleet_text.specs.Transfer.{bytes_of};
 ghost use Rattle.errands_lib.specs.Inputs.{DoesJob, DoesWords, Refuses};
 ghost use Rattle.errands_lib.specs.Laws.{program_laws};
 ghost use Rattle.errands_lib.specs.Told.{IsShown, names_two};
@@ -11,7 +11,7 @@ use crate::inputs::{Inputs, open_both};
 use crate::job::{Job, JobFiles, parse_words};
 use crate::program::fail;
 use command_words::WordFault;
-use errands_text::{InputFault, write_whole};
+use fleet_text::{InputFault, write_whole};
 use std::alloc::{Alloc, Global};
 use std::io::{Read, Write};
 use std::sync::Wait;

@@ -34,7 +34,7 @@ use std::env::{self, Env};
 use std::fs::Files;
 use std::io::{self, ErrorKind, Write};
 use std::process::ExitCode;
-use talk::hold_talk;
+use talk::talk_in_folder;
 use view::run_view;
 
 /// The words that the program was given.
@@ -89,19 +89,7 @@ fn main(rt: HostRuntime) -> ExitCode {
     let status = match job_open(&rt, &mut error) {
         Ok(Job::View(view)) => run_view(&rt, &view, &mut output, &mut error),
         Ok(Job::Check(check)) => run_check(&rt, &check, &mut output, &mut error),
-        Ok(Job::Talk(talk)) => {
-            let name = talk.traces.as_deref();
-            match hold_folder(&rt, name, talk.resume) {
-                Ok((folder, kept)) => {
-                    let sink = TraceFolder { rt: &rt, name };
-                    let talks = (rt.stdin(), output);
-                    let status = hold_talk(&rt, &talk, &kept, talks, &mut error, sink);
-                    folder.let_go(&rt);
-                    status
-                }
-                Err(fault) => complain_of_folder(&rt, fault, name, &mut error),
-            }
-        }
+        Ok(Job::Talk(talk)) => talk_in_folder(&rt, &talk, (rt.stdin(), output), &mut error),
         Ok(Job::Convert(convert)) => run_convert(&rt, &convert, &mut output, &mut error),
         Ok(Job::Explain(explain)) => run_explain(&rt, &explain, &mut output, &mut error),
         Ok(Job::Stats(stats)) => run_stats(&rt, &stats, &mut output, &mut error),

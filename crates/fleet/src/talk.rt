@@ -2,13 +2,14 @@
 
 ghost use Rattle.std.specs.Prelude.{◌≤◌, vec_len, IfOk};
 
+use crate::chapters::TraceFolder;
 use crate::ends::{FileFault, MOST_MAP_BYTES, complain, file_bytes};
-use crate::folder::KeptFile;
+use crate::folder::{KeptFile, complain_of_folder, hold_folder};
 use fleet_lib::{
     ChapterSink, Ends, InputFault, KeptText, Settings, Talk, TalkTexts, fail, run_talk,
 };
 use std::alloc::{Alloc, Global};
-use std::fs::Files;
+use std::fs::{File, Files};
 use std::io::{BufReader, Read, Write};
 
 /// The greatest number of bytes that are read at once.
@@ -53,7 +54,7 @@ pub(crate) fn lent(kept: &Option<KeptFile>) -> Option<KeptText<'_>> {
 
 /// Holds a conversation, whose fleet goes on from a chapter if one is given. Returns the status, as of `run_talk`, or 3 where
 /// a file failed.
-pub(crate) fn hold_talk<
+fn hold_talk<
     R: Files + Alloc<A = Global>,
     I: Read + Drop,
     W: Write + Drop,
@@ -92,4 +93,23 @@ pub(crate) fn hold_talk<
         kept: lent(kept),
     };
     run_talk(rt, texts, settings, &mut ends, error)
+}
+
+/// Holds the conversation of these words, and keeps its chapters in the folder that they name, if they name one. Returns the status.
+pub(crate) fn talk_in_folder<
+    R: Files<File = File> + Alloc<A = Global> + Clone + Drop,
+    I: Read + Drop,
+    W: Write + Drop,
+    E: Write,
+>(rt: &R, talk: &Talk, ends: (I, W), error: &mut E) -> u8 {
+    let name = talk.traces.as_deref();
+    match hold_folder(rt, name, talk.resume) {
+        Ok((folder, kept)) => {
+            let sink = TraceFolder { rt, name };
+            let status = hold_talk(rt, talk, &kept, ends, error, sink);
+            folder.let_go(rt);
+            status
+        }
+        Err(fault) => complain_of_folder(rt, fault, name, error),
+    }
 }

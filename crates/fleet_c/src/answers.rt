@@ -20,18 +20,13 @@ impl Alloc for Heap {
     }
 }
 
-/// Empty lists of answers, with memory for this many robots if there is enough.
-fn no_answers(alloc: Global, robots: usize) -> RobotHooks {
-    let mut none = RobotHooks {
+/// Empty lists of answers.
+fn no_answers(alloc: Global) -> RobotHooks {
+    RobotHooks {
         ties: Vec::new(alloc),
         arrivals: Vec::new(alloc),
         farewells: Vec::new(alloc),
-    };
-    // Where memory is refused here a push asks for it again.
-    let _ = none.ties.reserve(robots);
-    let _ = none.arrivals.reserve(robots);
-    let _ = none.farewells.reserve(robots);
-    none
+    }
 }
 
 /// Makes a tick, with the ranks that the core's tie laws give.
@@ -41,13 +36,18 @@ pub(crate) fn ticked(alloc: Global, core: &mut Core) -> Result<TickReport, TickF
     ensures ok { IfOk result (λ report. Ticks core.old report core.new) }
     ensures err { OnErr result (core.new ≡ core.old) }
 {
-    // Where memory is refused an answer is missing, and the core refuses the tick.
-    let mut robots = no_answers(alloc, core.robots());
-    for law in core.tie_laws() {
-        let _ = robots.ties.push(TieHook::fixed(law.low));
-        let _ = robots.arrivals.push(ArrivalHook::fixed(0));
-        let _ = robots.farewells.push(Some(Farewell::fixed(0)));
-    }
+    // Where memory is refused answers are missing, and the core refuses the tick.
+    let mut robots = no_answers(alloc);
+    let laws = core.tie_laws();
+    let _ = robots
+        .ties
+        .extend(laws.iter().map(|law| TieHook::fixed(law.low)));
+    let _ = robots
+        .arrivals
+        .extend(laws.iter().map(|_| ArrivalHook::fixed(0)));
+    let _ = robots
+        .farewells
+        .extend(laws.iter().map(|_| Some(Farewell::fixed(0))));
     core.tick_by(&Heap(alloc), &mut robots)
 }
 
@@ -60,15 +60,11 @@ pub(crate) fn shut(alloc: Global, core: &mut Core, robot: u32) -> Result<Option<
     ensures ok { IfOk result (λ farewell. Shuts core.old robot farewell core.new) }
     ensures err { OnErr result (core.new ≡ core.old) }
 {
-    // Where memory is refused an answer is missing, and the core refuses the shut.
-    let mut robots = RobotHooks {
-        ties: Vec::new(alloc),
-        arrivals: Vec::new(alloc),
-        farewells: Vec::new(alloc),
-    };
-    let _ = robots.farewells.reserve(core.robots());
-    for _ in 0..core.robots() {
-        let _ = robots.farewells.push(Some(Farewell::fixed(0)));
-    }
+    // Where memory is refused answers are missing, and the core refuses the shut.
+    let mut robots = no_answers(alloc);
+    let laws = core.tie_laws();
+    let _ = robots
+        .farewells
+        .extend(laws.iter().map(|_| Some(Farewell::fixed(0))));
     core.shut_by(&mut robots, robot)
 }

@@ -1,10 +1,10 @@
 -- How a conversation of the program ended.
 use Rattle.std.proofs.Common.{◌≡◌, ℕ, Bool, List, [], Option, Some, None, Result, Ok, Err, IfSome, refl, sym, ap}
-use Rattle.std.specs.Prelude.{OnOk, IfErr}
+use Rattle.std.specs.Prelude.{IfOk, IfErr}
 use Rattle.std.specs.Result.{IsErrAnd}
 use Rattle.std.specs.declared.alloc.Global.{Global}
 use Rattle.std.specs.Io.KnownBytes.{Appends}
-use Rattle.errands_text.specs.Transfer.{AppendsPrefix}
+use Rattle.fleet_text.specs.Transfer.{AppendsPrefix}
 use Rattle.fleet_reopen.specs.declared.fault.ReopenFault.TheVariants as reopen_fault
 use Rattle.fleet_talk.specs.declared.fault.TalkFault.{TalkFault}
 use Rattle.fleet_talk.specs.declared.fault.TalkFault.TheVariants.{Input, Output, Sink, Opening, NoMemory}
@@ -33,7 +33,7 @@ no_memory (Err f) is = ap (λ (g : ResumeFault). Err g) is
 module _ (on : Terms) (k : KeptChapters) where
   -- each end of a conversation has a clause of its own
   pub ends-as : (known a b : Option (List ℕ)) (r : Result Bool TalkFault)
-      → OnOk r (IfSome known (λ bytes. (text : List ℕ) × (chapters : List (ChapterView Global)) × IsConversation on bytes text chapters × Appends a b text × Adds k.old k.new chapters))
+      → IfOk r (λ met. IfSome known (λ bytes. (text : List ℕ) × (chapters : List (ChapterView Global)) × IsConversation on bytes text chapters met × Appends a b text × Adds k.old k.new chapters))
       → ((why : _) → r ≡ Err (Opening why) → IfSome known (λ bytes. (text : List ℕ) × IsRefusedHead on bytes text why × Appends a b text))
       → IfErr r (λ f. IsMidway f → IfSome known (λ bytes. (text : List ℕ) × IsBegun on bytes text × Appends a b text))
       → (r ≡ Err Output → IfSome known (λ bytes. (text : List ℕ) × IsBegun on bytes text × AppendsPrefix a b text))
@@ -48,7 +48,7 @@ module _ (on : Terms) (k : KeptChapters) where
 
   -- the same of one whose fleet goes on from a chapter
   pub ends-on : (c : ChapterView Global) (known a b : Option (List ℕ)) {X : Type 0} (r : Result Bool ResumeFault)
-      → OnOk r (IfSome known (λ bytes. (text : List ℕ) × (chapters : List (ChapterView Global)) × IsResumption on c bytes text chapters × Appends a b text × Adds k.old k.new chapters))
+      → IfOk r (λ met. IfSome known (λ bytes. (text : List ℕ) × (chapters : List (ChapterView Global)) × IsResumption on c bytes text chapters met × Appends a b text × Adds k.old k.new chapters))
       → IfErr r (λ f. IsRefusal f → IsResumeFault on.kit on.floor on.head c f)
       → IfErr r (λ f. IsRefusal f → X) → (X → b ≡ a) → (X → k.new ≡ k.old)
       → ((why : TalkFault) → r ≡ Err (resume_fault.Talk why) → IsMidway why → IfSome known (λ bytes. (text : List ℕ) × IsResumptionBegun on c bytes text × Appends a b text))

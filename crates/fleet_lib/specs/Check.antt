@@ -1,7 +1,7 @@
 -- What the word `check` prints.
 use Rattle.std.specs.Prelude.{◌≡◌, ℕ, Bool, List, [], ◌++◌, Option, Some, None, codes, decimal}
-use Rattle.errands_text.specs.declared.said.Complaint.TheVariants as complaint
-use Rattle.errands_text.specs.Complaint.{complaint_text}
+use Rattle.fleet_text.specs.declared.said.Complaint.TheVariants as complaint
+use Rattle.fleet_text.specs.Complaint.{complaint_text}
 use Rattle.fleet_plans.specs.declared.answer.PlanAnswer.{PlanAnswer}
 use Rattle.fleet_plans.specs.declared.answer.PlanAnswer.TheVariants as answer
 use Rattle.fleet_plans.specs.declared.form.TextForm.{TextForm}

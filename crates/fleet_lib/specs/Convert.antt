@@ -1,7 +1,7 @@
 -- The result of the word `convert`.
 use Rattle.std.specs.Prelude.{◌≡◌, ℕ, List, [], ◌++◌, codes, decimal}
-use Rattle.errands_text.specs.declared.said.Complaint.TheVariants as complaint
-use Rattle.errands_text.specs.Complaint.{complaint_text}
+use Rattle.fleet_text.specs.declared.said.Complaint.TheVariants as complaint
+use Rattle.fleet_text.specs.Complaint.{complaint_text}
 use Rattle.fleet_convert.specs.declared.conversion.PlanForm.{PlanForm}
 use Rattle.fleet_convert.specs.declared.conversion.ConvertFault.{ConvertFault}
 use Rattle.fleet_convert.specs.declared.conversion.ConvertFault.TheVariants as fault

@@ -2,11 +2,11 @@
 use Rattle.std.specs.Prelude.{◌≡◌, ℕ, Bool, true, false, List, Option, Some, None, Result, Ok, Err, IfSome}
 use Rattle.std.specs.declared.alloc.Global.{Global}
 use Rattle.std.specs.Io.KnownBytes.{Appends}
-use Rattle.errands_text.specs.Kit.{kit_of}
-use Rattle.errands_text.specs.Transfer.{AppendsPrefix}
-use Rattle.errands_text.specs.declared.input.InputFault.TheVariants as input_fault
-use Rattle.errands_text.specs.declared.said.Complaint.{Complaint}
-use Rattle.errands_text.specs.declared.said.Complaint.TheVariants as complaint
+use Rattle.fleet_text.specs.Kit.{kit_of}
+use Rattle.fleet_text.specs.Transfer.{AppendsPrefix}
+use Rattle.fleet_text.specs.declared.input.InputFault.TheVariants as input_fault
+use Rattle.fleet_text.specs.declared.said.Complaint.{Complaint}
+use Rattle.fleet_text.specs.declared.said.Complaint.TheVariants as complaint
 use Rattle.fleet_grid.specs.Floor.{Floor}
 use Rattle.fleet_history.specs.declared.history.Chapter.{Chapter}
 use Rattle.fleet_reopen.specs.declared.fault.ReopenFault.TheVariants as reopen_fault
@@ -37,7 +37,7 @@ terms_of floor said settings = record { kit = kit_of 512; floor = floor; setting
 
 -- a conversation whose head names the fleet: whole, refused at its opening, or its beginning; where a write failed a prefix of that
 abbrev pub EndsAs : Terms → List ℕ → Option (List ℕ) → Option (List ℕ) → KeptChapters → Result Bool TalkFault → Type 0
-EndsAs on bytes before after k (Ok limited) = (text : List ℕ) × (chapters : List (ChapterView Global)) × IsConversation on bytes text chapters × Appends before after text × Adds k.old k.new chapters
+EndsAs on bytes before after k (Ok limited) = (text : List ℕ) × (chapters : List (ChapterView Global)) × IsConversation on bytes text chapters limited × Appends before after text × Adds k.old k.new chapters
 EndsAs on bytes before after k (Err (Opening why)) = (text : List ℕ) × IsRefusedHead on bytes text why × Appends before after text
 EndsAs on bytes before after k (Err Output) = (text : List ℕ) × IsBegun on bytes text × AppendsPrefix before after text
 EndsAs on bytes before after k (Err why) = (text : List ℕ) × IsBegun on bytes text × Appends before after text
@@ -49,7 +49,7 @@ BreaksOff on c bytes before after why = IsMidway why → (text : List ℕ) × Is
 
 -- a conversation whose fleet was to go on from a chapter: whole, or broken off; or the chapter was refused, and nothing was written or kept
 abbrev pub EndsOn : Terms → ChapterView Global → List ℕ → Option (List ℕ) → Option (List ℕ) → KeptChapters → Result Bool ResumeFault → Type 0
-EndsOn on c bytes before after k (Ok limited) = (text : List ℕ) × (chapters : List (ChapterView Global)) × IsResumption on c bytes text chapters × Appends before after text × Adds k.old k.new chapters
+EndsOn on c bytes before after k (Ok limited) = (text : List ℕ) × (chapters : List (ChapterView Global)) × IsResumption on c bytes text chapters limited × Appends before after text × Adds k.old k.new chapters
 EndsOn on c bytes before after k (Err (resume_fault.Talk why)) = BreaksOff on c bytes before after why
 EndsOn on c bytes before after k (Err why) = IsResumeFault on.kit on.floor on.head c why × (after ≡ before) × (k.new ≡ k.old)
 

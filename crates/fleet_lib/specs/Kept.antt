@@ -1,8 +1,8 @@
 -- Why a fleet does not go on from the chapter of a file, and what is printed of it.
 use Rattle.std.specs.Prelude.{◌≡◌, ◌≢◌, ℕ, Bool, true, false, List, ◌++◌, Option, codes, decimal}
 use Rattle.std.specs.declared.alloc.Global.{Global}
-use Rattle.errands_text.specs.Transfer.{AppendsPrefix}
-use Rattle.errands_text.specs.declared.input.InputFault.TheVariants as input_fault
+use Rattle.fleet_text.specs.Transfer.{AppendsPrefix}
+use Rattle.fleet_text.specs.declared.input.InputFault.TheVariants as input_fault
 use Rattle.fleet_explain.specs.declared.explanation.Explanation.{Explanation}
 use Rattle.fleet_explain.specs.declared.explanation.Explanation.TheVariants as explanation
 use Rattle.fleet_explain.specs.Explained.{IsTraceExplained}

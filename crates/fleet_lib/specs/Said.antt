@@ -1,9 +1,9 @@
 -- What the program has to say, and leaves on its two writers.
 use Rattle.std.specs.Prelude.{◌≡◌, ℕ, List, Option, codes, string_bytes}
 use Rattle.std.specs.Io.KnownBytes.{Appends}
-use Rattle.errands_text.specs.Transfer.{AppendsPrefix}
-use Rattle.errands_text.specs.declared.input.InputFault.{InputFault}
-use Rattle.errands_text.specs.declared.input.InputFault.TheVariants as fault
+use Rattle.fleet_text.specs.Transfer.{AppendsPrefix}
+use Rattle.fleet_text.specs.declared.input.InputFault.{InputFault}
+use Rattle.fleet_text.specs.declared.input.InputFault.TheVariants as fault
 use Rattle.fleet_lib.specs.declared.said.Said.{Said}
 
 -- a text for the output, the status, and a text for the error writer

@@ -1,8 +1,8 @@
 -- The result of the word `stats`.
 use Rattle.std.specs.Prelude.{◌≡◌, ℕ, ◌-◌, List, [], ◌++◌, codes, decimal}
 use Rattle.std.specs.List.{slice_index_or}
-use Rattle.errands_text.specs.declared.said.Complaint.TheVariants as complaint
-use Rattle.errands_text.specs.Complaint.{complaint_text}
+use Rattle.fleet_text.specs.declared.said.Complaint.TheVariants as complaint
+use Rattle.fleet_text.specs.Complaint.{complaint_text}
 use Rattle.fleet_stats.specs.declared.fault.StatsFault.{StatsFault}
 use Rattle.fleet_stats.specs.declared.fault.StatsFault.TheVariants as fault
 use Rattle.fleet_stats.specs.declared.answer.StatsForm.{StatsForm}

@@ -1,10 +1,10 @@
 -- What `talk` and `live` complain of, and what they are held on.
 use Rattle.std.specs.Prelude.{◌≡◌, ℕ, List, ◌++◌, Option, codes}
-use Rattle.errands_text.specs.Complaint.{complaint_text, status_of}
-use Rattle.errands_text.specs.Outcome.{IsMapNamed}
-use Rattle.errands_text.specs.Transfer.{AppendsPrefix}
-use Rattle.errands_text.specs.declared.said.Complaint.{Complaint}
-use Rattle.errands_text.specs.declared.said.Complaint.TheVariants as complaint
+use Rattle.fleet_text.specs.Complaint.{complaint_text, status_of}
+use Rattle.fleet_text.specs.Outcome.{IsMapNamed}
+use Rattle.fleet_text.specs.Transfer.{AppendsPrefix}
+use Rattle.fleet_text.specs.declared.said.Complaint.{Complaint}
+use Rattle.fleet_text.specs.declared.said.Complaint.TheVariants as complaint
 use Rattle.fleet_grid.specs.Floor.{Floor, floor_of}
 use Rattle.fleet_map.specs.Grammar.{Map}
 use Rattle.fleet_map.specs.FirstFault.{IsFirstFault}
@@ -15,7 +15,7 @@ use Rattle.fleet_script.specs.declared.script.ScriptFault.TheVariants as script_
 use Rattle.fleet_talk.specs.HeadFile.{IsHeadFault, SaysHead}
 use Rattle.fleet_talk.specs.declared.fault.TalkFault.{TalkFault}
 use Rattle.fleet_talk.specs.declared.fault.TalkFault.TheVariants as fault
-use Rattle.errands_text.specs.declared.input.InputFault.TheVariants as input_fault
+use Rattle.fleet_text.specs.declared.input.InputFault.TheVariants as input_fault
 use Rattle.fleet_lib.specs.Said.{Failed}
 
 -- ---- complaints

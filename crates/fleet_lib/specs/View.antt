@@ -1,7 +1,7 @@
 -- The result of the word `view`.
 use Rattle.std.specs.Prelude.{◌≡◌, ℕ, List, [], ◌++◌, Some, None, codes, decimal}
-use Rattle.errands_text.specs.declared.said.Complaint.TheVariants as complaint
-use Rattle.errands_text.specs.Complaint.{complaint_text}
+use Rattle.fleet_text.specs.declared.said.Complaint.TheVariants as complaint
+use Rattle.fleet_text.specs.Complaint.{complaint_text}
 use Rattle.fleet_view.specs.declared.fault.ViewFault.{ViewFault}
 use Rattle.fleet_view.specs.declared.fault.ViewFault.TheVariants as fault
 use Rattle.fleet_view.specs.View.{IsPage, IsPicture, IsUnshown}

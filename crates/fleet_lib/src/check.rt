@@ -6,11 +6,11 @@ ghost use Rattle.fleet_lib.specs.Said.{said_of};
 ghost use Rattle.fleet_lib.specs.Check.{form_by, IsCheckOutcome, good, refused, outcome_of, goals_outcome, noted, invalid_text};
 
 use crate::said::Said;
-use errands_text::Complaint;
 use fleet_plans::{
     FaultText, GoalFault, Misspelt, PlanAnswer, PlanFault, TextForm, check_form, first_misspelt,
     form_of,
 };
+use fleet_text::Complaint;
 use std::alloc::{AllocError, Global};
 use std::fmt;
 

@@ -5,8 +5,8 @@ ghost use Rattle.fleet_lib.specs.Said.{said_of};
 ghost use Rattle.fleet_lib.specs.Convert.{IsConvertOutcome, fault_text, fault_status, faulty};
 
 use crate::said::Said;
-use errands_text::Complaint;
 use fleet_convert::{ConvertFault, PlanForm, convert};
+use fleet_text::Complaint;
 use std::alloc::{AllocError, Global};
 use std::fmt;
 

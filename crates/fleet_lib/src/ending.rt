@@ -7,8 +7,8 @@ ghost use Rattle.fleet_lib.specs.Ended.{TellsEnd, TellsFault, TellsKeptFault, Te
 use crate::kept::{KeptFault, complain_of_kept};
 use crate::said::fail;
 use crate::talk::{TalkTexts, complain, complaint_of};
-use errands_text::{Complaint, InputFault};
 use fleet_talk::{ResumeFault, TalkFault};
+use fleet_text::{Complaint, InputFault};
 use std::alloc::Global;
 use std::io::Write;
 

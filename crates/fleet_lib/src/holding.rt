@@ -3,13 +3,12 @@
 ghost use Rattle.std.specs.Prelude.{◌≡◌, ◌≤◌, IfSome, vec_len};
 ghost use Rattle.std.specs.Io.Buffered.{reader_remaining};
 ghost use Rattle.std.specs.Option.{option_map};
-ghost use Rattle.errands_text.specs.Kit.{kit_laws};
+ghost use Rattle.fleet_text.specs.Kit.{kit_laws};
 ghost use Rattle.fleet_talk.specs.Chapters.{chapter_shown};
 ghost use Rattle.fleet_talk.specs.Heading.{drafted};
 ghost use Rattle.fleet_lib.specs.Ended.{EndsWith, IsEnded, broken_off, file_shown, kept_end, terms_of};
 
 use crate::kept::{KeptFault, KeptText, kept_chapter};
-use errands_text::HookKit;
 use fleet_grid::Grid;
 use fleet_history::Chapter;
 use fleet_hooks::{ArrivalHook, Farewell, Hooks, TieHook};
@@ -17,6 +16,7 @@ use fleet_script::Head;
 use fleet_talk::{
     ChapterSink, Ends, Ground, MOST_ROBOTS, ResumeFault, Settings, TalkFault, converse, resume,
 };
+use fleet_text::HookKit;
 use std::alloc::{Alloc, Global};
 use std::io::{Read, Write};
 

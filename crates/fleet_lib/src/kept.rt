@@ -6,11 +6,11 @@ ghost use Rattle.fleet_trace.specs.Trace.{trace_of};
 ghost use Rattle.fleet_lib.specs.Kept.{ComplainsOfKept, IsKeptFault, IsReasonOf, is_illegal, is_memory, kept_line, reason_text, resume_text};
 
 use crate::said::fail;
-use errands_text::{InputFault, write_whole};
 use fleet_explain::{Explanation, explain_trace};
 use fleet_history::Chapter;
 use fleet_reopen::ReopenFault;
 use fleet_talk::ResumeFault;
+use fleet_text::{InputFault, write_whole};
 use fleet_trace::{TraceFault, read_trace};
 use std::alloc::{AllocError, Global};
 use std::fmt;

@@ -18,7 +18,6 @@ mod words;
 
 pub use check::{MOST_PLAN_BYTES, answer_check};
 pub use convert::answer_convert;
-pub use errands_text::{InputFault, read_up_to, trace_line, write_whole};
 pub use explain::{
     MOST_SCRIPT_BYTES, answer_explain_map, answer_explain_plan, answer_explain_script,
     answer_explain_trace,
@@ -27,6 +26,7 @@ pub use fleet_history::Chapter;
 pub use fleet_live::{LiveEnds, Pipes};
 pub use fleet_plans::{TextForm, is_plan};
 pub use fleet_talk::{ChapterSink, Ends, Settings, SinkFault};
+pub use fleet_text::{InputFault, read_up_to, trace_line, write_whole};
 pub use kept::{KeptFault, KeptText};
 pub use live::run_live;
 pub use names::{NamesFault, last_chapter};

@@ -3,7 +3,7 @@
 ghost use Rattle.std.specs.Prelude.{◌≡◌};
 ghost use Rattle.fleet_lib.specs.Said.{Failed, IsTold, said_of};
 
-use errands_text::{InputFault, write_whole};
+use fleet_text::{InputFault, write_whole};
 use std::io::Write;
 
 /// A text for the output, the status, and a text for the error writer.

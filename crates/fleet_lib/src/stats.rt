@@ -6,8 +6,8 @@ ghost use Rattle.fleet_lib.specs.Stats.{IsStatsOutcome, fault_status, fault_text
 
 use crate::said::Said;
 use crate::words::Figures;
-use errands_text::Complaint;
 use fleet_stats::{StatsFault, StatsForm, stats};
+use fleet_text::Complaint;
 use std::alloc::{AllocError, Global};
 
 /// What is asked for.

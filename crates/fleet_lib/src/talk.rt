@@ -11,11 +11,11 @@ use crate::ending::tell_end;
 use crate::holding::hold;
 use crate::kept::KeptText;
 use crate::said::fail;
-use errands_text::{Complaint, InputFault, write_whole};
 use fleet_grid::Grid;
 use fleet_map::{MapFault, read_map};
 use fleet_script::{Head, ScriptFault};
 use fleet_talk::{ChapterSink, Ends, Settings, TalkFault, read_head};
+use fleet_text::{Complaint, InputFault, write_whole};
 use std::alloc::{Alloc, AllocError, Global};
 use std::io::{Read, Write};
 

@@ -7,7 +7,7 @@ ghost use Rattle.fleet_lib.specs.View.{IsShown, IsViewOutcome, fault_text, fault
 
 use crate::said::Said;
 use crate::words::Shown;
-use errands_text::Complaint;
+use fleet_text::Complaint;
 use fleet_view::{ViewFault, view_page, view_picture};
 use std::alloc::{AllocError, Global};
 use std::fmt;

@@ -5,7 +5,7 @@ use Rattle.fleet_core.specs.OpeningFaults.{IsRefused}
 use Rattle.fleet_core.specs.declared.faults.OpenFault.{OpenFault}
 use Rattle.fleet_core.specs.declared.faults.OpenFault.TheVariants as fault
 use Rattle.fleet_script.specs.Script.{Draft}
-use Rattle.errands_text.specs.Kit.{KitLaws}
+use Rattle.fleet_text.specs.Kit.{KitLaws}
 use Rattle.fleet_talk.specs.Conversation.{clients_in, laws_in, limits_in}
 use Rattle.live_parts.specs.declared.stop.Stop.{Stop}
 use Rattle.live_parts.specs.declared.stop.Stop.TheVariants.{Quit, Limit, Input, Output, Sink, NoMemory}

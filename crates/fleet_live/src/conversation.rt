@@ -3,7 +3,8 @@
 use crate::voice::Voice;
 use fleet_book::Order;
 use fleet_office::{Guest, OfficeName};
-use live_parts::{Rights, number_on, post_in, post_text};
+use fleet_text::{no_client_line, post_text};
+use live_parts::{Rights, number_on, post_in};
 use std::alloc::{AllocError, Global};
 use std::mem;
 use std::sync::atomic::{AtomicU64, Ordering};
@@ -61,7 +62,7 @@ impl<N: OfficeName<Global>> Conversation<N> {
         let posted = post_in(guests, client, order);
         let text = match posted {
             Some(posted) => post_text(alloc, client, number_on(&self.taken, client, posted))?,
-            None => format!(in alloc; "no-client {client}\n")?,
+            None => no_client_line(alloc, client)?,
         };
         self.voice.say(rt, mark, text.as_str())?;
         mem::drop(held);

@@ -16,7 +16,8 @@ use fleet_history::Chapter;
 use fleet_lanes::Client;
 use fleet_office::{ConcludeFault, Final, Guest, Home, Office, OfficeName, Ticker, clients_of};
 use fleet_talk::ChapterSink;
-use live_parts::{Archive, Stop, notice_text};
+use fleet_text::notice_line;
+use live_parts::{Archive, Stop};
 use std::alloc::{Alloc, AllocError, Global};
 use std::mem;
 use std::sync::{Arc, Wait};
@@ -123,7 +124,7 @@ fn tell_notice<R: Alloc<A = Global> + Wait>(
     client: u32,
     notice: Notice,
 ) -> Result<(), AllocError> {
-    let text = notice_text(rt.alloc(), client, notice)?;
+    let text = notice_line(rt.alloc(), client, notice)?;
     voice.say(rt, None, text.as_str())
 }
 

@@ -3,10 +3,13 @@
 use crate::bell::Wish;
 use crate::keeper::{Keeper, Turned};
 use crate::stage::{Round, Work};
-use fleet_core::{ChapterFault, ShutFault};
+use fleet_core::{ChapterFault, ShutFault, TickFault};
 use fleet_office::OfficeName;
-use fleet_talk::{ChapterSink, open_text};
-use live_parts::{Stop, Wanted, look_text, shut_text, tick_text};
+use fleet_talk::ChapterSink;
+use fleet_text::{
+    chapter_line, chapter_refused_line, open_text, shut_text, tick_line, tick_refused_line,
+};
+use live_parts::{Stop, Wanted, look_text};
 use std::alloc::{Alloc, AllocError, Global};
 use std::sync::Wait;
 
@@ -35,17 +38,17 @@ impl<N: OfficeName<Global>, S: ChapterSink> Keeper<'_, N, S> {
             match self.turn(rt, round, work, !is_last)? {
                 Turned::Made => {}
                 Turned::ClockSpent => {
-                    return Ok(String::from_str(alloc, "tick-refused 1 clock-spent\n")?);
+                    return Ok(tick_refused_line(alloc, TickFault::ClockSpent)?);
                 }
                 Turned::ChapterFull => {
-                    return Ok(String::from_str(alloc, "tick-refused 2 chapter-full\n")?);
+                    return Ok(tick_refused_line(alloc, TickFault::ChapterFull)?);
                 }
             }
             if is_last {
                 break;
             }
         }
-        Ok(tick_text(alloc, &work.made)?)
+        Ok(tick_line(alloc, work.made.tick(), work.made.placement())?)
     }
 
     /// Hands out the chapter and keeps it. The result is the answer's line.
@@ -58,7 +61,7 @@ impl<N: OfficeName<Global>, S: ChapterSink> Keeper<'_, N, S> {
         let chapter = match self.office.next_chapter(rt) {
             Ok(chapter) => chapter,
             Err(ChapterFault::BookSpent) => {
-                return Ok(String::from_str(alloc, "chapter-refused 1 book-spent\n")?);
+                return Ok(String::from_str(alloc, chapter_refused_line())?);
             }
             Err(ChapterFault::NoMemory) => return Err(Stop::NoMemory),
         };
@@ -67,7 +70,7 @@ impl<N: OfficeName<Global>, S: ChapterSink> Keeper<'_, N, S> {
             return Err(Stop::NoMemory);
         }
         self.stage.keep_chapters(rt, &mut work.chapters)?;
-        Ok(format!(in alloc; "chapter {number} entries {entries}\n")?)
+        Ok(chapter_line(alloc, number, entries)?)
     }
 
     /// Shuts a robot, in the next chapter where this one is full. The result is the answer's line.

@@ -6,6 +6,7 @@ use crate::inbox::Inbox;
 use fleet_book::Order;
 use fleet_office::OfficeName;
 use fleet_talk::{Line, LineFault, MOST_LINE, line_of, read_line};
+use fleet_text::{bad_line, no_client_line};
 use live_parts::{Demand, Stop, Wanted, demand_of};
 use std::alloc::{AllocError, Global};
 use std::io::{BufReader, Read};
@@ -104,7 +105,7 @@ impl<'a, N: OfficeName<Global>> Hearing<'a, N> {
         if self.here.speaks_for(rt, client) {
             return self.ask(rt, alloc, mark, Wanted::Open(client));
         }
-        let text = format!(in alloc; "no-client {client}\n")?;
+        let text = no_client_line(alloc, client)?;
         self.here.voice.say(rt, mark, text.as_str())
     }
 
@@ -122,8 +123,7 @@ impl<'a, N: OfficeName<Global>> Hearing<'a, N> {
                 self.here.voice.say(rt, line.mark, text)?;
             }
             Demand::Bad => {
-                let number = line.number;
-                let text = format!(in alloc; "bad-line {number}\n")?;
+                let text = bad_line(alloc, line.number)?;
                 self.here.voice.say(rt, line.mark, text.as_str())?;
             }
         }

@@ -9,7 +9,8 @@ use crate::stage::{Round, Stage, Work};
 use fleet_core::ChapterFault;
 use fleet_office::{Office, OfficeName, TurnCause};
 use fleet_talk::ChapterSink;
-use live_parts::{Stop, tick_text};
+use fleet_text::tick_line;
+use live_parts::Stop;
 use std::alloc::{Alloc, AllocError, Global};
 use std::sync::Wait;
 
@@ -76,7 +77,7 @@ impl<N: OfficeName<Global>, S: ChapterSink> Keeper<'_, N, S> {
     ) -> Result<(), AllocError> {
         for one in &self.stage.conversations {
             if one.is_watching() {
-                let text = tick_text(rt.alloc(), &work.made)?;
+                let text = tick_line(rt.alloc(), work.made.tick(), work.made.placement())?;
                 if !self.stage.paced {
                     one.voice.wait_for_room(rt);
                 }
@@ -206,7 +207,8 @@ impl<N: OfficeName<Global>, S: ChapterSink> Keeper<'_, N, S> {
             return Ok(());
         };
         let (waits, queues) = (self.office.waits(rt), self.office.queues(rt));
-        let figures = self.stage.figures(rt, round.all, waits, queues);
+        let bytes = self.office.kept_bytes(rt);
+        let figures = self.stage.figures(rt, round.all, waits, queues, bytes);
         let text = figures.text(rt.alloc())?;
         voice.say_alone(rt, text.as_str())
     }

@@ -1,7 +1,7 @@
 //! A fleet in real time, as a whole.
 
 ghost use Rattle.std.specs.Prelude.{◌≡◌, ◌≤◌, ◌↔◌, ◌⊎◌, ℕ, List, Err, IfErr, Some, length, vec_len};
-ghost use Rattle.errands_text.specs.Kit.{kit_laws};
+ghost use Rattle.fleet_text.specs.Kit.{kit_laws};
 ghost use Rattle.fleet_core.specs.Hooks.{laws_of};
 ghost use Rattle.fleet_core.specs.OpeningFaults.{IsNamed as IsNamedFault, IsRefused};
 ghost use Rattle.fleet_office.specs.Views.{AreOn, IsNamed, cores, world_at};

@@ -1,7 +1,7 @@
 //! A fleet in real time that goes on from a chapter that was kept.
 
 ghost use Rattle.std.specs.Prelude.{◌≡◌, ◌≤◌, IfOk, IfErr, OnOk, length, map, vec_len};
-ghost use Rattle.errands_text.specs.Kit.{kit_laws};
+ghost use Rattle.fleet_text.specs.Kit.{kit_laws};
 ghost use Rattle.fleet_history.specs.History.{clients};
 ghost use Rattle.fleet_office.specs.Since.{IsUnused};
 ghost use Rattle.fleet_office.specs.Views.{IsNamed};

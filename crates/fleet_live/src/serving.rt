@@ -213,19 +213,15 @@ pub(crate) fn serve<
         figures,
         sink,
     } = ends;
-    let LiveSettings {
-        watch,
-        tickers,
-        keep_every,
-        ..
-    } = site.settings;
+    let settings = &site.settings;
     office.keep(rt, kept_bytes(site.cells));
     let mut stage = stage_of(rt, clients, pipes.len(), &site, sink)?;
     stage.before = office.queues(rt).total;
     start_figures(rt, &mut stage, figures)?;
-    start_chapters(rt, &stage, keep_every)?;
-    let writer = start_all(rt, &stage, watch, (input, output), pipes, counts)?;
-    let two = stage.paced && tickers > 1;
+    start_chapters(rt, &stage, settings.keep_every)?;
+    let talk = (input, output);
+    let writer = start_all(rt, &stage, settings.watch, talk, pipes, counts)?;
+    let two = stage.paced && settings.tickers > 1;
     let (tickers, stop) = work_all(rt, office, &stage, ticker, two)?;
     Ok(Left {
         stage,

@@ -123,13 +123,14 @@ impl<N: OfficeName<Global>, S: ChapterSink> Stage<N, S> {
         self.waiting.store(after as u64, Ordering::SeqCst);
     }
 
-    /// What a fleet did and how it stands, with these counts, waits and queues.
+    /// What a fleet did and how it stands, with these counts, waits, queues and bytes of kept fields.
     pub(crate) fn figures<R: Wait>(
         &self,
         rt: &R,
         tally: Tally,
         waits: WaitReport,
         queues: QueueReport,
+        field_bytes: u64,
     ) -> Figures {
         let mut notices = Notices::NONE;
         for one in &self.conversations {
@@ -143,6 +144,7 @@ impl<N: OfficeName<Global>, S: ChapterSink> Stage<N, S> {
             before: self.before,
             kept: self.kept.load(Ordering::SeqCst),
             waiting: self.waiting.load(Ordering::SeqCst),
+            field_bytes,
         }
     }
 

@@ -1,8 +1,8 @@
 //! The text of a conversation, shared by the threads that add to it and the thread that writes it.
 
 use crate::bell::Bell;
-use errands_text::write_whole;
 use fleet_office::{Guest, OfficeName};
+use fleet_text::write_whole;
 use live_parts::{MOST_TEXT, Notices, Outbox, tell_each};
 use std::alloc::{AllocError, Global};
 use std::io::Write;

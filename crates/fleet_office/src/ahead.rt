@@ -42,7 +42,7 @@ impl<N: OfficeName<A>, A: Allocator + Copy> Office<N, A> {
 }
 
 impl<N: OfficeName<A>, A: Allocator + Copy + Send + Sync> HallState<N, A> {
-    /// Searches the fields of the robots' next errands side by side.
+    /// Searches the fields of the robots' next errands side by side, where they do not grow.
     pub fn search_ahead<R: Threads + Sync>(&mut self, rt: &R) -> Result<(), AllocError>
         ensures { self.new ≡ self.old }
     {
@@ -51,7 +51,7 @@ impl<N: OfficeName<A>, A: Allocator + Copy + Send + Sync> HallState<N, A> {
 }
 
 impl<N: OfficeName<A>, A: Allocator + Copy + Send + Sync> Hall<N, A> {
-    /// Searches the fields of the robots' next errands side by side.
+    /// Searches the fields of the robots' next errands side by side, where they do not grow.
     pub fn search_ahead<R: Threads + Sync>(&mut self, rt: &R) -> Result<(), AllocError>
         requires { 0 ≤ self.old.state.total }
         ensures { self.new.state ≡ self.old.state }
@@ -62,8 +62,9 @@ impl<N: OfficeName<A>, A: Allocator + Copy + Send + Sync> Hall<N, A> {
 
 impl<N: OfficeName<A>, A: Allocator + Copy + Send + Sync> Office<N, A> {
     /// Searches the fields of the robots' next errands side by side, in as many threads as there are processors, and
-    /// keeps as many as fit: a later turn takes them from there. They show in nothing but the time and the memory that
-    /// a turn needs. `AllocError` if memory runs out; nothing has changed then.
+    /// keeps as many as fit: a later turn takes them from there. Goals that no robot had lately are left out, since their fields
+    /// grow. They show in nothing but the time and the memory that a turn needs. `AllocError` if memory runs out; nothing has
+    /// changed then.
     ///
     /// A ticker calls it after a turn, while there is time until the next: it holds the lock meanwhile. Clients wait for no lock.
     pub fn search_ahead<R: Threads + Sync + Wait>(&self, rt: &R) -> Result<(), AllocError>

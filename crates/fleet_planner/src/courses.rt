@@ -96,6 +96,13 @@ impl<A: Allocator + Copy> Courses<A> {
         })
     }
 
+    /// Whether a robot that now got this goal would share a whole field that no robot has yet: robots go there often, or the field
+    /// is kept.
+    pub(crate) fn will_share(&self, cache: &FieldCache<A>, goal: u32) -> bool {
+        let is_at_hand = self.started.is_recent(goal) || cache.has(goal);
+        is_at_hand && !self.shared.has(goal)
+    }
+
     /// Gives a robot a goal, which is a floor cell, in place of the goal that it had. The robots are on these cells.
     pub fn aim<B: Allocator + Copy>(
         &mut self,

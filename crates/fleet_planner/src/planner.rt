@@ -186,7 +186,8 @@ impl<A: Allocator + Copy> Planner<A> {
 }
 
 impl<A: Allocator + Copy + Send + Sync> Planner<A> {
-    /// Searches the fields of the robots' next goals side by side, as many as fit among those that are kept.
+    /// Searches the fields of the robots' next goals side by side, as many as fit among those that are kept. A goal that no robot got
+    /// lately is left out: its field grows.
     pub fn search_ahead(
         &mut self,
         rt: &(impl Threads + Sync),
@@ -201,7 +202,7 @@ impl<A: Allocator + Copy + Send + Sync> Planner<A> {
         ensures keeps { Keeps grid.now self.new.kept }
         ensures refused { OnErr result (self.new ≡ self.old) }
     {
-        let _have_all_place = search_goals(rt, alloc, grid, state, &mut self.cache)?;
+        let _have_all_place = search_goals(rt, alloc, &self.aims, grid, state, &mut self.cache)?;
         Ok(())
     }
 }

@@ -34,6 +34,16 @@ impl<A: Allocator + Copy> RecentGoals<A> {
         Ok(RecentGoals { sets })
     }
 
+    /// Whether a goal is there.
+    pub(crate) fn has(&self, goal: u32) -> bool {
+        let count = self.sets.len();
+        if count == 0 {
+            return false;
+        }
+        let [first, second, third, last] = self.sets[scattered(goal) % count];
+        goal == first || goal == second || goal == third || goal == last
+    }
+
     /// Notes a goal, and returns whether it was there.
     pub(crate) fn note(&mut self, goal: u32) -> bool {
         let count = self.sets.len();

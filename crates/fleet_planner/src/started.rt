@@ -14,6 +14,9 @@ use fleet_grid::Grid;
 use std::alloc::{AllocError, Allocator};
 use std::mem;
 
+/// How many fields that no robot needs any more are kept for their memory: seldom do more robots arrive in one tick.
+const SPARE: usize = 8;
+
 /// Turns that are made ready: for each robot that turns a field of its own, or the turn to a shared field.
 #[derive(Drop)]
 pub(crate) struct Started<A: Allocator + Copy> {
@@ -21,7 +24,7 @@ pub(crate) struct Started<A: Allocator + Copy> {
     pub(crate) shared: Vec<GoalChange, A>,
     /// The robots' own fields, with room for all robots.
     pub(crate) own: Vec<Option<GrowingField<A>>, A>,
-    /// Fields that no robot needs any more, with room for all robots.
+    /// Fields that no robot needs any more, whose memory the next ones take.
     spare: Vec<GrowingField<A>, A>,
     recent: RecentGoals<A>,
 }
@@ -59,7 +62,7 @@ impl<A: Allocator + Copy> Started<A> {
     {
         let shared = Vec::with_capacity(alloc, robots)?;
         let own = Vec::with_capacity(alloc, robots)?;
-        let spare = Vec::with_capacity(alloc, robots)?;
+        let spare = Vec::with_capacity(alloc, robots.min(SPARE))?;
         let recent = RecentGoals::new(alloc, cells)?;
         Ok(Started {
             shared,
@@ -67,6 +70,11 @@ impl<A: Allocator + Copy> Started<A> {
             spare,
             recent,
         })
+    }
+
+    /// Whether some robot got this goal lately.
+    pub(crate) fn is_recent(&self, goal: u32) -> bool {
+        self.recent.has(goal)
     }
 
     /// A field to a goal that grows toward a cell.

@@ -10,3 +10,4 @@ mod Givings
 mod Follows
 pub mod Pieces
 mod Turns
+pub mod Grammar

@@ -7,6 +7,7 @@ pub mod Places
 pub mod Tracks
 pub mod Shown
 pub mod Text
+pub mod Grammar
 pub mod Told
 pub mod Turning
 pub mod Runners

@@ -1,12 +1,24 @@
 //! Laws of valid plans.
 
-ghost use Rattle.std.specs.Prelude.{◌≡◌, ◌<◌, ℕ, List, length};
+ghost use Rattle.std.specs.Prelude.{◌≡◌, ◌<◌, ℕ, List, [], Ok, length};
 ghost use Rattle.fleet_grid.specs.Floor.{Floor};
 ghost use Rattle.fleet_grid.specs.Step.{IsPlacement};
+ghost use Rattle.fleet_plans.specs.Grammar.{IsHead, ArePlaces, AreTracks};
+ghost use Rattle.fleet_plans.specs.Head.{Head, Opened, blank_head, head_of};
+ghost use Rattle.fleet_plans.specs.Places.{places_of};
+ghost use Rattle.fleet_plans.specs.Tracks.{tracks_of};
 ghost use Rattle.fleet_plans.specs.Valid.{place_at, IsValidPlan};
 
 /// At each time of a valid plan there are as many robots as at its start, on distinct floor cells.
 pub fn robots_stay_apart()
     ensures placed { (m : Floor) (places : List (List ℕ)) (t : ℕ) → IsValidPlan m places → t < length places → IsPlacement m (place_at places t) }
     ensures one_fleet { (m : Floor) (places : List (List ℕ)) (t : ℕ) → IsValidPlan m places → t < length places → length (place_at places t) ≡ length (place_at places 0) }
+{}
+
+/// What is read of a text with a head is what its lines say: the lines before `solution=` are the head; those after it are a line
+/// for each time, or one for each robot.
+pub fn a_text_is_by_its_lines()
+    ensures head { (w h : ℕ) (lines : List (List ℕ)) (o : Opened) → head_of w h blank_head 1 lines ≡ Ok o → IsHead w h lines o }
+    ensures places { (w h : ℕ) (head : Head) (number : ℕ) (lines places : List (List ℕ)) → places_of w h head [] number lines ≡ Ok places → ArePlaces w h head lines places }
+    ensures tracks { (robots number : ℕ) (lines tracks : List (List ℕ)) → tracks_of robots [] number lines ≡ Ok tracks → AreTracks robots lines tracks }
 {}

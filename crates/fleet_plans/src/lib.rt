@@ -38,7 +38,7 @@ pub use form::{TextForm, form_of, is_plan};
 pub use goals::GoalFault;
 pub use judge::PlanJudge;
 pub use judging::PlanFault;
-pub use law::robots_stay_apart;
+pub use law::{a_text_is_by_its_lines, robots_stay_apart};
 pub use misspelt::{KnownKey, Misspelt, first_misspelt};
 pub use placements::Placements;
 pub use report::PlanReport;

@@ -95,11 +95,11 @@ robots_text style s =
     ++ (whole_line style (codes "") (codes "moves") s.moves
     ++ whole_line style (codes "") (codes "stands") s.stands)))
 
-abbrev pub errands_text : Style → Summary → List ℕ
-errands_text style s = done_text style s ++ (spread_text style (codes "service") s.service ++ (spread_text style (codes "wait") s.wait ++ ways_text style s))
+abbrev pub fleet_text : Style → Summary → List ℕ
+fleet_text style s = done_text style s ++ (spread_text style (codes "service") s.service ++ (spread_text style (codes "wait") s.wait ++ ways_text style s))
 
 abbrev pub figures_text : Style → Summary → List ℕ → List ℕ
-figures_text style s kinds = run_text style s ++ (orders_text style kinds ++ (refusals_below style kinds 10 ++ (errands_text style s ++ robots_text style s)))
+figures_text style s kinds = run_text style s ++ (orders_text style kinds ++ (refusals_below style kinds 10 ++ (fleet_text style s ++ robots_text style s)))
 
 -- ---- the arrivals in windows
 

@@ -2,7 +2,7 @@
 
 ghost use Rattle.std.specs.Prelude.{◌≡◌, ◌++◌, decimal, OnOk, IfOk, string_bytes};
 ghost use Rattle.fleet_book.specs.Refusals.{refusal_of};
-ghost use Rattle.fleet_stats.specs.Text.{run_text, orders_text, refusal_line, refusals_below, done_text, spread_text, ways_text, robots_text, errands_text, figures_text, blank_before, comma_before, commas_from, summary_text};
+ghost use Rattle.fleet_stats.specs.Text.{run_text, orders_text, refusal_line, refusals_below, done_text, spread_text, ways_text, robots_text, fleet_text, figures_text, blank_before, comma_before, commas_from, summary_text};
 
 use crate::figures::{Summary, count_of, refusals_of};
 use crate::lines::{Style, write_counted, write_option, write_ratio, write_whole};
@@ -97,7 +97,7 @@ fn write_robots(out: &mut String, style: Style, s: &Summary) -> Result<(), Alloc
 
 /// The errands that were done.
 fn write_errands(out: &mut String, style: Style, s: &Summary) -> Result<(), AllocError>
-    ensures { OnOk result (string_bytes out.new ≡ string_bytes out.old ++ errands_text style s.now) }
+    ensures { OnOk result (string_bytes out.new ≡ string_bytes out.old ++ fleet_text style s.now) }
 {
     write_done(out, style, s)?;
     write_spread(out, style, "service", &s.service)?;

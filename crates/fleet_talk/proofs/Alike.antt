@@ -1,5 +1,6 @@
 -- A script in form, held as a conversation, is a run of it.
-use Rattle.std.proofs.Common.{◌≡◌, ◌∙◌, ℕ, true, false, List, [], ◌++◌, map, Option, Some, None, Ok, IfSome, is_some, unwrap_or, refl, sym, ap, subst}
+use Rattle.std.proofs.Common.{◌≡◌, ◌∙◌, ℕ, Bool, true, false, List, [], ◌++◌, map, Option, Some, None, Ok, IfSome, is_some, unwrap_or, refl, sym, ap, subst}
+use Rattle.std.specs.List.{list_any}
 use Rattle.std.specs.declared.alloc.Global.{Global}
 use Rattle.std.proofs.lemmas.Option.{same_Some}
 use Rattle.fleet_grid.specs.Floor.{Floor}
@@ -8,13 +9,13 @@ use Rattle.fleet_core.specs.Hooks.{HookLaws}
 use Rattle.fleet_script.specs.Script.{Draft, Plan, blank_draft, limits_of, script_of}
 use Rattle.fleet_world.specs.declared.reply.Reply.{Reply}
 use Rattle.fleet_world.specs.Run.{State, Run, opened_state}
-use Rattle.errands_text.specs.Kit.{KitLaws, chosen_laws}
-use Rattle.errands_text.specs.Output.{run_text}
-use Rattle.fleet_world.specs.Talk.{Talk}
+use Rattle.fleet_text.specs.Kit.{KitLaws, chosen_laws}
+use Rattle.fleet_text.specs.Output.{is_limit_met, run_text}
 use Rattle.fleet_talk.specs.Act.{Act, play}
 use Rattle.fleet_talk.specs.Acts.{Talks}
 use Rattle.fleet_talk.specs.Chapters.{ChapterView}
 use Rattle.fleet_talk.specs.Conversation.{IsConversation, unopened, talked, MayOpen, NamesLimits, plain_terms, head_in, opened as opened_fleet, acts_of, clients_in, limits_in, laws_in}
+use Rattle.fleet_talk.specs.Fleet.{Fleet}
 use Rattle.fleet_talk.specs.Heard.{AreShort, Head, Opening, all_of, heard_lines}
 use Rattle.fleet_talk.proofs.Runs.{said-run}
 use Rattle.fleet_talk.proofs.Scripts.{IsOf, Heads, unopened as silent, opened, heard_script}
@@ -34,43 +35,44 @@ limits-same d named =
     rw (a, b, c, e) refl
 
 -- what `errands run` prints of a run of a script's events
-abbrev pub IsRunOf : Floor → Plan → List ℕ → List ℕ → ℕ → Limits → HookLaws → Type 0
-IsRunOf m plan text starts clients limits laws =
-    (replies : List Reply) × (last : State Global) × Run (opened_state m starts clients limits laws) plan.events replies last × (text ≡ run_text plan.events replies last.world.history.entries)
+abbrev pub IsRunOf : Floor → Plan → List ℕ → Bool → List ℕ → ℕ → Limits → HookLaws → Type 0
+IsRunOf m plan text met starts clients limits laws =
+    (replies : List Reply) × (last : State Global) × Run (opened_state m starts clients limits laws) plan.events replies last × (met ≡ list_any is_limit_met replies) × (text ≡ run_text plan.events replies last.world.history.entries)
 
 -- a script without events says nothing
-silent_run : (m : Floor) (plan : Plan) (text : List ℕ) (laws : HookLaws) → plan.events ≡ [] → text ≡ [] → IsRunOf m plan text plan.starts plan.clients plan.limits laws
-silent_run m plan text laws none is = rw none ([], opened_state m plan.starts plan.clients plan.limits laws, refl, is)
+silent_run : (m : Floor) (plan : Plan) (text : List ℕ) (met : Bool) (laws : HookLaws) → plan.events ≡ [] → text ≡ [] → met ≡ false → IsRunOf m plan text met plan.starts plan.clients plan.limits laws
+silent_run m plan text met laws none is unmet = rw none ([], opened_state m plan.starts plan.clients plan.limits laws, refl, unmet, is)
 
 laws-same : (kit : KitLaws) (d : Draft) (plan : Plan) (starts : List ℕ) → starts ≡ plan.starts → plan.south ≡ unwrap_or d.south false → laws_in kit d starts ≡ chosen_laws kit plan
 laws-same kit d plan starts same south = rw (same, south) refl
 
-talked_run : (kit : KitLaws) (m : Floor) (plan : Plan) (text : List ℕ) (o : Opening) (last : Talk Global) → o.starts ≡ plan.starts → IsOf o.head plan → NamesLimits o.head → MayOpen (plain_terms kit m) o
+talked_run : (kit : KitLaws) (m : Floor) (plan : Plan) (text : List ℕ) (o : Opening) (last : Fleet Global) → o.starts ≡ plan.starts → IsOf o.head plan → NamesLimits o.head → MayOpen (plain_terms kit m) o
     → acts_of (plain_terms kit m) o ≡ map (play None) plan.events → Talks false (opened_fleet (plain_terms kit m) o) (acts_of (plain_terms kit m) o) text last
-    → IsRunOf m plan text plan.starts plan.clients plan.limits (chosen_laws kit plan)
+    → IsRunOf m plan text last.met plan.starts plan.clients plan.limits (chosen_laws kit plan)
 talked_run kit m plan text o last starts of named may acts talks =
     let d = o.head in
     let laws = laws_in kit d o.starts in
     let all = subst (λ (l : List Act). Talks false (opened_fleet {A = Global} (plain_terms kit m) o) l text last) acts talks in
-    let (replies, end, run, same, is) = said-run m o.starts (clients_in d) (limits_in d) laws plan.events text last may.0 may.1 all in
-    in-terms (IsRunOf m plan text) o.starts plan.starts (clients_in d) plan.clients (limits_in d) plan.limits laws (chosen_laws kit plan)
-    starts (sym of.clients) (limits-same d named ∙ sym of.limits) (laws-same kit d plan o.starts starts of.south) (replies, end, run, is)
+    let (replies, end, run, same, met, is) = said-run m o.starts (clients_in d) (limits_in d) laws plan.events text last may.0 may.1 all in
+    in-terms (IsRunOf m plan text last.met) o.starts plan.starts (clients_in d) plan.clients (limits_in d) plan.limits laws (chosen_laws kit plan)
+    starts (sym of.clients) (limits-same d named ∙ sym of.limits) (laws-same kit d plan o.starts starts of.south) (replies, end, run, met, is)
 
-pub script-run : (kit : KitLaws) (m : Floor) (bytes text : List ℕ) (chapters : List (ChapterView Global)) (plan : Plan) → script_of bytes ≡ Ok plan → AreShort bytes → IfSome (head_in (plain_terms kit m) bytes).opening (λ o. NamesLimits o.head)
-    → IsConversation (plain_terms kit m) bytes text chapters → IsRunOf m plan text plan.starts plan.clients plan.limits (chosen_laws kit plan)
-script-run kit m bytes text chapters plan read short named conv = by (heard_script false bytes plan short read) conv
+pub script-run : (kit : KitLaws) (m : Floor) (bytes text : List ℕ) (chapters : List (ChapterView Global)) (met : Bool) (plan : Plan) → script_of bytes ≡ Ok plan → AreShort bytes → IfSome (head_in (plain_terms kit m) bytes).opening (λ o. NamesLimits o.head)
+    → IsConversation (plain_terms kit m) bytes text chapters met → IsRunOf m plan text met plan.starts plan.clients plan.limits (chosen_laws kit plan)
+script-run kit m bytes text chapters met plan read short named conv = by (heard_script false bytes plan short read) conv
   where
     at_none : {X : Type 0} (o : X) (k : Option X) → k ≡ None → k ≡ Some o → ⊥
     at_none o k a b = let bad : None ≡ Some o = sym a ∙ b in absurd cc
 
-    by : Heads false blank_draft 1 (heard_lines bytes) plan → IsConversation (plain_terms kit m) bytes text chapters → IsRunOf m plan text plan.starts plan.clients plan.limits (chosen_laws kit plan)
-    by (silent is none) (unopened at said kept) = silent_run m plan text (chosen_laws kit plan) none (said ∙ ap (λ (h : Head). all_of h.said) is)
-    by (silent is none) (talked o at may answers last talks said kept) = absurd (at_none o (head_in (plain_terms kit m) bytes).opening (ap (λ (h : Head). h.opening) is) at)
-    by (opened o is starts of acts) (unopened at said kept) = absurd (at_none o (head_in (plain_terms kit m) bytes).opening at (ap (λ (h : Head). h.opening) is))
-    by (opened o is starts of acts) (talked o2 at may answers last talks said kept) =
+    by : Heads false blank_draft 1 (heard_lines bytes) plan → IsConversation (plain_terms kit m) bytes text chapters met → IsRunOf m plan text met plan.starts plan.clients plan.limits (chosen_laws kit plan)
+    by (silent is none) (unopened at said kept unmet) = silent_run m plan text met (chosen_laws kit plan) none (said ∙ ap (λ (h : Head). all_of h.said) is) unmet
+    by (silent is none) (talked o at may answers last talks said kept limited) = absurd (at_none o (head_in (plain_terms kit m) bytes).opening (ap (λ (h : Head). h.opening) is) at)
+    by (opened o is starts of acts) (unopened at said kept unmet) = absurd (at_none o (head_in (plain_terms kit m) bytes).opening at (ap (λ (h : Head). h.opening) is))
+    by (opened o is starts of acts) (talked o2 at may answers last talks said kept limited) =
         let same : o2 ≡ o = same_Some o2 o (sym at ∙ ap (λ (h : Head). h.opening) is) in
         let names = subst (λ (k : Option Opening). IfSome k (λ o. NamesLimits o.head)) (ap (λ (h : Head). h.opening) is) named in
         let told : text ≡ answers = said ∙ ap (λ (h : Head). all_of h.said ++ answers) is in
         let may2 = subst (λ (x : Opening). MayOpen (plain_terms kit m) x) same may in
         let talks2 = subst (λ (x : Opening). Talks false (opened_fleet {A = Global} (plain_terms kit m) x) (acts_of (plain_terms kit m) x) answers last) same talks in
-        subst (λ (t : List ℕ). IsRunOf m plan t plan.starts plan.clients plan.limits (chosen_laws kit plan)) (sym told) (talked_run kit m plan answers o last starts of names may2 acts talks2)
+        subst (λ (b : Bool). IsRunOf m plan text b plan.starts plan.clients plan.limits (chosen_laws kit plan)) (sym limited)
+        (subst (λ (t : List ℕ). IsRunOf m plan t last.met plan.starts plan.clients plan.limits (chosen_laws kit plan)) (sym told) (talked_run kit m plan answers o last starts of names may2 acts talks2))

@@ -1,12 +1,12 @@
 -- Acts up to a fault.
 use Rattle.std.proofs.Common.{◌≡◌, ◌∙◌, ℕ, zero, suc, ◌+◌, ◌-◌, ◌≤◌, ◌<◌, Bool, List, [], ◌∷◌, ◌++◌, Option, Result, Ok, Err, refl, sym, ap, subst, arith, append_assoc, append-nil}
 use Rattle.std.specs.Prelude.{replicate, OnErr, IfErr}
-use Rattle.fleet_world.specs.Talk.{Talk}
 use Rattle.fleet_talk.specs.declared.fault.TalkFault.{TalkFault}
 use Rattle.fleet_talk.specs.declared.pen.Pen.{Pen}
 use Rattle.fleet_talk.specs.Act.{Act}
 use Rattle.fleet_talk.specs.Acts.{Does, Talks}
 use Rattle.fleet_talk.specs.Broken.{IsMidway, SaysUntil}
+use Rattle.fleet_talk.specs.Fleet.{Fleet}
 use Rattle.fleet_talk.specs.Said.{IsKept}
 use Rattle.fleet_talk.specs.Says.{Says}
 use Rattle.fleet_talk.specs.Talked.{TalksUntil}
@@ -26,7 +26,7 @@ replicate-split x (suc k) (suc n) h =
 
 module _ {A : Type 0} (fault : TalkFault) (roll : Bool) where
   -- none of these acts was done
-  pub until-none : (s : Talk A) (acts : List Act) (known : Option (List ℕ)) (waited waits : List ℕ) → IsMidway fault → waits ≡ waited → TalksUntil fault roll s acts known known waited waits
+  pub until-none : (s : Fleet A) (acts : List Act) (known : Option (List ℕ)) (waited waits : List ℕ) → IsMidway fault → waits ≡ waited → TalksUntil fault roll s acts known known waited waits
   until-none s acts known waited waits is same = record {
     done = [];
     left = acts;
@@ -38,7 +38,7 @@ module _ {A : Type 0} (fault : TalkFault) (roll : Bool) where
   }
 
   -- some acts were done before
-  pub until-after : (s m : Talk A) (xs ys : List Act) (a b c : Option (List ℕ)) (o p q text : List ℕ) → Talks roll s xs text m → Says a b o p text → TalksUntil fault roll m ys b c p q → TalksUntil fault roll s (xs ++ ys) a c o q
+  pub until-after : (s m : Fleet A) (xs ys : List Act) (a b c : Option (List ℕ)) (o p q text : List ℕ) → Talks roll s xs text m → Says a b o p text → TalksUntil fault roll m ys b c p q → TalksUntil fault roll s (xs ++ ys) a c o q
   until-after s m xs ys a b c o p q text talks says u = record {
     done = xs ++ u.done;
     left = u.left;
@@ -50,7 +50,7 @@ module _ {A : Type 0} (fault : TalkFault) (roll : Bool) where
   }
 
   -- others were to be done after
-  pub until-more : (s : Talk A) (xs ys : List Act) (a b : Option (List ℕ)) (o p : List ℕ) → TalksUntil fault roll s xs a b o p → TalksUntil fault roll s (xs ++ ys) a b o p
+  pub until-more : (s : Fleet A) (xs ys : List Act) (a b : Option (List ℕ)) (o p : List ℕ) → TalksUntil fault roll s xs a b o p → TalksUntil fault roll s (xs ++ ys) a b o p
   until-more s xs ys a b o p u = record {
     done = u.done;
     left = u.left ++ ys;
@@ -62,18 +62,18 @@ module _ {A : Type 0} (fault : TalkFault) (roll : Bool) where
   }
 
   -- acts were done, and what was said of them was not all written
-  pub until-unwritten : (s m : Talk A) (xs ys : List Act) (a c : Option (List ℕ)) (o q text : List ℕ) → Talks roll s xs text m → SaysUntil fault a c o q text → TalksUntil fault roll s (xs ++ ys) a c o q
+  pub until-unwritten : (s m : Fleet A) (xs ys : List Act) (a c : Option (List ℕ)) (o q text : List ℕ) → Talks roll s xs text m → SaysUntil fault a c o q text → TalksUntil fault roll s (xs ++ ys) a c o q
   until-unwritten s m xs ys a c o q text talks says = record { done = xs; left = ys; parts = refl; text = text; last = m; talks = talks; says = says }
 
   -- an act failed that was done this many times before
-  pub until-times : (s m : Talk A) (act : Act) (k n : ℕ) (a b : Option (List ℕ)) (o p q text : List ℕ) → k < n → Talks roll s (replicate k act) text m → Says a b o p text → IsMidway fault → q ≡ p
+  pub until-times : (s m : Fleet A) (act : Act) (k n : ℕ) (a b : Option (List ℕ)) (o p q text : List ℕ) → k < n → Talks roll s (replicate k act) text m → Says a b o p text → IsMidway fault → q ≡ p
       → TalksUntil fault roll s (replicate n act) a b o q
   until-times s m act k n a b o p q text within talks says is same =
       subst (λ (acts : List Act). TalksUntil fault roll s acts a b o q) (sym (replicate-split act k n (omega (arith, within))))
       (until-after s m (replicate k act) (replicate (n - k) act) a b b o p q text talks says (until-none m (replicate (n - k) act) b p q is same))
 
   -- it was done once more, and the write failed
-  pub until-times-written : (s m t : Talk A) (act : Act) (k n : ℕ) (a b c : Option (List ℕ)) (o p x q text more : List ℕ) → k < n → Talks roll s (replicate k act) text m → Says a b o p text → Does roll m act more t → x ≡ p ++ more
+  pub until-times-written : (s m t : Fleet A) (act : Act) (k n : ℕ) (a b c : Option (List ℕ)) (o p x q text more : List ℕ) → k < n → Talks roll s (replicate k act) text m → Says a b o p text → Does roll m act more t → x ≡ p ++ more
       → SaysUntil fault b c x q [] → TalksUntil fault roll s (replicate n act) a c o q
   until-times-written s m t act k n a b c o p x q text more within talks says does added broken =
       subst (λ (acts : List Act). TalksUntil fault roll s acts a c o q) (sym (replicate-split act (k + 1) n (omega (arith, within))))
@@ -81,7 +81,7 @@ module _ {A : Type 0} (fault : TalkFault) (roll : Bool) where
       (until-then fault a b c o p q text more says (until-written fault b c p x q more added broken)))
 
 -- a call that says nothing where it fails
-pub until-kept : {A X : Type 0} (roll : Bool) (r : Result X TalkFault) (s : Talk A) (acts : List Act) (known : Option (List ℕ)) (old new : Pen) → OnErr r (IsKept old new) → IfErr r (λ fault. IsMidway fault)
+pub until-kept : {A X : Type 0} (roll : Bool) (r : Result X TalkFault) (s : Fleet A) (acts : List Act) (known : Option (List ℕ)) (old new : Pen) → OnErr r (IsKept old new) → IfErr r (λ fault. IsMidway fault)
     → IfErr r (λ fault. TalksUntil fault roll s acts known known old.out.items new.out.items)
 until-kept roll (Ok x) s acts known old new kept is = tt
 until-kept roll (Err fault) s acts known old new kept is = until-none fault roll s acts known old.out.items new.out.items is kept.out

@@ -8,7 +8,7 @@ use Rattle.fleet_talk.specs.Act.{is_quit}
 use Rattle.fleet_talk.specs.Ask.{Line, line_in}
 use Rattle.fleet_talk.specs.Heading.{IsOfHead, texts_at}
 use Rattle.fleet_talk.specs.Heads.{AreOfHead, none, good, bad, EndsHead, over, quits, opened, IsHead}
-use Rattle.fleet_talk.specs.Heard.{Head, Opening, head_of, header_texts, opens, with_head_line, with_said}
+use Rattle.fleet_talk.specs.Heard.{Head, head_of, header_texts, opens, with_head_line, with_said}
 use Rattle.fleet_talk.proofs.Hearing.{head-more, head-opens, head-over, said-append}
 
 module _ (settings : Settings) (file : Draft) where

@@ -14,3 +14,4 @@ pub mod Starting
 pub mod Runs
 pub mod Alike
 pub mod Strips
+mod Looks

@@ -1,12 +1,12 @@
 -- The lines of an open fleet, one after another.
 use Rattle.std.proofs.Common.{◌≡◌, ◌∙◌, ℕ, ◌+◌, Bool, true, false, cond, List, [], ◌∷◌, ◌++◌, Option, Some, None, IfSome, refl, sym, ap, subst, append_assoc, append-nil}
-use Rattle.fleet_world.specs.Talk.{Talk}
 use Rattle.fleet_talk.specs.declared.ends.Settings.{Settings}
 use Rattle.fleet_talk.specs.declared.fault.TalkFault.{TalkFault}
 use Rattle.fleet_talk.specs.Act.{Act, acts_from, acts_on, is_quit}
 use Rattle.fleet_talk.specs.Acts.{Talks}
 use Rattle.fleet_talk.specs.Ask.{Line, line_in}
 use Rattle.fleet_talk.specs.Broken.{IsMidway, SaysUntil}
+use Rattle.fleet_talk.specs.Fleet.{Fleet}
 use Rattle.fleet_talk.specs.Heard.{heard_lines, IsNext}
 use Rattle.fleet_talk.specs.Says.{Says}
 use Rattle.fleet_talk.specs.Talked.{Goes, TalksUntil}
@@ -15,10 +15,10 @@ use Rattle.fleet_talk.proofs.Saying.{says-none, says-then, until-then}
 use Rattle.fleet_talk.proofs.Talking.{talks-append}
 
 -- what is said of the lines that were asked of an open fleet
-abbrev pub TalksAll : {A : Type 0} → Settings → Talk A → List Act → Talk A → Option (List ℕ) → Option (List ℕ) → List ℕ → List ℕ → Type 0
+abbrev pub TalksAll : {A : Type 0} → Settings → Fleet A → List Act → Fleet A → Option (List ℕ) → Option (List ℕ) → List ℕ → List ℕ → Type 0
 TalksAll settings s asked last before after waited waits = (text : List ℕ) × Talks settings.roll s asked text last × Says before after waited waits text
 
-module _ {A : Type 0} (settings : Settings) (s : Talk A) where
+module _ {A : Type 0} (settings : Settings) (s : Fleet A) where
   -- what is done at a line and at those that follow
   abbrev from_line : List Act → Line → List Act
   from_line rest l = cond (is_quit l.asked) [] (acts_on settings l ++ rest)
@@ -34,7 +34,7 @@ module _ {A : Type 0} (settings : Settings) (s : Talk A) where
   goes-none first line None before waited = tt
   goes-none first line (Some xs) before waited = record { rest = xs; at = refl; done = []; parts = refl; text = []; talks = (refl, refl); says = says-none before waited }
 
-  module _ (asks : List ℕ → List Act) (known left : Option (List ℕ)) (m : Talk A) (n : ℕ) (line : List ℕ) (before after : Option (List ℕ)) (waited waits : List ℕ)
+  module _ (asks : List ℕ → List Act) (known left : Option (List ℕ)) (m : Fleet A) (n : ℕ) (line : List ℕ) (before after : Option (List ℕ)) (waited waits : List ℕ)
       (h : IfSome known (λ xs. Goes settings s (asks xs) left m n line before after waited waits)) where
     abbrev Going : List ℕ → Type 0
     Going xs = Goes settings s (asks xs) left m n line before after waited waits
@@ -68,7 +68,7 @@ module _ {A : Type 0} (settings : Settings) (s : Talk A) where
         (until-after fault settings.roll s m g.done (acts_on settings l ++ rest) before after after2 waited waits waits2 g.text g.talks g.says (until-more fault settings.roll m (acts_on settings l) rest after after2 waits waits2 u)))
 
     -- the line was answered
-    module _ (l : Line) (at : l ≡ line_in n line) (goes : is_quit l.asked ≡ false) (t : Talk A) (after2 : Option (List ℕ)) (waits2 : List ℕ) (answers : List ℕ) (talks : Talks settings.roll m (acts_on settings l) answers t) (says : Says after after2 waits waits2 answers) where
+    module _ (l : Line) (at : l ≡ line_in n line) (goes : is_quit l.asked ≡ false) (t : Fleet A) (after2 : Option (List ℕ)) (waits2 : List ℕ) (answers : List ℕ) (talks : Talks settings.roll m (acts_on settings l) answers t) (says : Says after after2 waits waits2 answers) where
       abbrev Answered : List ℕ → Type 0
       Answered xs = (rest : List ℕ) × (left ≡ Some rest) × (done : List Act) × (asks xs ≡ done ++ acts_from settings (n + 1) (heard_lines rest)) × (text : List ℕ) × Talks settings.roll s done text t × Says before after2 waited waits2 text
 

@@ -1,5 +1,5 @@
 -- When a chapter is handed out unasked.
-use Rattle.std.proofs.Common.{◌≡◌, ◌∙◌, ℕ, ◌+◌, Bool, true, false, List, [], ◌++◌, length, Option, refl, sym, ap, subst, arith}
+use Rattle.std.proofs.Common.{◌≡◌, ◌∙◌, ℕ, ◌+◌, Bool, true, false, ◌||◌, List, [], ◌++◌, length, Option, refl, sym, ap, subst, arith}
 use Rattle.fleet_book.specs.declared.event.Event.{Event}
 use Rattle.fleet_book.specs.declared.event.Event.TheVariants.{Post, Take, Tick, Give, Collect, Shut}
 use Rattle.fleet_core.specs.declared.faults.TakeFault.TheVariants as take_fault
@@ -8,10 +8,11 @@ use Rattle.fleet_core.specs.declared.faults.ShutFault.TheVariants as shut_fault
 use Rattle.fleet_world.specs.declared.reply.Reply.{Reply}
 use Rattle.fleet_world.specs.declared.reply.Reply.TheVariants.{Posted, LaneFull, Took, LaneEmpty, TakeRefused, Ticked, TickRefused, Gave, NothingPending, OutletFull, Collected, NothingThere, ShutDone, ShutRefused, NoClient}
 use Rattle.fleet_world.specs.Talk.{Talk, TalkStep}
-use Rattle.errands_text.specs.Output.{event_text}
+use Rattle.fleet_text.specs.Output.{event_text, is_limit_met}
 use Rattle.fleet_talk.specs.declared.pen.Pen.{Pen}
 use Rattle.fleet_talk.specs.Act.{play}
 use Rattle.fleet_talk.specs.Acts.{Does, NeedsRoom, Plays, Turns, last_entry, rolls, stays, wants_room}
+use Rattle.fleet_talk.specs.Fleet.{Fleet}
 use Rattle.fleet_talk.specs.Said.{IsAdded}
 use Rattle.fleet_talk.specs.Says.{marked}
 use Rattle.fleet_talk.proofs.Talking.{added-then}
@@ -77,31 +78,31 @@ module _ {A : Type 0} where
   needed false s t e reply st is = is_false is
 
   -- the event was done in the chapter as it was
-  pub plays-here : (roll : Bool) (s t : Talk A) (mark : Option (List ℕ)) (e : Event) (reply : Reply) (old new : Pen) → TalkStep s e reply t → wants_room roll reply ≡ false
-      → IsAdded old new (marked mark (event_text e reply (last_entry t))) → (text : List ℕ) × Does roll s (play mark e) text t × IsAdded old new text
-  plays-here roll s t mark e reply old new step other added =
-      let said = marked mark (event_text e reply (last_entry t)) in (
+  pub plays-here : (roll : Bool) (s t : Fleet A) (mark : Option (List ℕ)) (e : Event) (reply : Reply) (old new : Pen) → TalkStep s.talk e reply t.talk → t.met ≡ (s.met || is_limit_met reply) → wants_room roll reply ≡ false
+      → IsAdded old new (marked mark (event_text e reply (last_entry t.talk))) → (text : List ℕ) × Does roll s (play mark e) text t × IsAdded old new text
+  plays-here roll s t mark e reply old new step met other added =
+      let said = marked mark (event_text e reply (last_entry t.talk)) in (
         said,
-        (s, [], said, stays (λ on needs. absurd (not_needed roll s t e reply step other on needs)) refl refl, record { reply = reply; step = step; said = refl }, refl),
+        (s.talk, [], said, stays (λ on needs. absurd (not_needed roll s.talk t.talk e reply step other on needs)) refl refl, record { reply = reply; step = step; met = met; said = refl }, refl),
         added,
       )
 
   -- the chapter was handed out, and the event was done in the next
-  pub plays-next : (roll : Bool) (s m n t : Talk A) (mark : Option (List ℕ)) (e : Event) (reply : Reply) (first rest : List ℕ) (old mid new : Pen) → TalkStep s e reply m → wants_room roll reply ≡ true
-      → Turns true m mark first n → Plays n mark e rest t → IsAdded old mid first → IsAdded mid new rest → (text : List ℕ) × Does roll s (play mark e) text t × IsAdded old new text
-  plays-next roll s m n t mark e reply first rest old mid new step is turned plays added more =
-      let (on, needs, same) = needed roll s m e reply step is in
+  pub plays-next : (roll : Bool) (s t : Fleet A) (m n : Talk A) (mark : Option (List ℕ)) (e : Event) (reply : Reply) (first rest : List ℕ) (old mid new : Pen) → TalkStep s.talk e reply m → wants_room roll reply ≡ true
+      → Turns true m mark first n → Plays (record { talk = n; met = s.met }) mark e rest t → IsAdded old mid first → IsAdded mid new rest → (text : List ℕ) × Does roll s (play mark e) text t × IsAdded old new text
+  plays-next roll s t m n mark e reply first rest old mid new step is turned plays added more =
+      let (on, needs, same) = needed roll s.talk m e reply step is in
       let (next, said) = subst (λ (x : Talk A). Turns true x mark first n) same turned in
       (first ++ rest, (n, first, rest, rolls on needs next said, plays, refl), added-then old mid new first rest added more)
 
   -- the chapter is the last
-  pub plays-last : (roll : Bool) (s m n : Talk A) (mark : Option (List ℕ)) (e : Event) (reply : Reply) (first : List ℕ) (old mid new : Pen) → TalkStep s e reply m → wants_room roll reply ≡ true
-      → Turns false m mark first n → IsAdded old mid first → IsAdded mid new (marked mark (event_text e reply (last_entry n))) → (text : List ℕ) × Does roll s (play mark e) text n × IsAdded old new text
-  plays-last roll s m n mark e reply first old mid new step is (spent, stayed, none) added more =
-      let (on, needs, same) = needed roll s m e reply step is in
-      let said = marked mark (event_text e reply (last_entry n)) in
-      let last : s.world.number + 1 ≡ s.world.limits.chapters = subst (λ (x : Talk A). x.world.number + 1 ≡ x.world.limits.chapters) same spent in (
+  pub plays-last : (roll : Bool) (s n : Fleet A) (m : Talk A) (mark : Option (List ℕ)) (e : Event) (reply : Reply) (first : List ℕ) (old mid new : Pen) → TalkStep s.talk e reply m → n.met ≡ (s.met || is_limit_met reply) → wants_room roll reply ≡ true
+      → Turns false m mark first n.talk → IsAdded old mid first → IsAdded mid new (marked mark (event_text e reply (last_entry n.talk))) → (text : List ℕ) × Does roll s (play mark e) text n × IsAdded old new text
+  plays-last roll s n m mark e reply first old mid new step met is (spent, stayed, none) added more =
+      let (on, needs, same) = needed roll s.talk m e reply step is in
+      let said = marked mark (event_text e reply (last_entry n.talk)) in
+      let last : s.talk.world.number + 1 ≡ s.talk.world.limits.chapters = subst (λ (x : Talk A). x.world.number + 1 ≡ x.world.limits.chapters) same spent in (
         said,
-        (s, [], said, stays (λ on needs. last) refl refl, record { reply = reply; step = subst (λ (x : Talk A). TalkStep s e reply x) (sym stayed) step; said = refl }, refl),
+        (s.talk, [], said, stays (λ on needs. last) refl refl, record { reply = reply; step = subst (λ (x : Talk A). TalkStep s.talk e reply x) (sym stayed) step; met = met; said = refl }, refl),
         subst (λ (x : List ℕ). IsAdded old new (x ++ said)) none (added-then old mid new first said added more),
       )

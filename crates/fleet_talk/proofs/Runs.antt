@@ -1,6 +1,7 @@
 -- What is said of events is what a run of them prints.
-use Rattle.std.proofs.Common.{◌≡◌, ◌∙◌, ℕ, ◌+◌, ◌-◌, true, false, List, [], ◌∷◌, ◌++◌, length, drop, map, Option, Some, None, refl, sym, ap, subst, arith}
+use Rattle.std.proofs.Common.{◌≡◌, ◌∙◌, ℕ, ◌+◌, ◌-◌, Bool, true, false, ◌||◌, List, [], ◌∷◌, ◌++◌, length, drop, map, Option, Some, None, refl, sym, ap, subst, arith}
 use Rattle.std.specs.Prelude.{slice_get}
+use Rattle.std.specs.List.{list_any}
 use Rattle.std.proofs.lemmas.List.{append-nil, append_assoc, length_push}
 use Rattle.fleet_grid.specs.Floor.{Floor}
 use Rattle.fleet_book.specs.declared.event.Event.{Event}
@@ -17,12 +18,13 @@ use Rattle.fleet_core.specs.Opening.{CanOpen}
 use Rattle.fleet_world.specs.declared.reply.Reply.{Reply}
 use Rattle.fleet_world.specs.declared.reply.Reply.TheVariants.{Posted, LaneFull, Took, LaneEmpty, TakeRefused, Ticked, TickRefused, Gave, NothingPending, OutletFull, Collected, NothingThere, ShutDone, ShutRefused, NoClient}
 use Rattle.fleet_world.specs.Run.{State, Run, opened_state}
-use Rattle.errands_text.specs.Output.{event_text, run_text, entries_made}
+use Rattle.fleet_text.specs.Output.{event_text, run_text, entries_made, is_limit_met}
 use Rattle.fleet_world.specs.Talk.{Talk, TalkStep, forget, opened_talk}
 use Rattle.fleet_world.specs.inside.Shown.{IsFresh}
 use Rattle.fleet_world.proofs.Sessions.{step-of, fresh-step, fresh-opened, forget-opened}
 use Rattle.fleet_talk.specs.Act.{play}
 use Rattle.fleet_talk.specs.Acts.{Talks, Rolls, stays, rolls, last_entry}
+use Rattle.fleet_talk.specs.Fleet.{Fleet, opened_fleet}
 
 abbrev entries : {A : Type 0} → Talk A → List (Entry A)
 entries s = s.world.history.entries
@@ -94,25 +96,43 @@ behind : {X : Type 0} (xs made more : List X) → drop (length made) (made ++ mo
 behind xs [] more = refl
 behind xs (x ∷ made) more = behind xs made more
 
+-- one reply after others that met a limit or not
+met_then : (a b c : Bool) → ((a || b) || c) ≡ (a || (b || c))
+met_then true b c = refl
+met_then false b c = refl
+
 -- what is said of events, and the entries that they made, in a run from a state that a session shows
-record IsSaid {A : Type 0} (s : State A) (events : List Event) (text : List ℕ) (t : Talk A) : Type 0 where
+record IsSaid {A : Type 0} (s : State A) (met : Bool) (events : List Event) (text : List ℕ) (t : Fleet A) : Type 0 where
   pub replies : List Reply
   pub last : State A
   pub run : Run s events replies last
-  pub same : forget last ≡ t
+  pub same : forget last ≡ t.talk
+  pub limited : t.met ≡ (met || list_any is_limit_met replies)
   pub made : List (Entry A)
-  pub grown : entries t ≡ entries (forget s) ++ made
+  pub grown : entries t.talk ≡ entries (forget s) ++ made
   pub is : text ≡ run_text events replies made
 
-said : {A : Type 0} (s : State A) (t : Talk A) (events : List Event) (text : List ℕ) → IsFresh s → Talks false (forget s) (map (play None) events) text t → IsSaid s events text t
-said s t [] text f (none, same) =
-    record { replies = []; last = s; run = refl; same = sym same; made = []; grown = same_entries (forget s) t same ∙ sym (append-nil (entries (forget s))); is = none }
-said {A} s t (e ∷ events) text f (mid, first, rest, (m, before, after, rolled, plays, parts), talks, is) =
+or_false : (b : Bool) → b ≡ (b || false)
+or_false true = refl
+or_false false = refl
+
+said : {A : Type 0} (s : State A) (met : Bool) (t : Fleet A) (events : List Event) (text : List ℕ) → IsFresh s → Talks false (record { talk = forget s; met = met }) (map (play None) events) text t → IsSaid s met events text t
+said {A} s met t [] text f (none, same) = record {
+  replies = [];
+  last = s;
+  run = refl;
+  same = ap (λ (x : Fleet A). x.talk) (sym same);
+  limited = ap (λ (x : Fleet A). x.met) same ∙ or_false met;
+  made = [];
+  grown = same_entries (forget s) t.talk (ap (λ (x : Fleet A). x.talk) same) ∙ sym (append-nil (entries (forget s)));
+  is = none;
+}
+said {A} s met t (e ∷ events) text f (mid, first, rest, (m, before, after, rolled, plays, parts), talks, is) =
     let (same, none) = stayed (forget s) m None e before rolled in
-    let step : TalkStep (forget s) e plays.reply mid = subst (λ (x : Talk A). TalkStep x e plays.reply mid) same plays.step in
-    let (next, done, there) = step-of s f e plays.reply mid step in
-    let g = grows (forget s) mid e plays.reply step in
-    let more = said next t events rest (fresh-step s next e plays.reply f done) (subst (λ (x : Talk A). Talks false x (map (play None) events) rest t) (sym there) talks) in
+    let step : TalkStep (forget s) e plays.reply mid.talk = subst (λ (x : Talk A). TalkStep x e plays.reply mid.talk) same plays.step in
+    let (next, done, there) = step-of s f e plays.reply mid.talk step in
+    let g = grows (forget s) mid.talk e plays.reply step in
+    let more = said next mid.met t events rest (fresh-step s next e plays.reply f done) (subst (λ (x : Talk A). Talks false (record { talk = x; met = mid.met }) (map (play None) events) rest t) (sym there) talks) in
     let told : first ≡ event_text e plays.reply (slice_get (g.made ++ more.made) 0) = parts ∙ (ap (λ l. l ++ after) none ∙ (plays.said ∙ g.said more.made)) in
     let cut : more.made ≡ drop (entries_made plays.reply) (g.made ++ more.made) = sym (behind [] g.made more.made) ∙ ap (λ n. drop n (g.made ++ more.made)) g.count in
     record {
@@ -120,17 +140,18 @@ said {A} s t (e ∷ events) text f (mid, first, rest, (m, before, after, rolled,
       last = more.last;
       run = (next, done, more.run);
       same = more.same;
+      limited = more.limited ∙ (ap (λ b. b || list_any is_limit_met more.replies) plays.met ∙ met_then met (is_limit_met plays.reply) (list_any is_limit_met more.replies));
       made = g.made ++ more.made;
       grown = more.grown ∙ (ap (λ (x : Talk A). entries x ++ more.made) there ∙ (ap (λ l. l ++ more.made) g.grown ∙ append_assoc (entries (forget s)) g.made more.made));
       is = is ∙ (ap (λ l. l ++ rest) told ∙ ap (λ l. event_text e plays.reply (slice_get (g.made ++ more.made) 0) ++ l) (more.is ∙ ap (run_text events more.replies) cut));
     }
 
-pub said-run : {A : Type 0} (m : Floor) (starts : List ℕ) (n : ℕ) (limits : Limits) (laws : HookLaws) (events : List Event) (text : List ℕ) (t : Talk A) →
-    CanOpen m starts n limits laws → AreOrderly laws → Talks false (opened_talk m starts n limits laws) (map (play None) events) text t →
-    (replies : List Reply) × (last : State A) × Run (opened_state m starts n limits laws) events replies last × (forget last ≡ t)
-    × (text ≡ run_text events replies last.world.history.entries)
+pub said-run : {A : Type 0} (m : Floor) (starts : List ℕ) (n : ℕ) (limits : Limits) (laws : HookLaws) (events : List Event) (text : List ℕ) (t : Fleet A) →
+    CanOpen m starts n limits laws → AreOrderly laws → Talks false (opened_fleet (opened_talk m starts n limits laws)) (map (play None) events) text t →
+    (replies : List Reply) × (last : State A) × Run (opened_state m starts n limits laws) events replies last × (forget last ≡ t.talk)
+    × (t.met ≡ list_any is_limit_met replies) × (text ≡ run_text events replies last.world.history.entries)
 said-run {A} m starts n limits laws events text t can orderly talks =
     let o : State A = opened_state m starts n limits laws in
-    let shown : Talks false (forget o) (map (play None) events) text t = subst (λ (x : Talk A). Talks false x (map (play None) events) text t) (sym (forget-opened m starts n limits laws)) talks in
-    let is = said o t events text (fresh-opened m starts n limits laws can orderly) shown in
-    (is.replies, is.last, is.run, is.same, is.is ∙ ap (run_text events is.replies) (sym is.grown ∙ ap (λ (x : Talk A). entries x) (sym is.same)))
+    let shown : Talks false (opened_fleet (forget o)) (map (play None) events) text t = subst (λ (x : Talk A). Talks false (opened_fleet x) (map (play None) events) text t) (sym (forget-opened m starts n limits laws)) talks in
+    let is = said o false t events text (fresh-opened m starts n limits laws can orderly) shown in
+    (is.replies, is.last, is.run, is.same, is.limited, is.is ∙ ap (run_text events is.replies) (sym is.grown ∙ ap (λ (x : Talk A). entries x) (sym is.same)))

@@ -5,7 +5,7 @@ use Rattle.std.specs.Result.{IsErrAnd}
 use Rattle.std.specs.Io.KnownBytes.{Appends}
 use Rattle.std.proofs.KnownBytes.{Appends-nil, Appends-trans}
 use Rattle.std.proofs.Math.Seq.{take-append-add}
-use Rattle.errands_text.specs.Transfer.{AppendsPrefix}
+use Rattle.fleet_text.specs.Transfer.{AppendsPrefix}
 use Rattle.fleet_talk.specs.declared.fault.TalkFault.{TalkFault}
 use Rattle.fleet_talk.specs.declared.fault.TalkFault.TheVariants.{Input, Output, Sink, Opening, NoMemory}
 use Rattle.fleet_talk.specs.Broken.{IsMidway, SaysUntil}

@@ -5,7 +5,8 @@ use Rattle.fleet_talk.specs.declared.ask.Asked.{Asked}
 use Rattle.fleet_talk.specs.declared.ask.Asked.TheVariants.{Nothing, Events, Chapter, Look, Open, Quit, Other, Long}
 use Rattle.fleet_talk.specs.declared.ends.Settings.{Settings}
 use Rattle.fleet_talk.specs.Ask.{Line, line_in}
-use Rattle.fleet_talk.specs.Says.{bad_line, end_line}
+use Rattle.fleet_text.specs.Answers.{bad_line}
+use Rattle.fleet_talk.specs.Says.{end_line}
 
 -- what is done at a line, under the line's mark
 pub data Act : Type 0 where

@@ -1,6 +1,6 @@
 -- How a conversation breaks off, and what is written until then.
 use Rattle.std.specs.Prelude.{◌≡◌, ℕ, List, [], ◌++◌, Option}
-use Rattle.errands_text.specs.Transfer.{AppendsPrefix}
+use Rattle.fleet_text.specs.Transfer.{AppendsPrefix}
 use Rattle.fleet_talk.specs.declared.fault.TalkFault.{TalkFault}
 use Rattle.fleet_talk.specs.declared.fault.TalkFault.TheVariants.{Input, Output, Sink, Opening, NoMemory}
 use Rattle.fleet_talk.specs.Says.{Says}

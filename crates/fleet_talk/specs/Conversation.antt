@@ -1,5 +1,5 @@
 -- A conversation as a whole: over all lines of an input, or up to a fault.
-use Rattle.std.specs.Prelude.{◌≡◌, ℕ, true, false, is_some, List, [], ◌++◌, length, Option, Some, None, Result, Ok, Err, unwrap_or, if◌then◌else◌}
+use Rattle.std.specs.Prelude.{◌≡◌, ℕ, Bool, true, false, is_some, List, [], ◌++◌, length, Option, Some, None, Result, Ok, Err, unwrap_or, if◌then◌else◌}
 use Rattle.std.specs.declared.alloc.Global.{Global}
 use Rattle.fleet_grid.specs.Floor.{Floor}
 use Rattle.fleet_book.specs.declared.limits.Limits.{Limits}
@@ -8,8 +8,8 @@ use Rattle.fleet_core.specs.Opening.{CanOpen}
 use Rattle.fleet_core.specs.OpeningFaults.{IsRefused}
 use Rattle.fleet_core.specs.declared.faults.OpenFault.{OpenFault}
 use Rattle.fleet_script.specs.Script.{Draft, blank_draft, limits_over}
-use Rattle.errands_text.specs.Kit.{KitLaws, cut_laws}
-use Rattle.fleet_world.specs.Talk.{Talk, opened_talk}
+use Rattle.fleet_text.specs.Kit.{KitLaws, cut_laws}
+use Rattle.fleet_world.specs.Talk.{opened_talk}
 use Rattle.fleet_talk.specs.declared.ends.Settings.{Settings}
 use Rattle.fleet_talk.specs.declared.fault.TalkFault.{TalkFault}
 use Rattle.fleet_talk.specs.declared.fault.TalkFault.TheVariants.{Input, Output, Sink, Opening as Unopened, NoMemory}
@@ -18,6 +18,7 @@ use Rattle.fleet_talk.specs.Act.{Act, acts_from}
 use Rattle.fleet_talk.specs.Acts.{Talks}
 use Rattle.fleet_talk.specs.Broken.{SaysUntil}
 use Rattle.fleet_talk.specs.Chapters.{Adds, AreChapters, ChapterView}
+use Rattle.fleet_talk.specs.Fleet.{Fleet, opened_fleet}
 use Rattle.fleet_talk.specs.Heard.{Opening, Head, all_of, head_of, heard_lines}
 use Rattle.fleet_talk.specs.Says.{Says}
 
@@ -49,8 +50,8 @@ abbrev pub MayOpen : Terms → Opening → Type 0
 MayOpen on o = CanOpen on.floor o.starts (clients_in o.head) (limits_in o.head) (laws_in on.kit o.head o.starts) × AreOrderly (laws_in on.kit o.head o.starts)
 
 -- the fleet, just opened
-abbrev pub opened : {A : Type 0} → Terms → Opening → Talk A
-opened on o = opened_talk on.floor o.starts (clients_in o.head) (limits_in o.head) (laws_in on.kit o.head o.starts)
+abbrev pub opened : {A : Type 0} → Terms → Opening → Fleet A
+opened on o = opened_fleet (opened_talk on.floor o.starts (clients_in o.head) (limits_in o.head) (laws_in on.kit o.head o.starts))
 
 -- all that is done at the lines of the open fleet
 abbrev pub acts_of : Terms → Opening → List Act
@@ -58,19 +59,20 @@ acts_of on o = acts_from on.settings o.number o.lines
 
 -- ---- texts of conversations
 
--- the text and the chapters of a whole conversation: the lines of the input were answered one by one, up to one that says quit, or to the end
-pub data IsConversation (on : Terms) (bytes text : List ℕ) (chapters : List (ChapterView Global)) : Type 0 where
+-- the text and the chapters of a whole conversation, and whether a limit was met: the lines of the input were answered one by one, up to one that
+-- says quit, or to the end
+pub data IsConversation (on : Terms) (bytes text : List ℕ) (chapters : List (ChapterView Global)) (met : Bool) : Type 0 where
   -- no line opened the fleet
-  unopened : (head_in on bytes).opening ≡ None → text ≡ all_of (head_in on bytes).said → chapters ≡ [] → IsConversation on bytes text chapters
+  unopened : (head_in on bytes).opening ≡ None → text ≡ all_of (head_in on bytes).said → chapters ≡ [] → met ≡ false → IsConversation on bytes text chapters met
   -- the fleet was opened, and all was done that the lines from then on ask
-  talked : (o : Opening) → (head_in on bytes).opening ≡ Some o → MayOpen on o → (answers : List ℕ) (last : Talk Global) → Talks on.settings.roll (opened on o) (acts_of on o) answers last
-      → text ≡ all_of (head_in on bytes).said ++ answers → AreChapters (opened {A = Global} on o).world last.world chapters → IsConversation on bytes text chapters
+  talked : (o : Opening) → (head_in on bytes).opening ≡ Some o → MayOpen on o → (answers : List ℕ) (last : Fleet Global) → Talks on.settings.roll (opened on o) (acts_of on o) answers last
+      → text ≡ all_of (head_in on bytes).said ++ answers → AreChapters (opened {A = Global} on o).talk.world last.talk.world chapters → met ≡ last.met → IsConversation on bytes text chapters met
 
 -- the beginning of one: some first texts of its head, or all of these and what is said of some first acts
 pub data IsBegun (on : Terms) (bytes text : List ℕ) : Type 0 where
   in_head : (said left : List (List ℕ)) → (head_in on bytes).said ≡ said ++ left → text ≡ all_of said → IsBegun on bytes text
   in_talk : (o : Opening) → (head_in on bytes).opening ≡ Some o → MayOpen on o → (done left : List Act) → acts_of on o ≡ done ++ left
-      → (answers : List ℕ) (last : Talk Global) → Talks on.settings.roll (opened on o) done answers last
+      → (answers : List ℕ) (last : Fleet Global) → Talks on.settings.roll (opened on o) done answers last
       → text ≡ all_of (head_in on bytes).said ++ answers → IsBegun on bytes text
 
 -- the head of one whose fleet is refused for this reason
@@ -88,9 +90,9 @@ pub record KeptChapters : Type 0 where
   pub new : Option (List (ChapterView Global))
 
 -- what was said of an input when the conversation came to this end, what a writer took of it, and what a sink kept
-abbrev pub ComesTo : Terms → List ℕ → Option (List ℕ) → Option (List ℕ) → List ℕ → List ℕ → KeptChapters → Result (Unit {0}) TalkFault → Type 0
-ComesTo on bytes before after waited waits sink (Ok done) =
-    (text : List ℕ) × (chapters : List (ChapterView Global)) × IsConversation on bytes text chapters × Says before after waited waits text × Adds sink.old sink.new chapters
+abbrev pub ComesTo : Terms → List ℕ → Option (List ℕ) → Option (List ℕ) → List ℕ → List ℕ → KeptChapters → Result Bool TalkFault → Type 0
+ComesTo on bytes before after waited waits sink (Ok met) =
+    (text : List ℕ) × (chapters : List (ChapterView Global)) × IsConversation on bytes text chapters met × Says before after waited waits text × Adds sink.old sink.new chapters
 ComesTo on bytes before after waited waits sink (Err Input) = (text : List ℕ) × IsBegun on bytes text × SaysUntil Input before after waited waits text
 ComesTo on bytes before after waited waits sink (Err Output) = (text : List ℕ) × IsBegun on bytes text × SaysUntil Output before after waited waits text
 ComesTo on bytes before after waited waits sink (Err Sink) = (text : List ℕ) × IsBegun on bytes text × SaysUntil Sink before after waited waits text

@@ -6,7 +6,8 @@ use Rattle.fleet_talk.specs.Act.{is_quit}
 use Rattle.fleet_talk.specs.Ask.{Line, line_in}
 use Rattle.fleet_talk.specs.Heading.{IsOfHead}
 use Rattle.fleet_talk.specs.Heard.{Head, Opening, end_texts, opens, with_head_line}
-use Rattle.fleet_talk.specs.Says.{bad_line, marked}
+use Rattle.fleet_text.specs.Answers.{bad_line}
+use Rattle.fleet_talk.specs.Says.{marked}
 
 -- the first lines of an input belong to its head: what they say, after what a file's header lines said, and what is said to them
 pub data AreOfHead (settings : Settings) (file : Draft) : List (List ℕ) → Draft → List (List ℕ) → Type 0 where

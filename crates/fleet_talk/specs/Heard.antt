@@ -8,7 +8,8 @@ use Rattle.fleet_talk.specs.declared.ask.Asked.TheVariants.{Nothing, Events, Cha
 use Rattle.fleet_talk.specs.declared.ends.Settings.{Settings}
 use Rattle.fleet_talk.specs.Ask.{Line, line_in}
 use Rattle.fleet_talk.specs.Act.{is_quit}
-use Rattle.fleet_talk.specs.Says.{marked, bad_line, end_line}
+use Rattle.fleet_text.specs.Answers.{bad_line}
+use Rattle.fleet_talk.specs.Says.{marked, end_line}
 
 -- ---- lines
 

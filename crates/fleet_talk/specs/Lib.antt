@@ -10,6 +10,8 @@ pub mod Heads
 pub mod HeadFile
 pub mod Look
 pub mod Listed
+pub mod Fleet
+pub mod Open
 pub mod Acts
 pub mod Chapters
 pub mod Talked

@@ -1,5 +1,5 @@
 -- How a fleet stands, as a look prints it.
-use Rattle.std.specs.Prelude.{◌≡◌, ◌↔◌, ℕ, List, [], ◌++◌, length, Option, Some, None, IsSome, IfSome, MatchOption, codes, decimal}
+use Rattle.std.specs.Prelude.{◌≡◌, ◌↔◌, ℕ, List, length, Option, IsSome, IfSome, MatchOption}
 use Rattle.fleet_bound.specs.Idle.{idle_ticks, longest_after}
 use Rattle.fleet_grid.specs.Counts.{floor_count}
 use Rattle.fleet_grid.specs.Floor.{IsNeighbour}
@@ -9,23 +9,12 @@ use Rattle.fleet_pibt.specs.Eldest.{IsEldest}
 use Rattle.fleet_planner.specs.Aimed.{IsIdle}
 use Rattle.fleet_planner.specs.Planned.{waits}
 use Rattle.fleet_core.specs.Core.{World}
-use Rattle.errands_text.specs.Output.{place_text}
+use Rattle.fleet_text.specs.Answers.{look_line}
+use Rattle.fleet_text.specs.declared.look.Standing.{Standing}
 
-abbrev pub eldest_text : Option ℕ → List ℕ
-eldest_text None = codes " idle"
-eldest_text (Some robot) = codes " busy eldest " ++ decimal robot
-
-abbrev pub within_text : Option ℕ → List ℕ
-within_text None = []
-within_text (Some ticks) = codes " within " ++ decimal ticks
-
--- the ticks made, the chapter's number and how many entries it has
-abbrev pub standing_text : {A : Type 0} → World A → List ℕ
-standing_text w = codes "look tick " ++ decimal (clock w.history) ++ codes " chapter " ++ decimal w.number ++ codes " entries " ++ decimal (length w.history.entries)
-
--- then who has waited longest, within how many ticks all is done, and the cells
-abbrev pub look_text : {A : Type 0} → World A → Option ℕ → Option ℕ → List ℕ
-look_text w eldest within = standing_text w ++ eldest_text eldest ++ within_text within ++ codes " at" ++ place_text (place w.history) ++ codes "\n"
+-- how it stands
+abbrev pub standing_of : {A : Type 0} → World A → Option ℕ → Option ℕ → Standing
+standing_of w eldest within = record { tick = clock w.history; chapter = w.number; entries = length w.history.entries; eldest = eldest; within = within }
 
 -- the line of a look at this world
 pub record IsLook {A : Type 0} (w : World A) (text : List ℕ) : Type 0 where
@@ -34,4 +23,4 @@ pub record IsLook {A : Type 0} (w : World A) (text : List ℕ) : Type 0 where
   pub within : Option ℕ
   pub told : IsSome within ↔ IsBridgeless (IsNeighbour w.floor)
   pub ticks : IfSome within (λ ticks. ticks ≡ idle_ticks (longest_after w.history) (robots w.history) (floor_count w.floor))
-  pub is : text ≡ look_text w eldest within
+  pub is : text ≡ look_line (standing_of w eldest within) (place w.history)

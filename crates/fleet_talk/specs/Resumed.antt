@@ -11,7 +11,7 @@ use Rattle.fleet_core.specs.Hooks.{HookLaws}
 use Rattle.fleet_reopen.specs.declared.fault.ReopenFault.TheVariants as reopen_fault
 use Rattle.fleet_reopen.specs.Reopening.{CanReopen, IsReopenFault, reopened_world}
 use Rattle.fleet_script.specs.Script.{Draft, limits_over}
-use Rattle.errands_text.specs.Kit.{KitLaws, cut_laws}
+use Rattle.fleet_text.specs.Kit.{KitLaws, cut_laws}
 use Rattle.fleet_world.specs.Talk.{Talk, quiet_talk}
 use Rattle.fleet_talk.specs.declared.ends.Settings.{Settings}
 use Rattle.fleet_talk.specs.declared.fault.TalkFault.{TalkFault}
@@ -23,6 +23,7 @@ use Rattle.fleet_talk.specs.Acts.{Talks}
 use Rattle.fleet_talk.specs.Broken.{SaysUntil}
 use Rattle.fleet_talk.specs.Chapters.{Adds, AreChapters, ChapterView}
 use Rattle.fleet_talk.specs.Conversation.{KeptChapters, Terms}
+use Rattle.fleet_talk.specs.Fleet.{Fleet, opened_fleet}
 use Rattle.fleet_talk.specs.Heard.{heard_lines}
 use Rattle.fleet_talk.specs.Says.{Says}
 
@@ -83,32 +84,33 @@ IsRefusal _ = Unit {0}
 
 -- ---- the conversation
 
--- all lines of an input were answered by an open fleet, up to one that says quit, or to the end
-pub record IsAnswered (settings : Settings) (s : Talk Global) (bytes text : List ℕ) (chapters : List (ChapterView Global)) : Type 0 where
-  pub last : Talk Global
+-- all lines of an input were answered by an open fleet, up to one that says quit, or to the end, and whether a limit was met
+pub record IsAnswered (settings : Settings) (s : Fleet Global) (bytes text : List ℕ) (chapters : List (ChapterView Global)) (limited : Bool) : Type 0 where
+  pub last : Fleet Global
   pub talks : Talks settings.roll s (acts_from settings 1 (heard_lines bytes)) text last
-  pub are : AreChapters s.world last.world chapters
+  pub are : AreChapters s.talk.world last.talk.world chapters
+  pub met : limited ≡ last.met
 
 -- the first of what they ask was done
-pub record IsAnsweredInPart (settings : Settings) (s : Talk Global) (bytes text : List ℕ) : Type 0 where
+pub record IsAnsweredInPart (settings : Settings) (s : Fleet Global) (bytes text : List ℕ) : Type 0 where
   pub done : List Act
   pub left : List Act
   pub parts : acts_from settings 1 (heard_lines bytes) ≡ done ++ left
-  pub last : Talk Global
+  pub last : Fleet Global
   pub talks : Talks settings.roll s done text last
 
 -- to what a conversation with an open fleet came
-abbrev pub ComesOpen : Settings → Talk Global → List ℕ → Option (List ℕ) → Option (List ℕ) → List ℕ → List ℕ → KeptChapters → Result (Unit {0}) TalkFault → Type 0
-ComesOpen settings s bytes before after waited waits sink (Ok done) =
-    (text : List ℕ) × (chapters : List (ChapterView Global)) × IsAnswered settings s bytes text chapters × Says before after waited waits text × Adds sink.old sink.new chapters
+abbrev pub ComesOpen : Settings → Fleet Global → List ℕ → Option (List ℕ) → Option (List ℕ) → List ℕ → List ℕ → KeptChapters → Result Bool TalkFault → Type 0
+ComesOpen settings s bytes before after waited waits sink (Ok met) =
+    (text : List ℕ) × (chapters : List (ChapterView Global)) × IsAnswered settings s bytes text chapters met × Says before after waited waits text × Adds sink.old sink.new chapters
 ComesOpen settings s bytes before after waited waits sink (Err why) = (text : List ℕ) × IsAnsweredInPart settings s bytes text × SaysUntil why before after waited waits text
 
--- the text and the chapters of a whole conversation whose fleet goes on from a chapter
-pub record IsResumption (on : Terms) (c : ChapterView Global) (bytes text : List ℕ) (chapters : List (ChapterView Global)) : Type 0 where
+-- the text and the chapters of a whole conversation whose fleet goes on from a chapter, and whether a limit was met
+pub record IsResumption (on : Terms) (c : ChapterView Global) (bytes text : List ℕ) (chapters : List (ChapterView Global)) (met : Bool) : Type 0 where
   pub may : MayResume on.kit on.floor on.head c
-  pub answered : IsAnswered on.settings (resumed on.kit on.floor on.head c) bytes text chapters
+  pub answered : IsAnswered on.settings (opened_fleet (resumed on.kit on.floor on.head c)) bytes text chapters met
 
 -- the beginning of one
 pub record IsResumptionBegun (on : Terms) (c : ChapterView Global) (bytes text : List ℕ) : Type 0 where
   pub may : MayResume on.kit on.floor on.head c
-  pub answered : IsAnsweredInPart on.settings (resumed on.kit on.floor on.head c) bytes text
+  pub answered : IsAnsweredInPart on.settings (opened_fleet (resumed on.kit on.floor on.head c)) bytes text

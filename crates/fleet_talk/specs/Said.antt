@@ -5,18 +5,19 @@ use Rattle.std.specs.Option.{option_map}
 use Rattle.fleet_talk.specs.declared.ask.Line.{Line}
 use Rattle.fleet_talk.specs.declared.ends.Settings.{Settings}
 use Rattle.fleet_talk.specs.declared.pen.Pen.{Pen}
-use Rattle.fleet_talk.specs.Says.{marked, bad_line, end_line}
+use Rattle.fleet_text.specs.Answers.{bad_line}
+use Rattle.fleet_talk.specs.Says.{marked, end_line}
 
 -- a mark without where its bytes lie in memory
 abbrev pub under : Option (Bor (List ℕ)) → Option (List ℕ)
 under mark = option_map (λ m. m.now) mark
 
--- a text was added to what waits, and nothing else changed but whether a limit was met
+-- a text was added to what waits
 pub record IsAdded (old new : Pen) (text : List ℕ) : Type 0 where
   pub out : new.out.items ≡ old.out.items ++ text
   pub settings : new.settings ≡ old.settings
 
--- nothing was said, and nothing else changed but whether a limit was met
+-- nothing was said
 pub record IsKept (old new : Pen) : Type 0 where
   pub out : new.out.items ≡ old.out.items
   pub settings : new.settings ≡ old.settings

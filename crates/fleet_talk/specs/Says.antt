@@ -16,17 +16,8 @@ abbrev pub marked : Option (List ℕ) → List ℕ → List ℕ
 marked None text = text
 marked (Some mark) text = marked_from mark true text
 
-abbrev pub bad_line : ℕ → List ℕ
-bad_line number = codes "bad-line " ++ decimal number ++ codes "\n"
-
 abbrev pub end_line : ℕ → List ℕ
 end_line number = codes ". " ++ decimal number ++ codes "\n"
-
-abbrev pub chapter_text : ℕ → ℕ → List ℕ
-chapter_text number entries = codes "chapter " ++ decimal number ++ codes " entries " ++ decimal entries ++ codes "\n"
-
-abbrev pub refused_text : List ℕ
-refused_text = codes "chapter-refused 1 book-spent\n"
 
 -- a text was said: what a writer took since, and what waits now, is what waited before and the text
 pub record Says (before after : Option (List ℕ)) (waited waits text : List ℕ) : Type 0 where

@@ -6,15 +6,15 @@ ghost use Rattle.std.specs.Io.KnownBytes.{Appends};
 ghost use Rattle.std.specs.declared.alloc.Global.{Global};
 ghost use Rattle.fleet_grid.specs.Floor.{Floor};
 ghost use Rattle.fleet_history.specs.History.{history_of};
-ghost use Rattle.errands_text.specs.Kit.{kit_laws};
-ghost use Rattle.errands_text.specs.Transfer.{AppendsPrefix};
+ghost use Rattle.fleet_text.specs.Kit.{kit_laws};
+ghost use Rattle.fleet_text.specs.Transfer.{AppendsPrefix};
 ghost use Rattle.fleet_core.specs.Hooks.{AreOrderly};
 ghost use Rattle.fleet_core.specs.Opening.{CanOpen};
 ghost use Rattle.fleet_core.specs.OpeningFaults.{IsNamed, IsRefused};
 ghost use Rattle.fleet_world.specs.Keeps.{talk};
 ghost use Rattle.fleet_world.specs.Talk.{opened_talk};
 ghost use Rattle.fleet_talk.specs.Broken.{IsMidway};
-ghost use Rattle.fleet_talk.specs.Chapters.{Adds, ChapterView, IsSound, chapter_shown};
+ghost use Rattle.fleet_talk.specs.Chapters.{Adds, ChapterView, IsSound, KeepsLast, chapter_shown};
 ghost use Rattle.fleet_talk.specs.Conversation.{ComesTo, IsBegun, IsConversation, IsRefusedHead, Terms, clients_in, laws_in, limits_in};
 ghost use Rattle.fleet_talk.specs.Due.{IsDone};
 ghost use Rattle.fleet_talk.specs.Ending.{Finishes, Keeps};
@@ -26,12 +26,13 @@ use crate::fault::TalkFault;
 use crate::going::go_on;
 use crate::ground::{Ground, TALK_LIMITS};
 use crate::heading::hear_head;
+use crate::open_fleet::OpenFleet;
 use crate::pen::Pen;
-use errands_text::HookKit;
 use fleet_core::OpenFault;
 use fleet_grid::Grid;
 use fleet_history::Chapter;
 use fleet_script::Head;
+use fleet_text::HookKit;
 use fleet_world::Session;
 use std::alloc::{Alloc, Global};
 use std::io::{Read, Write};
@@ -78,43 +79,60 @@ fn opening_fault(fault: OpenFault) -> TalkFault
     }
 }
 
-/// Keeps the last chapter, however the conversation ended.
-pub(crate) fn keep_last<S: ChapterSink>(
+/// Keeps the last chapter, however the conversation ended. Returns whether a limit was met.
+fn keep_last<S: ChapterSink>(
     sink: &mut S,
     chapter: &Chapter,
     ended: Result<(), TalkFault>,
-) -> Result<(), TalkFault>
+    limited: bool,
+) -> Result<bool, TalkFault>
     requires sound { (m : Floor) × IsSound m (history_of chapter.now) }
-    ensures ended { Keeps ended result }
+    ensures ended { Keeps ended limited result }
     ensures kept { OnOk result (Adds (S.kept sink.old) (S.kept sink.new) (chapter_shown chapter.now ∷ [])) }
 {
     let kept = sink.keep(chapter);
     ended?;
-    Ok(kept?)
+    kept?;
+    Ok(limited)
+}
+
+/// Lets a fleet go whose conversation ended so, and keeps its last chapter. Returns whether a limit was met.
+pub(crate) fn close<S: ChapterSink>(
+    fleet: OpenFleet,
+    sink: &mut S,
+    ended: Result<(), TalkFault>,
+) -> Result<bool, TalkFault>
+    // Of each call: only a call with a condition may hand on closures.
+    requires { 0 ≤ fleet.session.world.core.number }
+    ensures ended { Keeps ended fleet.limited result }
+    ensures kept { OnOk result (KeepsLast (S.kept sink.old) (S.kept sink.new) (talk fleet.session)) }
+{
+    let OpenFleet { session, limited } = fleet;
+    let (_grid, chapter) = session.finish();
+    keep_last(sink, &chapter, ended, limited)
 }
 
 /// Writes what was said, at the end.
 pub(crate) fn end<W: Write>(
     pen: &mut Pen,
     output: &mut W,
-    ended: Result<(), TalkFault>,
+    ended: Result<bool, TalkFault>,
 ) -> Result<bool, TalkFault>
     ensures { Finishes ended (W.contents output.old) (W.contents output.new) pen.old.out.items result }
 {
     if !pen.write_out(output) {
         return Err(TalkFault::Output);
     }
-    ended?;
-    Ok(pen.limited)
+    ended
 }
 
-/// Holds a conversation; the last answers are left for the caller to write.
+/// Holds a conversation; the last answers are left for the caller to write. Returns whether a limit was met.
 fn hold<R: Alloc<A = Global>, I: Read, W: Write, S: ChapterSink>(
     rt: &R,
     ground: Ground,
     ends: &mut Ends<I, W, S>,
     pen: &mut Pen,
-) -> Result<(), TalkFault>
+) -> Result<bool, TalkFault>
     // Of each call: only a call with a condition may hand on closures.
     requires closures { 0 ≤ vec_len ground.kit.plain.ties }
     requires done { IsDone (reader_buffer ends.old.input) pen.old.out.items }
@@ -130,16 +148,18 @@ fn hold<R: Alloc<A = Global>, I: Read, W: Write, S: ChapterSink>(
     match hear_head(alloc, ends, &mut head, &mut bytes, pen) {
         Ok(Some(first)) => match open(alloc, grid, kit, head) {
             Ok(session) => {
-                let mut session = session;
-                let ended = go_on(rt, &mut session, ends, &mut bytes, pen, first);
-                let (_grid, chapter) = session.finish();
-                keep_last(&mut ends.sink, &chapter, ended)
+                let mut fleet = OpenFleet {
+                    session,
+                    limited: false,
+                };
+                let ended = go_on(rt, &mut fleet, ends, &mut bytes, pen, first);
+                close(fleet, &mut ends.sink, ended)
             }
             Err(fault) => Err(opening_fault(fault)),
         },
         Ok(None) => {
             drop(kit);
-            Ok(())
+            Ok(false)
         }
         Err(fault) => {
             drop(kit);
@@ -150,7 +170,7 @@ fn hold<R: Alloc<A = Global>, I: Read, W: Write, S: ChapterSink>(
 
 /// Holds a conversation: hears its head, opens the fleet at the first line that asks something of it, and answers each line as
 /// `errands run` does, until the input ends or a line says `quit`. Each chapter goes to the sink when it is handed out, and the last
-/// at the end. Returns whether a limit was met.
+/// at the end. Returns whether a limit was met: an event was refused because the chapter was full or the clock spent.
 pub fn converse<R: Alloc<A = Global>, I: Read, W: Write, S: ChapterSink>(
     rt: &R,
     ground: Ground,
@@ -160,8 +180,8 @@ pub fn converse<R: Alloc<A = Global>, I: Read, W: Write, S: ChapterSink>(
     // Of each call: only a call with a condition may hand on closures.
     requires { 0 ≤ vec_len ground.kit.plain.ties }
     // A whole conversation over the lines of the input was written, and its chapters were kept: those that were handed out, in order, and the last.
-    ensures ended { OnOk result (IfSome (reader_remaining I.remaining ends.old.input) (λ bytes. (text : List ℕ) × (chapters : List (ChapterView Global))
-        × IsConversation (record { kit = kit_laws ground.kit; floor = ground.grid; settings = settings; head = drafted ground.head }) bytes text chapters
+    ensures ended { IfOk result (λ met. IfSome (reader_remaining I.remaining ends.old.input) (λ bytes. (text : List ℕ) × (chapters : List (ChapterView Global))
+        × IsConversation (record { kit = kit_laws ground.kit; floor = ground.grid; settings = settings; head = drafted ground.head }) bytes text chapters met
         × Appends (W.contents ends.old.output) (W.contents ends.new.output) text
         × Adds (S.kept ends.old.sink) (S.kept ends.new.sink) chapters)) }
     // The answers to the head's lines were written, and the fleet is refused for this reason.

@@ -1,9 +1,9 @@
 //! What a conversation begins with.
 
-use errands_text::HookKit;
 use fleet_book::Limits;
 use fleet_grid::Grid;
 use fleet_script::Head;
+use fleet_text::HookKit;
 
 /// The longest line, its line feed not counted: 8,192 bytes. A `robots` line of 512 robots on the largest map has about half
 /// as many.

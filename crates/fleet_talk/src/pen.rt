@@ -1,14 +1,14 @@
 //! Answers that are not written yet.
 
 ghost use Rattle.std.specs.Prelude.{◌≡◌, ◌++◌, [], ◌∷◌, IsTrue, OnOk, OnErr, string_bytes, take};
-ghost use Rattle.errands_text.specs.Transfer.{AppendsPrefix};
+ghost use Rattle.fleet_text.specs.Transfer.{AppendsPrefix};
 ghost use Rattle.fleet_talk.specs.Says.{marked, Says};
 ghost use Rattle.fleet_talk.specs.Said.{IsAdded, IsKept, under, bad_said, end_said};
 
 use crate::ask::Line;
 use crate::ends::Settings;
 use crate::marks::add_lines;
-use errands_text::write_whole;
+use fleet_text::{bad_line, write_whole};
 use std::alloc::{AllocError, Global};
 use std::io::Write;
 
@@ -20,8 +20,6 @@ const MOST_TEXT: usize = 65_536;
 pub(crate) struct Pen {
     pub(crate) settings: Settings,
     pub(crate) out: Vec<u8>,
-    /// Whether a limit was met.
-    pub(crate) limited: bool,
 }
 
 impl Pen {
@@ -32,7 +30,6 @@ impl Pen {
         Pen {
             settings,
             out: Vec::new(alloc),
-            limited: false,
         }
     }
 
@@ -61,8 +58,7 @@ impl Pen {
         ensures ok { OnOk result (IsAdded self.old self.new (bad_said line.entry)) }
         ensures err { OnErr result (IsKept self.old self.new) }
     {
-        let number = line.number;
-        let text = format!(in alloc; "bad-line {number}\n")?;
+        let text = bad_line(alloc, line.number)?;
         self.say(alloc, line.mark, text.as_str())
     }
 

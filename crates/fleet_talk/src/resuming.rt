@@ -2,7 +2,7 @@
 
 ghost use Rattle.std.specs.Prelude.{◌≡◌, ◌≤◌, None, IfOk, IfErr, OnOk, length, vec_len, if◌then◌else◌, unwrap_or};
 ghost use Rattle.std.specs.Option.{option_map};
-ghost use Rattle.errands_text.specs.Kit.{kit_laws};
+ghost use Rattle.fleet_text.specs.Kit.{kit_laws};
 ghost use Rattle.fleet_core.specs.Hooks.{laws_of};
 ghost use Rattle.fleet_world.specs.Keeps.{talk};
 ghost use Rattle.fleet_talk.specs.Chapters.{chapter_shown};
@@ -11,13 +11,13 @@ ghost use Rattle.fleet_talk.specs.Resumed.{IsResumeFault, MayResume, disagreemen
 
 use crate::fault::TalkFault;
 use crate::ground::{Ground, TALK_LIMITS};
-use errands_text::HookKit;
 use fleet_book::Limits;
 use fleet_core::World;
 use fleet_history::{Chapter, Opening};
 use fleet_hooks::Hooks;
 use fleet_reopen::{ReopenFault, reopen_world};
 use fleet_script::Head;
+use fleet_text::HookKit;
 use fleet_world::Session;
 use std::alloc::{AllocError, Global};
 

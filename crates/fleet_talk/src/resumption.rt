@@ -1,11 +1,11 @@
 //! A conversation whose fleet goes on from a chapter.
 
-ghost use Rattle.std.specs.Prelude.{◌≡◌, ◌≤◌, ℕ, List, Err, OnOk, IfErr, IfSome, vec_len};
+ghost use Rattle.std.specs.Prelude.{◌≡◌, ◌≤◌, ℕ, List, Err, OnOk, IfOk, IfErr, IfSome, vec_len};
 ghost use Rattle.std.specs.Io.Buffered.{reader_buffer, reader_remaining};
 ghost use Rattle.std.specs.Io.KnownBytes.{Appends};
 ghost use Rattle.std.specs.declared.alloc.Global.{Global};
-ghost use Rattle.errands_text.specs.Kit.{kit_laws};
-ghost use Rattle.errands_text.specs.Transfer.{AppendsPrefix};
+ghost use Rattle.fleet_text.specs.Kit.{kit_laws};
+ghost use Rattle.fleet_text.specs.Transfer.{AppendsPrefix};
 ghost use Rattle.fleet_world.specs.Keeps.{talk};
 ghost use Rattle.fleet_talk.specs.Act.{acts_from};
 ghost use Rattle.fleet_talk.specs.Acts.{Talks};
@@ -13,16 +13,19 @@ ghost use Rattle.fleet_talk.specs.Broken.{IsMidway};
 ghost use Rattle.fleet_talk.specs.Chapters.{Adds, ChapterView, KeepsTurned, chapter_shown};
 ghost use Rattle.fleet_talk.specs.Due.{IsDone};
 ghost use Rattle.fleet_talk.specs.Heading.{drafted};
+ghost use Rattle.fleet_talk.specs.Fleet.{opened_fleet};
 ghost use Rattle.fleet_talk.specs.Heard.{heard_lines};
+ghost use Rattle.fleet_talk.specs.Open.{fleet_of};
 ghost use Rattle.fleet_talk.specs.Resumed.{ComesOpen, IsAnswered, IsAnsweredInPart, IsRefusal, IsResumeFault, IsResumption, IsResumptionBegun};
 ghost use Rattle.fleet_talk.specs.Says.{Says};
 ghost use Rattle.fleet_talk.specs.Talked.{TalksUntil};
 
-use crate::conversation::{end, keep_last};
+use crate::conversation::{close, end};
 use crate::ends::{ChapterSink, Ends, Settings};
 use crate::fault::TalkFault;
 use crate::going::go_on;
 use crate::ground::Ground;
+use crate::open_fleet::OpenFleet;
 use crate::pen::Pen;
 use crate::reading::next_line;
 use crate::resuming::{ResumeFault, reopen};
@@ -34,46 +37,48 @@ use std::io::{Read, Write};
 /// Answers all lines of the input.
 fn answer_all<R: Alloc<A = Global>, I: Read, W: Write, S: ChapterSink>(
     rt: &R,
-    session: &mut Session,
+    fleet: &mut OpenFleet,
     ends: &mut Ends<I, W, S>,
     pen: &mut Pen,
 ) -> Result<(), TalkFault>
-    requires number { 0 ≤ session.old.world.core.number }
+    requires number { 0 ≤ fleet.old.session.world.core.number }
     requires done { IsDone (reader_buffer ends.old.input) pen.old.out.items }
     ensures talks { OnOk result (IfSome (reader_remaining I.remaining ends.old.input) (λ xs. (text : List ℕ)
-        × Talks pen.old.settings.roll (talk session.old) (acts_from pen.old.settings 1 (heard_lines xs)) text (talk session.new)
+        × Talks pen.old.settings.roll (fleet_of fleet.old) (acts_from pen.old.settings 1 (heard_lines xs)) text (fleet_of fleet.new)
         × Says (W.contents ends.old.output) (W.contents ends.new.output) pen.old.out.items pen.new.out.items text)) }
-    ensures kept { OnOk result (KeepsTurned (S.kept ends.old.sink) (S.kept ends.new.sink) (talk session.old) (talk session.new)) }
+    ensures kept { OnOk result (KeepsTurned (S.kept ends.old.sink) (S.kept ends.new.sink) (talk fleet.old.session) (talk fleet.new.session)) }
     ensures broken { IfErr result (λ fault. IfSome (reader_remaining I.remaining ends.old.input) (λ xs.
-        TalksUntil fault pen.old.settings.roll (talk session.old) (acts_from pen.old.settings 1 (heard_lines xs))
+        TalksUntil fault pen.old.settings.roll (fleet_of fleet.old) (acts_from pen.old.settings 1 (heard_lines xs))
         (W.contents ends.old.output) (W.contents ends.new.output) pen.old.out.items pen.new.out.items)) }
 {
     let mut bytes = Vec::new(rt.alloc());
     if !next_line(&mut ends.input, pen, &mut bytes)? {
         return Ok(());
     }
-    go_on(rt, session, ends, &mut bytes, pen, 1)
+    go_on(rt, fleet, ends, &mut bytes, pen, 1)
 }
 
-/// Holds a conversation with an open fleet; the last answers are left for the caller to write.
+/// Holds a conversation with an open fleet; the last answers are left for the caller to write. Returns whether a limit was met.
 fn hold_open<R: Alloc<A = Global>, I: Read, W: Write, S: ChapterSink>(
     rt: &R,
     session: Session,
     ends: &mut Ends<I, W, S>,
     pen: &mut Pen,
-) -> Result<(), TalkFault>
+) -> Result<bool, TalkFault>
     // Of each call: only a call with a condition may hand on closures.
     requires number { 0 ≤ session.world.core.number }
     requires done { IsDone (reader_buffer ends.old.input) pen.old.out.items }
     ensures { IfSome (reader_remaining I.remaining ends.old.input) (λ bytes.
-        ComesOpen pen.old.settings (talk session) bytes
+        ComesOpen pen.old.settings (opened_fleet (talk session)) bytes
         (W.contents ends.old.output) (W.contents ends.new.output) pen.old.out.items pen.new.out.items
         (record { old = S.kept ends.old.sink; new = S.kept ends.new.sink }) result) }
 {
-    let mut session = session;
-    let ended = answer_all(rt, &mut session, ends, pen);
-    let (_grid, chapter) = session.finish();
-    keep_last(&mut ends.sink, &chapter, ended)
+    let mut fleet = OpenFleet {
+        session,
+        limited: false,
+    };
+    let ended = answer_all(rt, &mut fleet, ends, pen);
+    close(fleet, &mut ends.sink, ended)
 }
 
 /// Holds a conversation with an open fleet, from the first line on. Returns whether a limit was met.
@@ -85,15 +90,15 @@ fn converse_open<R: Alloc<A = Global>, I: Read, W: Write, S: ChapterSink>(
 ) -> Result<bool, TalkFault>
     // Of each call: only a call with a condition may hand on closures.
     requires { 0 ≤ session.world.core.number }
-    ensures ended { OnOk result (IfSome (reader_remaining I.remaining ends.old.input) (λ bytes. (text : List ℕ) × (chapters : List (ChapterView Global))
-        × IsAnswered settings (talk session) bytes text chapters
+    ensures ended { IfOk result (λ met. IfSome (reader_remaining I.remaining ends.old.input) (λ bytes. (text : List ℕ) × (chapters : List (ChapterView Global))
+        × IsAnswered settings (opened_fleet (talk session)) bytes text chapters met
         × Appends (W.contents ends.old.output) (W.contents ends.new.output) text
         × Adds (S.kept ends.old.sink) (S.kept ends.new.sink) chapters)) }
     ensures broken { IfErr result (λ fault. IsMidway fault → IfSome (reader_remaining I.remaining ends.old.input) (λ bytes. (text : List ℕ)
-        × IsAnsweredInPart settings (talk session) bytes text
+        × IsAnsweredInPart settings (opened_fleet (talk session)) bytes text
         × Appends (W.contents ends.old.output) (W.contents ends.new.output) text)) }
     ensures unwritten { result ≡ Err TalkFault.Output → IfSome (reader_remaining I.remaining ends.old.input) (λ bytes. (text : List ℕ)
-        × IsAnsweredInPart settings (talk session) bytes text
+        × IsAnsweredInPart settings (opened_fleet (talk session)) bytes text
         × AppendsPrefix (W.contents ends.old.output) (W.contents ends.new.output) text) }
 {
     let mut pen = Pen::new(rt.alloc(), settings);
@@ -117,8 +122,8 @@ pub fn resume<R: Alloc<A = Global>, I: Read, W: Write, S: ChapterSink>(
     // Of each call: only a call with a condition may hand on closures.
     requires { 0 ≤ vec_len ground.kit.plain.ties }
     // A whole conversation over the lines of the input was written, and its chapters were kept: those that were handed out, in order, and the last.
-    ensures ended { OnOk result (IfSome (reader_remaining I.remaining ends.old.input) (λ bytes. (text : List ℕ) × (chapters : List (ChapterView Global))
-        × IsResumption (record { kit = kit_laws ground.kit; floor = ground.grid; settings = settings; head = drafted ground.head }) (chapter_shown chapter) bytes text chapters
+    ensures ended { IfOk result (λ met. IfSome (reader_remaining I.remaining ends.old.input) (λ bytes. (text : List ℕ) × (chapters : List (ChapterView Global))
+        × IsResumption (record { kit = kit_laws ground.kit; floor = ground.grid; settings = settings; head = drafted ground.head }) (chapter_shown chapter) bytes text chapters met
         × Appends (W.contents ends.old.output) (W.contents ends.new.output) text
         × Adds (S.kept ends.old.sink) (S.kept ends.new.sink) chapters)) }
     // No fleet goes on from the chapter, for this reason.

@@ -7,7 +7,7 @@ use Rattle.fleet_book.specs.declared.notice.Notice.{Notice}
 use Rattle.fleet_lanes.specs.Ends.{ClientView}
 use Rattle.live_parts.specs.declared.outbox.Outbox.{Outbox}
 use Rattle.live_parts.specs.Outbox.{AreTold, IsSaid, IsTold}
-use Rattle.live_parts.specs.Said.{notice_line}
+use Rattle.fleet_text.specs.Output.{notice_line}
 
 pub said-none : (p : Outbox) → IsSaid p p []
 said-none p = record { added = sym (append-nil p.text.items); ended = refl; gone = refl; hurried = refl }

@@ -54,15 +54,24 @@ abbrev pub limit_text : Option ℕ → List ℕ
 limit_text None = []
 limit_text (Some most) = gauge (codes "fleet_wait_limit_ticks") (codes "A number that no wait reaches.") most
 
-abbrev pub gauges_text : Figures → List ℕ
-gauges_text f =
-    gauge (codes "fleet_turn_latest_microseconds") (codes "How long after its deadline a turn began at most.") f.tally.latest
-    ++ gauge (codes "fleet_errands_open") (codes "Errands by a verdict that was told, without an arrival that was told.") (open_count f.before f.notices)
+abbrev pub latest_text : Figures → List ℕ
+latest_text f = gauge (codes "fleet_turn_latest_microseconds") (codes "How long after its deadline a turn began at most.") f.tally.latest
+
+abbrev pub queues_text : Figures → List ℕ
+queues_text f =
+    gauge (codes "fleet_errands_open") (codes "Errands by a verdict that was told, without an arrival that was told.") (open_count f.before f.notices)
     ++ gauge (codes "fleet_queued_errands") (codes "Errands in the robots' queues.") f.queues.total
     ++ gauge (codes "fleet_queue_longest") (codes "Errands in the longest queue.") f.queues.longest
-    ++ gauge (codes "fleet_wait_ticks") (codes "How long the robot has waited that has waited longest; 0 if none has an errand.") (unwrap_or f.waits.longest 0)
-    ++ gauge (codes "fleet_chapters_waiting") (codes "Chapters that could not be kept yet.") f.waiting
+
+abbrev pub waits_text : Figures → List ℕ
+waits_text f =
+    gauge (codes "fleet_wait_ticks") (codes "How long the robot has waited that has waited longest; 0 if none has an errand.") (unwrap_or f.waits.longest 0)
     ++ limit_text f.waits.limit
 
+abbrev pub memory_text : Figures → List ℕ
+memory_text f =
+    gauge (codes "fleet_chapters_waiting") (codes "Chapters that could not be kept yet.") f.waiting
+    ++ gauge (codes "fleet_kept_field_bytes") (codes "Bytes of the distance fields that are kept for later.") f.field_bytes
+
 abbrev pub figures_text : Figures → List ℕ
-figures_text f = counters_text f ++ verdicts_text f.notices ++ gauges_text f
+figures_text f = counters_text f ++ verdicts_text f.notices ++ latest_text f ++ queues_text f ++ waits_text f ++ memory_text f

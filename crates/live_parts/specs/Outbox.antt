@@ -4,7 +4,7 @@ use Rattle.std.specs.List.{AllByRecursion, flat_map}
 use Rattle.fleet_book.specs.declared.notice.Notice.{Notice}
 use Rattle.fleet_lanes.specs.Ends.{ClientView}
 use Rattle.live_parts.specs.declared.outbox.Outbox.{Outbox}
-use Rattle.live_parts.specs.Said.{notice_line}
+use Rattle.fleet_text.specs.Output.{notice_line}
 
 -- a text was said, and nothing else changed
 pub record IsSaid (old new : Outbox) (text : List ℕ) : Type 0 where

@@ -2,7 +2,7 @@
 
 ghost use Rattle.std.specs.Prelude.{◌≡◌, ◌++◌, IfOk, OnOk, string_bytes};
 ghost use Rattle.std.specs.List.{flat_map};
-ghost use Rattle.live_parts.specs.Figures.{counter, counters_text, figure_text, figures_text, gauge, gauges_text, kind_line, limit_text, verdict_line, verdicts_text};
+ghost use Rattle.live_parts.specs.Figures.{counter, counters_text, figure_text, figures_text, gauge, kind_line, latest_text, limit_text, memory_text, queues_text, verdict_line, verdicts_text, waits_text};
 
 use crate::notices::Notices;
 use crate::tally::Tally;
@@ -43,6 +43,8 @@ pub struct Figures {
     pub kept: u64,
     /// How many chapters wait to be kept.
     pub waiting: u64,
+    /// How many bytes the distance fields take that no robot needs and that are kept for later.
+    pub field_bytes: u64,
 }
 
 /// Adds a figure, with what it is.
@@ -150,16 +152,22 @@ impl Figures {
         )
     }
 
-    /// Adds how the fleet stands.
-    fn add_gauges(&self, text: &mut String) -> Result<(), AllocError>
-        ensures { OnOk result (string_bytes text.new ≡ string_bytes text.old ++ gauges_text self.now) }
+    /// Adds how late a turn began at most.
+    fn add_latest(&self, text: &mut String) -> Result<(), AllocError>
+        ensures { OnOk result (string_bytes text.new ≡ string_bytes text.old ++ latest_text self.now) }
     {
         add_gauge(
             text,
             "fleet_turn_latest_microseconds",
             "How long after its deadline a turn began at most.",
             self.tally.latest,
-        )?;
+        )
+    }
+
+    /// Adds how many errands are open, and how long the queues are.
+    fn add_queues(&self, text: &mut String) -> Result<(), AllocError>
+        ensures { OnOk result (string_bytes text.new ≡ string_bytes text.old ++ queues_text self.now) }
+    {
         add_gauge(
             text,
             "fleet_errands_open",
@@ -177,20 +185,38 @@ impl Figures {
             "fleet_queue_longest",
             "Errands in the longest queue.",
             self.queues.longest,
-        )?;
+        )
+    }
+
+    /// Adds the longest wait and the limit of all waits.
+    fn add_waits(&self, text: &mut String) -> Result<(), AllocError>
+        ensures { OnOk result (string_bytes text.new ≡ string_bytes text.old ++ waits_text self.now) }
+    {
         add_gauge(
             text,
             "fleet_wait_ticks",
             "How long the robot has waited that has waited longest; 0 if none has an errand.",
             self.waits.longest.unwrap_or(0),
         )?;
+        add_limit(text, self.waits.limit)
+    }
+
+    /// Adds what is held in memory beside the fleet.
+    fn add_memory(&self, text: &mut String) -> Result<(), AllocError>
+        ensures { OnOk result (string_bytes text.new ≡ string_bytes text.old ++ memory_text self.now) }
+    {
         add_gauge(
             text,
             "fleet_chapters_waiting",
             "Chapters that could not be kept yet.",
             self.waiting,
         )?;
-        add_limit(text, self.waits.limit)
+        add_gauge(
+            text,
+            "fleet_kept_field_bytes",
+            "Bytes of the distance fields that are kept for later.",
+            self.field_bytes,
+        )
     }
 
     /// The text of all figures.
@@ -200,7 +226,10 @@ impl Figures {
         let mut text = String::new(alloc);
         self.add_counters(&mut text)?;
         add_verdicts(&mut text, &self.notices)?;
-        self.add_gauges(&mut text)?;
+        self.add_latest(&mut text)?;
+        self.add_queues(&mut text)?;
+        self.add_waits(&mut text)?;
+        self.add_memory(&mut text)?;
         Ok(text)
     }
 }

@@ -24,7 +24,7 @@ pub use notices::Notices;
 pub use onward::{number_on, taken_before};
 pub use outbox::{MOST_TEXT, Outbox};
 pub use period::{next_due, read_period};
-pub use said::{look_text, notice_text, post_text, shut_text, tick_text};
+pub use said::look_text;
 pub use stop::Stop;
 pub use tally::Tally;
 pub use told::{post_in, tell_each};

@@ -6,10 +6,10 @@ ghost use Rattle.live_parts.specs.Outbox.{AreTold, FindNothing, IsTold};
 ghost use Rattle.live_parts.specs.Posted.{PostsOne};
 
 use crate::outbox::Outbox;
-use crate::said::notice_text;
 use fleet_book::Order;
 use fleet_lanes::PostFault;
 use fleet_office::{Guest, OfficeName};
+use fleet_text::notice_line;
 use std::alloc::{AllocError, Global};
 
 /// The greatest number of notices that are printed for a client at once: more than an outlet has room for.
@@ -47,7 +47,7 @@ fn tell_next<N: OfficeName<Global>>(
 {
     match guest.collect() {
         Some(notice) => {
-            let text = notice_text(alloc, guest.number(), notice)?;
+            let text = notice_line(alloc, guest.number(), notice)?;
             outbox.say(None, text.as_str())?;
             outbox.notices.count(notice);
             Ok(true)

@@ -172,3 +172,26 @@ fn refused_growths(rt: HostRuntime) {
     let grid = grid_of(&rt, rt.alloc(), 2, 3, b"..@...");
     refuse_growths(&rt, rt.alloc(), &grid, (4, 5));
 }
+
+/// Whether an allocation of the search for one edge is refused. After a refusal, the next call with the same memory finds
+/// that the edge is a bridge.
+fn is_search_refused(rt: &impl Abort, heap: impl Allocator + Copy, grid: &Grid) -> bool {
+    let Some(next) = grid.neighbour(200, Dir::East) else {
+        return false;
+    };
+    let met = is_bridge(heap, grid, 200, next).is_err();
+    assert!(rt; !met || is_bridge(heap, grid, 200, next).expect(rt, "memory for a search"));
+    met
+}
+
+#[test]
+fn refused_searches(rt: HostRuntime) {
+    let ring = ring_with_tail(&rt, rt.alloc());
+    let mut refused = 0;
+    for before in 0..64 {
+        if is_search_refused(&rt, &Refusing::after(rt.alloc(), before), &ring) {
+            refused = before + 1;
+        }
+    }
+    assert!(rt; 0 < refused && refused < 64);
+}

@@ -64,7 +64,9 @@ class HeaderTest(unittest.TestCase):
         form = r"^(?:NASHIRUDDER_MUST_USE )?(nashirudder_code|uint32_t|size_t|bool|void) nashirudder_(\w+)\(([^)]*)\);"
         found = re.findall(form, BARE, re.M)
         self.assertEqual({name for _, name, _ in found}, set(calls.FUNCTIONS))
-        for _, name, parameters in found:
+        for result, name, parameters in found:
+            answers = None if result == "void" else kind_of(result)
+            self.assertIs(calls.RESULTS.get(name, ctypes.c_uint32), answers, name)
             words = [" ".join(parameter.split()) for parameter in parameters.split(",") if parameter != "void"]
             wanted = [kind_of(re.sub(r"\w+$", "", word)) for word in words]
             self.assertEqual(len(wanted), len(calls.FUNCTIONS[name]), name)

@@ -86,12 +86,13 @@ const THREE_CELLS: Case<'static> = Case {
     ..TWO_CELLS
 };
 
-/// The first turn arrives, and the second searches the field of the next errand, as far as the robot's cell.
+/// The second turn arrives, and searches the field of the next errand, to a cell to which the robot went before.
 pub(crate) const SEARCHED_LATE: Case<'static> = Case {
     name: "office_searched_late",
     steps: &[
         Step::Post(0, TO_1),
         Step::Post(0, TO_2),
+        Step::Post(0, TO_1),
         Step::Settle,
         Step::Keep(65_536),
         Step::Turn(0),
@@ -106,10 +107,11 @@ pub(crate) const SEARCHED_AHEAD: Case<'static> = Case {
     steps: &[
         Step::Post(0, TO_1),
         Step::Post(0, TO_2),
+        Step::Post(0, TO_1),
         Step::Settle,
         Step::Keep(65_536),
-        Step::SearchAhead,
         Step::Turn(0),
+        Step::SearchAhead,
         Step::Turn(0),
     ],
     ..THREE_CELLS

@@ -1,10 +1,10 @@
 -- The program's hooks have its laws.
 use Rattle.std.proofs.Common.{subst}
 use Rattle.std.specs.Prelude.{IfSome}
-use Rattle.errands_text.specs.Kit.{KitLaws}
-use Rattle.errands_text.specs.Transfer.{bytes_of}
+use Rattle.fleet_text.specs.Kit.{KitLaws}
+use Rattle.fleet_text.specs.Transfer.{bytes_of}
 use Rattle.errands_lib.specs.Told.{IsShown}
-use Rattle.errands_text.proofs.Kits.{laws-are, kit-is}
+use Rattle.fleet_text.proofs.Kits.{laws-are, kit-is}
 use Rattle.errands_lib.proofs.hooks.run_with_hooks.Goals as goal
 
 pub returns-clause-done : goal.returns-clause-done

@@ -1,6 +1,6 @@
 -- What is left where there was no memory for the hooks.
 use Rattle.std.proofs.Common.{ap, subst}
-use Rattle.errands_text.specs.declared.input.InputFault.TheVariants as input_fault
+use Rattle.fleet_text.specs.declared.input.InputFault.TheVariants as input_fault
 use Rattle.errands_lib.specs.Told.{Failed, nothing}
 use Rattle.errands_lib.proofs.Jobs.{for_each}
 use Rattle.errands_lib.proofs.hooks.run_with_kit.Goals as goal

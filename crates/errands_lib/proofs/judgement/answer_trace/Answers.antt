@@ -3,7 +3,7 @@ use Rattle.fleet_grid.specs.Floor.{floor_of_map}
 use Rattle.fleet_map.specs.Grammar.{view}
 use Rattle.fleet_trace.specs.Trace.{trace_of}
 use Rattle.fleet_history.specs.History.{history_of}
-use Rattle.errands_text.specs.Outcome.{fault}
+use Rattle.fleet_text.specs.Outcome.{fault}
 use Rattle.errands_lib.specs.Answer.{IsJudged, IsJudgeOutcome, map_unread, trace_unread, judged}
 use Rattle.errands_lib.proofs.Outcomes.{said_is, said_more, map_fails}
 use Rattle.errands_lib.proofs.judgement.answer_trace.Goals as goal

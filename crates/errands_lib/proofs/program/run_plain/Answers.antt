@@ -1,6 +1,6 @@
 use Rattle.std.proofs.Common.{refl}
 use Rattle.errands_lib.specs.Told.{nothing, told}
-use Rattle.errands_text.specs.Said.{said}
+use Rattle.fleet_text.specs.Said.{said}
 use Rattle.errands_lib.proofs.Jobs.{for_both, for_each}
 use Rattle.errands_lib.proofs.program.run_plain.Goals as goal
 

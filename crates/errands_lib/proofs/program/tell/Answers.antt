@@ -1,6 +1,6 @@
 -- What is told where the output was not taken whole: a file failed.
 use Rattle.std.proofs.Common.{ℕ, List, subst}
-use Rattle.errands_text.specs.Transfer.{AppendsPrefix}
+use Rattle.fleet_text.specs.Transfer.{AppendsPrefix}
 use Rattle.errands_lib.specs.Told.{cut_short}
 use Rattle.errands_lib.proofs.program.tell.Goals as goal
 

@@ -1,4 +1,4 @@
-use Rattle.errands_text.specs.Kit.{kit_laws}
+use Rattle.fleet_text.specs.Kit.{kit_laws}
 use Rattle.errands_lib.proofs.Services.{serve_job_is}
 use Rattle.errands_lib.proofs.service.answer_job.Goals as goal
 

@@ -2,7 +2,7 @@
 use Rattle.std.proofs.Common.{refl}
 use Rattle.fleet_grid.specs.Floor.{floor_of_map}
 use Rattle.fleet_map.specs.Grammar.{view}
-use Rattle.errands_text.specs.Kit.{kit_laws}
+use Rattle.fleet_text.specs.Kit.{kit_laws}
 use Rattle.errands_lib.proofs.Outcomes.{said_is, said_more, fails_line}
 use Rattle.fleet_script.specs.Shown.{plan}
 use Rattle.errands_lib.specs.Outcome.{IsServedScript, IsServeOutcome, done, script_faulty}

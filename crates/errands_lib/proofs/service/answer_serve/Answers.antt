@@ -1,8 +1,8 @@
 -- What is said of a map, and of the script that is to be served on it.
 use Rattle.std.proofs.Common.{ap}
-use Rattle.errands_text.specs.Outcome.{fault}
+use Rattle.fleet_text.specs.Outcome.{fault}
 use Rattle.errands_lib.specs.Outcome.{IsServeOutcome, map_faulty}
-use Rattle.errands_text.specs.Kit.{kit_laws}
+use Rattle.fleet_text.specs.Kit.{kit_laws}
 use Rattle.errands_lib.proofs.Outcomes.{said_is, map_fails}
 use Rattle.errands_lib.proofs.service.answer_serve.Goals as goal
 

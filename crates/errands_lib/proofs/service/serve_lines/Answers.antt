@@ -2,9 +2,9 @@
 use Rattle.std.proofs.Common.{subst}
 use Rattle.fleet_grid.specs.Floor.{Floor}
 use Rattle.std.specs.Prelude.{IfOk}
-use Rattle.errands_text.specs.Said.{said}
+use Rattle.fleet_text.specs.Said.{said}
 use Rattle.fleet_script.specs.Shown.{plan}
-use Rattle.errands_text.specs.Kit.{kit_laws}
+use Rattle.fleet_text.specs.Kit.{kit_laws}
 use Rattle.errands_lib.specs.Outcome.{IsServed}
 use Rattle.errands_lib.proofs.service.serve_lines.Goals as goal
 

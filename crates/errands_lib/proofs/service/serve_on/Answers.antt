@@ -3,8 +3,8 @@ use Rattle.std.proofs.Common.{rules, ◌≡◌, refl}
 use Rattle.fleet_history.specs.History.{history_of}
 use Rattle.fleet_core.specs.Hooks.{laws_of}
 use Rattle.fleet_script.specs.Shown.{plan}
-use Rattle.errands_text.specs.Kit.{kit_laws, chosen_laws}
-use Rattle.errands_text.proofs.Kits.{first_laws, chosen_is}
+use Rattle.fleet_text.specs.Kit.{kit_laws, chosen_laws}
+use Rattle.fleet_text.proofs.Kits.{first_laws, chosen_is}
 use Rattle.errands_lib.proofs.Services.{served_is, unserved_is}
 use Rattle.errands_lib.proofs.service.serve_on.Goals as goal
 

@@ -6,9 +6,9 @@ use Rattle.fleet_grid.specs.Floor.{floor_of_map}
 use Rattle.fleet_map.specs.Grammar.{view}
 use Rattle.fleet_script.specs.Shown.{plan}
 use Rattle.fleet_serve.specs.Posted.{IsLine}
-use Rattle.errands_text.specs.declared.said.Complaint.TheVariants as complaint
-use Rattle.errands_text.specs.Kit.{kit_laws}
-use Rattle.errands_text.specs.Outcome.{fault}
+use Rattle.fleet_text.specs.declared.said.Complaint.TheVariants as complaint
+use Rattle.fleet_text.specs.Kit.{kit_laws}
+use Rattle.fleet_text.specs.Outcome.{fault}
 use Rattle.errands_lib.specs.Outcome.{IsServed, IsServedScript, other, lines}
 use Rattle.errands_lib.proofs.Outcomes.{said_is, said_more}
 use Rattle.errands_lib.proofs.service.serve_script.Goals as goal

@@ -1,6 +1,6 @@
 use Rattle.std.proofs.Common.{false}
 use Rattle.errands_lib.specs.Answer.{IsBundleOutcome, IsPartsOutcome, split}
-use Rattle.errands_text.specs.Kit.{kit_laws}
+use Rattle.fleet_text.specs.Kit.{kit_laws}
 use Rattle.errands_lib.proofs.Outcomes.{said_more}
 use Rattle.errands_lib.proofs.texts.answer_bundle.Goals as goal
 

@@ -1,7 +1,7 @@
 use Rattle.std.proofs.Common.{ap}
 use Rattle.fleet_grid.specs.Floor.{floor_of_map}
 use Rattle.fleet_map.specs.Grammar.{view}
-use Rattle.errands_text.specs.Outcome.{fault}
+use Rattle.fleet_text.specs.Outcome.{fault}
 use Rattle.errands_lib.specs.Answer.{IsDescribed, IsMapOutcome, refused, described}
 use Rattle.errands_lib.proofs.Outcomes.{said_is, said_more, map_fails}
 use Rattle.errands_lib.proofs.texts.answer_map.Goals as goal

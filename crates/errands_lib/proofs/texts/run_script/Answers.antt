@@ -6,11 +6,11 @@ use Rattle.fleet_map.specs.Grammar.{view}
 use Rattle.fleet_world.specs.Run.{State}
 use Rattle.fleet_world.specs.Played.{end_of}
 use Rattle.fleet_core.specs.Hooks.{laws_of}
-use Rattle.errands_text.specs.Kit.{kit_laws}
+use Rattle.fleet_text.specs.Kit.{kit_laws}
 use Rattle.errands_lib.specs.Answer.{IsScriptOutcome}
 use Rattle.fleet_script.specs.Shown.{plan}
 use Rattle.errands_lib.proofs.Outcomes.{run_length, said_is, ran_is, lawful_is, none_refused, refused_is}
-use Rattle.errands_text.proofs.Kits.{first_laws, chosen_is}
+use Rattle.fleet_text.proofs.Kits.{first_laws, chosen_is}
 use Rattle.errands_lib.proofs.texts.run_script.Goals as goal
 
 pub ended_text-requires : goal.ended_text-requires

@@ -1,6 +1,6 @@
 -- What is said of a world that was not opened.
 use Rattle.std.proofs.Common.{ap}
-use Rattle.errands_text.specs.Outcome.{fault}
+use Rattle.fleet_text.specs.Outcome.{fault}
 use Rattle.errands_lib.specs.Answer.{IsUnplayed}
 use Rattle.errands_lib.proofs.Outcomes.{said_is}
 use Rattle.errands_lib.proofs.texts.unplayed.Goals as goal

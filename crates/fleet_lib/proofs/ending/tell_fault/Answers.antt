@@ -1,7 +1,7 @@
 -- Why a conversation broke off, or was not held.
 use Rattle.std.proofs.Common.{Option, subst}
 use Rattle.std.specs.Option.{option_map}
-use Rattle.errands_text.specs.declared.said.Complaint.{Complaint}
+use Rattle.fleet_text.specs.declared.said.Complaint.{Complaint}
 use Rattle.fleet_talk.specs.declared.fault.TalkFault.{TalkFault}
 use Rattle.fleet_lib.specs.Ended.{TellsFault, file_shown}
 use Rattle.fleet_lib.specs.Talk.{Complains}

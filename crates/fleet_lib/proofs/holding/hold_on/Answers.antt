@@ -2,7 +2,7 @@
 use Rattle.std.proofs.Common.{ap}
 use Rattle.std.specs.Option.{option_map}
 use Rattle.std.specs.Io.Buffered.{reader_remaining}
-use Rattle.errands_text.specs.Kit.{kit_laws}
+use Rattle.fleet_text.specs.Kit.{kit_laws}
 use Rattle.fleet_talk.specs.Chapters.{chapter_shown}
 use Rattle.fleet_talk.specs.Conversation.{KeptChapters, Terms}
 use Rattle.fleet_talk.specs.Heading.{drafted}

@@ -2,8 +2,8 @@
 use Rattle.std.proofs.Common.{Option, IfSome, refl, subst}
 use Rattle.std.specs.Option.{option_map}
 use Rattle.std.specs.Io.Buffered.{reader_remaining}
-use Rattle.errands_text.specs.Kit.{KitLaws}
-use Rattle.errands_text.proofs.Kits.{laws-are, kit-is}
+use Rattle.fleet_text.specs.Kit.{KitLaws}
+use Rattle.fleet_text.proofs.Kits.{laws-are, kit-is}
 use Rattle.fleet_talk.specs.Chapters.{chapter_shown}
 use Rattle.fleet_talk.specs.Conversation.{KeptChapters, Terms}
 use Rattle.fleet_talk.specs.Heading.{drafted}

@@ -1,6 +1,6 @@
 -- The line was written, or a prefix of it.
 use Rattle.std.proofs.Common.{◌∙◌, List, ℕ, refl, sym, subst}
-use Rattle.errands_text.specs.Transfer.{AppendsPrefix}
+use Rattle.fleet_text.specs.Transfer.{AppendsPrefix}
 use Rattle.fleet_lib.specs.Kept.{told}
 use Rattle.fleet_lib.proofs.kept.complain_of_kept.Goals as goal
 

@@ -5,8 +5,8 @@ use Rattle.std.specs.declared.alloc.Global.{Global}
 use Rattle.fleet_core.specs.Hooks.{laws_of}
 use Rattle.fleet_core.specs.OpeningFaults.{IsRefused}
 use Rattle.fleet_script.specs.Script.{plan_from}
-use Rattle.errands_text.specs.Kit.{kit_laws}
-use Rattle.errands_text.proofs.Kits.{first_laws, chosen_is}
+use Rattle.fleet_text.specs.Kit.{kit_laws}
+use Rattle.fleet_text.proofs.Kits.{first_laws, chosen_is}
 use Rattle.fleet_office.specs.Views.{DeskView}
 use Rattle.fleet_talk.specs.declared.fault.TalkFault.TheVariants.{Opening}
 use Rattle.fleet_talk.specs.Conversation.{clients_in, laws_in, limits_in}

@@ -1,6 +1,6 @@
 -- The world goes on from a chapter, so no notice waits in it.
 use Rattle.std.proofs.Common.{sym, subst}
-use Rattle.errands_text.specs.Kit.{kit_laws}
+use Rattle.fleet_text.specs.Kit.{kit_laws}
 use Rattle.fleet_history.specs.History.{history_of}
 use Rattle.fleet_talk.specs.Heading.{drafted}
 use Rattle.fleet_talk.specs.Resumed.{laws_after}

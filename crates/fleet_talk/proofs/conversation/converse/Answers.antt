@@ -1,7 +1,7 @@
 -- What a conversation came to, and its last write.
 use Rattle.std.proofs.Common.{List, ℕ, IfSome, subst}
 use Rattle.std.specs.Io.Buffered.{reader_remaining}
-use Rattle.errands_text.specs.Kit.{kit_laws}
+use Rattle.fleet_text.specs.Kit.{kit_laws}
 use Rattle.fleet_talk.specs.declared.ends.Settings.{Settings}
 use Rattle.fleet_talk.specs.Conversation.{ComesTo, KeptChapters, Terms}
 use Rattle.fleet_talk.specs.Heading.{drafted}

@@ -3,15 +3,16 @@ use Rattle.std.proofs.Common.{ℕ, List, Option, Err, IfSome, refl, sym, ap, sub
 use Rattle.std.specs.Prelude.{OnOk}
 use Rattle.std.specs.declared.alloc.Global.{Global}
 use Rattle.std.specs.Io.Buffered.{reader_remaining}
-use Rattle.errands_text.specs.Kit.{kit_laws}
-use Rattle.fleet_history.specs.History.{history_of}
+use Rattle.fleet_text.specs.Kit.{kit_laws}
 use Rattle.fleet_world.specs.Keeps.{talk}
+use Rattle.fleet_world.specs.Talk.{Talk}
 use Rattle.fleet_talk.specs.declared.fault.TalkFault.{TalkFault}
 use Rattle.fleet_talk.specs.Chapters.{ChapterView, KeepsTurned}
 use Rattle.fleet_talk.specs.Conversation.{ComesTo, KeptChapters, Terms}
+use Rattle.fleet_talk.specs.Fleet.{opened_fleet}
 use Rattle.fleet_talk.specs.Heading.{HearsAll, drafted}
+use Rattle.fleet_talk.specs.Open.{fleet_of}
 use Rattle.fleet_talk.proofs.Finishing.{come-head, come-unopened, come-refused, come-talk}
-use Rattle.fleet_talk.proofs.Keeping.{keeps-last, sound-is}
 use Rattle.fleet_talk.proofs.conversation.hold.Goals as goal
 
 pub returns-in-Ok : goal.returns-in-Ok
@@ -19,19 +20,13 @@ returns-in-Ok g c =
     let on : Terms = record { kit = kit_laws c.args.ground.kit; floor = c.args.ground.grid; settings = c.args.pen.now.settings; head = drafted c.args.ground.head } in
     let before = g.S.ChapterSink.kept c.args.ends.now.sink in
     let mid = g.S.ChapterSink.kept c.go_on-ended.new.ends.sink in
-    let after = g.S.ChapterSink.kept c.keep_last.new.sink in
-    let last = talk c.go_on-ended.new.session in
-    come-talk on before mid after (reader_remaining g.I.Read.remaining c.args.ends.now.input) (reader_remaining g.I.Read.remaining c.hear_head.new.ends.input) (g.W.Write.contents c.args.ends.now.output) (g.W.Write.contents c.hear_head.new.ends.output) (g.W.Write.contents c.go_on-ended.new.ends.output) (drafted c.hear_head.new.head) c.hear_head.new.bytes.items c.in-Ok-Some.first c.args.pen.now.out.items c.hear_head.new.pen.out.items c.go_on-ended.new.pen.out.items c.hear_head.new.pen.settings (talk c.in-Ok.session) last c.go_on-ended.result c.keep_last.result
+    let after = g.S.ChapterSink.kept c.close.new.sink in
+    let last = fleet_of c.go_on-ended.new.fleet in
+    come-talk on before mid after (reader_remaining g.I.Read.remaining c.args.ends.now.input) (reader_remaining g.I.Read.remaining c.hear_head.new.ends.input) (g.W.Write.contents c.args.ends.now.output) (g.W.Write.contents c.hear_head.new.ends.output) (g.W.Write.contents c.go_on-ended.new.ends.output) (drafted c.hear_head.new.head) c.hear_head.new.bytes.items c.in-Ok-Some.first c.args.pen.now.out.items c.hear_head.new.pen.out.items c.go_on-ended.new.pen.out.items c.hear_head.new.pen.settings (opened_fleet (talk c.in-Ok.session)) last c.go_on-ended.result c.close.result
     (subst (λ (at : Option ℕ). IfSome (reader_remaining g.I.Read.remaining c.args.ends.now.input) (λ xs. HearsAll c.args.pen.now.settings (drafted c.args.ground.head) xs (reader_remaining g.I.Read.remaining c.hear_head.new.ends.input) (drafted c.hear_head.new.head) c.hear_head.new.bytes.items at (g.W.Write.contents c.args.ends.now.output) (g.W.Write.contents c.hear_head.new.ends.output) c.args.pen.now.out.items c.hear_head.new.pen.out.items)) c.in-Ok-Some.field-0-is c.in-Ok-Some.ensures.all)
-    c.hear_head.ensures.settings c.in-Ok.ensures.can c.in-Ok.ensures.orderly c.in-Ok.ensures.ok c.go_on-ended.ensures.talks c.go_on-ended.ensures.broken
-    (subst (λ (known : Option (List (ChapterView Global))). OnOk c.go_on-ended.result (KeepsTurned known mid (talk c.in-Ok.session) last)) (ap g.S.ChapterSink.kept c.hear_head.ensures.sink) c.go_on-ended.ensures.kept)
-    c.keep_last.ensures.ended
-    (keeps-last c.keep_last.result mid after last c.finish-grid.result.1.number (history_of c.finish-grid.result.1) c.finish-grid.ensures.number c.finish-grid.ensures.history c.finish-grid.ensures.legal c.finish-grid.ensures.advancing c.keep_last.ensures.kept)
-
-pub keep_last-requires : goal.keep_last-requires
-keep_last-requires g c =
-    let world = c.go_on-ended.new.session.world.core in
-    record { sound = (world.floor, sound-is world.floor world.history (history_of c.finish-grid.result.1) c.finish-grid.ensures.history c.finish-grid.ensures.legal c.finish-grid.ensures.advancing) }
+    c.hear_head.ensures.settings c.in-Ok.ensures.can c.in-Ok.ensures.orderly (λ starts is. ap (λ (s : Talk Global). opened_fleet s) (c.in-Ok.ensures.ok starts is)) c.go_on-ended.ensures.talks c.go_on-ended.ensures.broken
+    (subst (λ (known : Option (List (ChapterView Global))). OnOk c.go_on-ended.result (KeepsTurned known mid (talk c.in-Ok.session) last.talk)) (ap g.S.ChapterSink.kept c.hear_head.ensures.sink) c.go_on-ended.ensures.kept)
+    c.close.ensures.ended c.close.ensures.kept
 
 pub returns-in-Ok-Some : goal.returns-in-Ok-Some
 returns-in-Ok-Some g c =

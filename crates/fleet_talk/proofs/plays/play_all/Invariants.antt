@@ -5,15 +5,16 @@ use Rattle.fleet_world.specs.Keeps.{talk}
 use Rattle.fleet_talk.specs.Act.{play}
 use Rattle.fleet_talk.specs.Acts.{Talks}
 use Rattle.fleet_talk.specs.Chapters.{KeepsTurned}
+use Rattle.fleet_talk.specs.Open.{fleet_of}
 use Rattle.fleet_talk.specs.Said.{under}
 use Rattle.fleet_talk.specs.Says.{Says}
 use Rattle.fleet_talk.proofs.plays.play_all.Given as goal
 
 abbrev pub invariant-loop : goal.invariant-loop
 invariant-loop g l = record {
-  talks : (text : List ℕ) × Talks l.fn.pen.settings.roll (talk l.fn.session) (replicate l.counter (play (under l.mark) l.more.event)) text (talk l.session)
+  talks : (text : List ℕ) × Talks l.fn.pen.settings.roll (fleet_of l.fn.fleet) (replicate l.counter (play (under l.mark) l.more.event)) text (fleet_of l.fleet)
       × Says (g.W.Write.contents l.fn.ends.output) (g.W.Write.contents l.ends.output) l.fn.pen.out.items l.pen.out.items text;
-  kept : KeepsTurned (g.S.ChapterSink.kept l.fn.ends.sink) (g.S.ChapterSink.kept l.ends.sink) (talk l.fn.session) (talk l.session);
+  kept : KeepsTurned (g.S.ChapterSink.kept l.fn.ends.sink) (g.S.ChapterSink.kept l.ends.sink) (talk l.fn.fleet.session) (talk l.fleet.session);
   settings : l.pen.settings ≡ l.fn.pen.settings;
   input : l.ends.input ≡ l.fn.ends.input;
 }

@@ -1,8 +1,8 @@
 -- The closures that are chosen have the laws that are chosen.
 use Rattle.std.proofs.Common.{◌∙◌, Bool, length, ap}
 use Rattle.std.specs.Prelude.{if◌then◌else◌, unwrap_or}
-use Rattle.errands_text.specs.Kit.{kit_laws}
-use Rattle.errands_text.proofs.Kits.{first_laws}
+use Rattle.fleet_text.specs.Kit.{kit_laws}
+use Rattle.fleet_text.proofs.Kits.{first_laws}
 use Rattle.fleet_core.specs.Hooks.{laws_of}
 use Rattle.fleet_talk.specs.Resumed.{has_stamps}
 use Rattle.fleet_talk.proofs.Resumptions.{cut-is}

@@ -1,6 +1,6 @@
 -- What a chapter asked for that a fleet goes on from.
 use Rattle.std.proofs.Common.{◌∙◌, sym}
-use Rattle.errands_text.specs.Kit.{kit_laws}
+use Rattle.fleet_text.specs.Kit.{kit_laws}
 use Rattle.fleet_core.specs.Hooks.{laws_of}
 use Rattle.fleet_history.specs.History.{history_of}
 use Rattle.fleet_talk.specs.Heading.{drafted}

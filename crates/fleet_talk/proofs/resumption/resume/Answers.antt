@@ -1,7 +1,7 @@
 -- A conversation whose fleet went on.
 use Rattle.std.proofs.Common.{Err, ap}
 use Rattle.std.specs.Io.Buffered.{reader_remaining}
-use Rattle.errands_text.specs.Kit.{kit_laws}
+use Rattle.fleet_text.specs.Kit.{kit_laws}
 use Rattle.fleet_world.specs.Keeps.{talk}
 use Rattle.fleet_talk.specs.declared.fault.TalkFault.TheVariants.{Output}
 use Rattle.fleet_talk.specs.Chapters.{chapter_shown}
@@ -14,7 +14,7 @@ pub returns-in-Ok-converse_open-clause-ended : goal.returns-in-Ok-converse_open-
 returns-in-Ok-converse_open-clause-ended g c =
     let on : Terms = record { kit = kit_laws c.args.ground.kit; floor = c.args.ground.grid; settings = c.args.settings; head = drafted c.args.ground.head } in
     let k : KeptChapters = record { old = g.S.ChapterSink.kept c.args.ends.now.sink; new = g.S.ChapterSink.kept c.converse_open.new.ends.sink } in
-    resumption-whole on (chapter_shown c.args.chapter) (talk c.in-Ok.session) c.in-Ok.ensures.ok c.in-Ok.ensures.may (reader_remaining g.I.Read.remaining c.args.ends.now.input) (g.W.Write.contents c.args.ends.now.output) (g.W.Write.contents c.converse_open.new.ends.output) k
+    resumption-whole on (chapter_shown c.args.chapter) (talk c.in-Ok.session) c.in-Ok.ensures.ok c.in-Ok.ensures.may (reader_remaining g.I.Read.remaining c.args.ends.now.input) (g.W.Write.contents c.args.ends.now.output) (g.W.Write.contents c.converse_open.new.ends.output) k c.in-Ok-converse_open.limited
     c.in-Ok-converse_open.ensures.ended
 
 pub returns-in-Err-converse_open-clause-broken : goal.returns-in-Err-converse_open-clause-broken

@@ -1,7 +1,7 @@
 -- The head of the verdicts, and their lines.
 use Rattle.std.proofs.Common.{codes, flat_map, string_bytes}
 use Rattle.std.proofs.lemmas.Result.{on_ok_weaker}
-use Rattle.errands_text.proofs.RunLines.{on}
+use Rattle.fleet_text.proofs.RunLines.{on}
 use Rattle.live_parts.specs.Figures.{all_verdicts, kind_line}
 use Rattle.live_parts.proofs.figures.add_verdicts.Goals as goal
 

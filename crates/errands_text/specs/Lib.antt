@@ -1,7 +1,0 @@
-pub mod Output
-pub mod MapReport
-pub mod Complaint
-pub mod Transfer
-pub mod Outcome
-pub mod Said
-pub mod Kit

@@ -1,0 +1,27 @@
+//! The hooks that a script chooses from.
+
+ghost use Rattle.std.specs.Prelude.{◌≡◌, if◌then◌else◌};
+ghost use Rattle.fleet_core.specs.Hooks.{laws_of};
+ghost use Rattle.fleet_text.specs.Kit.{kit_laws};
+
+use fleet_hooks::Hooks;
+use std::alloc::{Allocator, Global};
+
+/// The hooks of both choices, for each robot.
+#[derive(Drop)]
+pub struct HookKit<A: Allocator + Copy = Global> {
+    /// Every rank, stamp and farewell is 0.
+    pub plain: Hooks<A>,
+    /// The cell to the south is tried first, the stamp is the tick modulo 1,000, and the farewell the cell.
+    pub south: Hooks<A>,
+}
+
+impl<A: Allocator + Copy> HookKit<A> {
+    /// The hooks that a script chooses.
+    pub fn choose(self, southern: bool) -> Hooks<A>
+        ensures { laws_of result ≡ if southern then (kit_laws self).south else (kit_laws self).plain }
+    {
+        let HookKit { plain, south } = self;
+        if southern { south } else { plain }
+    }
+}
