@@ -48,14 +48,17 @@ class ChapterFolder:
             self._lock.close()
             raise FileFailed(f"the folder {path} is in use by another fleet") from error
         try:
-            self.last = self._last() if resume else self._none(path)
+            if resume:
+                self.last = self._last()
+            else:
+                self._need_none(path)
         except FileFailed:
             self.let_go()
             raise
         self._lock.write("a fleet keeps its chapters here\n")
         self._lock.flush()
 
-    def _none(self, path: str) -> None:
+    def _need_none(self, path: str) -> None:
         if any(self._path.glob("chapter-*.json")):
             raise FileFailed(f"the folder {path} has chapters of another fleet")
 

@@ -40,7 +40,7 @@ def reopened(told: opening.Opening, kept: KeptChapter, built: Optional[Place]) -
     number = of_chapter.pop("chapter", kept.number)
     limits = {**opening.ENDLESS, **of_chapter, **told.limits}
     try:
-        handle = Handle.reopen(opening.read_map(told.map), kept.text, built=built, **limits)
+        handle = Handle.reopen(opening.read_map(told.map), kept.text, None, built=built, **limits)
     except Refused as refused:
         if refused.name not in _REASONS:
             raise

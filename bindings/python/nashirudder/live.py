@@ -69,9 +69,9 @@ class LiveFleet(Closing):
     live` keeps it.
 
     With two `tickers` turns go on while a full chapter is written. `on_tick` is called with the number of each tick and
-    the robots' cells, in a thread of its own, in which it may call any method; an exception of it is reported as that
-    of any thread, and the next tick is told all the same. While it is slower than the fleet, ticks are left out. A full
-    chapter is followed by the next. With `keep_every_ms` a chapter is written to `traces` at least once in this many
+    the robots' cells, in a thread of its own, in which it may call any method. The first call may come before the
+    constructor has returned. An exception of it is reported as that of any thread, and the next tick is told all the
+    same. While it is slower than the fleet, ticks are left out. A full chapter is followed by the next. With `keep_every_ms` a chapter is written to `traces` at least once in this many
     milliseconds, 0.001 to 3,600,000, so that a fleet that is killed loses no more than that. The other words are those
     of `Fleet`, and so are the exceptions. Any thread may call any method.
     """

@@ -201,8 +201,15 @@ class OnTickTest(OnRing):
     """`on_tick` may call the fleet, and may fail."""
 
     def test_a_callback_that_calls(self):
-        seen = []
-        with self.fleet(LiveFleet, period_ms=2, on_tick=lambda tick, _: seen.append((tick, fleet.look().tick))) as fleet:
+        seen, begun = [], threading.Event()
+
+        def look(tick, _cells):
+            # The first tick may be told before `fleet` has its value.
+            begun.wait(10)
+            seen.append((tick, fleet.look().tick))
+
+        with self.fleet(LiveFleet, period_ms=2, on_tick=look) as fleet:
+            begun.set()
             errand = fleet.go(0, 2)
             self.assertEqual(errand.arrived(10).cell, 2)
             while len(seen) < 5:
