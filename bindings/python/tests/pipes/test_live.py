@@ -375,6 +375,21 @@ class LiveTest(unittest.TestCase):
         name = os.path.join(self.folder.name, "missing", "figures")
         self.assertEqual(self.run_lines("look\n", "--robots", "0,8", "--metrics", name), (3, "", f"fleet: file {name} cannot be written\n"))
 
+    def test_bytes_of_kept_fields(self):
+        """A goal that comes back has a whole field, a byte for each of the map's 9 cells, and that is kept once no robot needs it."""
+        name = os.path.join(self.folder.name, "figures")
+        for goals, wanted in (((1, 2), 0), ((1, 2, 1), 9), ((1, 2, 1, 2, 3), 18)):
+            with subprocess.Popen([PROGRAM, "live", "--robots", "0,8", "--metrics", name, self.map], stdin=subprocess.PIPE, stdout=subprocess.PIPE) as process:
+                process.stdin.write("".join(f"post 0 go 0 {goal}\n" for goal in goals).encode() + b"tick 30\n")
+                process.stdin.flush()
+                seen, begun = {}, time.monotonic()
+                while seen.get("fleet_arrivals_total") != str(len(goals)) and time.monotonic() - begun < 10:
+                    time.sleep(0.05)
+                    seen = self.figures(name)
+                process.communicate()
+            self.assertEqual(process.returncode, 0)
+            self.assertEqual(seen["fleet_kept_field_bytes"], str(wanted), goals)
+
     def test_a_client_whose_output_fails(self):
         way = os.path.join(self.folder.name, "in0")
         os.mkfifo(way)
