@@ -1,10 +1,11 @@
 //! How the search leaves a cell.
 
-ghost use Rattle.std.specs.Prelude.{◌≡◌, ℕ, ◌+◌, ◌*◌, ◌<◌, ◌≤◌, length, vec_len, vec_capacity};
+ghost use Rattle.std.specs.Prelude.{◌≡◌, ℕ, ◌+◌, ◌*◌, ◌<◌, ◌≤◌, ◌↔◌, length, vec_len, vec_capacity, IsTrue};
 ghost use Rattle.fleet_grid.specs.declared.dir.Dir.{Dir as Way};
 ghost use Rattle.fleet_grid.specs.Floor.{cell_across};
 ghost use Rattle.fleet_grid.specs.Ways.{IsWay};
 ghost use Rattle.fleet_field.specs.Growing.{search_of};
+ghost use Rattle.fleet_field.specs.inside.Estimate.{IsToward};
 ghost use Rattle.fleet_field.specs.inside.Known.{zero_count};
 ghost use Rattle.fleet_field.specs.inside.Left.{IsLeft, IsSpread};
 
@@ -16,7 +17,8 @@ impl<A: Allocator + Copy> GrowingField<A> {
     /// Leaves a cell in a direction: if the cell there is open and the search has not come to it, it comes to it now if that is
     /// toward the target, and lets it wait otherwise.
     #[inline(always)]
-    fn leave(&mut self, exits: Ways, cell: u32, dir: Dir)
+    fn leave(&mut self, exits: Ways, cell: u32, dir: Dir, is_toward: bool)
+        requires toward { IsTrue is_toward ↔ IsToward self.old.target cell dir }
         requires wide { 0 < self.old.target.width }
         requires slim { self.old.target.width ≤ 1024 }
         requires few { cell < 1048576 }
@@ -41,7 +43,7 @@ impl<A: Allocator + Copy> GrowingField<A> {
         if self.labels[next as usize] != 0 {
             return;
         }
-        if self.target.is_toward(cell, dir) {
+        if is_toward {
             self.labels[next as usize] = self.mark;
             self.now.push_reserved(next);
         } else {
@@ -67,9 +69,15 @@ impl<A: Allocator + Copy> GrowingField<A> {
         ensures seen { vec_len self.new.now + zero_count self.new.labels.items ≡ vec_len self.old.now + zero_count self.old.labels.items }
         ensures fewer { zero_count self.new.labels.items ≤ zero_count self.old.labels.items }
     {
-        self.leave(exits, cell, Dir::North);
-        self.leave(exits, cell, Dir::East);
-        self.leave(exits, cell, Dir::South);
-        self.leave(exits, cell, Dir::West);
+        // Before anything is written, so that the cell's row and column are worked out once.
+        let target = self.target;
+        let north = target.is_toward(cell, Dir::North);
+        let east = target.is_toward(cell, Dir::East);
+        let south = target.is_toward(cell, Dir::South);
+        let west = target.is_toward(cell, Dir::West);
+        self.leave(exits, cell, Dir::North, north);
+        self.leave(exits, cell, Dir::East, east);
+        self.leave(exits, cell, Dir::South, south);
+        self.leave(exits, cell, Dir::West, west);
     }
 }
