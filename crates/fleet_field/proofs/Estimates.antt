@@ -7,7 +7,7 @@ use Rattle.fleet_grid.specs.declared.dir.Dir.TheVariants.{North, East, South, We
 use Rattle.fleet_grid.specs.Floor.{Floor, IsBeside, IsNeighbour}
 use Rattle.fleet_grid.proofs.Columns.{next_column, last_column}
 use Rattle.fleet_field.specs.declared.target.Target.{Target}
-use Rattle.fleet_field.specs.inside.Estimate.{estimate, IsToward}
+use Rattle.fleet_field.specs.inside.Estimate.{gap, estimate, IsToward}
 
 -- the row and the column of the cell below
 parts_below : (w n : ℕ) → n + w ≡ (n / w + 1) * w + n % w
@@ -86,3 +86,13 @@ neighbour_step m t a b pos same n =
       | inl near ↦ inl (estimate_toward t n.0 a b pos side near)
       | inr far ↦ inr (estimate_away t n.0 a b pos side far)
     ]
+
+pub gap_same : (a : ℕ) → gap a a ≡ 0
+gap_same a = omega arith
+
+-- two numbers are no farther apart than by way of a third
+pub gap_over : (a b c : ℕ) → gap a c ≤ gap b c + gap b a
+gap_over a b c = elim (cases_lt a b) [
+  | inl l ↦ elim (cases_lt b c) [ inl p ↦ omega (arith, l, p) | inr p ↦ elim (cases_lt a c) [ inl q ↦ omega (arith, l, p, q) | inr q ↦ omega (arith, l, p, q) ] ]
+  | inr l ↦ elim (cases_lt b c) [ inl p ↦ elim (cases_lt a c) [ inl q ↦ omega (arith, l, p, q) | inr q ↦ omega (arith, l, p, q) ] | inr p ↦ omega (arith, l, p) ]
+]

@@ -32,11 +32,11 @@ first_or x xs y c = go c.0 c.1 c.2
     go zero l e = inl e
     go (suc i) l e = inr (i, omega (arith, l), e)
 
-every : (d : Dir) → Contains (North ∷ East ∷ South ∷ West ∷ []) d
-every North = (0, omega arith, refl)
-every East = (1, omega arith, refl)
-every South = (2, omega arith, refl)
-every West = (3, omega arith, refl)
+every : (d : Dir) → Contains (South ∷ West ∷ North ∷ East ∷ []) d
+every South = (0, omega arith, refl)
+every West = (1, omega arith, refl)
+every North = (2, omega arith, refl)
+every East = (3, omega arith, refl)
 
 -- one label more
 new_here : (labels : List ℕ) (c k : ℕ) → c < length labels → slice_index (set labels c (label k)) c ≡ label k
@@ -249,7 +249,7 @@ module _ (m : Floor) (t : Target) (aimed : ℕ) (pos : 0 < t.width) (same : t.wi
             }
 
       -- the last cell that has a label is taken, and left in no direction yet
-      pub lifted : (rest : List ℕ) (cell : ℕ) → s.now ≡ rest ++ cell ∷ [] → IsLeaving m t aimed k (record s { now = rest }) cell (North ∷ East ∷ South ∷ West ∷ [])
+      pub lifted : (rest : List ℕ) (cell : ℕ) → s.now ≡ rest ++ cell ∷ [] → IsLeaving m t aimed k (record s { now = rest }) cell (South ∷ West ∷ North ∷ East ∷ [])
       lifted rest cell popped = record {
         size = known.size;
         right = known.right;
@@ -398,13 +398,13 @@ module _ (m : Floor) (t : Target) (aimed : ℕ) (pos : 0 < t.width) (same : t.wi
   left_one k cell ways mark dir dirs s new e (inr (inr d)) at ways_open known = subst (λ (x : Search). IsLeaving m t aimed k x cell dirs) (sym d.2) (away_left k s cell ways dir dirs known at ways_open d.0 d.1)
 
   pub all_left : (k cell ways mark : ℕ) (s new : Search) → mark ≡ label k → IsSpread t ways mark cell s new → IsAt m t aimed cell k → AreOpen m cell ways
-      → IsLeaving m t aimed k s cell (North ∷ East ∷ South ∷ West ∷ []) → IsKnown m t aimed k new
+      → IsLeaving m t aimed k s cell (South ∷ West ∷ North ∷ East ∷ []) → IsKnown m t aimed k new
   all_left k cell ways mark s new e p at ways_open known =
       whole k new cell
-      (left_one k cell ways mark West [] p.third new e p.west at ways_open
-      (left_one k cell ways mark South (West ∷ []) p.second p.third e p.south at ways_open
-      (left_one k cell ways mark East (South ∷ West ∷ []) p.first p.second e p.east at ways_open
-      (left_one k cell ways mark North (East ∷ South ∷ West ∷ []) s p.first e p.north at ways_open known))))
+      (left_one k cell ways mark East [] p.third new e p.east at ways_open
+      (left_one k cell ways mark North (East ∷ []) p.second p.third e p.north at ways_open
+      (left_one k cell ways mark West (North ∷ East ∷ []) p.first p.second e p.west at ways_open
+      (left_one k cell ways mark South (West ∷ North ∷ East ∷ []) s p.first e p.south at ways_open known))))
 
 pub one_less : (labels : List ℕ) (cell mark : ℕ) → cell < length labels → slice_index labels cell ≡ 0 → 0 < mark → zero_count (set labels cell mark) + 1 ≡ zero_count labels
 one_less labels cell mark inside unseen some =

@@ -41,7 +41,7 @@ begun m t aimed labels now next later size none f free one empty = record {
     only : (v : ℕ) → Contains (aimed ∷ []) v → IsFloor m v × IsWithin m t aimed v 0
     only v c = (let e = is_goal v c.0 c.1 c.2 in (subst (IsFloor m) (sym e) f, subst (λ (x : ℕ). IsWithin m t aimed x 0) (sym e) goal_within))
 
-pub turned_mark : (mark k : ℕ) → mark ≡ label k → 3 - mark ≡ label (k + 1)
+pub turned_mark : (mark k : ℕ) → mark ≡ label k → 1 + mark % 2 ≡ label (k + 1)
 turned_mark mark k e = omega (arith, e)
 
 replicate_zero : (n v : ℕ) → slice_index (replicate n 0) v ≡ 0
@@ -72,7 +72,7 @@ module _ {A : Type 0} (m : Floor) (f g : GrowingField A) (s : Serves m f) where
     known = rw (goal, target, e) known;
   }
 
-  pub onward_serves : f.now.items ≡ [] → f.next.items ≡ [] → g.goal ≡ f.goal → g.target ≡ f.target → g.mark ≡ 3 - f.mark
+  pub onward_serves : f.now.items ≡ [] → f.next.items ≡ [] → g.goal ≡ f.goal → g.target ≡ f.target → g.mark ≡ 1 + f.mark % 2
       → search_of g ≡ record { labels = f.labels.items; now = f.now.items; next = f.later.items; later = f.next.items } → Serves m g
   onward_serves none empty goal target mark e =
       serves_by goal target (s.steps + 1) (mark ∙ turned_mark f.mark s.steps s.mark) (record { labels = f.labels.items; now = f.now.items; next = f.later.items; later = f.next.items })

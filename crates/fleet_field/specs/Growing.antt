@@ -1,6 +1,8 @@
 -- A field that is searched only as far as it is asked.
 use Rattle.std.specs.Prelude.{◌≡◌, ◌≢◌, ℕ, ◌+◌, ◌*◌, ◌⊎◌, [], length, slice_index}
-use Rattle.fleet_grid.specs.Floor.{Floor, HasForm, IsFloor}
+use Rattle.fleet_grid.specs.Floor.{Floor, HasForm, IsFloor, IsNeighbour}
+use Rattle.fleet_grid.specs.Ways.{IsLess}
+use Rattle.fleet_grid.specs.Distance.{distance}
 use Rattle.fleet_field.specs.declared.growing.GrowingField.{GrowingField}
 use Rattle.fleet_field.specs.declared.target.Target.{Target}
 use Rattle.fleet_field.specs.inside.Left.{Search}
@@ -41,11 +43,19 @@ pub record IsGrown (m : Floor) (f : Growth) : Type 0 where
 abbrev pub goal_of : {A : Type 0} → GrowingField A → ℕ
 goal_of f = f.goal
 
--- it has come to all cells with as few steps away as any, and to this cell, or to all that it can
-pub record IsSettled {A : Type 0} (f : GrowingField A) (cell : ℕ) : Type 0 where
+-- it has come to this cell, and to each neighbour that is nearer to the goal
+pub record IsFound {A : Type 0} (m : Floor) (f : GrowingField A) (cell : ℕ) : Type 0 where
+  pub here : slice_index f.labels.items cell ≢ 0
+  pub nearer : (w : ℕ) → IsNeighbour m cell w → IsLess (distance m w f.goal) (distance m cell f.goal) → slice_index f.labels.items w ≢ 0
+
+-- it has come to all cells with as few steps away as those that waited in this round
+pub record IsOver {A : Type 0} (f : GrowingField A) : Type 0 where
   pub left : f.now.items ≡ []
   pub emptied : f.next.items ≡ []
-  pub found : (slice_index f.labels.items cell ≢ 0) ⊎ (f.later.items ≡ [])
+
+-- what it knows tells the ways from this cell
+abbrev pub IsSettled : {A : Type 0} → Floor → GrowingField A → ℕ → Type 0
+IsSettled m f cell = IsFound m f cell ⊎ (IsOver f × ((slice_index f.labels.items cell ≢ 0) ⊎ (f.later.items ≡ [])))
 
 -- how much is left to do in this round: it falls with each cell that is taken from a list
 abbrev pub to_do : {A : Type 0} → GrowingField A → ℕ

@@ -1,6 +1,6 @@
 //! A field that is searched only as far as it is asked.
 
-ghost use Rattle.std.specs.Prelude.{◌≡◌, ℕ, ◌↔◌, IfOk, OnOk, IsTrue};
+ghost use Rattle.std.specs.Prelude.{◌≡◌, ◌≢◌, ℕ, ◌↔◌, IfOk, OnOk, IsTrue};
 ghost use Rattle.fleet_grid.specs.Floor.{IsFloor, IsNeighbourIn};
 ghost use Rattle.fleet_grid.specs.Ways.{AreNearer, AreOpen, IsLess};
 ghost use Rattle.fleet_grid.specs.Distance.{distance};
@@ -9,6 +9,9 @@ ghost use Rattle.fleet_field.specs.Growing.{goal_of, Serves, IsSettled};
 use crate::target::Target;
 use fleet_grid::{Dir, Grid, Outlook, Ways};
 use std::alloc::{AllocError, Allocator, Global};
+
+/// The label of the cells to which the search comes in its first round: no step leads away from the target.
+pub(crate) const FIRST: u8 = 3;
 
 /// The ways from a map's cells that lead nearer to a goal. The search begins at the goal, and goes on toward one cell, the target,
 /// whenever it is asked for a cell to which it has not come (Reverse Resumable A*: Silver, AIIDE 2005). One byte for each cell
@@ -22,6 +25,14 @@ pub struct GrowingField<A: Allocator + Copy = Global> {
     pub(crate) now: Vec<u32, A>,
     pub(crate) next: Vec<u32, A>,
     pub(crate) later: Vec<u32, A>,
+}
+
+/// Whether a label is that of cells to which the search came in another round.
+#[inline(always)]
+fn is_other(label: u8, here: u8) -> bool
+    ensures { IsTrue result ↔ ((label ≢ 0) × (label ≢ here)) }
+{
+    label != 0 && label != here
 }
 
 impl<A: Allocator + Copy> GrowingField<A> {
@@ -40,7 +51,7 @@ impl<A: Allocator + Copy> GrowingField<A> {
         let mut field = GrowingField {
             goal,
             target: Target::of(grid.width(), target),
-            mark: 1,
+            mark: FIRST,
             labels: Vec::new(alloc),
             now: Vec::new(alloc),
             next: Vec::new(alloc),
@@ -63,7 +74,7 @@ impl<A: Allocator + Copy> GrowingField<A> {
     {
         self.goal = goal;
         self.target = Target::of(grid.width(), target);
-        self.mark = 1;
+        self.mark = FIRST;
         self.labels.clear();
         self.now.clear();
         self.next.clear();
@@ -83,7 +94,7 @@ impl<A: Allocator + Copy> GrowingField<A> {
         dir: Dir,
     ) -> bool
         requires serves { Serves grid.now self.now }
-        requires settled { IsSettled self.now cell }
+        requires settled { IsSettled grid.now self.now cell }
         requires floor { IsFloor grid.now cell }
         requires open { AreOpen grid.now cell exits.byte }
         ensures { (w : ℕ) → IsNeighbourIn grid.now dir cell w → IsTrue result ↔ IsLess (distance grid.now w (goal_of self.entry.now)) (distance grid.now cell (goal_of self.entry.now)) }
@@ -97,7 +108,7 @@ impl<A: Allocator + Copy> GrowingField<A> {
         }
         let there = self.labels[dir.across(grid.width(), cell) as usize];
         if self.target.is_toward(cell, dir) {
-            there != here
+            is_other(there, here)
         } else {
             there == here
         }

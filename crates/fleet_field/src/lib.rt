@@ -7,6 +7,7 @@ mod cache;
 mod columns;
 mod compass;
 mod compasses;
+mod doubts;
 mod field;
 mod flood;
 mod fronts;

@@ -2,7 +2,7 @@
 
 ghost use Rattle.std.specs.Prelude.{◌≡◌, ℕ, ◌+◌, ◌*◌, ◌<◌, ◌≤◌, ◌⊎◌, ◌↔◌, [], length, slice_index, OnOk, IsTrue};
 ghost use Rattle.fleet_grid.specs.Floor.{Floor, IsFloor};
-ghost use Rattle.fleet_field.specs.Growing.{Serves, IsSettled, to_do, may_wait};
+ghost use Rattle.fleet_field.specs.Growing.{Serves, IsFound, IsOver, IsSettled, to_do, may_wait};
 
 use crate::growing::GrowingField;
 use fleet_grid::Grid;
@@ -72,16 +72,23 @@ impl<A: Allocator + Copy> GrowingField<A> {
         !self.now.is_empty() || !self.next.is_empty()
     }
 
-    /// Comes to all cells with as few steps away as those that wait.
-    fn drain<B: Allocator + Copy>(&mut self, grid: &Grid<B>) -> Result<(), AllocError>
-        requires { Serves grid.now self.old }
+    /// Goes on in this round until the ways from the cell are known, or the round is over.
+    fn go_round<B: Allocator + Copy>(&mut self, grid: &Grid<B>, cell: u32) -> Result<(), AllocError>
+        requires serves { Serves grid.now self.old }
+        requires floor { IsFloor grid.now cell }
         ensures serves { Serves grid.now self.new }
         ensures goal { self.new.goal ≡ self.old.goal }
-        ensures left { OnOk result (self.new.now.items ≡ []) }
-        ensures emptied { OnOk result (self.new.next.items ≡ []) }
+        ensures done { OnOk result (IsFound grid.now self.new cell ⊎ IsOver self.new) }
         ensures fewer { may_wait self.new ≤ may_wait self.old }
     {
+        let mut wanted = cell;
         while self.has_more() {
+            if self.labels[wanted as usize] != 0 {
+                match self.wanted(grid, cell) {
+                    Some(next) => wanted = next,
+                    None => return Ok(()),
+                }
+            }
             self.step(grid)?;
         }
         Ok(())
@@ -89,7 +96,6 @@ impl<A: Allocator + Copy> GrowingField<A> {
 
     /// Goes on to the cells that have one step more away from the target.
     fn go_on(&mut self)
-        requires { (1 ≤ self.old.mark) × (self.old.mark ≤ 2) }
         ensures serves { (m : Floor) → Serves m self.old → self.old.now.items ≡ [] → self.old.next.items ≡ [] → Serves m self.new }
         ensures goal { self.new.goal ≡ self.old.goal }
         ensures labels { self.new.labels ≡ self.old.labels }
@@ -98,7 +104,7 @@ impl<A: Allocator + Copy> GrowingField<A> {
         ensures later { self.new.later ≡ self.old.next }
     {
         mem::swap(&mut self.next, &mut self.later);
-        self.mark = 3 - self.mark;
+        self.mark = 1 + self.mark % 2;
     }
 
     /// Whether the search has not come to the cell, and may yet.
@@ -109,7 +115,7 @@ impl<A: Allocator + Copy> GrowingField<A> {
         self.labels[cell as usize] == 0 && !self.later.is_empty()
     }
 
-    /// Goes on until it has come to the cell, or to all cells from which a walk leads to the goal.
+    /// Goes on until the ways from the cell are known.
     pub(crate) fn reach<B: Allocator + Copy>(
         &mut self,
         grid: &Grid<B>,
@@ -119,12 +125,12 @@ impl<A: Allocator + Copy> GrowingField<A> {
         requires floor { IsFloor grid.now cell }
         ensures serves { Serves grid.now self.new }
         ensures goal { self.new.goal ≡ self.old.goal }
-        ensures settled { OnOk result (IsSettled self.new cell) }
+        ensures settled { OnOk result (IsSettled grid.now self.new cell) }
     {
-        self.drain(grid)?;
+        self.go_round(grid, cell)?;
         while self.is_open(cell) {
             self.go_on();
-            self.drain(grid)?;
+            self.go_round(grid, cell)?;
         }
         Ok(())
     }

@@ -2,7 +2,7 @@
 --
 -- A walk of n edges from a cell to the goal has (n + estimate of the cell - estimate of the goal) / 2 steps that lead, as seen
 -- from the goal, away from the target. So the shortest walk has the fewest of them, and the search goes by their number.
-use Rattle.std.specs.Prelude.{◌≡◌, ◌≢◌, ℕ, ◌+◌, ◌*◌, ◌%◌, ◌<◌, ◌≤◌, ◌⊎◌, List, [], length, slice_index, cond, nat_eq}
+use Rattle.std.specs.Prelude.{◌≡◌, ◌≢◌, ℕ, ◌+◌, ◌-◌, ◌*◌, ◌%◌, ◌<◌, ◌≤◌, ◌⊎◌, List, [], length, slice_index, cond, nat_eq}
 use Rattle.std.specs.List.{Contains, sum_by}
 use Rattle.fleet_grid.specs.declared.dir.Dir.{Dir}
 use Rattle.fleet_grid.specs.Floor.{Floor, IsFloor, IsNeighbour, IsNeighbourIn}
@@ -22,9 +22,10 @@ pub record IsAt (m : Floor) (t : Target) (aimed cell k : ℕ) : Type 0 where
   pub within : IsWithin m t aimed cell k
   pub least : (walk : List ℕ) → Walks (IsNeighbour m) cell walk aimed → estimate t aimed + 2 * k ≤ length walk + estimate t cell
 
--- the label of the cells with this many steps away; 0 is the label of a cell to which the search has not come
+-- The label of the cells with this many steps away: 3 for none, and 2 and 1 in turn. 0 is the label of a cell to which the search has not
+-- come.
 abbrev pub label : ℕ → ℕ
-label k = k % 2 + 1
+label k = k % 2 + 1 + 2 * (1 - k)
 
 abbrev pub is_zero : ℕ → ℕ
 is_zero n = cond (nat_eq n 0) 1 0

@@ -34,7 +34,7 @@ pub record IsSpread (t : Target) (ways mark cell : ℕ) (old new : Search) : Typ
   pub first : Search
   pub second : Search
   pub third : Search
-  pub north : IsLeft t ways mark cell North old first
-  pub east : IsLeft t ways mark cell East first second
-  pub south : IsLeft t ways mark cell South second third
-  pub west : IsLeft t ways mark cell West third new
+  pub south : IsLeft t ways mark cell South old first
+  pub west : IsLeft t ways mark cell West first second
+  pub north : IsLeft t ways mark cell North second third
+  pub east : IsLeft t ways mark cell East third new

@@ -1,5 +1,5 @@
-use Rattle.std.proofs.Common.{◌≡◌, ℕ, [], ◌+◌, ◌*◌, length}
-use Rattle.fleet_field.specs.Growing.{Serves}
+use Rattle.std.proofs.Common.{◌≡◌, ℕ, ◌+◌, ◌*◌, ◌⊎◌, length}
+use Rattle.fleet_field.specs.Growing.{Serves, IsFound, IsOver}
 use Rattle.fleet_field.specs.inside.Known.{zero_count}
 use Rattle.fleet_field.proofs.growing.GrowingField.reach.Given as goal
 
@@ -7,8 +7,7 @@ abbrev pub invariant-loop-self : goal.invariant-loop-self
 invariant-loop-self g l = record {
   serves : Serves l.grid l.self;
   goal : l.self.goal ≡ l.fn.self.goal;
-  left : l.self.now.items ≡ [];
-  emptied : l.self.next.items ≡ [];
+  done : IsFound l.grid l.self l.cell ⊎ IsOver l.self;
 }
 
 abbrev pub decreases-loop-self : goal.decreases-loop-self
