@@ -1,23 +1,21 @@
 -- The robots have gone to the end of the longest track.
-use Rattle.std.proofs.Common.{◌≡◌, ℕ, List, [], ◌∷◌, length, ◌∙◌, subst, sym}
+use Rattle.std.proofs.Common.{◌≡◌, ℕ, List, [], length, ◌∙◌, subst, sym}
 use Rattle.std.specs.Borrow.{Bor}
 use Rattle.std.proofs.lemmas.List.{length-map}
 use Rattle.fleet_grid.specs.Floor.{Floor}
-use Rattle.fleet_plans.specs.Judge.{HasJudged}
 use Rattle.fleet_plans.specs.Shown.{texts}
 use Rattle.fleet_plans.specs.Tracks.{AreWalked}
 use Rattle.fleet_plans.specs.inside.Given.{IsGiven}
 use Rattle.fleet_plans.specs.inside.Walk.{AreSteps, IsLongest}
-use Rattle.fleet_plans.proofs.Walks.{walked}
-use Rattle.fleet_plans.proofs.Givings.{if_ok_then, given_as, on_own}
+use Rattle.fleet_plans.proofs.Walks.{gone_first, walked}
+use Rattle.fleet_plans.proofs.Givings.{if_ok_then, given_as}
 use Rattle.fleet_plans.proofs.walk.walk.Goals as goal
 
 pub take_steps-requires-clause-begun : goal.take_steps-requires-clause-begun
 take_steps-requires-clause-begun g c =
     let is : c.as_mut_slice.result.now ≡ c.args.starts.now = c.as_mut_slice.ensures.value ∙ c.in_ok-place.ensures.items in
-    let first : HasJudged c.args.judge.now.floor (c.args.starts.now ∷ []) c.take.new.self = c.in_ok-take.ensures.taken c.args.judge.now.floor [] c.requires.fresh in
-    on_own c.args.judge.now.floor (c.as_mut_slice.result.now ∷ []) c.take.new.self
-    (subst (λ (p : List ℕ). HasJudged c.args.judge.now.floor (p ∷ []) c.take.new.self) (sym is) first)
+    gone_first c.args.sides.width c.args.sides.height c.args.starts.now (texts c.args.tracks.now) c.args.judge.now.floor c.as_mut_slice.result.now c.take.new.self is
+    (c.in_ok-take.ensures.taken c.args.judge.now.floor [] c.requires.fresh)
 
 pub returns : goal.returns
 returns g c =
@@ -28,14 +26,13 @@ returns g c =
     let starts = c.args.starts.now in
     let n = c.longest-steps.result in
     let judge = c.take_steps.new.judge in
-    let is : c.as_mut_slice.result.now ≡ starts = c.as_mut_slice.ensures.value ∙ c.in_ok-place.ensures.items in
     let text = λ (x : Bor (List ℕ)). x.now in
     let all : IsLongest tracks (length tracks) n = subst (λ (k : ℕ). IsLongest tracks k n) (sym (length-map c.args.tracks.now text)) c.longest-steps.ensures in
     let same : c.take.new.self.floor ≡ m = (c.in_ok-take.ensures.taken m [] c.requires.fresh).on in
-    let Gone : List (List ℕ) → Type 0 = λ places. AreSteps w h c.as_mut_slice.result.now tracks places n in
+    let Gone : List (List ℕ) → Type 0 = λ places. AreSteps w h starts tracks places n in
     let Walked : List (List ℕ) → Type 0 = λ places. AreWalked w h starts tracks places in
     if_ok_then c.take_steps.result (λ _. IsGiven c.take.new.self.floor Gone judge) (λ _. IsGiven m Walked judge)
     (λ _ given.
-    given_as m Gone Walked judge (λ places steps. walked w h starts tracks places n (subst (λ (s : List ℕ). AreSteps w h s tracks places n) is steps) all)
+    given_as m Gone Walked judge (λ places steps. walked w h starts tracks places n steps all)
     (subst (λ (f : Floor). IsGiven f Gone judge) same given))
     c.take_steps.ensures
