@@ -11,3 +11,5 @@ mod Follows
 pub mod Pieces
 mod Turns
 pub mod Grammar
+mod Seatings
+mod Going

@@ -1,13 +1,14 @@
 -- Robots that move one after the other, and the longest of tracks.
-use Rattle.std.proofs.Common.{◌≡◌, ◌≢◌, ℕ, zero, suc, ◌+◌, ◌-◌, ◌<◌, ◌≤◌, ◌⊎◌, inl, inr, List, [], ◌∷◌, ◌++◌, length, get_or, set, slice_index_or, refl, sym, ap, ◌∙◌, subst, arith}
+use Rattle.std.proofs.Common.{◌≡◌, ◌≢◌, ℕ, zero, suc, ◌+◌, ◌-◌, ◌<◌, ◌≤◌, ◌⊎◌, inl, inr, List, [], ◌∷◌, ◌++◌, length, Option, None, get_or, set, slice_index_or, refl, sym, ap, ◌∙◌, subst, arith}
 use Rattle.std.proofs.lemmas.Bool.{cases_eq}
 use Rattle.std.proofs.lemmas.List.{append_assoc, append-nil, get_or-set_same, get_or-set_other, get_or_append_left, get_or_push, length-append}
 use Rattle.fleet_grid.specs.Floor.{Floor}
 use Rattle.fleet_plans.specs.Valid.{place_at}
-use Rattle.fleet_plans.specs.Judge.{Judged, HasJudged}
+use Rattle.fleet_plans.specs.declared.judging.PlanFault.{PlanFault}
+use Rattle.fleet_plans.specs.Judge.{Judged, HasPassed, IsSoFar, HasJudged}
 use Rattle.fleet_plans.specs.Tracks.{moved, letter_at, IsMoved, AreWalked}
 use Rattle.fleet_plans.specs.inside.Given.{IsGiven}
-use Rattle.fleet_plans.specs.inside.Walk.{IsLongest, AreSteps, IsGone, IsWalkedTo}
+use Rattle.fleet_plans.specs.inside.Walk.{IsLongest, AreSteps, IsGone, IsWalkedTo, IsStopped}
 
 -- one more item is written
 pub set_more : (f : ℕ → ℕ) (list : List ℕ) (k v : ℕ) → k < length list → ((r : ℕ) → r < k → get_or list r 0 ≡ f r) → v ≡ f k → (r : ℕ) → r < k + 1 → get_or (set list k v) r 0 ≡ f r
@@ -87,17 +88,32 @@ gone_on w h starts tracks m n from to old new was moves taken =
       given = taken m places was.given;
     }
 
--- after the first placement no step is made
-pub gone_first : (w h : ℕ) (starts : List ℕ) (tracks : List (List ℕ)) (m : Floor) (place : List ℕ) (judge : Judged) → place ≡ starts → HasJudged m (starts ∷ []) judge → IsGone judge.floor w h starts tracks (judge.count - 1) place judge
-gone_first w h starts tracks m place judge is was =
-    let none : 0 ≡ judge.count - 1 = omega (arith, was.count_is) in
-    subst (λ (n : ℕ). IsGone judge.floor w h starts tracks n place judge) none
-    (record {
-      places = starts ∷ [];
-      some = omega arith;
-      holds = (begun w h starts tracks (starts ∷ []) refl, sym is);
-      given = subst (λ (f : Floor). HasJudged f (starts ∷ []) judge) (sym was.on) was;
-    })
+pub taken_first : (m : Floor) (starts place : List ℕ) (judge : Judged) → place ≡ starts → HasJudged m (starts ∷ []) judge → HasJudged judge.floor (place ∷ []) judge
+taken_first m starts place judge is was =
+    subst (λ (p : List ℕ). HasJudged judge.floor (p ∷ []) judge) (sym is) (subst (λ (f : Floor). HasJudged f (starts ∷ []) judge) (sym was.on) was)
+
+-- the robots are where the judge has them
+pub gone_none : (w h : ℕ) (tracks : List (List ℕ)) (m : Floor) (place : List ℕ) (judge : Judged) → HasJudged m (place ∷ []) judge → IsGone m w h place tracks 0 place judge
+gone_none w h tracks m place judge was = record { places = place ∷ []; some = omega arith; holds = (begun w h place tracks (place ∷ []) refl, refl); given = was }
+
+pub last_is : (m : Floor) (place : List ℕ) (judge : Judged) → HasJudged m (place ∷ []) judge → judge.fault ≡ None → judge.last ≡ place
+last_is m place judge was none =
+    let far : HasPassed m (place ∷ []) judge.first judge.last judge.costs = subst (λ (o : Option PlanFault). IsSoFar m (place ∷ []) judge.first judge.last judge.costs o) none was.so_far in
+    far.last_one
+
+pub gone_count : (w h : ℕ) (starts : List ℕ) (tracks : List (List ℕ)) (m : Floor) (n : ℕ) (place : List ℕ) (judge : Judged) → IsGone m w h starts tracks n place judge → judge.count ≡ n + 1
+gone_count w h starts tracks m n place judge is = is.given.count_is ∙ is.holds.0.count
+
+pub stopped_count : (m : Floor) (w h : ℕ) (starts : List ℕ) (tracks : List (List ℕ)) (steps : ℕ) (place : List ℕ) (judge : Judged) (is : IsStopped m w h starts tracks steps place judge) → judge.count ≡ is.time + 1
+stopped_count m w h starts tracks steps place judge is = gone_count w h starts tracks m is.time place judge is.gone
+
+pub stopped_gone : (m : Floor) (w h : ℕ) (begin starts : List ℕ) (tracks : List (List ℕ)) (steps : ℕ) (place : List ℕ) (judge : Judged) → begin ≡ starts → IsStopped m w h begin tracks steps place judge
+    → IsGone judge.floor w h starts tracks (judge.count - 1) place judge
+stopped_gone m w h begin starts tracks steps place judge is was =
+    let count = stopped_count m w h begin tracks steps place judge was in
+    let when : was.time ≡ judge.count - 1 = omega (arith, count) in
+    subst (λ (f : Floor). IsGone f w h starts tracks (judge.count - 1) place judge) (sym was.gone.given.on)
+    (subst (λ (n : ℕ). IsGone m w h starts tracks n place judge) when (subst (λ (s : List ℕ). IsGone m w h s tracks was.time place judge) is was.gone))
 
 -- any step can be made, wherever the robots are
 unfoldable pub step_from : (w h : ℕ) (tracks : List (List ℕ)) (t k : ℕ) → List ℕ → List ℕ

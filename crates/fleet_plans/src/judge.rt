@@ -1,5 +1,7 @@
 //! A judge of plans that is given one placement after the other.
 
+mod part;
+
 ghost use Rattle.std.specs.Prelude.{◌≡◌, ◌≤◌, ◌<◌, ◌+◌, ◌++◌, ◌∷◌, ◌^◌, ℕ, List, [], length, slice_index, Some, None, MatchOption, OnOk, IfOk, IfErr, IsOk, IsSome, IsTrue, option_map};
 ghost use Rattle.fleet_grid.specs.Floor.{Floor};
 ghost use Rattle.fleet_plans.specs.Valid.{IsValidPlan, IsPlanFault, place_at, last_of};
@@ -151,6 +153,13 @@ impl<'a, A: Allocator + Copy, B: Allocator + Copy> PlanJudge<'a, A, B> {
         ensures unkept { IsTrue result → self.now.kept ≡ None }
     {
         self.fault.is_some() && self.kept.is_none()
+    }
+
+    /// Whether no placement taken is at fault.
+    pub(crate) fn is_faultless(&self) -> bool
+        ensures { IsTrue result → self.now.fault ≡ None }
+    {
+        self.fault.is_none()
     }
 
     /// Counts n more placements, whatever they are, after the first fault. None is kept.

@@ -1,5 +1,5 @@
 -- How far robots have gone by their tracks.
-use Rattle.std.specs.Prelude.{◌≡◌, ℕ, ◌+◌, ◌<◌, ◌≤◌, ◌⊎◌, List, [], length, slice_index_or}
+use Rattle.std.specs.Prelude.{◌≡◌, ℕ, ◌+◌, ◌<◌, ◌≤◌, ◌⊎◌, ◌^◌, List, [], length, slice_index_or}
 use Rattle.fleet_grid.specs.Floor.{Floor}
 use Rattle.fleet_plans.specs.Judge.{Judged}
 use Rattle.fleet_plans.specs.inside.Given.{IsGiven}
@@ -24,3 +24,10 @@ IsGone m w h starts tracks n place judge = IsGiven m (λ places. AreSteps w h st
 -- and of all of its steps
 abbrev pub IsWalkedTo : Floor → ℕ → ℕ → List ℕ → List (List ℕ) → ℕ → Judged → Type 0
 IsWalkedTo m w h starts tracks n judge = IsGiven m (λ places. AreSteps w h starts tracks places n) judge
+
+-- the judge has the placements of some of the first steps, and this is the last one
+pub record IsStopped (m : Floor) (w h : ℕ) (starts : List ℕ) (tracks : List (List ℕ)) (steps : ℕ) (place : List ℕ) (judge : Judged) : Type 0 where
+  pub time : ℕ
+  pub few : time ≤ steps
+  pub gone : IsGone m w h starts tracks time place judge
+  pub robots : length place < 2 ^ 32
