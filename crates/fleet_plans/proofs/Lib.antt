@@ -13,3 +13,4 @@ mod Turns
 pub mod Grammar
 mod Seatings
 mod Going
+mod Leading

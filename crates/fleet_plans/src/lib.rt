@@ -40,7 +40,7 @@ pub use form::{TextForm, form_of, is_plan};
 pub use goals::GoalFault;
 pub use judge::PlanJudge;
 pub use judging::PlanFault;
-pub use law::{a_text_is_by_its_lines, robots_stay_apart};
+pub use law::{a_text_is_by_its_lines, letters_lead_to_the_next_cell, robots_stay_apart};
 pub use misspelt::{KnownKey, Misspelt, first_misspelt};
 pub use placements::Placements;
 pub use report::PlanReport;
