@@ -1,7 +1,8 @@
 -- What a judge knows after one more placement.
 use Rattle.std.proofs.Common.{◌≡◌, ℕ, ◌+◌, ◌-◌, ◌<◌, ◌≤◌, inl, inr, List, [], ◌∷◌, ◌++◌, length, slice_index, Option, Some, None, option_map, refl, sym, ap, subst, ◌∙◌, arith}
-use Rattle.std.proofs.lemmas.Bool.{cases_eq}
+use Rattle.std.proofs.lemmas.Bool.{cases_eq, false≢true}
 use Rattle.std.proofs.lemmas.List.{get_or_append_left, get_or_push, length-append}
+use Rattle.std.specs.Prelude.{IsSome}
 use Rattle.fleet_grid.specs.Floor.{Floor}
 use Rattle.fleet_grid.specs.Step.{IsPlacement, IsConflictFree}
 use Rattle.fleet_check.specs.Fault.{IsPlacementFault, IsFirstFault}
@@ -85,14 +86,23 @@ module _ (m : Floor) (places : List (List ℕ)) (place : List ℕ) where
           );
         }
 
-  -- what was at fault stays at fault
-  pub failed_more : (f : PlanFault) → HasFailed m places f → HasFailed m (places ++ place ∷ []) f
+-- what was at fault stays at fault, whatever comes after
+module _ (m : Floor) (places more : List (List ℕ)) where
+  still_at : (t : ℕ) → t < length places → place_at (places ++ more) t ≡ place_at places t
+  still_at t less = get_or_append_left places more [] t less
+
+  still_free : (n : ℕ) → n < length places → AreStepsFree m places n → AreStepsFree m (places ++ more) n
+  still_free n inner free = λ t less.
+      subst (λ (q : List ℕ). IsConflictFree m q (place_at (places ++ more) (t + 1))) (sym (still_at t (omega (arith, less, inner))))
+      (subst (λ (q : List ℕ). IsConflictFree m (place_at places t) q) (sym (still_at (t + 1) (omega (arith, less, inner)))) (free t less))
+
+  pub failed_more : (f : PlanFault) → HasFailed m places f → HasFailed m (places ++ more) f
   failed_more f was =
       let some : 0 < length places = omega (arith, was.inside) in
       record {
-        inside = omega (arith, was.inside, length_more places place);
+        inside = omega (arith, was.inside, length-append places more);
         first = elim was.first [
-          | inl p ↦ inl (p.0, subst (λ (q : List ℕ). IsPlacementFault m q f.fault) (sym (same_at 0 some)) p.1)
+          | inl p ↦ inl (p.0, subst (λ (q : List ℕ). IsPlacementFault m q f.fault) (sym (still_at 0 some)) p.1)
           | inr p ↦
               let step = p.2 in
               let inner : p.0 < length places = omega (arith, step.inside) in
@@ -100,16 +110,29 @@ module _ (m : Floor) (places : List (List ℕ)) (place : List ℕ) where
                 p.0,
                 p.1,
                 record {
-                  starts = subst (λ (q : List ℕ). IsPlacement m q) (sym (same_at 0 some)) step.starts;
-                  before = steps_along p.0 inner step.before;
-                  inside = omega (arith, step.inside, length_more places place);
+                  starts = subst (λ (q : List ℕ). IsPlacement m q) (sym (still_at 0 some)) step.starts;
+                  before = still_free p.0 inner step.before;
+                  inside = omega (arith, step.inside, length-append places more);
                   first =
-                      subst (λ (q : List ℕ). IsFirstFault m q (place_at (places ++ place ∷ []) (p.0 + 1)) f.fault) (sym (same_at p.0 inner))
-                      (subst (λ (q : List ℕ). IsFirstFault m (place_at places p.0) q f.fault) (sym (same_at (p.0 + 1) step.inside)) step.first);
+                      subst (λ (q : List ℕ). IsFirstFault m q (place_at (places ++ more) (p.0 + 1)) f.fault) (sym (still_at p.0 inner))
+                      (subst (λ (q : List ℕ). IsFirstFault m (place_at places p.0) q f.fault) (sym (still_at (p.0 + 1) step.inside)) step.first);
                 },
               )
         ];
       }
+
+-- a judge that has found a fault and keeps nothing, before and after it counts more placements
+module _ (m : Floor) (places more : List (List ℕ)) (old new : Judged) (was : HasJudged m places old) (on : new.floor ≡ old.floor) (counted : new.count ≡ old.count + length more) where
+  pub judged_over : (fault : Option PlanFault) → old.fault ≡ fault → IsSome fault → new.fault ≡ fault → new.kept ≡ None → HasJudged m (places ++ more) new
+  judged_over None before some after none = absurd (false≢true some)
+  judged_over (Some f) before some after none = record {
+    on = on ∙ was.on;
+    count_is = counted ∙ omega (arith, was.count_is, length-append places more);
+    so_far =
+        subst (λ (o : Option PlanFault). IsSoFar m (places ++ more) new.first new.last new.costs o) (sym after)
+        (failed_more m places more f (subst (λ (o : Option PlanFault). IsSoFar m places old.first old.last old.costs o) before was.so_far));
+    keeps = subst (λ (o : Option (List (List ℕ))). AreKept o (places ++ more)) (sym none) tt;
+  }
 
 -- what is kept grows with what was given
 pub kept_more : (kept : Option (List (List ℕ))) (places : List (List ℕ)) (place : List ℕ) → AreKept kept places → AreKept (option_map (λ (ps : List (List ℕ)). ps ++ place ∷ []) kept) (places ++ place ∷ [])
@@ -134,7 +157,7 @@ module _ (m : Floor) (places : List (List ℕ)) (place : List ℕ) (old new : Ju
   }
 
   pub judged_on : (f : PlanFault) → old.fault ≡ Some f → new.fault ≡ Some f → HasJudged m (places ++ place ∷ []) new
-  judged_on f before after = judged_by (Some f) after (failed_more m places place f (so_far_is (Some f) before))
+  judged_on f before after = judged_by (Some f) after (failed_more m places (place ∷ []) f (so_far_is (Some f) before))
 
   pub judged_at_fault : (f : PlanFault) → 1 ≤ old.count → old.fault ≡ None → new.fault ≡ Some f → f.time ≡ old.count → IsFirstFault old.floor old.last place f.fault
       → HasJudged m (places ++ place ∷ []) new

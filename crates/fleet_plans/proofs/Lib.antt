@@ -11,3 +11,6 @@ mod Follows
 pub mod Pieces
 mod Turns
 pub mod Grammar
+mod Seatings
+mod Going
+mod Leading

@@ -1,13 +1,14 @@
 -- Robots that move one after the other, and the longest of tracks.
-use Rattle.std.proofs.Common.{◌≡◌, ◌≢◌, ℕ, ◌+◌, ◌<◌, ◌≤◌, ◌⊎◌, inl, inr, List, [], ◌∷◌, ◌++◌, length, get_or, set, slice_index_or, refl, sym, ap, ◌∙◌, subst, arith}
+use Rattle.std.proofs.Common.{◌≡◌, ◌≢◌, ℕ, zero, suc, ◌+◌, ◌-◌, ◌<◌, ◌≤◌, ◌⊎◌, inl, inr, List, [], ◌∷◌, ◌++◌, length, Option, None, get_or, set, slice_index_or, refl, sym, ap, ◌∙◌, subst, arith}
 use Rattle.std.proofs.lemmas.Bool.{cases_eq}
-use Rattle.std.proofs.lemmas.List.{get_or-set_same, get_or-set_other, get_or_append_left, get_or_push, length-append}
+use Rattle.std.proofs.lemmas.List.{append_assoc, append-nil, get_or-set_same, get_or-set_other, get_or_append_left, get_or_push, length-append}
 use Rattle.fleet_grid.specs.Floor.{Floor}
 use Rattle.fleet_plans.specs.Valid.{place_at}
-use Rattle.fleet_plans.specs.Judge.{Judged, HasJudged}
-use Rattle.fleet_plans.specs.Tracks.{IsMoved, AreWalked}
+use Rattle.fleet_plans.specs.declared.judging.PlanFault.{PlanFault}
+use Rattle.fleet_plans.specs.Judge.{Judged, HasPassed, IsSoFar, HasJudged}
+use Rattle.fleet_plans.specs.Tracks.{moved, letter_at, IsMoved, AreWalked}
 use Rattle.fleet_plans.specs.inside.Given.{IsGiven}
-use Rattle.fleet_plans.specs.inside.Walk.{IsLongest, AreSteps}
+use Rattle.fleet_plans.specs.inside.Walk.{IsLongest, AreSteps, IsGone, IsWalkedTo, IsStopped}
 
 -- one more item is written
 pub set_more : (f : ℕ → ℕ) (list : List ℕ) (k v : ℕ) → k < length list → ((r : ℕ) → r < k → get_or list r 0 ≡ f r) → v ≡ f k → (r : ℕ) → r < k + 1 → get_or (set list k v) r 0 ≡ f r
@@ -85,6 +86,97 @@ gone_on w h starts tracks m n from to old new was moves taken =
         new_at w h starts tracks places (places ++ to ∷ []) to n was.holds.0 refl,
       );
       given = taken m places was.given;
+    }
+
+pub taken_first : (m : Floor) (starts place : List ℕ) (judge : Judged) → place ≡ starts → HasJudged m (starts ∷ []) judge → HasJudged judge.floor (place ∷ []) judge
+taken_first m starts place judge is was =
+    subst (λ (p : List ℕ). HasJudged judge.floor (p ∷ []) judge) (sym is) (subst (λ (f : Floor). HasJudged f (starts ∷ []) judge) (sym was.on) was)
+
+-- the robots are where the judge has them
+pub gone_none : (w h : ℕ) (tracks : List (List ℕ)) (m : Floor) (place : List ℕ) (judge : Judged) → HasJudged m (place ∷ []) judge → IsGone m w h place tracks 0 place judge
+gone_none w h tracks m place judge was = record { places = place ∷ []; some = omega arith; holds = (begun w h place tracks (place ∷ []) refl, refl); given = was }
+
+pub last_is : (m : Floor) (place : List ℕ) (judge : Judged) → HasJudged m (place ∷ []) judge → judge.fault ≡ None → judge.last ≡ place
+last_is m place judge was none =
+    let far : HasPassed m (place ∷ []) judge.first judge.last judge.costs = subst (λ (o : Option PlanFault). IsSoFar m (place ∷ []) judge.first judge.last judge.costs o) none was.so_far in
+    far.last_one
+
+pub gone_count : (w h : ℕ) (starts : List ℕ) (tracks : List (List ℕ)) (m : Floor) (n : ℕ) (place : List ℕ) (judge : Judged) → IsGone m w h starts tracks n place judge → judge.count ≡ n + 1
+gone_count w h starts tracks m n place judge is = is.given.count_is ∙ is.holds.0.count
+
+pub stopped_count : (m : Floor) (w h : ℕ) (starts : List ℕ) (tracks : List (List ℕ)) (steps : ℕ) (place : List ℕ) (judge : Judged) (is : IsStopped m w h starts tracks steps place judge) → judge.count ≡ is.time + 1
+stopped_count m w h starts tracks steps place judge is = gone_count w h starts tracks m is.time place judge is.gone
+
+pub stopped_gone : (m : Floor) (w h : ℕ) (begin starts : List ℕ) (tracks : List (List ℕ)) (steps : ℕ) (place : List ℕ) (judge : Judged) → begin ≡ starts → IsStopped m w h begin tracks steps place judge
+    → IsGone judge.floor w h starts tracks (judge.count - 1) place judge
+stopped_gone m w h begin starts tracks steps place judge is was =
+    let count = stopped_count m w h begin tracks steps place judge was in
+    let when : was.time ≡ judge.count - 1 = omega (arith, count) in
+    subst (λ (f : Floor). IsGone f w h starts tracks (judge.count - 1) place judge) (sym was.gone.given.on)
+    (subst (λ (n : ℕ). IsGone m w h starts tracks n place judge) when (subst (λ (s : List ℕ). IsGone m w h s tracks was.time place judge) is was.gone))
+
+-- any step can be made, wherever the robots are
+unfoldable pub step_from : (w h : ℕ) (tracks : List (List ℕ)) (t k : ℕ) → List ℕ → List ℕ
+step_from w h tracks t k [] = []
+step_from w h tracks t k (x ∷ xs) = moved w h x (letter_at tracks k t) ∷ step_from w h tracks t (k + 1) xs
+
+step_from_length : (w h : ℕ) (tracks : List (List ℕ)) (t k : ℕ) (xs : List ℕ) → length (step_from w h tracks t k xs) ≡ length xs
+unfolding step_from
+step_from_length w h tracks t k [] = refl
+step_from_length w h tracks t k (x ∷ xs) = ap suc (step_from_length w h tracks t (k + 1) xs)
+
+step_from_at : (w h : ℕ) (tracks : List (List ℕ)) (t k : ℕ) (xs : List ℕ) (r : ℕ) → r < length xs → get_or (step_from w h tracks t k xs) r 0 ≡ moved w h (get_or xs r 0) (letter_at tracks (k + r) t)
+unfolding step_from
+step_from_at w h tracks t k [] r less = absurd (omega (arith, less))
+step_from_at w h tracks t k (x ∷ xs) zero less = ap (λ (n : ℕ). moved w h x (letter_at tracks n t)) (omega arith)
+step_from_at w h tracks t k (x ∷ xs) (suc r) less =
+    step_from_at w h tracks t (k + 1) xs r (omega (arith, less)) ∙ ap (λ (n : ℕ). moved w h (get_or xs r 0) (letter_at tracks n t)) (omega arith)
+
+zero_and : (w h : ℕ) (tracks : List (List ℕ)) (t : ℕ) (from : List ℕ) (r : ℕ) → moved w h (get_or from r 0) (letter_at tracks (0 + r) t) ≡ moved w h (get_or from r 0) (letter_at tracks r t)
+zero_and w h tracks t from r =
+    let is : 0 + r ≡ r = omega arith in
+    ap (λ (n : ℕ). moved w h (get_or from r 0) (letter_at tracks n t)) is
+
+pub goes_on : (w h : ℕ) (tracks : List (List ℕ)) (t : ℕ) (from : List ℕ) → IsMoved w h tracks t from (step_from w h tracks t 0 from)
+goes_on w h tracks t from = record { same_length = step_from_length w h tracks t 0 from; each = λ r less. step_from_at w h tracks t 0 from r less ∙ zero_and w h tracks t from r }
+
+-- and so any number of steps
+record AreMore (w h : ℕ) (starts : List ℕ) (tracks places : List (List ℕ)) (n k : ℕ) : Type 0 where
+  more : List (List ℕ)
+  count : length more ≡ k
+  steps : AreSteps w h starts tracks (places ++ more) (n + k)
+
+steps_over : (w h : ℕ) (starts : List ℕ) (tracks places : List (List ℕ)) (n k : ℕ) → AreSteps w h starts tracks places n → AreMore w h starts tracks places n k
+steps_over w h starts tracks places n zero is = record {
+  more = [];
+  count = refl;
+  steps =
+      let same : n ≡ n + 0 = omega arith in
+      subst (λ (ps : List (List ℕ)). AreSteps w h starts tracks ps (n + 0)) (sym (append-nil places)) (subst (λ (x : ℕ). AreSteps w h starts tracks places x) same is);
+}
+steps_over w h starts tracks places n (suc k) is =
+    let was = steps_over w h starts tracks places n k is in
+    let before = places ++ was.more in
+    let to = step_from w h tracks (n + k) 0 (place_at before (n + k)) in
+    let next : n + k + 1 ≡ n + suc k = omega arith in
+    record {
+      more = was.more ++ to ∷ [];
+      count = length-append was.more (to ∷ []) ∙ omega (arith, was.count);
+      steps =
+          subst (λ (x : ℕ). AreSteps w h starts tracks (places ++ (was.more ++ to ∷ [])) x) next
+          (step_more w h starts tracks before (places ++ (was.more ++ to ∷ [])) to (n + k) was.steps (sym (append_assoc places was.more (to ∷ []))) (goes_on w h tracks (n + k) (place_at before (n + k))));
+    }
+
+-- a judge that passes over the rest was given it
+pub gone_over : (w h : ℕ) (starts : List ℕ) (tracks : List (List ℕ)) (m : Floor) (n k steps : ℕ) (place : List ℕ) (old new : Judged) → IsGone m w h starts tracks n place old → n + k ≡ steps
+    → ((m : Floor) (places more : List (List ℕ)) → length more ≡ k → HasJudged m places old → HasJudged m (places ++ more) new) → IsWalkedTo m w h starts tracks steps new
+gone_over w h starts tracks m n k steps place old new was all over =
+    let rest = steps_over w h starts tracks was.places n k was.holds.0 in
+    record {
+      places = was.places ++ rest.more;
+      some = omega (arith, length-append was.places rest.more, was.some);
+      holds = subst (λ (x : ℕ). AreSteps w h starts tracks (was.places ++ rest.more) x) all rest.steps;
+      given = over m was.places rest.more rest.count was.given;
     }
 
 -- all steps of the longest track are made

@@ -5,6 +5,7 @@ pub mod Cells
 pub mod Head
 pub mod Places
 pub mod Tracks
+pub mod Leads
 pub mod Shown
 pub mod Text
 pub mod Grammar

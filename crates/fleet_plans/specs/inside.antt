@@ -7,3 +7,4 @@ pub mod Figures
 pub mod Given
 pub mod Answered
 pub mod Follow
+pub mod Seats

@@ -1,6 +1,8 @@
 //! A judge of plans that is given one placement after the other.
 
-ghost use Rattle.std.specs.Prelude.{◌≡◌, ◌≤◌, ◌<◌, ◌+◌, ◌++◌, ◌∷◌, ◌^◌, ℕ, List, [], length, slice_index, Some, None, MatchOption, OnOk, IfOk, IfErr, IsOk, IsSome, option_map};
+mod part;
+
+ghost use Rattle.std.specs.Prelude.{◌≡◌, ◌≤◌, ◌<◌, ◌+◌, ◌++◌, ◌∷◌, ◌^◌, ℕ, List, [], length, slice_index, Some, None, MatchOption, OnOk, IfOk, IfErr, IsOk, IsSome, IsTrue, option_map};
 ghost use Rattle.fleet_grid.specs.Floor.{Floor};
 ghost use Rattle.fleet_plans.specs.Valid.{IsValidPlan, IsPlanFault, place_at, last_of};
 ghost use Rattle.fleet_plans.specs.Report.{IsReportOf};
@@ -143,6 +145,31 @@ impl<'a, A: Allocator + Copy, B: Allocator + Copy> PlanJudge<'a, A, B> {
         } else {
             self.take_next(place)
         }
+    }
+
+    /// Whether what is still to come cannot matter: there is a fault, and no placement is kept.
+    pub(crate) fn is_over(&self) -> bool
+        ensures faulty { IsTrue result → IsSome self.now.fault }
+        ensures unkept { IsTrue result → self.now.kept ≡ None }
+    {
+        self.fault.is_some() && self.kept.is_none()
+    }
+
+    /// Whether no placement taken is at fault.
+    pub(crate) fn is_faultless(&self) -> bool
+        ensures { IsTrue result → self.now.fault ≡ None }
+    {
+        self.fault.is_none()
+    }
+
+    /// Counts n more placements, whatever they are, after the first fault. None is kept.
+    pub(crate) fn pass_over(&mut self, n: usize)
+        requires times { self.old.count + n ≤ 2 ^ 32 }
+        requires faulty { IsSome self.old.fault }
+        requires unkept { self.old.kept ≡ None }
+        ensures { (m : Floor) (places more : List (List ℕ)) → length more ≡ n → HasJudged m places self.old → HasJudged m (places ++ more) self.new }
+    {
+        self.count += n;
     }
 
     /// Takes the first placement.

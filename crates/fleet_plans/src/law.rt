@@ -5,8 +5,9 @@ ghost use Rattle.fleet_grid.specs.Floor.{Floor};
 ghost use Rattle.fleet_grid.specs.Step.{IsPlacement};
 ghost use Rattle.fleet_plans.specs.Grammar.{IsHead, ArePlaces, AreTracks};
 ghost use Rattle.fleet_plans.specs.Head.{Head, Opened, blank_head, head_of};
+ghost use Rattle.fleet_plans.specs.Leads.{Leads};
 ghost use Rattle.fleet_plans.specs.Places.{places_of};
-ghost use Rattle.fleet_plans.specs.Tracks.{tracks_of};
+ghost use Rattle.fleet_plans.specs.Tracks.{moved, tracks_of};
 ghost use Rattle.fleet_plans.specs.Valid.{place_at, IsValidPlan};
 
 /// At each time of a valid plan there are as many robots as at its start, on distinct floor cells.
@@ -21,4 +22,11 @@ pub fn a_text_is_by_its_lines()
     ensures head { (w h : ℕ) (lines : List (List ℕ)) (o : Opened) → head_of w h blank_head 1 lines ≡ Ok o → IsHead w h lines o }
     ensures places { (w h : ℕ) (head : Head) (number : ℕ) (lines places : List (List ℕ)) → places_of w h head [] number lines ≡ Ok places → ArePlaces w h head lines places }
     ensures tracks { (robots number : ℕ) (lines tracks : List (List ℕ)) → tracks_of robots [] number lines ≡ Ok tracks → AreTracks robots lines tracks }
+{}
+
+/// A letter leads to the next cell in its direction, or off the map if there is none; with `w` a robot stays, and off the map with any letter.
+/// Nothing else is where it leads.
+pub fn letters_lead_to_the_next_cell()
+    ensures leads { (w h cell letter : ℕ) → Leads w h cell letter (moved w h cell letter) }
+    ensures only { (w h cell letter a b : ℕ) → Leads w h cell letter a → Leads w h cell letter b → a ≡ b }
 {}
