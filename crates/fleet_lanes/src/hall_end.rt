@@ -11,9 +11,12 @@ use std::marker::Model;
 pub struct HallEnd<A: Allocator = Global> {
     orders: Consumer<Order, A>,
     notices: Producer<Notice, A>,
+    // How many notices were given.
+    count: u64,
 }
 
 impl<A: Allocator> Model for HallEnd<A> {
+    ghost use Rattle.std.specs.Prelude.{◌≡◌, ◌<◌, ◌^◌, length};
     ghost use Rattle.rtrb.specs.Ring.{sent, received, known_free, known_items};
     ghost use Rattle.fleet_lanes.specs.Names.{ring_of_producer, ring_of_consumer};
     ghost use Rattle.fleet_lanes.specs.Ends.{EndView};
@@ -27,15 +30,18 @@ impl<A: Allocator> Model for HallEnd<A> {
       free = known_free e.notices;
       known = known_items e.orders;
     } };
+
+    ghost invariant = { λ e. length (sent e.notices) < 2 ^ 64 → e.count ≡ length (sent e.notices) };
 }
 
 impl<A: Allocator> HallEnd<A> {
-    ghost use Rattle.std.specs.Prelude.{◌≡◌, ◌+◌, ◌<◌, ◌≤◌, ◌++◌, ◌∷◌, [], length, IfErr, IfSome, IfNone, IsSome, IsOk, OnOk};
+    ghost use Rattle.std.specs.Prelude.{◌≡◌, ◌+◌, ◌<◌, ◌≤◌, ◌^◌, ◌++◌, ◌∷◌, [], length, IfErr, IfSome, IfNone, IsSome, IsOk, OnOk};
     ghost use mathlib.Core.List.{IsPrefix};
     ghost use Rattle.rtrb.specs.Ring.{sent, received, known_free, known_items};
     ghost use Rattle.fleet_lanes.specs.Names.{ring_of_producer, ring_of_consumer};
 
     pub(crate) fn new(orders: Consumer<Order, A>, notices: Producer<Notice, A>) -> Self
+        requires { sent notices ≡ [] }
         ensures { result ≡ record {
           lane = record { orders = ring_of_consumer orders; notices = ring_of_producer notices };
           taken = received orders;
@@ -44,7 +50,11 @@ impl<A: Allocator> HallEnd<A> {
           known = known_items orders;
         } }
     {
-        HallEnd { orders, notices }
+        HallEnd {
+            orders,
+            notices,
+            count: 0,
+        }
     }
 
     /// The next order in the lane, if one is found. It stays there, and the next `take` returns it.
@@ -103,9 +113,19 @@ impl<A: Allocator> HallEnd<A> {
         ensures succeeds { 0 < self.old.free → IsOk result }
     {
         match self.notices.push(notice) {
-            Ok(()) => Ok(()),
+            Ok(()) => {
+                self.count = self.count.saturating_add(1);
+                Ok(())
+            }
             Err(PushError::Full(back)) => Err(back),
         }
+    }
+
+    /// How many notices were given.
+    pub fn given(&self) -> u64
+        ensures { length self.now.given < 2 ^ 64 → result ≡ length self.now.given }
+    {
+        self.count
     }
 
     /// Looks at both rings when the client and the hall end are in one thread. It then knows that everything sent was

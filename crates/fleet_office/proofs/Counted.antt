@@ -1,6 +1,6 @@
 -- How many notices were given.
 use Rattle.std.proofs.Common.{◌≡◌, ℕ, zero, suc, ◌+◌, ◌*◌, ◌^◌, ◌<◌, ◌≤◌, List, [], ◌∷◌, ◌++◌, Bool, true, false, length, set, get_or, Some, refl, ap, sym, ◌∙◌, arith, subst, ⊎_elim, length-append}
-use Rattle.std.specs.List.{slice_get, sum_by}
+use Rattle.std.specs.List.{slice_get, sum_by, AllByRecursion}
 use Rattle.std.proofs.lemmas.List.Sums.{sum_by-cons, sum_by-set}
 use Rattle.std.proofs.lemmas.Option.{get_or_from_slice_get}
 use Rattle.std.proofs.Math.ListN.{length-set}
@@ -23,19 +23,33 @@ at_most f m (x ∷ xs) h =
     subst (λ n. n ≤ suc (length xs) * m) (sym (sum_by-cons f x xs)) (omega (arith, one, rest))
 
 module _ {A : Type 0} where
+  -- each client was given few
+  each_few : (rings : List (LaneName A)) (began : World A) (w : World A) (ends : List (EndView A)) (t : ℕ) → IsLawful rings began w ends t
+      → ((c : ℕ) → c < clients w.history → noticed_count w.history c + owed w.history c ≤ 2 ^ 57)
+      → (k : ℕ) (e : EndView A) → slice_get ends k ≡ Some e → length e.given ≤ 2 ^ 57
+  each_few rings began w ends t h few k e there =
+      let law = h.laws k e there in
+      let inside = within ends k e there in
+      let known : k < clients w.history = omega (arith, inside, h.end_count) in
+      omega (arith, law.keeps.told_length, few k known, length-append e.given (pending w k).notices)
+
   -- all that was given is few
   pub countable : (rings : List (LaneName A)) (began : World A) (w : World A) (ends : List (EndView A)) (t : ℕ) → IsLawful rings began w ends t
       → ((c : ℕ) → c < clients w.history → noticed_count w.history c + owed w.history c ≤ 2 ^ 57)
       → sum_by (λ e. length e.given) ends ≤ 2 ^ 63
   countable rings began w ends t h few =
-      let each : (k : ℕ) (e : EndView A) → slice_get ends k ≡ Some e → length e.given ≤ 2 ^ 57 =
-      (λ k e there.
-      let law = h.laws k e there in
-      let inside = within ends k e there in
-      let known : k < clients w.history = omega (arith, inside, h.end_count) in
-      omega (arith, law.keeps.told_length, few k known, length-append e.given (pending w k).notices)) in
-      let all = at_most (λ (e : EndView A). length e.given) (2 ^ 57) ends each in
+      let all = at_most (λ (e : EndView A). length e.given) (2 ^ 57) ends (each_few rings began w ends t h few) in
       omega (arith, all, h.few)
+
+  all_few : (ends : List (EndView A)) → ((k : ℕ) (e : EndView A) → slice_get ends k ≡ Some e → length e.given ≤ 2 ^ 57) → AllByRecursion (λ e. length e.given < 2 ^ 64) ends
+  all_few [] h = tt
+  all_few (e ∷ ends) h = (omega (arith, h 0 e refl), all_few ends (λ k x there. h (suc k) x there))
+
+  -- what each was given can be counted
+  pub each_countable : (rings : List (LaneName A)) (began : World A) (w : World A) (ends : List (EndView A)) (t : ℕ) → IsLawful rings began w ends t
+      → ((c : ℕ) → c < clients w.history → noticed_count w.history c + owed w.history c ≤ 2 ^ 57)
+      → AllByRecursion (λ e. length e.given < 2 ^ 64) ends
+  each_countable rings began w ends t h few = all_few ends (each_few rings began w ends t h few)
 
   abbrev given_of : Lists A → ℕ
   given_of l = length l.given

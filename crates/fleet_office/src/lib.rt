@@ -7,6 +7,7 @@ mod chapters;
 mod conclude;
 mod desk;
 mod emptying;
+mod given;
 mod giving;
 mod guest;
 mod hall;
