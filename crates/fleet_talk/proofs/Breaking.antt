@@ -1,13 +1,11 @@
 -- Acts up to a fault.
-use Rattle.std.proofs.Common.{◌≡◌, ◌∙◌, ℕ, zero, suc, ◌+◌, ◌-◌, ◌≤◌, ◌<◌, Bool, List, [], ◌∷◌, ◌++◌, Option, Result, Ok, Err, refl, sym, ap, subst, arith, append_assoc, append-nil}
-use Rattle.std.specs.Prelude.{replicate, OnErr, IfErr}
+use Rattle.std.proofs.Common.{◌≡◌, ◌∙◌, ℕ, zero, suc, ◌+◌, ◌-◌, ◌≤◌, ◌<◌, Bool, List, [], ◌∷◌, ◌++◌, Option, refl, sym, ap, subst, arith, append_assoc, append-nil}
+use Rattle.std.specs.Prelude.{replicate}
 use Rattle.fleet_talk.specs.declared.fault.TalkFault.{TalkFault}
-use Rattle.fleet_talk.specs.declared.pen.Pen.{Pen}
 use Rattle.fleet_talk.specs.Act.{Act}
 use Rattle.fleet_talk.specs.Acts.{Does, Talks}
 use Rattle.fleet_talk.specs.Broken.{IsMidway, SaysUntil}
 use Rattle.fleet_talk.specs.Fleet.{Fleet}
-use Rattle.fleet_talk.specs.Said.{IsKept}
 use Rattle.fleet_talk.specs.Says.{Says}
 use Rattle.fleet_talk.specs.Talked.{TalksUntil}
 use Rattle.fleet_talk.proofs.Saying.{says-added, midway, until-then, until-written}
@@ -79,9 +77,3 @@ module _ {A : Type 0} (fault : TalkFault) (roll : Bool) where
       subst (λ (acts : List Act). TalksUntil fault roll s acts a c o q) (sym (replicate-split act (k + 1) n (omega (arith, within))))
       (until-unwritten s t (replicate (k + 1) act) (replicate (n - (k + 1)) act) a c o q (text ++ more) (talks-more roll s m t act k text more talks does)
       (until-then fault a b c o p q text more says (until-written fault b c p x q more added broken)))
-
--- a call that says nothing where it fails
-pub until-kept : {A X : Type 0} (roll : Bool) (r : Result X TalkFault) (s : Fleet A) (acts : List Act) (known : Option (List ℕ)) (old new : Pen) → OnErr r (IsKept old new) → IfErr r (λ fault. IsMidway fault)
-    → IfErr r (λ fault. TalksUntil fault roll s acts known known old.out.items new.out.items)
-until-kept roll (Ok x) s acts known old new kept is = tt
-until-kept roll (Err fault) s acts known old new kept is = until-none fault roll s acts known old.out.items new.out.items is kept.out

@@ -7,6 +7,7 @@ pub mod Heads
 pub mod Talking
 pub mod Rolling
 pub mod Breaking
+pub mod Onces
 pub mod Onward
 pub mod Finishing
 pub mod Resumptions

@@ -1,7 +1,6 @@
 -- The line of a look, from what is read of a world one after another.
 use Rattle.std.proofs.Common.{◌≡◌, ℕ, List, Option, refl}
 use Rattle.fleet_text.specs.Answers.{look_line}
-use Rattle.fleet_text.specs.declared.look.Standing.{Standing}
 
 pub same_line : {tick tick' chapter chapter' entries entries' : ℕ} {cells cells' : List ℕ} (eldest within : Option ℕ)
     → tick ≡ tick' → chapter ≡ chapter' → entries ≡ entries' → cells ≡ cells'

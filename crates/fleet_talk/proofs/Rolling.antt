@@ -1,5 +1,5 @@
 -- When a chapter is handed out unasked.
-use Rattle.std.proofs.Common.{◌≡◌, ◌∙◌, ℕ, ◌+◌, Bool, true, false, ◌||◌, List, [], ◌++◌, length, Option, refl, sym, ap, subst, arith}
+use Rattle.std.proofs.Common.{◌≡◌, ◌∙◌, ℕ, ◌+◌, Bool, true, false, ◌||◌, List, [], length, Option, refl, sym, ap, subst, arith}
 use Rattle.fleet_book.specs.declared.event.Event.{Event}
 use Rattle.fleet_book.specs.declared.event.Event.TheVariants.{Post, Take, Tick, Give, Collect, Shut}
 use Rattle.fleet_core.specs.declared.faults.TakeFault.TheVariants as take_fault
@@ -11,11 +11,10 @@ use Rattle.fleet_world.specs.Talk.{Talk, TalkStep}
 use Rattle.fleet_text.specs.Output.{event_text, is_limit_met}
 use Rattle.fleet_talk.specs.declared.pen.Pen.{Pen}
 use Rattle.fleet_talk.specs.Act.{play}
-use Rattle.fleet_talk.specs.Acts.{Does, NeedsRoom, Plays, Turns, last_entry, rolls, stays, wants_room}
+use Rattle.fleet_talk.specs.Acts.{Does, NeedsRoom, last_entry, stays, wants_room}
 use Rattle.fleet_talk.specs.Fleet.{Fleet}
 use Rattle.fleet_talk.specs.Said.{IsAdded}
 use Rattle.fleet_talk.specs.Says.{marked}
-use Rattle.fleet_talk.proofs.Talking.{added-then}
 
 is_false : {P : Type 0} → false ≡ true → P
 is_false bad = cc
@@ -73,7 +72,7 @@ module _ {A : Type 0} where
   full s t (Collect c) (Collected notice) st is = is_false is
   full s t _ _ st is = absurd st
 
-  needed : (roll : Bool) (s t : Talk A) (e : Event) (reply : Reply) → TalkStep s e reply t → wants_room roll reply ≡ true → (roll ≡ true) × NeedsRoom s e × (t ≡ s)
+  pub needed : (roll : Bool) (s t : Talk A) (e : Event) (reply : Reply) → TalkStep s e reply t → wants_room roll reply ≡ true → (roll ≡ true) × NeedsRoom s e × (t ≡ s)
   needed true s t e reply st is = let found = full s t e reply st is in (refl, found.0, found.1)
   needed false s t e reply st is = is_false is
 
@@ -87,22 +86,14 @@ module _ {A : Type 0} where
         added,
       )
 
-  -- the chapter was handed out, and the event was done in the next
-  pub plays-next : (roll : Bool) (s t : Fleet A) (m n : Talk A) (mark : Option (List ℕ)) (e : Event) (reply : Reply) (first rest : List ℕ) (old mid new : Pen) → TalkStep s.talk e reply m → wants_room roll reply ≡ true
-      → Turns true m mark first n → Plays (record { talk = n; met = s.met }) mark e rest t → IsAdded old mid first → IsAdded mid new rest → (text : List ℕ) × Does roll s (play mark e) text t × IsAdded old new text
-  plays-next roll s t m n mark e reply first rest old mid new step is turned plays added more =
-      let (on, needs, same) = needed roll s.talk m e reply step is in
-      let (next, said) = subst (λ (x : Talk A). Turns true x mark first n) same turned in
-      (first ++ rest, (n, first, rest, rolls on needs next said, plays, refl), added-then old mid new first rest added more)
-
   -- the chapter is the last
-  pub plays-last : (roll : Bool) (s n : Fleet A) (m : Talk A) (mark : Option (List ℕ)) (e : Event) (reply : Reply) (first : List ℕ) (old mid new : Pen) → TalkStep s.talk e reply m → n.met ≡ (s.met || is_limit_met reply) → wants_room roll reply ≡ true
-      → Turns false m mark first n.talk → IsAdded old mid first → IsAdded mid new (marked mark (event_text e reply (last_entry n.talk))) → (text : List ℕ) × Does roll s (play mark e) text n × IsAdded old new text
-  plays-last roll s n m mark e reply first old mid new step met is (spent, stayed, none) added more =
+  pub plays-last : (roll : Bool) (s n : Fleet A) (m : Talk A) (mark : Option (List ℕ)) (e : Event) (reply : Reply) (old new : Pen) → TalkStep s.talk e reply m → n.met ≡ (s.met || is_limit_met reply) → wants_room roll reply ≡ true
+      → m.world.number + 1 ≡ m.world.limits.chapters → n.talk ≡ m → IsAdded old new (marked mark (event_text e reply (last_entry n.talk))) → (text : List ℕ) × Does roll s (play mark e) text n × IsAdded old new text
+  plays-last roll s n m mark e reply old new step met is spent stayed added =
       let (on, needs, same) = needed roll s.talk m e reply step is in
       let said = marked mark (event_text e reply (last_entry n.talk)) in
       let last : s.talk.world.number + 1 ≡ s.talk.world.limits.chapters = subst (λ (x : Talk A). x.world.number + 1 ≡ x.world.limits.chapters) same spent in (
         said,
         (s.talk, [], said, stays (λ on needs. last) refl refl, record { reply = reply; step = subst (λ (x : Talk A). TalkStep s.talk e reply x) (sym stayed) step; met = met; said = refl }, refl),
-        subst (λ (x : List ℕ). IsAdded old new (x ++ said)) none (added-then old mid new first said added more),
+        added,
       )

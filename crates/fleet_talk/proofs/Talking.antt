@@ -11,8 +11,6 @@ use Rattle.fleet_world.specs.Talk.{Talk}
 use Rattle.fleet_talk.specs.declared.ends.Settings.{Settings}
 use Rattle.fleet_talk.specs.declared.pen.Pen.{Pen}
 use Rattle.fleet_talk.specs.declared.ask.Line.{Line}
-use Rattle.fleet_talk.specs.declared.ask.Asked.{Asked}
-use Rattle.fleet_talk.specs.Ask as spec
 use Rattle.fleet_talk.specs.Act.{Act, acts_asked, acts_end, acts_on, say}
 use Rattle.fleet_talk.specs.Acts.{Does, Talks, last_entry}
 use Rattle.fleet_talk.specs.Fleet.{Fleet}
@@ -58,16 +56,6 @@ added-then a b d first rest x y = record {
 }
 
 -- ---- single acts
-
--- one act at a line
-pub asked_one : {A : Type 0} (roll : Bool) (s t : Fleet A) (line : spec.Line) (asked is : Asked) (act : Act) (text : List ℕ) (known : Option (List ℕ)) (waited waits : List ℕ) →
-    asked ≡ is → acts_asked line is ≡ act ∷ [] → Does roll s act text t → waits ≡ waited ++ text
-    → (x : List ℕ) × Talks roll s (acts_asked line asked) x t × Says known known waited waits x
-asked_one roll s t line asked is act text known waited waits same one does added = (
-  text,
-  subst (λ (acts : List Act). Talks roll s acts text t) (sym (ap (acts_asked line) same ∙ one)) (talks-one roll s t act text does),
-  says-added known waited waits text added,
-)
 
 -- what is done at a line, and the end of its answer
 pub answered : {A : Type 0} (settings : Settings) (s t : Fleet A) (line : Line) (a b : Option (List ℕ)) (o p q text : List ℕ) →

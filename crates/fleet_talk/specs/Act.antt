@@ -1,5 +1,5 @@
 -- What is done at a line once the fleet is open.
-use Rattle.std.specs.Prelude.{ℕ, ◌+◌, Bool, true, false, List, [], ◌∷◌, ◌++◌, replicate, Option, if◌then◌else◌}
+use Rattle.std.specs.Prelude.{ℕ, ◌+◌, Bool, true, false, List, [], ◌∷◌, ◌++◌, replicate, Option, None, if◌then◌else◌}
 use Rattle.fleet_book.specs.declared.event.Event.{Event}
 use Rattle.fleet_talk.specs.declared.ask.Asked.{Asked}
 use Rattle.fleet_talk.specs.declared.ask.Asked.TheVariants.{Nothing, Events, Chapter, Look, Open, Quit, Other, Long}
@@ -30,6 +30,28 @@ acts_asked line (Open client) = list line.mark client ∷ []
 acts_asked line Quit = []
 acts_asked line Other = say line.mark (bad_line line.number) ∷ []
 acts_asked line Long = say line.mark (bad_line line.number) ∷ []
+
+-- the same as one act, and how many times it is done
+abbrev pub act_asked : Line → Asked → Act
+act_asked line (Events more) = play line.mark more.event
+act_asked line Chapter = turn line.mark
+act_asked line Look = show line.mark
+act_asked line (Open client) = list line.mark client
+act_asked line Other = say line.mark (bad_line line.number)
+act_asked line Long = say line.mark (bad_line line.number)
+-- of these none is done
+act_asked line Nothing = say None []
+act_asked line Quit = say None []
+
+abbrev pub times_asked : Asked → ℕ
+times_asked Nothing = 0
+times_asked (Events more) = more.times
+times_asked Chapter = 1
+times_asked Look = 1
+times_asked (Open client) = 1
+times_asked Quit = 0
+times_asked Other = 1
+times_asked Long = 1
 
 -- the end of a line's answer, where that is to be said
 abbrev pub acts_end : Settings → Line → List Act

@@ -40,11 +40,6 @@ pub data HandsOut {A : Type 0} (s : Talk A) (mark : Option (List ℕ)) (text : L
   handed : t ≡ next_talk s → text ≡ marked mark (chapter_line s.world.number (length s.world.history.entries)) → HandsOut s mark text t
   spent : s.world.number + 1 ≡ s.world.limits.chapters → t ≡ s → text ≡ marked mark chapter_refused_line → HandsOut s mark text t
 
--- the chapter was handed out and this was said, or it was the last and nothing was said
-abbrev pub Turns : {A : Type 0} → Bool → Talk A → Option (List ℕ) → List ℕ → Talk A → Type 0
-Turns true s mark text t = (t ≡ next_talk s) × (text ≡ marked mark (chapter_line s.world.number (length s.world.history.entries)))
-Turns false s mark text t = (s.world.number + 1 ≡ s.world.limits.chapters) × (t ≡ s) × (text ≡ [])
-
 -- before an event: the chapter was handed out unasked, if that is to be and the event needs the room
 pub data Rolls {A : Type 0} (roll : Bool) (s : Talk A) (mark : Option (List ℕ)) (e : Event) (text : List ℕ) (t : Talk A) : Type 0 where
   stays : (roll ≡ true → NeedsRoom s e → s.world.number + 1 ≡ s.world.limits.chapters) → t ≡ s → text ≡ [] → Rolls roll s mark e text t

@@ -11,6 +11,7 @@ pub mod HeadFile
 pub mod Look
 pub mod Listed
 pub mod Fleet
+pub mod Once
 pub mod Open
 pub mod Acts
 pub mod Chapters

@@ -1,94 +1,51 @@
-//! The lines of a conversation after its head.
+//! The lines of a conversation after its head: each is answered, and what is said and handed out is written and kept.
 
 ghost use Rattle.std.specs.Prelude.{◌≡◌, ◌≤◌, ◌∷◌, ℕ, List, OnOk, OnErr, IfErr, IfSome};
 ghost use Rattle.std.specs.Io.Buffered.{reader_remaining};
 ghost use Rattle.fleet_world.specs.Keeps.{talk};
-ghost use Rattle.fleet_talk.specs.Act.{acts_asked, acts_from, acts_on, show};
+ghost use Rattle.fleet_talk.specs.Act.{act_asked, acts_from, acts_on};
 ghost use Rattle.fleet_talk.specs.Acts.{Does, Talks};
+ghost use Rattle.fleet_talk.specs.Broken.{IsMidway};
 ghost use Rattle.fleet_talk.specs.Chapters.{KeepsTurned};
 ghost use Rattle.fleet_talk.specs.Heard.{heard_lines};
 ghost use Rattle.fleet_talk.specs.Lines.{line_shown};
-ghost use Rattle.fleet_talk.specs.Listed.{listed_text};
 ghost use Rattle.fleet_talk.specs.Open.{fleet_of};
-ghost use Rattle.fleet_talk.specs.Said.{IsAdded, IsKept, under};
-ghost use Rattle.fleet_talk.specs.Says.{Says, marked};
+ghost use Rattle.fleet_talk.specs.Said.{IsAdded, IsKept};
+ghost use Rattle.fleet_talk.specs.Says.{Says};
 ghost use Rattle.fleet_talk.specs.Talked.{TalksUntil};
 
-use crate::ask::{Asked, Line, is_quit, line_of};
+use crate::ask::{Line, is_quit, line_of};
+use crate::doing::{hear, times};
 use crate::ends::{ChapterSink, Ends};
 use crate::fault::TalkFault;
-use crate::listed::listed_text;
-use crate::look::look_text;
 use crate::open_fleet::OpenFleet;
 use crate::pen::Pen;
-use crate::plays::{next_chapter, play_all};
+use crate::plays::turned;
 use crate::reading::next_line;
-use crate::writing::write_if_due;
-use fleet_world::Session;
-use std::alloc::{Alloc, AllocError, Global};
+use crate::writing::{write_if_due, write_if_full};
+use std::alloc::{Alloc, Global};
 use std::io::{Read, Write};
 
-/// Looks at the fleet.
-fn show(
-    alloc: Global,
-    fleet: &OpenFleet,
-    pen: &mut Pen,
-    mark: Option<&[u8]>,
-) -> Result<(), AllocError>
-    requires { 0 ≤ fleet.now.session.world.core.number }
-    ensures ok { OnOk result ((text : List ℕ) × Does pen.old.settings.roll (fleet_of fleet.now) (show (under mark.entry)) text (fleet_of fleet.now) × IsAdded pen.old pen.new text) }
-    ensures err { OnErr result (IsKept pen.old pen.new) }
-{
-    let line = look_text(alloc, &fleet.session.world)?;
-    pen.say(alloc, mark, line.as_str())
-}
-
-/// Lists a client's open errands.
-fn list(
-    alloc: Global,
-    session: &Session,
-    pen: &mut Pen,
-    mark: Option<&[u8]>,
-    client: u32,
-) -> Result<(), AllocError>
-    requires { 0 ≤ session.now.world.core.number }
-    ensures ok { OnOk result (IsAdded pen.old pen.new (marked (under mark.entry) (listed_text session.now.world.core client))) }
-    ensures err { OnErr result (IsKept pen.old pen.new) }
-{
-    let lines = listed_text(alloc, &session.world, client)?;
-    pen.say(alloc, mark, lines.as_str())
-}
-
-/// Does what a line asks.
-fn do_asked<R: Alloc<A = Global>, I, W: Write, S: ChapterSink>(
+/// Does once what a line asks. A chapter that is handed out for it is kept before that is said.
+fn do_once<R: Alloc<A = Global>, S: ChapterSink>(
     rt: &R,
     fleet: &mut OpenFleet,
-    ends: &mut Ends<I, W, S>,
+    sink: &mut S,
     pen: &mut Pen,
     line: Line<'_>,
 ) -> Result<(), TalkFault>
     requires { 0 ≤ fleet.old.session.world.core.number }
-    ensures talks { OnOk result ((text : List ℕ) × Talks pen.old.settings.roll (fleet_of fleet.old) (acts_asked (line_shown line.entry) line.entry.asked) text (fleet_of fleet.new)
-        × Says (W.contents ends.old.output) (W.contents ends.new.output) pen.old.out.items pen.new.out.items text) }
-    ensures kept { OnOk result (KeepsTurned (S.kept ends.old.sink) (S.kept ends.new.sink) (talk fleet.old.session) (talk fleet.new.session)) }
-    ensures broken { IfErr result (λ fault. TalksUntil fault pen.old.settings.roll (fleet_of fleet.old) (acts_asked (line_shown line.entry) line.entry.asked)
-        (W.contents ends.old.output) (W.contents ends.new.output) pen.old.out.items pen.new.out.items) }
-    ensures settings { pen.new.settings ≡ pen.old.settings }
-    ensures input { ends.new.input ≡ ends.old.input }
+    ensures ok { OnOk result ((text : List ℕ) × Does pen.old.settings.roll (fleet_of fleet.old) (act_asked (line_shown line.entry) line.entry.asked) text (fleet_of fleet.new) × IsAdded pen.old pen.new text) }
+    ensures kept { OnOk result (KeepsTurned (S.kept sink.old) (S.kept sink.new) (talk fleet.old.session) (talk fleet.new.session)) }
+    ensures err { OnErr result (IsKept pen.old pen.new) }
+    ensures midway { IfErr result (λ fault. IsMidway fault) }
 {
-    match line.asked {
-        Asked::Nothing | Asked::Quit => Ok(()),
-        Asked::Events(more) => play_all(rt, fleet, ends, pen, line.mark, more),
-        Asked::Chapter => next_chapter(
-            rt.alloc(),
-            &mut fleet.session,
-            &mut ends.sink,
-            pen,
-            line.mark,
-        ),
-        Asked::Look => Ok(show(rt.alloc(), fleet, pen, line.mark)?),
-        Asked::Open(client) => Ok(list(rt.alloc(), &fleet.session, pen, line.mark, client)?),
-        Asked::Other | Asked::Long => Ok(pen.say_bad(rt.alloc(), line)?),
+    match hear(rt, fleet, pen, line)? {
+        Some(chapter) => {
+            sink.keep(&chapter)?;
+            Ok(turned(rt, fleet, pen, line, &chapter)?)
+        }
+        None => Ok(()),
     }
 }
 
@@ -109,7 +66,10 @@ fn answer<R: Alloc<A = Global>, I, W: Write, S: ChapterSink>(
     ensures settings { pen.new.settings ≡ pen.old.settings }
     ensures input { ends.new.input ≡ ends.old.input }
 {
-    do_asked(rt, fleet, ends, pen, line)?;
+    for _ in 0..times(line.asked) {
+        do_once(rt, fleet, &mut ends.sink, pen, line)?;
+        write_if_full(pen, &mut ends.output)?;
+    }
     Ok(pen.say_end(rt.alloc(), line)?)
 }
 

@@ -3,6 +3,7 @@
 
 mod ask;
 mod conversation;
+mod doing;
 mod ends;
 mod fault;
 mod going;

@@ -122,32 +122,6 @@ fn play_case<
     play_steps(rt, stage, case.steps, plan, told)
 }
 
-/// Opens an office over the desk, and makes the calls of a case.
-fn play_office<
-    N: OfficeName<A>,
-    A: Allocator + Copy + Send + Sync,
-    R: Alloc<A = A> + Threads + Sync + Wait,
->(
-    rt: &R,
-    desk: Desk<A>,
-    fleet: Fleet<A>,
-    case: &Case<'_>,
-    plan: Plan<'_>,
-    told: &mut String,
-) -> Result<Result<(), OpenFault>, AllocError>
-    requires named { IsNamed desk N.name N.parts N.rings }
-    requires start { N.start ≡ world_at desk fleet.grid fleet.starts.items (laws_of fleet.hooks) }
-{
-    match opened::<N, A>(rt.alloc(), desk, fleet, plan)? {
-        Ok(mut stage) => {
-            let played = play_case(rt, &mut stage, case, plan, told);
-            mem::drop(stage);
-            Ok(Ok(played?))
-        }
-        Err(fault) => Ok(Err(fault)),
-    }
-}
-
 /// Opens an office over the desk, or a hall, and makes the calls of a case.
 pub(crate) fn play<
     N: OfficeName<A>,
@@ -164,9 +138,15 @@ pub(crate) fn play<
     requires named { IsNamed desk N.name N.parts N.rings }
     requires start { N.start ≡ world_at desk fleet.grid fleet.starts.items (laws_of fleet.hooks) }
 {
-    if case.hall.is_empty() {
-        play_office::<N, A, R>(rt, desk, fleet, case, plan, told)
-    } else {
-        play_hall::<N, A, R>(rt, desk, fleet, case.hall, told)
+    if !case.hall.is_empty() {
+        return play_hall::<N, A, R>(rt, desk, fleet, case.hall, told);
+    }
+    match opened::<N, A>(rt.alloc(), desk, fleet, plan)? {
+        Ok(mut stage) => {
+            let played = play_case(rt, &mut stage, case, plan, told);
+            mem::drop(stage);
+            Ok(Ok(played?))
+        }
+        Err(fault) => Ok(Err(fault)),
     }
 }

@@ -1,7 +1,6 @@
 -- What the line has is what was read of the world.
 use Rattle.std.proofs.Common.{◌∙◌, ap, length}
 use Rattle.std.proofs.lemmas.Result.{IfOk-weaker}
-use Rattle.fleet_talk.specs.Look.{IsLook}
 use Rattle.fleet_talk.proofs.Looks.{same_line}
 use Rattle.fleet_talk.proofs.look.look_text.Goals as goal
 

@@ -3,7 +3,7 @@ use Rattle.std.proofs.Common.{◌∙◌, List, ℕ, subst}
 use Rattle.std.proofs.lemmas.Result.{on_ok_weaker}
 use Rattle.fleet_talk.specs.Said.{IsAdded, under}
 use Rattle.fleet_talk.specs.Says.{marked}
-use Rattle.fleet_talk.proofs.going.list.Goals as goal
+use Rattle.fleet_talk.proofs.doing.list.Goals as goal
 
 pub returns-clause-ok : goal.returns-clause-ok
 returns-clause-ok g c =

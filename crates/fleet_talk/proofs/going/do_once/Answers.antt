@@ -1,0 +1,16 @@
+-- A chapter that was handed out was kept, and then said.
+use Rattle.fleet_talk.specs.Act.{act_asked}
+use Rattle.fleet_talk.specs.Lines.{line_shown}
+use Rattle.fleet_talk.specs.Open.{fleet_of}
+use Rattle.fleet_talk.proofs.Onces.{once-kept, once-turned}
+use Rattle.fleet_talk.proofs.going.do_once.Goals as goal
+
+pub returns-in_ok-turned-in-Some-clause-ok : goal.returns-in_ok-turned-in-Some-clause-ok
+returns-in_ok-turned-in-Some-clause-ok g c =
+    once-turned c.args.pen.now.settings.roll (fleet_of c.args.fleet.now) (fleet_of c.hear.new.fleet) (fleet_of c.turned.new.fleet) (act_asked (line_shown c.args.line) c.args.line.asked) c.in_ok-chapter.field-0 c.in-Some.chapter
+    c.args.pen.now c.hear.new.pen c.turned.new.pen c.in_ok-chapter.ensures.ok c.in-Some.is c.in_ok-turned-in-Some.ensures.ok
+
+pub returns-in_ok-turned-in-Some-clause-kept : goal.returns-in_ok-turned-in-Some-clause-kept
+returns-in_ok-turned-in-Some-clause-kept g c =
+    once-kept c.args.pen.now.settings.roll (g.S.ChapterSink.kept c.args.sink.now) (g.S.ChapterSink.kept c.keep.new.self) (fleet_of c.args.fleet.now) (fleet_of c.hear.new.fleet) (fleet_of c.turned.new.fleet) (act_asked (line_shown c.args.line) c.args.line.asked) c.in_ok-chapter.field-0 c.in-Some.chapter
+    c.args.pen.now c.hear.new.pen c.in_ok-chapter.ensures.ok c.in-Some.is c.in_ok-keep-in-Some.ensures.ok c.in_ok-turned-in-Some.ensures.same
