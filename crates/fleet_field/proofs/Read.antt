@@ -1,17 +1,16 @@
 -- What two labels say of the ways to the goal.
-use Rattle.std.proofs.Common.{◌≡◌, ◌≢◌, ℕ, ◌+◌, ◌/◌, ◌%◌, ◌<◌, ◌⊎◌, ◌↔◌, IsTrue, inl, inr, List, [], length, Option, Some, None, get_or, slice_index, eqb, eq-eqb, refl, sym, ap, subst, ◌∙◌, arith}
+use Rattle.std.proofs.Common.{◌≡◌, ◌≢◌, ℕ, ◌/◌, ◌%◌, ◌<◌, ◌↔◌, IsTrue, inl, inr, length, Option, Some, None, get_or, slice_index, eqb, eq-eqb, refl, sym, ap, subst, ◌∙◌, arith}
 use Rattle.std.proofs.lemmas.Bool.{eqb-true}
 use Rattle.std.proofs.lemmas.List.{get_or_default}
 use Rattle.fleet_grid.specs.declared.dir.Dir.{Dir}
-use Rattle.fleet_grid.specs.Floor.{Floor, IsFloor, IsBeside, IsNeighbour, IsNeighbourIn, cell_across}
-use Rattle.fleet_grid.specs.Ways.{IsWay, AreOpen, IsLess}
+use Rattle.fleet_grid.specs.Floor.{Floor, IsFloor, IsBeside, IsNeighbour, IsNeighbourIn}
+use Rattle.fleet_grid.specs.Ways.{IsLess}
 use Rattle.fleet_grid.specs.Distance.{distance}
-use Rattle.fleet_grid.proofs.Edges.{beside_across}
 use Rattle.fleet_grid.proofs.Forms.{floor_inside}
 use Rattle.fleet_field.specs.declared.target.Target.{Target}
 use Rattle.fleet_field.specs.declared.growing.GrowingField.{GrowingField}
-use Rattle.fleet_field.specs.Growing.{Serves, IsFound, IsOver, IsSettled, search_of}
-use Rattle.fleet_field.specs.inside.Estimate.{estimate, IsToward}
+use Rattle.fleet_field.specs.Growing.{Serves, IsSettled, search_of}
+use Rattle.fleet_field.specs.inside.Estimate.{IsToward}
 use Rattle.fleet_field.specs.inside.Known.{label}
 use Rattle.fleet_field.proofs.Estimates.{estimate_toward, estimate_away}
 use Rattle.fleet_field.proofs.Settled.{home_at, home_of, seen_toward, seen_before, seen_over, none_first, toward_side, away_side, nowhere}

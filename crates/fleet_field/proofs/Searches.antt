@@ -1,5 +1,5 @@
 -- The search goes on: what it knows stays so.
-use Rattle.std.proofs.Common.{◌≡◌, ◌≢◌, ℕ, zero, suc, ◌+◌, ◌*◌, ◌%◌, ◌<◌, ◌≤◌, ◌⊎◌, ◌↔◌, inl, inr, List, [], ◌∷◌, ◌++◌, length, set, get_or, slice_index, refl, sym, ap, subst, ◌∙◌, arith}
+use Rattle.std.proofs.Common.{◌≡◌, ◌≢◌, ℕ, zero, suc, ◌+◌, ◌*◌, ◌<◌, ◌≤◌, ◌⊎◌, inl, inr, List, [], ◌∷◌, ◌++◌, length, set, get_or, slice_index, refl, sym, ap, subst, ◌∙◌, arith}
 use Rattle.std.specs.List.{Contains}
 use Rattle.std.proofs.lemmas.Bool.{cases_eq, cases_lt}
 use Rattle.std.proofs.lemmas.List.{get_or-set_same, get_or-set_other, length-set}
@@ -16,7 +16,7 @@ use Rattle.fleet_field.specs.declared.target.Target.{Target}
 use Rattle.fleet_field.specs.inside.Estimate.{estimate, IsToward}
 use Rattle.fleet_field.specs.inside.Left.{Search, IsNew, IsLeft, IsSpread}
 use Rattle.fleet_field.specs.inside.Known.{IsWithin, IsAt, IsLeaving, IsKnown, label, is_zero, zero_count}
-use Rattle.fleet_field.proofs.Estimates.{estimate_toward, estimate_away, neighbour_step, toward_or_away}
+use Rattle.fleet_field.proofs.Estimates.{estimate_toward, estimate_away, neighbour_step}
 
 pub long : (c : ℕ) (cs : List ℕ) → length (c ∷ cs) ≡ length cs + 1
 long c cs = grind arith
@@ -167,6 +167,22 @@ module _ (m : Floor) (t : Target) (aimed : ℕ) (pos : 0 < t.width) (same : t.wi
         now_right = λ v c. absurd (none_waits s.now v none c);
         next_right = known.later_right;
         later_right = λ v c. absurd (none_waits s.next v empty c);
+      }
+
+      -- what is known does not rest on cells with labels that wait
+      pub swept : (rest : List ℕ) → ((v : ℕ) → Contains s.later v → slice_index s.labels v ≡ 0 → Contains rest v) → ((v : ℕ) → Contains rest v → Contains s.later v) → IsKnown m t aimed k (record s { later = rest })
+      swept rest kept only = record {
+        size = known.size;
+        right = known.right;
+        before = known.before;
+        start = known.start;
+        onward = λ u v n lu lv. elim (beyond u v n lu lv) [
+          | inl a ↦ inl a
+          | inr r ↦ elim r [ inl c ↦ inr (inl c) | inr d ↦ inr (inr (inl (d.0, d.1, kept v d.2 lv))) ]
+        ];
+        now_right = known.now_right;
+        next_right = known.next_right;
+        later_right = λ v c. known.later_right v (only v c);
       }
 
       -- where nothing waits at all, no walk leads from a cell without a label to the goal

@@ -1,18 +1,19 @@
 -- What a whole field knows, from step to step.
-use Rattle.std.proofs.Common.{◌≡◌, ◌≢◌, ℕ, zero, suc, ◌+◌, ◌-◌, ◌*◌, ◌%◌, ◌<◌, ◌≤◌, inl, inr, List, [], ◌∷◌, ◌++◌, length, set, get_or, slice_index, replicate, take, refl, sym, ap, subst, ◌∙◌, arith}
+use Rattle.std.proofs.Common.{◌≡◌, ◌≢◌, ℕ, zero, suc, ◌+◌, ◌%◌, ◌<◌, inr, List, [], ◌∷◌, ◌++◌, length, set, get_or, slice_index, replicate, take, refl, sym, ap, subst, ◌∙◌, arith}
 use Rattle.std.specs.List.{Contains}
 use Rattle.std.proofs.lemmas.List.Elements.{Contains-push}
-use Rattle.fleet_grid.specs.Floor.{Floor, HasForm, IsFloor}
+use Rattle.fleet_grid.specs.declared.dir.Dir.{Dir}
+use Rattle.fleet_grid.specs.Floor.{Floor, IsFloor, cell_across}
+use Rattle.fleet_grid.proofs.Edges.{beside_across}
 use Rattle.fleet_grid.proofs.Forms.{floor_inside, wide}
-use Rattle.fleet_grid.specs.Ways.{AreOpen}
-use Rattle.std.proofs.lemmas.List.{length-append, get_or_past}
+use Rattle.fleet_grid.specs.Ways.{IsWay, AreOpen}
+use Rattle.std.proofs.lemmas.List.{get_or_past}
 use Rattle.fleet_field.specs.declared.target.Target.{Target}
 use Rattle.fleet_field.specs.declared.growing.GrowingField.{GrowingField}
 use Rattle.fleet_field.specs.Growing.{Serves, search_of}
-use Rattle.fleet_field.specs.inside.Estimate.{estimate}
 use Rattle.fleet_field.specs.inside.Left.{Search, IsSpread}
 use Rattle.fleet_field.specs.inside.Known.{IsWithin, IsAt, IsKnown, label}
-use Rattle.fleet_field.proofs.Searches.{next_known, skipped, taken, lifted, all_left}
+use Rattle.fleet_field.proofs.Searches.{next_known, swept, skipped, taken, lifted, all_left}
 
 -- nothing is known yet, and the goal waits
 pub begun : (m : Floor) (t : Target) (aimed : ℕ) (labels now next later : List ℕ) → length labels ≡ length m.letters → ((v : ℕ) → slice_index labels v ≡ 0) → IsFloor m aimed
@@ -78,6 +79,15 @@ module _ {A : Type 0} (m : Floor) (f g : GrowingField A) (s : Serves m f) where
       serves_by goal target (s.steps + 1) (mark ∙ turned_mark f.mark s.steps s.mark) (record { labels = f.labels.items; now = f.now.items; next = f.later.items; later = f.next.items })
       (next_known m f.target f.goal target_wide s.width s.steps (search_of f) s.known none empty) e
 
+  pub later_inside : (v : ℕ) → Contains f.later.items v → v < length f.labels.items
+  later_inside v c = let i = floor_inside m v (s.known.later_right v c).0 in let e = s.known.size in omega (arith, i, e)
+
+  pub swept_serves : (rest : List ℕ) → ((v : ℕ) → Contains f.later.items v → slice_index f.labels.items v ≡ 0 → Contains rest v) → ((v : ℕ) → Contains rest v → Contains f.later.items v)
+      → g.goal ≡ f.goal → g.target ≡ f.target → g.mark ≡ f.mark → search_of g ≡ record { labels = f.labels.items; now = f.now.items; next = f.next.items; later = rest } → Serves m g
+  swept_serves rest kept only goal target mark e =
+      serves_by goal target s.steps (mark ∙ s.mark) (record { labels = f.labels.items; now = f.now.items; next = f.next.items; later = rest })
+      (swept m f.target f.goal target_wide s.width s.steps (search_of f) s.known rest kept only) e
+
   -- a cell that waits
   module _ (rest : List ℕ) (cell : ℕ) (popped : f.next.items ≡ rest ++ cell ∷ []) where
     pub waiting_floor : IsFloor m cell
@@ -106,6 +116,14 @@ module _ {A : Type 0} (m : Floor) (f g : GrowingField A) (s : Serves m f) where
 
     pub last_inside : cell < length f.labels.items
     last_inside = let i = floor_inside m cell last_right.0 in let e = s.known.size in omega (arith, i, e)
+
+    pub spread_inside : (ways : ℕ) → AreOpen m cell ways → (dir : Dir) → IsWay ways dir → cell_across f.target.width cell dir < length f.labels.items
+    spread_inside ways ways_open dir way =
+        let o = (ways_open dir).0 way in
+        let i = floor_inside m o.0 o.1.to in
+        let e : o.0 ≡ cell_across f.target.width cell dir = beside_across m.width dir cell o.0 o.1.beside ∙ ap (λ (x : ℕ). cell_across x cell dir) (sym s.width) in
+        let size = s.known.size in
+        omega (arith, i, e, size)
 
     pub spread_serves : (ways : ℕ) (before : Search) → AreOpen m cell ways → before ≡ record { labels = f.labels.items; now = rest; next = f.next.items; later = f.later.items }
         → IsSpread f.target ways f.mark cell before (search_of g) → g.goal ≡ f.goal → g.target ≡ f.target → g.mark ≡ f.mark → Serves m g

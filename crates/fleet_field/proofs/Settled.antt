@@ -1,17 +1,17 @@
 -- What is read off the labels, once the search has come to a cell.
-use Rattle.std.proofs.Common.{◌≡◌, ◌≢◌, ℕ, ◌+◌, ◌*◌, ◌/◌, ◌%◌, ◌<◌, ◌≤◌, ◌⊎◌, ◌↔◌, inl, inr, List, [], ◌∷◌, length, slice_index, Option, Some, None, refl, sym, ap, subst, ◌∙◌, arith}
+use Rattle.std.proofs.Common.{◌≡◌, ◌≢◌, ℕ, ◌+◌, ◌*◌, ◌/◌, ◌%◌, ◌<◌, ◌≤◌, ◌↔◌, inl, inr, List, [], ◌∷◌, length, slice_index, Option, Some, None, refl, sym, ap, subst, ◌∙◌, arith}
 use Rattle.std.proofs.lemmas.Bool.{cases_lt}
 use Rattle.fleet_grid.specs.Floor.{Floor, IsFloor, IsNeighbour}
-use Rattle.fleet_grid.specs.Walk.{Walks, IsDistance}
+use Rattle.fleet_grid.specs.Walk.{Walks}
 use Rattle.fleet_grid.specs.Ways.{IsLess}
 use Rattle.fleet_grid.specs.Distance.{distance}
 use Rattle.fleet_grid.proofs.Least.{none_or_some}
 use Rattle.fleet_grid.proofs.Shortest.{is_distance, distance_is, apart_is}
 use Rattle.fleet_grid.proofs.Edges.{neighbour_back}
 use Rattle.fleet_field.specs.declared.target.Target.{Target}
-use Rattle.fleet_field.specs.inside.Estimate.{gap, estimate}
+use Rattle.fleet_field.specs.inside.Estimate.{estimate}
 use Rattle.fleet_field.specs.inside.Left.{Search}
-use Rattle.fleet_field.specs.inside.Known.{IsWithin, IsAt, IsKnown, label}
+use Rattle.fleet_field.specs.inside.Known.{IsAt, IsKnown, label}
 use Rattle.fleet_field.proofs.Estimates.{neighbour_step, gap_same, gap_over}
 use Rattle.fleet_field.proofs.Searches.{long, away_of, within_toward, within_away, complete, all_come}
 

@@ -19,8 +19,8 @@ impl<A: Allocator + Copy> GrowingField<A> {
         ensures smaller { OnOk result (to_do self.new < to_do self.old) }
         ensures fewer { may_wait self.new ≤ may_wait self.old }
     {
+        self.make_room()?;
         self.now.reserve(4)?;
-        self.later.reserve(4)?;
         let Some(cell) = self.now.pop() else {
             return Ok(());
         };

@@ -1,4 +1,4 @@
-use Rattle.std.proofs.Common.{◌≡◌, ℕ, ◌<◌, length, get_or, sym, ap, subst, ◌∙◌, arith}
+use Rattle.std.proofs.Common.{◌≡◌, ℕ, get_or, sym, ap, subst, ◌∙◌, arith}
 use Rattle.std.proofs.lemmas.Bool.{false≢true}
 use Rattle.std.proofs.lemmas.List.{get_or_default}
 use Rattle.fleet_grid.specs.Floor.{cell_across}
@@ -7,7 +7,6 @@ use Rattle.fleet_grid.proofs.Forms.{floor_inside, few_cells, wide}
 use Rattle.fleet_field.specs.declared.target.Target.{Target}
 use Rattle.fleet_field.specs.inside.Estimate.{IsToward}
 use Rattle.fleet_field.proofs.Read.{there_inside, nearer_toward, nearer_first, home_is}
-use Rattle.fleet_field.proofs.Settled.{home_of}
 use Rattle.fleet_field.proofs.Serving.{target_wide}
 use Rattle.fleet_field.proofs.growing.GrowingField.doubt.Goals as goal
 

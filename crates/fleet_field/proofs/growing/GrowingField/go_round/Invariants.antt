@@ -1,4 +1,4 @@
-use Rattle.std.proofs.Common.{◌≡◌, ℕ, ◌<◌, ◌≤◌, length}
+use Rattle.std.proofs.Common.{◌≡◌, ◌<◌, ◌≤◌, length}
 use Rattle.fleet_field.specs.Growing.{Serves, to_do, may_wait}
 use Rattle.fleet_field.proofs.growing.GrowingField.go_round.Given as goal
 

@@ -1,9 +1,9 @@
-use Rattle.std.proofs.Common.{◌≡◌, ◌≢◌, ℕ, ◌<◌, length, get_or, sym, ap, subst, ◌∙◌, arith}
+use Rattle.std.proofs.Common.{◌≡◌, ℕ, get_or, sym, ap, ◌∙◌, arith}
 use Rattle.std.proofs.lemmas.Bool.{false≢true}
-use Rattle.fleet_grid.specs.Floor.{IsNeighbourIn, cell_across}
+use Rattle.fleet_grid.specs.Floor.{cell_across}
 use Rattle.fleet_grid.proofs.Edges.{beside_across}
 use Rattle.fleet_grid.proofs.Forms.{floor_inside, few_cells}
-use Rattle.fleet_field.proofs.Read.{here_inside, there_inside, unlike_is, like_is, none_is}
+use Rattle.fleet_field.proofs.Read.{there_inside, unlike_is, like_is, none_is}
 use Rattle.fleet_field.proofs.Serving.{target_wide}
 use Rattle.fleet_field.proofs.growing.GrowingField.is_nearer.Goals as goal
 

@@ -1,4 +1,4 @@
-use Rattle.std.proofs.Common.{◌≡◌, ℕ, ◌+◌, ◌*◌, ◌⊎◌, length}
+use Rattle.std.proofs.Common.{◌≡◌, ◌+◌, ◌*◌, ◌⊎◌, length}
 use Rattle.fleet_field.specs.Growing.{Serves, IsFound, IsOver}
 use Rattle.fleet_field.specs.inside.Known.{zero_count}
 use Rattle.fleet_field.proofs.growing.GrowingField.reach.Given as goal

@@ -1,6 +1,5 @@
 use Rattle.std.proofs.Common.{◌≡◌, ℕ, List, [], ◌∷◌, ◌++◌, ◌+◌, length, set, refl, sym, ap, ◌∙◌, arith}
 use Rattle.std.proofs.lemmas.List.{length_push, get_or_default}
-use Rattle.fleet_field.specs.inside.Known.{zero_count}
 use Rattle.fleet_field.proofs.Searches.{one_less}
 use Rattle.fleet_field.proofs.Serving.{waiting_inside, skipped_serves, taken_serves}
 use Rattle.fleet_field.proofs.growing.GrowingField.take_last.Goals as goal

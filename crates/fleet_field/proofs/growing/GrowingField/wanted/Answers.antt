@@ -2,7 +2,7 @@ use Rattle.std.proofs.Common.{◌≡◌, ◌≢◌, ℕ, List, length, get_or, s
 use Rattle.std.proofs.lemmas.List.{get_or_default}
 use Rattle.fleet_grid.specs.declared.dir.Dir.TheVariants.{North, East, South, West}
 use Rattle.fleet_grid.specs.declared.dir.Dir.{Dir}
-use Rattle.fleet_grid.specs.Floor.{Floor, IsNeighbour, IsNeighbourIn}
+use Rattle.fleet_grid.specs.Floor.{Floor, IsNeighbourIn}
 use Rattle.fleet_grid.specs.Ways.{IsLess}
 use Rattle.fleet_grid.specs.Distance.{distance}
 use Rattle.fleet_field.specs.declared.growing.GrowingField.{GrowingField}
