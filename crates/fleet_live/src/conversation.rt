@@ -10,11 +10,20 @@ use std::mem;
 use std::sync::atomic::{AtomicU64, Ordering};
 use std::sync::{Arc, Condvar, Mutex, Wait};
 
+/// The clients of a conversation: from the first number on, before the end.
+#[derive(Clone, Copy)]
+pub(crate) struct Clients {
+    pub(crate) first: usize,
+    pub(crate) end: usize,
+}
+
 /// A conversation, shared by its reader, its writer and the keeper.
 #[derive(Drop)]
 pub(crate) struct Conversation<N: OfficeName<Global>> {
     pub(crate) place: usize,
     pub(crate) rights: Rights,
+    /// Those that it speaks for.
+    pub(crate) clients: Clients,
     pub(crate) voice: Arc<Voice>,
     guests: Mutex<Vec<Guest<N>>>,
     /// By client, how many of its orders were taken before the fleet went on.
@@ -31,6 +40,7 @@ impl<N: OfficeName<Global>> Conversation<N> {
     pub(crate) fn new(
         place: usize,
         rights: Rights,
+        clients: Clients,
         voice: Arc<Voice>,
         guests: Vec<Guest<N>>,
         taken: Vec<u64>,
@@ -38,6 +48,7 @@ impl<N: OfficeName<Global>> Conversation<N> {
         Conversation {
             place,
             rights,
+            clients,
             voice,
             guests: Mutex::new(guests),
             taken,

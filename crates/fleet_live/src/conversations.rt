@@ -2,7 +2,7 @@
 
 ghost use Rattle.fleet_office.specs.Views.{AreOn, cores};
 
-use crate::conversation::Conversation;
+use crate::conversation::{Clients, Conversation};
 use crate::voice::Voice;
 use fleet_lanes::Client;
 use fleet_office::{Guest, OfficeName, guests_of};
@@ -23,6 +23,7 @@ fn new_conversation<N: OfficeName<Global>>(
     alloc: Global,
     place: usize,
     rights: Rights,
+    clients: Clients,
     guests: Vec<Guest<N>>,
     taken: &[u64],
 ) -> Result<Arc<Conversation<N>>, AllocError> {
@@ -30,7 +31,7 @@ fn new_conversation<N: OfficeName<Global>>(
     let taken = Vec::from_slice(alloc, taken)?;
     match Arc::new(
         alloc,
-        Conversation::new(place, rights, voice, guests, taken),
+        Conversation::new(place, rights, clients, voice, guests, taken),
     ) {
         Ok(one) => Ok(one),
         Err(_) => Err(AllocError),
@@ -43,14 +44,15 @@ fn own_conversation<N: OfficeName<Global>>(
     guest: Guest<N>,
     taken: &[u64],
 ) -> Result<Arc<Conversation<N>>, AllocError> {
-    let place = (guest.number() as usize).saturating_add(1);
+    let first = guest.number() as usize;
+    let end = first.saturating_add(1);
     let mut guests = Vec::with_capacity(alloc, 1)?;
     guests.push_reserved(guest);
     let rights = Rights {
         is_operator: false,
         ticks: false,
     };
-    new_conversation(alloc, place, rights, guests, taken)
+    new_conversation(alloc, end, rights, Clients { first, end }, guests, taken)
 }
 
 /// The conversations: the first is that of the clients that have no pipes, the others are those of clients 0, 1, ..
@@ -66,6 +68,10 @@ pub(crate) fn conversations_of<N: OfficeName<Global>>(
     let Ok(guests) = guests_of::<N, Global>(alloc, clients) else {
         return Err(AllocError);
     };
+    let clients = Clients {
+        first: pipes,
+        end: guests.len(),
+    };
     let mut rest = Vec::with_capacity(alloc, guests.len())?;
     let mut own = Vec::new(alloc);
     for guest in guests {
@@ -80,7 +86,8 @@ pub(crate) fn conversations_of<N: OfficeName<Global>>(
         ticks: !paced,
     };
     let mut all = Vec::new(alloc);
-    push_one(&mut all, new_conversation(alloc, 0, rights, rest, taken)?)?;
+    let first = new_conversation(alloc, 0, rights, clients, rest, taken)?;
+    push_one(&mut all, first)?;
     for one in own {
         push_one(&mut all, one)?;
     }

@@ -4,13 +4,13 @@ ghost use Rattle.std.specs.Prelude.{◌≡◌, Ok, true};
 ghost use Rattle.fleet_live.specs.Handed.{IsTurned};
 
 use crate::bell::Call;
-use crate::conversation::Conversation;
+use crate::conversation::{Clients, Conversation};
 use crate::stage::{Round, Stage, Work};
 use fleet_core::ChapterFault;
 use fleet_office::{Office, OfficeName, TurnCause};
 use fleet_talk::ChapterSink;
 use fleet_text::tick_line;
-use live_parts::Stop;
+use live_parts::{Due, Stop};
 use std::alloc::{Alloc, AllocError, Global};
 use std::sync::Wait;
 
@@ -36,15 +36,15 @@ pub(crate) struct Keeper<'a, N: OfficeName<Global>, S> {
 
 impl<N: OfficeName<Global>, S: ChapterSink> Keeper<'_, N, S> {
     /// Tells each client all its notices, however few its outlet has room for, while there is room in its conversation.
-    /// On demand the first conversation is told all, however long its reader takes.
-    pub(crate) fn tell_all<R: Alloc<A = Global> + Wait>(&self, rt: &R) -> Result<(), AllocError> {
+    /// Only those conversations are locked whose clients may find some.
+    pub(crate) fn tell_all<R: Alloc<A = Global> + Wait>(
+        &self,
+        rt: &R,
+        due: &mut Due,
+    ) -> Result<(), AllocError> {
         for _ in rt.forever() {
-            for one in &self.stage.conversations {
-                let told = one.tell(rt, rt.alloc())?;
-                if !told && !self.stage.paced && one.rights.is_operator {
-                    self.tell_whole(rt, one)?;
-                }
-            }
+            self.office.given(rt, &mut due.given);
+            self.tell_due(rt, due)?;
             // Where nothing was given, each mailbox is empty, or its client's outlet is full since there is no room to
             // print.
             if self.office.give_all(rt) == 0 {
@@ -54,16 +54,51 @@ impl<N: OfficeName<Global>, S: ChapterSink> Keeper<'_, N, S> {
         unreachable!()
     }
 
-    /// Tells all that the clients of a conversation find, as its reader makes room.
+    /// Tells the clients of the conversations where one may find notices.
+    fn tell_due<R: Alloc<A = Global> + Wait>(
+        &self,
+        rt: &R,
+        due: &mut Due,
+    ) -> Result<(), AllocError> {
+        for one in &self.stage.conversations {
+            let Clients { first, end } = one.clients;
+            if due.is_due(first, end) && self.tell(rt, one)? {
+                due.note_told(first, end);
+            }
+        }
+        Ok(())
+    }
+
+    /// Tells what the clients of a conversation find while there is room, and returns whether that was all. On demand
+    /// the first conversation is told all, however long its reader takes.
+    fn tell<R: Alloc<A = Global> + Wait>(
+        &self,
+        rt: &R,
+        one: &Conversation<N>,
+    ) -> Result<bool, AllocError> {
+        if one.tell(rt, rt.alloc())? {
+            return Ok(true);
+        }
+        if self.stage.paced || !one.rights.is_operator {
+            return Ok(false);
+        }
+        self.tell_whole(rt, one)
+    }
+
+    /// Tells all that the clients of a conversation find, as its reader makes room. Returns whether that was all: its
+    /// reader may have gone away.
     fn tell_whole<R: Alloc<A = Global> + Wait>(
         &self,
         rt: &R,
         one: &Conversation<N>,
-    ) -> Result<(), AllocError> {
+    ) -> Result<bool, AllocError> {
         for _ in rt.forever() {
             one.voice.wait_for_room(rt);
-            if one.voice.is_gone(rt) || one.tell(rt, rt.alloc())? {
-                return Ok(());
+            if one.voice.is_gone(rt) {
+                return Ok(false);
+            }
+            if one.tell(rt, rt.alloc())? {
+                return Ok(true);
             }
         }
         unreachable!()
@@ -157,7 +192,7 @@ impl<N: OfficeName<Global>, S: ChapterSink> Keeper<'_, N, S> {
         shown: bool,
     ) -> Result<Turned, Stop> {
         let turned = self.make_turn(rt, round, work)?;
-        self.tell_all(rt)?;
+        self.tell_all(rt, &mut round.due)?;
         if turned != Turned::Made {
             round.limited = true;
         } else if shown {
@@ -194,7 +229,7 @@ impl<N: OfficeName<Global>, S: ChapterSink> Keeper<'_, N, S> {
                 }
             }
         }
-        Ok(self.tell_all(rt)?)
+        Ok(self.tell_all(rt, &mut round.due)?)
     }
 
     /// Says all figures, unless those before them are not written yet.
@@ -231,7 +266,7 @@ impl<N: OfficeName<Global>, S: ChapterSink> Keeper<'_, N, S> {
             Call::Stop(stop) => Err(stop),
             Call::Grant(wish) => self.grant(rt, round, work, wish),
             Call::Settle => self.settle(rt, round, work),
-            Call::Tell => Ok(self.tell_all(rt)?),
+            Call::Tell => Ok(self.tell_all(rt, &mut round.due)?),
             Call::Show => Ok(self.show_figures(rt, round)?),
             Call::HandOut => self.hand_out_early(rt, work),
         }

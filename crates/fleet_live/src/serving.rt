@@ -14,7 +14,7 @@ use crate::tickers::work_all;
 use fleet_lanes::Client;
 use fleet_office::{Office, OfficeName, Ticker};
 use fleet_talk::ChapterSink;
-use live_parts::{Archive, LiveEnds, LiveSettings, Pipes, Stop};
+use live_parts::{Archive, Due, LiveEnds, LiveSettings, Pipes, Stop};
 use std::alloc::{Alloc, AllocError, Global};
 use std::io::{Read, Write};
 use std::sync::atomic::AtomicU64;
@@ -83,6 +83,7 @@ fn stage_of<N: OfficeName<Global>, R: Alloc<A = Global> + Clock, S: ChapterSink 
         Some(period) => Deadlines::new(rt, period),
         None => None,
     };
+    let due = Due::new(alloc, clients.len())?;
     let conversations = conversations_of(alloc, clients, pipes, paced, &site.taken)?;
     let bell = new_bell(alloc)?;
     let counts = new_voice(alloc)?;
@@ -94,7 +95,7 @@ fn stage_of<N: OfficeName<Global>, R: Alloc<A = Global> + Clock, S: ChapterSink 
         paced,
         chapter: site.chapter,
         searches: paced && site.cells >= LARGE,
-        round: Mutex::new(Round::new(deadlines)),
+        round: Mutex::new(Round::new(deadlines, due)),
         archive: Mutex::new(Archive::new(alloc, sink)),
         before: 0,
         waiting: AtomicU64::new(0),

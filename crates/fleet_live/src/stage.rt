@@ -9,7 +9,7 @@ use crate::voice::Voice;
 use fleet_core::QueueReport;
 use fleet_office::{OfficeName, TickRecord, Ticker, TurnReport, WaitReport};
 use fleet_talk::ChapterSink;
-use live_parts::{Archive, Figures, Notices, Stop, Tally, Unkept};
+use live_parts::{Archive, Due, Figures, Notices, Stop, Tally, Unkept};
 use std::alloc::{Alloc, AllocError, Global};
 use std::sync::atomic::{AtomicU64, Ordering};
 use std::sync::{Arc, Mutex, Wait};
@@ -36,10 +36,12 @@ pub(crate) struct Round {
     news: bool,
     /// Whether the fields of their next errands are to be searched.
     pub(crate) search: bool,
+    /// Which clients may find notices: only this ticker tells.
+    pub(crate) due: Due,
 }
 
 impl Round {
-    pub(crate) fn new(deadlines: Option<Deadlines>) -> Round {
+    pub(crate) fn new(deadlines: Option<Deadlines>, due: Due) -> Round {
         Round {
             deadlines,
             tally: Tally::NONE,
@@ -49,6 +51,7 @@ impl Round {
             retry: 0,
             news: false,
             search: false,
+            due,
         }
     }
 

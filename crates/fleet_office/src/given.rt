@@ -39,12 +39,13 @@ impl<N: OfficeName<A>, A: Allocator + Copy> HallState<N, A> {
 }
 
 impl<N: OfficeName<A>, A: Allocator + Copy> Office<N, A> {
-    /// Puts at the place of each client, by number, how many notices it was given in all, as it is when the lock is held. So a
-    /// caller that has the counts of before knows which clients may find notices. Places past the last client keep what they
-    /// have, and a client that has no place is left out.
+    /// Puts at the place of each client, by number, how many notices it was given in all, as it is when the lock is
+    /// held. So a caller that has the counts of before knows which clients may find notices. Places past the last
+    /// client keep what they have, and a client that has no place is left out.
     pub fn given<R: Wait>(&self, rt: &R, counts: &mut [u64])
         requires { 0 ≤ 1 }
-        ensures { (h : HallView A) × IsLawful N.rings N.start h.world h.ends h.total × (counts.new ≡ counted h.ends counts.old) }
+        ensures { (h : HallView A) × IsLawful N.rings N.start h.world h.ends h.total
+            × (counts.new ≡ counted h.ends counts.old) }
     {
         let hall = self.hall.lock(rt);
         hall.state.recall_laws();

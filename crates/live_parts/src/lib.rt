@@ -4,6 +4,7 @@
 
 mod archive;
 mod demand;
+mod due;
 mod ends;
 mod figures;
 mod notices;
@@ -18,6 +19,7 @@ mod unkept;
 
 pub use archive::Archive;
 pub use demand::{Demand, Rights, Wanted, demand_of};
+pub use due::Due;
 pub use ends::{LiveEnds, LiveSettings, Pipes};
 pub use figures::Figures;
 pub use notices::Notices;

@@ -10,10 +10,10 @@ use test_kit::cut_line;
 /// How often a thread looks whether others are as far as a case says, a millisecond apart.
 const MOST_LOOKS: u32 = 10_000;
 
-/// How often the clock is read at most until the fleet waits for its next deadline, after the clock was moved: by a read that began
-/// before it was moved, three times until a wait is seen to have ended, by the step that makes the turn, after the turn, by the next
-/// step, and as that begins to wait. If the clock were moved sooner, the time after a turn could be later than the next deadline,
-/// which is then left out.
+/// How often the clock is read at most until the fleet waits for its next deadline, after the clock was moved: by a
+/// read that began before it was moved, three times until a wait is seen to have ended, by the step that makes the
+/// turn, after the turn, by the next step, and as that begins to wait. If the clock were moved sooner, the time after
+/// a turn could be later than the next deadline, which is then left out.
 const MOST_READS: u64 = 8;
 
 /// The text before the next line that begins so.
