@@ -64,6 +64,8 @@ class Run:
         self.places = [[robot[0] for robot in opening["robots"]]]
         # By robot: the errands in its queue, and when it began the first.
         self.queues = [[(c, n) for c, n, _ in robot[3]] for robot in opening["robots"]]
+        # By client and number: where an errand leads.
+        self.goals = {(c, n): cell for robot in opening["robots"] for c, n, cell in robot[3]}
         self.begun = [None if robot[2] is None else self.first_tick - robot[2] for robot in opening["robots"]]
         self.accepted, self.kinds, self.done, self.ticks = {}, collections.Counter(), [], []
         for chapter in chapters:
@@ -84,6 +86,7 @@ class Run:
             if not self.queues[robot]:
                 self.begun[robot] = self.clock()
             self.queues[robot].append(name)
+            self.goals[name] = order[2]
         if verdict[0] == "withdrawn":
             for queue in self.queues:
                 if (client, order[1]) in queue:
@@ -119,6 +122,14 @@ class Run:
                 })
         return rows
 
+    def left_rows(self):
+        """Returns the errands that were accepted and are in a queue at the end."""
+        return [
+            {"client": client, "number": number, "robot": robot, "cell": self.goals[client, number], "accepted": self.accepted[client, number],
+             "begun": None, "arrived": None, "from": None, "steps": None, "distance": None}
+            for robot, queue in enumerate(self.queues) for client, number in queue if (client, number) in self.accepted
+        ]
+
 
 def ratio(number, by):
     """Returns a quotient as it is printed, rounded down to thousandths."""
@@ -149,7 +160,8 @@ def figures(floor, run):
         "orders": sum(run.kinds.values()), "accepted": run.kinds["accepted"], "closed": run.kinds["closed"],
         "withdrawn": run.kinds["withdrawn"], "refused": sum(refused.values()),
         **{"refused_" + REFUSALS[code - 1]: number for code, number in refused.items()},
-        "arrivals": len(run.done), "throughput": ratio(len(run.done), count), "errands": len(rows),
+        "arrivals": len(run.done), "throughput": ratio(len(run.done), count),
+        "unfinished": sum(map(len, run.queues)), "errands": len(rows),
         **spread("service", [row["arrived"] - row["accepted"] for row in rows]),
         **spread("wait", [row["arrived"] - row["begun"] for row in rows]),
         "steps": steps, "distance": distance, "detour": ratio(steps, distance),
@@ -181,7 +193,8 @@ def table(names, rows):
 
 
 def as_errands(floor, run):
-    return table(["client", "number", "robot", "cell", "accepted", "begun", "arrived", "from", "steps", "distance"], run.rows(floor))
+    return table(["client", "number", "robot", "cell", "accepted", "begun", "arrived", "from", "steps", "distance"],
+                 run.rows(floor) + run.left_rows())
 
 
 def as_ticks(_floor, run):

@@ -1,22 +1,26 @@
 -- A chapter, entry by entry, with the state before each.
-use Rattle.std.proofs.Common.{◌≡◌, ℕ, zero, suc, ◌+◌, ◌^◌, ◌<◌, ◌≤◌, List, [], ◌∷◌, ◌++◌, Option, length, get_or, take, drop, refl, sym, ap, subst, ◌∙◌, arith}
-use Rattle.std.specs.Prelude.{slice_index}
-use Rattle.std.proofs.lemmas.List.{take_more, drop_more, drop_all, take-append-drop}
+use Rattle.std.proofs.Common.{◌≡◌, ℕ, zero, suc, ◌+◌, ◌^◌, ◌<◌, ◌≤◌, List, [], ◌∷◌, ◌++◌, Option, length, get_or, take, drop, refl, sym, ap, subst, ◌∙◌, add-one, arith}
+use Rattle.std.specs.Prelude.{slice_index, slice_get, map}
+use Rattle.std.proofs.lemmas.List.{take_more, drop_more, drop_all, take_all, take-append-drop, append_assoc}
 use Rattle.std.proofs.lemmas.List.Sums.{count_by-le-length}
 use Rattle.fleet_grid.specs.Floor.{Floor}
 use Rattle.fleet_history.specs.declared.history.Entry.{Entry}
 use Rattle.fleet_history.specs.declared.history.Entry.TheVariants.{Take, Tick, Shut}
-use Rattle.fleet_history.specs.History.{History, with_entries, after, clock, is_tick, place}
+use Rattle.fleet_history.specs.History.{History, with_entries, after, clock, is_tick, place, robots, unfinished}
 use Rattle.fleet_history.specs.Legal.{Fits}
 use Rattle.fleet_history.proofs.Legal.{fits-at}
 use Rattle.fleet_state.specs.State.{State, IsStateOf, HasFullRooms, robot_count}
+use Rattle.fleet_queue.specs.declared.errand.Errand.{Errand}
+use Rattle.fleet_queue.specs.Queue.{Queue}
+use Rattle.fleet_state.specs.Robots.{queue_at}
 use Rattle.fleet_state.specs.Follows.{Follows, MayFollow, IsPlaced}
-use Rattle.fleet_state.proofs.Parts.{cells-of, waits-of, queue-count, queue-limit}
+use Rattle.fleet_state.proofs.Parts.{cells-of, waits-of, queue-count, queue-of, queue-limit}
 use Rattle.fleet_state.proofs.Entered.{tick-of}
 use Rattle.fleet_state.proofs.Judged.{has-place}
-use Rattle.fleet_stats.specs.Noted.{Notes, note, note_by, noted, waits}
+use Rattle.fleet_stats.specs.Noted.{Notes, note, note_by, noted, entries_noted, history_noted, waits, left_by, left_if, left_below, left_of}
+use Rattle.fleet_stats.specs.declared.rows.Left.{Left}
 use Rattle.fleet_stats.specs.Chapters.{IsSound}
-use Rattle.fleet_stats.specs.inside.Following.{CanFollow}
+use Rattle.fleet_stats.specs.inside.Following.{CanFollow, IsEnd}
 
 -- the history up to an entry
 abbrev pub upto : {A : Type 0} → History A → ℕ → History A
@@ -100,3 +104,35 @@ module _ {A : Type 0} (h : History A) (i : ℕ) (s : State A) (k : IsThere h i s
 -- all entries are recorded
 pub all-recorded : {A : Type 0} (h : History A) (i : ℕ) (n all : Notes) → length h.entries ≤ i → noted (upto h i) (drop i h.entries) n ≡ all → n ≡ all
 all-recorded h i n all past before = sym (ap (λ es. noted (upto h i) es n) (drop_all i h.entries past)) ∙ before
+
+-- the state after all entries is that at the end
+pub at-end : {A : Type 0} (h : History A) (i : ℕ) (s : State A) → length h.entries ≤ i → IsThere h i s → IsEnd h s
+at-end {A} h i s past there =
+    record { floor = there.floor; is = subst (λ (es : List (Entry A)). IsStateOf there.floor (with_entries h es) s) (take_all i h.entries past) there.is }
+
+-- ---- what is left
+
+same-left : (f g : ℕ → List Errand) (n : ℕ) → ((r : ℕ) → r < n → f r ≡ g r) → left_below f n ≡ left_below g n
+same-left f g zero same = refl
+same-left f g (suc n) same = rw (same-left f g n (λ r less. same r (omega (arith, less))), same n (omega arith)) refl
+
+left_one : (r : ℕ) (xs : List Errand) (k : ℕ) → k < length xs → map (left_by r) (drop k xs) ≡ left_if r (slice_get xs k) ++ map (left_by r) (drop (suc k) xs)
+left_one r [] k less = absurd (omega (arith, less))
+left_one r (x ∷ xs) zero less = refl
+left_one r (x ∷ xs) (suc k) less = left_one r xs k (omega (arith, less))
+
+-- one more errand of a queue
+pub left_more : (r : ℕ) (xs : List Errand) (k : ℕ) (e : Option Errand) (old new all : List Left) → k < length xs → e ≡ slice_get xs k → new ≡ old ++ left_if r e
+    → old ++ map (left_by r) (drop k xs) ≡ all → new ++ map (left_by r) (drop (k + 1) xs) ≡ all
+left_more r xs k e old new all less same is before =
+    rw (is, same, add-one k) (append_assoc old (left_if r (slice_get xs k)) (map (left_by r) (drop (suc k) xs)) ∙ ap (λ (t : List Left). old ++ t) (sym (left_one r xs k less)) ∙ before)
+
+-- the errands in the queues are those that are neither done nor withdrawn
+pub queues-left : {A : Type 0} {m : Floor} {h : History A} {s : State A} → IsStateOf m h s → left_below (λ r. (queue_at s.queues r).items) (length s.queues) ≡ left_of h
+queues-left {h = h} {s = s} k =
+    ap (left_below (λ r. (queue_at s.queues r).items)) (queue-count k)
+    ∙ same-left (λ r. (queue_at s.queues r).items) (unfinished h) (robots h) (λ r less. ap (λ (q : Queue). q.items) (queue-of k r less))
+
+-- what a chapter leaves is recorded at its end
+pub chapter-noted : {A : Type 0} (h : History A) (old mid : Notes) (lefts : List Left) → mid ≡ entries_noted h old → lefts ≡ left_of h → record mid { left = lefts } ≡ history_noted h old
+chapter-noted h old mid lefts is same = rw (is, same) refl

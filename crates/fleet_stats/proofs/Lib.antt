@@ -4,3 +4,5 @@ pub mod Sound
 pub mod Lists
 pub mod Ways
 pub mod Blank
+pub mod Balance
+pub mod Counted

@@ -8,10 +8,11 @@ use Rattle.fleet_grid.specs.Counts.{floor_count}
 use Rattle.fleet_trace.specs.Trace.{Trace}
 use Rattle.fleet_stats.specs.declared.rows.TickRow.{TickRow}
 use Rattle.fleet_stats.specs.declared.rows.ErrandRow.{ErrandRow}
+use Rattle.fleet_stats.specs.declared.rows.LeftRow.{LeftRow}
 use Rattle.fleet_stats.specs.declared.spread.Spread.{Spread}
 use Rattle.fleet_stats.specs.declared.figures.Summary.{Summary}
 use Rattle.fleet_stats.specs.Noted.{Notes, robots_in}
-use Rattle.fleet_stats.specs.Rows.{clients_in, errand_rows}
+use Rattle.fleet_stats.specs.Rows.{clients_in, errand_rows, left_rows}
 
 -- ---- of numbers
 
@@ -100,6 +101,9 @@ first_tick (t ∷ ts) = t.history.opening.tick
 abbrev pub rows_in : {A : Type 0} → Floor → List (Trace A) → Notes → List ErrandRow
 rows_in m ts n = errand_rows m (clients_in ts) n.taken n.landed
 
+abbrev pub left_in : {A : Type 0} → List (Trace A) → Notes → List LeftRow
+left_in ts n = left_rows (clients_in ts) n.taken n.left
+
 -- the figures of a run, with these figures of times and this limit
 abbrev pub summary_of : {A : Type 0} → Floor → List (Trace A) → Notes → List ErrandRow → Spread → Spread → Option ℕ → Summary
 summary_of m ts n rows service waited limit = record {
@@ -109,6 +113,7 @@ summary_of m ts n rows service waited limit = record {
   first_tick = first_tick ts;
   ticks = length n.ticks;
   arrivals = total_by (λ x. x.arrivals) n.ticks;
+  unfinished = length n.left;
   moves = total_by (λ x. x.moves) n.ticks;
   idle = total_by (λ x. x.idle) n.ticks;
   stands = length n.stood;

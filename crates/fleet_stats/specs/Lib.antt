@@ -4,4 +4,5 @@ pub mod Rows
 pub mod Figures
 pub mod Text
 pub mod Report
+pub mod Counts
 pub mod inside

@@ -7,11 +7,13 @@ use Rattle.fleet_history.specs.declared.history.Arrival.{Arrival}
 use Rattle.fleet_history.specs.declared.history.Entry.{Entry}
 use Rattle.fleet_history.specs.declared.history.Entry.TheVariants.{Take, Tick, Shut}
 use Rattle.fleet_history.specs.declared.history.RobotState.{RobotState}
-use Rattle.fleet_history.specs.History.{History, start, after, robots, place, clock}
+use Rattle.fleet_history.specs.History.{History, start, after, robots, place, clock, unfinished}
 use Rattle.fleet_history.specs.Waits.{wait}
 use Rattle.fleet_state.specs.State.{by_robot}
 use Rattle.fleet_trace.specs.Trace.{Trace}
+use Rattle.fleet_queue.specs.declared.errand.Errand.{Errand}
 use Rattle.fleet_stats.specs.declared.rows.TickRow.{TickRow}
+use Rattle.fleet_stats.specs.declared.rows.Left.{Left}
 use Rattle.fleet_stats.specs.declared.rows.Leg.{Leg}
 use Rattle.fleet_stats.specs.declared.rows.Landed.{Landed}
 use Rattle.fleet_stats.specs.declared.rows.Taken.{Taken}
@@ -28,6 +30,8 @@ pub record Notes : Type 0 where
   -- the acceptances, and the kinds of all verdicts
   pub taken : List Taken
   pub kinds : List ℕ
+  -- the errands that are in the robots' queues at the end
+  pub left : List Left
 
 -- ---- a take
 
@@ -170,9 +174,33 @@ abbrev pub noted : {A : Type 0} → History A → List (Entry A) → Notes → N
 noted h [] n = n
 noted h (e ∷ es) n = noted (after h e) es (note h e n)
 
--- a history from its opening on
+-- all entries of a history
+abbrev pub entries_noted : {A : Type 0} → History A → Notes → Notes
+entries_noted h n = noted (start h.opening) h.entries n
+
+-- ---- what is left
+
+abbrev pub left_by : ℕ → Errand → Left
+left_by r e = record { client = e.client; number = e.number; robot = r; cell = e.cell }
+
+abbrev pub left_if : ℕ → Option Errand → List Left
+left_if r None = []
+left_if r (Some e) = left_by r e ∷ []
+
+-- these errands of the robots below a number, by robot and place
+abbrev pub left_below : (ℕ → List Errand) → ℕ → List Left
+left_below queue zero = []
+left_below queue (suc r) = left_below queue r ++ map (left_by r) (queue r)
+
+-- the errands that are neither done nor withdrawn
+abbrev pub left_of : {A : Type 0} → History A → List Left
+left_of h = left_below (unfinished h) (robots h)
+
+-- ---- chapters
+
+-- a history from its opening to its end
 abbrev pub history_noted : {A : Type 0} → History A → Notes → Notes
-history_noted h n = noted (start h.opening) h.entries n
+history_noted h n = record (entries_noted h n) { left = left_of h }
 
 -- the chapters of a run, one after the other
 abbrev pub chapters_noted : {A : Type 0} → List (Trace A) → Notes → Notes
@@ -181,7 +209,7 @@ chapters_noted (t ∷ ts) n = chapters_noted ts (history_noted t.history n)
 
 -- before the first entry
 abbrev pub blank : {A : Type 0} → List (RobotState A) → Notes
-blank robots = record { legs = map (λ x. begun_on x.cell) robots; ticks = []; landed = []; stood = []; taken = []; kinds = [] }
+blank robots = record { legs = map (λ x. begun_on x.cell) robots; ticks = []; landed = []; stood = []; taken = []; kinds = []; left = [] }
 
 -- the robots of the first opening
 abbrev pub robots_in : {A : Type 0} → List (Trace A) → List (RobotState A)

@@ -14,7 +14,7 @@ use Rattle.fleet_stats.specs.declared.answer.StatsForm.{StatsForm}
 use Rattle.fleet_stats.specs.declared.answer.StatsForm.TheVariants as form
 use Rattle.fleet_stats.specs.Noted.{Notes, run_noted}
 use Rattle.fleet_stats.specs.Chapters.{AreInTurn, AreNotInTurn, AreSound, IsUnfollowed}
-use Rattle.fleet_stats.specs.Figures.{IsSummary, arrivals_of, windows_of, rows_in}
+use Rattle.fleet_stats.specs.Figures.{IsSummary, arrivals_of, windows_of, rows_in, left_in}
 use Rattle.fleet_stats.specs.Text.{summary_text, errands_table, ticks_table, cells_table}
 
 -- the text has the figures of the run
@@ -27,7 +27,7 @@ pub record IsSummarized {A : Type 0} (style : Style) (m : Floor) (ts : List (Tra
 abbrev pub IsReport : {A : Type 0} → StatsForm → Floor → List (Trace A) → Notes → List ℕ → Type 0
 IsReport form.Text m ts n text = IsSummarized style.Text m ts n text
 IsReport form.Json m ts n text = IsSummarized style.Json m ts n text
-IsReport form.Errands m ts n text = text ≡ errands_table (rows_in m ts n)
+IsReport form.Errands m ts n text = text ≡ errands_table (rows_in m ts n) (left_in ts n)
 IsReport form.Ticks m ts n text = text ≡ ticks_table n.ticks
 IsReport form.Cells m ts n text = text ≡ cells_table m.width n.stood (length m.letters)
 

@@ -7,6 +7,7 @@ use Rattle.fleet_stats.specs.declared.lines.Style.{Style}
 use Rattle.fleet_stats.specs.declared.lines.Style.TheVariants.{Text, Json}
 use Rattle.fleet_stats.specs.declared.rows.TickRow.{TickRow}
 use Rattle.fleet_stats.specs.declared.rows.ErrandRow.{ErrandRow}
+use Rattle.fleet_stats.specs.declared.rows.LeftRow.{LeftRow}
 use Rattle.fleet_stats.specs.declared.rows.Landed.{Landed}
 use Rattle.fleet_stats.specs.declared.spread.Spread.{Spread}
 use Rattle.fleet_stats.specs.declared.figures.Summary.{Summary}
@@ -72,7 +73,8 @@ abbrev pub done_text : Style → Summary → List ℕ
 done_text style s =
     whole_line style (codes "") (codes "arrivals") s.arrivals
     ++ (ratio_line style (codes "") (codes "throughput") s.arrivals s.ticks
-    ++ whole_line style (codes "") (codes "errands") s.service.count)
+    ++ (whole_line style (codes "") (codes "unfinished") s.unfinished
+    ++ whole_line style (codes "") (codes "errands") s.service.count))
 
 abbrev pub spread_text : Style → List ℕ → Spread → List ℕ
 spread_text style group x =
@@ -141,8 +143,12 @@ errand_line x = names_text x.done ++ (times_text x.accepted x.done ++ (option_te
 abbrev pub errands_head : List ℕ
 errands_head = codes "client,number,robot,cell,accepted,begun,arrived,from,steps,distance\n"
 
-abbrev pub errands_table : List ErrandRow → List ℕ
-errands_table rows = errands_head ++ flat_map errand_line rows
+-- an errand that is left: nothing is told of its robot's way
+abbrev pub left_line : LeftRow → List ℕ
+left_line x = decimal x.left.client ++ (codes "," ++ (decimal x.left.number ++ (codes "," ++ (decimal x.left.robot ++ (codes "," ++ (decimal x.left.cell ++ (codes "," ++ (decimal x.accepted ++ codes ",,,,,\n"))))))))
+
+abbrev pub errands_table : List ErrandRow → List LeftRow → List ℕ
+errands_table rows left = errands_head ++ (flat_map errand_line rows ++ flat_map left_line left)
 
 abbrev pub tick_line : TickRow → List ℕ
 tick_line x = decimal x.tick ++ (codes "," ++ (decimal x.arrivals ++ (codes "," ++ (decimal x.moves ++ (codes "," ++ (decimal x.idle ++ (codes "," ++ (decimal x.waited ++ codes "\n"))))))))

@@ -6,19 +6,20 @@ ghost use Rattle.fleet_map.specs.Form.{HasSides};
 ghost use Rattle.fleet_map.specs.Grammar.{view};
 ghost use Rattle.fleet_trace.specs.Trace.{trace_of};
 ghost use Rattle.fleet_stats.specs.Chapters.{IsUnfollowed};
-ghost use Rattle.fleet_stats.specs.Figures.{rows_in};
+ghost use Rattle.fleet_stats.specs.Figures.{rows_in, left_in};
 ghost use Rattle.fleet_stats.specs.Rows.{shown};
 ghost use Rattle.fleet_stats.specs.Report.{IsSummarized, IsReport, IsReported, IsStatsOn, IsStats, IsNoneOn, IsNone};
 
 use crate::chapters::chapters_in_turn;
-use crate::errands::errand_rows;
+use crate::errands::{left_rows, served_rows};
 use crate::fault::StatsFault;
 use crate::figures::{arrivals_of, clients_in, summarize};
 use crate::follow::follow;
 use crate::lines::Style;
+use crate::measure::errand_rows;
 use crate::notes::Notes;
 use crate::pages::summary_text;
-use crate::rows::ErrandRow;
+use crate::rows::{ErrandRow, LeftRow};
 use crate::spread::windows_of;
 use crate::tables::{cells_table, errands_table, ticks_table};
 use fleet_grid::Grid;
@@ -33,7 +34,7 @@ pub enum StatsForm {
     Text,
     /// All figures, as a JSON object.
     Json,
-    /// A table of the errands that were accepted and done.
+    /// A table of the errands that were accepted, those that were done first.
     Errands,
     /// A table of the ticks.
     Ticks,
@@ -50,13 +51,16 @@ fn rows_of(
 ) -> Result<Vec<ErrandRow>, AllocError>
     ensures { IfOk result (λ rows. rows.items ≡ rows_in grid.now (map trace_of chapters.now) (shown notes.now)) }
 {
-    errand_rows(
-        alloc,
-        grid,
-        clients_in(chapters),
-        &notes.taken,
-        &notes.landed,
-    )
+    let clients = clients_in(chapters);
+    let served = served_rows(alloc, clients, &notes.taken, &notes.landed)?;
+    errand_rows(alloc, grid, &served)
+}
+
+/// A row for each errand that the run accepted and that is left at its end.
+fn left_in(alloc: Global, chapters: &[Chapter], notes: &Notes) -> Result<Vec<LeftRow>, AllocError>
+    ensures { IfOk result (λ rows. rows.items ≡ left_in (map trace_of chapters.now) (shown notes.now)) }
+{
+    left_rows(alloc, clients_in(chapters), &notes.taken, &notes.left)
 }
 
 /// All figures.
@@ -85,7 +89,8 @@ fn errands_of(
     ensures { IfOk result (λ text. IsReport StatsForm.Errands grid.now (map trace_of chapters.now) (shown notes.now) (string_bytes text)) }
 {
     let rows = rows_of(alloc, grid, chapters, notes)?;
-    errands_table(alloc, &rows)
+    let left = left_in(alloc, chapters, notes)?;
+    errands_table(alloc, &rows, &left)
 }
 
 /// The text that is asked for.

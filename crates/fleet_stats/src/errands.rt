@@ -1,13 +1,10 @@
-//! The errands that a run accepted and did.
+//! The errands that a run accepted: those that it did, and those that are left.
 
 ghost use Rattle.std.specs.Prelude.{◌≡◌, ◌++◌, [], length, map, slice_index_or, IfOk, OnOk};
 ghost use Rattle.std.specs.List.{flat_map};
-ghost use Rattle.fleet_stats.specs.Rows.{times_of, all_times, accepted_before, time_in, accepted_at, row_if, row_of, errand_rows};
-ghost use Rattle.fleet_stats.specs.inside.Fields.{AreReady};
+ghost use Rattle.fleet_stats.specs.Rows.{times_of, all_times, accepted_before, time_in, accepted_at, served_if, served_of, served_rows, left_if, left_row_of, left_rows};
 
-use crate::away::{Fields, away, no_fields};
-use crate::rows::{ErrandRow, Landed, Taken};
-use fleet_grid::Grid;
+use crate::rows::{Landed, Left, LeftRow, Served, Taken};
 use fleet_history::ClientState;
 use std::alloc::{AllocError, Global};
 
@@ -68,64 +65,88 @@ fn accepted_at(clients: &[ClientState], times: &[Vec<u64>], client: u32, number:
     }
 }
 
-/// Adds the row of an errand that was done, if the run accepted it.
-fn push_row(
-    grid: &Grid,
-    fields: &mut Fields,
+/// Adds an errand that was done, if the run accepted it.
+fn push_served(
+    served: &mut Vec<Served>,
     accepted: Option<u64>,
     done: Landed,
-    rows: &mut Vec<ErrandRow>,
 ) -> Result<(), AllocError>
-    requires { AreReady grid.now fields.old }
-    ensures rows { OnOk result (rows.new.items ≡ rows.old.items ++ row_if grid.now accepted done) }
-    ensures ready { AreReady grid.now fields.new }
+    ensures { OnOk result (served.new.items ≡ served.old.items ++ served_if accepted done) }
 {
-    match accepted {
-        None => Ok(()),
-        Some(accepted) => {
-            let distance = away(fields, grid, done.leg.from, done.cell)?;
-            rows.push(ErrandRow {
-                accepted,
-                done,
-                distance,
-            })?;
-            Ok(())
-        }
-    }
-}
-
-/// Adds the rows of errands that were done.
-fn push_rows(
-    grid: &Grid,
-    fields: &mut Fields,
-    clients: &[ClientState],
-    times: &[Vec<u64>],
-    landed: &[Landed],
-    rows: &mut Vec<ErrandRow>,
-) -> Result<(), AllocError>
-    requires { AreReady grid.now fields.old }
-    ensures { OnOk result (rows.new.items ≡ rows.old.items ++ flat_map (row_of grid.now clients.now (map (λ one. one.items) times.now)) landed.now) }
-{
-    for done in landed {
-        let accepted = accepted_at(clients, times, done.client, done.number);
-        push_row(grid, fields, accepted, *done, rows)?;
+    if let Some(accepted) = accepted {
+        served.push(Served { accepted, done })?;
     }
     Ok(())
 }
 
-/// A row for each errand that the run accepted and did, in the order of arrival.
-pub(crate) fn errand_rows(
+/// Adds the errands that were done.
+fn push_all_served(
+    served: &mut Vec<Served>,
+    clients: &[ClientState],
+    times: &[Vec<u64>],
+    landed: &[Landed],
+) -> Result<(), AllocError>
+    ensures { OnOk result (served.new.items ≡ served.old.items ++ flat_map (served_of clients.now (map (λ one. one.items) times.now)) landed.now) }
+{
+    for done in landed {
+        let accepted = accepted_at(clients, times, done.client, done.number);
+        push_served(served, accepted, *done)?;
+    }
+    Ok(())
+}
+
+/// The errands that a run accepted and did, in the order of arrival.
+pub(crate) fn served_rows(
     alloc: Global,
-    grid: &Grid,
     clients: &[ClientState],
     taken: &[Taken],
     landed: &[Landed],
-) -> Result<Vec<ErrandRow>, AllocError>
-    ensures { IfOk result (λ rows. rows.items ≡ errand_rows grid.now clients.now taken.now landed.now) }
+) -> Result<Vec<Served>, AllocError>
+    ensures { IfOk result (λ served. served.items ≡ served_rows clients.now taken.now landed.now) }
 {
     let times = all_times(alloc, taken, clients.len())?;
-    let mut fields = no_fields(alloc)?;
+    let mut served = Vec::new(alloc);
+    push_all_served(&mut served, clients, &times, landed)?;
+    Ok(served)
+}
+
+/// Adds an errand that is left, if the run accepted it.
+fn push_left(rows: &mut Vec<LeftRow>, accepted: Option<u64>, left: Left) -> Result<(), AllocError>
+    ensures { OnOk result (rows.new.items ≡ rows.old.items ++ left_if accepted left) }
+{
+    if let Some(accepted) = accepted {
+        rows.push(LeftRow { accepted, left })?;
+    }
+    Ok(())
+}
+
+/// Adds the errands that are left.
+fn push_all_left(
+    rows: &mut Vec<LeftRow>,
+    clients: &[ClientState],
+    times: &[Vec<u64>],
+    lefts: &[Left],
+) -> Result<(), AllocError>
+    ensures { OnOk result (rows.new.items ≡ rows.old.items ++ flat_map (left_row_of clients.now (map (λ one. one.items) times.now)) lefts.now) }
+{
+    for left in lefts {
+        let accepted = accepted_at(clients, times, left.client, left.number);
+        push_left(rows, accepted, *left)?;
+    }
+    Ok(())
+}
+
+/// The errands that a run accepted and that are left at its end, by robot and place in its queue.
+pub(crate) fn left_rows(
+    alloc: Global,
+    clients: &[ClientState],
+    taken: &[Taken],
+    lefts: &[Left],
+) -> Result<Vec<LeftRow>, AllocError>
+    ensures { IfOk result (λ rows. rows.items ≡ left_rows clients.now taken.now lefts.now) }
+{
+    let times = all_times(alloc, taken, clients.len())?;
     let mut rows = Vec::new(alloc);
-    push_rows(grid, &mut fields, clients, &times, landed, &mut rows)?;
+    push_all_left(&mut rows, clients, &times, lefts)?;
     Ok(rows)
 }

@@ -24,6 +24,8 @@ pub(crate) struct Summary {
     pub(crate) first_tick: u64,
     pub(crate) ticks: u64,
     pub(crate) arrivals: u64,
+    /// The errands that are in the robots' queues at the end.
+    pub(crate) unfinished: u64,
     pub(crate) moves: u64,
     /// The robots without errands, over all ticks.
     pub(crate) idle: u64,
@@ -213,6 +215,7 @@ pub(crate) fn summarize(
         first_tick: first_tick(chapters),
         ticks: notes.ticks.len() as u64,
         arrivals: totals.arrivals,
+        unfinished: notes.left.len() as u64,
         moves: totals.moves,
         idle: totals.idle,
         stands: notes.stood.len() as u64,

@@ -4,12 +4,13 @@ ghost use Rattle.std.specs.Prelude.{◌≡◌, ◌↔◌, ◌+◌, ◌^◌, ◌�
 ghost use Rattle.fleet_grid.specs.Floor.{Floor};
 ghost use Rattle.fleet_history.specs.History.{history_of, start, with_entries};
 ghost use Rattle.fleet_trace.specs.Trace.{trace_of};
-ghost use Rattle.fleet_stats.specs.Noted.{history_noted, chapters_noted, run_noted, robots_in};
+ghost use Rattle.fleet_stats.specs.Noted.{entries_noted, history_noted, chapters_noted, run_noted, robots_in};
 ghost use Rattle.fleet_stats.specs.Rows.{shown};
 ghost use Rattle.fleet_stats.specs.Chapters.{IsSound, AreSound, IsUnsound, AreUnsound, IsUnfollowed};
-ghost use Rattle.fleet_stats.specs.inside.Following.{CanFollow};
+ghost use Rattle.fleet_stats.specs.inside.Following.{CanFollow, IsEnd};
 
 use crate::fault::StatsFault;
+use crate::left::left_of;
 use crate::notes::{Notes, blank, note};
 use fleet_grid::Grid;
 use fleet_history::{Chapter, Entry, Opening, RobotState};
@@ -26,7 +27,8 @@ fn follow_entries(
     notes: &mut Notes,
 ) -> Result<(), AllocError>
     requires { CanFollow (with_entries (start opening.now) entries.now) state.old }
-    ensures { OnOk result (shown notes.new ≡ history_noted (with_entries (start opening.now) entries.now) (shown notes.old)) }
+    ensures noted { OnOk result (shown notes.new ≡ entries_noted (with_entries (start opening.now) entries.now) (shown notes.old)) }
+    ensures ended { OnOk result (IsEnd (with_entries (start opening.now) entries.now) state.new) }
 {
     for at in 0..entries.len() {
         let entry = &entries[at];
@@ -47,7 +49,9 @@ fn follow_chapter(
     ensures { OnOk result (shown notes.new ≡ history_noted (with_entries (start opening.now) entries.now) (shown notes.old)) }
 {
     let mut state = FleetState::open(alloc, opening, opening.queue)?;
-    follow_entries(alloc, opening, entries, &mut state, notes)
+    follow_entries(alloc, opening, entries, &mut state, notes)?;
+    notes.left = left_of(alloc, state.queues())?;
+    Ok(())
 }
 
 /// Whether the clock could come to 2^63.

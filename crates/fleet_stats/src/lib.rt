@@ -9,7 +9,10 @@ mod errands;
 mod fault;
 mod figures;
 mod follow;
+mod law;
+mod left;
 mod lines;
+mod measure;
 mod notes;
 mod pages;
 mod rows;
@@ -19,3 +22,4 @@ mod tick;
 
 pub use answer::{StatsForm, stats};
 pub use fault::StatsFault;
+pub use law::figures_are_counts;

@@ -4,7 +4,7 @@ ghost use Rattle.std.specs.Prelude.{◌≡◌, ◌++◌, ◌∷◌, [], ◌^◌,
 ghost use Rattle.fleet_stats.specs.Noted.{kind_of, taken_if, landed_by, take_noted, tick_noted, note_by, blank, begun_on};
 ghost use Rattle.fleet_stats.specs.Rows.{shown};
 
-use crate::rows::{Landed, Leg, Taken, TickRow};
+use crate::rows::{Landed, Left, Leg, Taken, TickRow};
 use crate::tick::{landed_by, legs_after, push_stood, tick_row};
 use fleet_book::Verdict;
 use fleet_history::{Arrival, Entry, RobotState};
@@ -27,6 +27,8 @@ pub(crate) struct Notes {
     pub(crate) taken: Vec<Taken>,
     /// The kinds of all verdicts.
     pub(crate) kinds: Vec<u8>,
+    /// The errands that are in the robots' queues after the last chapter so far.
+    pub(crate) left: Vec<Left>,
 }
 
 /// The kind of a verdict: 0 accepted, the code of a refusal, 11 closed, 12 withdrawn.
@@ -161,5 +163,6 @@ pub(crate) fn blank(alloc: Global, robots: &[RobotState]) -> Result<Notes, Alloc
         stood: Vec::new(alloc),
         taken: Vec::new(alloc),
         kinds: Vec::new(alloc),
+        left: Vec::new(alloc),
     })
 }

@@ -56,12 +56,13 @@ fn write_refusals(out: &mut String, style: Style, kinds: &[u8]) -> Result<(), Al
     Ok(())
 }
 
-/// The arrivals.
+/// The arrivals, and the errands that are left.
 fn write_done(out: &mut String, style: Style, s: &Summary) -> Result<(), AllocError>
     ensures { OnOk result (string_bytes out.new ≡ string_bytes out.old ++ done_text style s.now) }
 {
     write_whole(out, style, "", "arrivals", s.arrivals)?;
     write_ratio(out, style, "", "throughput", s.arrivals, s.ticks)?;
+    write_whole(out, style, "", "unfinished", s.unfinished)?;
     write_whole(out, style, "", "errands", s.service.count)
 }
 

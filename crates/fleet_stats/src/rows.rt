@@ -48,7 +48,24 @@ pub(crate) struct Taken {
     pub(crate) tick: u64,
 }
 
+/// An errand that is in a robot's queue at the end of a run.
+#[derive(Clone, Copy)]
+pub(crate) struct Left {
+    pub(crate) client: u32,
+    pub(crate) number: u64,
+    pub(crate) robot: usize,
+    pub(crate) cell: u32,
+}
+
 /// An errand that was accepted and done.
+#[derive(Clone, Copy)]
+pub(crate) struct Served {
+    /// The clock when it was accepted.
+    pub(crate) accepted: u64,
+    pub(crate) done: Landed,
+}
+
+/// The same, with its distance.
 #[derive(Clone, Copy)]
 pub(crate) struct ErrandRow {
     /// The clock when it was accepted.
@@ -56,4 +73,12 @@ pub(crate) struct ErrandRow {
     pub(crate) done: Landed,
     /// The distance from the cell on which its robot began it; `None` if no walk leads there.
     pub(crate) distance: Option<u32>,
+}
+
+/// An errand that was accepted and is in a robot's queue at the end.
+#[derive(Clone, Copy)]
+pub(crate) struct LeftRow {
+    /// The clock when it was accepted.
+    pub(crate) accepted: u64,
+    pub(crate) left: Left,
 }

@@ -1,6 +1,6 @@
 //! Figures of a run of two chapters. The expected values were worked out by hand, as `docs/STATS.md` tells.
 
-use fleet_stats::{StatsFault, StatsForm, stats};
+use fleet_stats::{StatsFault, StatsForm, figures_are_counts, stats};
 use std::alloc::{AllocError, Global};
 
 /// Three cells in a row.
@@ -15,13 +15,32 @@ const SECOND: &str =
     r#"{"chapter":1,"entries":[["take",0,["go",0,5],["refused",4]],["tick",[1],[],[]]],"opening":{"clients":[[2,2,4,false]],"life":1000000,"queue":16,"robots":[[1,false,null,[],[0,0],[0,0]]],"tick":3},"version":2}"#;
 
 const LINES: &str =
-    "robots 1\nclients 1\nfloor_cells 3\nfirst_tick 0\nticks 4\norders 3\naccepted 2\nclosed 0\nwithdrawn 0\nrefused 1\nrefused_client-closed 0\nrefused_no-robot 0\nrefused_robot-shut 0\nrefused_no-cell 1\nrefused_blocked 0\nrefused_unreachable 0\nrefused_queue-full 0\nrefused_life-spent 0\nrefused_no-errand 0\nrefused_too-late 0\narrivals 2\nthroughput 0.500\nerrands 2\nservice_mean 2.500\nservice_median 2\nservice_p95 3\nservice_greatest 3\nwait_mean 1.500\nwait_median 1\nwait_p95 2\nwait_greatest 2\nsteps 3\ndistance 3\ndetour 1.000\nlongest_wait 1\nwait_limit none\nidle_mean 0.250\nmoves 3\nstands 0\nwindow_arrivals 2\n";
+    "robots 1\nclients 1\nfloor_cells 3\nfirst_tick 0\nticks 4\norders 3\naccepted 2\nclosed 0\nwithdrawn 0\nrefused 1\nrefused_client-closed 0\nrefused_no-robot 0\nrefused_robot-shut 0\nrefused_no-cell 1\nrefused_blocked 0\nrefused_unreachable 0\nrefused_queue-full 0\nrefused_life-spent 0\nrefused_no-errand 0\nrefused_too-late 0\narrivals 2\nthroughput 0.500\nunfinished 0\nerrands 2\nservice_mean 2.500\nservice_median 2\nservice_p95 3\nservice_greatest 3\nwait_mean 1.500\nwait_median 1\nwait_p95 2\nwait_greatest 2\nsteps 3\ndistance 3\ndetour 1.000\nlongest_wait 1\nwait_limit none\nidle_mean 0.250\nmoves 3\nstands 0\nwindow_arrivals 2\n";
 
 const ERRANDS: &str =
     "client,number,robot,cell,accepted,begun,arrived,from,steps,distance\n0,1,0,2,0,0,2,0,2,2\n0,2,0,1,0,2,3,2,1,1\n";
 
 const TICKS: &str =
     "tick,arrivals,moves,idle,longest_wait\n1,0,1,0,0\n2,1,1,0,1\n3,1,1,0,0\n4,0,0,1,0\n";
+
+/// The run begins with an errand in the queue. Two more are accepted, one of them is withdrawn, and the robot makes one step: the first
+/// and the third are left.
+const OPEN: &str =
+    r#"{"chapter":1,"entries":[["take",0,["go",0,1],["accepted",2]],["take",0,["go",0,0],["accepted",3]],["take",0,["withdraw",2],["withdrawn"]],["tick",[1],[],[]]],"opening":{"clients":[[1,1,1,false]],"life":1000000,"queue":16,"robots":[[0,false,0,[[0,1,2]],[0,0],[0,0]]],"tick":3},"version":2}"#;
+
+const LEFT_LINES: &str =
+    "robots 1\nclients 1\nfloor_cells 3\nfirst_tick 3\nticks 1\norders 3\naccepted 2\nclosed 0\nwithdrawn 1\nrefused 0\nrefused_client-closed 0\nrefused_no-robot 0\nrefused_robot-shut 0\nrefused_no-cell 0\nrefused_blocked 0\nrefused_unreachable 0\nrefused_queue-full 0\nrefused_life-spent 0\nrefused_no-errand 0\nrefused_too-late 0\narrivals 0\nthroughput 0.000\nunfinished 2\nerrands 0\nservice_mean none\nservice_median none\nservice_p95 none\nservice_greatest none\nwait_mean none\nwait_median none\nwait_p95 none\nwait_greatest none\nsteps 0\ndistance 0\ndetour none\nlongest_wait 0\nwait_limit none\nidle_mean 0.000\nmoves 1\nstands 0\nwindow_arrivals 0\n";
+
+/// Only the third errand was accepted in the run.
+const LEFT_ERRANDS: &str =
+    "client,number,robot,cell,accepted,begun,arrived,from,steps,distance\n0,3,0,0,3,,,,,\n";
+
+/// One text.
+fn one(alloc: Global, text: &str) -> Result<Vec<Vec<u8>>, AllocError> {
+    let mut texts = Vec::new(alloc);
+    texts.push(Vec::from_slice(alloc, text.as_bytes())?)?;
+    Ok(texts)
+}
 
 /// Two texts, one after the other.
 fn both(alloc: Global, first: &str, second: &str) -> Result<Vec<Vec<u8>>, AllocError> {
@@ -41,6 +60,7 @@ fn printed(alloc: Global, form: StatsForm, texts: &[Vec<u8>]) -> String {
 
 #[test]
 fn figures_of_two_chapters(rt: HostRuntime) {
+    figures_are_counts();
     let alloc = rt.alloc();
     let texts = both(alloc, FIRST, SECOND).expect(&rt, "memory");
     assert!(rt; printed(alloc, StatsForm::Text, &texts).as_str() == LINES);
@@ -53,4 +73,12 @@ fn chapters_in_another_order(rt: HostRuntime) {
     let texts = both(rt.alloc(), SECOND, FIRST).expect(&rt, "memory");
     let none = stats(rt.alloc(), StatsForm::Json, MAP.as_bytes(), &texts);
     assert!(rt; matches!(none, Err(StatsFault::Chapter(2))));
+}
+
+#[test]
+fn unfinished_errands(rt: HostRuntime) {
+    let alloc = rt.alloc();
+    let texts = one(alloc, OPEN).expect(&rt, "memory");
+    assert!(rt; printed(alloc, StatsForm::Text, &texts).as_str() == LEFT_LINES);
+    assert!(rt; printed(alloc, StatsForm::Errands, &texts).as_str() == LEFT_ERRANDS);
 }

@@ -1,8 +1,13 @@
--- A history that may be followed from its opening on.
+-- A history that may be followed from its opening on, and its end.
 use Rattle.fleet_grid.specs.Floor.{Floor}
 use Rattle.fleet_history.specs.History.{History, start}
 use Rattle.fleet_state.specs.State.{State, IsStateOf, HasFullRooms}
 use Rattle.fleet_stats.specs.Chapters.{IsSound}
+
+-- this is the state at its end
+pub record IsEnd {A : Type 0} (h : History A) (s : State A) : Type 0 where
+  pub floor : Floor
+  pub is : IsStateOf floor h s
 
 -- it is sound, and this is the state at its opening, with full queues
 pub record CanFollow {A : Type 0} (h : History A) (s : State A) : Type 0 where

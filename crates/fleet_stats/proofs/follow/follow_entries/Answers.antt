@@ -1,9 +1,9 @@
 -- One more entry is recorded.
 use Rattle.std.proofs.Common.{refl, sym, arith}
 use Rattle.fleet_history.specs.History.{start, with_entries}
-use Rattle.fleet_stats.specs.Noted.{history_noted}
+use Rattle.fleet_stats.specs.Noted.{entries_noted}
 use Rattle.fleet_stats.specs.Rows.{shown}
-use Rattle.fleet_stats.proofs.Followed.{begins, early, may, room, next, recorded, all-recorded}
+use Rattle.fleet_stats.proofs.Followed.{begins, early, may, room, next, recorded, all-recorded, at-end}
 use Rattle.fleet_stats.proofs.follow.follow_entries.Goals as goal
 
 pub loop-at-init : goal.loop-at-init
@@ -29,10 +29,13 @@ loop-at-preserved c =
     let h = with_entries (start c.args.opening.now) c.args.entries.now in
     record {
       state = next h c.loop-at.at c.loop-at.state c.loop-at.invariant.state c.index-entries-at.result c.loop-at-test.true (sym c.index-entries-at.is) c.enter.new.self c.enter.ensures.follows c.enter.ensures.rooms;
-      notes = recorded h c.loop-at.at c.loop-at.state c.loop-at.invariant.state c.index-entries-at.result c.loop-at-test.true (sym c.index-entries-at.is) (shown c.loop-at.notes) (shown c.note.new.notes) (history_noted h (shown c.args.notes.now)) c.in_ok-note.ensures c.loop-at.invariant.notes;
+      notes = recorded h c.loop-at.at c.loop-at.state c.loop-at.invariant.state c.index-entries-at.result c.loop-at-test.true (sym c.index-entries-at.is) (shown c.loop-at.notes) (shown c.note.new.notes) (entries_noted h (shown c.args.notes.now)) c.in_ok-note.ensures c.loop-at.invariant.notes;
     }
 
 pub returns : goal.returns
 returns c =
     let h = with_entries (start c.args.opening.now) c.args.entries.now in
-    all-recorded h c.loop-at.at (shown c.loop-at.notes) (history_noted h (shown c.args.notes.now)) c.loop-at-test.false c.loop-at.invariant.notes
+    record {
+      noted = all-recorded h c.loop-at.at (shown c.loop-at.notes) (entries_noted h (shown c.args.notes.now)) c.loop-at-test.false c.loop-at.invariant.notes;
+      ended = at-end h c.loop-at.at c.loop-at.state c.loop-at-test.false c.loop-at.invariant.state;
+    }
