@@ -10,7 +10,7 @@ ghost use Rattle.fleet_plans.specs.Judge.{HasJudged};
 ghost use Rattle.fleet_plans.specs.Shown.{goals_in};
 ghost use Rattle.fleet_plans.specs.inside.Answered.{IsOf};
 ghost use Rattle.fleet_plans.specs.Study.{IsFormStudy};
-ghost use Rattle.fleet_plans.specs.Answer.{at_line, valid_answer, IsNamed, IsJudged, IsTextAnswer, IsAnswerTo, IsPlanAnswer, IsSolutionAnswer, fault_text, goals_text, report_text};
+ghost use Rattle.fleet_plans.specs.Answer.{at_line, valid_answer, IsNamed, IsJudged, IsTextAnswer, IsAnswerTo, IsPlanAnswer, IsSolutionAnswer, goals_text, report_text};
 
 use crate::claims::{HeadFault, line_count, unmet};
 use crate::fault::PlanTextFault;
@@ -22,7 +22,6 @@ use crate::report::PlanReport;
 use crate::runners::RunnersFault;
 use crate::sides::Sides;
 use crate::text::{TextFault, headed, read_text};
-use fleet_check::StepFault;
 use fleet_grid::Grid;
 use fleet_history::Row;
 use fleet_map::{MapFault, MapText, read_map};
@@ -255,25 +254,6 @@ pub fn check_solution(alloc: Global, map: &[u8], text: &[u8]) -> Result<PlanAnsw
     ensures { IfOk result (λ answer. IsSolutionAnswer map.now text.now answer) }
 {
     answer_to(alloc, Demand::OwnGoals, map, form_of(text), text)
-}
-
-/// A step's fault as it is printed: its kind, and its robots.
-#[derive(Clone, Copy)]
-pub struct FaultText(pub StepFault);
-
-impl fmt::Display for FaultText {
-    ghost output = { λ t. Some (fault_text t.0) };
-
-    fn fmt<W: fmt::Write>(&self, f: &mut fmt::Formatter<W>) -> fmt::Result {
-        match self.0 {
-            StepFault::Length => f.write_str("length"),
-            StepFault::OffFloor(robot) => write!(f, "off-floor {robot}"),
-            StepFault::NotAdjacent(robot) => write!(f, "not-adjacent {robot}"),
-            StepFault::NoMemory => f.write_str("no-memory"),
-            StepFault::Vertex(first, second) => write!(f, "vertex {first} {second}"),
-            StepFault::Swap(first, second) => write!(f, "swap {first} {second}"),
-        }
-    }
 }
 
 /// How many robots end on their goals, as it is printed.

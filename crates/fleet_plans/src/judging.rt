@@ -1,12 +1,14 @@
 //! The first fault of a placement of robots, as a start or as a step from the one before.
 
-ghost use Rattle.std.specs.Prelude.{◌<◌, ◌^◌, length, IfOk, MatchOption};
+ghost use Rattle.std.specs.Prelude.{◌<◌, ◌^◌, Some, length, IfOk, MatchOption};
 ghost use Rattle.fleet_check.specs.Fault.{IsPlacementFault, IsFirstFault};
 ghost use Rattle.fleet_grid.specs.Step.{IsPlacement, IsConflictFree};
+ghost use Rattle.fleet_plans.specs.Answer.{fault_text};
 
 use fleet_check::{StepChecker, StepFault, check_placement};
 use fleet_grid::Grid;
 use std::alloc::{AllocError, Allocator};
+use std::fmt;
 
 /// The first placement of a plan that is at fault.
 #[derive(Clone, Copy, Debug, PartialEq, Eq)]
@@ -47,5 +49,24 @@ pub(crate) fn step_fault<A: Allocator + Copy, B: Allocator + Copy>(
         Ok(()) => Ok(None),
         Err(StepFault::NoMemory) => Err(AllocError),
         Err(fault) => Ok(Some(fault)),
+    }
+}
+
+/// A step's fault as it is printed: its kind, and its robots.
+#[derive(Clone, Copy)]
+pub struct FaultText(pub StepFault);
+
+impl fmt::Display for FaultText {
+    ghost output = { λ t. Some (fault_text t.0) };
+
+    fn fmt<W: fmt::Write>(&self, f: &mut fmt::Formatter<W>) -> fmt::Result {
+        match self.0 {
+            StepFault::Length => f.write_str("length"),
+            StepFault::OffFloor(robot) => write!(f, "off-floor {robot}"),
+            StepFault::NotAdjacent(robot) => write!(f, "not-adjacent {robot}"),
+            StepFault::NoMemory => f.write_str("no-memory"),
+            StepFault::Vertex(first, second) => write!(f, "vertex {first} {second}"),
+            StepFault::Swap(first, second) => write!(f, "swap {first} {second}"),
+        }
     }
 }

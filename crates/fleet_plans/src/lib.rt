@@ -32,14 +32,14 @@ mod text;
 mod tracks;
 mod walk;
 
-pub use answer::{FaultText, PlanAnswer, check_solution, check_texts};
+pub use answer::{PlanAnswer, check_solution, check_texts};
 pub use asked::{check_form, check_scenario};
 pub use claims::{HeadFault, HeadKey};
 pub use fault::PlanTextFault;
 pub use form::{TextForm, form_of, is_plan};
 pub use goals::GoalFault;
 pub use judge::PlanJudge;
-pub use judging::PlanFault;
+pub use judging::{FaultText, PlanFault};
 pub use law::{a_text_is_by_its_lines, letters_lead_to_the_next_cell, robots_stay_apart};
 pub use misspelt::{KnownKey, Misspelt, first_misspelt};
 pub use placements::Placements;

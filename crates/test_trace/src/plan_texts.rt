@@ -27,6 +27,15 @@ const WALL: &str = "form=moves\nstarts=(0,0),(1,1)\nsolution=\nw\nw\n";
 /// Robot 1 leaves the map by its east side.
 const OUTSIDE: &str = "form=moves\nstarts=(0,0),(2,0)\nsolution=\nww\nwr\n";
 
+/// Robot 1 has no letters, and robot 0 comes to its cell.
+const INTO_ONE_AT_REST: &str = "form=moves\nstarts=(0,0),(2,0)\nsolution=\nrr\n\n";
+
+/// Robot 0 goes on when robot 1 has no letters left.
+const PAST_ONE_AT_REST: &str = "form=moves\nstarts=(0,0),(2,0)\nsolution=\ndur\nd\n";
+
+/// Both robots come to the upper middle cell in the first step, and have letters for further steps.
+const LETTERS_AFTER_A_FAULT: &str = "form=moves\nstarts=(0,0),(2,0)\nsolution=\nrwwl\nlww\n";
+
 const JUMP: &str = "solution=\n0:(0,0)\n1:(2,0)\n";
 
 const SHORT: &str = "solution=\n0:(0,0),(2,0)\n1:(0,0)\n";
@@ -129,6 +138,9 @@ fn plans_are_judged(rt: HostRuntime) {
         (MOVES, "valid 3 2\nsum-of-costs 6\nmakespan 3\n"),
         (VERTEX, "1 vertex 0 1"),
         (SWAP, "2 swap 0 1"),
+        (INTO_ONE_AT_REST, "2 vertex 0 1"),
+        (PAST_ONE_AT_REST, "valid 3 2\nsum-of-costs 4\nmakespan 3\n"),
+        (LETTERS_AFTER_A_FAULT, "1 vertex 0 1"),
         (WALL, "0 off-floor 1"),
         (OUTSIDE, "2 off-floor 1"),
         (JUMP, "1 not-adjacent 0"),
