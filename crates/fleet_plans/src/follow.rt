@@ -66,7 +66,8 @@ fn longest(paths: &[Row<u32>]) -> usize
     most
 }
 
-/// Gives the judge the placements of the first `times` times.
+/// Gives the judge the placements of the first `times` times. After the first fault robots are placed only if the judge
+/// keeps placements.
 fn take_times<B: Allocator + Copy>(
     paths: &[Row<u32>],
     times: usize,
@@ -80,6 +81,10 @@ fn take_times<B: Allocator + Copy>(
     ensures { IfOk result (λ _. AreTaken judge.old.floor paths.now times judge.new) }
 {
     for time in 0..times {
+        if judge.is_over() {
+            judge.pass_over(times - time);
+            return Ok(());
+        }
         place_all(paths, time, place);
         judge.take(place)?;
     }
