@@ -117,15 +117,15 @@ NO_ROOM = (("take-refused", 2), ("tick-refused", 2), ("shut-refused", 3))
 
 TRACE_FAULTS = {
     1: "it is not UTF-8, or not JSON, or nested deeper than 127",
-    2: "the number under `version` is that of no known version",
-    3: "it has not the form of a trace",
+    2: "the number under `version` is not 1 or 2",
+    3: "it is JSON, but not in the form of a trace, an object with `version`, `chapter`, `opening` and `entries`",
 }
-# of the rules that `fleet explain` says nothing more of
+# of the rules of which the model says all that `fleet explain` says
 RULES = {
     1: "it is not in order",
     2: "there is no such client",
     7: "a stamp is outside of its robot's law",
-    8: "the robot is shut already, or there is no such robot",
+    8: "the robot cannot be shut",
 }
 
 
@@ -136,7 +136,13 @@ def explained(chapter, at, rule):
     else:
         entry = chapter["entries"][at - 1]
         kind = {"take": "a take of client {1}", "tick": "a tick", "shut": "a shut of robot {1}"}[entry[0]].format(*entry)
-    return f"the trace: entry {at}, {kind}: {RULES[rule]}"
+    more = ""
+    if rule == 2:
+        more = f": the number of clients is {len(chapter['opening']['clients'])}"
+    if rule == 8:
+        count = len(chapter["opening"]["robots"])
+        more = ": it is shut already" if entry[1] < count else f": the number of robots is {count}"
+    return f"the trace: entry {at}, {kind}: {RULES[rule]}{more}"
 
 
 def misfit(grid, head, limits, hooks, chapter):

@@ -17,7 +17,7 @@ use Rattle.fleet_history.proofs.Legal.{length-place}
 use Rattle.fleet_trace.specs.Judged.{before, Breaks, IsFirstIllegal}
 use Rattle.fleet_explain.specs.declared.arrival.ArrivalName.{ArrivalName}
 use Rattle.fleet_explain.specs.declared.detail.Detail.{Detail}
-use Rattle.fleet_explain.specs.declared.detail.Detail.TheVariants.{Nothing, Due, Step, Missing, Extra, MissingFarewell, ExtraFarewell}
+use Rattle.fleet_explain.specs.declared.detail.Detail.TheVariants.{Nothing, Due, Step, Missing, Extra, MissingFarewell, ExtraFarewell, Clients, Robots, ShutBefore}
 use Rattle.fleet_explain.specs.Only.{first_only, HasNoOther, IsOnlyIn}
 use Rattle.fleet_explain.specs.Details.{named, is_same, IsArrivalDetail, IsDetail}
 use Rattle.fleet_explain.proofs.AtEntry.{the_same, entry_at}
@@ -101,5 +101,8 @@ module _ {A : Type 0} (m : Floor) (h : History A) (at : ℕ) (first : IsFirstIll
   arrivals_told to arrived farewells there (Step fault) is = absurd is
   arrivals_told to arrived farewells there (MissingFarewell r) is = absurd is
   arrivals_told to arrived farewells there (ExtraFarewell r) is = absurd is
+  arrivals_told to arrived farewells there (Clients n) is = absurd is
+  arrivals_told to arrived farewells there (Robots n) is = absurd is
+  arrivals_told to arrived farewells there ShutBefore is = absurd is
   arrivals_told to arrived farewells there (Missing d) is = (refl, (to, arrived, farewells, there, is))
   arrivals_told to arrived farewells there (Extra d) is = (refl, (to, arrived, farewells, there, is))

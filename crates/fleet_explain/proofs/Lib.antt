@@ -9,3 +9,4 @@ mod Stepped
 mod Arrivals
 mod Places
 mod Planned
+mod Shuts

@@ -1,5 +1,5 @@
 -- What can be read back from a sentence.
-use Rattle.std.proofs.Common.{◌≡◌, ◌∙◌, ℕ, ◌<◌, ◌^◌, ◌==◌, Bool, true, false, List, [], ◌∷◌, ◌++◌, drop, take, refl, sym, ap, codes, decimal, encode_utf8}
+use Rattle.std.proofs.Common.{◌≡◌, ◌∙◌, ℕ, ◌<◌, ◌^◌, ◌==◌, Bool, true, false, List, [], ◌∷◌, ◌++◌, drop, take, refl, sym, ap, codes, decimal}
 use Rattle.std.specs.Prelude.{nat_lt, slice_index, if◌then◌else◌}
 use Rattle.std.specs.Str.{bytes_eq}
 use Rattle.std.specs.Char.{digit_value}
@@ -18,7 +18,7 @@ use Rattle.fleet_explain.specs.declared.opening.StartFault.{StartFault}
 use Rattle.fleet_explain.specs.declared.opening.StartFault.TheVariants as start
 use Rattle.fleet_explain.specs.declared.explanation.Explanation.{Explanation}
 use Rattle.fleet_explain.specs.declared.explanation.Explanation.TheVariants as explanation
-use Rattle.fleet_explain.specs.Sentences.{line_text, kind_text, rule_text, detail_text, sentence}
+use Rattle.fleet_explain.specs.Sentences.{line_text, kind_text, rule_text, more_text, letter_text, sentence}
 use Rattle.fleet_explain.specs.Limits.{least_of, most_of, name_of}
 use Rattle.fleet_explain.specs.Places.{File, no_file, map_file, script_file, trace_file, Place, whole, line, row, letter, entry, file_of, place_of, IsInRange}
 
@@ -170,6 +170,7 @@ start_read (start.Limit f) width =
     ∙ kind_read f.kind rest
 start_read start.Robots width = refl
 start_read (start.OffFloor robot cell) width = refl
+start_read (start.Outside robot cell cells) width = refl
 start_read (start.Shared first second cell) width = refl
 
 trace_read : (f : TraceFault) → place_by trace_file (sentence (explanation.Trace f)) ≡ whole
@@ -182,8 +183,8 @@ pub place_read : (e : Explanation) → IsInRange (place_of e) → place_by (file
 place_read explanation.Fine small = refl
 place_read (explanation.Map f) small = map_read f small
 place_read (explanation.Letter r column l) small =
-    ap (place_by map_file) (seven (codes "the map: row ") (decimal r) (codes ", column ") (decimal column) (codes " has `") (encode_utf8 l) (codes "`, which is no letter of a map"))
-    ∙ letter_told r column 32 (codes "has `" ++ (encode_utf8 l ++ codes "`, which is no letter of a map")) small.0 small.1 refl
+    ap (place_by map_file) (seven (codes "the map: row ") (decimal r) (codes ", column ") (decimal column) (codes " has ") (letter_text l) (codes ", which is no letter of a map"))
+    ∙ letter_told r column 32 (codes "has " ++ (letter_text l ++ codes ", which is no letter of a map")) small.0 small.1 refl
 place_read (explanation.Script n f) small =
     ap (place_by script_file) (four (codes "the script: line ") (decimal n) (codes ": ") (line_text f))
     ∙ ap line (number_read n 58 (codes " " ++ line_text f) small refl)
@@ -194,8 +195,8 @@ place_read (explanation.Unserved n clients) small =
 place_read (explanation.Start f width) small = start_read f width
 place_read (explanation.Trace f) small = trace_read f
 place_read (explanation.Illegal at rule kind detail) small =
-    ap (place_by trace_file) (seven (codes "the trace: entry ") (decimal at) (codes ", ") (kind_text kind) (codes ": ") (rule_text rule) (detail_text detail))
-    ∙ ap entry (number_read at 44 (codes " " ++ (kind_text kind ++ (codes ": " ++ (rule_text rule ++ detail_text detail)))) small refl)
+    ap (place_by trace_file) (seven (codes "the trace: entry ") (decimal at) (codes ", ") (kind_text kind) (codes ": ") (rule_text rule) (more_text rule detail))
+    ∙ ap entry (number_read at 44 (codes " " ++ (kind_text kind ++ (codes ": " ++ (rule_text rule ++ more_text rule detail)))) small refl)
 
 pub one_place : (e f : Explanation) → IsInRange (place_of e) → IsInRange (place_of f) → sentence e ≡ sentence f → place_of e ≡ place_of f
 one_place e f small narrow same =

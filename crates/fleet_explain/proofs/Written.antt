@@ -1,5 +1,5 @@
 -- Sentences whose parts are written one after the other.
-use Rattle.std.proofs.Common.{◌≡◌, ℕ, List, ◌++◌, codes, decimal, encode_utf8, sym, subst}
+use Rattle.std.proofs.Common.{◌≡◌, ℕ, List, ◌++◌, codes, decimal, sym, subst}
 use Rattle.std.proofs.lemmas.List.{append_assoc}
 use Rattle.fleet_check.specs.declared.fault.StepFault.{StepFault}
 use Rattle.fleet_check.specs.declared.fault.StepFault.TheVariants as step
@@ -10,7 +10,7 @@ use Rattle.fleet_explain.specs.declared.opening.StartFault.TheVariants as start
 use Rattle.fleet_explain.specs.declared.explanation.Explanation.{Explanation}
 use Rattle.fleet_explain.specs.declared.explanation.Explanation.TheVariants as explanation
 use Rattle.fleet_explain.specs.Limits.{least_of, most_of, name_of}
-use Rattle.fleet_explain.specs.Sentences.{cell_text, limit_text, start_text, step_text, arrival_text, sentence}
+use Rattle.fleet_explain.specs.Sentences.{cell_text, limit_text, start_text, step_text, arrival_text, letter_text, sentence}
 
 five : (a b c d e : List ℕ) → a ++ (b ++ (c ++ (d ++ e))) ≡ a ++ b ++ c ++ d ++ e
 five a b c d e = simp append_assoc
@@ -26,22 +26,28 @@ pub limit_written : (f : LimitFault) (name : List ℕ) (least most : ℕ) → na
 limit_written f name least most a b d = rw (a, b, d) (seven (name_of f.kind) (codes " is ") (decimal f.value) (codes ", which is not from ") (decimal (least_of f.kind)) (codes " to ") (decimal (most_of f.kind)))
 
 pub off_floor_written : (width : ℕ) (f : StartFault) (robot cell : ℕ) → f ≡ start.OffFloor robot cell
-    → codes "robot " ++ (decimal robot ++ (codes " starts on " ++ (cell_text width cell ++ codes ", which is no floor"))) ≡ start_text width f
+    → codes "in its line `robots`, robot " ++ (decimal robot ++ (codes " starts on " ++ (cell_text width cell ++ codes ", which is no floor"))) ≡ start_text width f
 off_floor_written width f robot cell is =
-    subst (λ (x : StartFault). codes "robot " ++ (decimal robot ++ (codes " starts on " ++ (cell_text width cell ++ codes ", which is no floor"))) ≡ start_text width x) (sym is)
-    (five (codes "robot ") (decimal robot) (codes " starts on ") (cell_text width cell) (codes ", which is no floor"))
+    subst (λ (x : StartFault). codes "in its line `robots`, robot " ++ (decimal robot ++ (codes " starts on " ++ (cell_text width cell ++ codes ", which is no floor"))) ≡ start_text width x) (sym is)
+    (five (codes "in its line `robots`, robot ") (decimal robot) (codes " starts on ") (cell_text width cell) (codes ", which is no floor"))
 
 pub shared_written : (width : ℕ) (f : StartFault) (first second cell : ℕ) → f ≡ start.Shared first second cell
-    → codes "robots " ++ (decimal first ++ (codes " and " ++ (decimal second ++ (codes " both start on " ++ cell_text width cell)))) ≡ start_text width f
+    → codes "in its line `robots`, robots " ++ (decimal first ++ (codes " and " ++ (decimal second ++ (codes " both start on " ++ cell_text width cell)))) ≡ start_text width f
 shared_written width f first second cell is =
-    subst (λ (x : StartFault). codes "robots " ++ (decimal first ++ (codes " and " ++ (decimal second ++ (codes " both start on " ++ cell_text width cell)))) ≡ start_text width x) (sym is)
-    (six (codes "robots ") (decimal first) (codes " and ") (decimal second) (codes " both start on ") (cell_text width cell))
+    subst (λ (x : StartFault). codes "in its line `robots`, robots " ++ (decimal first ++ (codes " and " ++ (decimal second ++ (codes " both start on " ++ cell_text width cell)))) ≡ start_text width x) (sym is)
+    (six (codes "in its line `robots`, robots ") (decimal first) (codes " and ") (decimal second) (codes " both start on ") (cell_text width cell))
 
-pub letter_written : (e : Explanation) (row column letter c : ℕ) → e ≡ explanation.Letter row column letter → c ≡ letter
-    → codes "the map: row " ++ (decimal row ++ (codes ", column " ++ (decimal column ++ (codes " has `" ++ (encode_utf8 c ++ codes "`, which is no letter of a map"))))) ≡ sentence e
-letter_written e row column letter c is same =
-    subst (λ (x : Explanation). codes "the map: row " ++ (decimal row ++ (codes ", column " ++ (decimal column ++ (codes " has `" ++ (encode_utf8 c ++ codes "`, which is no letter of a map"))))) ≡ sentence x) (sym is)
-    (rw same (seven (codes "the map: row ") (decimal row) (codes ", column ") (decimal column) (codes " has `") (encode_utf8 letter) (codes "`, which is no letter of a map")))
+pub outside_written : (width : ℕ) (f : StartFault) (robot cell cells : ℕ) → f ≡ start.Outside robot cell cells
+    → codes "in its line `robots`, robot " ++ (decimal robot ++ (codes " starts on cell " ++ (decimal cell ++ (codes ", which is outside of the map: its cells are below " ++ decimal cells)))) ≡ start_text width f
+outside_written width f robot cell cells is =
+    subst (λ (x : StartFault). codes "in its line `robots`, robot " ++ (decimal robot ++ (codes " starts on cell " ++ (decimal cell ++ (codes ", which is outside of the map: its cells are below " ++ decimal cells)))) ≡ start_text width x) (sym is)
+    (six (codes "in its line `robots`, robot ") (decimal robot) (codes " starts on cell ") (decimal cell) (codes ", which is outside of the map: its cells are below ") (decimal cells))
+
+pub letter_written : (e : Explanation) (row column letter : ℕ) → e ≡ explanation.Letter row column letter
+    → codes "the map: row " ++ (decimal row ++ (codes ", column " ++ (decimal column ++ (codes " has " ++ (letter_text letter ++ codes ", which is no letter of a map"))))) ≡ sentence e
+letter_written e row column letter is =
+    subst (λ (x : Explanation). codes "the map: row " ++ (decimal row ++ (codes ", column " ++ (decimal column ++ (codes " has " ++ (letter_text letter ++ codes ", which is no letter of a map"))))) ≡ sentence x) (sym is)
+    (seven (codes "the map: row ") (decimal row) (codes ", column ") (decimal column) (codes " has ") (letter_text letter) (codes ", which is no letter of a map"))
 
 pub vertex_written : (f : StepFault) (i j : ℕ) → f ≡ step.Vertex i j → codes "robots " ++ (decimal i ++ (codes " and " ++ (decimal j ++ codes " come to one cell"))) ≡ step_text f
 vertex_written f i j is =

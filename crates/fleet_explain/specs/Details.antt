@@ -1,5 +1,5 @@
 -- What more there is to say of an entry that breaks a rule.
-use Rattle.std.specs.Prelude.{◌≡◌, ◌≢◌, ℕ, ◌-◌, ◌==◌, ◌&&◌, Bool, List, [], ◌∷◌, Option, Some, None, map, slice_get}
+use Rattle.std.specs.Prelude.{◌≡◌, ◌≢◌, ℕ, ◌-◌, ◌==◌, ◌&&◌, Bool, nat_lt, if◌then◌else◌, List, [], ◌∷◌, Option, Some, None, map, slice_get}
 use Rattle.fleet_grid.specs.Floor.{Floor}
 use Rattle.fleet_grid.specs.Step.{IsConflictFree}
 use Rattle.fleet_check.specs.Fault.{IsFirstFault}
@@ -7,14 +7,14 @@ use Rattle.fleet_history.specs.declared.history.Arrival.{Arrival}
 use Rattle.fleet_history.specs.declared.history.Bye.{Bye}
 use Rattle.fleet_history.specs.declared.history.Entry.{Entry}
 use Rattle.fleet_history.specs.declared.history.Entry.TheVariants.{Take, Tick, Shut}
-use Rattle.fleet_history.specs.History.{History, after, place, unfinished}
+use Rattle.fleet_history.specs.History.{History, after, robots, clients, place, unfinished}
 use Rattle.fleet_history.specs.Legal.{Due as Arriving, due_of, due, is_none_left, robot_if, leaving}
 use Rattle.fleet_history.specs.Verdicts.{IsVerdict}
 use Rattle.fleet_book.specs.declared.order.Order.{Order}
 use Rattle.fleet_book.specs.declared.verdict.Verdict.{Verdict}
 use Rattle.fleet_trace.specs.Judged.{before, ShowsDue}
 use Rattle.fleet_explain.specs.declared.detail.Detail.{Detail}
-use Rattle.fleet_explain.specs.declared.detail.Detail.TheVariants.{Nothing, Due, Step, Missing, Extra, MissingFarewell, ExtraFarewell}
+use Rattle.fleet_explain.specs.declared.detail.Detail.TheVariants.{Nothing, Due, Step, Missing, Extra, MissingFarewell, ExtraFarewell, Clients, Robots, ShutBefore}
 use Rattle.fleet_explain.specs.declared.arrival.ArrivalName.{ArrivalName}
 use Rattle.fleet_explain.specs.Only.{HasNoOther, IsOnlyIn}
 
@@ -103,10 +103,21 @@ IsVerdictAt m h at detail =
     (client : ℕ) × (order : Order) × (shown : Verdict) × (slice_get h.entries (at - 1) ≡ Some (Take client order shown))
     × IsVerdictDetail m (before h (at - 1)) client order detail
 
+-- ---- a shut
+
+-- why a robot cannot be shut, where there are this many
+abbrev pub why_not_shut : ℕ → ℕ → Detail
+why_not_shut robots robot = if nat_lt robot robots then ShutBefore else Robots robots
+
+-- the entry at this place, from 1, is a shut, and this is said of its robot
+abbrev pub IsShutAt : {A : Type 0} → History A → ℕ → Detail → Type 0
+IsShutAt h at detail = (robot : ℕ) × (farewell : Option ℕ) × (slice_get h.entries (at - 1) ≡ Some (Shut robot farewell)) × (detail ≡ why_not_shut (robots h) robot)
+
 -- ---- an entry
 
 -- where the third rule is broken, the verdict that was due is named; where the fourth is, the first fault of the step; where the fifth
--- or the sixth is, an arrival or a farewell that is missing or too many. Nothing is said where a tick shows those that are due, but in
+-- or the sixth is, an arrival or a farewell that is missing or too many; where the second or the eighth is, how many clients or robots
+-- there are, or that the robot is shut already. Nothing is said where a tick shows those that are due, but in
 -- another order or more than once
 abbrev pub IsDetail : {A : Type 0} → Floor → History A → ℕ → ℕ → Detail → Type 0
 IsDetail m h at rule Nothing = (rule ≢ 3) × (rule ≢ 4) × (rule ≡ 5 → IsArrivalAt h at Nothing) × (rule ≡ 6 → IsFarewellAt h at Nothing)
@@ -116,3 +127,6 @@ IsDetail m h at rule (Missing d) = (rule ≡ 5) × IsArrivalAt h at (Missing d)
 IsDetail m h at rule (Extra d) = (rule ≡ 5) × IsArrivalAt h at (Extra d)
 IsDetail m h at rule (MissingFarewell r) = (rule ≡ 6) × IsFarewellAt h at (MissingFarewell r)
 IsDetail m h at rule (ExtraFarewell r) = (rule ≡ 6) × IsFarewellAt h at (ExtraFarewell r)
+IsDetail m h at rule (Clients count) = (rule ≡ 2) × (count ≡ clients h)
+IsDetail m h at rule (Robots count) = (rule ≡ 8) × IsShutAt h at (Robots count)
+IsDetail m h at rule ShutBefore = (rule ≡ 8) × IsShutAt h at ShutBefore

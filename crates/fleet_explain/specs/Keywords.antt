@@ -60,7 +60,7 @@ number_from least most = codes "one number from " ++ decimal least ++ codes " to
 
 -- what comes after the word
 abbrev pub wants : Keyword → List ℕ
-wants Robots = codes "1 to 16 start cells, with blanks between them"
+wants Robots = codes "1 to 16 start cells (1 to 512 for `talk` and `live`), with blanks between them"
 wants Clients = number_from 1 64
 wants Ties = codes "`plain` or `south`"
 wants Turns = number_from 1 1000000

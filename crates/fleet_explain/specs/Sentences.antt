@@ -1,5 +1,5 @@
 -- Explanations as sentences.
-use Rattle.std.specs.Prelude.{ℕ, ◌/◌, ◌%◌, List, [], ◌++◌, Option, Some, None, max, codes, decimal, encode_utf8, ◌==◌, if◌then◌else◌}
+use Rattle.std.specs.Prelude.{ℕ, Bool, true, false, ◌&&◌, ◌||◌, nat_lt, ◌/◌, ◌%◌, List, [], ◌++◌, Option, Some, None, max, codes, decimal, encode_utf8, ◌==◌, if◌then◌else◌}
 use Rattle.fleet_book.specs.declared.verdict.Verdict.{Verdict}
 use Rattle.fleet_book.specs.declared.verdict.Verdict.TheVariants as verdict
 use Rattle.fleet_book.specs.Refusals.{refusal_code, verdict_name}
@@ -26,7 +26,7 @@ use Rattle.fleet_explain.specs.Keywords as keywords
 use Rattle.fleet_explain.specs.Limits.{least_of, most_of, name_of}
 
 abbrev pub line_text : LineFault → List ℕ
-line_text line.NoRobots = codes "the script ends without a line `robots CELL ..`"
+line_text line.NoRobots = codes "the script ends without a line `robots CELL ..`, which a conversation of `talk` may give later"
 line_text line.Unknown = codes "its first word begins no line of a script, which are `robots`, `clients`, `ties`, `turns`, the name of a limit, `post`, `take`, `give`, `collect`, `tick`, `shut`, and `#` in the first column"
 line_text line.Late = codes "it is a header line, and stands after an event line"
 line_text line.Twice = codes "a line with the same first word stands above it, and one is allowed"
@@ -34,7 +34,7 @@ line_text (line.Form keyword) = codes "`" ++ keywords.name_of keyword ++ codes "
 
 abbrev pub map_text : MapFault → List ℕ
 map_text (map.Header n) = codes "line " ++ decimal n ++ codes " is missing or not in its form: the head is `type WORD`, `height N` and `width N`, and `map`"
-map_text map.Size = codes "the height or the width is not from 1 to 1,024"
+map_text map.Size = codes "the height or the width is not from 1 to 1024"
 map_text (map.Row row) = codes "row " ++ decimal row ++ codes " is missing or not as long as the width"
 map_text (map.Cell row column) = codes "row " ++ decimal row ++ codes " has a byte that is no letter of a map"
 map_text (map.Trailing n) = codes "line " ++ decimal n ++ codes " comes after the last row and is not blank"
@@ -50,13 +50,15 @@ limit_text f = name_of f.kind ++ codes " is " ++ decimal f.value ++ codes ", whi
 abbrev pub start_text : ℕ → StartFault → List ℕ
 start_text width (start.Limit f) = limit_text f
 start_text width start.Robots = codes "there are not 1 to 512 robots"
-start_text width (start.OffFloor robot cell) = codes "robot " ++ decimal robot ++ codes " starts on " ++ cell_text width cell ++ codes ", which is no floor"
-start_text width (start.Shared first second cell) = codes "robots " ++ decimal first ++ codes " and " ++ decimal second ++ codes " both start on " ++ cell_text width cell
+start_text width (start.OffFloor robot cell) = codes "in its line `robots`, robot " ++ decimal robot ++ codes " starts on " ++ cell_text width cell ++ codes ", which is no floor"
+start_text width (start.Outside robot cell cells) =
+    codes "in its line `robots`, robot " ++ decimal robot ++ codes " starts on cell " ++ decimal cell ++ codes ", which is outside of the map: its cells are below " ++ decimal cells
+start_text width (start.Shared first second cell) = codes "in its line `robots`, robots " ++ decimal first ++ codes " and " ++ decimal second ++ codes " both start on " ++ cell_text width cell
 
 abbrev pub trace_text : TraceFault → List ℕ
 trace_text trace.NotJson = codes "it is not UTF-8, or not JSON, or nested deeper than 127"
-trace_text trace.Version = codes "the number under `version` is that of no known version"
-trace_text trace.Shape = codes "it has not the form of a trace"
+trace_text trace.Version = codes "the number under `version` is not 1 or 2"
+trace_text trace.Shape = codes "it is JSON, but not in the form of a trace, an object with `version`, `chapter`, `opening` and `entries`"
 trace_text trace.NoMemory = codes "out of memory"
 
 abbrev pub kind_text : EntryKind → List ℕ
@@ -74,7 +76,7 @@ rule_text rule =
     else if rule == 5 then codes "the arrivals are not those that are due"
     else if rule == 6 then codes "the farewells are not those that are due"
     else if rule == 7 then codes "a stamp is outside of its robot's law"
-    else codes "the robot is shut already, or there is no such robot"
+    else codes "the robot cannot be shut"
 
 -- the first fault of a step
 abbrev pub step_text : StepFault → List ℕ
@@ -110,6 +112,21 @@ detail_text (detail.Missing d) = codes ": " ++ arrival_text d ++ codes " is due,
 detail_text (detail.Extra d) = codes ": " ++ arrival_text d ++ codes " is shown, and not due"
 detail_text (detail.MissingFarewell robot) = codes ": robot " ++ decimal robot ++ codes "'s is due, and not shown"
 detail_text (detail.ExtraFarewell robot) = codes ": robot " ++ decimal robot ++ codes "'s is shown, and not due"
+detail_text (detail.Clients count) = codes ": the number of clients is " ++ decimal count
+detail_text (detail.Robots count) = codes ": the number of robots is " ++ decimal count
+detail_text detail.ShutBefore = codes ": it is shut already"
+
+abbrev pub is_nothing : Detail → Bool
+is_nothing detail.Nothing = true
+is_nothing _ = false
+
+-- what more there is to say of an entry that breaks this rule
+abbrev pub more_text : ℕ → Detail → List ℕ
+more_text rule d = if is_nothing d && ((rule == 5) || (rule == 6)) then codes ": each is shown that is due, but in another order or more than once" else detail_text d
+
+-- a byte of a map: itself if it can be shown, else its number
+abbrev pub letter_text : ℕ → List ℕ
+letter_text byte = if nat_lt byte 32 || nat_lt 126 byte then codes "byte " ++ decimal byte else codes "`" ++ (encode_utf8 byte ++ codes "`")
 
 -- a line that a serve of this many clients does not take
 abbrev pub unserved_text : ℕ → ℕ → List ℕ
@@ -118,9 +135,9 @@ unserved_text n clients = codes "all in order for `run`; `serve` does not take l
 abbrev pub sentence : Explanation → List ℕ
 sentence explanation.Fine = codes "all in order"
 sentence (explanation.Map f) = codes "the map: " ++ map_text f
-sentence (explanation.Letter row column letter) = codes "the map: row " ++ decimal row ++ codes ", column " ++ decimal column ++ codes " has `" ++ encode_utf8 letter ++ codes "`, which is no letter of a map"
+sentence (explanation.Letter row column letter) = codes "the map: row " ++ decimal row ++ codes ", column " ++ decimal column ++ codes " has " ++ letter_text letter ++ codes ", which is no letter of a map"
 sentence (explanation.Script n f) = codes "the script: line " ++ decimal n ++ codes ": " ++ line_text f
 sentence (explanation.Unserved n clients) = unserved_text n clients
 sentence (explanation.Start f width) = codes "the script: " ++ start_text width f
 sentence (explanation.Trace f) = codes "the trace: " ++ trace_text f
-sentence (explanation.Illegal at rule kind detail) = codes "the trace: entry " ++ decimal at ++ codes ", " ++ kind_text kind ++ codes ": " ++ rule_text rule ++ detail_text detail
+sentence (explanation.Illegal at rule kind detail) = codes "the trace: entry " ++ decimal at ++ codes ", " ++ kind_text kind ++ codes ": " ++ rule_text rule ++ more_text rule detail

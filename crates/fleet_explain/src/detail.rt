@@ -6,7 +6,7 @@ ghost use Rattle.fleet_history.specs.History.{history_of, clients, place, place_
 ghost use Rattle.fleet_history.specs.Legal.{IsLegal};
 ghost use Rattle.fleet_trace.specs.Judged.{IsFirstIllegal};
 ghost use Rattle.fleet_trace.specs.Judged.{before};
-ghost use Rattle.fleet_explain.specs.Details.{IsVerdictDetail, IsStepDetail, IsDetail};
+ghost use Rattle.fleet_explain.specs.Details.{IsVerdictDetail, IsStepDetail, why_not_shut, IsDetail};
 
 use crate::arrival::{ArrivalName, arrivals_at};
 use crate::farewell::farewells_at;
@@ -34,6 +34,12 @@ pub enum Detail {
     MissingFarewell(u32),
     /// The entry shows the farewell of this robot, and it is not due.
     ExtraFarewell(u32),
+    /// The take is of a client that there is not: the trace has this many.
+    Clients(u64),
+    /// The shut is of a robot that there is not: the trace has this many.
+    Robots(u64),
+    /// The shut is of a robot that is shut already.
+    ShutBefore,
 }
 
 /// The robots' cells at the opening.
@@ -121,6 +127,29 @@ fn step_at(alloc: Global, grid: &Grid, chapter: &Chapter, at: u64) -> Result<Det
     }
 }
 
+/// Why a robot cannot be shut, where there are this many.
+fn why_not_shut(robots: usize, robot: u32) -> Detail
+    ensures { result ≡ why_not_shut robots robot }
+{
+    if (robot as usize) < robots {
+        Detail::ShutBefore
+    } else {
+        Detail::Robots(robots as u64)
+    }
+}
+
+/// Why the robot of the shut that breaks the eighth rule cannot be shut.
+fn shut_at(grid: &Grid, chapter: &Chapter, at: u64) -> Detail
+    requires { IsFirstIllegal grid.now (history_of chapter.now) at 8 }
+    ensures { IsDetail grid.now (history_of chapter.now) at 8 result }
+{
+    let entries = at as usize - 1;
+    match &chapter.entries[entries] {
+        Entry::Shut { robot, .. } => why_not_shut(chapter.opening.robots.len(), *robot),
+        _ => Detail::Nothing,
+    }
+}
+
 /// What more there is to say of the first entry that breaks a rule.
 pub(crate) fn detail_of(
     alloc: Global,
@@ -133,10 +162,12 @@ pub(crate) fn detail_of(
     ensures { IfOk result (λ detail. IsDetail grid.now (history_of chapter.now) at rule detail) }
 {
     match rule {
+        2 => Ok(Detail::Clients(chapter.opening.clients.len() as u64)),
         3 => verdict_at(alloc, grid, chapter, at),
         4 => step_at(alloc, grid, chapter, at),
         5 => arrivals_at(alloc, grid, chapter, at),
         6 => farewells_at(alloc, grid, chapter, at),
+        8 => Ok(shut_at(grid, chapter, at)),
         _ => Ok(Detail::Nothing),
     }
 }

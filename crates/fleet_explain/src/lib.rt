@@ -13,8 +13,10 @@ mod line;
 mod opening;
 mod plan;
 mod plan_text;
+mod script_text;
 mod served;
 mod text;
+mod trace_text;
 mod verdict;
 
 pub use arrival::ArrivalName;

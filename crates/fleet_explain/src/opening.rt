@@ -2,7 +2,7 @@
 
 ghost use Rattle.std.specs.Prelude.{◌≡◌, MatchOption, slice_index};
 ghost use Rattle.fleet_core.specs.Opening.{CanStart};
-ghost use Rattle.fleet_explain.specs.Starts.{IsStartFault};
+ghost use Rattle.fleet_explain.specs.Starts.{off_floor, IsStartFault};
 
 use crate::limits::{LimitFault, limit_fault};
 use fleet_book::Limits;
@@ -16,8 +16,10 @@ pub enum StartFault {
     Limit(LimitFault),
     /// There are not 1 to 512 robots.
     Robots,
-    /// The least robot that does not start on floor, and its cell.
+    /// The least robot that does not start on floor, and its cell, which is on the map.
     OffFloor { robot: u32, cell: u32 },
+    /// The same, where the cell is outside of the map, which has this many cells.
+    Outside { robot: u32, cell: u32, cells: u32 },
     /// The least two robots that start on one cell, and that cell.
     Shared { first: u32, second: u32, cell: u32 },
 }
@@ -31,6 +33,17 @@ fn start_of(starts: &[u32], robot: u32) -> u32
         starts[robot]
     } else {
         0
+    }
+}
+
+/// The robot starts on this cell, which is no floor of a map of this many cells.
+fn off_floor(cells: u32, robot: u32, cell: u32) -> StartFault
+    ensures { result ≡ off_floor cells robot cell }
+{
+    if cell < cells {
+        StartFault::OffFloor { robot, cell }
+    } else {
+        StartFault::Outside { robot, cell, cells }
     }
 }
 
@@ -48,7 +61,7 @@ pub(crate) fn start_fault(
         OpenFault::NoRobots => Some(StartFault::Robots),
         OpenFault::Start(robot) => {
             let cell = start_of(starts, robot);
-            Some(StartFault::OffFloor { robot, cell })
+            Some(off_floor(grid.cell_count(), robot, cell))
         }
         OpenFault::Shared(first, second) => {
             let cell = start_of(starts, first);

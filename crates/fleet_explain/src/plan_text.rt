@@ -4,7 +4,7 @@ ghost use Rattle.std.specs.Prelude.{◌≡◌, Some};
 ghost use Rattle.fleet_explain.specs.PlanSentences.{place_text, placed_text, misplaced_text, wanted_text, runners_text, head_text, goal_text, plan_sentence};
 
 use crate::plan::{Misplaced, PlanExplanation};
-use crate::text::CellText;
+use crate::script_text::CellText;
 use fleet_check::StepFault;
 use fleet_plans::{GoalFault, HeadFault, RunnersFault, TextForm};
 use std::fmt::{self, Display};

@@ -49,6 +49,13 @@ fn scripts_are_explained(rt: HostRuntime) {
         )
     );
     assert!(rt; says(alloc, "robots 0\nlane 0\ntick\n", "lane is 0"));
+    assert!(rt;
+        says(
+            alloc,
+            "robots 99999\n",
+            "in its line `robots`, robot 0 starts on cell 99999, which is outside of the map: its cells are below 9"
+        )
+    );
 }
 
 #[test]
@@ -57,7 +64,11 @@ fn maps_are_explained(rt: HostRuntime) {
     let map = "type octile\nheight 1\nwidth 3\nmap\n..x\n";
     let explanation = explain_map(alloc, map.as_bytes()).expect(&rt, "memory");
     let sentence = format!(in alloc; "{explanation}").expect(&rt, "memory");
-    assert!(rt; sentence.contains("row 0, column 2"));
+    assert!(rt; sentence.contains("row 0, column 2 has `x`"));
+    let escape = "type octile\nheight 1\nwidth 3\nmap\n..\x1b\n";
+    let explanation = explain_map(alloc, escape.as_bytes()).expect(&rt, "memory");
+    let sentence = format!(in alloc; "{explanation}").expect(&rt, "memory");
+    assert!(rt; sentence.contains("column 2 has byte 27, which"));
 }
 
 /// What stands before and after the entries of a trace: one client, and robots on cells 0 and 8, without errands.
@@ -67,7 +78,7 @@ const OPENING: &str =
     r#"],"opening":{"clients":[[0,0,0,false]],"life":1000000,"queue":16,"robots":[[0,false,null,[],[0,0],[0,0]],[8,false,null,[],[0,0],[0,0]]],"tick":18446744073709551615},"version":2}"#;
 
 /// Entries of traces, and what is wrong with the trace of each.
-const TRACES: [(&str, &str); 10] = [
+const TRACES: [(&str, &str); 14] = [
     (
         r#"["tick",[1,7],[],[]],["tick",[4,6],[],[]]"#,
         "the trace: entry 2, a tick: the step has a conflict, or leaves the floor: robot 0 comes to no floor",
@@ -107,6 +118,22 @@ const TRACES: [(&str, &str); 10] = [
     (
         r#"["take",0,["go",0,1],["accepted",1]],["shut",0,0]"#,
         "the trace: entry 2, a shut of robot 0: the farewells are not those that are due: robot 0's is shown, and not due",
+    ),
+    (
+        r#"["take",0,["go",0,1],["accepted",1]],["tick",[1,8],[[0,0,1,0],[0,0,1,0]],[]]"#,
+        "the trace: entry 2, a tick: the arrivals are not those that are due: each is shown that is due, but in another order or more than once",
+    ),
+    (
+        r#"["take",1,["close"],["closed"]]"#,
+        "the trace: entry 1, a take of client 1: there is no such client: the number of clients is 1",
+    ),
+    (
+        r#"["shut",2]"#,
+        "the trace: entry 1, a shut of robot 2: the robot cannot be shut: the number of robots is 2",
+    ),
+    (
+        r#"["shut",1,0],["shut",1,0]"#,
+        "the trace: entry 2, a shut of robot 1: the robot cannot be shut: it is shut already",
     ),
 ];
 

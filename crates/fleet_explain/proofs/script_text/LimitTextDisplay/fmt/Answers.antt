@@ -2,7 +2,7 @@
 use Rattle.std.proofs.Common.{ℕ, List, subst}
 use Rattle.std.specs.Fmt.{HasWritten}
 use Rattle.fleet_explain.proofs.Written.{limit_written}
-use Rattle.fleet_explain.proofs.text.LimitTextDisplay.fmt.Goals as goal
+use Rattle.fleet_explain.proofs.script_text.LimitTextDisplay.fmt.Goals as goal
 
 pub returns-clause-writes : goal.returns-clause-writes
 returns-clause-writes g c plain ok =

@@ -2,7 +2,7 @@
 use Rattle.std.proofs.Common.{ℕ, List, subst}
 use Rattle.std.specs.Fmt.{HasWritten}
 use Rattle.fleet_explain.proofs.Written.{arrival_written}
-use Rattle.fleet_explain.proofs.text.ArrivalNameDisplay.fmt.Goals as goal
+use Rattle.fleet_explain.proofs.trace_text.ArrivalNameDisplay.fmt.Goals as goal
 
 pub returns-clause-writes : goal.returns-clause-writes
 returns-clause-writes g c plain ok =

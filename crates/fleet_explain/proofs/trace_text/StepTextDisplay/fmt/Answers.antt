@@ -2,7 +2,7 @@
 use Rattle.std.proofs.Common.{ℕ, List, subst}
 use Rattle.std.specs.Fmt.{HasWritten}
 use Rattle.fleet_explain.proofs.Written.{vertex_written, swap_written}
-use Rattle.fleet_explain.proofs.text.StepTextDisplay.fmt.Goals as goal
+use Rattle.fleet_explain.proofs.trace_text.StepTextDisplay.fmt.Goals as goal
 
 pub returns-in-Vertex-clause-writes : goal.returns-in-Vertex-clause-writes
 returns-in-Vertex-clause-writes g c plain ok =
