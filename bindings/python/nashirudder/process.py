@@ -219,7 +219,11 @@ class Program:
         if self.is_closed:
             return Ended(self.status, "the fleet is closed")
         self.status = self.process.wait()
-        return end_of(self.status, self._complaint())
+        try:
+            complaint = self._complaint()
+        except ValueError:    # another thread closed the fleet meanwhile
+            return Ended(self.status, "the fleet is closed")
+        return end_of(self.status, complaint)
 
     def end(self, timeout: Optional[float]) -> str:
         """Lets the program end, and returns what it complained of. Raises Late if it had to be killed."""
