@@ -23,7 +23,7 @@ fn at(counts: &[u64], client: usize) -> u64
 }
 
 impl Due {
-    /// So many clients, none of which was given anything.
+    /// N clients, none of which was given anything.
     pub fn new(alloc: Global, clients: usize) -> Result<Due, AllocError>
         ensures { IfOk result (λ due. (length due.given.items ≡ clients) × (length due.told.items ≡ clients)) }
     {
