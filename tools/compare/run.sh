@@ -5,7 +5,7 @@ here=$(cd "$(dirname "$0")" && pwd)
 top=$(cd "$here/../.." && pwd)
 if [ "${1:-}" = --help ] || [ "${1:-}" = -h ]; then
   cat <<'HELP'
-usage: tools/compare/run.sh [--face | --face-into] [BENCH]
+usage: tools/compare/run.sh [--face | --face-into | --trace] [BENCH]
 
 Measures the program `bench` next to the same kernels in C++ (search.cpp): builds both, runs them in turn for five rounds, and prints one
 table, in nanoseconds per cell, or per robot and tick. A row has the least, the median and the greatest of the rounds, ours and the peer's,
@@ -15,6 +15,8 @@ and the ratio of the least and of the medians. BENCH is the path of the built pr
     --face   the tick through the library for C (face.cpp, "ours") next to `bench tick` ("peer"), the mean over 200 ticks.
              Needs build_c/libnashirudder.a, which tools/build_c makes (with --quick without proofs)
     --face-into   the same of ticks that tell the cells, the arrivals and the farewells
+    --trace  the memory of a tick, and the text of a chapter: the lines of `bench trace`, with a process of its own for each number of
+             robots, so that no fleet takes the memory that another gave back
 HELP
   exit 0
 fi
@@ -22,11 +24,18 @@ face=
 case "${1:-}" in
   --face) face=plain; shift ;;
   --face-into) face=into; shift ;;
+  --trace) face=trace; shift ;;
 esac
 bench=${1:-}
 if [ -z "$bench" ]; then
   (cd "$top/crates/bench" && rt run >&2)
   bench=$top/crates/bench/out/bench
+fi
+if [ "$face" = trace ]; then
+  for robots in 16 128 512; do
+    "$bench" trace "$robots"
+  done
+  exit 0
 fi
 out=$(mktemp -d)
 trap 'rm -r "$out"' EXIT

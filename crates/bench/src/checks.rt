@@ -7,7 +7,7 @@ ghost use Rattle.bench.specs.Fleet.{AreWithin, Serves};
 use crate::fleet::Fleet;
 use crate::measure::{Measure, print_measure};
 use crate::site::Site;
-use crate::steps::{FLEETS, MOST};
+use crate::steps::MOST;
 use fleet_check::StepChecker;
 use fleet_field::Compass;
 use fleet_grid::Grid;
@@ -16,33 +16,12 @@ use fleet_pibt::Stepper;
 use std::alloc::{Alloc, Global};
 use std::io;
 use std::time::{Clock, Instant};
-use test_kit::Random;
 
 /// How often a step is checked.
 const REPEATS: u32 = 200;
 
-/// The check of a step for each number of robots: the time for each robot.
-pub(crate) fn check_each<R: Alloc<A = Global> + Clock + Print>(
-    rt: &R,
-    map: &str,
-    site: &Site,
-    fields: &[Compass],
-    ties: &[TieHook],
-    random: &mut Random,
-) -> io::Result<()>
-    requires some { 0 < length fields.now }
-    requires serves { Serves site.now.grid site.now.home fields.now }
-    requires tied { length ties.now ≡ MOST }
-{
-    for robots in FLEETS {
-        let starts = site.starts(rt.alloc(), robots.min(MOST), random)?;
-        check_fleet(rt, map, site, fields, starts, ties)?;
-    }
-    Ok(())
-}
-
 /// The check of a fleet's first step, in which nearly all robots move, and of one in which all stay.
-fn check_fleet<R: Alloc<A = Global> + Clock + Print>(
+pub(crate) fn check_fleet<R: Alloc<A = Global> + Clock + Print>(
     rt: &R,
     map: &str,
     site: &Site,

@@ -66,8 +66,8 @@ fn ends(grid: &Grid) -> Option<(u32, u32)> {
     Some((first, last))
 }
 
-/// The milliseconds in which a world with a robot on the first floor cell is opened, the robot sent to the last one, and
-/// ticks are made.
+/// The milliseconds in which a world with a robot on the first floor cell is opened, the robot sent to the last one,
+/// and ticks are made.
 fn time_run<R: Alloc<A = Global> + Clock + Files + Print + Threads + Sync>(
     rt: &R,
     grid: Grid,

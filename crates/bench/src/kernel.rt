@@ -1,5 +1,8 @@
 //! The kernels that are measured.
 
+use crate::steps::MOST;
+use fleet_map::text::number_up_to;
+
 /// What is measured.
 #[derive(Clone, Copy, Debug, PartialEq, Eq)]
 pub(crate) enum Kernel {
@@ -19,8 +22,9 @@ pub(crate) enum Kernel {
     Lifelong,
     /// The first tick of a world whose robots all have a goal: time for each robot.
     Open,
-    /// A chapter as text, and read back: time for each entry.
-    Trace,
+    /// A chapter of this number of robots, or of each: the memory of a tick, and the time for each entry as text and
+    /// read back.
+    Trace { robots: Option<usize> },
     /// Whole maps of a hostile shape, in milliseconds.
     Hostile,
     /// The maps themselves, and the steps of a full one: nothing is timed.
@@ -39,10 +43,24 @@ impl Kernel {
             "tick" => Some(Kernel::Tick),
             "lifelong" => Some(Kernel::Lifelong),
             "open" => Some(Kernel::Open),
-            "trace" => Some(Kernel::Trace),
+            "trace" => Some(Kernel::Trace { robots: None }),
             "hostile" => Some(Kernel::Hostile),
             "maps" => Some(Kernel::Maps),
             _ => None,
         }
+    }
+
+    /// The same kernel for this number of robots alone, which only `trace` can be asked for.
+    pub(crate) fn with_robots(self, word: &str) -> Option<Kernel> {
+        let Kernel::Trace { .. } = self else {
+            return None;
+        };
+        let robots = number_up_to(word.as_bytes(), MOST as u64 + 1)? as usize;
+        if robots == 0 || robots > MOST {
+            return None;
+        }
+        Some(Kernel::Trace {
+            robots: Some(robots),
+        })
     }
 }

@@ -114,8 +114,8 @@ fn is_passage(row: u32, col: u32) -> bool
     }
 }
 
-/// Whether the cell of even row and column is joined to the one above it; a cell of the first column always is, and one of the
-/// first row never.
+/// Whether the cell of even row and column is joined to the one above it; a cell of the first column always is, and one
+/// of the first row never.
 fn joins_north(row: u32, col: u32) -> bool {
     if row == 0 {
         return false;

@@ -4,6 +4,7 @@ ghost use Rattle.std.specs.Prelude.{◌<◌, length};
 
 use crate::kind::Kind;
 use crate::site::Site;
+use crate::steps::FLEETS;
 use crate::worlds::{LIMITS, MOST_ROBOTS, Task, Work, give_one, measure_fleets, order_one};
 use fleet_world::{Notice, World};
 use std::alloc::{Alloc, Global};
@@ -22,8 +23,8 @@ const CELLS: Work = Work::Run {
     before: 1,
 };
 
-/// With goals from stations, enough runs are made before the one that counts that each station was a goal twice, and has a
-/// whole field: the C++ program has the stations' fields before its first tick.
+/// With goals from stations, enough runs are made before the one that counts that each station was a goal twice, and
+/// has a whole field: the C++ program has the stations' fields before its first tick.
 const STATIONS: Work = Work::Run {
     name: "lifelong_stations",
     before: 12,
@@ -84,7 +85,7 @@ fn measure_run<R: Alloc<A = Global> + Clock + Files + Print + Threads + Sync>(
 {
     let map = kind.name();
     let task = Task { map, work, goals };
-    measure_fleets(rt, kind, site, task, &mut Random::from_seed(11))
+    measure_fleets(rt, kind, site, task, &FLEETS, &mut Random::from_seed(11))
 }
 
 /// Several runs of a world, of which only the last counts.

@@ -1,5 +1,6 @@
 //! `bench`: measures the kernels on maps that it builds itself. With the name of a kernel it prints a line of
 //! `name key=value` for each measure; with `maps` it prints facts about the maps; without a name it prints the names.
+//! After `trace` there may be a number of robots: no other fleet then gives back memory that it could take.
 #![tactic(auto)]
 
 mod bridges;
@@ -40,15 +41,19 @@ use std::{env, io};
 
 /// What is printed if no kernel is named.
 const KERNELS: &str =
-    "bench: name a kernel: field, fields, bridge, check, step, tick, lifelong, open, trace, hostile or maps\n";
+    "bench: name a kernel: field, fields, bridge, check, step, tick, lifelong, open, trace [ROBOTS], hostile or maps\n";
 
-/// The kernel that the first argument names.
+/// The kernel that the first argument names, for the number of robots of the second.
 fn kernel_asked(rt: &(impl Env + Alloc)) -> io::Result<Option<Kernel>> {
     let mut words = env::args(rt)?;
     let _program = words.next();
-    Ok(match words.next() {
+    let kernel = match words.next() {
         Some(word) => Kernel::named(word.as_str()),
         None => None,
+    };
+    Ok(match (kernel, words.next()) {
+        (Some(kernel), Some(robots)) => kernel.with_robots(robots.as_str()),
+        _ => kernel,
     })
 }
 
@@ -64,7 +69,7 @@ fn run<R: Alloc<A = Global> + Clock + Files + Print + Threads + Sync>(
             measure_kinds(rt, kernel, &[Kind::Warehouse, Kind::Open])
         }
         Kernel::Open => measure_kinds(rt, kernel, &[Kind::Open]),
-        Kernel::Trace => measure_kinds(rt, kernel, &[Kind::Warehouse]),
+        Kernel::Trace { .. } => measure_kinds(rt, kernel, &[Kind::Warehouse]),
         Kernel::Hostile => measure_hostile(rt, &Shape::ALL),
         Kernel::Maps => {
             tell_maps(rt, &Kind::ALL, &Shape::ALL)?;

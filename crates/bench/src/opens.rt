@@ -14,7 +14,8 @@ use test_kit::Random;
 /// How many robots there are.
 const ROBOTS: usize = 512;
 
-/// The first tick of a world in which each robot has a goal: the time for each robot. All fields are searched in one thread.
+/// The first tick of a world in which each robot has a goal: the time for each robot. All fields are searched in one
+/// thread.
 pub(crate) fn measure_open<R: Alloc<A = Global> + Clock + Files + Print + Threads + Sync>(
     rt: &R,
     kind: Kind,

@@ -55,7 +55,7 @@ fn measure_on<R: Alloc<A = Global> + Clock + Files + Print + Threads + Sync>(
         Kernel::Tick => measure_tick(rt, kind, site),
         Kernel::Lifelong => measure_lifelong(rt, kind, site),
         Kernel::Open => measure_open(rt, kind, site),
-        Kernel::Trace => measure_trace(rt, kind, site),
+        Kernel::Trace { robots } => measure_trace(rt, kind, site, robots),
         Kernel::Hostile | Kernel::Maps => Ok(()),
     }
 }

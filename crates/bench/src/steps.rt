@@ -4,7 +4,7 @@ ghost use Rattle.std.specs.Prelude.{◌≡◌, ℕ, ◌<◌, ◌≤◌, length, 
 ghost use Rattle.fleet_grid.specs.Step.{IsPlacement};
 ghost use Rattle.bench.specs.Fleet.{AreWithin, Serves, IsUnderWay};
 
-use crate::checks::check_each;
+use crate::checks::check_fleet;
 use crate::fleet::Fleet;
 use crate::kernel::Kernel;
 use crate::measure::{Measure, print_measure};
@@ -31,6 +31,13 @@ const TICKS: u32 = 20;
 
 const REPEATS: u32 = 100;
 
+/// What is measured on a map with this name.
+#[derive(Clone, Copy)]
+struct Subject<'a> {
+    kernel: Kernel,
+    map: &'a str,
+}
+
 /// A step for each number of robots, or the check of one: the time for each robot.
 pub(crate) fn measure_steps<R: Alloc<A = Global> + Clock + Print>(
     rt: &R,
@@ -45,16 +52,14 @@ pub(crate) fn measure_steps<R: Alloc<A = Global> + Clock + Print>(
     }
     let mut random = Random::from_seed(11);
     let fields = site.fields(alloc, FIELDS, &mut random)?;
-    if kernel == Kernel::Check {
-        return check_each(rt, map, site, &fields, &ties, &mut random);
-    }
-    measure_each(rt, map, site, &fields, &ties, &mut random)
+    let subject = Subject { kernel, map };
+    measure_each(rt, subject, site, &fields, &ties, &mut random)
 }
 
-/// A step for each number of robots: the time for each robot.
+/// A step for each number of robots, or the check of one: the time for each robot.
 fn measure_each<R: Alloc<A = Global> + Clock + Print>(
     rt: &R,
-    map: &str,
+    subject: Subject<'_>,
     site: &Site,
     fields: &[Compass],
     ties: &[TieHook],
@@ -66,10 +71,14 @@ fn measure_each<R: Alloc<A = Global> + Clock + Print>(
 {
     for robots in FLEETS {
         let starts = site.starts(rt.alloc(), robots.min(MOST), random)?;
-        let count = starts.len();
-        let found = time_fleet(rt, site, fields, starts, ties, random)?;
-        let things = u64::from(TICKS).saturating_mul(count as u64);
-        print_measure(rt, "step", map, count, things, found)?;
+        if subject.kernel == Kernel::Check {
+            check_fleet(rt, subject.map, site, fields, starts, ties)?;
+        } else {
+            let count = starts.len();
+            let found = time_fleet(rt, site, fields, starts, ties, random)?;
+            let things = u64::from(TICKS).saturating_mul(count as u64);
+            print_measure(rt, "step", subject.map, count, things, found)?;
+        }
     }
     Ok(())
 }

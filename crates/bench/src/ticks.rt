@@ -5,6 +5,7 @@ ghost use Rattle.std.specs.Prelude.{◌<◌, length};
 use crate::kind::Kind;
 use crate::measure::Measure;
 use crate::site::Site;
+use crate::steps::FLEETS;
 use crate::worlds::{LIMITS, MOST_ROBOTS, Task, Work, give_one, measure_fleets, order_one};
 use fleet_world::World;
 use std::alloc::{Alloc, Global};
@@ -33,7 +34,7 @@ pub(crate) fn measure_tick<R: Alloc<A = Global> + Clock + Files + Print + Thread
         work: Work::Ticks,
         goals: &goals,
     };
-    measure_fleets(rt, kind, site, task, &mut random)
+    measure_fleets(rt, kind, site, task, &FLEETS, &mut random)
 }
 
 /// Ticks of a world, each timed separately. What clients do between ticks is not timed.

@@ -7,6 +7,7 @@ use crate::lifelong::time_run;
 use crate::measure::{Measure, print_measure};
 use crate::memory::resident;
 use crate::site::Site;
+use crate::steps::FLEETS;
 use crate::worlds::{Task, Work, measure_fleets};
 use fleet_history::Chapter;
 use fleet_trace::{read_trace, write_trace};
@@ -21,15 +22,16 @@ use test_kit::Random;
 /// The number of stations between which robots travel.
 const STATIONS: usize = 64;
 
-/// How many runs of the same length go before the last of those whose memory is measured: enough that what they keep is far more
-/// than the memory that earlier runs gave back.
+/// How many runs of the same length go before the last of those whose memory is measured: enough that what they keep is
+/// far more than the memory that earlier runs gave back.
 const BEFORE: u32 = 15;
 
-/// A chapter for each number of robots: the time for each entry.
+/// A chapter of this number of robots, or of each: the memory of a tick, and the time for each entry.
 pub(crate) fn measure_trace<R: Alloc<A = Global> + Clock + Files + Print + Threads + Sync>(
     rt: &R,
     kind: Kind,
     site: &Site,
+    robots: Option<usize>,
 ) -> io::Result<()> {
     let mut random = Random::from_seed(11);
     let goals = site.goals(rt.alloc(), STATIONS, &mut random)?;
@@ -38,7 +40,10 @@ pub(crate) fn measure_trace<R: Alloc<A = Global> + Clock + Files + Print + Threa
         work: Work::Trace,
         goals: &goals,
     };
-    measure_fleets(rt, kind, site, task, &mut random)
+    match robots {
+        Some(robots) => measure_fleets(rt, kind, site, task, &[robots], &mut random),
+        None => measure_fleets(rt, kind, site, task, &FLEETS, &mut random),
+    }
 }
 
 /// The chapter of long runs. The memory is that of the runs after a first one, in which fields were searched.

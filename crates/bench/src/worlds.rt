@@ -7,7 +7,6 @@ use crate::lifelong::{print_run, time_run};
 use crate::measure::{Measure, print_measure};
 use crate::opens::first_tick;
 use crate::site::Site;
-use crate::steps::FLEETS;
 use crate::ticks::time_ticks;
 use crate::traces::time_trace;
 use fleet_grid::Grid;
@@ -23,8 +22,8 @@ use std::thread::Threads;
 use std::time::{Clock, Instant};
 use test_kit::Random;
 
-/// The mailbox has room for the notices of two errands of each robot, and for those errands. The chapter has room for all ticks
-/// of several long runs.
+/// The mailbox has room for the notices of two errands of each robot, and for those errands. The chapter has room for
+/// all ticks of several long runs.
 pub const LIMITS: Limits = Limits {
     mailbox: 4_096,
     chapter: 1_048_576,
@@ -67,22 +66,23 @@ pub(crate) struct Ground {
     pub(crate) starts: Vec<u32>,
 }
 
-/// Measures a world for each number of robots.
+/// Measures a world for each of these numbers of robots.
 pub(crate) fn measure_fleets<R: Alloc<A = Global> + Clock + Files + Print + Threads + Sync>(
     rt: &R,
     kind: Kind,
     site: &Site,
     task: Task<'_>,
+    fleets: &[usize],
     random: &mut Random,
 ) -> io::Result<()>
     requires { 0 < length task.goals.now }
 {
-    for robots in FLEETS {
+    for robots in fleets {
         let mut ground = Some(Ground {
-            starts: site.starts(rt.alloc(), robots, random)?,
+            starts: site.starts(rt.alloc(), *robots, random)?,
             grid: grid_of(rt.alloc(), kind)?,
         });
-        measure_world(rt, task, &mut ground, robots, random)?;
+        measure_world(rt, task, &mut ground, *robots, random)?;
     }
     Ok(())
 }

@@ -9,12 +9,12 @@ ghost use Rattle.fleet_plans.specs.declared.report.PlanReport.{PlanReport};
 ghost use Rattle.fleet_plans.specs.Judge.{HasJudged};
 ghost use Rattle.fleet_plans.specs.Valid.{IsValidPlan, IsPlanFault};
 
-use fleet_plans::{PlanAnswer, PlanJudge, check_texts};
+use fleet_plans::{MOST_PLAN_BYTES, PlanAnswer, PlanJudge, check_texts};
 use std::alloc::{AllocError, Global};
 
 /// Whether the text of another planner's plan is free of conflicts on a map.
 pub fn is_valid(alloc: Global, map: &[u8], plan: &[u8]) -> Result<bool, AllocError>
-    requires { length plan.now ≤ 16777216 }
+    requires { length plan.now ≤ MOST_PLAN_BYTES }
     ensures valid { IfOk result (λ valid. IsTrue valid → (report : PlanReport) × IsPlanAnswer map.now plan.now (PlanAnswer.Valid report)) }
     ensures invalid { IfOk result (λ valid. valid ≡ false → (answer : Answer) × IsPlanAnswer map.now plan.now answer × ((report : PlanReport) → answer ≢ PlanAnswer.Valid report)) }
 {

@@ -1,8 +1,9 @@
-//! `errands`: moves robots over a map while clients post errands, as a script says. `errands run MAP SCRIPT` runs the script
-//! of one file on the map of another; with `--trace` it writes the trace of the run in place of its lines, and `errands judge
-//! MAP TRACE` says whether such a trace is legal. `errands serve MAP SCRIPT` runs each client's lines in a thread of its own,
-//! next to two tickers, and writes the trace of that run. Without words it reads a bundle from standard input: the map up to the
-//! first line that is exactly `script`, and the script after it. `errands map FILE` describes a map alone.
+//! `errands`: moves robots over a map while clients post errands, as a script says. `errands run MAP SCRIPT` runs the
+//! script of one file on the map of another; with `--trace` it writes the trace of the run in place of its lines, and
+//! `errands judge MAP TRACE` says whether such a trace is legal. `errands serve MAP SCRIPT` runs each client's lines in
+//! a thread of its own, next to two tickers, and writes the trace of that run. Without words it reads a bundle from
+//! standard input: the map up to the first line that is exactly `script`, and the script after it. `errands map FILE`
+//! describes a map alone.
 #![tactic(auto)]
 
 use errands_lib::{InputFault, Inputs, WordFault, refuse_words, run_words};

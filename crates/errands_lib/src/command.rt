@@ -87,7 +87,8 @@ const ERRANDS: Program<'static> = Program {
     words: &[MAP, RUN, JUDGE, SERVE],
 };
 
-/// The program with its words. Only this function names the constant, since a proof has it at each step of the function.
+/// The program with its words. Only this function names the constant, since a proof has it at each step of the
+/// function.
 pub(crate) fn command() -> Program<'static>
     ensures { program_app result ≡ errands_app }
 {

@@ -18,7 +18,8 @@ pub trait Inputs {
     /// Says that standard input was taken.
     ghost reads: { Self → Self.Input → Self → Type 0 };
 
-    /// Opens the file of this name. `NoMemory` where memory ran out, `File` where it cannot be opened for any other reason.
+    /// Opens the file of this name. `NoMemory` where memory ran out, `File` where it cannot be opened for any other
+    /// reason.
     fn open(&mut self, name: &str) -> Result<Self::File, InputFault>
         ensures { opens self.old name.now result self.new };
 

@@ -25,8 +25,8 @@ fn answer_files<'a, R: Files + Alloc<A = Global>>(
     Ok(answer_check(alloc, form, strict, scenario, &map, &plan)?)
 }
 
-/// Judges the plan. Returns the status: 0 the plan is valid, 2 no such form, 3 a file failed, 4 the map or 5 the scenario
-/// is refused, 6 the plan cannot be read or is not valid, 7 memory ran out.
+/// Judges the plan. Returns the status: 0 the plan is valid, 2 no such form, 3 a file failed, 4 the map or 5 the
+/// scenario is refused, 6 the plan cannot be read or is not valid, 7 memory ran out.
 pub(crate) fn run_check<R: Files + Alloc<A = Global>, W: Write, E: Write>(
     rt: &R,
     check: &Check,

@@ -29,8 +29,8 @@ fn answer_files<'a, R: Files + Alloc<A = Global>>(
     }
 }
 
-/// Writes the trace as a plan, or the plan as a trace. Returns the status: 0 good, 2 no such form, 3 a file failed, 4 the map
-/// is refused, 6 the trace cannot be read or is not legal, or the plan is not valid, 7 memory ran out.
+/// Writes the trace as a plan, or the plan as a trace. Returns the status: 0 good, 2 no such form, 3 a file failed, 4
+/// the map is refused, 6 the trace cannot be read or is not legal, or the plan is not valid, 7 memory ran out.
 pub(crate) fn run_convert<R: Files + Alloc<A = Global>, W: Write, E: Write>(
     rt: &R,
     convert: &Convert,

@@ -2,7 +2,7 @@
 
 use crate::ends::{FileFault, MOST_MAP_BYTES, complain, file_bytes};
 use fleet_lib::{
-    Explain, MOST_PLAN_BYTES, MOST_SCRIPT_BYTES, MOST_TRACE_BYTES, Said, answer_explain_map,
+    Explain, MOST_SCRIPT_BYTES, MOST_TRACE_BYTES, Said, answer_explain_head, answer_explain_map,
     answer_explain_plan, answer_explain_script, answer_explain_trace, is_plan, tell,
 };
 use std::alloc::{Alloc, Global};
@@ -28,11 +28,12 @@ fn answer_files<'a, R: Files + Alloc<A = Global>>(
     let Some(name) = &explain.other else {
         return Ok(answer_explain_map(rt.alloc(), &map)?);
     };
+    if explain.head {
+        let head = file_bytes(rt, name.as_str(), MOST_SCRIPT_BYTES)?;
+        return Ok(answer_explain_head(rt.alloc(), &map, &head)?);
+    }
     let other = file_bytes(rt, name.as_str(), MOST_TRACE_BYTES)?;
     if is_plan(&other) {
-        if other.len() > MOST_PLAN_BYTES {
-            return Err(FileFault::TooLarge(name.as_str()));
-        }
         return Ok(answer_explain_plan(rt.alloc(), &map, &other)?);
     }
     if is_trace(&other) {

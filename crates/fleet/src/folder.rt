@@ -185,8 +185,8 @@ fn lock_file<R: Files<File = File>>(rt: &R, name: &str) -> Result<File, FolderFa
     }
 }
 
-/// Takes the folder of this name for a fleet, if one is named. Returns it with the chapter from which the fleet goes on, if it
-/// is to go on and there is one.
+/// Takes the folder of this name for a fleet, if one is named. Returns it with the chapter from which the fleet goes
+/// on, if it is to go on and there is one.
 pub(crate) fn hold_folder<R: Files<File = File> + Alloc<A = Global> + Clone + Drop>(
     rt: &R,
     name: Option<&str>,

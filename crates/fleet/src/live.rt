@@ -1,9 +1,11 @@
 //! The word `live`.
 
+ghost use Rattle.std.specs.Prelude.{◌≤◌, IfOk, vec_len};
+
 use crate::ends::complain;
 use crate::folder::KeptFile;
-use crate::talk::{lent, texts_of};
-use fleet_lib::{ChapterSink, InputFault, Live, LiveEnds, Pipes, TalkTexts, fail, run_live};
+use crate::talk::{lent_texts, texts_of};
+use fleet_lib::{ChapterSink, InputFault, Live, LiveEnds, Pipes, fail, run_live};
 use std::alloc::{Alloc, Global};
 use std::fs::{File, Files, OpenOptions};
 use std::io::{Read, Write};
@@ -44,8 +46,27 @@ fn pipes_of<R: Files<File = File> + Alloc<A = Global>>(
     Ok(all)
 }
 
-/// Keeps a fleet in real time, or on demand, which goes on from a chapter if one is given. Returns the status, as of `run_live`, or 3
-/// where a file failed.
+/// The texts of the map and of the script, and the pipes, that the words name. If something fails, it is said, and the
+/// error is the status.
+fn opened<R: Files<File = File> + Alloc<A = Global>, E: Write>(
+    rt: &R,
+    live: &Live,
+    error: &mut E,
+) -> Result<(Vec<u8>, Vec<u8>, Vec<Pipes<File, File>>), u8>
+    ensures { IfOk result (λ opened. vec_len opened.1 ≤ 16777216) }
+{
+    let (map, script) = match texts_of(rt, live.map.as_str(), &live.script) {
+        Ok(texts) => texts,
+        Err(fault) => return Err(complain(rt, fault, error)),
+    };
+    match pipes_of(rt, &live.pipes) {
+        Ok(pipes) => Ok((map, script, pipes)),
+        Err(fault) => Err(fail(fault, error)),
+    }
+}
+
+/// Keeps a fleet in real time, or on demand, which goes on from a chapter if one is given. Returns the status, as of
+/// `run_live`, or 3 where a file failed.
 pub(crate) fn hold_live<
     R: Files<File = File>
         + Alloc<A = Global>
@@ -70,13 +91,9 @@ pub(crate) fn hold_live<
     error: &mut E,
     sink: S,
 ) -> u8 {
-    let (map, script) = match texts_of(rt, live.map.as_str(), &live.script) {
-        Ok(texts) => texts,
-        Err(fault) => return complain(rt, fault, error),
-    };
-    let pipes = match pipes_of(rt, &live.pipes) {
-        Ok(pipes) => pipes,
-        Err(fault) => return fail(fault, error),
+    let (map, script, pipes) = match opened(rt, live, error) {
+        Ok(opened) => opened,
+        Err(status) => return status,
     };
     let ends = LiveEnds {
         input,
@@ -86,10 +103,5 @@ pub(crate) fn hold_live<
         figures,
         sink,
     };
-    let texts = TalkTexts {
-        map: &map,
-        script: &script,
-        kept: lent(kept),
-    };
-    run_live(rt, texts, live, ends, error)
+    run_live(rt, lent_texts(&map, &script, kept), live, ends, error)
 }

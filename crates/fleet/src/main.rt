@@ -1,7 +1,8 @@
-//! `fleet`: for the people around a fleet of robots. `fleet view MAP TRACE..` prints a page that replays traces on a map, with `--svg` a
-//! moving picture, with `--tick N` a picture of what stands after N ticks. `fleet check MAP PLAN` judges a plan of any planner. `fleet stats
-//! MAP TRACE..` prints figures of traces. `fleet talk MAP` answers lines as they come. `fleet convert --to FORM MAP INPUT` prints a trace as a
-//! plan, or a plan as a trace, and `fleet explain MAP [INPUT]` says what is wrong with files. `fleet live MAP` keeps a fleet in real time. What each word does is in
+//! `fleet`: for the people around a fleet of robots. `fleet view MAP TRACE..` prints a page that replays traces on a
+//! map, with `--svg` a moving picture, with `--tick N` a picture of what stands after N ticks. `fleet check MAP PLAN`
+//! judges a plan of any planner. `fleet stats MAP TRACE..` prints figures of traces. `fleet talk MAP` answers lines as
+//! they come. `fleet convert --to FORM MAP INPUT` prints a trace as a plan, or a plan as a trace, and `fleet explain
+//! MAP [INPUT]` says what is wrong with files. `fleet live MAP` keeps a fleet in real time. What each word does is in
 //! `fleet_lib`.
 #![tactic(auto)]
 

@@ -26,7 +26,8 @@ fn answer_files<'a, R: Files + Alloc<A = Global>>(
     }
 }
 
-/// Prints the figures. Returns the status: 0 good, 2 no such table, 3 a file failed, 4 the map or 6 a trace or a plan is refused, 7 memory ran out.
+/// Prints the figures. Returns the status: 0 good, 2 no such table, 3 a file failed, 4 the map or 6 a trace or a plan
+/// is refused, 7 memory ran out.
 pub(crate) fn run_stats<R: Files + Alloc<A = Global>, W: Write, E: Write>(
     rt: &R,
     stats: &Stats,

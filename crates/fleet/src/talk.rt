@@ -1,13 +1,11 @@
 //! The word `talk`.
 
-ghost use Rattle.std.specs.Prelude.{◌≤◌, vec_len, IfOk};
+ghost use Rattle.std.specs.Prelude.{◌≡◌, ◌≤◌, vec_len, IfOk};
 
 use crate::chapters::TraceFolder;
 use crate::ends::{FileFault, MOST_MAP_BYTES, complain, file_bytes};
 use crate::folder::{KeptFile, complain_of_folder, hold_folder};
-use fleet_lib::{
-    ChapterSink, Ends, InputFault, KeptText, Settings, Talk, TalkTexts, fail, run_talk,
-};
+use fleet_lib::{ChapterSink, Ends, InputFault, Settings, Talk, TalkTexts, fail, run_talk};
 use std::alloc::{Alloc, Global};
 use std::fs::{File, Files};
 use std::io::{BufReader, Read, Write};
@@ -44,16 +42,23 @@ pub(crate) fn texts_of<'a, R: Files + Alloc<A = Global>>(
     Ok((map, script))
 }
 
-/// The file of a chapter, lent, if there is one.
-pub(crate) fn lent(kept: &Option<KeptFile>) -> Option<KeptText<'_>> {
-    match kept {
+/// The texts of a conversation, lent, with the chapter that it goes on from, if there is one.
+pub(crate) fn lent_texts<'a>(
+    map: &'a [u8],
+    script: &'a [u8],
+    kept: &'a Option<KeptFile>,
+) -> TalkTexts<'a>
+    ensures { result.script.now ≡ script.now }
+{
+    let kept = match kept {
         Some(file) => Some(file.lent()),
         None => None,
-    }
+    };
+    TalkTexts { map, script, kept }
 }
 
-/// Holds a conversation, whose fleet goes on from a chapter if one is given. Returns the status, as of `run_talk`, or 3 where
-/// a file failed.
+/// Holds a conversation, whose fleet goes on from a chapter if one is given. Returns the status, as of `run_talk`, or 3
+/// where a file failed.
 fn hold_talk<
     R: Files + Alloc<A = Global>,
     I: Read + Drop,
@@ -87,15 +92,12 @@ fn hold_talk<
         marks: talk.marks,
         roll: talk.roll,
     };
-    let texts = TalkTexts {
-        map: &map,
-        script: &script,
-        kept: lent(kept),
-    };
+    let texts = lent_texts(&map, &script, kept);
     run_talk(rt, texts, settings, &mut ends, error)
 }
 
-/// Holds the conversation of these words, and keeps its chapters in the folder that they name, if they name one. Returns the status.
+/// Holds the conversation of these words, and keeps its chapters in the folder that they name, if they name one.
+/// Returns the status.
 pub(crate) fn talk_in_folder<
     R: Files<File = File> + Alloc<A = Global> + Clone + Drop,
     I: Read + Drop,

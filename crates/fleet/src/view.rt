@@ -19,7 +19,8 @@ fn answer_files<'a, R: Files + Alloc<A = Global>>(
     }
 }
 
-/// Shows the traces. Returns the status: 0 good, 3 a file failed, 4 the map or 6 a trace or a plan is refused, 7 memory ran out.
+/// Shows the traces. Returns the status: 0 good, 3 a file failed, 4 the map or 6 a trace or a plan is refused, 7 memory
+/// ran out.
 pub(crate) fn run_view<R: Files + Alloc<A = Global>, W: Write, E: Write>(
     rt: &R,
     view: &View,

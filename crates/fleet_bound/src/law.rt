@@ -23,8 +23,8 @@ ghost use Rattle.fleet_bound.specs.Idle.{idle_ticks, longest_after};
 ghost use Rattle.fleet_bound.specs.Onward.{onward, GoesOn};
 ghost use Rattle.fleet_bound.specs.Reach.{IsReach, reach};
 
-/// The reach of a map is 1, or the greatest distance of two of its cells. It is below the number of floor cells, where there
-/// are two or more.
+/// The reach of a map is 1, or the greatest distance of two of its cells. It is below the number of floor cells, where
+/// there are two or more.
 pub fn reach_is_greatest()
     ensures is { (m : Floor) → IsReach m (reach m) }
     ensures few { (m : Floor) → reach m ≤ max 1 (floor_count m - 1) }
@@ -50,8 +50,9 @@ pub fn entries_keep_bound<A>()
     ensures next { (m : Floor) (h : History A) → IsLegal m h → KeepsBound m h → KeepsBound m (start (next_opening h)) }
 {}
 
-/// Each wait of a legal history is below the bound, where each of its ticks is advancing and the waits at its opening leave room for
-/// the bound (`KeepsBound`). Its own waits leave that room too, and so do those of each history that goes on from it.
+/// Each wait of a legal history is below the bound, where each of its ticks is advancing and the waits at its opening
+/// leave room for the bound (`KeepsBound`). Its own waits leave that room too, and so do those of each history that
+/// goes on from it.
 pub fn waits_are_bounded<A>()
     ensures bounded { (m : Floor) (h : History A) → IsLegal m h → EachTick (IsAdvancingTick m) h →
         KeepsBound m (start h.opening) → WaitsAreBounded m h }
@@ -62,8 +63,8 @@ pub fn waits_are_bounded<A>()
     ensures below { (m : Floor) (h : History A) → IsLegal m h → KeepsBound m h → WaitsAreBounded m h }
 {}
 
-/// Each errand arrives, or is withdrawn, within the bound's ticks times its place in the queue, counted from 1, whatever the
-/// waits were.
+/// Each errand arrives, or is withdrawn, within the bound's ticks times its place in the queue, counted from 1,
+/// whatever the waits were.
 pub fn errands_arrive<A>()
     ensures { (m : Floor) (h : History A) → ErrandsArrive m h }
 {}

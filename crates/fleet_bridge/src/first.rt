@@ -35,7 +35,8 @@ fn is_outside<A: Allocator + Copy>(tree: &Tree<A>, cell: u32, outer: u32) -> boo
     number >= read(&tree.end, cell)
 }
 
-/// Whether the edge from `inner`, of the subtree of `cell`, in a direction leaves that subtree, and is not the one to the parent.
+/// Whether the edge from `inner`, of the subtree of `cell`, in a direction leaves that subtree, and is not the one to
+/// the parent.
 #[tactic(auto, using(crate::proofs::Rounds::crossed_at))]
 fn leaves<A: Allocator + Copy, B: Allocator + Copy>(
     sides: &Sides<'_, B>,
@@ -210,8 +211,8 @@ fn first_by_tree<A: Allocator + Copy, B: Allocator + Copy>(
     first_by_sides(alloc, &Sides::new(grid))
 }
 
-/// The bridge of least lower cell, then least upper cell. Edges next to squares of floor, or on short rounds, are passed over;
-/// a search tries the first of the others; only where that is no bridge either a tree is grown.
+/// The bridge of least lower cell, then least upper cell. Edges next to squares of floor, or on short rounds, are
+/// passed over; a search tries the first of the others; only where that is no bridge either a tree is grown.
 #[tactic(auto, using(crate::proofs::Rounds::first_is))]
 pub fn first_bridge<A: Allocator + Copy, B: Allocator + Copy>(
     alloc: A,

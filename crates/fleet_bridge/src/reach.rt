@@ -63,8 +63,8 @@ fn hand_up<A: Allocator + Copy>(
     }
 }
 
-/// Hands the furthest reach of each subtree up to the parent: children come after their parents in the order, so this goes
-/// backward.
+/// Hands the furthest reach of each subtree up to the parent: children come after their parents in the order, so this
+/// goes backward.
 fn hand_all_up<A: Allocator + Copy>(
     growth: &Growth<A>,
     far: &mut Vec<u32, A>,

@@ -15,8 +15,9 @@ use crate::sides::Sides;
 use fleet_grid::Dir;
 use std::alloc::{AllocError, Allocator, Global};
 
-/// For each cell: its parent (itself, where it has none), the first cell of its part, its number in preorder, the number
-/// after those of its subtree, and the cell of its subtree from which an edge off the tree reaches the least number.
+/// For each cell: its parent (itself, where it has none), the first cell of its part, its number in preorder, the
+/// number after those of its subtree, and the cell of its subtree from which an edge off the tree reaches the least
+/// number.
 #[derive(Drop)]
 pub(crate) struct Tree<A: Allocator + Copy = Global> {
     pub(crate) up: Vec<u32, A>,

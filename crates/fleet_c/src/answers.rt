@@ -5,7 +5,7 @@ ghost use Rattle.fleet_core.specs.Core.{Shuts, Ticks, HasNoEntries};
 ghost use Rattle.fleet_history.specs.History.{clock, robots, is_shut};
 
 use fleet_core::{Core, RobotHooks, ShutFault, TickFault, TickReport};
-use fleet_hooks::{ArrivalHook, Farewell, TieHook};
+use fleet_hooks::{Farewell, TieHook};
 use std::alloc::{Alloc, Global};
 
 /// A runtime that has only the allocator.
@@ -20,15 +20,6 @@ impl Alloc for Heap {
     }
 }
 
-/// Empty lists of answers.
-fn no_answers(alloc: Global) -> RobotHooks {
-    RobotHooks {
-        ties: Vec::new(alloc),
-        arrivals: Vec::new(alloc),
-        farewells: Vec::new(alloc),
-    }
-}
-
 /// Makes a tick, with the ranks that the core's tie laws give.
 pub(crate) fn ticked(alloc: Global, core: &mut Core) -> Result<TickReport, TickFault>
     ensures clock_spent { (result ≡ Err TickFault.ClockSpent) ↔ (clock core.old.history ≡ core.old.limits.clock) }
@@ -36,19 +27,10 @@ pub(crate) fn ticked(alloc: Global, core: &mut Core) -> Result<TickReport, TickF
     ensures ok { IfOk result (λ report. Ticks core.old report core.new) }
     ensures err { OnErr result (core.new ≡ core.old) }
 {
-    // Where memory is refused answers are missing, and the core refuses the tick.
-    let mut robots = no_answers(alloc);
-    let laws = core.tie_laws();
-    let _ = robots
-        .ties
-        .extend(laws.iter().map(|law| TieHook::fixed(law.low)));
-    let _ = robots
-        .arrivals
-        .extend(laws.iter().map(|_| ArrivalHook::fixed(0)));
-    let _ = robots
-        .farewells
-        .extend(laws.iter().map(|_| Some(Farewell::fixed(0))));
-    core.tick_by(&Heap(alloc), &mut robots)
+    // Where memory is refused ranks are missing, and the core refuses the tick.
+    let mut ties = Vec::new(alloc);
+    let _ = ties.extend(core.tie_laws().iter().map(|law| TieHook::fixed(law.low)));
+    core.tick_by_ties(&Heap(alloc), ties.as_slice())
 }
 
 /// A shut.
@@ -61,10 +43,13 @@ pub(crate) fn shut(alloc: Global, core: &mut Core, robot: u32) -> Result<Option<
     ensures err { OnErr result (core.new ≡ core.old) }
 {
     // Where memory is refused answers are missing, and the core refuses the shut.
-    let mut robots = no_answers(alloc);
-    let laws = core.tie_laws();
+    let mut robots = RobotHooks {
+        ties: Vec::new(alloc),
+        arrivals: Vec::new(alloc),
+        farewells: Vec::new(alloc),
+    };
     let _ = robots
         .farewells
-        .extend(laws.iter().map(|_| Some(Farewell::fixed(0))));
+        .extend(core.tie_laws().iter().map(|_| Some(Farewell::fixed(0))));
     core.shut_by(&mut robots, robot)
 }

@@ -69,8 +69,8 @@ fn hand_out_to(alloc: Global, core: &mut Core, chapter: &mut ChapterHandle) -> u
     hand_out(alloc, core, chapter)
 }
 
-/// Begins the next chapter, whose opening is the current state, and hands out the present one: it opens a closed handle to
-/// it. The fleet may go on while the chapter's text is written.
+/// Begins the next chapter, whose opening is the current state, and hands out the present one: it opens a closed handle
+/// to it. The fleet may go on while the chapter's text is written.
 ///
 /// Refused in this order: the fleet's handle is closed, the chapter's is open, this is the last of the chapters, out of
 /// memory.

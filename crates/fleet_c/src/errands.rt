@@ -172,8 +172,8 @@ fn list_queue(
     tell_queue(all.as_slice(), core, robot, errands, count)
 }
 
-/// A client's errands that are accepted, and neither done nor withdrawn: by robot, and by place in its queue. `count` is
-/// how many these are. Where the list is shorter only `count` is told; the places after them stay as they were.
+/// A client's errands that are accepted, and neither done nor withdrawn: by robot, and by place in its queue. `count`
+/// is how many these are. Where the list is shorter only `count` is told; the places after them stay as they were.
 ///
 /// Refused in this order: the handle is closed, there is no such client, out of memory, the list is shorter than the
 /// client has open errands.
@@ -197,8 +197,8 @@ pub extern "C" fn nashirudder_open_errands(
     code
 }
 
-/// A robot's errands, in the order of its queue. `count` is how many these are. Where the list is shorter only `count` is
-/// told; the places after them stay as they were.
+/// A robot's errands, in the order of its queue. `count` is how many these are. Where the list is shorter only `count`
+/// is told; the places after them stay as they were.
 ///
 /// Refused in this order: the handle is closed, there is no such robot, out of memory, the list is shorter than the
 /// queue.

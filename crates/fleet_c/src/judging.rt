@@ -57,8 +57,8 @@ fn judged(alloc: Global, grid: &Grid, text: &[u8], fault: &mut Fault) -> u32
 
 /// Whether a text tells a chapter that is legal on the map.
 ///
-/// Refused in this order, and told in `fault`: the map's first fault; a text that is no trace; the first entry that breaks
-/// a rule, and the first rule that it breaks; and out of memory at any time.
+/// Refused in this order, and told in `fault`: the map's first fault; a text that is no trace; the first entry that
+/// breaks a rule, and the first rule that it breaks; and out of memory at any time.
 #[unsafe(no_mangle)]
 pub extern "C" fn nashirudder_judge(
     alloc: Global,

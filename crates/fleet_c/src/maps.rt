@@ -123,8 +123,9 @@ pub(crate) fn distances_on(alloc: Global, grid: &Grid, goal: u32, distances: &mu
 
 /// Whether a step is free of conflicts, or its first fault.
 ///
-/// Refused in this order, and told in `fault`: the map's first fault; more cells before the step than the map has; a robot
-/// that is not on floor before the step, two that are on one cell; the step's first fault; and out of memory at any time.
+/// Refused in this order, and told in `fault`: the map's first fault; more cells before the step than the map has; a
+/// robot that is not on floor before the step, two that are on one cell; the step's first fault; and out of memory at
+/// any time.
 #[unsafe(no_mangle)]
 pub extern "C" fn nashirudder_check_step(
     alloc: Global,

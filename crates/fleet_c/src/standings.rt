@@ -140,8 +140,8 @@ fn list_standings(alloc: Global, core: &Core, standings: &mut [Standing]) -> u32
     DONE
 }
 
-/// How each robot stands, by number: its cell, its goal, how many errands it has, how long it has waited, and whether it
-/// is free, busy or shut.
+/// How each robot stands, by number: its cell, its goal, how many errands it has, how long it has waited, and whether
+/// it is free, busy or shut.
 ///
 /// Refused in this order: the handle is closed, the list's length is not the number of robots, out of memory.
 #[unsafe(no_mangle)]

@@ -38,8 +38,8 @@ impl<A: Allocator + Copy> StepChecker<A> {
         StepChecker { alloc, slots }
     }
 
-    /// Whether a step is free of conflicts, as `check_step` says it. Only a step that is not asks for memory, or one for
-    /// which the table is too small.
+    /// Whether a step is free of conflicts, as `check_step` says it. Only a step that is not asks for memory, or one
+    /// for which the table is too small.
     pub fn check<B: Allocator + Copy>(
         &mut self,
         grid: &Grid<B>,
@@ -59,8 +59,8 @@ impl<A: Allocator + Copy> StepChecker<A> {
     }
 }
 
-/// Whether a step is free of conflicts (Stern et al., SoCS 2019): each robot stays or crosses an edge, no two come to one
-/// cell, and no two exchange their cells. Item r of `from` and of `to` is the cell of robot r before and after.
+/// Whether a step is free of conflicts (Stern et al., SoCS 2019): each robot stays or crosses an edge, no two come to
+/// one cell, and no two exchange their cells. Item r of `from` and of `to` is the cell of robot r before and after.
 ///
 /// Otherwise it returns the first fault, in the order of `StepFault`. It is `NoMemory` if memory for the search for a
 /// conflict runs out; then `to` has a cell for each robot, and each robot stays or crosses an edge.

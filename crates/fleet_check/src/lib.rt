@@ -10,4 +10,5 @@ mod slots;
 
 pub use checker::{StepChecker, check_step};
 pub use fault::StepFault;
+pub use free::crosses;
 pub use placement::check_placement;

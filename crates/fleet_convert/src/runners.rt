@@ -81,8 +81,8 @@ fn write_paths(out: &mut String, width: u32, places: &Placements) -> Result<(), 
 }
 
 /// The text of a plan on a map of this width, as the JSON of the League of Robot Runners, in the action model MAPF:
-/// `start` has each robot's row, column and direction E, and `actualPaths` its steps, as letters U, D, L, R, W separated by commas.
-/// The only error is out of memory.
+/// `start` has each robot's row, column and direction E, and `actualPaths` its steps, as letters U, D, L, R, W
+/// separated by commas. The only error is out of memory.
 pub fn runners_plan(alloc: Global, width: u32, places: &Placements) -> Result<String, AllocError>
     requires { 1 ≤ width }
     ensures { IfOk result (λ text. string_bytes text ≡ runners_plan width places.now) }

@@ -10,7 +10,7 @@ use fleet_grid::Grid;
 use fleet_history::{Chapter, ClientState, Entry, Opening, RobotState, Row};
 use fleet_hooks::StampLaw;
 use fleet_map::{MapFault, MapText, read_map};
-use fleet_plans::{Placements, PlanAnswer, study_texts};
+use fleet_plans::{MOST_PLAN_BYTES, Placements, PlanAnswer, study_texts};
 use fleet_trace::{JudgeFault, judge, write_trace};
 use std::alloc::{AllocError, Global};
 
@@ -19,8 +19,8 @@ use std::alloc::{AllocError, Global};
 pub enum TracingFault {
     /// There is no valid plan. This is what `check_texts` answers.
     NoPlan(PlanAnswer),
-    /// The plan is valid, and its trace is not legal, since it has no robot or more than 512. Entry `at`, counted from 1,
-    /// is the first that breaks a rule, and `rule` is the first rule that it breaks; at 0 it is the opening.
+    /// The plan is valid, and its trace is not legal, since it has no robot or more than 512. Entry `at`, counted from
+    /// 1, is the first that breaks a rule, and `rule` is the first rule that it breaks; at 0 it is the opening.
     Illegal { at: u64, rule: u8 },
     /// Memory ran out.
     NoMemory,
@@ -161,7 +161,7 @@ fn trace_from(
 ) -> Result<String, TracingFault>
     requires sides { HasSides (view floor) }
     requires read { map_of bytes.now ≡ Ok (view floor) }
-    requires short { length plan.now ≤ 16777216 }
+    requires short { length plan.now ≤ MOST_PLAN_BYTES }
     ensures trace { IfOk result (λ text. IsTraced bytes.now plan.now (string_bytes text)) }
     ensures fault { IfErr result (λ fault. IsUntraced bytes.now plan.now fault) }
 {
@@ -183,11 +183,11 @@ fn map_fault(fault: MapFault) -> Result<MapFault, AllocError>
     }
 }
 
-/// The text of a plan on a map, as a trace: the robots stand on their first cells, and make a tick for each step of the plan.
-/// There is one client, which sends nothing, and no robot has an errand. A fault is that there is no valid plan, or that the
-/// trace would not be legal.
+/// The text of a plan on a map, as a trace: the robots stand on their first cells, and make a tick for each step of the
+/// plan. There is one client, which sends nothing, and no robot has an errand. A fault is that there is no valid plan,
+/// or that the trace would not be legal.
 pub fn trace_of_plan(alloc: Global, bytes: &[u8], plan: &[u8]) -> Result<String, TracingFault>
-    requires { length plan.now ≤ 16777216 }
+    requires { length plan.now ≤ MOST_PLAN_BYTES }
     ensures trace { IfOk result (λ text. IsTraced bytes.now plan.now (string_bytes text)) }
     ensures fault { IfErr result (λ fault. IsUntraced bytes.now plan.now fault) }
 {

@@ -1,6 +1,7 @@
 pub mod Farewells
 pub mod Deliveries
 pub mod StampLists
+pub mod OwnLaws
 pub mod CoreKept
 pub mod EntriesKept
 pub mod OpeningFacts

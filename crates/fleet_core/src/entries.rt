@@ -7,10 +7,12 @@ ghost use Rattle.fleet_history.specs.History.{clients, robots, clock, is_shut};
 ghost use Rattle.fleet_planner.specs.Aimed.{MayBegin, begun, begun_goals};
 ghost use Rattle.fleet_core.specs.Hooks.{AreArrivals, AreFarewells, spare_laws};
 ghost use Rattle.fleet_core.specs.Core.{Takes, Ticks, Shuts, HasRoom, HasNoRoom, HasEntries, HasNoEntries};
+ghost use Rattle.fleet_core.specs.Calls.{AnswersTick};
 ghost use Rattle.fleet_core.specs.inside.Ready.{IsOnSame};
 
 use crate::faults::{ShutFault, TakeFault, TickFault, TickReport};
 use crate::kernel::Core;
+use crate::robot_hooks::are_ties;
 use crate::stamps::last_word_if;
 use crate::tick_draft::{TickDraft, ready};
 use fleet_book::{Order, Verdict};
@@ -139,6 +141,36 @@ impl<A: Allocator + Copy> Core<A> {
         let entries = &mut self.chapter.entries;
         let mut step = ready(rt.alloc(), &self.grid, &self.state, planner, ties, entries)?;
         let report = step.stamp(arrivals, farewells, self.state.clock() + 1);
+        self.mailboxes.deliver(&step.arrived, &step.to, report.tick);
+        self.state.enter_tick(&step.to);
+        add(&mut self.chapter.entries, tick_entry(step));
+        Ok(report)
+    }
+
+    /// Moves all robots by one step, as a world does, with tie hooks next to the core. Arrivals and farewells get the
+    /// least stamps that the robots' laws allow, so they need no hooks. The clause says that stamps are within the laws,
+    /// and not which they are: it is exact where a law allows one stamp.
+    pub fn tick_by_ties<R: Alloc<A = A>>(
+        &mut self,
+        rt: &R,
+        ties: &[TieHook],
+    ) -> Result<TickReport, TickFault>
+        ensures { AnswersTick self.old result self.new }
+    {
+        if !are_ties(ties, self.tie_laws()) {
+            return self.no_tick();
+        }
+        if self.is_spent() {
+            return Err(TickFault::ClockSpent);
+        }
+        if self.is_full() {
+            return Err(TickFault::ChapterFull);
+        }
+        let planner = &mut self.planner;
+        let entries = &mut self.chapter.entries;
+        let mut step = ready(rt.alloc(), &self.grid, &self.state, planner, ties, entries)?;
+        let robots = self.chapter.opening.robots.as_slice();
+        let report = step.stamp_least(robots, self.state.clock() + 1);
         self.mailboxes.deliver(&step.arrived, &step.to, report.tick);
         self.state.enter_tick(&step.to);
         add(&mut self.chapter.entries, tick_entry(step));

@@ -270,9 +270,9 @@ impl<A: Allocator + Copy> Core<A> {
 }
 
 impl<A: Allocator + Copy + Send + Sync> Core<A> {
-    /// Searches, in parallel, the fields of the robots' next errands to cells that were robots' goals lately and are none now, and
-    /// keeps as many as fit. Fields of other goals grow when they are needed. This changes only the time and the memory that a
-    /// take or a tick needs.
+    /// Searches, in parallel, the fields of the robots' next errands to cells that were robots' goals lately and are
+    /// none now, and keeps as many as fit. Fields of other goals grow when they are needed. This changes only the time
+    /// and the memory that a take or a tick needs.
     pub fn search_ahead(&mut self, rt: &(impl Threads + Sync)) -> Result<(), AllocError>
         ensures { self.new ≡ self.old }
     {

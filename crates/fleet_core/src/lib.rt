@@ -1,5 +1,5 @@
-//! The world of a fleet, call by call: one history of takes, ticks and shuts, with the robots' closures (`World`). A `Core` is
-//! a world without its closures: map, limits, history and mailboxes.
+//! The world of a fleet, call by call: one history of takes, ticks and shuts, with the robots' closures (`World`). A
+//! `Core` is a world without its closures: map, limits, history and mailboxes.
 #![tactic(auto)]
 
 mod ahead;
@@ -9,6 +9,7 @@ mod faults;
 mod gifts;
 mod hook_laws;
 mod kernel;
+mod least_stamps;
 mod longest;
 mod mailbox;
 mod open_errands;

@@ -23,8 +23,8 @@ impl<A: Allocator + Copy> Core<A> {
         self.wait_of(self.eldest()?)
     }
 
-    /// A number of ticks that no wait reaches, whatever is posted: (number of robots) times (the most edges that a walk can
-    /// have, at least 1). `None` on a map with a bridge.
+    /// A number of ticks that no wait reaches, whatever is posted: (number of robots) times (the most edges that a walk
+    /// can have, at least 1). `None` on a map with a bridge.
     pub fn wait_limit(&self) -> Option<u64>
         ensures told { IsSome result ↔ IsBridgeless (IsNeighbour self.now.floor) }
         ensures exact { IfSome result (λ most. most ≡ wait_limit (robots self.now.history) (floor_count self.now.floor)) }

@@ -139,7 +139,8 @@ fn noticed_of<A: Allocator + Copy>(
     clients.iter().map(|client| client.noticed).collect(alloc)
 }
 
-/// The clients' mailboxes, by number, and how many notices were made for each client. Only `open`, `resume` and `widen` allocate.
+/// The clients' mailboxes, by number, and how many notices were made for each client. Only `open`, `resume` and `widen`
+/// allocate.
 #[derive(Drop)]
 pub(crate) struct Mailboxes<A: Allocator + Copy> {
     boxes: Vec<Mailbox<A>, A>,
@@ -168,8 +169,8 @@ impl<A: Allocator + Copy> Mailboxes<A> {
         Ok(Mailboxes { boxes, noticed })
     }
 
-    /// Mailboxes without notices of these clients, of whom this is the state: each has room for this many notices and for
-    /// what its client is owed, and goes on with its client's numbers.
+    /// Mailboxes without notices of these clients, of whom this is the state: each has room for this many notices and
+    /// for what its client is owed, and goes on with its client's numbers.
     pub(crate) fn resume(
         alloc: A,
         clients: &[ClientState],

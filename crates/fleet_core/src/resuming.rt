@@ -45,8 +45,8 @@ pub(crate) fn resumed_at<A: Allocator + Copy>(
 }
 
 impl<A: Allocator + Copy> Core<A> {
-    /// The core that goes on with the chapter of this number, from its opening and with the laws of its closures. Its mailboxes
-    /// are empty.
+    /// The core that goes on with the chapter of this number, from its opening and with the laws of its closures. Its
+    /// mailboxes are empty.
     pub fn resume(
         alloc: A,
         grid: Grid<A>,

@@ -76,8 +76,8 @@ fn is_tie_law(a: TieLaw, b: TieLaw) -> bool
     are_same(a.low, b.low) && are_same(a.high, b.high)
 }
 
-/// Whether these are the same ranks. They are compared as one word, since `==` of arrays is a search of slices, which takes
-/// 130 instructions.
+/// Whether these are the same ranks. They are compared as one word, since `==` of arrays is a search of slices, which
+/// takes 130 instructions.
 fn are_same(a: [u8; 4], b: [u8; 4]) -> bool
     ensures { result ≡ true → a ≡ b }
 {
@@ -91,7 +91,7 @@ fn is_stamp_law(a: StampLaw, b: StampLaw) -> bool
 }
 
 /// Whether the closures have these laws, one by one.
-fn are_ties(ties: &[TieHook], laws: &[TieLaw]) -> bool
+pub(crate) fn are_ties(ties: &[TieHook], laws: &[TieLaw]) -> bool
     ensures { result ≡ true → map (λ h. h.law) ties.now ≡ laws.now }
 {
     if ties.len() != laws.len() {
@@ -220,7 +220,7 @@ impl<A: Allocator + Copy> Core<A> {
     }
 
     /// Why no tick is made.
-    fn no_tick(&self) -> Result<TickReport, TickFault>
+    pub(crate) fn no_tick(&self) -> Result<TickReport, TickFault>
         ensures { AnswersTick self.now result self.now }
     {
         if self.is_spent() {

@@ -6,12 +6,13 @@ ghost use Rattle.fleet_state.specs.State.{robot_count};
 ghost use Rattle.fleet_planner.specs.Aimed.{MayPlan};
 ghost use Rattle.fleet_core.specs.Hooks.{spare_laws, without_all};
 ghost use Rattle.fleet_core.specs.inside.Ready.{IsStep, IsReady, IsOnSame};
-ghost use Rattle.fleet_core.specs.inside.Stamped.{MayStamp, AreStamped};
+ghost use Rattle.fleet_core.specs.inside.Stamped.{MayStamp, AreStamped, HaveStamps, own_laws};
 
 use crate::faults::TickReport;
+use crate::least_stamps;
 use crate::stamps::{arrive, take_leave};
 use fleet_grid::Grid;
-use fleet_history::{Arrival, Bye, Entry};
+use fleet_history::{Arrival, Bye, Entry, RobotState};
 use fleet_hooks::{ArrivalHook, Farewell, TieHook};
 use fleet_planner::Planner;
 use fleet_state::{FleetState, Landings};
@@ -43,6 +44,19 @@ impl<A: Allocator + Copy> TickDraft<A> {
     {
         arrive(&mut self.arrived, arrivals, &self.to, tick);
         take_leave(&mut self.leaving, farewells, &self.to, tick);
+        TickReport::of(tick, self.arrived.len(), self.leaving.len())
+    }
+
+    /// Writes the least stamps that the robots' laws allow.
+    pub(crate) fn stamp_least(&mut self, robots: &[RobotState<A>], tick: u64) -> TickReport
+        requires may { MayStamp (length robots.now) (length robots.now) (own_laws robots.now) self.old.to.items self.old.arrived.items self.old.leaving.items }
+        requires orderly { HaveStamps robots.now }
+        ensures to { self.new.to.items ≡ self.old.to.items }
+        ensures stamped { AreStamped (map (λ x. x.arrival_law) robots.now) (own_laws robots.now) self.old.arrived.items self.new.arrived.items self.old.leaving.items self.new.leaving.items }
+        ensures report { result ≡ record { tick = tick; arrived = length self.new.arrived.items; farewells = length self.new.leaving.items } }
+    {
+        least_stamps::arrive(&mut self.arrived, robots);
+        least_stamps::take_leave(&mut self.leaving, robots);
         TickReport::of(tick, self.arrived.len(), self.leaving.len())
     }
 }
@@ -90,8 +104,8 @@ fn make_ready<A: Allocator + Copy>(
     planner.turn(grid, state, to)
 }
 
-/// Plans the next tick, and does all of it that allocates: on return its entry has room in the list, and the robots aim at the
-/// goals that they have after it.
+/// Plans the next tick, and does all of it that allocates: on return its entry has room in the list, and the robots aim
+/// at the goals that they have after it.
 pub(crate) fn ready<A: Allocator + Copy>(
     alloc: A,
     grid: &Grid<A>,

@@ -39,8 +39,8 @@ pub struct World<A: Allocator + Copy = Global> {
 }
 
 impl<A: Allocator + Copy> World<A> {
-    /// Opens a world of `starts.len()` robots, robot r on the cell `starts[r]`, and of this many clients. The closures are
-    /// the robots', by number.
+    /// Opens a world of `starts.len()` robots, robot r on the cell `starts[r]`, and of this many clients. The closures
+    /// are the robots', by number.
     ///
     /// Refused in this order: the limits or the number of clients (1 to 64) out of range, the number of robots (1 to
     /// 512) out of range, a robot that is not on floor, two robots on one cell, a list of closures that does not have
@@ -84,8 +84,8 @@ impl<A: Allocator + Copy> World<A> {
         Ok(World { core, robots })
     }
 
-    /// The world that goes on with the chapter of this number, from its opening and with its robots' closures. Its mailboxes are
-    /// empty.
+    /// The world that goes on with the chapter of this number, from its opening and with its robots' closures. Its
+    /// mailboxes are empty.
     pub fn resume(
         alloc: A,
         grid: Grid<A>,

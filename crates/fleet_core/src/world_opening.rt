@@ -65,9 +65,9 @@ fn are_enough<A: Allocator + Copy>(hooks: &Hooks<A>, robots: usize) -> bool
     hooks.ties.len() == robots && hooks.arrivals.len() == robots && hooks.farewells.len() == robots
 }
 
-/// Why a world with these starts, clients and limits is not opened, whatever its hooks; out of memory apart. The reasons, in order: a
-/// limit or the number of clients is out of its range, there are not 1 to 512 robots, the first robot that does not start on floor,
-/// the least two robots that start on one cell.
+/// Why a world with these starts, clients and limits is not opened, whatever its hooks; out of memory apart. The
+/// reasons, in order: a limit or the number of clients is out of its range, there are not 1 to 512 robots, the first
+/// robot that does not start on floor, the least two robots that start on one cell.
 pub fn start_fault<A: Allocator + Copy>(
     grid: &Grid<A>,
     starts: &[u32],

@@ -10,3 +10,4 @@ mod Arrivals
 mod Places
 mod Planned
 mod Shuts
+mod HeadSaid

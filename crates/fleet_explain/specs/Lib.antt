@@ -11,3 +11,5 @@ pub mod Plans
 pub mod PlanSentences
 pub mod Sentences
 pub mod Places
+pub mod Heads
+pub mod HeadSentences

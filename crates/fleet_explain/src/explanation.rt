@@ -37,8 +37,8 @@ pub enum Explanation {
         line: u32,
         fault: LineFault,
     },
-    /// Nothing is wrong for a run, but a serve does not take this line of the script, from 1: it is no post or collect of one of this
-    /// many clients.
+    /// Nothing is wrong for a run, but a serve does not take this line of the script, from 1: it is no post or collect
+    /// of one of this many clients.
     Unserved {
         line: u32,
         clients: u32,
@@ -125,7 +125,8 @@ fn start_explanation(
 }
 
 /// What is wrong with a map or with a script on it: first whether the map can be read, then the script, then whether
-/// its fleet can be opened on the map, then whether a serve takes its lines. The events are not run. The only error is out of memory.
+/// its fleet can be opened on the map, then whether a serve takes its lines. The events are not run. The only error is
+/// out of memory.
 pub fn explain_script(alloc: Global, map: &[u8], script: &[u8]) -> Result<Explanation, AllocError>
     requires { length script.now ≤ 16777216 }
     ensures { IfOk result (λ e. IsScriptExplained map.now script.now e) }

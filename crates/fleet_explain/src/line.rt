@@ -26,7 +26,7 @@ pub enum LineFault {
 }
 
 /// The lines of a text.
-fn lines_of(alloc: Global, text: &[u8]) -> Result<Vec<&[u8]>, AllocError>
+pub(crate) fn lines_of(alloc: Global, text: &[u8]) -> Result<Vec<&[u8]>, AllocError>
     ensures { IfOk result (λ lines. texts lines.items ≡ lines_of text.now) }
 {
     let mut lines = Vec::new(alloc);
@@ -111,7 +111,7 @@ fn line_fault(before: &[&[u8]], line: &[u8]) -> LineFault
 }
 
 /// The line in this place, from 0; no bytes where there is none.
-fn line_at<'a>(lines: &[&'a [u8]], place: usize) -> &'a [u8]
+pub(crate) fn line_at<'a>(lines: &[&'a [u8]], place: usize) -> &'a [u8]
     ensures { result.now ≡ slice_index_or (texts lines.now) place [] }
 {
     match lines.get(place) {
@@ -121,7 +121,7 @@ fn line_at<'a>(lines: &[&'a [u8]], place: usize) -> &'a [u8]
 }
 
 /// What is wrong with the line of this number, from 1, among these.
-fn fault_among(lines: &[&[u8]], number: u32) -> LineFault
+pub(crate) fn fault_among(lines: &[&[u8]], number: u32) -> LineFault
     ensures { result ≡ fault_at (texts lines.now) number }
 {
     let number = number as usize;
@@ -143,8 +143,8 @@ fn letter_among(lines: &[&[u8]], row: u32, column: u32) -> u8
     if column < line.len() { line[column] } else { 0 }
 }
 
-/// What is wrong with the line of this number, from 1, in a script that `read_script` refuses at it. The only error is out of
-/// memory.
+/// What is wrong with the line of this number, from 1, in a script that `read_script` refuses at it. The only error is
+/// out of memory.
 pub(crate) fn fault_at(alloc: Global, script: &[u8], number: u32) -> Result<LineFault, AllocError>
     ensures { IfOk result (λ fault. fault ≡ fault_at (lines_of script.now) number) }
 {
@@ -152,8 +152,8 @@ pub(crate) fn fault_at(alloc: Global, script: &[u8], number: u32) -> Result<Line
     Ok(fault_among(&lines, number))
 }
 
-/// The byte in a row and column of a map, whose rows begin with its fifth line; 0 where there is none. The only error is out of
-/// memory.
+/// The byte in a row and column of a map, whose rows begin with its fifth line; 0 where there is none. The only error
+/// is out of memory.
 pub(crate) fn letter_at(alloc: Global, map: &[u8], row: u32, column: u32) -> Result<u8, AllocError>
     ensures { IfOk result (λ letter. letter ≡ letter_in (lines_of map.now) row column) }
 {

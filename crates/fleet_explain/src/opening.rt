@@ -47,7 +47,8 @@ fn off_floor(cells: u32, robot: u32, cell: u32) -> StartFault
     }
 }
 
-/// Why a fleet with these starts, clients and limits cannot begin on the grid, whatever its closures, one for each robot.
+/// Why a fleet with these starts, clients and limits cannot begin on the grid, whatever its closures, one for each
+/// robot.
 pub(crate) fn start_fault(
     grid: &Grid,
     starts: &[u32],

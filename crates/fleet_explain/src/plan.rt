@@ -8,8 +8,8 @@ use crate::explanation::{Explanation, map_explanation};
 use fleet_check::StepFault;
 use fleet_map::read_map;
 use fleet_plans::{
-    GoalFault, HeadFault, Placements, PlanAnswer, PlanFault, RunnersFault, TextForm, form_of,
-    study_texts,
+    GoalFault, HeadFault, MOST_PLAN_BYTES, Placements, PlanAnswer, PlanFault, RunnersFault,
+    TextForm, form_of, study_texts,
 };
 use std::alloc::{AllocError, Global};
 
@@ -102,10 +102,10 @@ fn explained(form: TextForm, width: u32, places: &Placements, answer: PlanAnswer
     }
 }
 
-/// What is wrong with a map or with a plan on it: first whether the map can be read, then the plan's text, then the first
-/// placement at fault, then what the head says. The only error is out of memory.
+/// What is wrong with a map or with a plan on it: first whether the map can be read, then the plan's text, then the
+/// first placement at fault, then what the head says. The only error is out of memory.
 pub fn explain_plan(alloc: Global, map: &[u8], text: &[u8]) -> Result<PlanExplanation, AllocError>
-    requires { length text.now ≤ 16777216 }
+    requires { length text.now ≤ MOST_PLAN_BYTES }
     ensures { IfOk result (λ e. IsPlanExplained map.now text.now e) }
 {
     let _floor = match read_map(alloc, map) {

@@ -12,8 +12,8 @@ use std::alloc::{AllocError, Allocator};
 /// The label of a place that is shut.
 const SHUT: u8 = 64;
 
-/// Writes the labels of this many cells, from the cell `first` on, to the entries from `start` on: those with ways are not
-/// reached, the others are shut.
+/// Writes the labels of this many cells, from the cell `first` on, to the entries from `start` on: those with ways are
+/// not reached, the others are shut.
 fn lay_row(labels: &mut [u8], ways: &[u8], start: usize, first: usize, width: usize)
     requires inside { first + width ≤ length ways.now }
     requires room { start + width ≤ length labels.old }
@@ -131,8 +131,8 @@ fn point_rows(
     }
 }
 
-/// The bytes of the cells after a search that left these labels, in the memory of a list that is no longer needed: the high half
-/// of a cell's byte has its exits, and the low half the ways that lead nearer.
+/// The bytes of the cells after a search that left these labels, in the memory of a list that is no longer needed: the
+/// high half of a cell's byte has its exits, and the low half the ways that lead nearer.
 pub(crate) fn pointed<A: Allocator + Copy>(
     spare: Vec<u8, A>,
     labels: &[u8],

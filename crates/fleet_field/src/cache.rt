@@ -120,7 +120,8 @@ impl<A: Allocator + Copy> FieldCache<A> {
         self.kept.reserve(left.min(more))
     }
 
-    /// Takes out the field unused longest, if there is no place for another one: it would be dropped for the next that comes back.
+    /// Takes out the field unused longest, if there is no place for another one: it would be dropped for the next that
+    /// comes back.
     fn spare(&mut self, cells: usize) -> Option<Compass<A>>
         ensures { All (Contains self.old.kept) self.new.kept }
     {

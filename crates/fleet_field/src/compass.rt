@@ -15,8 +15,8 @@ use fleet_grid::{Dir, Grid, Outlook, Ways};
 use std::alloc::{AllocError, Allocator, Global};
 use std::marker::Model;
 
-/// The ways of a map's cells that lead nearer to a goal, in the low halves of their bytes, and the ways to floor neighbours in
-/// the high halves. Contracts see the goal, and the distances and exits cell by cell.
+/// The ways of a map's cells that lead nearer to a goal, in the low halves of their bytes, and the ways to floor
+/// neighbours in the high halves. Contracts see the goal, and the distances and exits cell by cell.
 #[derive(Drop)]
 pub struct Compass<A: Allocator + Copy = Global> {
     height: u32,
@@ -166,7 +166,8 @@ impl<A: Allocator + Copy> Compass<A> {
         }
     }
 
-    /// The ways from a cell of a map that is not this one's. Kept out of the calls that ask it, which no world lets come here.
+    /// The ways from a cell of a map that is not this one's. Kept out of the calls that ask it, which no world lets
+    /// come here.
     #[inline(never)]
     fn ways_elsewhere<B: Allocator + Copy>(&self, grid: &Grid<B>, cell: u32) -> Ways
         ensures { AreNearer grid.now (λ c. slice_index_or self.now.away c None) cell result.byte }

@@ -48,8 +48,8 @@ impl<A: Allocator + Copy> GrowingField<A> {
         Some(next)
     }
 
-    /// A cell to which the search has to come before the ways from this one are known, unless its round is over before: the cell
-    /// itself, or a neighbour that may be nearer to the goal.
+    /// A cell to which the search has to come before the ways from this one are known, unless its round is over before:
+    /// the cell itself, or a neighbour that may be nearer to the goal.
     pub(crate) fn wanted<B: Allocator + Copy>(&self, grid: &Grid<B>, cell: u32) -> Option<u32>
         requires serves { Serves grid.now self.now }
         requires floor { IsFloor grid.now cell }

@@ -104,8 +104,8 @@ fn spread_all<A: Allocator + Copy>(
     Ok(())
 }
 
-/// The distance of each place to the goal, in a list laid out as `blank` is: walls keep their mark, and `FAR` stays where no walk
-/// leads to the goal. Level by level, the places at one distance give the places at the next.
+/// The distance of each place to the goal, in a list laid out as `blank` is: walls keep their mark, and `FAR` stays
+/// where no walk leads to the goal. Level by level, the places at one distance give the places at the next.
 pub(crate) fn flood<A: Allocator + Copy>(
     alloc: A,
     blank: &[u32],

@@ -13,9 +13,9 @@ use std::alloc::{AllocError, Allocator, Global};
 /// The label of the cells to which the search comes in its first round: no step leads away from the target.
 pub(crate) const FIRST: u8 = 3;
 
-/// The ways from a map's cells that lead nearer to a goal. The search begins at the goal, and goes on toward one cell, the target,
-/// whenever it is asked for a cell to which it has not come (Reverse Resumable A*: Silver, AIIDE 2005). One byte for each cell
-/// of the map, and four for each cell next to those to which the search has come.
+/// The ways from a map's cells that lead nearer to a goal. The search begins at the goal, and goes on toward one cell,
+/// the target, whenever it is asked for a cell to which it has not come (Reverse Resumable A*: Silver, AIIDE 2005). One
+/// byte for each cell of the map, and four for each cell next to those to which the search has come.
 #[derive(Drop)]
 pub struct GrowingField<A: Allocator + Copy = Global> {
     pub(crate) goal: u32,
@@ -36,8 +36,8 @@ fn is_other(label: u8, here: u8) -> bool
 }
 
 impl<A: Allocator + Copy> GrowingField<A> {
-    /// A field to a goal, a floor cell, of which nothing is searched yet. Whichever cell the target is, the field is right; the
-    /// search for a cell near the target takes the least time. The only error is out of memory.
+    /// A field to a goal, a floor cell, of which nothing is searched yet. Whichever cell the target is, the field is
+    /// right; the search for a cell near the target takes the least time. The only error is out of memory.
     pub fn new<B: Allocator + Copy>(
         alloc: A,
         grid: &Grid<B>,
@@ -114,8 +114,9 @@ impl<A: Allocator + Copy> GrowingField<A> {
         }
     }
 
-    /// The ways from a floor cell of the field's map: those that lead nearer to the goal, and all exits. The search goes on
-    /// until they are known. The only error is out of memory; then it goes on from there when it is asked again.
+    /// The ways from a floor cell of the field's map: those that lead nearer to the goal, and all exits. The search
+    /// goes on until they are known. The only error is out of memory; then it goes on from there when it is asked
+    /// again.
     pub fn outlook<B: Allocator + Copy>(
         &mut self,
         grid: &Grid<B>,

@@ -1,5 +1,5 @@
-//! Distances to a goal on the floor of a map: one field, several at once, a store of fields that are shared, and a field that is
-//! searched only as far as it is asked.
+//! Distances to a goal on the floor of a map: one field, several at once, a store of fields that are shared, and a
+//! field that is searched only as far as it is asked.
 #![tactic(auto)]
 
 mod bits;

@@ -11,8 +11,8 @@ use std::alloc::{AllocError, Allocator};
 use std::collections::VecDeque;
 use std::marker::Model;
 
-/// Fields in a queue. Their goals stand in a queue of their own, in the same order: a goal is found there, since a field
-/// takes ten times the memory of its goal.
+/// Fields in a queue. Their goals stand in a queue of their own, in the same order: a goal is found there, since a
+/// field takes ten times the memory of its goal.
 #[derive(Drop)]
 pub(crate) struct Queue<A: Allocator + Copy> {
     fields: VecDeque<Compass<A>, A>,

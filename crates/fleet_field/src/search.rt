@@ -1,8 +1,9 @@
-//! The search for the levels of the places around a goal, over one label a place. Neighbours differ by one level at most, so that
-//! three labels are enough to tell afterwards which of two places is nearer.
+//! The search for the levels of the places around a goal, over one label a place. Neighbours differ by one level at
+//! most, so that three labels are enough to tell afterwards which of two places is nearer.
 //!
-//! There are two forms of a visit. Where the ways change seldom, a processor foresees which places are new, and a branch leaves
-//! the others out. Where they change often, a visit without any branch takes less time than a branch that is foreseen wrongly.
+//! There are two forms of a visit. Where the ways change seldom, a processor foresees which places are new, and a
+//! branch leaves the others out. Where they change often, a visit without any branch takes less time than a branch that
+//! is foreseen wrongly.
 
 ghost use Rattle.std.specs.Prelude.{◌≡◌, ℕ, ◌+◌, ◌*◌, ◌<◌, ◌≤◌, List, length, slice_index, take, IfOk};
 ghost use Rattle.fleet_field.specs.inside.Labels.{label, IsVisited, IsAround, IsSpread, IsReady, IsSearched};
@@ -11,8 +12,8 @@ use crate::fronts::make_room;
 use std::alloc::{AllocError, Allocator};
 use std::mem;
 
-/// Marks a place that was not reached before, and writes it at the end of the next front. On a ragged map it is always written,
-/// and counted only if it is new, so that the processor has no branch to predict.
+/// Marks a place that was not reached before, and writes it at the end of the next front. On a ragged map it is always
+/// written, and counted only if it is new, so that the processor has no branch to predict.
 #[inline(always)]
 fn visit<const RAGGED: bool>(
     labels: &mut [u8],
@@ -121,8 +122,8 @@ fn after(mark: u8) -> u8
     if mark == 3 { 1 } else { mark + 1 }
 }
 
-/// The labels of the levels around the goal: a front is left in all directions, and what it reaches is the next front. The
-/// fronts' room is kept from level to level.
+/// The labels of the levels around the goal: a front is left in all directions, and what it reaches is the next front.
+/// The fronts' room is kept from level to level.
 pub(crate) fn search<A: Allocator + Copy>(
     alloc: A,
     unseen: Vec<u8, A>,

@@ -14,8 +14,8 @@ use fleet_grid::{Dir, Ways};
 use std::alloc::Allocator;
 
 impl<A: Allocator + Copy> GrowingField<A> {
-    /// Leaves a cell in a direction: if the cell there is open and the search has not come to it, it comes to it now if that is
-    /// toward the target, and lets it wait otherwise.
+    /// Leaves a cell in a direction: if the cell there is open and the search has not come to it, it comes to it now if
+    /// that is toward the target, and lets it wait otherwise.
     #[inline(always)]
     fn leave(&mut self, exits: Ways, cell: u32, dir: Dir, is_toward: bool)
         requires toward { IsTrue is_toward ↔ IsToward self.old.target cell dir }
@@ -75,8 +75,8 @@ impl<A: Allocator + Copy> GrowingField<A> {
         let east = target.is_toward(cell, Dir::East);
         let south = target.is_toward(cell, Dir::South);
         let west = target.is_toward(cell, Dir::West);
-        // The cell that is put down last is left first. In this order the search goes first where a robot goes that prefers north to
-        // east, east to south and south to west: so it seldom has to go on.
+        // The cell that is put down last is left first. In this order the search goes first where a robot goes that
+        // prefers north to east, east to south and south to west: so it seldom has to go on.
         self.leave(exits, cell, Dir::South, south);
         self.leave(exits, cell, Dir::West, west);
         self.leave(exits, cell, Dir::North, north);

@@ -26,8 +26,8 @@ fn drop_come<A: Allocator + Copy>(cells: &mut Vec<u32, A>, labels: &[u8])
 }
 
 impl<A: Allocator + Copy> GrowingField<A> {
-    /// Makes room for four more cells that wait for the next round. Before their list grows, those are dropped to which the search
-    /// has come since: most of them on an open floor.
+    /// Makes room for four more cells that wait for the next round. Before their list grows, those are dropped to which
+    /// the search has come since: most of them on an open floor.
     pub(crate) fn make_room(&mut self) -> Result<(), AllocError>
         requires inside { (m : Floor) × Serves m self.old }
         ensures serves { (m : Floor) → Serves m self.old → Serves m self.new }

@@ -52,8 +52,8 @@ fn side_by_side<
         .collect::<Result<Vec<T, A>, AllocError>>(rt, alloc)?
 }
 
-/// What the work makes of each goal of a map of this many cells. Large work is done by several threads, and so is that for
-/// many goals, whatever the map.
+/// What the work makes of each goal of a map of this many cells. Large work is done by several threads, and so is that
+/// for many goals, whatever the map.
 pub(crate) fn of_each<
     A: Allocator + Copy + Send + Sync,
     T: Send + Drop,

@@ -107,7 +107,8 @@ impl<A: Allocator + Copy> Grid<A> {
         self.cells.neighbour(cell, dir)
     }
 
-    /// The padded form, in which a search needs no test for the edges of the map: the length of its rows, and its places.
+    /// The padded form, in which a search needs no test for the edges of the map: the length of its rows, and its
+    /// places.
     pub fn padded(&self) -> (u32, &[u32])
         ensures padded { IsPadded self.now result.0 result.1.now }
         ensures form { HasForm self.now }

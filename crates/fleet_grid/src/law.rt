@@ -26,8 +26,8 @@ pub fn walks_join_and_turn()
     ensures back { (m : Floor) (a b : ℕ) → AreJoined (IsNeighbour m) a b → AreJoined (IsNeighbour m) b a }
 {}
 
-/// The distance as a function is the least number of edges of a walk, and none exactly where no walk leads; it is below the
-/// number of cells.
+/// The distance as a function is the least number of edges of a walk, and none exactly where no walk leads; it is below
+/// the number of cells.
 pub fn distance_is_least_walk()
     ensures some { (m : Floor) (a b d : ℕ) → IsFloor m a → (distance m a b ≡ Some d) ↔ IsDistance (IsNeighbour m) a b d }
     ensures none { (m : Floor) (a b : ℕ) → IsFloor m a → (distance m a b ≡ None) ↔ AreApart (IsNeighbour m) a b }

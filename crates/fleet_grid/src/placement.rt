@@ -44,8 +44,8 @@ fn are_distinct(cells: &[u32]) -> bool
     true
 }
 
-/// Whether robots may stand on these cells, one on each: all are floor, and no two are the same. The time grows with the
-/// square of their number; `check_placement` of fleet_check names the first fault, and is made for many cells.
+/// Whether robots may stand on these cells, one on each: all are floor, and no two are the same. The time grows with
+/// the square of their number; `check_placement` of fleet_check names the first fault, and is made for many cells.
 pub fn is_placement<A: Allocator + Copy>(grid: &Grid<A>, cells: &[u32]) -> bool
     ensures { IsTrue result ↔ IsPlacement grid.now cells.now }
 {

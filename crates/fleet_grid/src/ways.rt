@@ -1,5 +1,5 @@
-//! The ways from each cell to its floor neighbours, found in one pass over the map, so that no later look at a cell reads
-//! letters of three rows.
+//! The ways from each cell to its floor neighbours, found in one pass over the map, so that no later look at a cell
+//! reads letters of three rows.
 
 ghost use Rattle.std.specs.Prelude.{◌≡◌, ℕ, ◌+◌, ◌*◌, ◌%◌, ◌<◌, ◌≤◌, ◌↔◌, length, IfOk, IsTrue, MatchOption};
 ghost use Rattle.fleet_grid.specs.Floor.{HasForm, IsFloor, IsBeside, IsNeighbourIn, cell_across};

@@ -23,8 +23,8 @@ pub struct ArrivalView {
     pub tick: u64,
 }
 
-/// A robot that is shut and has no errands left, with its cell and the tick: the one that is being made, or at a shut the
-/// number of ticks made so far.
+/// A robot that is shut and has no errands left, with its cell and the tick: the one that is being made, or at a shut
+/// the number of ticks made so far.
 #[derive(Clone, Copy, Debug, PartialEq, Eq)]
 pub struct FarewellView {
     pub robot: u32,

@@ -100,6 +100,7 @@ pub record IsConvert (rows : List Row) (convert : ConvertJob) : Type 0 where
 
 -- what the words after `explain` ask for
 pub record IsExplain (rows : List Row) (explain : ExplainJob) : Type 0 where
+  pub head : explain.head ≡ has_flag (codes "head") rows
   pub floor : first_of (codes "MAP") rows ≡ Some (string_bytes explain.map)
   pub other : first_of (codes "INPUT") rows ≡ option_map (λ s. string_bytes s) explain.other
 

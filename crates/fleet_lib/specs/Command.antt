@@ -21,9 +21,9 @@ talk_app = with_rules (new_app (codes "talk"))
 abbrev pub convert_app : App
 convert_app = with_rules (new_app (codes "convert")) (required_value_rule (codes "to") ∷ file_rule (codes "MAP") ∷ file_rule (codes "INPUT") ∷ [])
 
--- explain MAP [INPUT]
+-- explain [--head] MAP [INPUT]
 abbrev pub explain_app : App
-explain_app = with_rules (new_app (codes "explain")) (file_rule (codes "MAP") ∷ new_rule (codes "INPUT") ∷ [])
+explain_app = with_rules (new_app (codes "explain")) (flag_rule (codes "head") ∷ file_rule (codes "MAP") ∷ new_rule (codes "INPUT") ∷ [])
 
 -- live [--robots CELLS] [--clients N] [--period TIME] [--tickers N] [--client IN,OUT].. [--watch] [--traces DIR] [--resume] [--keep-every TIME]
 -- [--metrics FILE] MAP [SCRIPT]

@@ -8,6 +8,10 @@ use Rattle.fleet_explain.specs.declared.plan.PlanExplanation.{PlanExplanation}
 use Rattle.fleet_explain.specs.declared.plan.PlanExplanation.TheVariants as plan
 use Rattle.fleet_explain.specs.Plans.{IsPlanExplained}
 use Rattle.fleet_explain.specs.PlanSentences.{plan_sentence}
+use Rattle.fleet_explain.specs.declared.head.HeadExplanation.{HeadExplanation}
+use Rattle.fleet_explain.specs.declared.head.HeadExplanation.TheVariants as head
+use Rattle.fleet_explain.specs.Heads.{IsHeadExplained}
+use Rattle.fleet_explain.specs.HeadSentences.{head_sentence}
 use Rattle.fleet_lib.specs.Said.{Outcome}
 use Rattle.fleet_lib.specs.Check.{good}
 
@@ -52,3 +56,17 @@ plan_outcome e = good (plan_sentence e ++ codes "\n") (plan_status e)
 
 abbrev pub IsPlanSaid : List ℕ → List ℕ → Outcome → Type 0
 IsPlanSaid map plan o = (e : PlanExplanation) × IsPlanExplained map plan e × (o ≡ plan_outcome e)
+
+-- the status of `fleet talk`
+abbrev pub head_status : HeadExplanation → ℕ
+head_status head.Fine = 0
+head_status head.Unplaced = 0
+head_status (head.Map e) = 4
+head_status (head.Line n f) = 5
+head_status (head.Start f width) = 5
+
+abbrev pub head_outcome : HeadExplanation → Outcome
+head_outcome e = good (head_sentence e ++ codes "\n") (head_status e)
+
+abbrev pub IsHeadSaid : List ℕ → List ℕ → Outcome → Type 0
+IsHeadSaid map text o = (e : HeadExplanation) × IsHeadExplained map text e × (o ≡ head_outcome e)

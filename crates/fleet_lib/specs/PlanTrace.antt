@@ -1,5 +1,5 @@
 -- What is said of a plan that is to be a trace.
-use Rattle.std.specs.Prelude.{◌≡◌, ℕ, Bool, true, false, List, [], ◌++◌, length, nat_le, ◌&&◌, codes, decimal}
+use Rattle.std.specs.Prelude.{◌≡◌, ℕ, Bool, true, false, List, [], ◌++◌, codes, decimal}
 use Rattle.fleet_plans.specs.declared.answer.PlanAnswer.{PlanAnswer}
 use Rattle.fleet_plans.specs.declared.answer.PlanAnswer.TheVariants as answer
 use Rattle.fleet_plans.specs.Form.{is_plan}
@@ -31,10 +31,6 @@ abbrev pub IsTracedBy : List ℕ → List ℕ → Traced → Type 0
 IsTracedBy map plan (told.Trace text) = IsTraced map plan text.items
 IsTracedBy map plan (told.Refused said) = (f : TracingFault) × IsUntraced map plan f × (said_of said ≡ untraced f)
 
--- whether a text is short enough, and taken for a plan
-abbrev pub is_plan_text : List ℕ → Bool
-is_plan_text text = nat_le (length text) 16777216 && is_plan text
-
 abbrev pub IsTracedIf : Bool → List ℕ → List ℕ → Traced → Type 0
 IsTracedIf true map input t = IsTracedBy map input t
 IsTracedIf false map input (told.Trace text) = text.items ≡ input
@@ -42,4 +38,4 @@ IsTracedIf false map input (told.Refused said) = ⊥
 
 -- a plan becomes a trace, any other text stays as it is
 abbrev pub IsTracedAs : List ℕ → List ℕ → Traced → Type 0
-IsTracedAs map input t = IsTracedIf (is_plan_text input) map input t
+IsTracedAs map input t = IsTracedIf (is_plan input) map input t

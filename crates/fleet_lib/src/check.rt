@@ -7,15 +7,12 @@ ghost use Rattle.fleet_lib.specs.Check.{form_by, IsCheckOutcome, good, refused, 
 
 use crate::said::Said;
 use fleet_plans::{
-    FaultText, GoalFault, Misspelt, PlanAnswer, PlanFault, TextForm, check_form, first_misspelt,
-    form_of,
+    FaultText, GoalFault, MOST_PLAN_BYTES, Misspelt, PlanAnswer, PlanFault, TextForm, check_form,
+    first_misspelt, form_of,
 };
 use fleet_text::Complaint;
 use std::alloc::{AllocError, Global};
 use std::fmt;
-
-/// The greatest length of a plan, in bytes.
-pub const MOST_PLAN_BYTES: usize = 16_777_216;
 
 /// The line of a plan that is not valid.
 #[derive(Clone, Copy)]
@@ -79,6 +76,15 @@ fn said_of_goals(alloc: Global, time: u32, fault: GoalFault) -> Result<Said, All
     }
 }
 
+/// The answer to a plan that is not valid.
+fn said_of_fault(alloc: Global, fault: PlanFault) -> Result<Said, AllocError>
+    ensures { IfOk result (λ s. said_of s ≡ good (invalid_text fault) 6) }
+{
+    let line = InvalidText(fault);
+    let text = format!(in alloc; "{line}")?;
+    invalid(alloc, &text)
+}
+
 /// The program's answer, made from the result for a map and a plan.
 pub(crate) fn said_of_answer(alloc: Global, answer: PlanAnswer) -> Result<Said, AllocError>
     ensures { IfOk result (λ s. said_of s ≡ outcome_of answer) }
@@ -113,11 +119,7 @@ pub(crate) fn said_of_answer(alloc: Global, answer: PlanAnswer) -> Result<Said, 
             let text = format!(in alloc; "{report}")?;
             printed(alloc, &text, 0)
         }
-        PlanAnswer::Invalid(fault) => {
-            let line = InvalidText(fault);
-            let text = format!(in alloc; "{line}")?;
-            invalid(alloc, &text)
-        }
+        PlanAnswer::Invalid(fault) => said_of_fault(alloc, fault),
         PlanAnswer::Goals { time, fault } => said_of_goals(alloc, time, fault),
     }
 }
@@ -161,8 +163,8 @@ pub fn answer_check(
     map: &[u8],
     plan: &[u8],
 ) -> Result<Said, AllocError>
-    requires scenario { IfSome scenario (λ text. length text.now ≤ 16777216) }
-    requires plan { length plan.now ≤ 16777216 }
+    requires scenario { IfSome scenario (λ text. length text.now ≤ MOST_PLAN_BYTES) }
+    requires plan { length plan.now ≤ MOST_PLAN_BYTES }
     ensures { IfOk result (λ s. IsCheckOutcome form strict (option_copied scenario.entry) map.now plan.now (said_of s)) }
 {
     let form = form_by(form, plan);

@@ -2,13 +2,15 @@
 
 ghost use Rattle.std.specs.Prelude.{◌≡◌, ◌≤◌, length, IfOk};
 ghost use Rattle.fleet_lib.specs.Said.{said_of};
-ghost use Rattle.fleet_lib.specs.Explain.{status_of, outcome_of, plan_status, plan_outcome, IsMapSaid, IsScriptSaid, IsTraceSaid, IsPlanSaid};
+ghost use Rattle.fleet_lib.specs.Explain.{status_of, outcome_of, plan_status, plan_outcome, head_status, head_outcome, IsMapSaid, IsScriptSaid, IsTraceSaid, IsPlanSaid, IsHeadSaid};
 
 use crate::check::printed;
 use crate::said::Said;
 use fleet_explain::{
-    Explanation, PlanExplanation, explain_map, explain_plan, explain_script, explain_trace,
+    Explanation, HeadExplanation, PlanExplanation, explain_head, explain_map, explain_plan,
+    explain_script, explain_trace,
 };
+use fleet_plans::MOST_PLAN_BYTES;
 use std::alloc::{AllocError, Global};
 
 /// The greatest length of a script, in bytes.
@@ -86,9 +88,37 @@ fn said_of_plan(alloc: Global, explanation: PlanExplanation) -> Result<Said, All
 
 /// The answer to a map and a plan: the sentence of `explain_plan`.
 pub fn answer_explain_plan(alloc: Global, map: &[u8], plan: &[u8]) -> Result<Said, AllocError>
-    requires { length plan.now ≤ 16777216 }
+    requires { length plan.now ≤ MOST_PLAN_BYTES }
     ensures { IfOk result (λ s. IsPlanSaid map.now plan.now (said_of s)) }
 {
     let explanation = explain_plan(alloc, map, plan)?;
     said_of_plan(alloc, explanation)
+}
+
+/// The status of an explanation of header lines: that of `fleet talk`.
+fn head_status(explanation: HeadExplanation) -> u8
+    ensures { result ≡ head_status explanation }
+{
+    match explanation {
+        HeadExplanation::Fine | HeadExplanation::Unplaced => 0,
+        HeadExplanation::Map(_) => 4,
+        HeadExplanation::Line { .. } | HeadExplanation::Start { .. } => 5,
+    }
+}
+
+/// The answer for an explanation of header lines: its sentence.
+fn said_of_head(alloc: Global, explanation: HeadExplanation) -> Result<Said, AllocError>
+    ensures { IfOk result (λ s. said_of s ≡ head_outcome explanation) }
+{
+    let text = format!(in alloc; "{explanation}\n")?;
+    printed(alloc, &text, head_status(explanation))
+}
+
+/// The answer to a map and the header lines of a conversation: the sentence of `explain_head`.
+pub fn answer_explain_head(alloc: Global, map: &[u8], head: &[u8]) -> Result<Said, AllocError>
+    requires { length head.now ≤ 16777216 }
+    ensures { IfOk result (λ s. IsHeadSaid map.now head.now (said_of s)) }
+{
+    let explanation = explain_head(alloc, map, head)?;
+    said_of_head(alloc, explanation)
 }

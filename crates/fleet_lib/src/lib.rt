@@ -7,6 +7,7 @@ mod ending;
 mod explain;
 mod holding;
 mod kept;
+mod kit;
 mod live;
 mod names;
 mod plan_trace;
@@ -16,15 +17,15 @@ mod talk;
 mod view;
 mod words;
 
-pub use check::{MOST_PLAN_BYTES, answer_check};
+pub use check::answer_check;
 pub use convert::answer_convert;
 pub use explain::{
-    MOST_SCRIPT_BYTES, answer_explain_map, answer_explain_plan, answer_explain_script,
-    answer_explain_trace,
+    MOST_SCRIPT_BYTES, answer_explain_head, answer_explain_map, answer_explain_plan,
+    answer_explain_script, answer_explain_trace,
 };
 pub use fleet_history::Chapter;
 pub use fleet_live::{LiveEnds, Pipes};
-pub use fleet_plans::{TextForm, is_plan};
+pub use fleet_plans::{MOST_PLAN_BYTES, TextForm, is_plan};
 pub use fleet_talk::{ChapterSink, Ends, Settings, SinkFault};
 pub use fleet_text::{InputFault, read_up_to, trace_line, write_whole};
 pub use kept::{KeptFault, KeptText};

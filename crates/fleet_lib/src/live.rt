@@ -5,17 +5,17 @@ ghost use Rattle.fleet_map.specs.Text.{number_of};
 
 use crate::ending::tell_end;
 use crate::kept::{KeptFault, kept_chapter};
+use crate::kit::program_kit;
 use crate::said::fail;
 use crate::talk::{TalkTexts, complain, grounds};
 use crate::words::Live;
 use fleet_grid::Grid;
 use fleet_history::Chapter;
-use fleet_hooks::{ArrivalHook, Farewell, Hooks, TieHook};
 use fleet_live::{LiveEnds, LiveSettings, keep_live, read_period, resume_live};
 use fleet_map::text::number_up_to;
 use fleet_script::Head;
 use fleet_talk::{ChapterSink, Ground, MOST_ROBOTS, ResumeFault};
-use fleet_text::{HookKit, InputFault, write_whole};
+use fleet_text::{InputFault, write_whole};
 use std::alloc::{Alloc, AllocError, Global};
 use std::io::{Read, Write};
 use std::sync::Wait;
@@ -198,7 +198,8 @@ fn complain_of_word<E: Write>(word: BadWord, error: &mut E) -> u8 {
     2
 }
 
-/// Keeps a fleet with the hooks of `errands run`, for as many robots as it may have. It goes on from the chapter, if there is one.
+/// Keeps a fleet with the hooks of `errands run`, for as many robots as it may have. It goes on from the chapter, if
+/// there is one.
 fn keep_with_hooks<
     R: Alloc<A = Global> + Clock + Threads + Sync + Wait + Copy + Send + Drop + 'static,
     I: Read + Send + Drop + 'static,
@@ -214,22 +215,7 @@ fn keep_with_hooks<
     settings: LiveSettings,
     ends: LiveEnds<I, W, P, Q, E, S>,
 ) -> Result<bool, ResumeFault> {
-    let alloc = rt.alloc();
-    let plain = Hooks::alike(
-        alloc,
-        MOST_ROBOTS,
-        TieHook::fixed([0; 4]),
-        ArrivalHook::fixed(0),
-        Farewell::fixed(0),
-    )?;
-    let south = Hooks::alike(
-        alloc,
-        MOST_ROBOTS,
-        TieHook::south_first(),
-        ArrivalHook::by_tick(),
-        Farewell::by_cell(),
-    )?;
-    let kit = HookKit { plain, south };
+    let kit = program_kit!(rt.alloc());
     let ground = Ground { grid, kit, head };
     match kept {
         Some(chapter) => resume_live(rt, ground, chapter, settings, ends),
@@ -248,9 +234,9 @@ fn chapter_in(alloc: Global, texts: TalkTexts<'_>) -> Result<Option<Chapter>, Ke
     }
 }
 
-/// Keeps a fleet on the map in real time, or on demand. It goes on from the chapter of a file, if one is given. Returns the
-/// status: 0 good, 2 a word is wrong, 3 a line could not be read, or an answer or a chapter not written, 4 the map, 5 the script
-/// or the opening, 6 the chapter to go on from is refused, 7 out of memory, 8 a limit was met.
+/// Keeps a fleet on the map in real time, or on demand. It goes on from the chapter of a file, if one is given. Returns
+/// the status: 0 good, 2 a word is wrong, 3 a line could not be read, or an answer or a chapter not written, 4 the map,
+/// 5 the script or the opening, 6 the chapter to go on from is refused, 7 out of memory, 8 a limit was met.
 pub fn run_live<
     R: Alloc<A = Global> + Clock + Threads + Sync + Wait + Copy + Send + Drop + 'static,
     I: Read + Send + Drop + 'static,

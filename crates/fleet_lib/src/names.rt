@@ -127,8 +127,8 @@ fn has_less(numbers: &[u32], bound: u32) -> bool
 
 /// The greatest number of a chapter among the names of a folder's files; `None` if no name is that of a chapter.
 ///
-/// Refused in this order: the first name that begins and ends as that of a chapter and is that of none, a chapter that is not
-/// there although an earlier one and a later one are (the last of these). Out of memory may come at any point.
+/// Refused in this order: the first name that begins and ends as that of a chapter and is that of none, a chapter that
+/// is not there although an earlier one and a later one are (the last of these). Out of memory may come at any point.
 pub fn last_chapter(alloc: Global, names: &[String]) -> Result<Option<u32>, NamesFault>
     ensures ok { IfOk result (λ last. MatchOption last ((n : ℕ) → n < 2 ^ 32 → Contains (map (λ s. string_bytes s) names.now) (chapter_name n) → ⊥) (IsLast (map (λ s. string_bytes s) names.now))) }
     ensures fault { IfErr result (IsNamesFault (map (λ s. string_bytes s) names.now)) }

@@ -1,13 +1,13 @@
 //! Plans as traces.
 
-ghost use Rattle.std.specs.Prelude.{◌≡◌, ◌≤◌, length, IfOk};
+ghost use Rattle.std.specs.Prelude.{◌≡◌, ◌≤◌, length, vec_len, IfOk};
 ghost use Rattle.fleet_lib.specs.Said.{said_of};
 ghost use Rattle.fleet_lib.specs.PlanTrace.{plan_refused, untraced, IsTraceOutcome, IsTracedBy, IsTracedAs};
 
-use crate::check::{InvalidText, MOST_PLAN_BYTES, refused, said_of_answer};
+use crate::check::{InvalidText, refused, said_of_answer};
 use crate::said::Said;
 use fleet_convert::{TracingFault, trace_of_plan};
-use fleet_plans::{PlanAnswer, is_plan};
+use fleet_plans::{MOST_PLAN_BYTES, PlanAnswer, is_plan};
 use std::alloc::{AllocError, Global};
 
 /// A trace, or what there is to say where a plan gives none.
@@ -50,7 +50,7 @@ fn untraced(alloc: Global, fault: TracingFault) -> Result<Said, AllocError>
 
 /// The answer to a map and a plan that is to be a trace: what `trace_of_plan` makes of them.
 pub fn answer_trace(alloc: Global, map: &[u8], plan: &[u8]) -> Result<Said, AllocError>
-    requires { length plan.now ≤ 16777216 }
+    requires { length plan.now ≤ MOST_PLAN_BYTES }
     ensures { IfOk result (λ s. IsTraceOutcome map.now plan.now (said_of s)) }
 {
     match trace_of_plan(alloc, map, plan) {
@@ -65,7 +65,7 @@ pub fn answer_trace(alloc: Global, map: &[u8], plan: &[u8]) -> Result<Said, Allo
 
 /// The trace of a plan.
 fn trace_made(alloc: Global, map: &[u8], plan: &[u8]) -> Result<Traced, AllocError>
-    requires { length plan.now ≤ 16777216 }
+    requires { length plan.now ≤ MOST_PLAN_BYTES }
     ensures { IfOk result (λ t. IsTracedBy map.now plan.now t) }
 {
     match trace_of_plan(alloc, map, plan) {
@@ -76,9 +76,10 @@ fn trace_made(alloc: Global, map: &[u8], plan: &[u8]) -> Result<Traced, AllocErr
 
 /// A text that is a plan, as a trace; any other text as it is.
 pub fn as_trace(alloc: Global, map: &[u8], input: Vec<u8>) -> Result<Traced, AllocError>
+    requires { vec_len input ≤ MOST_PLAN_BYTES }
     ensures { IfOk result (λ t. IsTracedAs map.now input.items t) }
 {
-    if input.len() <= MOST_PLAN_BYTES && is_plan(&input) {
+    if is_plan(&input) {
         trace_made(alloc, map, &input)
     } else {
         Ok(Traced::Trace(input))

@@ -19,7 +19,8 @@ use fleet_text::{Complaint, InputFault, write_whole};
 use std::alloc::{Alloc, AllocError, Global};
 use std::io::{Read, Write};
 
-/// The map and the header lines that a conversation begins with, and the chapter that its fleet goes on from, if it does.
+/// The map and the header lines that a conversation begins with, and the chapter that its fleet goes on from, if it
+/// does.
 #[derive(Clone, Copy, Debug)]
 pub struct TalkTexts<'a> {
     pub map: &'a [u8],
@@ -74,8 +75,8 @@ pub(crate) fn grounds(alloc: Global, texts: TalkTexts<'_>) -> Result<(Grid, Head
 }
 
 /// Holds a conversation on the map. Returns the status: 0 good, 3 a line could not be read, or an answer or a chapter
-/// not written, 4 the map, 5 the script or the opening, 6 the chapter to go on from is refused, 7 out of memory, 8 a limit
-/// was met.
+/// not written, 4 the map, 5 the script or the opening, 6 the chapter to go on from is refused, 7 out of memory, 8 a
+/// limit was met.
 pub fn run_talk<R: Alloc<A = Global>, I: Read, W: Write, S: ChapterSink, E: Write>(
     rt: &R,
     texts: TalkTexts<'_>,

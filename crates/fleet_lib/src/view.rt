@@ -7,13 +7,14 @@ ghost use Rattle.fleet_lib.specs.View.{IsShown, IsViewOutcome, fault_text, fault
 
 use crate::said::Said;
 use crate::words::Shown;
+use fleet_plans::MOST_PLAN_BYTES;
 use fleet_text::Complaint;
 use fleet_view::{ViewFault, view_page, view_picture};
 use std::alloc::{AllocError, Global};
 use std::fmt;
 
-/// The greatest length of a trace, in bytes.
-pub const MOST_TRACE_BYTES: usize = 67_108_864;
+/// The greatest length of a trace, in bytes: that of a plan.
+pub const MOST_TRACE_BYTES: usize = MOST_PLAN_BYTES;
 
 /// How a fault is named.
 #[derive(Clone, Copy)]

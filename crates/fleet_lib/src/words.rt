@@ -1,5 +1,5 @@
-//! The command line of the program `fleet`, as `clap` reads it, and the job that it names. Each subcommand has a file of its own (such as `view`), a
-//! variant of `Job`, and a line in `program` and in `job_from`.
+//! The command line of the program `fleet`, as `clap` reads it, and the job that it names. Each subcommand has a file
+//! of its own (such as `view`), a variant of `Job`, and a line in `program` and in `job_from`.
 
 mod arguments;
 mod check;

@@ -58,8 +58,8 @@ impl<N: OfficeName<Global>> Conversation<N> {
         }
     }
 
-    /// Posts an order and answers, and returns whether it was posted. No verdict stands before that answer, since both are said while
-    /// the guests are held.
+    /// Posts an order and answers, and returns whether it was posted. No verdict stands before that answer, since both
+    /// are said while the guests are held.
     pub(crate) fn post<R: Wait>(
         &self,
         rt: &R,

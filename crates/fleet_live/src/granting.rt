@@ -13,12 +13,13 @@ use live_parts::{Stop, Wanted, look_text};
 use std::alloc::{Alloc, AllocError, Global};
 use std::sync::Wait;
 
-/// How many turns of a `tick` are made although `quit` was read after it. So what a conversation is told does not depend on when
-/// its `quit` was read, if no `tick` asks for more.
+/// How many turns of a `tick` are made although `quit` was read after it. So what a conversation is told does not
+/// depend on when its `quit` was read, if no `tick` asks for more.
 const SURE_TURNS: u32 = 65_536;
 
 impl<N: OfficeName<Global>, S: ChapterSink> Keeper<'_, N, S> {
-    /// Whether the turn after `made` turns is the last of the `times` that were asked for: `quit` ends those that take long.
+    /// Whether the turn after `made` turns is the last of the `times` that were asked for: `quit` ends those that take
+    /// long.
     fn is_last_turn<R: Wait>(&self, rt: &R, made: u32, times: u32) -> bool {
         times.saturating_sub(made) <= 1
             || (made.saturating_add(1) >= SURE_TURNS && self.stage.bell.has_quit(rt))

@@ -204,8 +204,8 @@ impl<N: OfficeName<Global>, S: ChapterSink> Keeper<'_, N, S> {
         Ok(turned)
     }
 
-    /// Judges what was posted, in the next chapter where this one is full, and tells each client. Where the last chapter is full an
-    /// order waits in its lane, as at a turn.
+    /// Judges what was posted, in the next chapter where this one is full, and tells each client. Where the last
+    /// chapter is full an order waits in its lane, as at a turn.
     pub(crate) fn settle<R: Alloc<A = Global> + Wait>(
         &self,
         rt: &R,

@@ -1,5 +1,5 @@
-//! A fleet in real time: clients talk to an office, each conversation in threads of its own, while turns are made at their deadlines
-//! or on demand.
+//! A fleet in real time: clients talk to an office, each conversation in threads of its own, while turns are made at
+//! their deadlines or on demand.
 #![tactic(auto)]
 
 mod bell;

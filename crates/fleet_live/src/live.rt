@@ -220,9 +220,10 @@ fn keep_fleet<
     keep_office(rt, office, clients, ticker, site, ends)
 }
 
-/// Keeps a fleet in real time: opens an office with the head's robots and clients, lets each conversation post, look and be told in
-/// threads of its own, and makes turns at their deadlines, or where a line asks for them. It ends where the first conversation does.
-/// Each chapter goes to the sink when it is handed out, and the last at the end. Returns whether a limit was met.
+/// Keeps a fleet in real time: opens an office with the head's robots and clients, lets each conversation post, look
+/// and be told in threads of its own, and makes turns at their deadlines, or where a line asks for them. It ends where
+/// the first conversation does. Each chapter goes to the sink when it is handed out, and the last at the end. Returns
+/// whether a limit was met.
 ///
 /// If the fleet cannot be opened, the fault is `Opening` with the first reason that stands, or `NoMemory`.
 pub fn keep_live<

@@ -93,8 +93,9 @@ fn say_counts<N: OfficeName<Global>, R: Alloc<A = Global> + Wait, S: ChapterSink
     Ok(())
 }
 
-/// Does what is to be done at once: says the figures, hands out the chapter, grants one wish of each conversation at most, and judges once what was posted. So none
-/// of them holds up the turns, and turns that are all late hold up none of them.
+/// Does what is to be done at once: says the figures, hands out the chapter, grants one wish of each conversation at
+/// most, and judges once what was posted. So none of them holds up the turns, and turns that are all late hold up none
+/// of them.
 fn heed_some<N: OfficeName<Global>, R: Alloc<A = Global> + Wait, S: ChapterSink>(
     rt: &R,
     keeper: &Keeper<'_, N, S>,
@@ -138,8 +139,8 @@ fn turn_now<N: OfficeName<Global>, R: Alloc<A = Global> + Clock + Wait, S: Chapt
     heed_some(rt, keeper, round, work)
 }
 
-/// Makes a turn where it is due. Else searches ahead where that is to be done, or waits for the deadline or for something that is to
-/// be done. Without deadlines it waits for that alone.
+/// Makes a turn where it is due. Else searches ahead where that is to be done, or waits for the deadline or for
+/// something that is to be done. Without deadlines it waits for that alone.
 fn step<
     N: OfficeName<Global>,
     R: Alloc<A = Global> + Clock + Threads + Sync + Wait,

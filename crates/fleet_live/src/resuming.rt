@@ -115,8 +115,8 @@ fn ready(
     Ok((desk, site))
 }
 
-/// Keeps a fleet in real time that goes on from a chapter: its world is that of `world_after`, and its orders, errands, notices and
-/// ticks are numbered on. All else is as of `keep_live`. Returns whether a limit was met.
+/// Keeps a fleet in real time that goes on from a chapter: its world is that of `world_after`, and its orders, errands,
+/// notices and ticks are numbered on. All else is as of `keep_live`. Returns whether a limit was met.
 ///
 /// Refused as `world_after` is, before a line is read; out of memory may come at any point.
 pub fn resume_live<

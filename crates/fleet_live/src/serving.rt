@@ -127,7 +127,8 @@ fn start_pipes<
     Ok(())
 }
 
-/// Starts the threads of all conversations, and that which writes the counts. Returns that which writes the first conversation's output.
+/// Starts the threads of all conversations, and that which writes the counts. Returns that which writes the first
+/// conversation's output.
 fn start_all<
     N: OfficeName<Global> + Send + Sync + 'static,
     R: Alloc<A = Global> + Threads + Wait + Copy + Send + Drop + 'static,
@@ -186,6 +187,44 @@ fn start_chapters<
     }
 }
 
+/// Starts all threads but the tickers'. Returns what the tickers share, and the thread that writes the first
+/// conversation's output.
+fn begin<
+    N: OfficeName<Global> + Send + Sync + 'static,
+    R: Alloc<A = Global> + Clock + Threads + Sync + Wait + Copy + Send + Drop + 'static,
+    I: Read + Send + Drop + 'static,
+    W: Write + Send + Drop + 'static,
+    P: Read + Send + Drop + 'static,
+    Q: Write + Send + Drop + 'static,
+    E: Write + Send + Drop + 'static,
+    S: ChapterSink + Send + Drop,
+>(
+    rt: &R,
+    office: &Office<N>,
+    clients: Vec<Client>,
+    site: &Site,
+    ends: LiveEnds<I, W, P, Q, E, S>,
+) -> Result<(Stage<N, S>, JoinHandle<()>), AllocError>
+    requires { AreOn N.rings (cores clients.items) }
+{
+    let LiveEnds {
+        input,
+        output,
+        pipes,
+        counts,
+        figures,
+        sink,
+    } = ends;
+    let (settings, talk) = (&site.settings, (input, output));
+    office.keep(rt, kept_bytes(site.cells));
+    let mut stage = stage_of(rt, clients, pipes.len(), site, sink)?;
+    stage.before = office.queues(rt).total;
+    start_figures(rt, &mut stage, figures)?;
+    start_chapters(rt, &stage, settings.keep_every)?;
+    let writer = start_all(rt, &stage, settings.watch, talk, pipes, counts)?;
+    Ok((stage, writer))
+}
+
 /// Lets the clients talk and makes turns, until the fleet is to stop.
 pub(crate) fn serve<
     N: OfficeName<Global> + Send + Sync + 'static,
@@ -206,23 +245,8 @@ pub(crate) fn serve<
 ) -> Result<Left<N, S>, AllocError>
     requires { AreOn N.rings (cores clients.items) }
 {
-    let LiveEnds {
-        input,
-        output,
-        pipes,
-        counts,
-        figures,
-        sink,
-    } = ends;
-    let settings = &site.settings;
-    office.keep(rt, kept_bytes(site.cells));
-    let mut stage = stage_of(rt, clients, pipes.len(), &site, sink)?;
-    stage.before = office.queues(rt).total;
-    start_figures(rt, &mut stage, figures)?;
-    start_chapters(rt, &stage, settings.keep_every)?;
-    let talk = (input, output);
-    let writer = start_all(rt, &stage, settings.watch, talk, pipes, counts)?;
-    let two = stage.paced && settings.tickers > 1;
+    let (stage, writer) = begin(rt, office, clients, &site, ends)?;
+    let two = stage.paced && site.settings.tickers > 1;
     let (tickers, stop) = work_all(rt, office, &stage, ticker, two)?;
     Ok(Left {
         stage,

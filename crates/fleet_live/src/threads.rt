@@ -30,8 +30,8 @@ pub(crate) fn start_writer<
     }
 }
 
-/// Starts the thread that reads the lines of a client's pipe and does what they ask. It may be in the middle of a read when the
-/// fleet has ended, so nobody waits for it.
+/// Starts the thread that reads the lines of a client's pipe and does what they ask. It may be in the middle of a read
+/// when the fleet has ended, so nobody waits for it.
 pub(crate) fn start_reader<
     N: OfficeName<Global> + Send + Sync + 'static,
     R: Alloc<A = Global> + Threads + Wait + Copy + Send + Drop + 'static,
@@ -73,7 +73,8 @@ fn start_first<
     }
 }
 
-/// Starts the threads of the first conversation: one reads its lines, and another does what they ask. Nobody waits for them.
+/// Starts the threads of the first conversation: one reads its lines, and another does what they ask. Nobody waits for
+/// them.
 pub(crate) fn start_listener<
     N: OfficeName<Global> + Send + Sync + 'static,
     R: Alloc<A = Global> + Threads + Wait + Copy + Send + Drop + 'static,

@@ -22,3 +22,4 @@ pub mod Counted
 pub mod TurnSteps
 pub mod TickSteps
 pub mod Never
+pub mod GivenSteps

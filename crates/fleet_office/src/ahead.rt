@@ -30,8 +30,8 @@ impl<N: OfficeName<A>, A: Allocator + Copy> Hall<N, A> {
 }
 
 impl<N: OfficeName<A>, A: Allocator + Copy> Office<N, A> {
-    /// Keeps the fields of goals that no robot has any more, up to this many bytes; 256 MiB where nothing is said. What is kept
-    /// shows in nothing but the time and the memory that a turn needs.
+    /// Keeps the fields of goals that no robot has any more, up to this many bytes; 256 MiB where nothing is said. What
+    /// is kept shows in nothing but the time and the memory that a turn needs.
     pub fn keep<R: Wait>(&self, rt: &R, bytes: usize)
         requires { 0 ≤ 1 }
     {
@@ -62,11 +62,12 @@ impl<N: OfficeName<A>, A: Allocator + Copy + Send + Sync> Hall<N, A> {
 
 impl<N: OfficeName<A>, A: Allocator + Copy + Send + Sync> Office<N, A> {
     /// Searches the fields of the robots' next errands side by side, in as many threads as there are processors, and
-    /// keeps as many as fit: a later turn takes them from there. Goals that no robot had lately are left out, since their fields
-    /// grow. They show in nothing but the time and the memory that a turn needs. `AllocError` if memory runs out; nothing has
-    /// changed then.
+    /// keeps as many as fit: a later turn takes them from there. Goals that no robot had lately are left out, since
+    /// their fields grow. They show in nothing but the time and the memory that a turn needs. `AllocError` if memory
+    /// runs out; nothing has changed then.
     ///
-    /// A ticker calls it after a turn, while there is time until the next: it holds the lock meanwhile. Clients wait for no lock.
+    /// A ticker calls it after a turn, while there is time until the next: it holds the lock meanwhile. Clients wait
+    /// for no lock.
     pub fn search_ahead<R: Threads + Sync + Wait>(&self, rt: &R) -> Result<(), AllocError>
         requires { 0 ≤ 1 }
     {

@@ -134,8 +134,8 @@ impl<N: OfficeName<A>, A: Allocator + Copy> Office<N, A> {
         hall.grown_chapter(least)
     }
 
-    /// Ends an office that cannot be concluded: returns its chapter as it is, and the number of ticks made in all chapters. Orders
-    /// that are left in lanes, and notices that clients had not collected, are let go.
+    /// Ends an office that cannot be concluded: returns its chapter as it is, and the number of ticks made in all
+    /// chapters. Orders that are left in lanes, and notices that clients had not collected, are let go.
     pub fn into_chapter(self) -> (Chapter<A>, u64)
         requires { 0 ≤ 1 }
         ensures chapter { (h : HallView A) × IsChapterOf N.rings N.start h result.0.number (history_of result.0) }

@@ -125,24 +125,21 @@ impl<N: OfficeName<A>, A: Allocator + Copy> HallState<N, A> {
         }
     }
 
-    /// The map, the chapter, and what the clients had not collected.
-    fn finish(
-        self,
-        clients: Vec<Client<A>, A>,
-        rooms: Vec<Vec<Notice, A>, A>,
-    ) -> (Grid<A>, Chapter<A>, Vec<Vec<Notice, A>, A>)
+    /// The map, the chapter, the ticks made, and what the clients had not collected.
+    fn finish(self, clients: Vec<Client<A>, A>, rooms: Vec<Vec<Notice, A>, A>) -> Final<A>
         requires on { AreOn N.rings (cores clients.items) }
         requires distinct { AreDistinct (cores clients.items) }
         requires settled { AreSettled self.ends clients.items }
         requires rooms { AreRooms rooms.items self.world clients.items }
-        ensures floor { result.0 ≡ self.world.floor }
-        ensures history { history_of result.1 ≡ self.world.history }
-        ensures number { result.1.number ≡ self.world.number }
-        ensures legal { IsLegal result.0 (history_of result.1) }
-        ensures planned { EachTick (IsPlanned result.0 self.world.ties) (history_of result.1) }
-        ensures advancing { IsBridgeless (IsNeighbour result.0) → EachTick (IsAdvancingTick result.0) (history_of result.1) }
-        ensures bounded { IsBridgeless (IsNeighbour result.0) → WaitsAreBounded result.0 (history_of result.1) }
-        ensures told { AreTold N.start result.1.number (history_of result.1) clients.items result.2.items }
+        ensures floor { result.grid ≡ self.world.floor }
+        ensures history { history_of result.chapter ≡ self.world.history }
+        ensures number { result.chapter.number ≡ self.world.number }
+        ensures legal { IsLegal result.grid (history_of result.chapter) }
+        ensures planned { EachTick (IsPlanned result.grid self.world.ties) (history_of result.chapter) }
+        ensures advancing { IsBridgeless (IsNeighbour result.grid) → EachTick (IsAdvancingTick result.grid) (history_of result.chapter) }
+        ensures bounded { IsBridgeless (IsNeighbour result.grid) → WaitsAreBounded result.grid (history_of result.chapter) }
+        ensures told { AreTold N.start result.chapter.number (history_of result.chapter) clients.items result.rest.items }
+        ensures tick { result.tick ≡ clock self.world.history }
     {
         let HallState {
             mut core,
@@ -150,10 +147,16 @@ impl<N: OfficeName<A>, A: Allocator + Copy> HallState<N, A> {
             book: _,
         } = self;
         let mut clients = clients;
-        let mut rooms = rooms;
-        fill(&mut core, clients.as_mut_slice(), &mut rooms);
+        let mut rest = rooms;
+        fill(&mut core, clients.as_mut_slice(), &mut rest);
+        let tick = core.clock();
         let (grid, chapter) = core.finish();
-        (grid, chapter, rooms)
+        Final {
+            grid,
+            chapter,
+            tick,
+            rest,
+        }
     }
 }
 
@@ -192,15 +195,8 @@ impl<N: OfficeName<A>, A: Allocator + Copy> Hall<N, A> {
             Err(fault) => return Err((fault, come_home(hall, clients, tickers))),
         };
         hall.state.recall_laws();
-        let tick = hall.state.clock();
         let HallOf { state, robots: _ } = hall;
-        let (grid, chapter, rest) = state.finish(clients, rooms);
-        Ok(Final {
-            grid,
-            chapter,
-            tick,
-            rest,
-        })
+        Ok(state.finish(clients, rooms))
     }
 }
 

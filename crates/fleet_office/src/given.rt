@@ -1,9 +1,9 @@
 //! How many notices the clients of an office were given.
 
-ghost use Rattle.std.specs.Prelude.{◌≡◌, ◌<◌, ◌≤◌, ◌^◌, length};
+ghost use Rattle.std.specs.Prelude.{◌<◌, ◌≤◌, ◌^◌, length};
 ghost use Rattle.std.specs.List.{AllByRecursion};
 ghost use Rattle.fleet_office.specs.Hall.{HallView, IsLawful};
-ghost use Rattle.fleet_office.specs.Given.{counted};
+ghost use Rattle.fleet_office.specs.Given.{AreCounted};
 
 use crate::hall_state::HallState;
 use crate::names::OfficeName;
@@ -15,7 +15,7 @@ use std::sync::Wait;
 /// Puts at the place of each end how many notices it gave.
 fn note_given<A: Allocator + Copy>(ends: &[HallEnd<A>], counts: &mut [u64])
     requires { AllByRecursion (λ e. length e.given < 2 ^ 64) ends.now }
-    ensures { counts.new ≡ counted ends.now counts.old }
+    ensures { AreCounted ends.now counts.old counts.new }
 {
     let Some((end, ends)) = ends.split_first() else {
         return;
@@ -30,7 +30,7 @@ fn note_given<A: Allocator + Copy>(ends: &[HallEnd<A>], counts: &mut [u64])
 impl<N: OfficeName<A>, A: Allocator + Copy> HallState<N, A> {
     /// Puts at the place of each client how many notices it was given.
     pub(crate) fn note_given(&self, counts: &mut [u64])
-        ensures { counts.new ≡ counted self.now.ends counts.old }
+        ensures { AreCounted self.now.ends counts.old counts.new }
     {
         // States that the notices are few enough to be counted.
         let _ = self.core.chapter();
@@ -45,7 +45,7 @@ impl<N: OfficeName<A>, A: Allocator + Copy> Office<N, A> {
     pub fn given<R: Wait>(&self, rt: &R, counts: &mut [u64])
         requires { 0 ≤ 1 }
         ensures { (h : HallView A) × IsLawful N.rings N.start h.world h.ends h.total
-            × (counts.new ≡ counted h.ends counts.old) }
+            × AreCounted h.ends counts.old counts.new }
     {
         let hall = self.hall.lock(rt);
         hall.state.recall_laws();

@@ -37,8 +37,8 @@ pub(crate) fn give_from<A: Allocator + Copy>(
 }
 
 impl<N: OfficeName<A>, A: Allocator + Copy> Office<N, A> {
-    /// Gives each client's notices, client by client, until its mailbox is empty or its outlet is full. Returns how many
-    /// were given: none if nothing is left for a client that has collected all.
+    /// Gives each client's notices, client by client, until its mailbox is empty or its outlet is full. Returns how
+    /// many were given: none if nothing is left for a client that has collected all.
     pub fn give_all<R: Wait>(&self, rt: &R) -> u64
         requires { 0 ≤ 1 }
         ensures given { (h g : HallView A) × IsLawful N.rings N.start h.world h.ends h.total × GivesAll h result g }

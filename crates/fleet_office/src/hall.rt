@@ -46,7 +46,8 @@ impl<N: OfficeName<A>, A: Allocator + Copy> Hall<N, A> {
         self.state.take_one(client)
     }
 
-    /// Gives each client's notices, client by client, until its mailbox is empty or its outlet full. Returns how many were given.
+    /// Gives each client's notices, client by client, until its mailbox is empty or its outlet full. Returns how many
+    /// were given.
     pub fn give_all(&mut self) -> u64
         requires { 0 ≤ self.old.state.total }
         ensures gives { GivesAll self.old.state result self.new.state }
@@ -118,7 +119,8 @@ impl<N: OfficeName<A>, A: Allocator + Copy> Hall<N, A> {
         self.state.tick_with(rt, &mut self.robots, ticker)
     }
 
-    /// A turn: gives all notices, takes the orders, makes one tick, and gives all notices. `Office::turn` says when it is refused.
+    /// A turn: gives all notices, takes the orders, makes one tick, and gives all notices. `Office::turn` says when it
+    /// is refused.
     pub fn turn<R: Alloc<A = A>>(
         &mut self,
         rt: &R,

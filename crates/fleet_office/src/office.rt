@@ -46,11 +46,11 @@ pub struct OfficeOf<X, Y> {
 pub type Office<N, A = Global> = OfficeOf<HallState<N, A>, RobotHooks<A>>;
 
 impl<N: OfficeName<A>, A: Allocator + Copy> Office<N, A> {
-    /// Opens an office over the desk's lanes. Returns it with its clients by number, and with a ticker that has all 65,536 parts
-    /// of the ledger.
+    /// Opens an office over the desk's lanes. Returns it with its clients by number, and with a ticker that has all
+    /// 65,536 parts of the ledger.
     ///
-    /// Refused as `World::open` is, for the first of these that stands: `Limits`, `NoRobots`, `Start`, `Shared`, `Hooks`,
-    /// `NoMemory`.
+    /// Refused as `World::open` is, for the first of these that stands: `Limits`, `NoRobots`, `Start`, `Shared`,
+    /// `Hooks`, `NoMemory`.
     pub fn open(
         alloc: A,
         desk: Desk<A>,

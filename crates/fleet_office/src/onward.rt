@@ -17,8 +17,8 @@ use std::alloc::Allocator;
 use std::sync::Mutex;
 
 impl<N: OfficeName<A>, A: Allocator + Copy> Hall<N, A> {
-    /// The hall over the desk's lanes, of a world that is at the beginning of a chapter, its clients, and a ticker that has all parts
-    /// of the ledger, and made all ticks so far. `Office::over` says which worlds these are.
+    /// The hall over the desk's lanes, of a world that is at the beginning of a chapter, its clients, and a ticker that
+    /// has all parts of the ledger, and made all ticks so far. `Office::over` says which worlds these are.
     pub fn over(desk: Desk<A>, world: World<A>) -> (Hall<N, A>, Vec<Client<A>, A>, Ticker<N>)
         requires named { IsNamed desk N.name N.parts N.rings }
         requires start { N.start ≡ world.core }
@@ -48,10 +48,11 @@ impl<N: OfficeName<A>, A: Allocator + Copy> Hall<N, A> {
 }
 
 impl<N: OfficeName<A>, A: Allocator + Copy> Office<N, A> {
-    /// An office over the desk's lanes, of a world that is at the beginning of a chapter and whose mailboxes have no notices: one that
-    /// was just opened, or one that goes on from a chapter that was kept (`reopen_world` of fleet_reopen). Returns it with its clients
-    /// by number, whose notices, orders and errands are numbered on, and with a ticker that has all 65,536 parts of the ledger, and
-    /// counts the ticks so far as its own. It is never refused.
+    /// An office over the desk's lanes, of a world that is at the beginning of a chapter and whose mailboxes have no
+    /// notices: one that was just opened, or one that goes on from a chapter that was kept (`reopen_world` of
+    /// fleet_reopen). Returns it with its clients by number, whose notices, orders and errands are numbered on, and
+    /// with a ticker that has all 65,536 parts of the ledger, and counts the ticks so far as its own. It is never
+    /// refused.
     ///
     /// The desk has as many clients as the world, and the world's limits.
     pub fn over(desk: Desk<A>, world: World<A>) -> (Office<N, A>, Vec<Client<A>, A>, Ticker<N>)

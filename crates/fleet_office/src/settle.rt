@@ -33,8 +33,8 @@ impl<N: OfficeName<A>, A: Allocator + Copy> HallState<N, A> {
 }
 
 impl<N: OfficeName<A>, A: Allocator + Copy> Hall<N, A> {
-    /// A turn without its tick: gives all notices, takes the orders, and gives all notices. `Office::settle` says when it is
-    /// refused.
+    /// A turn without its tick: gives all notices, takes the orders, and gives all notices. `Office::settle` says when
+    /// it is refused.
     pub fn settle(&mut self) -> Result<TurnReport, TurnFault>
         requires { 0 ≤ self.old.state.total }
         ensures ok { IfOk result (λ r. Settles self.old.state r self.new.state) }
@@ -49,8 +49,8 @@ impl<N: OfficeName<A>, A: Allocator + Copy> Office<N, A> {
     /// A turn without its tick: gives each client's notices, takes at most `lane` orders of each client, by number, and
     /// gives again. So an order has its verdict before the next tick. The report counts no arrivals and has no tick.
     ///
-    /// Refused as the takes of a turn are, for the first of these that is met: `ChapterFull`, where an order has no room, and
-    /// `NoMemory`. What was given and taken before stands, and the fault's report says how much.
+    /// Refused as the takes of a turn are, for the first of these that is met: `ChapterFull`, where an order has no
+    /// room, and `NoMemory`. What was given and taken before stands, and the fault's report says how much.
     pub fn settle<R: Wait>(&self, rt: &R) -> Result<TurnReport, TurnFault>
         requires { 0 ≤ 1 }
         ensures settled { IfOk result (λ r. (h g : HallView A) × IsLawful N.rings N.start h.world h.ends h.total × Settles h r g) }

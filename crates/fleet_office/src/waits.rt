@@ -15,8 +15,8 @@ use std::sync::Wait;
 pub struct WaitReport {
     /// How many ticks the eldest robot has waited; `None` if no robot has an errand.
     pub longest: Option<u64>,
-    /// A number of ticks that no wait reaches, whatever is posted: (number of robots) times (the most edges that a walk can
-    /// have, at least 1). `None` on a map with a bridge.
+    /// A number of ticks that no wait reaches, whatever is posted: (number of robots) times (the most edges that a walk
+    /// can have, at least 1). `None` on a map with a bridge.
     pub limit: Option<u64>,
 }
 

@@ -9,8 +9,8 @@ use crate::goals::Guide;
 use fleet_grid::{Dir, Grid, Outlook, Ways};
 use std::alloc::Allocator;
 
-/// A robot's own cell, the cells next to it, and which of those are nearer to its goal. Where there is no floor the own cell
-/// stands in.
+/// A robot's own cell, the cells next to it, and which of those are nearer to its goal. Where there is no floor the own
+/// cell stands in.
 #[derive(Clone, Copy)]
 pub(crate) struct Around {
     pub(crate) own: u32,
@@ -49,8 +49,8 @@ impl Around {
     }
 }
 
-/// The cell next to the floor cell `own` in a direction where that is an exit, and else `own`. No letter is read. The width is
-/// read beforehand, so that a processor need not foresee which ways are exits.
+/// The cell next to the floor cell `own` in a direction where that is an exit, and else `own`. No letter is read. The
+/// width is read beforehand, so that a processor need not foresee which ways are exits.
 fn spot<A: Allocator + Copy>(grid: &Grid<A>, width: u32, exits: Ways, own: u32, dir: Dir) -> u32
     requires form { HasForm grid.now }
     requires width { width ≡ grid.now.width }
@@ -85,8 +85,8 @@ fn look<A: Allocator + Copy>(grid: &Grid<A>, own: u32, outlook: Outlook) -> Arou
     }
 }
 
-/// Writes each robot's outlook from its cell. The robots' fields are far apart in memory; reading them directly one after
-/// the other lets the processor fetch many of them at once.
+/// Writes each robot's outlook from its cell. The robots' fields are far apart in memory; reading them directly one
+/// after the other lets the processor fetch many of them at once.
 fn ask<G: Guide, A: Allocator + Copy>(
     grid: &Grid<A>,
     from: &[u32],

@@ -7,8 +7,8 @@ ghost use Rattle.fleet_grid.specs.Ways.{AreNearer, AreOpen, IsLess};
 use fleet_grid::{Dir, Grid, Outlook, Ways};
 use std::alloc::Allocator;
 
-/// Where each robot goes, and how far that is. An implementation says `goal` and `at`; `ways` follows from them, and may be
-/// given where a quicker way to it is at hand.
+/// Where each robot goes, and how far that is. An implementation says `goal` and `at`; `ways` follows from them, and
+/// may be given where a quicker way to it is at hand.
 pub trait Goals {
     ghost goal_of: { Self → ℕ → Option ℕ };
 
@@ -22,8 +22,8 @@ pub trait Goals {
     fn at(&self, robot: u32, cell: u32) -> Option<u32>
         ensures { result ≡ distance self.now robot cell };
 
-    /// The ways out of the cell that lead nearer to the robot's goal: of those to floor neighbours the ones to a lesser distance.
-    /// An idle robot has none.
+    /// The ways out of the cell that lead nearer to the robot's goal: of those to floor neighbours the ones to a lesser
+    /// distance. An idle robot has none.
     fn ways<A: Allocator + Copy>(&self, grid: &Grid<A>, robot: u32, cell: u32) -> Ways
         ensures nearer { IsSome (goal_of self.now robot) → AreNearer grid.now (distance self.now robot) cell result.byte }
         ensures idle { goal_of self.now robot ≡ None → result.byte ≡ 0 }
@@ -41,8 +41,8 @@ pub trait Goals {
     }
 }
 
-/// What a step asks about the robots' goals, once for each robot: both kinds of ways at once, so that one read of memory may
-/// answer both. A guide may search before it answers, and the search may fail.
+/// What a step asks about the robots' goals, once for each robot: both kinds of ways at once, so that one read of
+/// memory may answer both. A guide may search before it answers, and the search may fail.
 pub trait Guide {
     /// Why there is no answer.
     type Fault: Drop;
@@ -55,8 +55,8 @@ pub trait Guide {
 
     ghost stays: { Self → Self → Type 0 };
 
-    /// What the robot sees from a floor cell of the map that these goals show. An idle robot has no way that leads nearer. The
-    /// goals stay as they are, with or without an answer.
+    /// What the robot sees from a floor cell of the map that these goals show. An idle robot has no way that leads
+    /// nearer. The goals stay as they are, with or without an answer.
     fn outlook<A: Allocator + Copy>(
         &mut self,
         grid: &Grid<A>,

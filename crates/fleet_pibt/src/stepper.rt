@@ -114,8 +114,8 @@ impl<A: Allocator + Copy> Stepper<A> {
         }
     }
 
-    /// Does what `step` does, for goals that tell the exits of a cell with the ways to the goal. A robot's guide that gives no
-    /// answer is the only error; no robot is planned then.
+    /// Does what `step` does, for goals that tell the exits of a cell with the ways to the goal. A robot's guide that
+    /// gives no answer is the only error; no robot is planned then.
     pub fn step_by<G: Guide>(
         &mut self,
         grid: &Grid<A>,
@@ -186,7 +186,8 @@ fn see<G: Guide, A: Allocator + Copy>(
     Ok(())
 }
 
-/// Plans the robots in their order of priority on an empty board, writes out where each goes, and empties the board again.
+/// Plans the robots in their order of priority on an empty board, writes out where each goes, and empties the board
+/// again.
 fn decide<S: Sight, A: Allocator + Copy>(
     scene: &S,
     from: &[u32],

@@ -12,8 +12,9 @@ use fleet_state::FleetState;
 use std::alloc::{AllocError, Allocator};
 use std::thread::Threads;
 
-/// The cell of the errand after a queue's front, if its robot is to share a whole field to it that no robot has yet: a new
-/// goal's field grows, and is left out. Each errand's cell is floor; this is tested again here, so that no history is needed.
+/// The cell of the errand after a queue's front, if its robot is to share a whole field to it that no robot has yet: a
+/// new goal's field grows, and is left out. Each errand's cell is floor; this is tested again here, so that no history
+/// is needed.
 fn goal_ahead<A: Allocator + Copy>(
     courses: &Courses<A>,
     cache: &FieldCache<A>,
@@ -48,7 +49,8 @@ fn goals_ahead<A: Allocator + Copy>(
     Ok(goals)
 }
 
-/// Searches, side by side, the whole fields of the next goals that robots are to share, and returns whether all fit in the cache.
+/// Searches, side by side, the whole fields of the next goals that robots are to share, and returns whether all fit in
+/// the cache.
 pub(crate) fn search_goals<A: Allocator + Copy + Send + Sync>(
     rt: &(impl Threads + Sync),
     alloc: A,

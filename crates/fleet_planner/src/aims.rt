@@ -15,8 +15,8 @@ use fleet_pibt::Goals;
 use std::alloc::{AllocError, Allocator, Global};
 use std::marker::Model;
 
-/// What each robot of a fleet aims at: its goal with the distances to it, or nothing. Contracts see the list of these, one
-/// for each robot. Robots with one goal share its distances.
+/// What each robot of a fleet aims at: its goal with the distances to it, or nothing. Contracts see the list of these,
+/// one for each robot. Robots with one goal share its distances.
 #[derive(Drop)]
 pub struct Aims<A: Allocator + Copy = Global> {
     store: FieldStore<A>,

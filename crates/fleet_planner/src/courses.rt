@@ -18,8 +18,9 @@ use fleet_pibt::Guide;
 use std::alloc::{AllocError, Allocator, Global};
 use std::marker::Model;
 
-/// What each robot of a fleet is under way to: its goal, or nothing. A robot has a field of its own, which grows as far as the
-/// robot's cells ask, if its goal is new; the fields of goals to which robots go often are searched whole, and shared.
+/// What each robot of a fleet is under way to: its goal, or nothing. A robot has a field of its own, which grows as far
+/// as the robot's cells ask, if its goal is new; the fields of goals to which robots go often are searched whole, and
+/// shared.
 #[derive(Drop)]
 pub struct Courses<A: Allocator + Copy = Global> {
     shared: Aims<A>,
@@ -96,8 +97,8 @@ impl<A: Allocator + Copy> Courses<A> {
         })
     }
 
-    /// Whether a robot that now got this goal would share a whole field that no robot has yet: robots go there often, or the field
-    /// is kept.
+    /// Whether a robot that now got this goal would share a whole field that no robot has yet: robots go there often,
+    /// or the field is kept.
     pub(crate) fn will_share(&self, cache: &FieldCache<A>, goal: u32) -> bool {
         let is_at_hand = self.started.is_recent(goal) || cache.has(goal);
         is_at_hand && !self.shared.has(goal)
@@ -130,8 +131,8 @@ impl<A: Allocator + Copy> Courses<A> {
         self.turn(cache, grid, cells, &[turn])
     }
 
-    /// Gives the robots of these changes their new goals, which are floor cells, or no goal. If two changes are for one robot,
-    /// the later one counts. There are at most as many changes as robots, which are on these cells.
+    /// Gives the robots of these changes their new goals, which are floor cells, or no goal. If two changes are for one
+    /// robot, the later one counts. There are at most as many changes as robots, which are on these cells.
     pub fn turn<B: Allocator + Copy>(
         &mut self,
         cache: &mut FieldCache<A>,

@@ -50,8 +50,8 @@ fn step_into<A: Allocator + Copy>(
     stepper.step_by(grid, cells, waits, aims, ties, tick, to)
 }
 
-/// Where the robots go from their cells in the tick that is being made, by priority inheritance with backtracking. Their goals
-/// stay as they are. The only error is out of memory.
+/// Where the robots go from their cells in the tick that is being made, by priority inheritance with backtracking.
+/// Their goals stay as they are. The only error is out of memory.
 pub(crate) fn plan<A: Allocator + Copy>(
     alloc: A,
     grid: &Grid<A>,

@@ -108,8 +108,8 @@ impl<A: Allocator + Copy> Planner<A> {
         self.bridgeless
     }
 
-    /// Where the robots go in the next tick. A robot's own field grows until it tells the ways from the robot's cell. The only
-    /// error is out of memory; the goals stay as they are.
+    /// Where the robots go in the next tick. A robot's own field grows until it tells the ways from the robot's cell.
+    /// The only error is out of memory; the goals stay as they are.
     pub fn plan(
         &mut self,
         alloc: A,
@@ -186,8 +186,8 @@ impl<A: Allocator + Copy> Planner<A> {
 }
 
 impl<A: Allocator + Copy + Send + Sync> Planner<A> {
-    /// Searches the fields of the robots' next goals side by side, as many as fit among those that are kept. A goal that no robot got
-    /// lately is left out: its field grows.
+    /// Searches the fields of the robots' next goals side by side, as many as fit among those that are kept. A goal
+    /// that no robot got lately is left out: its field grows.
     pub fn search_ahead(
         &mut self,
         rt: &(impl Threads + Sync),
@@ -252,8 +252,8 @@ fn put_turns<A: Allocator + Copy>(state: &FleetState<A>, to: &[u32], turns: &mut
     }
 }
 
-/// The robot of an accepted order and the cell, if the errand is the robot's first. The state is that before the order is
-/// entered.
+/// The robot of an accepted order and the cell, if the errand is the robot's first. The state is that before the order
+/// is entered.
 fn first_goal<A: Allocator + Copy>(
     state: &FleetState<A>,
     order: Order,

@@ -8,8 +8,8 @@ const SETS: u32 = 512;
 /// On a map with at most this many cells there is a place for each cell.
 const SMALL_MAP: u32 = 16384;
 
-/// Goals in sets of four, the last one first. A goal's set follows from its number; the goal that was noted longest ago makes
-/// way in it. A goal that is still there comes back soon.
+/// Goals in sets of four, the last one first. A goal's set follows from its number; the goal that was noted longest ago
+/// makes way in it. A goal that is still there comes back soon.
 #[derive(Drop)]
 pub(crate) struct RecentGoals<A: Allocator + Copy> {
     sets: Vec<[u32; 4], A>,

@@ -98,8 +98,8 @@ impl<A: Allocator + Copy> Started<A> {
         }
     }
 
-    /// A field to a turn's goal that grows toward a cell, if no whole field of the goal is at hand, and robots do not often go
-    /// there.
+    /// A field to a turn's goal that grows toward a cell, if no whole field of the goal is at hand, and robots do not
+    /// often go there.
     fn start<B: Allocator + Copy>(
         &mut self,
         aims: &Aims<A>,

@@ -12,6 +12,7 @@ use Rattle.fleet_plans.specs.declared.runners.fault.RunnersKey.TheVariants.{Acti
 use Rattle.fleet_plans.specs.declared.runners.fault.RunnersFault.{RunnersFault}
 use Rattle.fleet_plans.specs.declared.runners.fault.RunnersFault.TheVariants.{NotJson, Key, Item, NoMemory}
 use Rattle.fleet_grid.specs.declared.dir.Dir.{Dir}
+use Rattle.fleet_plans.specs.declared.limit.TheConstants.{MOST_PLAN_BYTES}
 use Rattle.fleet_plans.specs.Cells.{parts_of, cell_at}
 use Rattle.fleet_plans.specs.Turning.{dirs_in, turned_paths}
 use Rattle.fleet_plans.specs.Text.{Source, Walked, IsPlanOf}
@@ -46,7 +47,7 @@ start_in w h d = option_and_then (λ row. option_map (λ column. cell_at w h col
 
 -- no text that is read has more robots
 abbrev pub with_start : ℕ → ℕ → List ℕ → Data → Option (List ℕ)
-with_start w h cells d = if nat_lt (length cells) 16777216 then option_map (λ c. cells ++ c ∷ []) (start_in w h d) else None
+with_start w h cells d = if nat_lt (length cells) MOST_PLAN_BYTES then option_map (λ c. cells ++ c ∷ []) (start_in w h d) else None
 
 -- the robots' cells, after these
 unfoldable pub starts_of : ℕ → ℕ → List ℕ → Items → Result (List ℕ) RunnersFault
@@ -78,7 +79,7 @@ track_of letters (part ∷ parts) = option_and_then (λ letter. track_of (letter
 
 -- no text that is read has a longer path
 abbrev pub path_from : List ℕ → Option (List ℕ)
-path_from text = if nat_le (length text) 16777216 then track_of [] (parts_of text) else None
+path_from text = if nat_le (length text) MOST_PLAN_BYTES then track_of [] (parts_of text) else None
 
 abbrev pub path_in : Data → Option (List ℕ)
 path_in d = option_and_then path_from (as_str d)

@@ -1,8 +1,9 @@
 -- A plan as a table: the line `agent,time,row,column`, and a line of these numbers for each cell of each robot's path, robot by robot, time
 -- by time.
-use Rattle.std.specs.Prelude.{◌≡◌, ℕ, ◌+◌, List, [], ◌∷◌, ◌++◌, ◌<◌, ◌≤◌, length, slice_index_or, Option, Some, None, Result, Ok, Err, nat_lt, ◌&&◌, if◌then◌else◌}
+use Rattle.std.specs.Prelude.{◌≡◌, ℕ, ◌+◌, ◌-◌, List, [], ◌∷◌, ◌++◌, ◌<◌, ◌≤◌, length, slice_index_or, Option, Some, None, Result, Ok, Err, nat_lt, ◌&&◌, if◌then◌else◌}
 use Rattle.std.specs.Option.{option_and_then}
 use Rattle.fleet_map.specs.Text.{number_of, lines_of}
+use Rattle.fleet_plans.specs.declared.limit.TheConstants.{MOST_PLAN_BYTES}
 use Rattle.fleet_plans.specs.declared.table.Fields.{Fields as Lent}
 use Rattle.fleet_plans.specs.declared.table.Trails.{Trails as Owned}
 use Rattle.fleet_plans.specs.Form.{is_header}
@@ -49,17 +50,17 @@ no_trails = record { whole = []; path = [] }
 
 -- there are not more robots than a text can have, nor longer paths
 pub record AreShort (t : Trails) : Type 0 where
-  pub few : length t.whole < 16777216
-  pub last : length t.path ≤ 16777216
-  pub each : (r : ℕ) → length (slice_index_or t.whole r []) ≤ 16777216
+  pub few : length t.whole < MOST_PLAN_BYTES
+  pub last : length t.path ≤ MOST_PLAN_BYTES
+  pub each : (r : ℕ) → length (slice_index_or t.whole r []) ≤ MOST_PLAN_BYTES
 
 -- the next cell of the last robot; no text has more than this many
 abbrev pub with_cell : Trails → ℕ → Option Trails
-with_cell t cell = if nat_lt (length t.path) 16777216 then Some (record { whole = t.whole; path = t.path ++ cell ∷ [] }) else None
+with_cell t cell = if nat_lt (length t.path) MOST_PLAN_BYTES then Some (record { whole = t.whole; path = t.path ++ cell ∷ [] }) else None
 
 -- the first cell of the next robot
 abbrev pub with_robot : Trails → ℕ → Option Trails
-with_robot t cell = if nat_lt 0 (length t.path) && nat_lt (length t.whole) 16777215 then Some (record { whole = t.whole ++ t.path ∷ []; path = cell ∷ [] }) else None
+with_robot t cell = if nat_lt 0 (length t.path) && nat_lt (length t.whole) (MOST_PLAN_BYTES - 1) then Some (record { whole = t.whole ++ t.path ∷ []; path = cell ∷ [] }) else None
 
 -- a cell of this robot at this time
 abbrev pub with_numbers : Trails → Option ℕ → Option ℕ → ℕ → Option Trails

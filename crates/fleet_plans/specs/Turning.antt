@@ -7,6 +7,7 @@ use Rattle.serde_json.specs.Data.{Data, Items, no_items, item}
 use Rattle.serde_json.specs.Find.{get, at, as_str, as_array}
 use Rattle.fleet_grid.specs.declared.dir.Dir.{Dir}
 use Rattle.fleet_grid.specs.declared.dir.Dir.TheVariants.{North, East, South, West}
+use Rattle.fleet_plans.specs.declared.limit.TheConstants.{MOST_PLAN_BYTES}
 use Rattle.fleet_plans.specs.declared.runners.fault.RunnersKey.{RunnersKey}
 use Rattle.fleet_plans.specs.declared.runners.fault.RunnersKey.TheVariants.{Start}
 use Rattle.fleet_plans.specs.declared.runners.fault.RunnersFault.{RunnersFault}
@@ -52,7 +53,7 @@ turned dir (part ∷ parts) = option_and_then (λ a. option_map (λ letters. a.0
 
 -- no text that is read has a longer path
 abbrev pub turned_text : Dir → List ℕ → Option (List ℕ)
-turned_text dir text = if nat_le (length text) 16777216 then turned dir (parts_of text) else None
+turned_text dir text = if nat_le (length text) MOST_PLAN_BYTES then turned dir (parts_of text) else None
 
 abbrev pub turned_in : Dir → Data → Option (List ℕ)
 turned_in dir d = option_and_then (turned_text dir) (as_str d)
@@ -73,7 +74,7 @@ dir_in d = option_and_then dir_named (option_and_then as_str (at 2 d))
 
 -- no text that is read has more robots
 abbrev pub with_dir : List Dir → Data → Option (List Dir)
-with_dir dirs d = if nat_lt (length dirs) 16777216 then option_map (λ dir. dirs ++ dir ∷ []) (dir_in d) else None
+with_dir dirs d = if nat_lt (length dirs) MOST_PLAN_BYTES then option_map (λ dir. dirs ++ dir ∷ []) (dir_in d) else None
 
 -- the robots' directions, after these
 unfoldable pub dirs_of : List Dir → Items → Result (List Dir) RunnersFault

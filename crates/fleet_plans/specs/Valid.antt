@@ -34,7 +34,7 @@ abbrev pub IsPlanFault : Floor → List (List ℕ) → ℕ → StepFault → Typ
 IsPlanFault m places time fault =
     ((time ≡ 0) × IsPlacementFault m (place_at places 0) fault) ⊎ ((t : ℕ) × (time ≡ t + 1) × IsStepFault m places t fault)
 
--- as many times and robots as a text of at most 16,777,216 bytes can have
+-- as many times and robots as the longest text can have
 pub record HasSize (places : List (List ℕ)) : Type 0 where
   pub some : 1 ≤ length places
   pub times : length places < 2 ^ 32

@@ -14,6 +14,7 @@ use crate::follow::follow;
 use crate::form::is_agent;
 use crate::head::split_once;
 use crate::judge::PlanJudge;
+use crate::limit::MOST_PLAN_BYTES;
 use crate::places::is_number;
 use crate::sides::Sides;
 use fleet_history::Row;
@@ -132,11 +133,11 @@ fn agent_in(
 
 /// The paths of all robots.
 fn all_paths(alloc: Global, sides: Sides, text: &[u8]) -> Result<Vec<Row<u32>>, PlanTextFault>
-    requires { length text.now ≤ 16777216 }
+    requires { length text.now ≤ MOST_PLAN_BYTES }
     ensures read { IfOk result (λ paths. AreAgents sides.width sides.height (lines_of text.now) (length (lines_of text.now)) paths.items) }
     ensures fault { IfErr result (λ fault. IsNoAgents sides.width sides.height text.now fault) }
-    ensures few { IfOk result (λ paths. length paths.items ≤ 16777216) }
-    ensures short { IfOk result (λ paths. (r : ℕ) → length (slice_index_or paths.items r []) ≤ 16777216) }
+    ensures few { IfOk result (λ paths. length paths.items ≤ MOST_PLAN_BYTES) }
+    ensures short { IfOk result (λ paths. (r : ℕ) → length (slice_index_or paths.items r []) ≤ MOST_PLAN_BYTES) }
 {
     let mut paths = Vec::new(alloc);
     let mut rest = text;
@@ -151,8 +152,8 @@ fn all_paths(alloc: Global, sides: Sides, text: &[u8]) -> Result<Vec<Row<u32>>, 
     Ok(paths)
 }
 
-/// Gives the judge the placements of a plan with a line `Agent K: (R,C)->(R,C)->..` for each robot. Such a plan names no
-/// goals.
+/// Gives the judge the placements of a plan with a line `Agent K: (R,C)->(R,C)->..` for each robot. Such a plan names
+/// no goals.
 ///
 /// The fault is the first line that is not its robot's, or `NoMemory`.
 pub(crate) fn read_agents<B: Allocator + Copy>(
@@ -161,7 +162,7 @@ pub(crate) fn read_agents<B: Allocator + Copy>(
     text: &[u8],
     judge: &mut PlanJudge<Global, B>,
 ) -> Result<(), PlanTextFault>
-    requires short { length text.now ≤ 16777216 }
+    requires short { length text.now ≤ MOST_PLAN_BYTES }
     requires fresh { HasJudged judge.old.floor [] judge.old }
     ensures read { IfOk result (λ _. IsGiven judge.old.floor (IsAgentsPlan sides.width sides.height text.now) judge.new) }
     ensures fault { IfErr result (λ fault. IsNoAgents sides.width sides.height text.now fault) }

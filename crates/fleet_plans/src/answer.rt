@@ -18,6 +18,7 @@ use crate::form::{TextForm, form_of};
 use crate::goals::{Demand, GoalFault, undone};
 use crate::judge::PlanJudge;
 use crate::judging::PlanFault;
+use crate::limit::MOST_PLAN_BYTES;
 use crate::report::PlanReport;
 use crate::runners::RunnersFault;
 use crate::sides::Sides;
@@ -78,7 +79,8 @@ fn lent<A: Allocator + Copy>(goals: &Option<Row<u32, A>>) -> Option<&[u32]>
     }
 }
 
-/// The answer to a plan that is free of conflicts, after the head of this text, from this first placement to this last one.
+/// The answer to a plan that is free of conflicts, after the head of this text, from this first placement to this last
+/// one.
 fn valid_answer(
     demand: Demand<'_>,
     head: &[u8],
@@ -87,7 +89,7 @@ fn valid_answer(
     last: &[u32],
     report: PlanReport,
 ) -> PlanAnswer
-    requires short { length head.now ≤ 16777216 }
+    requires short { length head.now ≤ MOST_PLAN_BYTES }
     requires begins { length first.now < 2 ^ 32 }
     requires ends { length last.now < 2 ^ 32 }
     ensures { result ≡ valid_answer (asked_by demand.entry) (lines_of head.now) (goals_in goals.entry) first.now last.now report }
@@ -111,7 +113,7 @@ fn answer_of<A: Allocator + Copy, B: Allocator + Copy>(
     goals: Option<&[u32]>,
     judge: &PlanJudge<A, B>,
 ) -> PlanAnswer
-    requires short { length head.now ≤ 16777216 }
+    requires short { length head.now ≤ MOST_PLAN_BYTES }
     requires some { 1 ≤ judge.now.count }
     ensures { (m : Floor) (places : List (List ℕ)) → HasJudged m places judge.now → IsJudged m (asked_by demand.entry) (lines_of head.now) (goals_in goals.entry) places result }
 {
@@ -123,7 +125,7 @@ fn answer_of<A: Allocator + Copy, B: Allocator + Copy>(
 
 /// The answer where this line is at fault: the text is cut if it has no such line.
 fn at_line(text: &[u8], line: u32) -> PlanAnswer
-    requires { length text.now ≤ 16777216 }
+    requires { length text.now ≤ MOST_PLAN_BYTES }
     ensures { result ≡ at_line (lines_of text.now) line }
 {
     if line > line_count(text) {
@@ -156,7 +158,7 @@ fn json_fault(fault: RunnersFault) -> Result<RunnersFault, AllocError>
 
 /// The answer to a text that is no plan; an error for out of memory.
 fn named(text: &[u8], fault: TextFault) -> Result<PlanAnswer, AllocError>
-    requires { length text.now ≤ 16777216 }
+    requires { length text.now ≤ MOST_PLAN_BYTES }
     ensures { IfOk result (λ answer. IsNamed (lines_of text.now) fault answer) }
 {
     match fault {
@@ -174,7 +176,7 @@ pub(crate) fn answer_text(
     text: &[u8],
     judge: &mut PlanJudge,
 ) -> Result<PlanAnswer, AllocError>
-    requires short { length text.now ≤ 16777216 }
+    requires short { length text.now ≤ MOST_PLAN_BYTES }
     requires fresh { HasJudged judge.old.floor [] judge.old }
     ensures answer { (m : Map) → IsOf m sides.width sides.height judge.old.floor → IfOk result (λ answer. IsTextAnswer (asked_by demand.entry) m form text.now answer) }
     // If the judge keeps placements, they are those of the plan.
@@ -195,7 +197,7 @@ pub(crate) fn answer_on(
     text: &[u8],
 ) -> Result<PlanAnswer, AllocError>
     requires sides { HasSides (view map) }
-    requires short { length text.now ≤ 16777216 }
+    requires short { length text.now ≤ MOST_PLAN_BYTES }
     ensures { IfOk result (λ answer. IsTextAnswer (asked_by demand.entry) (view map) form text.now answer) }
 {
     let sides = sides_of(&map);
@@ -221,8 +223,8 @@ pub(crate) fn map_fault(fault: MapFault) -> Result<MapFault, AllocError>
     }
 }
 
-/// The answer to the text of a map and of a plan in this form, of which it may be asked that it leads the robots to their
-/// goals.
+/// The answer to the text of a map and of a plan in this form, of which it may be asked that it leads the robots to
+/// their goals.
 pub(crate) fn answer_to(
     alloc: Global,
     demand: Demand<'_>,
@@ -230,7 +232,7 @@ pub(crate) fn answer_to(
     form: TextForm,
     text: &[u8],
 ) -> Result<PlanAnswer, AllocError>
-    requires { length text.now ≤ 16777216 }
+    requires { length text.now ≤ MOST_PLAN_BYTES }
     ensures { IfOk result (λ answer. IsAnswerTo (asked_by demand.entry) map.now form text.now answer) }
 {
     match read_map(alloc, map) {
@@ -242,7 +244,7 @@ pub(crate) fn answer_to(
 /// The answer to the text of a map and of a plan: a fault of the map; if there is none, a fault of the plan's text; if
 /// there is none, the verdict on the plan. A plan is cut, or not the one of its head, only if it is free of conflicts.
 pub fn check_texts(alloc: Global, map: &[u8], text: &[u8]) -> Result<PlanAnswer, AllocError>
-    requires { length text.now ≤ 16777216 }
+    requires { length text.now ≤ MOST_PLAN_BYTES }
     ensures { IfOk result (λ answer. IsPlanAnswer map.now text.now answer) }
 {
     answer_to(alloc, Demand::Nothing, map, form_of(text), text)
@@ -250,7 +252,7 @@ pub fn check_texts(alloc: Global, map: &[u8], text: &[u8]) -> Result<PlanAnswer,
 
 /// The answer of `check_texts`, where a plan is valid only if each robot ends on its goal.
 pub fn check_solution(alloc: Global, map: &[u8], text: &[u8]) -> Result<PlanAnswer, AllocError>
-    requires { length text.now ≤ 16777216 }
+    requires { length text.now ≤ MOST_PLAN_BYTES }
     ensures { IfOk result (λ answer. IsSolutionAnswer map.now text.now answer) }
 {
     answer_to(alloc, Demand::OwnGoals, map, form_of(text), text)

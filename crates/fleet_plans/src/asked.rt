@@ -9,6 +9,7 @@ ghost use Rattle.fleet_plans.specs.Answer.{IsOnScenario, IsTripsAnswer, IsScenar
 use crate::answer::{PlanAnswer, answer_on, answer_to, line_of, map_fault, sides_of};
 use crate::form::{TextForm, form_of};
 use crate::goals::Demand;
+use crate::limit::MOST_PLAN_BYTES;
 use crate::scenario::{Scenario, read_scenario};
 use fleet_map::{MapText, read_map};
 use std::alloc::{AllocError, Global};
@@ -22,8 +23,8 @@ fn scenario_on(
     text: &[u8],
 ) -> Result<PlanAnswer, AllocError>
     requires sides { HasSides (view map) }
-    requires scenario { length scenario.now ≤ 16777216 }
-    requires short { length text.now ≤ 16777216 }
+    requires scenario { length scenario.now ≤ MOST_PLAN_BYTES }
+    requires short { length text.now ≤ MOST_PLAN_BYTES }
     ensures { IfOk result (λ answer. IsOnScenario (view map) scenario.now form text.now answer) }
 {
     match read_scenario(alloc, sides_of(&map), scenario) {
@@ -47,8 +48,8 @@ fn answer_trips(
     form: TextForm,
     text: &[u8],
 ) -> Result<PlanAnswer, AllocError>
-    requires scenario { length scenario.now ≤ 16777216 }
-    requires short { length text.now ≤ 16777216 }
+    requires scenario { length scenario.now ≤ MOST_PLAN_BYTES }
+    requires short { length text.now ≤ MOST_PLAN_BYTES }
     ensures { IfOk result (λ answer. IsTripsAnswer map.now scenario.now form text.now answer) }
 {
     match read_map(alloc, map) {
@@ -57,16 +58,16 @@ fn answer_trips(
     }
 }
 
-/// The answer of `check_texts`, where a plan is valid only if its robots begin and end as this scenario says: robot k as its
-/// line k + 2. A fault of the scenario is named before one of the plan.
+/// The answer of `check_texts`, where a plan is valid only if its robots begin and end as this scenario says: robot k
+/// as its line k + 2. A fault of the scenario is named before one of the plan.
 pub fn check_scenario(
     alloc: Global,
     map: &[u8],
     scenario: &[u8],
     text: &[u8],
 ) -> Result<PlanAnswer, AllocError>
-    requires scenario { length scenario.now ≤ 16777216 }
-    requires short { length text.now ≤ 16777216 }
+    requires scenario { length scenario.now ≤ MOST_PLAN_BYTES }
+    requires short { length text.now ≤ MOST_PLAN_BYTES }
     ensures { IfOk result (λ answer. IsScenarioAnswer map.now scenario.now text.now answer) }
 {
     answer_trips(alloc, map, scenario, form_of(text), text)
@@ -82,8 +83,8 @@ pub fn check_form(
     map: &[u8],
     text: &[u8],
 ) -> Result<PlanAnswer, AllocError>
-    requires scenario { IfSome scenario (λ trips. length trips.now ≤ 16777216) }
-    requires short { length text.now ≤ 16777216 }
+    requires scenario { IfSome scenario (λ trips. length trips.now ≤ MOST_PLAN_BYTES) }
+    requires short { length text.now ≤ MOST_PLAN_BYTES }
     ensures { IfOk result (λ answer. IsFormAnswer form strict (option_copied scenario.entry) map.now text.now answer) }
 {
     match scenario {

@@ -6,6 +6,7 @@ ghost use Rattle.fleet_plans.specs.Head.{split_once};
 ghost use Rattle.fleet_plans.specs.Claims.{key_text, head_text, number_at, said, differs, exceeds, is_unlike_makespan, unmet};
 
 use crate::head::split_once;
+use crate::limit::MOST_PLAN_BYTES;
 use crate::report::PlanReport;
 use fleet_map::text::{first_line, number_up_to};
 use std::fmt;
@@ -116,9 +117,9 @@ fn is_unlike_makespan(said: Option<u64>, report: PlanReport) -> bool
 
 /// The number of lines of a text.
 pub(crate) fn line_count(text: &[u8]) -> u32
-    requires { length text.now ≤ 16777216 }
+    requires { length text.now ≤ MOST_PLAN_BYTES }
     ensures exact { result ≡ length (lines_of text.now) }
-    ensures few { result ≤ 16777216 }
+    ensures few { result ≤ MOST_PLAN_BYTES }
 {
     let mut count = 0;
     let mut rest = text;
@@ -131,7 +132,7 @@ pub(crate) fn line_count(text: &[u8]) -> u32
 
 /// The first that the head of a text says and that is not so of a plan with these figures.
 pub(crate) fn unmet(text: &[u8], report: PlanReport) -> Option<HeadFault>
-    requires { length text.now ≤ 16777216 }
+    requires { length text.now ≤ MOST_PLAN_BYTES }
     ensures { result ≡ unmet (lines_of text.now) report }
 {
     let makespan = said(HeadKey::Makespan, text);

@@ -10,6 +10,7 @@ ghost use Rattle.fleet_plans.specs.Shown.{shown, opened, Gives};
 
 use crate::cells::listed_cells;
 use crate::fault::PlanTextFault;
+use crate::limit::MOST_PLAN_BYTES;
 use crate::sides::Sides;
 use fleet_history::Row;
 use fleet_map::text::first_line;
@@ -88,7 +89,7 @@ impl<A: Allocator + Copy> Head<A> {
         value: &[u8],
     ) -> Result<(), PlanTextFault>
         ensures read { Gives (λ done. shown self.new) result (or_line number (with_value sides.width sides.height (shown self.old) key.now value.now)) }
-        ensures few { length value.now ≤ 16777216 → HasFewStarts (shown self.old) → IfOk result (λ _. HasFewStarts (shown self.new)) }
+        ensures few { length value.now ≤ MOST_PLAN_BYTES → HasFewStarts (shown self.old) → IfOk result (λ _. HasFewStarts (shown self.new)) }
     {
         let fault = PlanTextFault::Line(number);
         if key == b"starts".as_slice() {
@@ -113,7 +114,7 @@ impl<A: Allocator + Copy> Head<A> {
         line: &[u8],
     ) -> Result<(), PlanTextFault>
         ensures read { Gives (λ done. shown self.new) result (or_line number (with_line sides.width sides.height (shown self.old) line.now)) }
-        ensures few { length line.now ≤ 16777216 → HasFewStarts (shown self.old) → IfOk result (λ _. HasFewStarts (shown self.new)) }
+        ensures few { length line.now ≤ MOST_PLAN_BYTES → HasFewStarts (shown self.old) → IfOk result (λ _. HasFewStarts (shown self.new)) }
     {
         if line.is_empty() {
             return Ok(());
@@ -141,11 +142,11 @@ pub(crate) fn read_head<A: Allocator + Copy>(
     sides: Sides,
     text: &[u8],
 ) -> Result<Opened<'_, A>, PlanTextFault>
-    requires { length text.now ≤ 16777216 }
+    requires { length text.now ≤ MOST_PLAN_BYTES }
     ensures read { Gives opened result (head_of sides.width sides.height blank_head 1 (lines_of text.now)) }
-    ensures room { IfOk result (λ x. x.number + length x.rest.now ≤ 2 + 16777216) }
+    ensures room { IfOk result (λ x. x.number + length x.rest.now ≤ 2 + MOST_PLAN_BYTES) }
     ensures few { IfOk result (λ x. HasFewStarts (shown x.head)) }
-    ensures short { IfOk result (λ x. length x.rest.now ≤ 16777216) }
+    ensures short { IfOk result (λ x. length x.rest.now ≤ MOST_PLAN_BYTES) }
 {
     let mut head = Head::new();
     let mut number = 1;

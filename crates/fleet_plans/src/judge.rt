@@ -20,8 +20,9 @@ use std::alloc::{AllocError, Allocator, Global};
 use std::marker::Model;
 
 /// A judge of one plan. It is given the robots' cells at one time after the other, from time 0 on, and keeps only the
-/// last of these placements, each robot's cost, and the first fault; if it is asked to, all placements. Contracts see what
-/// it keeps as a `Judged`, and `HasJudged m places judge` says that it was given exactly these placements on the map m.
+/// last of these placements, each robot's cost, and the first fault; if it is asked to, all placements. Contracts see
+/// what it keeps as a `Judged`, and `HasJudged m places judge` says that it was given exactly these placements on the
+/// map m.
 #[derive(Drop)]
 pub struct PlanJudge<'a, A: Allocator + Copy = Global, B: Allocator + Copy = Global> {
     alloc: A,

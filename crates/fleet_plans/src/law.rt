@@ -16,16 +16,16 @@ pub fn robots_stay_apart()
     ensures one_fleet { (m : Floor) (places : List (List ℕ)) (t : ℕ) → IsValidPlan m places → t < length places → length (place_at places t) ≡ length (place_at places 0) }
 {}
 
-/// What is read of a text with a head is what its lines say: the lines before `solution=` are the head; those after it are a line
-/// for each time, or one for each robot.
+/// What is read of a text with a head is what its lines say: the lines before `solution=` are the head; those after it
+/// are a line for each time, or one for each robot.
 pub fn a_text_is_by_its_lines()
     ensures head { (w h : ℕ) (lines : List (List ℕ)) (o : Opened) → head_of w h blank_head 1 lines ≡ Ok o → IsHead w h lines o }
     ensures places { (w h : ℕ) (head : Head) (number : ℕ) (lines places : List (List ℕ)) → places_of w h head [] number lines ≡ Ok places → ArePlaces w h head lines places }
     ensures tracks { (robots number : ℕ) (lines tracks : List (List ℕ)) → tracks_of robots [] number lines ≡ Ok tracks → AreTracks robots lines tracks }
 {}
 
-/// A letter leads to the next cell in its direction, or off the map if there is none; with `w` a robot stays, and off the map with any letter.
-/// Nothing else is where it leads.
+/// A letter leads to the next cell in its direction, or off the map if there is none; with `w` a robot stays, and off
+/// the map with any letter. Nothing else is where it leads.
 pub fn letters_lead_to_the_next_cell()
     ensures leads { (w h cell letter : ℕ) → Leads w h cell letter (moved w h cell letter) }
     ensures only { (w h cell letter a b : ℕ) → Leads w h cell letter a → Leads w h cell letter b → a ≡ b }

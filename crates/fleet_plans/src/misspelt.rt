@@ -9,6 +9,7 @@ ghost use Rattle.fleet_plans.specs.Misspelt.{known_text, without_s, is_like, lik
 
 use crate::form::TextForm;
 use crate::head::split_once;
+use crate::limit::MOST_PLAN_BYTES;
 use crate::text::headed;
 use fleet_map::text::{first_line, first_word};
 use std::fmt;
@@ -137,7 +138,7 @@ fn like_in(number: u32, line: &[u8]) -> Option<Misspelt>
 /// The first line of the head of a plan in this form that says nothing, and whose key is like one that says something.
 #[tactic(auto, unfolding(crate::specs::Misspelt::misspelt_of))]
 pub fn first_misspelt(form: TextForm, text: &[u8]) -> Option<Misspelt>
-    requires { length text.now ≤ 16777216 }
+    requires { length text.now ≤ MOST_PLAN_BYTES }
     ensures { result ≡ misspelt_of 1 (head_by form text.now) }
 {
     let mut number = 1;

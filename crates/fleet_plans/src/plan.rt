@@ -11,6 +11,7 @@ ghost use Rattle.fleet_plans.specs.inside.Given.{IsGiven};
 use crate::fault::PlanTextFault;
 use crate::head::{Head, Opened, read_head};
 use crate::judge::PlanJudge;
+use crate::limit::MOST_PLAN_BYTES;
 use crate::places::{covers, read_places};
 use crate::sides::Sides;
 use crate::tracks::read_tracks;
@@ -27,9 +28,9 @@ fn read_moves<A: Allocator + Copy, B: Allocator + Copy>(
     text: &[u8],
     judge: &mut PlanJudge<A, B>,
 ) -> Result<(), PlanTextFault>
-    requires room { number + length text.now ≤ 2 + 16777216 }
+    requires room { number + length text.now ≤ 2 + MOST_PLAN_BYTES }
     requires few { HasFewStarts (shown head.now) }
-    requires short { length text.now ≤ 16777216 }
+    requires short { length text.now ≤ MOST_PLAN_BYTES }
     requires fresh { HasJudged judge.old.floor [] judge.old }
     ensures read { IfOk result (λ _. IsGiven judge.old.floor (IsReadAs sides.width sides.height (from_starts (shown head.now) number (lines_of text.now) (shown head.now).starts) (shown head.now).goals) judge.new) }
     ensures fault { IfErr result (λ fault. FailsAt fault (from_starts (shown head.now) number (lines_of text.now) (shown head.now).starts)) }
@@ -53,9 +54,9 @@ fn read_solution<A: Allocator + Copy, B: Allocator + Copy>(
     text: &[u8],
     judge: &mut PlanJudge<A, B>,
 ) -> Result<(), PlanTextFault>
-    requires room { number + length text.now ≤ 2 + 16777216 }
+    requires room { number + length text.now ≤ 2 + MOST_PLAN_BYTES }
     requires few { HasFewStarts (shown head.now) }
-    requires short { length text.now ≤ 16777216 }
+    requires short { length text.now ≤ MOST_PLAN_BYTES }
     requires fresh { HasJudged judge.old.floor [] judge.old }
     ensures read { IfOk result (λ _. IsGiven judge.old.floor (IsReadAs sides.width sides.height (source_after sides.width sides.height (after (shown head.now) number (lines_of text.now))) (shown head.now).goals) judge.new) }
     ensures fault { IfErr result (λ fault. FailsAt fault (source_after sides.width sides.height (after (shown head.now) number (lines_of text.now)))) }
@@ -78,7 +79,7 @@ pub(crate) fn read_plan<A: Allocator + Copy, B: Allocator + Copy>(
     text: &[u8],
     judge: &mut PlanJudge<A, B>,
 ) -> Result<Option<Row<u32, A>>, PlanTextFault>
-    requires short { length text.now ≤ 16777216 }
+    requires short { length text.now ≤ MOST_PLAN_BYTES }
     requires fresh { HasJudged judge.old.floor [] judge.old }
     ensures read { IfOk result (λ goals. IsGiven judge.old.floor (IsReadAs sides.width sides.height (source_of sides.width sides.height text.now) goals) judge.new) }
     ensures fault { IfErr result (λ fault. FailsAt fault (source_of sides.width sides.height text.now)) }

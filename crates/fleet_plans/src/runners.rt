@@ -16,6 +16,7 @@ ghost use Rattle.fleet_plans.specs.Judge.{HasJudged};
 ghost use Rattle.fleet_plans.specs.inside.Given.{IsGiven};
 
 use crate::judge::PlanJudge;
+use crate::limit::MOST_PLAN_BYTES;
 use crate::sides::Sides;
 use crate::walk::walk;
 pub use fault::{RunnersFault, RunnersKey};
@@ -95,7 +96,7 @@ fn lent(alloc: Global, tracks: &[Row<u8>]) -> Result<Vec<&[u8]>, AllocError>
 /// The directions of robots that turn.
 fn dirs_by(alloc: Global, turns: bool, plan: &Value) -> Result<Row<Dir>, RunnersFault>
     ensures read { Tells (λ dirs. dirs) result (dirs_by turns (view plan.now)) }
-    ensures few { IfOk result (λ dirs. length dirs ≤ 16777216) }
+    ensures few { IfOk result (λ dirs. length dirs ≤ MOST_PLAN_BYTES) }
 {
     if turns {
         read_dirs(alloc, plan)
@@ -113,10 +114,10 @@ fn tracks_by(
     dirs: &[Dir],
     plan: &Value,
 ) -> Result<Vec<Row<u8>>, RunnersFault>
-    requires robots { robots ≤ 16777216 }
-    requires few { length dirs.now ≤ 16777216 }
+    requires robots { robots ≤ MOST_PLAN_BYTES }
+    requires few { length dirs.now ≤ MOST_PLAN_BYTES }
     ensures read { Tells (λ tracks. tracks.items) result (tracks_by key turns robots dirs.now (view plan.now)) }
-    ensures short { IfOk result (λ tracks. (r : ℕ) → length (slice_index_or tracks.items r []) ≤ 16777216) }
+    ensures short { IfOk result (λ tracks. (r : ℕ) → length (slice_index_or tracks.items r []) ≤ MOST_PLAN_BYTES) }
 {
     if turns {
         read_turned(alloc, key, dirs, plan)
@@ -152,8 +153,8 @@ fn judge_value<B: Allocator + Copy>(
 
 /// Gives the judge the placements of a plan in JSON, in the form of the League of Robot Runners: `start` has each
 /// robot's row and column, and `actualPaths` its steps, as letters U, D, L, R, W separated by commas; for robots that
-/// turn, `start` has the direction as well, and the letters are F, R, C, W. Such a plan names no goals. The steps may be
-/// asked for under another key, `plannerPaths`.
+/// turn, `start` has the direction as well, and the letters are F, R, C, W. Such a plan names no goals. The steps may
+/// be asked for under another key, `plannerPaths`.
 ///
 /// The fault is the first one, with the keys in the order of `RunnersKey`.
 pub(crate) fn read_runners<B: Allocator + Copy>(

@@ -7,6 +7,7 @@ ghost use Rattle.fleet_plans.specs.Shown.{Gives, trips};
 
 use crate::cells::coordinate_of;
 use crate::fault::PlanTextFault;
+use crate::limit::MOST_PLAN_BYTES;
 use crate::misspelt::word_of;
 use crate::places::is_number;
 use crate::sides::Sides;
@@ -97,7 +98,7 @@ fn is_version(line: &[u8]) -> bool
 /// The starts and goals of the lines after the first.
 #[tactic(auto, unfolding(crate::specs::Scenario::trips_of))]
 fn read_trips(alloc: Global, sides: Sides, text: &[u8]) -> Result<Scenario, PlanTextFault>
-    requires { length text.now ≤ 16777216 }
+    requires { length text.now ≤ MOST_PLAN_BYTES }
     ensures { Gives trips result (trips_of sides.width sides.height (record { starts = []; goals = [] }) 2 (lines_of text.now)) }
 {
     let mut starts = Vec::new(alloc);
@@ -119,14 +120,14 @@ fn read_trips(alloc: Global, sides: Sides, text: &[u8]) -> Result<Scenario, Plan
     })
 }
 
-/// The robots' starts and goals in a scenario on a map with these sides. The fault is the first line that is not allowed
-/// where it is, or `NoMemory`.
+/// The robots' starts and goals in a scenario on a map with these sides. The fault is the first line that is not
+/// allowed where it is, or `NoMemory`.
 pub(crate) fn read_scenario(
     alloc: Global,
     sides: Sides,
     text: &[u8],
 ) -> Result<Scenario, PlanTextFault>
-    requires { length text.now ≤ 16777216 }
+    requires { length text.now ≤ MOST_PLAN_BYTES }
     ensures { Gives trips result (scenario_of sides.width sides.height (lines_of text.now)) }
 {
     match first_line(text) {

@@ -12,6 +12,7 @@ ghost use Rattle.fleet_plans.specs.inside.Given.{IsGiven};
 use crate::fault::PlanTextFault;
 use crate::follow::follow;
 use crate::judge::PlanJudge;
+use crate::limit::MOST_PLAN_BYTES;
 use crate::scenario::word_at;
 use crate::sides::Sides;
 use crate::table::{Fields, Trails, all_paths};
@@ -119,7 +120,7 @@ fn read_cells(
     number: u32,
     text: &[u8],
 ) -> Result<Trails, PlanTextFault>
-    requires { number + length text.now ≤ 2 + 16777216 }
+    requires { number + length text.now ≤ 2 + MOST_PLAN_BYTES }
     ensures read { Gives trails result (cells_of sides.width sides.height no_trails (no_group []) number (lines_of text.now)) }
     ensures short { IfOk result (λ t. AreShort (trails t)) }
 {
@@ -145,7 +146,7 @@ fn read_cells(
 /// The paths of a schedule.
 #[tactic(auto, unfolding(crate::specs::Schedule::schedule_of))]
 fn read_lines(alloc: Global, sides: Sides, text: &[u8]) -> Result<Trails, PlanTextFault>
-    requires { length text.now ≤ 16777216 }
+    requires { length text.now ≤ MOST_PLAN_BYTES }
     ensures read { Gives trails result (schedule_of sides.width sides.height 1 (lines_of text.now)) }
     ensures short { IfOk result (λ t. AreShort (trails t)) }
 {
@@ -161,8 +162,9 @@ fn read_lines(alloc: Global, sides: Sides, text: &[u8]) -> Result<Trails, PlanTe
     Err(PlanTextFault::Line(number))
 }
 
-/// Gives the judge the placements of a plan as YAML: after the line `schedule:` a line `agentK:` for each robot, by number, and then for each
-/// cell of its path, by time, the lines `- x: COLUMN`, `y: ROW` and `t: TIME`. A robot whose path has ended stays there. Such a plan names no goals.
+/// Gives the judge the placements of a plan as YAML: after the line `schedule:` a line `agentK:` for each robot, by
+/// number, and then for each cell of its path, by time, the lines `- x: COLUMN`, `y: ROW` and `t: TIME`. A robot whose
+/// path has ended stays there. Such a plan names no goals.
 ///
 /// The fault is the first line that is none of these, or with which a cell is not the next one; or `NoMemory`.
 pub(crate) fn read_schedule<B: Allocator + Copy>(
@@ -171,7 +173,7 @@ pub(crate) fn read_schedule<B: Allocator + Copy>(
     text: &[u8],
     judge: &mut PlanJudge<Global, B>,
 ) -> Result<(), PlanTextFault>
-    requires short { length text.now ≤ 16777216 }
+    requires short { length text.now ≤ MOST_PLAN_BYTES }
     requires fresh { HasJudged judge.old.floor [] judge.old }
     ensures read { IfOk result (λ _. IsGiven judge.old.floor (IsScheduled sides.width sides.height text.now) judge.new) }
     ensures fault { IfErr result (λ fault. FailsAt fault (schedule_of sides.width sides.height 1 (lines_of text.now))) }

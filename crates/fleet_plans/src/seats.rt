@@ -1,11 +1,12 @@
 //! A table that has the robot on each cell, for steps in which few robots move.
 
 ghost use Rattle.std.specs.Prelude.{◌≡◌, ◌≢◌, ◌+◌, ◌<◌, ◌⊎◌, ℕ, false, length, slice_index, IsTrue};
-ghost use Rattle.fleet_grid.specs.Floor.{IsNeighbour, IsNeighbourIn};
+ghost use Rattle.fleet_grid.specs.Floor.{IsFloor, IsNeighbour};
 ghost use Rattle.fleet_grid.specs.Step.{IsPlacement, IsConflictFree};
 ghost use Rattle.fleet_plans.specs.inside.Seats.{IsSeated, AreSeated, HaveChanged, MayGo};
 
-use fleet_grid::{Dir, Grid};
+use fleet_check::crosses;
+use fleet_grid::Grid;
 use std::alloc::Allocator;
 
 /// The item at a place of a list, 0 past its end.
@@ -68,26 +69,6 @@ fn leave_all(seats: &mut [u32], robots: &[u32], last: &[u32], place: &[u32])
     }
 }
 
-/// Whether an edge leads in that direction from the one cell to the other.
-fn leads<B: Allocator + Copy>(grid: &Grid<B>, dir: Dir, from: u32, to: u32) -> bool
-    ensures { IsTrue result → IsNeighbourIn grid.now dir from to }
-{
-    match grid.neighbour(from, dir) {
-        Some(next) => next == to,
-        None => false,
-    }
-}
-
-/// Whether an edge leads from the one cell to the other.
-fn is_edge<B: Allocator + Copy>(grid: &Grid<B>, from: u32, to: u32) -> bool
-    ensures { IsTrue result → IsNeighbour grid.now from to }
-{
-    leads(grid, Dir::North, from, to)
-        || leads(grid, Dir::East, from, to)
-        || leads(grid, Dir::South, from, to)
-        || leads(grid, Dir::West, from, to)
-}
-
 /// Whether the robot that was on the one cell comes to the other.
 fn is_met(seats: &[u32], place: &[u32], from: u32, to: u32) -> bool
     ensures { result ≡ false → (j : ℕ) → slice_index seats.now to ≡ j + 1 → slice_index place.now j ≢ from }
@@ -104,16 +85,22 @@ fn may_go<B: Allocator + Copy>(
     place: &[u32],
     robot: u32,
 ) -> bool
+    requires floor { (r : ℕ) → r < length last.now → IsFloor grid.now (slice_index last.now r) }
+    requires each_one { length place.now ≡ length last.now }
     ensures { IsTrue result → MayGo grid.now seats.now last.now place.now robot }
 {
-    let (from, to) = (item(last, robot), item(place, robot));
+    let at = robot as usize;
+    if at >= last.len() {
+        return false;
+    }
+    let (from, to) = (last[at], place[at]);
     if to == from {
         return true;
     }
     if is_met(seats, place, from, to) {
         return false;
     }
-    is_edge(grid, from, to)
+    crosses(grid, from, to)
 }
 
 /// Whether each of these robots stays, or crosses an edge without meeting another.
@@ -124,6 +111,8 @@ fn may_all<B: Allocator + Copy>(
     last: &[u32],
     place: &[u32],
 ) -> bool
+    requires floor { (r : ℕ) → r < length last.now → IsFloor grid.now (slice_index last.now r) }
+    requires each_one { length place.now ≡ length last.now }
     ensures { IsTrue result → (k : ℕ) → k < length robots.now → MayGo grid.now seats.now last.now place.now (slice_index robots.now k) }
 {
     for k in 0..robots.len() {
@@ -134,8 +123,8 @@ fn may_all<B: Allocator + Copy>(
     true
 }
 
-/// Whether a step in which only these robots move is free of conflicts. The table has the robots on their last cells; if
-/// the step is free, it has them on their new ones afterwards.
+/// Whether a step in which only these robots move is free of conflicts. The table has the robots on their last cells;
+/// if the step is free, it has them on their new ones afterwards.
 pub(crate) fn is_free_step<B: Allocator + Copy>(
     grid: &Grid<B>,
     seats: &mut [u32],

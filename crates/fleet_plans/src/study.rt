@@ -10,6 +10,7 @@ use crate::answer::{PlanAnswer, answer_text, map_fault, sides_of};
 use crate::form::{TextForm, form_of};
 use crate::goals::Demand;
 use crate::judge::PlanJudge;
+use crate::limit::MOST_PLAN_BYTES;
 use crate::placements::Placements;
 use fleet_grid::Grid;
 use fleet_map::{MapText, read_map};
@@ -29,7 +30,7 @@ pub struct Study {
 /// What there is to say of a plan's text in this form, on a map that was read.
 fn study_on(alloc: Global, map: MapText, form: TextForm, text: &[u8]) -> Result<Study, AllocError>
     requires sides { HasSides (view map) }
-    requires short { length text.now ≤ 16777216 }
+    requires short { length text.now ≤ MOST_PLAN_BYTES }
     ensures width { IfOk result (λ s. s.width ≡ map.width) }
     ensures study { IfOk result (λ s. IsFormStudy Nothing (view map) form text.now s.answer s.places) }
 {
@@ -48,10 +49,10 @@ fn study_on(alloc: Global, map: MapText, form: TextForm, text: &[u8]) -> Result<
     })
 }
 
-/// What `check_texts` answers to the text of a map and of a plan, together with the plan's placements. The only error is
-/// out of memory.
+/// What `check_texts` answers to the text of a map and of a plan, together with the plan's placements. The only error
+/// is out of memory.
 pub fn study_texts(alloc: Global, map: &[u8], text: &[u8]) -> Result<Study, AllocError>
-    requires { length text.now ≤ 16777216 }
+    requires { length text.now ≤ MOST_PLAN_BYTES }
     ensures { IfOk result (λ s. IsStudy map.now text.now s) }
 {
     match read_map(alloc, map) {

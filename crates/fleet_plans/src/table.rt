@@ -13,6 +13,7 @@ use crate::follow::follow;
 use crate::form::is_header;
 use crate::head::split_once;
 use crate::judge::PlanJudge;
+use crate::limit::MOST_PLAN_BYTES;
 use crate::places::is_number;
 use crate::scenario::cell_of;
 use crate::sides::Sides;
@@ -20,9 +21,6 @@ use fleet_history::Row;
 use fleet_map::text::first_line;
 use std::alloc::{AllocError, Allocator, Global};
 use std::mem;
-
-/// The greatest number of robots, and the greatest length of a path; no text that is read has more.
-const MOST: usize = 16_777_216;
 
 /// The words of a line.
 #[derive(Clone, Copy)]
@@ -78,7 +76,7 @@ impl Trails {
         ensures read { IfOk result (λ done. option_map (λ _. trails self.new) done ≡ with_cell (trails self.old) cell) }
         ensures short { AreShort (trails self.old) → IfOk result (λ _. AreShort (trails self.new)) }
     {
-        if self.path.len() >= MOST {
+        if self.path.len() >= MOST_PLAN_BYTES {
             return Ok(None);
         }
         self.path.push(cell)?;
@@ -90,7 +88,7 @@ impl Trails {
         ensures read { IfOk result (λ done. option_map (λ _. trails self.new) done ≡ with_robot (trails self.old) cell) }
         ensures short { AreShort (trails self.old) → IfOk result (λ _. AreShort (trails self.new)) }
     {
-        if self.path.is_empty() || self.whole.len() >= MOST - 1 {
+        if self.path.is_empty() || self.whole.len() >= MOST_PLAN_BYTES - 1 {
             return Ok(None);
         }
         let mut path = Vec::new(alloc);
@@ -157,7 +155,7 @@ impl Trails {
 /// The paths in the lines after the first.
 #[tactic(auto, unfolding(crate::specs::Table::trails_of))]
 fn read_trails(alloc: Global, sides: Sides, text: &[u8]) -> Result<Trails, PlanTextFault>
-    requires { length text.now ≤ 16777216 }
+    requires { length text.now ≤ MOST_PLAN_BYTES }
     ensures read { Gives trails result (trails_of sides.width sides.height no_trails 2 (lines_of text.now)) }
     ensures short { IfOk result (λ t. AreShort (trails t)) }
 {
@@ -180,7 +178,7 @@ fn read_trails(alloc: Global, sides: Sides, text: &[u8]) -> Result<Trails, PlanT
 
 /// The paths of a table.
 fn read_rows(alloc: Global, sides: Sides, text: &[u8]) -> Result<Trails, PlanTextFault>
-    requires { length text.now ≤ 16777216 }
+    requires { length text.now ≤ MOST_PLAN_BYTES }
     ensures read { Gives trails result (table_of sides.width sides.height (lines_of text.now)) }
     ensures short { IfOk result (λ t. AreShort (trails t)) }
 {
@@ -194,8 +192,8 @@ fn read_rows(alloc: Global, sides: Sides, text: &[u8]) -> Result<Trails, PlanTex
 pub(crate) fn all_paths(all: Trails) -> Result<Vec<Row<u32>>, AllocError>
     requires { AreShort (trails all) }
     ensures paths { IfOk result (λ paths. paths.items ≡ paths_of (trails all)) }
-    ensures few { IfOk result (λ paths. length paths.items ≤ 16777216) }
-    ensures short { IfOk result (λ paths. (r : ℕ) → length (slice_index_or paths.items r []) ≤ 16777216) }
+    ensures few { IfOk result (λ paths. length paths.items ≤ MOST_PLAN_BYTES) }
+    ensures short { IfOk result (λ paths. (r : ℕ) → length (slice_index_or paths.items r []) ≤ MOST_PLAN_BYTES) }
 {
     let Trails { whole, path } = all;
     let mut paths = whole;
@@ -203,8 +201,9 @@ pub(crate) fn all_paths(all: Trails) -> Result<Vec<Row<u32>>, AllocError>
     Ok(paths)
 }
 
-/// Gives the judge the placements of a plan as a table: the line `agent,time,row,column`, and then a line of these numbers for
-/// each cell of each path, robot by robot and time by time. A robot whose path has ended stays there. Such a plan names no goals.
+/// Gives the judge the placements of a plan as a table: the line `agent,time,row,column`, and then a line of these
+/// numbers for each cell of each path, robot by robot and time by time. A robot whose path has ended stays there. Such
+/// a plan names no goals.
 ///
 /// The fault is the first line that does not say the next cell, or `NoMemory`.
 pub(crate) fn read_table<B: Allocator + Copy>(
@@ -213,7 +212,7 @@ pub(crate) fn read_table<B: Allocator + Copy>(
     text: &[u8],
     judge: &mut PlanJudge<Global, B>,
 ) -> Result<(), PlanTextFault>
-    requires short { length text.now ≤ 16777216 }
+    requires short { length text.now ≤ MOST_PLAN_BYTES }
     requires fresh { HasJudged judge.old.floor [] judge.old }
     ensures read { IfOk result (λ _. IsGiven judge.old.floor (IsTablePlan sides.width sides.height text.now) judge.new) }
     ensures fault { IfErr result (λ fault. FailsAt fault (table_of sides.width sides.height (lines_of text.now))) }

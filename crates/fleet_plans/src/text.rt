@@ -14,6 +14,7 @@ use crate::fault::PlanTextFault;
 use crate::form::TextForm;
 use crate::head::Head;
 use crate::judge::PlanJudge;
+use crate::limit::MOST_PLAN_BYTES;
 use crate::places::read_places;
 use crate::plan::read_plan;
 use crate::runners::{RunnersFault, RunnersKey, read_runners};
@@ -32,6 +33,28 @@ pub(crate) enum TextFault {
     Json(RunnersFault),
 }
 
+impl From<PlanTextFault> for TextFault {
+    ghost use Rattle.std.specs.Prelude.{◌≡◌};
+    ghost use Rattle.fleet_plans.specs.declared.text.TextFault.TheVariants.{Lines};
+
+    ghost from_gives = { λ fault e. e ≡ Lines fault };
+
+    fn from(fault: PlanTextFault) -> TextFault {
+        TextFault::Lines(fault)
+    }
+}
+
+impl From<RunnersFault> for TextFault {
+    ghost use Rattle.std.specs.Prelude.{◌≡◌};
+    ghost use Rattle.fleet_plans.specs.declared.text.TextFault.TheVariants.{Json};
+
+    ghost from_gives = { λ fault e. e ≡ Json fault };
+
+    fn from(fault: RunnersFault) -> TextFault {
+        TextFault::Json(fault)
+    }
+}
+
 /// Gives the judge the placements of lines of cells without a head.
 fn read_bare<B: Allocator + Copy>(
     alloc: Global,
@@ -39,7 +62,7 @@ fn read_bare<B: Allocator + Copy>(
     text: &[u8],
     judge: &mut PlanJudge<Global, B>,
 ) -> Result<(), PlanTextFault>
-    requires short { length text.now ≤ 16777216 }
+    requires short { length text.now ≤ MOST_PLAN_BYTES }
     requires fresh { HasJudged judge.old.floor [] judge.old }
     ensures read { IfOk result (λ _. IsGiven judge.old.floor (λ places. places_of sides.width sides.height blank_head [] 1 (lines_of text.now) ≡ Ok places) judge.new) }
     ensures fault { IfErr result (λ fault. FailsAt fault (places_of sides.width sides.height blank_head [] 1 (lines_of text.now))) }
@@ -55,44 +78,37 @@ pub(crate) fn read_text<B: Allocator + Copy>(
     text: &[u8],
     judge: &mut PlanJudge<Global, B>,
 ) -> Result<Option<Row<u32>>, TextFault>
-    requires short { length text.now ≤ 16777216 }
+    requires short { length text.now ≤ MOST_PLAN_BYTES }
     requires fresh { HasJudged judge.old.floor [] judge.old }
     ensures read { IfOk result (λ goals. IsGiven judge.old.floor (IsPlanBy form sides.width sides.height text.now goals) judge.new) }
     ensures fault { IfErr result (λ fault. IsFaultBy form sides.width sides.height text.now fault) }
 {
     match form {
-        TextForm::Headed => match read_plan(alloc, sides, text, judge) {
-            Ok(goals) => Ok(goals),
-            Err(fault) => Err(TextFault::Lines(fault)),
-        },
-        TextForm::Bare => match read_bare(alloc, sides, text, judge) {
-            Ok(()) => Ok(None),
-            Err(fault) => Err(TextFault::Lines(fault)),
-        },
-        TextForm::Agents => match read_agents(alloc, sides, text, judge) {
-            Ok(()) => Ok(None),
-            Err(fault) => Err(TextFault::Lines(fault)),
-        },
+        TextForm::Headed => Ok(read_plan(alloc, sides, text, judge)?),
+        TextForm::Bare => {
+            read_bare(alloc, sides, text, judge)?;
+            Ok(None)
+        }
+        TextForm::Agents => {
+            read_agents(alloc, sides, text, judge)?;
+            Ok(None)
+        }
         TextForm::Json => {
-            match read_runners(alloc, RunnersKey::ActualPaths, sides, text, judge) {
-                Ok(()) => Ok(None),
-                Err(fault) => Err(TextFault::Json(fault)),
-            }
+            read_runners(alloc, RunnersKey::ActualPaths, sides, text, judge)?;
+            Ok(None)
         }
         TextForm::PlannerJson => {
-            match read_runners(alloc, RunnersKey::PlannerPaths, sides, text, judge) {
-                Ok(()) => Ok(None),
-                Err(fault) => Err(TextFault::Json(fault)),
-            }
+            read_runners(alloc, RunnersKey::PlannerPaths, sides, text, judge)?;
+            Ok(None)
         }
-        TextForm::Table => match read_table(alloc, sides, text, judge) {
-            Ok(()) => Ok(None),
-            Err(fault) => Err(TextFault::Lines(fault)),
-        },
-        TextForm::Schedule => match read_schedule(alloc, sides, text, judge) {
-            Ok(()) => Ok(None),
-            Err(fault) => Err(TextFault::Lines(fault)),
-        },
+        TextForm::Table => {
+            read_table(alloc, sides, text, judge)?;
+            Ok(None)
+        }
+        TextForm::Schedule => {
+            read_schedule(alloc, sides, text, judge)?;
+            Ok(None)
+        }
     }
 }
 

@@ -12,8 +12,8 @@ pub enum ReopenFault {
     /// A limit is out of its range.
     #[error("a limit is out of its range")]
     Limits,
-    /// The chapter is not legal on the map: the entry `at`, counted from 1, is the first that breaks a rule, and `rule` the
-    /// first that it breaks, as `JudgeFault` numbers them. At 0 the opening breaks rule 1.
+    /// The chapter is not legal on the map: the entry `at`, counted from 1, is the first that breaks a rule, and `rule`
+    /// the first that it breaks, as `JudgeFault` numbers them. At 0 the opening breaks rule 1.
     #[error("entry {at} of the chapter breaks rule {rule}")]
     Illegal { at: u64, rule: u8 },
     /// The laws of the closures are not those of the chapter's robots, one for each.
@@ -22,11 +22,12 @@ pub enum ReopenFault {
     /// The limits `queue` and `life` are not those of the chapter.
     #[error("the limits queue and life are not those of the chapter")]
     Differs,
-    /// Within the limits no chapter follows this one: its ticks, its entries, its number, or its clients' orders are too many.
+    /// Within the limits no chapter follows this one: its ticks, its entries, its number, or its clients' orders are
+    /// too many.
     #[error("within the limits no chapter follows")]
     Spent,
-    /// The map has no bridge, and a robot has waited longer than it may on such a map, if no two of its cells are further
-    /// apart than two searches find.
+    /// The map has no bridge, and a robot has waited longer than it may on such a map, if no two of its cells are
+    /// further apart than two searches find.
     #[error("a robot has waited longer than it may")]
     Waits,
     /// Memory ran out.

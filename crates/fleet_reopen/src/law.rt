@@ -15,15 +15,16 @@ ghost use Rattle.fleet_core.specs.Hooks.{HookLaws};
 ghost use Rattle.fleet_reopen.specs.Reopening.{reopened_world, with_empty_boxes};
 ghost use Rattle.fleet_reopen.specs.Chapters.{AreChapters, all_orders, all_notices};
 
-/// A world that goes on from the chapter of another is the other in its next chapter, but for the notices that were not given.
+/// A world that goes on from the chapter of another is the other in its next chapter, but for the notices that were not
+/// given.
 pub fn reopened_is_next<A>()
     ensures { (w : World A) (laws : HookLaws) → laws.ties ≡ w.ties →
         reopened_world w.floor w.number w.history w.limits laws ≡ with_empty_boxes (next_world w) }
 {}
 
-/// Over chapters that follow one another, whichever worlds made them, no step has a conflict; each notice of a client that
-/// the first chapter does not know was made once, and the notices, the orders and the errands are numbered through; who is
-/// closed stays closed; and where each tick advances, the bound on waits is kept.
+/// Over chapters that follow one another, whichever worlds made them, no step has a conflict; each notice of a client
+/// that the first chapter does not know was made once, and the notices, the orders and the errands are numbered
+/// through; who is closed stays closed; and where each tick advances, the bound on waits is kept.
 pub fn chapters_are_one_run<A>()
     ensures conflicts { (m : Floor) (o : Opening A) (before : List (History A)) (h : History A) →
         AreChapters m (IsLegal m) o before h → HasNoConflict m h }

@@ -1,4 +1,5 @@
-//! A world that goes on from a chapter that was kept: the chapter is judged, and the world whose next chapter it begins is opened.
+//! A world that goes on from a chapter that was kept: the chapter is judged, and the world whose next chapter it begins
+//! is opened.
 #![tactic(auto)]
 
 mod after;

@@ -74,12 +74,13 @@ fn opening_after<A: Allocator + Copy>(
     Ok(state.next_opening(alloc, &chapter.opening)?)
 }
 
-/// The core of the world that goes on from a chapter: its chapter has the next number, and begins with what is after the
-/// chapter; its mailboxes are empty.
+/// The core of the world that goes on from a chapter: its chapter has the next number, and begins with what is after
+/// the chapter; its mailboxes are empty.
 ///
-/// Refused in this order: a limit out of its range, a chapter that is not legal on the map, laws that are not those of the
-/// chapter's robots, limits that are not the chapter's, no further chapter within the limits, waits that are too long for a
-/// map without bridges whose cells are as far apart as two searches find. Out of memory may come at any point.
+/// Refused in this order: a limit out of its range, a chapter that is not legal on the map, laws that are not those of
+/// the chapter's robots, limits that are not the chapter's, no further chapter within the limits, waits that are too
+/// long for a map without bridges whose cells are as far apart as two searches find. Out of memory may come at any
+/// point.
 pub fn reopen<A: Allocator + Copy>(
     alloc: A,
     grid: Grid<A>,

@@ -68,8 +68,9 @@ impl<A: Allocator + Copy> Head<A> {
         }
     }
 
-    /// Adds a header line, given as its first word (`key`) and its other words. Returns true where it is a header line and
-    /// the first with this key, otherwise false, and changes nothing then. A line `robots` may name at most `most` cells.
+    /// Adds a header line, given as its first word (`key`) and its other words. Returns true where it is a header line
+    /// and the first with this key, otherwise false, and changes nothing then. A line `robots` may name at most `most`
+    /// cells.
     pub fn add_header(
         &mut self,
         alloc: A,

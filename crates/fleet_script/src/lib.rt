@@ -1,4 +1,5 @@
-//! Script text: what a fleet begins with and the events that follow, read from its lines; and bundles of a map and a script.
+//! Script text: what a fleet begins with and the events that follow, read from its lines; and bundles of a map and a
+//! script.
 #![tactic(auto)]
 
 mod bundle;

@@ -29,8 +29,8 @@ pub enum EventLine {
     Other,
 }
 
-/// Reads one line, without its line feed, as `read_script` reads the lines after the head: `Nothing` where it is blank or
-/// begins with `#`, its event and how often it happens where it is an event line, and `Other` where it is neither.
+/// Reads one line, without its line feed, as `read_script` reads the lines after the head: `Nothing` where it is blank
+/// or begins with `#`, its event and how often it happens where it is an event line, and `Other` where it is neither.
 pub fn event_line(line: &[u8]) -> EventLine
     ensures { said_on result ≡ event_line_in line.now }
 {

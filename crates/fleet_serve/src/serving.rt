@@ -102,7 +102,8 @@ fn parts_of<N: ScriptName>(
     Ok((clients, lane_full, tickers))
 }
 
-/// Makes the turns that are left when all threads have ended, with the first ticker. None is made where a ticker stopped early.
+/// Makes the turns that are left when all threads have ended, with the first ticker. None is made where a ticker
+/// stopped early.
 fn wind_down<N: ScriptName, R: Alloc<A = Global> + Wait>(
     rt: &R,
     office: &Office<N>,

@@ -61,8 +61,8 @@ fn tick_both<N: ScriptName + Send + Sync, R: Alloc<A = Global> + Threads + Sync 
     )
 }
 
-/// A thread for each client, which runs its lines. All threads that were started have ended when it returns, also where one
-/// could not be started.
+/// A thread for each client, which runs its lines. All threads that were started have ended when it returns, also where
+/// one could not be started.
 fn run_all<
     N: ScriptName + Send + Sync,
     R: Alloc<A = Global> + Threads + Sync + Wait,

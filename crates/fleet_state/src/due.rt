@@ -31,8 +31,8 @@ impl<A: Allocator + Copy> FleetState<A> {
         self.robots.landing(robot as usize, cell)
     }
 
-    /// Adds the arrival of a robot where a step to these cells brings one, and its farewell where that was a shut robot's last
-    /// errand.
+    /// Adds the arrival of a robot where a step to these cells brings one, and its farewell where that was a shut
+    /// robot's last errand.
     fn land(
         &self,
         to: &[u32],

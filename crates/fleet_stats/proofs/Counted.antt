@@ -1,10 +1,9 @@
 -- The figures of a run as counts of its histories.
-use Rattle.std.proofs.Common.{◌≡◌, ℕ, zero, suc, ◌+◌, ◌-◌, ◌^◌, ◌≤◌, List, [], ◌∷◌, ◌++◌, length, length-append, map, cond, Bool, true, false, Option, Some, None, sym, refl, ap, ◌∙◌, arith, add-zero}
-use Rattle.std.specs.Prelude.{sum_by, count_by, min, ◌==◌, ◌&&◌}
+use Rattle.std.proofs.Common.{◌≡◌, ℕ, zero, suc, ◌+◌, ◌-◌, ◌^◌, ◌≤◌, List, [], ◌∷◌, length, length-append, map, cond, sym, refl, ap, ◌∙◌, arith, add-zero}
+use Rattle.std.specs.Prelude.{sum_by, min, ◌==◌}
 use Rattle.std.specs.List.{fold, range_with_len}
 use Rattle.std.proofs.lemmas.List.{length-map}
 use Rattle.std.proofs.lemmas.List.Sums.{sum_by-cons}
-use Rattle.std.proofs.lemmas.Bool.{eqb-true}
 use Rattle.fleet_grid.specs.Floor.{Floor}
 use Rattle.fleet_queue.specs.declared.errand.Errand.{Errand}
 use Rattle.fleet_book.specs.declared.verdict.Verdict.{Verdict}
@@ -13,14 +12,15 @@ use Rattle.fleet_history.specs.declared.history.Entry.{Entry}
 use Rattle.fleet_history.specs.declared.history.Entry.TheVariants.{Take, Tick, Shut}
 use Rattle.fleet_history.specs.History.{History, start, after, robots, clock, is_tick, is_accepted, unfinished}
 use Rattle.fleet_trace.specs.Trace.{Trace}
+use Rattle.fleet_trace.specs.Chapters.{AreInTurn}
 use Rattle.fleet_stats.specs.declared.rows.ErrandRow.{ErrandRow}
 use Rattle.fleet_stats.specs.declared.rows.Left.{Left}
 use Rattle.fleet_stats.specs.declared.figures.Summary.{Summary}
 use Rattle.fleet_stats.specs.declared.lines.Style.TheVariants as style
 use Rattle.fleet_stats.specs.declared.answer.StatsForm.TheVariants as form
 use Rattle.fleet_stats.specs.Noted.{Notes, kind_of, note, noted, left_by, left_below, left_of, history_noted, chapters_noted, blank, robots_in, run_noted}
-use Rattle.fleet_stats.specs.Chapters.{goes_on, first_unfit, AreSound}
-use Rattle.fleet_stats.specs.Figures.{total_by, count_of, first_tick, arrivals_of, windows_of, IsSummary}
+use Rattle.fleet_stats.specs.Chapters.{AreSound}
+use Rattle.fleet_stats.specs.Figures.{count_of, first_tick, arrivals_of, windows_of, IsSummary}
 use Rattle.fleet_stats.specs.Report.{IsStats, IsSummarized}
 use Rattle.fleet_stats.specs.Counts.{is_acceptance, is_withdrawn, is_withdrawal, arrivals_shown, waiting, tick_count, acceptance_count, withdrawal_count, arrival_count, over, at_end, AreCounts, IsCounted}
 use Rattle.fleet_stats.proofs.Balance.{balanced, one-more}
@@ -121,30 +121,16 @@ balance {A} m (t ∷ ts) sound =
 
 -- ---- the clock
 
-both : (a b : Bool) → (a && b) ≡ true → (a ≡ true) × (b ≡ true)
-both true b e = (refl, e)
-both false b e = cc
-
-followed : (b : Bool) (rest : Option ℕ) (n : ℕ) → cond b rest (Some n) ≡ None → (b ≡ true) × (rest ≡ None)
-followed true rest n e = (refl, e)
-followed false rest n e = cc
-
-clock-meets : {A : Type 0} (t u : Trace A) → goes_on t u ≡ true → u.history.opening.tick ≡ clock t.history
-clock-meets t u e =
-    eqb-true u.history.opening.tick (clock t.history) (both (u.history.opening.tick == clock t.history) _ (both (u.number == t.number + 1) _ e).1).0
-
-clocks : {A : Type 0} (ts : List (Trace A)) (k : ℕ) → first_unfit k None ts ≡ None → first_tick ts + over tick_count ts ≡ at_end clock ts
-clocks [] k e = refl
-clocks {A} (t ∷ []) k e = omega (arith, sum_by-cons (λ (t : Trace A). tick_count t.history) t [])
-clocks {A} (t ∷ u ∷ us) k e =
-    let p = followed (goes_on t u) (first_unfit (k + 1 + 1) (Some u) us) (k + 1) e in
-    let same : u.history.opening.tick ≡ clock t.history = clock-meets t u p.0 in
-    let rest : u.history.opening.tick + over tick_count (u ∷ us) ≡ at_end clock (u ∷ us) = clocks (u ∷ us) (k + 1) p.1 in
-    omega (arith, rest, same, sum_by-cons (λ (t : Trace A). tick_count t.history) t (u ∷ us))
+clocks : {A : Type 0} (m : Floor) (ts : List (Trace A)) → AreInTurn m ts → first_tick ts + over tick_count ts ≡ at_end clock ts
+clocks m [] turn = refl
+clocks {A} m (t ∷ []) turn = omega (arith, sum_by-cons (λ (t : Trace A). tick_count t.history) t [])
+clocks {A} m (t ∷ u ∷ us) turn =
+    let rest : u.history.opening.tick + over tick_count (u ∷ us) ≡ at_end clock (u ∷ us) = clocks m (u ∷ us) turn.1 in
+    omega (arith, rest, turn.0.clock, sum_by-cons (λ (t : Trace A). tick_count t.history) t (u ∷ us))
 
 -- ---- the figures
 
-module _ {A : Type 0} (m : Floor) (ts : List (Trace A)) (s : Summary) (rows : List ErrandRow) (fit : first_unfit 0 None ts ≡ None) (sound : AreSound m ts) (is : IsSummary m ts (run_noted ts) rows s) where
+module _ {A : Type 0} (m : Floor) (ts : List (Trace A)) (s : Summary) (rows : List ErrandRow) (turn : AreInTurn m ts) (sound : AreSound m ts) (is : IsSummary m ts (run_noted ts) rows s) where
   ticks-are : s.ticks ≡ over tick_count ts
   ticks-are =
       ap (λ (s : Summary). s.ticks) is.is
@@ -168,7 +154,7 @@ module _ {A : Type 0} (m : Floor) (ts : List (Trace A)) (s : Summary) (rows : Li
   pub counts : AreCounts ts s (run_noted ts).kinds
   counts = record {
     ticks = ticks-are;
-    clock = omega (arith, ap (λ (s : Summary). s.first_tick) is.is, ticks-are, clocks ts 0 fit);
+    clock = omega (arith, ap (λ (s : Summary). s.first_tick) is.is, ticks-are, clocks m ts turn);
     arrivals = arrivals-are;
     accepted = accepted-are;
     withdrawn = withdrawn-are;
@@ -192,7 +178,7 @@ text-counted map texts text k =
       told = k.on.told;
       sound = k.on.reported.sound;
       is = x.is;
-      counts = counts _ ts x.summary _ k.on.told.fit k.on.reported.sound x.summarized;
+      counts = counts _ ts x.summary _ k.on.told.in_turn k.on.reported.sound x.summarized;
     }
 
 pub json-counted : (map : List ℕ) (texts : List (List ℕ)) (text : List ℕ) → IsStats form.Json map texts text → IsCounted style.Json map texts text
@@ -209,5 +195,5 @@ json-counted map texts text k =
       told = k.on.told;
       sound = k.on.reported.sound;
       is = x.is;
-      counts = counts _ ts x.summary _ k.on.told.fit k.on.reported.sound x.summarized;
+      counts = counts _ ts x.summary _ k.on.told.in_turn k.on.reported.sound x.summarized;
     }

@@ -19,7 +19,7 @@ use Rattle.fleet_state.proofs.Entered.{tick-of}
 use Rattle.fleet_state.proofs.Judged.{has-place}
 use Rattle.fleet_stats.specs.Noted.{Notes, note, note_by, noted, entries_noted, history_noted, waits, left_by, left_if, left_below, left_of}
 use Rattle.fleet_stats.specs.declared.rows.Left.{Left}
-use Rattle.fleet_stats.specs.Chapters.{IsSound}
+use Rattle.fleet_trace.specs.Chapters.{IsSound}
 use Rattle.fleet_stats.specs.inside.Following.{CanFollow, IsEnd}
 
 -- the history up to an entry

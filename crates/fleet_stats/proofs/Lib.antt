@@ -1,4 +1,3 @@
-pub mod Tellings
 pub mod Followed
 pub mod Sound
 pub mod Lists

@@ -5,7 +5,8 @@ use Rattle.fleet_grid.specs.Floor.{Floor}
 use Rattle.fleet_trace.specs.Trace.{Trace}
 use Rattle.fleet_stats.specs.declared.fault.StatsFault.{StatsFault}
 use Rattle.fleet_stats.specs.Noted.{Notes, history_noted, chapters_noted}
-use Rattle.fleet_stats.specs.Chapters.{IsSound, AreSound, IsUnsound, AreUnsound}
+use Rattle.fleet_trace.specs.Chapters.{IsSound}
+use Rattle.fleet_stats.specs.Chapters.{AreSound, IsUnsound, AreUnsound}
 
 module _ {A C : Type 0} (m : Floor) (g : C → Trace A) (cs : List C) (k : ℕ) where
   module _ (c : C) (less : k < length cs) (is : get_or cs k c ≡ c) where

@@ -10,9 +10,10 @@ use Rattle.fleet_history.specs.declared.history.Entry.{Entry}
 use Rattle.fleet_history.specs.declared.history.Entry.TheVariants.{Take, Tick, Shut}
 use Rattle.fleet_history.specs.History.{History, start, robots, clock, is_tick, is_accepted, unfinished}
 use Rattle.fleet_trace.specs.Trace.{Trace}
+use Rattle.fleet_trace.specs.Chapters.{TellChapters}
 use Rattle.fleet_stats.specs.declared.figures.Summary.{Summary}
 use Rattle.fleet_stats.specs.declared.lines.Style.{Style}
-use Rattle.fleet_stats.specs.Chapters.{AreInTurn, AreSound}
+use Rattle.fleet_stats.specs.Chapters.{AreSound}
 use Rattle.fleet_stats.specs.Figures.{first_tick, count_of}
 use Rattle.fleet_stats.specs.Text.{summary_text}
 
@@ -91,7 +92,7 @@ pub record IsCounted (style : Style) (map : List ℕ) (texts : List (List ℕ)) 
   pub kinds : List ℕ
   pub windows : List ℕ
   pub read : map_of map ≡ Ok floor
-  pub told : AreInTurn texts traces
+  pub told : TellChapters (floor_of_map floor) texts traces
   pub sound : AreSound (floor_of_map floor) traces
   pub is : text ≡ summary_text style summary kinds windows
   pub counts : AreCounts traces summary kinds

@@ -5,6 +5,7 @@ use Rattle.fleet_map.specs.Grammar.{Map, Fails, map_of}
 use Rattle.fleet_map.specs.declared.fault.MapFault.{MapFault}
 use Rattle.fleet_grid.specs.Floor.{Floor, floor_of_map}
 use Rattle.fleet_trace.specs.Trace.{Trace}
+use Rattle.fleet_trace.specs.Chapters.{TellChapters}
 use Rattle.fleet_stats.specs.declared.fault.StatsFault.{StatsFault}
 use Rattle.fleet_stats.specs.declared.fault.StatsFault.TheVariants as fault
 use Rattle.fleet_stats.specs.declared.figures.Summary.{Summary}
@@ -13,7 +14,7 @@ use Rattle.fleet_stats.specs.declared.lines.Style.TheVariants as style
 use Rattle.fleet_stats.specs.declared.answer.StatsForm.{StatsForm}
 use Rattle.fleet_stats.specs.declared.answer.StatsForm.TheVariants as form
 use Rattle.fleet_stats.specs.Noted.{Notes, run_noted}
-use Rattle.fleet_stats.specs.Chapters.{AreInTurn, AreNotInTurn, AreSound, IsUnfollowed}
+use Rattle.fleet_stats.specs.Chapters.{AreSound, IsUntold, IsUnfollowed}
 use Rattle.fleet_stats.specs.Figures.{IsSummary, arrivals_of, windows_of, rows_in, left_in}
 use Rattle.fleet_stats.specs.Text.{summary_text, errands_table, ticks_table, cells_table}
 
@@ -39,7 +40,7 @@ pub record IsReported {A : Type 0} (what : StatsForm) (m : Floor) (ts : List (Tr
 -- the text for traces on a map: they follow one another, each is legal, and the figures are those of what is recorded of them
 pub record IsStatsOn (what : StatsForm) (m : Floor) (texts : List (List ℕ)) (text : List ℕ) : Type 0 where
   pub traces : List (Trace Global)
-  pub told : AreInTurn texts traces
+  pub told : TellChapters m texts traces
   pub reported : IsReported what m traces text
 
 pub record IsStats (what : StatsForm) (map : List ℕ) (texts : List (List ℕ)) (text : List ℕ) : Type 0 where
@@ -49,8 +50,8 @@ pub record IsStats (what : StatsForm) (map : List ℕ) (texts : List (List ℕ))
 
 -- why there is none on a map: the texts, their chapters, or memory
 pub data IsNoneOn (m : Floor) (texts : List (List ℕ)) (f : StatsFault) : Type 0 where
-  unread : AreNotInTurn texts f → IsNoneOn m texts f
-  unsound : (ts : List (Trace Global)) → AreInTurn texts ts → IsUnfollowed m ts f → IsNoneOn m texts f
+  untold : IsUntold m texts f → IsNoneOn m texts f
+  unsound : (ts : List (Trace Global)) → TellChapters m texts ts → IsUnfollowed m ts f → IsNoneOn m texts f
   no_memory : f ≡ fault.NoMemory → IsNoneOn m texts f
 
 -- why there is none: the map comes first

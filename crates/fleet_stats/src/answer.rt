@@ -147,7 +147,7 @@ fn stats_on(
     ensures text { IfOk result (λ text. IsStatsOn form grid.now (map (λ text. text.items) texts.now) (string_bytes text)) }
     ensures fault { IfErr result (λ fault. IsNoneOn grid.now (map (λ text. text.items) texts.now) fault) }
 {
-    match chapters_in_turn(alloc, texts) {
+    match chapters_in_turn(alloc, grid, texts) {
         Ok(chapters) => report_on(alloc, form, grid, &chapters),
         Err(fault) => Err(fault),
     }
@@ -170,9 +170,9 @@ fn stats_of(
     }
 }
 
-/// The figures of traces on a map. The traces are chapters of one run: each one continues the one before it. The map is read first, then
-/// the traces in their order; when all are read, it is checked that each continues the one before it, and then, trace by trace, that its
-/// clock stays below 2^63 and that it is legal on the map.
+/// The figures of traces on a map. The traces are chapters of one run: each one continues the one before it. The map is
+/// read first, then the traces in their order; when all are read, it is checked that each continues the one before it,
+/// and then, trace by trace, that its clock stays below 2^63 and that it is legal on the map.
 pub fn stats(
     alloc: Global,
     form: StatsForm,

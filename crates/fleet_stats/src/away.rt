@@ -13,8 +13,8 @@ use std::alloc::{AllocError, Global};
 /// How many bytes of fields are kept at most, a byte for each cell of the map.
 const KEPT_BYTES: usize = 16_777_216;
 
-/// Fields of a map: those of the goals that were asked for last are kept, so that questions for one goal that follow one another need
-/// one search. Between two questions none is held.
+/// Fields of a map: those of the goals that were asked for last are kept, so that questions for one goal that follow
+/// one another need one search. Between two questions none is held.
 #[derive(Drop)]
 pub(crate) struct Fields {
     pub(crate) store: FieldStore,

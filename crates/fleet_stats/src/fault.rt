@@ -15,8 +15,8 @@ pub enum StatsFault {
     Chapter(u64),
     /// This trace could end at a clock of 2^63 or more.
     Late(u64),
-    /// In this trace the entry `at`, counted from 1, is the first that breaks a rule, and `rule` the first that it breaks, by the numbers
-    /// of `JudgeFault`. At 0 the opening breaks rule 1.
+    /// In this trace the entry `at`, counted from 1, is the first that breaks a rule, and `rule` the first that it
+    /// breaks, by the numbers of `JudgeFault`. At 0 the opening breaks rule 1.
     Illegal { number: u64, at: u64, rule: u8 },
     NoMemory,
 }

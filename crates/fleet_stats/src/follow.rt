@@ -6,7 +6,8 @@ ghost use Rattle.fleet_history.specs.History.{history_of, start, with_entries};
 ghost use Rattle.fleet_trace.specs.Trace.{trace_of};
 ghost use Rattle.fleet_stats.specs.Noted.{entries_noted, history_noted, chapters_noted, run_noted, robots_in};
 ghost use Rattle.fleet_stats.specs.Rows.{shown};
-ghost use Rattle.fleet_stats.specs.Chapters.{IsSound, AreSound, IsUnsound, AreUnsound, IsUnfollowed};
+ghost use Rattle.fleet_trace.specs.Chapters.{IsSound};
+ghost use Rattle.fleet_stats.specs.Chapters.{AreSound, IsUnsound, AreUnsound, IsUnfollowed};
 ghost use Rattle.fleet_stats.specs.inside.Following.{CanFollow, IsEnd};
 
 use crate::fault::StatsFault;

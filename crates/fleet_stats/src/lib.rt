@@ -1,5 +1,5 @@
-//! Figures of a fleet's run, computed from its traces: throughput, service times, waits, detours, stands and refusals, as text, as JSON
-//! and as tables.
+//! Figures of a fleet's run, computed from its traces: throughput, service times, waits, detours, stands and refusals,
+//! as text, as JSON and as tables.
 #![tactic(auto)]
 
 mod answer;

@@ -168,9 +168,10 @@ fn hold<R: Alloc<A = Global>, I: Read, W: Write, S: ChapterSink>(
     }
 }
 
-/// Holds a conversation: hears its head, opens the fleet at the first line that asks something of it, and answers each line as
-/// `errands run` does, until the input ends or a line says `quit`. Each chapter goes to the sink when it is handed out, and the last
-/// at the end. Returns whether a limit was met: an event was refused because the chapter was full or the clock spent.
+/// Holds a conversation: hears its head, opens the fleet at the first line that asks something of it, and answers each
+/// line as `errands run` does, until the input ends or a line says `quit`. Each chapter goes to the sink when it is
+/// handed out, and the last at the end. Returns whether a limit was met: an event was refused because the chapter was
+/// full or the clock spent.
 pub fn converse<R: Alloc<A = Global>, I: Read, W: Write, S: ChapterSink>(
     rt: &R,
     ground: Ground,
@@ -179,7 +180,8 @@ pub fn converse<R: Alloc<A = Global>, I: Read, W: Write, S: ChapterSink>(
 ) -> Result<bool, TalkFault>
     // Of each call: only a call with a condition may hand on closures.
     requires { 0 ≤ vec_len ground.kit.plain.ties }
-    // A whole conversation over the lines of the input was written, and its chapters were kept: those that were handed out, in order, and the last.
+    // A whole conversation over the lines of the input was written, and its chapters were kept: those that were handed
+    // out, in order, and the last.
     ensures ended { IfOk result (λ met. IfSome (reader_remaining I.remaining ends.old.input) (λ bytes. (text : List ℕ) × (chapters : List (ChapterView Global))
         × IsConversation (record { kit = kit_laws ground.kit; floor = ground.grid; settings = settings; head = drafted ground.head }) bytes text chapters met
         × Appends (W.contents ends.old.output) (W.contents ends.new.output) text

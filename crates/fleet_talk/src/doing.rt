@@ -83,8 +83,8 @@ pub(crate) fn times(asked: Asked) -> u32
     }
 }
 
-/// Does once what a line asks, and says it; or hands out a chapter, which is to be kept first: then nothing is said, and `turned`
-/// goes on.
+/// Does once what a line asks, and says it; or hands out a chapter, which is to be kept first: then nothing is said,
+/// and `turned` goes on.
 pub(crate) fn hear<R: Alloc<A = Global>>(
     rt: &R,
     fleet: &mut OpenFleet,

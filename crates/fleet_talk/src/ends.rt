@@ -43,7 +43,8 @@ pub trait ChapterSink {
     /// The chapters that it kept, in order, where that is known; of files it is not.
     ghost kept: { Self → Option (List (ChapterView Global)) };
 
-    /// Keeps a chapter, which is legal, and each tick of which advances where its map has no bridge. After a fault it is not kept.
+    /// Keeps a chapter, which is legal, and each tick of which advances where its map has no bridge. After a fault it
+    /// is not kept.
     fn keep(&mut self, chapter: &Chapter) -> Result<(), SinkFault>
         requires sound { (m : Floor) × IsSound m (history_of chapter.now) }
         ensures ok { OnOk result (Adds (kept self.old) (kept self.new) (chapter_shown chapter.now ∷ [])) }

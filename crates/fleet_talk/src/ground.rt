@@ -5,8 +5,8 @@ use fleet_grid::Grid;
 use fleet_script::Head;
 use fleet_text::HookKit;
 
-/// The longest line, its line feed not counted: 8,192 bytes. A `robots` line of 512 robots on the largest map has about half
-/// as many.
+/// The longest line, its line feed not counted: 8,192 bytes. A `robots` line of 512 robots on the largest map has about
+/// half as many.
 pub const MOST_LINE: usize = 8192;
 
 /// How many robots a conversation's fleet has at most.

@@ -44,8 +44,9 @@ pub fn a_script_is_a_run()
         × (met ≡ list_any is_limit_met replies) × (text ≡ run_text plan.events replies last.world.history.entries) }
 {}
 
-/// The head of a conversation: its first lines belong to it, each of which is a header line, a comment, blank, or bad; and it
-/// ends with the input, at a line that says `quit`, or at the first line that asks something of a fleet whose robots it named.
+/// The head of a conversation: its first lines belong to it, each of which is a header line, a comment, blank, or bad;
+/// and it ends with the input, at a line that says `quit`, or at the first line that asks something of a fleet whose
+/// robots it named.
 pub fn a_head_is_by_its_lines()
     ensures { (settings : Settings) (file : Draft) (lines : List (List ℕ)) → IsHead settings file lines (head_of settings file 1 lines) }
 {}

@@ -64,8 +64,8 @@ pub(crate) struct Part {
     pub(crate) is_last: bool,
 }
 
-/// Reads the next piece of a line, which is what the reader has in its buffer of it, and adds it to `line` without its line
-/// feed. Bytes beyond `most` are read and dropped.
+/// Reads the next piece of a line, which is what the reader has in its buffer of it, and adds it to `line` without its
+/// line feed. Bytes beyond `most` are read and dropped.
 pub(crate) fn read_part<R: BufRead, A: Allocator + Copy>(
     reader: &mut R,
     most: usize,

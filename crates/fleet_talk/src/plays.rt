@@ -83,8 +83,8 @@ fn play<R: Alloc<A = Global>>(
     tell(rt.alloc(), &fleet.session, pen, mark, event, reply)
 }
 
-/// Does one event and says what is replied, unless it is refused because the chapter is full and that may be handed out unasked:
-/// then the chapter is handed out, nothing is said, and the event is still to be done.
+/// Does one event and says what is replied, unless it is refused because the chapter is full and that may be handed out
+/// unasked: then the chapter is handed out, nothing is said, and the event is still to be done.
 pub(crate) fn play_here<R: Alloc<A = Global>>(
     rt: &R,
     fleet: &mut OpenFleet,
@@ -133,8 +133,8 @@ fn tell_turned<R: Alloc<A = Global>>(
     }
 }
 
-/// Says that a chapter was handed out, which is kept by now, and does the event for whose entry that was done, if there is one.
-/// If it fails, nothing is said.
+/// Says that a chapter was handed out, which is kept by now, and does the event for whose entry that was done, if there
+/// is one. If it fails, nothing is said.
 pub(crate) fn turned<R: Alloc<A = Global>>(
     rt: &R,
     fleet: &mut OpenFleet,

@@ -12,7 +12,8 @@ use crate::input_line::read_line;
 use crate::pen::Pen;
 use std::io::{BufReader, Read};
 
-/// Reads the next line, and returns whether there was one. No answer of the pen may wait while the line has to be waited for.
+/// Reads the next line, and returns whether there was one. No answer of the pen may wait while the line has to be
+/// waited for.
 pub(crate) fn next_line<I: Read>(
     input: &mut BufReader<I>,
     pen: &Pen,

@@ -123,8 +123,8 @@ pub fn hooks_after(kit: HookKit, head: &Head, opening: &Opening) -> Hooks
     kit.choose(south).cut(opening.robots.len())
 }
 
-/// The world of the fleet that goes on from a chapter: that of `reopen_world`, with the limits of `limits_after` and the closures
-/// of `hooks_after`.
+/// The world of the fleet that goes on from a chapter: that of `reopen_world`, with the limits of `limits_after` and
+/// the closures of `hooks_after`.
 ///
 /// Refused in this order: header lines that name another number of robots or of clients than the chapter has, and what
 /// `reopen_world` refuses.

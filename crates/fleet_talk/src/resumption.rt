@@ -58,7 +58,8 @@ fn answer_all<R: Alloc<A = Global>, I: Read, W: Write, S: ChapterSink>(
     go_on(rt, fleet, ends, &mut bytes, pen, 1)
 }
 
-/// Holds a conversation with an open fleet; the last answers are left for the caller to write. Returns whether a limit was met.
+/// Holds a conversation with an open fleet; the last answers are left for the caller to write. Returns whether a limit
+/// was met.
 fn hold_open<R: Alloc<A = Global>, I: Read, W: Write, S: ChapterSink>(
     rt: &R,
     session: Session,
@@ -106,12 +107,12 @@ fn converse_open<R: Alloc<A = Global>, I: Read, W: Write, S: ChapterSink>(
     end(&mut pen, &mut ends.output, ended)
 }
 
-/// Holds a conversation whose fleet goes on from a chapter: it is open before the first line, and each line is answered as `converse`
-/// does after the head. Each chapter goes to the sink when it is handed out, and the last at the end. Returns whether a limit
-/// was met.
+/// Holds a conversation whose fleet goes on from a chapter: it is open before the first line, and each line is answered
+/// as `converse` does after the head. Each chapter goes to the sink when it is handed out, and the last at the end.
+/// Returns whether a limit was met.
 ///
-/// Refused in this order, before a line is read: header lines that name another number of robots or of clients than the chapter
-/// has, and what `reopen_world` refuses.
+/// Refused in this order, before a line is read: header lines that name another number of robots or of clients than the
+/// chapter has, and what `reopen_world` refuses.
 pub fn resume<R: Alloc<A = Global>, I: Read, W: Write, S: ChapterSink>(
     rt: &R,
     ground: Ground,
@@ -121,7 +122,8 @@ pub fn resume<R: Alloc<A = Global>, I: Read, W: Write, S: ChapterSink>(
 ) -> Result<bool, ResumeFault>
     // Of each call: only a call with a condition may hand on closures.
     requires { 0 ≤ vec_len ground.kit.plain.ties }
-    // A whole conversation over the lines of the input was written, and its chapters were kept: those that were handed out, in order, and the last.
+    // A whole conversation over the lines of the input was written, and its chapters were kept: those that were handed
+    // out, in order, and the last.
     ensures ended { IfOk result (λ met. IfSome (reader_remaining I.remaining ends.old.input) (λ bytes. (text : List ℕ) × (chapters : List (ChapterView Global))
         × IsResumption (record { kit = kit_laws ground.kit; floor = ground.grid; settings = settings; head = drafted ground.head }) (chapter_shown chapter) bytes text chapters met
         × Appends (W.contents ends.old.output) (W.contents ends.new.output) text

@@ -1,5 +1,5 @@
-//! Formats runs, traces, maps and refusals as text; reads and writes whole texts, with any readers and writers; the hooks that a
-//! script chooses from.
+//! Formats runs, traces, maps and refusals as text; reads and writes whole texts, with any readers and writers; the
+//! hooks that a script chooses from.
 #![tactic(auto)]
 
 mod answers;

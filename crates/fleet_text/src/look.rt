@@ -50,8 +50,8 @@ fn write_within(text: &mut String, within: Option<u64>) -> Result<(), AllocError
     }
 }
 
-/// The line of a look: the ticks made; the chapter's number and how many entries it has; `idle` or the robot that has waited
-/// longest; on a map without bridges, after how many ticks the fleet is idle; and the robots' cells.
+/// The line of a look: the ticks made; the chapter's number and how many entries it has; `idle` or the robot that has
+/// waited longest; on a map without bridges, after how many ticks the fleet is idle; and the robots' cells.
 pub fn look_line(alloc: Global, standing: Standing, cells: &[u32]) -> Result<String, AllocError>
     ensures { IfOk result (λ line. string_bytes line ≡ look_line standing cells.now) }
 {

@@ -55,3 +55,15 @@ owed-small m o c few queue fine =
     let each : All (λ x. count_by (λ e. e.client == c) x.errands ≤ 65536) o.robots = λ k d less. (let x = get_or o.robots k d in omega (arith, count_by-le-length (λ e. e.client == c) x.errands, (fine k d less).room, queue)) in
     let all : owed_in o.robots c ≤ length o.robots * 65536 = sum_by-le (λ x. count_by (λ e. e.client == c) x.errands) 65536 o.robots each in
     omega (arith, all, few)
+
+-- lists of one length with the same items
+pub same-items : {X : Type 0} (xs ys : List X) (n : ℕ) → length xs ≡ length ys → length xs ≤ n → ((k : ℕ) (d : X) → k < n → get_or xs k d ≡ get_or ys k d) → xs ≡ ys
+same-items xs ys n count past each = by xs ys count (λ k d less. each k d (omega (arith, less, past))) where
+  by : {X : Type 0} (xs ys : List X) → length xs ≡ length ys → ((k : ℕ) (d : X) → k < length xs → get_or xs k d ≡ get_or ys k d) → xs ≡ ys
+  by [] [] count each = refl
+  by [] (y ∷ ys) count each = absurd (omega (arith, count))
+  by (x ∷ xs) [] count each = absurd (omega (arith, count))
+  by (x ∷ xs) (y ∷ ys) count each =
+      let head : x ≡ y = each 0 x (omega arith) in
+      let rest : xs ≡ ys = by xs ys (omega (arith, count)) (λ k d less. each (suc k) d (omega (arith, less))) in
+      rw (head, rest) refl

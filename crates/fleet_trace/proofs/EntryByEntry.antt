@@ -115,14 +115,14 @@ module _ {A : Type 0} (m : Floor) (h : History A) where
       breaks = judged (upto i) of_robots;
     }
 
-    pub may_follow : JudgedBy m h.opening.robots s e None → h.opening.tick ≡ 0 → length h.entries < 2 ^ 63 → MayFollow s e
-    may_follow judged early few = record {
+    pub may_follow : JudgedBy m h.opening.robots s e None → h.opening.tick + length h.entries < 2 ^ 63 → MayFollow s e
+    may_follow judged early = record {
       floor = m;
       history = upto i;
       is = k;
       fits = judged (upto i) of_robots;
-      early = omega (arith, early, few, count_by-le-length is_tick (take i h.entries), length-take h.entries i (omega (arith, less)), less);
-      few = omega (arith, few, length-take h.entries i (omega (arith, less)), less);
+      early = omega (arith, early, count_by-le-length is_tick (take i h.entries), length-take h.entries i (omega (arith, less)), less);
+      few = omega (arith, early, length-take h.entries i (omega (arith, less)), less);
     }
 
     pub goes_on : (t : State A) → JudgedBy m h.opening.robots s e None → Follows s e t → IsStateOf m (upto (i + 1)) t

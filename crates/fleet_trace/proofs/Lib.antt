@@ -14,3 +14,4 @@ pub mod Rooms
 pub mod ShutRules
 pub mod Robots
 pub mod Placed
+pub mod Turns

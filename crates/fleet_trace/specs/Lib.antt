@@ -5,4 +5,5 @@ pub mod Version
 pub mod Told
 pub mod Reads
 pub mod Judged
+pub mod Chapters
 pub mod inside

@@ -4,3 +4,4 @@ pub mod Calm
 pub mod Clients
 pub mod Opened
 pub mod Rooms
+pub mod Turns

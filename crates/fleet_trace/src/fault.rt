@@ -60,3 +60,17 @@ impl From<AllocError> for JudgeFault {
         JudgeFault::NoMemory
     }
 }
+
+/// Why texts tell no chapters that follow one another. Texts have the numbers 1, 2, .. in their order.
+#[derive(Clone, Copy, Debug, PartialEq, Eq, Error)]
+pub enum ChaptersFault {
+    /// The bytes of this text are not a trace.
+    #[error("trace {0}: {1}")]
+    Trace(u64, TraceFault),
+    /// This chapter does not continue the one before it.
+    #[error("chapter {0} does not continue the one before it")]
+    Chapter(u64),
+    /// Memory ran out.
+    #[error("out of memory")]
+    NoMemory,
+}

@@ -4,6 +4,7 @@ mod calm;
 mod clients;
 mod due;
 mod names;
+mod next;
 mod opening;
 mod robots;
 mod rooms;
@@ -12,7 +13,7 @@ mod stamps;
 mod takes;
 mod ticks;
 
-ghost use Rattle.std.specs.Prelude.{◌≡◌, ◌^◌, ◌<◌, ℕ, IfOk, IfErr, OnOk, length, slice_index};
+ghost use Rattle.std.specs.Prelude.{◌≡◌, ◌+◌, ◌^◌, ◌<◌, ℕ, IfOk, IfErr, OnOk, length, slice_index};
 ghost use Rattle.fleet_history.specs.History.{History, history_of, start, with_entries};
 ghost use Rattle.fleet_history.specs.Legal.{IsInOrder, IsLegal};
 ghost use Rattle.fleet_state.specs.State.{IsStateOf};
@@ -25,6 +26,7 @@ pub use due::{landings_after, verdict_after};
 use fleet_grid::Grid;
 use fleet_history::{Chapter, Entry, Opening, RobotState};
 use fleet_state::FleetState;
+pub(crate) use next::opening_after;
 use opening::is_in_order;
 use rooms::rooms_of;
 use shuts::broken_shut;
@@ -74,8 +76,7 @@ fn judge_entries<A: Allocator + Copy>(
     state: &mut FleetState<A>,
 ) -> Result<(), JudgeFault>
     requires opened { IsStateOf grid.now (start opening.now) state.old }
-    requires early { opening.now.tick ≡ 0 }
-    requires few { length entries.now < 2 ^ 63 }
+    requires early { opening.now.tick + length entries.now < 2 ^ 63 }
     requires rooms { (r : ℕ) → r < length opening.now.robots → slice_index state.old.rooms r ≡ room_for opening.now entries.now r }
     ensures state { OnOk result (IsStateOf grid.now (with_entries (start opening.now) entries.now) state.new) }
     ensures fault { IfErr result (λ fault. IsEntryFault grid.now (with_entries (start opening.now) entries.now) fault) }
@@ -100,8 +101,7 @@ fn state_after<A: Allocator + Copy>(
     entries: &[Entry<A>],
 ) -> Result<FleetState<A>, JudgeFault>
     requires order { IsInOrder grid.now opening.now }
-    requires early { opening.now.tick ≡ 0 }
-    requires few { length entries.now < 2 ^ 63 }
+    requires early { opening.now.tick + length entries.now < 2 ^ 63 }
     ensures state { IfOk result (λ s. IsStateOf grid.now (with_entries (start opening.now) entries.now) s) }
     ensures fault { IfErr result (λ fault. IsEntryFault grid.now (with_entries (start opening.now) entries.now) fault) }
 {
@@ -119,8 +119,7 @@ fn judge_behind<A: Allocator + Copy>(
     entries: &[Entry<A>],
 ) -> Result<(), JudgeFault>
     requires order { IsInOrder grid.now opening.now }
-    requires early { opening.now.tick ≡ 0 }
-    requires few { length entries.now < 2 ^ 63 }
+    requires early { opening.now.tick + length entries.now < 2 ^ 63 }
     ensures ok { OnOk result (IsLegal grid.now (with_entries (start opening.now) entries.now)) }
     ensures fault { IfErr result (λ fault. IsEntryFault grid.now (with_entries (start opening.now) entries.now) fault) }
 {

@@ -1,6 +1,7 @@
 //! Traces: every chapter can be written as text, read back, and judged by its history.
 #![tactic(auto)]
 
+mod chapters;
 mod fault;
 mod judging;
 mod law;
@@ -8,7 +9,8 @@ mod read;
 mod version;
 mod write;
 
-pub use fault::{JudgeFault, TraceFault};
+pub use chapters::read_chapters;
+pub use fault::{ChaptersFault, JudgeFault, TraceFault};
 pub use judging::{judge, landings_after, verdict_after};
 pub use law::{trace_reads_back, write_and_read};
 pub use read::read_trace;

@@ -1,5 +1,4 @@
 pub mod Rows
-pub mod Tellings
 pub mod Verdicts
 pub mod Made
 pub mod Pieces

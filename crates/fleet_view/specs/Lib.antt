@@ -1,6 +1,5 @@
 pub mod Verdicts
 pub mod Page
-pub mod Chapters
 pub mod Cells
 pub mod Picture
 pub mod View

@@ -1,49 +1,36 @@
 -- The result of a map's text and of traces on it.
 use Rattle.std.specs.Prelude.{◌≡◌, ◌+◌, ℕ, List, length, Option, Some, None, Ok}
 use Rattle.std.specs.declared.alloc.Global.{Global}
-use Rattle.fleet_grid.specs.Floor.{floor_of_map}
+use Rattle.fleet_grid.specs.Floor.{Floor, floor_of_map}
 use Rattle.fleet_map.specs.Grammar.{Map, Fails, map_of}
 use Rattle.fleet_trace.specs.Trace.{Trace}
+use Rattle.fleet_trace.specs.Chapters.{TellChapters, IsOutOfTurn, IsUnread}
 use Rattle.fleet_view.specs.declared.fault.ViewFault.{ViewFault}
 use Rattle.fleet_view.specs.declared.fault.ViewFault.TheVariants as fault
-use Rattle.fleet_view.specs.Chapters.{TellEach, TellsNot, first_unfit}
 use Rattle.fleet_view.specs.Cells.{first_off}
 use Rattle.fleet_view.specs.declared.verdict.ChapterVerdict.{ChapterVerdict}
 use Rattle.fleet_view.specs.Verdicts.{AreVerdicts}
 use Rattle.fleet_view.specs.Page.{page_text}
 use Rattle.fleet_view.specs.Picture.{picture_text}
 
--- the texts tell these traces, each of which goes on where the one before it ends
-pub record AreInTurn (texts : List (List ℕ)) (ts : List (Trace Global)) : Type 0 where
-  pub told : TellEach texts ts
-  pub fit : first_unfit 0 None ts ≡ None
-
--- the first trace that does not go on where the one before it ends has this number, from 1
-pub record IsOutOfTurn (texts : List (List ℕ)) (number : ℕ) : Type 0 where
-  pub traces : List (Trace Global)
-  pub told : TellEach texts traces
-  pub place : ℕ
-  pub unfit : first_unfit 0 None traces ≡ Some place
-  pub named : number ≡ place + 1
-
 -- why the texts tell no chapters that follow one another, unless memory ran out
-abbrev pub AreNotInTurn : List (List ℕ) → ViewFault → Type 0
-AreNotInTurn texts (fault.Map f) = ⊥
-AreNotInTurn texts (fault.Trace f) = TellsNot texts f
-AreNotInTurn texts (fault.Chapter number) = IsOutOfTurn texts number
-AreNotInTurn texts (fault.OffMap number) = ⊥
-AreNotInTurn texts fault.NoMemory = Unit {0}
+abbrev pub AreNotInTurn : Floor → List (List ℕ) → ViewFault → Type 0
+AreNotInTurn m texts (fault.Map f) = ⊥
+AreNotInTurn m texts (fault.Trace f) = (number : ℕ) × IsUnread texts number f
+AreNotInTurn m texts (fault.Chapter number) = IsOutOfTurn m texts number
+AreNotInTurn m texts (fault.OffMap number) = ⊥
+AreNotInTurn m texts fault.NoMemory = Unit {0}
 
 -- the texts tell these traces, which follow one another and whose cells the map has
 pub record AreOn (floor : Map) (texts : List (List ℕ)) (ts : List (Trace Global)) : Type 0 where
-  pub in_turn : AreInTurn texts ts
+  pub in_turn : TellChapters (floor_of_map floor) texts ts
   pub on_map : first_off (length floor.cells) 0 ts ≡ None
 
 -- the texts tell traces that follow one another, and the first that has a cell which the map does not have has this
 -- number, from 1
 pub record IsOffMap (floor : Map) (texts : List (List ℕ)) (number : ℕ) : Type 0 where
   pub traces : List (Trace Global)
-  pub in_turn : AreInTurn texts traces
+  pub in_turn : TellChapters (floor_of_map floor) texts traces
   pub place : ℕ
   pub off : first_off (length floor.cells) 0 traces ≡ Some place
   pub named : number ≡ place + 1
@@ -51,8 +38,8 @@ pub record IsOffMap (floor : Map) (texts : List (List ℕ)) (number : ℕ) : Typ
 -- why the texts tell no chapters on the map, unless memory ran out
 abbrev pub AreNotOn : Map → List (List ℕ) → ViewFault → Type 0
 AreNotOn floor texts (fault.Map f) = ⊥
-AreNotOn floor texts (fault.Trace f) = TellsNot texts f
-AreNotOn floor texts (fault.Chapter number) = IsOutOfTurn texts number
+AreNotOn floor texts (fault.Trace f) = (number : ℕ) × IsUnread texts number f
+AreNotOn floor texts (fault.Chapter number) = IsOutOfTurn (floor_of_map floor) texts number
 AreNotOn floor texts (fault.OffMap number) = IsOffMap floor texts number
 AreNotOn floor texts fault.NoMemory = Unit {0}
 

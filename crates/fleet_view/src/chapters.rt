@@ -1,107 +1,46 @@
-//! Traces of chapters that follow one another.
+//! The chapters that are shown.
 
-ghost use Rattle.std.specs.Prelude.{◌≡◌, ◌+◌, ◌<◌, ◌^◌, Some, None, map, length, IfOk, IfErr, IfSome, MatchOption, option_copied, option_map, true, false};
-ghost use Rattle.fleet_history.specs.History.{history_of, place_after, clock};
+ghost use Rattle.std.specs.Prelude.{map, IfOk, IfErr};
+ghost use Rattle.fleet_map.specs.Form.{HasSides};
+ghost use Rattle.fleet_map.specs.Grammar.{view};
+ghost use Rattle.fleet_grid.specs.Floor.{floor_of_map};
 ghost use Rattle.fleet_trace.specs.Trace.{trace_of};
-ghost use Rattle.fleet_trace.specs.Reads.{IsTraceFault};
-ghost use Rattle.fleet_view.specs.Chapters.{TellEach, TellsNot, goes_on, fits_behind, first_unfit};
+ghost use Rattle.fleet_trace.specs.Chapters.{TellChapters};
+ghost use Rattle.fleet_view.specs.View.{AreNotInTurn};
 
-use fleet_history::{Chapter, Entry, RobotState};
-use fleet_trace::{TraceFault, read_trace};
+use crate::fault::ViewFault;
+use crate::verdict::grid_of;
+use fleet_grid::Grid;
+use fleet_history::Chapter;
+use fleet_map::MapText;
+use fleet_trace::{ChaptersFault, read_chapters};
 use std::alloc::{AllocError, Global};
 
-/// Reads the chapters from these texts. The fault is that of the first text that is no trace.
-pub(crate) fn read_chapters(alloc: Global, texts: &[Vec<u8>]) -> Result<Vec<Chapter>, TraceFault>
-    ensures told { IfOk result (λ chapters. TellEach (map (λ text. text.items) texts.now) (map trace_of chapters.items)) }
-    ensures fault { IfErr result (λ fault. TellsNot (map (λ text. text.items) texts.now) fault) }
+/// Reads the chapters from these texts, and checks that each one continues the one before it on the grid.
+fn chapters_over(alloc: Global, grid: &Grid, texts: &[Vec<u8>]) -> Result<Vec<Chapter>, ViewFault>
+    ensures told { IfOk result (λ chapters. TellChapters grid.now (map (λ text. text.items) texts.now) (map trace_of chapters.items)) }
+    ensures fault { IfErr result (λ fault. AreNotInTurn grid.now (map (λ text. text.items) texts.now) fault) }
 {
-    let mut chapters = Vec::new(alloc);
-    for text in texts {
-        let chapter = read_trace(alloc, text)?;
-        chapters.push(chapter)?;
+    match read_chapters(alloc, grid, texts) {
+        Ok(chapters) => Ok(chapters),
+        Err(ChaptersFault::Trace(_number, fault)) => Err(ViewFault::Trace(fault)),
+        Err(ChaptersFault::Chapter(number)) => Err(ViewFault::Chapter(number)),
+        Err(ChaptersFault::NoMemory) => Err(ViewFault::NoMemory),
     }
-    Ok(chapters)
 }
 
-/// The robots' cells before the first entry.
-fn opened_cells(alloc: Global, robots: &[RobotState]) -> Result<Vec<u32>, AllocError>
-    ensures { IfOk result (λ cells. cells.items ≡ map (λ x. x.cell) robots.now) }
-{
-    robots.iter().map(|robot| robot.cell).collect(alloc)
-}
-
-/// The robots' cells after the entries.
-fn cells_after(
+/// The same, on the map.
+pub(crate) fn chapters_in_turn(
     alloc: Global,
-    robots: &[RobotState],
-    entries: &[Entry],
-) -> Result<Vec<u32>, AllocError>
-    ensures { IfOk result (λ cells. cells.items ≡ place_after (map (λ x. x.cell) robots.now) entries.now) }
+    floor: &MapText,
+    texts: &[Vec<u8>],
+) -> Result<Vec<Chapter>, ViewFault>
+    requires { HasSides (view floor.now) }
+    ensures told { IfOk result (λ chapters. TellChapters (floor_of_map (view floor.now)) (map (λ text. text.items) texts.now) (map trace_of chapters.items)) }
+    ensures fault { IfErr result (λ fault. AreNotInTurn (floor_of_map (view floor.now)) (map (λ text. text.items) texts.now) fault) }
 {
-    let mut cells = opened_cells(alloc, robots)?;
-    for entry in entries {
-        if let Entry::Tick { to, .. } = entry {
-            cells = Vec::from_slice(alloc, to.as_slice())?;
-        }
+    match grid_of(alloc, floor) {
+        Ok(grid) => chapters_over(alloc, &grid, texts),
+        Err(AllocError) => Err(ViewFault::NoMemory),
     }
-    Ok(cells)
-}
-
-/// The ticks made up to the end of the chapter; `None` if the number does not fit into 64 bits.
-fn clock_of(chapter: &Chapter) -> Option<u64>
-    ensures { MatchOption result (2 ^ 64 < clock (history_of chapter.now) + 1) (λ ticks. ticks ≡ clock (history_of chapter.now)) }
-{
-    let ticks = chapter
-        .entries
-        .iter()
-        .filter(|entry| matches!(entry, Entry::Tick { .. }))
-        .count();
-    chapter.opening.tick.checked_add(ticks as u64)
-}
-
-/// Whether the second chapter continues the first.
-fn goes_on(alloc: Global, first: &Chapter, next: &Chapter) -> Result<bool, AllocError>
-    ensures { IfOk result (λ b. b ≡ goes_on (trace_of first.now) (trace_of next.now)) }
-{
-    let (ended, opened) = (&first.opening, &next.opening);
-    if u64::from(next.number) != u64::from(first.number) + 1 {
-        return Ok(false);
-    }
-    if clock_of(first) != Some(opened.tick) {
-        return Ok(false);
-    }
-    let stand = cells_after(alloc, ended.robots.as_slice(), &first.entries)?;
-    let begin = opened_cells(alloc, opened.robots.as_slice())?;
-    if begin.as_slice() != stand.as_slice() {
-        return Ok(false);
-    }
-    let same = opened.clients.len() == ended.clients.len()
-        && opened.queue == ended.queue
-        && opened.life == ended.life;
-    Ok(same)
-}
-
-/// Whether the chapter may follow the one before it, if there is one.
-fn fits_behind(alloc: Global, before: Option<&Chapter>, next: &Chapter) -> Result<bool, AllocError>
-    ensures { IfOk result (λ b. b ≡ fits_behind (option_map trace_of (option_copied before.entry)) (trace_of next.now)) }
-{
-    match before {
-        Some(before) => goes_on(alloc, before, next),
-        None => Ok(true),
-    }
-}
-
-/// The place, from 0, of the first chapter that does not continue the one before it.
-pub(crate) fn first_unfit(alloc: Global, chapters: &[Chapter]) -> Result<Option<usize>, AllocError>
-    ensures first { IfOk result (λ place. place ≡ first_unfit 0 None (map trace_of chapters.now)) }
-    ensures within { IfOk result (λ place. IfSome place (λ p. p < length chapters.now)) }
-{
-    let mut before = None;
-    for (place, next) in chapters.iter().enumerate() {
-        if !fits_behind(alloc, before, next)? {
-            return Ok(Some(place));
-        }
-        before = Some(next);
-    }
-    Ok(None)
 }

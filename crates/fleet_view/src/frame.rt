@@ -1,4 +1,5 @@
-//! What stands before and between the map, the verdicts and the traces. Written by `tools/view/embed --write` from `tools/view`.
+//! What stands before and between the map, the verdicts and the traces. Written by `tools/view/embed --write` from
+//! `tools/view`.
 
 /// The page up to the map.
 pub(crate) const HEAD: &str = r##"<!doctype html>

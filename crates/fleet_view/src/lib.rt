@@ -13,6 +13,7 @@ mod script;
 mod shapes;
 mod verdict;
 mod view;
+mod walls;
 
 pub use fault::ViewFault;
 pub use law::input_ends_no_element;

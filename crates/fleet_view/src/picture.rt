@@ -1,17 +1,18 @@
 //! The picture of traces.
 
-ghost use Rattle.std.specs.Prelude.{◌≡◌, ◌++◌, ◌+◌, ◌*◌, ◌%◌, ◌<◌, ◌≤◌, ◌^◌, map, length, OnOk, IfOk, string_bytes, slice_index, codes, decimal, max};
+ghost use Rattle.std.specs.Prelude.{◌≡◌, ◌++◌, ◌+◌, ◌*◌, ◌%◌, ◌≤◌, map, length, OnOk, IfOk, string_bytes, slice_index, codes, decimal, max};
 ghost use Rattle.fleet_map.specs.Form.{HasSides};
 ghost use Rattle.fleet_map.specs.Grammar.{view};
 ghost use Rattle.fleet_trace.specs.Trace.{trace_of};
-ghost use Rattle.fleet_view.specs.declared.shapes.TheConstants.{WALL, BAR, BAR_END};
-ghost use Rattle.fleet_view.specs.Picture.{point_text, is_floor_letter, walls_from, head_text, walls_text, cells_over, cells_in, points_text, values_text, disc_text, moving_text, cell_behind, still_text, shape_text, shapes_from, flags_in, robots_in, bar_text, picture_text};
+ghost use Rattle.fleet_view.specs.declared.shapes.TheConstants.{BAR, BAR_END};
+ghost use Rattle.fleet_view.specs.Picture.{point_text, head_text, walls_text, cells_over, cells_in, points_text, values_text, disc_text, moving_text, cell_behind, still_text, shape_text, shapes_from, flags_in, robots_in, bar_text, picture_text};
 
 use crate::arrivals::{write_goals_of, write_ring};
 use crate::shapes::{
     BAR, BAR_END, DISC, NUMBER, SHAPE_END, STILL, STILL_END, SVG_BEGIN, SVG_END, SVG_SIZE,
-    SVG_STYLE, TRACK, TRACK_END, TRACK_TIME, WALL, WALLS, WALLS_END,
+    SVG_STYLE, TRACK, TRACK_END, TRACK_TIME, WALLS, WALLS_END,
 };
+use crate::walls::write_walls;
 use fleet_history::{Chapter, Entry, RobotState};
 use fleet_map::MapText;
 use std::alloc::{AllocError, Global};
@@ -25,36 +26,6 @@ pub(crate) fn write_point(out: &mut String, width: u32, cell: u32) -> Result<(),
     let x = u64::from(cell % width) * 16;
     let y = u64::from(cell / width) * 16;
     write!(out, "{x} {y}")
-}
-
-fn is_floor_letter(letter: u8) -> bool
-    ensures { result ≡ is_floor_letter letter }
-{
-    matches!(letter, b'.' | b'G' | b'S')
-}
-
-/// The square of a cell that is no floor.
-fn write_wall(out: &mut String, width: u32, cell: u32) -> Result<(), AllocError>
-    requires { 1 ≤ width }
-    ensures { OnOk result (string_bytes out.new ≡ string_bytes out.old ++ (WALL.now ++ point_text width cell ++ codes "h16v16h-16z")) }
-{
-    out.push_str(WALL)?;
-    write_point(out, width, cell)?;
-    out.push_str("h16v16h-16z")
-}
-
-/// A square for each cell that is no floor.
-fn write_walls(out: &mut String, width: u32, letters: &[u8]) -> Result<(), AllocError>
-    requires wide { 1 ≤ width }
-    requires few { length letters.now < 2 ^ 32 }
-    ensures { OnOk result (string_bytes out.new ≡ string_bytes out.old ++ walls_from width 0 letters.now) }
-{
-    for (cell, letter) in letters.iter().enumerate() {
-        if !is_floor_letter(*letter) {
-            write_wall(out, width, cell as u32)?;
-        }
-    }
-    Ok(())
 }
 
 /// The text of the picture before the squares of the map.

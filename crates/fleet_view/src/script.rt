@@ -1706,7 +1706,8 @@ class EventList {
 
 const MOST_MARKS = 400;
 
-// The marks of a replay: a kind and a part of its time, from 0 to 1. Marks of one kind that would lie on one another are one.
+// The marks of a replay: a kind and a part of its time, from 0 to 1. Marks of one kind that would lie on one another
+// are one.
 function marksOf(replay) {
   const { last } = replay;
   const kept = new Map();
@@ -1893,8 +1894,8 @@ const SHOWN = ['heat', 'goals', 'lines'];
 const ADDRESS_EVERY = 300;
 
 // `t=140` is the tick at which the clock is 140, `robot=3` the picked robot, `zoom=2.5,10,7` shows the map 2.5 times as
-// large with column 10, row 7 in the middle, and `heat=1&goals=0&lines=0` says what is drawn. `heat=stood-100` is the heat of
-// cells on which robots stood in the last 100 ticks.
+// large with column 10, row 7 in the middle, and `heat=1&goals=0&lines=0` says what is drawn. `heat=stood-100` is the
+// heat of cells on which robots stood in the last 100 ticks.
 class Address {
   constructor(page) {
     this.page = page;
@@ -2057,8 +2058,8 @@ class Page {
     this.setShown('heat', true);
   }
 
-  // The texts of a frame. While the replay plays, the table and the entries are written a few times a second, and the list
-  // of all events when it stands.
+  // The texts of a frame. While the replay plays, the table and the entries are written a few times a second, and the
+  // list of all events when it stands.
   drawTexts() {
     const { replay } = this;
     const { frame } = replay.state;

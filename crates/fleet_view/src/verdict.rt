@@ -66,6 +66,15 @@ fn copy_of(alloc: Global, floor: &MapText) -> Result<MapText, AllocError>
     })
 }
 
+/// The grid of the map.
+pub(crate) fn grid_of(alloc: Global, floor: &MapText) -> Result<Grid, AllocError>
+    requires { HasSides (view floor.now) }
+    ensures { IfOk result (λ grid. grid ≡ floor_of_map (view floor.now)) }
+{
+    let copy = copy_of(alloc, floor)?;
+    Grid::new(copy)
+}
+
 /// The judge's verdict on each of the chapters, on this map. The only error is that memory runs out.
 pub fn judge_chapters(
     alloc: Global,
@@ -75,6 +84,6 @@ pub fn judge_chapters(
     requires { HasSides (view floor.now) }
     ensures { IfOk result (λ vs. AreVerdicts (floor_of_map (view floor.now)) (map trace_of chapters.now) vs.items) }
 {
-    let grid = Grid::new(copy_of(alloc, floor)?)?;
+    let grid = grid_of(alloc, floor)?;
     judge_each(alloc, &grid, chapters)
 }

@@ -4,42 +4,25 @@ ghost use Rattle.std.specs.Prelude.{◌≡◌, ℕ, List, Ok, map, IfOk, IfErr, 
 ghost use Rattle.fleet_map.specs.Form.{HasSides};
 ghost use Rattle.fleet_map.specs.Grammar.{Gives, map_of, view};
 ghost use Rattle.fleet_trace.specs.Trace.{trace_of};
-ghost use Rattle.fleet_view.specs.View.{AreInTurn, AreNotInTurn, AreNotOn, AreOn, IsJudgedPage, IsPage, IsPicture, IsUnshown};
+ghost use Rattle.fleet_view.specs.View.{AreNotOn, AreOn, IsJudgedPage, IsPage, IsPicture, IsUnshown};
 
 use crate::cells::first_off;
-use crate::chapters::{first_unfit, read_chapters};
+use crate::chapters::chapters_in_turn;
 use crate::fault::ViewFault;
 use crate::page::page_of;
 use crate::picture::picture_of;
 use crate::verdict::judge_chapters;
 use fleet_history::Chapter;
 use fleet_map::{MapFault, MapText, read_map};
-use fleet_trace::TraceFault;
 use std::alloc::{AllocError, Global};
-
-/// Reads the chapters from these texts, and checks that each one continues the one before it.
-fn chapters_in_turn(alloc: Global, texts: &[Vec<u8>]) -> Result<Vec<Chapter>, ViewFault>
-    ensures told { IfOk result (λ chapters. AreInTurn (map (λ text. text.items) texts.now) (map trace_of chapters.items)) }
-    ensures fault { IfErr result (λ fault. AreNotInTurn (map (λ text. text.items) texts.now) fault) }
-{
-    let chapters = match read_chapters(alloc, texts) {
-        Ok(chapters) => chapters,
-        Err(TraceFault::NoMemory) => return Err(ViewFault::NoMemory),
-        Err(fault) => return Err(ViewFault::Trace(fault)),
-    };
-    match first_unfit(alloc, &chapters) {
-        Ok(None) => Ok(chapters),
-        Ok(Some(place)) => Err(ViewFault::Chapter(place as u64 + 1)),
-        Err(AllocError) => Err(ViewFault::NoMemory),
-    }
-}
 
 /// Reads the chapters from these texts, and checks that they follow one another on the map.
 fn chapters_on(alloc: Global, floor: &MapText, texts: &[Vec<u8>]) -> Result<Vec<Chapter>, ViewFault>
+    requires { HasSides (view floor.now) }
     ensures told { IfOk result (λ chapters. AreOn (view floor.now) (map (λ text. text.items) texts.now) (map trace_of chapters.items)) }
     ensures fault { IfErr result (λ fault. AreNotOn (view floor.now) (map (λ text. text.items) texts.now) fault) }
 {
-    match chapters_in_turn(alloc, texts) {
+    match chapters_in_turn(alloc, floor, texts) {
         Ok(chapters) => match first_off(floor.cells.len(), &chapters) {
             Some(place) => Err(ViewFault::OffMap(place as u64 + 1)),
             None => Ok(chapters),

@@ -1,5 +1,5 @@
-//! The world of a fleet with the lanes and outlets of its clients, event by event, and the pure core that runs a list of events
-//! from its opening.
+//! The world of a fleet with the lanes and outlets of its clients, event by event, and the pure core that runs a list
+//! of events from its opening.
 #![tactic(auto)]
 
 mod faults;

@@ -8,13 +8,15 @@ ghost use Rattle.fleet_history.specs.Legal.{IsLegal};
 ghost use Rattle.fleet_history.specs.Numbering.{AreNumbered};
 ghost use Rattle.fleet_history.specs.Laws.{ArrivesInOrder, ArrivalsRise, HasNoConflict, AcceptsNoneClosed, EachTick};
 ghost use Rattle.fleet_planner.specs.Planned.{IsPlanned, IsAdvancingTick};
-ghost use Rattle.fleet_core.specs.Hooks.{laws_of};
+ghost use Rattle.fleet_core.specs.Hooks.{laws_of, AreOrderly};
+ghost use Rattle.fleet_core.specs.Opening.{CanOpen};
 ghost use Rattle.fleet_core.specs.OpeningFaults.{IsRefused, IsNamed};
 ghost use Rattle.fleet_core.specs.Core.{opened_world};
 ghost use Rattle.fleet_world.specs.Keeps.{talk};
 ghost use Rattle.fleet_world.specs.Run.{Run, IsAtEvent, opened_state};
 ghost use Rattle.fleet_world.specs.Laws.{KeepsRings, KeepsEachRing, CollectsInOrder, IsSameGround};
 ghost use Rattle.fleet_world.specs.Played.{collected_of, end_of};
+ghost use Rattle.fleet_world.specs.Talk.{opened_talk};
 ghost use Rattle.fleet_world.specs.inside.Leftovers.{HasRoomFor};
 ghost use Rattle.fleet_world.specs.inside.Shown.{Leads, with_reply};
 
@@ -76,17 +78,8 @@ pub fn run<A: Allocator + Copy, R: Alloc<A = A>>(
     ensures advancing { IfOk result (λ p. IsBridgeless (IsNeighbour p.world.core.floor) → EachTick (IsAdvancingTick p.world.core.floor) p.world.core.history) }
     ensures bounded { IfOk result (λ p. IsBridgeless (IsNeighbour p.world.core.floor) → WaitsAreBounded p.world.core.floor p.world.core.history) }
 {
-    let mut session = match Session::open(rt.alloc(), grid, starts, clients, limits, hooks) {
-        Ok(session) => session,
-        Err(fault) => return Err(RunFault::Opening(fault)),
-    };
-    let (leftovers, mut collected) = match rooms(rt.alloc(), clients as usize) {
-        Ok(rooms) => rooms,
-        Err(AllocError) => {
-            abandon(session);
-            return Err(RunFault::Opening(OpenFault::NoMemory));
-        }
-    };
+    let opened = opened(rt.alloc(), grid, starts, clients, limits, hooks)?;
+    let (mut session, (leftovers, mut collected)) = opened;
     match play(rt, &mut session, &mut collected, events) {
         Ok(replies) => Ok(close(session, leftovers, collected, replies)),
         Err(fault) => {
@@ -96,11 +89,42 @@ pub fn run<A: Allocator + Copy, R: Alloc<A = A>>(
     }
 }
 
-/// Room for what this many clients leave, and what they collected before any event.
-fn rooms<A: Allocator + Copy>(
+/// What clients will leave, and what each of them collected.
+type Rooms<A> = (Leftovers<A>, Vec<Vec<Notice, A>, A>);
+
+/// An opened session, and room for what its clients leave and collect.
+fn opened<A: Allocator + Copy>(
     alloc: A,
-    clients: usize,
-) -> Result<(Leftovers<A>, Vec<Vec<Notice, A>, A>), AllocError>
+    grid: Grid<A>,
+    starts: Vec<u32, A>,
+    clients: u32,
+    limits: Limits,
+    hooks: Hooks<A>,
+) -> Result<(Session<A>, Rooms<A>), RunFault>
+    requires { clients < 2 ^ 32 }
+    ensures refused { (fault : _) → IsNamed fault → ((result ≡ Err (RunFault.Opening fault)) ↔ IsRefused grid starts.items clients limits (laws_of hooks) fault) }
+    ensures memory { (i : ℕ) → result ≡ Err (RunFault.NoMemory i) → ⊥ }
+    ensures can { OnOk result (CanOpen grid starts.items clients limits (laws_of hooks)) }
+    ensures orderly { OnOk result (AreOrderly (laws_of hooks)) }
+    ensures ok { IfOk result (λ o. talk o.0 ≡ opened_talk grid starts.items clients limits (laws_of hooks)) }
+    ensures room { IfOk result (λ o. HasRoomFor o.1.0 clients) }
+    ensures collected { IfOk result (λ o. map (λ v. v.items) o.1.1.items ≡ replicate clients []) }
+{
+    let session = match Session::open(alloc, grid, starts, clients, limits, hooks) {
+        Ok(session) => session,
+        Err(fault) => return Err(RunFault::Opening(fault)),
+    };
+    match rooms(alloc, clients as usize) {
+        Ok(rooms) => Ok((session, rooms)),
+        Err(AllocError) => {
+            abandon(session);
+            Err(RunFault::Opening(OpenFault::NoMemory))
+        }
+    }
+}
+
+/// Room for what this many clients leave, and what they collected before any event.
+fn rooms<A: Allocator + Copy>(alloc: A, clients: usize) -> Result<Rooms<A>, AllocError>
     ensures room { IfOk result (λ r. HasRoomFor r.0 clients) }
     ensures collected { IfOk result (λ r. map (λ v. v.items) r.1.items ≡ replicate clients []) }
 {

@@ -60,8 +60,8 @@ impl<A: Allocator + Copy> Session<A> {
         }
     }
 
-    /// A session over a world that is there already, as one that goes on from a chapter that was kept. Nothing waits of its
-    /// clients.
+    /// A session over a world that is there already, as one that goes on from a chapter that was kept. Nothing waits of
+    /// its clients.
     ///
     /// Refused out of memory alone; the world is let go then.
     pub fn over(alloc: A, world: World<A>) -> Result<Session<A>, AllocError>
@@ -78,8 +78,8 @@ impl<A: Allocator + Copy> Session<A> {
         }
     }
 
-    /// Ends the chapter and returns it. The next one opens with the state that the world is in, and each client's orders and notices
-    /// wait on as before.
+    /// Ends the chapter and returns it. The next one opens with the state that the world is in, and each client's
+    /// orders and notices wait on as before.
     ///
     /// Refused in this order: this is the last of the chapters, out of memory.
     pub fn next_chapter(&mut self) -> Result<Chapter<A>, ChapterFault>

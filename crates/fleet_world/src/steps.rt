@@ -115,7 +115,8 @@ impl<A: Allocator + Copy> Session<A> {
         }
     }
 
-    /// Does one event, and returns what is replied. A refused event changes nothing, nor does one for which memory ran out.
+    /// Does one event, and returns what is replied. A refused event changes nothing, nor does one for which memory ran
+    /// out.
     pub fn step<R: Alloc<A = A>>(&mut self, rt: &R, event: Event) -> Result<Reply, AllocError>
         // Of each call: the checker lets closures go to another crate only in a call with a `requires`.
         requires { 0 ≤ self.old.world.core.number }

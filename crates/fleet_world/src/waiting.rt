@@ -8,8 +8,8 @@ use std::alloc::{AllocError, Allocator, Global};
 use std::collections::VecDeque;
 use std::marker::Model;
 
-/// The orders that a client sent and nobody took, and the notices that it was given and did not collect. Contracts see both
-/// lists.
+/// The orders that a client sent and nobody took, and the notices that it was given and did not collect. Contracts see
+/// both lists.
 #[derive(Drop)]
 pub struct Waiting<A: Allocator + Copy = Global> {
     lane: VecDeque<Order, A>,

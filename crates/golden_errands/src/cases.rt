@@ -1,9 +1,9 @@
 //! What the program answers to many cases.
 //!
-//! After a case's name `$ WORD ..` has the program's words and `< NAME` begins a file that they name. The other lines are the
-//! file's, or standard input's where no file has begun: `|TEXT` is a line, `:TEXT` one without its line end. Memory runs out
-//! where the file `no-memory` is opened. What came out is written alike, with `!` before a line for the error writer, and last
-//! `? STATUS`.
+//! After a case's name `$ WORD ..` has the program's words and `< NAME` begins a file that they name. The other lines
+//! are the file's, or standard input's where no file has begun: `|TEXT` is a line, `:TEXT` one without its line end.
+//! Memory runs out where the file `no-memory` is opened. What came out is written alike, with `!` before a line for the
+//! error writer, and last `? STATUS`.
 
 mod case;
 mod outcome;

@@ -1,15 +1,15 @@
 //! Fleets on a ring of eight cells, kept on demand or in real time as `fleet live` does. `tools/live/model.py --cases`
 //! prints the same from an independent model.
 //!
-//! A case begins with a line `case: NAME`. Lines that begin with `+ ` follow: `+ script LINE` is a line of the file
-//! of header lines, `+ kept N TEXT` the chapter from which the fleet goes on, with one digit N, `+ watch` lets the first
+//! A case begins with a line `case: NAME`. Lines that begin with `+ ` follow: `+ script LINE` is a line of the file of
+//! header lines, `+ kept N TEXT` the chapter from which the fleet goes on, with one digit N, `+ watch` lets the first
 //! conversation watch, and each `+ fails` has the sink fail once more, `+ fails always` for good. The other lines are
 //! those of the first conversation. What is said is written at once, since the fleet's threads own the writer.
 //!
 //! `+ period TIME` keeps the fleet in real time, `+ tickers N` with N tickers, by a clock that stands still but where a
-//! line `~ COUNT MICROS` moves it on by MICROS microseconds: when COUNT more lines were printed, and the fleet waits for
-//! its next deadline. A line `~ COUNT` waits for the lines alone. Each `+ pipe LINE` is a line of client 0, which then has a conversation of its own. What it is
-//! told, and the counts of each minute, are printed as they come.
+//! line `~ COUNT MICROS` moves it on by MICROS microseconds: when COUNT more lines were printed, and the fleet waits
+//! for its next deadline. A line `~ COUNT` waits for the lines alone. Each `+ pipe LINE` is a line of client 0, which
+//! then has a conversation of its own. What it is told, and the counts of each minute, are printed as they come.
 
 mod clock;
 mod spoken;

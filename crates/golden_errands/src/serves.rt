@@ -1,8 +1,8 @@
 //! Scripts that the program serves, and the judge's answer to the traces that it writes of them.
 //!
-//! A row is a bundle of a map and a script of posts and collects. Its line is the same in every schedule: the status and the
-//! complaint of the serve, what `judge` prints of its trace, how many of the posts the trace takes (where a post met a full lane: that
-//! it takes fewer), and the arrivals.
+//! A row is a bundle of a map and a script of posts and collects. Its line is the same in every schedule: the status
+//! and the complaint of the serve, what `judge` prints of its trace, how many of the posts the trace takes (where a
+//! post met a full lane: that it takes fewer), and the arrivals.
 
 use crate::words::words_of;
 use errands_lib::{InputFault, Inputs, run_words};

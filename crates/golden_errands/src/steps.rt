@@ -1,7 +1,7 @@
 //! Each tick of rows, judged by itself.
 //!
-//! A row is a map, the line `script` and a script, which is run, or a map, the line `trace` and a trace. Its line tells how many steps
-//! the row has, that each of them is conflict-free, or which is not, and how many arrivals they bring.
+//! A row is a map, the line `script` and a script, which is run, or a map, the line `trace` and a trace. Its line tells
+//! how many steps the row has, that each of them is conflict-free, or which is not, and how many arrivals they bring.
 
 mod find;
 mod walk;

@@ -1,7 +1,8 @@
 //! Readers and writers that fail, each read and each write in turn.
 //!
-//! A row is a bundle of a map and a script. Of it are tried: its run by lines and by its trace, the bundle itself, its map alone, and
-//! the judge of the trace. The program is to end with status 3, the complaint, and a prefix of what it writes otherwise.
+//! A row is a bundle of a map and a script. Of it are tried: its run by lines and by its trace, the bundle itself, its
+//! map alone, and the judge of the trace. The program is to end with status 3, the complaint, and a prefix of what it
+//! writes otherwise.
 
 mod job;
 mod trial;

@@ -1,10 +1,10 @@
-//! Conversations, held as `fleet talk` does: what was written, and how each ended. `tools/talk/model.py --cases`
-//! prints the same from an independent model.
+//! Conversations, held as `fleet talk` does: what was written, and how each ended. `tools/talk/model.py --cases` prints
+//! the same from an independent model.
 //!
-//! A case begins with a line `case: NAME`. Lines that begin with `+ ` follow: `+ marks` and `+ roll` are the
-//! settings, `+ script LINE` is a line of the file of header lines, `+ kept N TEXT` the chapter from which the fleet goes
-//! on, by a file for chapter N, `+ map NAME` another map, `+ cut` takes the last line feed away, and `+ trials` asks for
-//! the trials of readers, writers and sinks that fail. The other lines are those of the conversation.
+//! A case begins with a line `case: NAME`. Lines that begin with `+ ` follow: `+ marks` and `+ roll` are the settings,
+//! `+ script LINE` is a line of the file of header lines, `+ kept N TEXT` the chapter from which the fleet goes on, by
+//! a file for chapter N, `+ map NAME` another map, `+ cut` takes the last line feed away, and `+ trials` asks for the
+//! trials of readers, writers and sinks that fail. The other lines are those of the conversation.
 
 mod case;
 mod hold;

@@ -1,8 +1,9 @@
-//! Traces judged in two ways: by the judge of fleet_trace, and by a reading of the rules that shares no code
-//! with it, golden_judge's.
+//! Traces judged in two ways: by the judge of fleet_trace, and by a reading of the rules that shares no code with it,
+//! golden_judge's.
 //!
-//! The traces are those of seeded worlds, as the program `errands` writes them, and of their later chapters, whose openings
-//! its own reading reckons; each of them with one number damaged at a time, and with damaged bytes. The counts are noted.
+//! The traces are those of seeded worlds, as the program `errands` writes them, and of their later chapters, whose
+//! openings its own reading reckons; each of them with one number damaged at a time, and with damaged bytes. The counts
+//! are noted.
 
 mod compare;
 mod count;

@@ -1,5 +1,6 @@
-//! `golden_office` prints the results of an office's calls and of its threads, in four parts: cases call by call, clients that
-//! work while a turn stands in a closure, a client that is lent to a thread of its own, and scripts that are served.
+//! `golden_office` prints the results of an office's calls and of its threads, in four parts: cases call by call,
+//! clients that work while a turn stands in a closure, a client that is lent to a thread of its own, and scripts that
+//! are served.
 #![tactic(auto)]
 
 mod floor;

@@ -1,5 +1,6 @@
-//! Scripts that are served, and their results: cases whose gate holds clients' threads where it matters, cases of bounded
-//! waits, and a thousand scripts from seeds. A line for each case and one for the thousand, the same ones in each run.
+//! Scripts that are served, and their results: cases whose gate holds clients' threads where it matters, cases of
+//! bounded waits, and a thousand scripts from seeds. A line for each case and one for the thousand, the same ones in
+//! each run.
 
 mod came;
 mod gate;

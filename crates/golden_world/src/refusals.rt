@@ -1,15 +1,18 @@
 //! Each allocation of memory of a world's calls refused in turn, and what each call answered.
 //!
-//! The rows stand in a text. A line `= NAME` begins a row, and a bundle of a map and a script stands after it. The script is
-//! played twice, by a world's own calls and by a run, over an allocator that refuses one allocation: the first, then the second,
-//! until none is refused. Four comments of a script are calls of the world: `#next` begins the next chapter,
-//! `#widen CLIENT NUMBER` widens the client's mailbox, `#keep BYTES` says how much of unused fields is kept, and `#ahead` searches
-//! the fields of next errands ahead. A row that has them is played by the world's calls alone.
+//! The rows stand in a text. A line `= NAME` begins a row, and a bundle of a map and a script stands after it. The
+//! script is played twice, by a world's own calls and by a run, over an allocator that refuses one allocation: the
+//! first, then the second, until none is refused. Four comments of a script are calls of the world: `#next` begins the
+//! next chapter, `#widen CLIENT NUMBER` widens the client's mailbox, `#keep BYTES` says how much of unused fields is
+//! kept, and `#ahead` searches the fields of next errands ahead. A row that has them is played by the world's calls
+//! alone.
 //!
-//! A line tells what a call answered and how many allocations it was refused. It ends with `same` where each refused call showed
-//! and held afterwards what it did before, called no arrival or farewell closure, and answered alike when it was made again.
-//! Of a run, which makes no event again, it ends with `same` where each refused run named the event whose allocation it was: over
-//! the events before that one, with the same allocation refused, a run ends well, and over these and that one it names it again.
+//! A line tells what a call answered. It ends with `same` where each refused call showed and held afterwards what it
+//! did before, called no arrival or farewell closure, and answered alike when it was made again; and where what takes
+//! memory in any case (a tick, a next chapter, the judge, and all before the calls) was refused once at least. How
+//! often is not printed: no promise says it. Of a run, which makes no event again, it ends with `same` where each
+//! refused run named the event whose allocation it was: over the events before that one, with the same allocation
+//! refused, a run ends well, and over these and that one it names it again.
 
 mod calls;
 mod case;

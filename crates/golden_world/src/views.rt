@@ -1,5 +1,5 @@
-//! What closures are shown: whether each robot's own closures are asked, once for each view, in the order of the rule, with
-//! every field of the view in its place, and whether their own answers stand in the history.
+//! What closures are shown: whether each robot's own closures are asked, once for each view, in the order of the rule,
+//! with every field of the view in its place, and whether their own answers stand in the history.
 
 mod note;
 mod play;

@@ -1,5 +1,6 @@
 pub mod Counts
 pub mod Demand
+pub mod Due
 pub mod Figures
 pub mod Kept
 pub mod Notices

@@ -1,6 +1,7 @@
 //! Which clients were given notices that they were not told yet.
 
-ghost use Rattle.std.specs.Prelude.{◌≡◌, ◌≢◌, ◌≤◌, ◌<◌, ◌↔◌, ℕ, length, slice_index_or, IfOk, IsTrue};
+ghost use Rattle.std.specs.Prelude.{◌≡◌, ◌≤◌, ◌<◌, ◌↔◌, ℕ, length, slice_index_or, IfOk, IsTrue};
+ghost use Rattle.live_parts.specs.Due.{IsDue, client_count, given_to, told_to};
 
 use std::alloc::{AllocError, Global};
 
@@ -25,7 +26,8 @@ fn at(counts: &[u64], client: usize) -> u64
 impl Due {
     /// N clients, none of which was given anything.
     pub fn new(alloc: Global, clients: usize) -> Result<Due, AllocError>
-        ensures { IfOk result (λ due. (length due.given.items ≡ clients) × (length due.told.items ≡ clients)) }
+        ensures count { IfOk result (λ due. (client_count due ≡ clients) × (length due.given.items ≡ clients)) }
+        ensures none { IfOk result (λ due. (c : ℕ) → (given_to due c ≡ 0) × (told_to due c ≡ 0)) }
     {
         Ok(Due {
             given: vec![in alloc; 0u64; clients]?,
@@ -35,8 +37,7 @@ impl Due {
 
     /// Whether one of the clients from the first on, before the end, was given notices since it was told all.
     pub fn is_due(&self, first: usize, end: usize) -> bool
-        ensures { IsTrue result ↔ ((c : ℕ) × (first ≤ c) × (c < end)
-            × (slice_index_or self.now.told.items c 0 ≢ slice_index_or self.now.given.items c 0)) }
+        ensures { IsTrue result ↔ ((c : ℕ) × (first ≤ c) × (c < end) × IsDue self.now c) }
     {
         for client in first..end {
             if at(&self.told, client) != at(&self.given, client) {
@@ -49,12 +50,9 @@ impl Due {
     /// Notes that the clients from the first on, before the end, were told all that they were given.
     pub fn note_told(&mut self, first: usize, end: usize)
         ensures given { self.new.given ≡ self.old.given }
-        ensures told { (c : ℕ) → first ≤ c → c < end → c < length self.old.told.items →
-            slice_index_or self.new.told.items c 0 ≡ slice_index_or self.old.given.items c 0 }
-        ensures before { (c : ℕ) → c < first →
-            slice_index_or self.new.told.items c 0 ≡ slice_index_or self.old.told.items c 0 }
-        ensures after { (c : ℕ) → end ≤ c →
-            slice_index_or self.new.told.items c 0 ≡ slice_index_or self.old.told.items c 0 }
+        ensures told { (c : ℕ) → first ≤ c → c < end → c < client_count self.old → told_to self.new c ≡ given_to self.old c }
+        ensures before { (c : ℕ) → c < first → told_to self.new c ≡ told_to self.old c }
+        ensures after { (c : ℕ) → end ≤ c → told_to self.new c ≡ told_to self.old c }
     {
         let end = end.min(self.told.len());
         for client in first..end {

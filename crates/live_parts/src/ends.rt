@@ -5,10 +5,11 @@
 pub struct LiveSettings {
     /// The microseconds between two turns; `None` if turns are made only when a line asks for one.
     pub period: Option<u32>,
-    /// How many tickers keep the fleet in turn where there is a period: with two, one keeps it while the other keeps a chapter.
+    /// How many tickers keep the fleet in turn where there is a period: with two, one keeps it while the other keeps a
+    /// chapter.
     pub tickers: u32,
-    /// The microseconds after which a chapter is handed out at the latest; `None` if that is done only where one is full or a
-    /// line asks for it.
+    /// The microseconds after which a chapter is handed out at the latest; `None` if that is done only where one is
+    /// full or a line asks for it.
     pub keep_every: Option<u32>,
     /// Whether the first conversation watches from the start.
     pub watch: bool,
@@ -21,8 +22,8 @@ pub struct Pipes<P, Q> {
     pub output: Q,
 }
 
-/// The reader and the writer of the first conversation, the pipes of clients 0, 1, .., the writer of the counts, the writer that takes
-/// all figures at once, each second anew, and the sink of the chapters.
+/// The reader and the writer of the first conversation, the pipes of clients 0, 1, .., the writer of the counts, the
+/// writer that takes all figures at once, each second anew, and the sink of the chapters.
 #[derive(Drop)]
 pub struct LiveEnds<I, W, P, Q, E, S> {
     pub input: I,

@@ -1,5 +1,5 @@
-//! What a fleet in real time is asked, what it says and what it keeps: lines, texts, notices, counts and chapters, as values that no
-//! thread shares.
+//! What a fleet in real time is asked, what it says and what it keeps: lines, texts, notices, counts and chapters, as
+//! values that no thread shares.
 #![tactic(auto)]
 
 mod archive;

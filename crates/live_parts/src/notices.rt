@@ -74,8 +74,8 @@ impl Notices {
         self.verdicts[place_of(verdict)]
     }
 
-    /// How many errands are open, by the notices that were told, where this many were open before: those that were accepted and
-    /// neither withdrawn nor done.
+    /// How many errands are open, by the notices that were told, where this many were open before: those that were
+    /// accepted and neither withdrawn nor done.
     pub(crate) fn open(&self, before: u64) -> u64
         ensures { result ≡ open_count before self.now }
     {

@@ -19,8 +19,8 @@ pub fn taken_before(alloc: Global, opening: &Opening) -> Result<Vec<u64>, AllocE
         .collect(alloc)
 }
 
-/// The number of an order that a client posted, counted on from those that were taken of it before; `taken` has these by client,
-/// and nothing of a client of whom none were. A refusal stays as it is.
+/// The number of an order that a client posted, counted on from those that were taken of it before; `taken` has these
+/// by client, and nothing of a client of whom none were. A refusal stays as it is.
 pub fn number_on(
     taken: &[u64],
     client: u32,

@@ -48,7 +48,8 @@ fn timed(unit: u64, number: u64) -> Option<u32>
     }
 }
 
-/// The time between two turns that a word says, in microseconds: a number and `us`, `ms` or `s`, from one microsecond to an hour.
+/// The time between two turns that a word says, in microseconds: a number and `us`, `ms` or `s`, from one microsecond
+/// to an hour.
 pub fn read_period(word: &[u8]) -> Option<u32>
     ensures { result ≡ period_in word.now }
 {

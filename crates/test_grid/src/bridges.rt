@@ -173,8 +173,8 @@ fn refused_growths(rt: HostRuntime) {
     refuse_growths(&rt, rt.alloc(), &grid, (4, 5));
 }
 
-/// Whether an allocation of the search for one edge is refused. After a refusal, the next call with the same memory finds
-/// that the edge is a bridge.
+/// Whether an allocation of the search for one edge is refused. After a refusal, the next call with the same memory
+/// finds that the edge is a bridge.
 fn is_search_refused(rt: &impl Abort, heap: impl Allocator + Copy, grid: &Grid) -> bool {
     let Some(next) = grid.neighbour(200, Dir::East) else {
         return false;

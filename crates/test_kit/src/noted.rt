@@ -17,8 +17,8 @@ pub struct Noted<'a> {
 }
 
 impl Noted<'_> {
-    /// Compares what a run noted with what was wanted of it. Names the first that differs: the views, the stamps, or the
-    /// robots' cells at the end.
+    /// Compares what a run noted with what was wanted of it. Names the first that differs: the views, the stamps, or
+    /// the robots' cells at the end.
     pub fn compare(self, wanted: Noted<'_>) -> Finding
         ensures alike { (result ≡ AsTheRow) ↔
             ((self.entry.note ≡ wanted.entry.note)

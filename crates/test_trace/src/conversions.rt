@@ -6,7 +6,8 @@ use std::alloc::Global;
 /// Two rows of three cells: 0, 1, 2 and below them 3, 4, 5.
 const MAP: &str = "type octile\nheight 2\nwidth 3\nmap\n...\n...\n";
 
-/// Robot 0 goes from cell 1 down, right, up and left to it again; robot 1 goes up from cell 3. Then both stay for one tick.
+/// Robot 0 goes from cell 1 down, right, up and left to it again; robot 1 goes up from cell 3. Then both stay for one
+/// tick.
 const TRACE: &str =
     r#"{"chapter":0,"entries":[["tick",[4,0],[],[]],["tick",[5,0],[],[]],["tick",[2,0],[],[]],["tick",[1,0],[],[]],["tick",[1,0],[],[]]],"opening":{"clients":[[0,0,0,false]],"life":1000000,"queue":16,"robots":[[1,false,null,[],[0,0],[0,0]],[3,false,null,[],[0,0],[0,0]]],"tick":0},"version":2}"#;
 

@@ -1,6 +1,6 @@
 //! Sentences that say what is at fault in a map, a script and a trace. Each names the fault that the grammar has there.
 
-use fleet_explain::{Explanation, explain_map, explain_script, explain_trace};
+use fleet_explain::{Explanation, explain_head, explain_map, explain_script, explain_trace};
 use std::alloc::{AllocError, Global};
 
 /// A ring of eight cells.
@@ -21,6 +21,54 @@ fn says(alloc: Global, script: &str, words: &str) -> bool {
         Ok(sentence) => sentence.contains(words),
         Err(AllocError) => false,
     }
+}
+
+/// Whether the sentence on the header lines of a conversation is this one.
+fn says_of_head(alloc: Global, head: &str, sentence: &str) -> bool {
+    if head.len() > 4096 {
+        return false;
+    }
+    let Ok(explanation) = explain_head(alloc, MAP.as_bytes(), head.as_bytes()) else {
+        return false;
+    };
+    match format!(in alloc; "{explanation}") {
+        Ok(text) => text.as_str() == sentence,
+        Err(AllocError) => false,
+    }
+}
+
+#[test]
+fn heads_are_explained(rt: HostRuntime) {
+    let alloc = rt.alloc();
+    assert!(rt; says_of_head(alloc, "robots 0 8\nclients 2\n", "all in order"));
+    assert!(rt;
+        says_of_head(
+            alloc,
+            "clients 2\n",
+            "all in order for `talk`, whose conversation has to give a line `robots CELL ..`; `live` needs it here"
+        )
+    );
+    assert!(rt;
+        says_of_head(
+            alloc,
+            "robots 0 8\n\npost 0 go 0 2\n",
+            "the header lines: line 3: it is an event line, which belongs in the conversation and not in this file"
+        )
+    );
+    assert!(rt;
+        says_of_head(
+            alloc,
+            "clients 2\nclients 2\n",
+            "the header lines: line 2: a line with the same first word stands above it, and one is allowed"
+        )
+    );
+    assert!(rt;
+        says_of_head(
+            alloc,
+            "robots 0 1 2 3 5 6 7 8 0 1 2 3 5 6 7 8 0\n",
+            "the header lines: in its line `robots`, robots 0 and 8 both start on cell 0 (row 0, column 0)"
+        )
+    );
 }
 
 #[test]

@@ -23,8 +23,8 @@ const ERRANDS: &str =
 const TICKS: &str =
     "tick,arrivals,moves,idle,longest_wait\n1,0,1,0,0\n2,1,1,0,1\n3,1,1,0,0\n4,0,0,1,0\n";
 
-/// The run begins with an errand in the queue. Two more are accepted, one of them is withdrawn, and the robot makes one step: the first
-/// and the third are left.
+/// The run begins with an errand in the queue. Two more are accepted, one of them is withdrawn, and the robot makes one
+/// step: the first and the third are left.
 const OPEN: &str =
     r#"{"chapter":1,"entries":[["take",0,["go",0,1],["accepted",2]],["take",0,["go",0,0],["accepted",3]],["take",0,["withdraw",2],["withdrawn"]],["tick",[1],[],[]]],"opening":{"clients":[[1,1,1,false]],"life":1000000,"queue":16,"robots":[[0,false,0,[[0,1,2]],[0,0],[0,0]]],"tick":3},"version":2}"#;
 
@@ -34,6 +34,25 @@ const LEFT_LINES: &str =
 /// Only the third errand was accepted in the run.
 const LEFT_ERRANDS: &str =
     "client,number,robot,cell,accepted,begun,arrived,from,steps,distance\n0,3,0,0,3,,,,,\n";
+
+/// A chapter that leaves an errand: the robot made one of the two steps to its cell.
+const LEAVES: &str =
+    r#"{"chapter":0,"entries":[["take",0,["go",0,2],["accepted",1]],["tick",[1],[],[]]],"opening":{"clients":[[0,0,0,false]],"life":1000000,"queue":16,"robots":[[0,false,null,[],[0,0],[0,0]]],"tick":0},"version":2}"#;
+
+/// The chapter after it: an order taken, accepted and noticed, and a robot that has waited one tick for its arrival on
+/// cell 2.
+const NEXT: &str =
+    r#"{"chapter":1,"entries":[],"opening":{"clients":[[1,1,1,false]],"life":1000000,"queue":16,"robots":[[1,false,1,[[0,1,2]],[0,0],[0,0]]],"tick":1},"version":2}"#;
+
+/// The same, but the errand is for another cell; the robot has waited less, or is shut; its farewell has another law;
+/// one more order was taken and refused.
+const OTHERS: [&str; 5] = [
+    r#"{"chapter":1,"entries":[],"opening":{"clients":[[1,1,1,false]],"life":1000000,"queue":16,"robots":[[1,false,1,[[0,1,0]],[0,0],[0,0]]],"tick":1},"version":2}"#,
+    r#"{"chapter":1,"entries":[],"opening":{"clients":[[1,1,1,false]],"life":1000000,"queue":16,"robots":[[1,false,0,[[0,1,2]],[0,0],[0,0]]],"tick":1},"version":2}"#,
+    r#"{"chapter":1,"entries":[],"opening":{"clients":[[1,1,1,false]],"life":1000000,"queue":16,"robots":[[1,true,1,[[0,1,2]],[0,0],[0,0]]],"tick":1},"version":2}"#,
+    r#"{"chapter":1,"entries":[],"opening":{"clients":[[1,1,1,false]],"life":1000000,"queue":16,"robots":[[1,false,1,[[0,1,2]],[0,0],[0,1]]],"tick":1},"version":2}"#,
+    r#"{"chapter":1,"entries":[],"opening":{"clients":[[2,1,2,false]],"life":1000000,"queue":16,"robots":[[1,false,1,[[0,1,2]],[0,0],[0,0]]],"tick":1},"version":2}"#,
+];
 
 /// One text.
 fn one(alloc: Global, text: &str) -> Result<Vec<Vec<u8>>, AllocError> {
@@ -73,6 +92,30 @@ fn chapters_in_another_order(rt: HostRuntime) {
     let texts = both(rt.alloc(), SECOND, FIRST).expect(&rt, "memory");
     let none = stats(rt.alloc(), StatsForm::Json, MAP.as_bytes(), &texts);
     assert!(rt; matches!(none, Err(StatsFault::Chapter(2))));
+}
+
+/// Whether there are figures of the chapter that leaves an errand and of the one after it. `None` if the fault is not
+/// in the second.
+fn continues(alloc: Global, next: &str) -> Option<bool> {
+    match stats(
+        alloc,
+        StatsForm::Cells,
+        MAP.as_bytes(),
+        &both(alloc, LEAVES, next).ok()?,
+    ) {
+        Ok(_) => Some(true),
+        Err(StatsFault::Chapter(2)) => Some(false),
+        Err(_) => None,
+    }
+}
+
+#[test]
+fn chapters_with_another_state(rt: HostRuntime) {
+    let alloc = rt.alloc();
+    assert!(rt; continues(alloc, NEXT) == Some(true));
+    for next in &OTHERS {
+        assert!(rt; continues(alloc, next) == Some(false));
+    }
 }
 
 #[test]

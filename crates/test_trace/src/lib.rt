@@ -1,6 +1,6 @@
 //! Tests of traces and plans. Traces are written, read back and judged; truncated and hostile ones too, and the second
-//! judge finds planted faults. Plans of other planners are judged, traces are turned into plans, faults are explained, and
-//! figures are counted.
+//! judge finds planted faults. Plans of other planners are judged, traces are turned into plans, faults are explained,
+//! and figures are counted.
 #![tactic(auto)]
 
 #[cfg(test)]

@@ -8,8 +8,8 @@ use golden_judge::{Site, first_fault};
 use std::alloc::Global;
 use std::process::Abort;
 
-/// What may differ in a chapter of two robots on a row of three floor cells: the start of the second, and what is told of a take,
-/// of a tick and of a shut.
+/// What may differ in a chapter of two robots on a row of three floor cells: the start of the second, and what is told
+/// of a take, of a tick and of a shut.
 #[derive(Clone, Copy)]
 struct Told {
     start: u32,

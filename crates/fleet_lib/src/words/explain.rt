@@ -6,23 +6,30 @@ ghost use Rattle.fleet_lib.specs.Asked.{IsExplain};
 
 use crate::words::arguments::MAP;
 use clap::ArgMatches;
-use command_words::{Argument, Kind, Word, some_word_for, word_for};
+use command_words::{Argument, Kind, Word, has_flag, some_word_for, word_for};
 use std::alloc::{AllocError, Global};
 
 /// To say what is wrong with a map, or with a script, a trace or a plan on it.
 #[derive(Debug, Drop)]
 pub struct Explain {
+    /// Whether `other` is looked at as the header lines of a conversation.
+    pub head: bool,
     pub map: String,
     /// A script, a trace or a plan, if one is named.
     pub other: Option<String>,
 }
 
-/// `explain MAP [INPUT]`.
+/// `explain [--head] MAP [INPUT]`.
 pub(crate) const EXPLAIN: Word<'static> = Word {
     name: "explain",
     about: "Says in a sentence what is wrong with a map, or with a script, a trace or a plan on it",
     example: "Example: fleet explain ring.map two_robots.script",
     arguments: &[
+        Argument {
+            name: "head",
+            kind: Kind::Flag,
+            help: "Look at INPUT as the header lines that begin `fleet talk` or `fleet live`",
+        },
         MAP,
         Argument {
             name: "INPUT",
@@ -38,5 +45,9 @@ pub(crate) fn explain_in(alloc: Global, matches: &ArgMatches<'_>) -> Result<Expl
 {
     let map = word_for(alloc, matches, "MAP")?;
     let other = some_word_for(alloc, matches, "INPUT")?;
-    Ok(Explain { map, other })
+    Ok(Explain {
+        head: has_flag(matches, "head"),
+        map,
+        other,
+    })
 }

@@ -23,7 +23,8 @@ pub(crate) const FLEET: Program<'static> = Program {
     words: &[VIEW, CHECK, TALK, CONVERT, EXPLAIN, LIVE, STATS],
 };
 
-/// The program with its words. Only this function names the constant, since a proof has it at each step of the function.
+/// The program with its words. Only this function names the constant, since a proof has it at each step of the
+/// function.
 pub(crate) fn program() -> Program<'static>
     ensures { program_app result ≡ fleet_app }
 {

@@ -1,6 +1,7 @@
--- How many robots a text of at most 16,777,216 bytes can have.
+-- How many robots a text can have that is no longer than a plan may be.
 use Rattle.std.specs.Prelude.{◌≤◌, length, IfSome}
+use Rattle.fleet_plans.specs.declared.limit.TheConstants.{MOST_PLAN_BYTES}
 use Rattle.fleet_plans.specs.Head.{Head}
 
 abbrev pub HasFewStarts : Head → Type 0
-HasFewStarts head = IfSome head.starts (λ starts. length starts ≤ 16777216)
+HasFewStarts head = IfSome head.starts (λ starts. length starts ≤ MOST_PLAN_BYTES)

@@ -85,8 +85,8 @@ impl<'a, A: Allocator + Copy, B: Allocator + Copy> PlanJudge<'a, A, B> {
         Ok(())
     }
 
-    /// Takes a next placement to which only these robots have moved. The table has the robots on their last cells. If the
-    /// result is true, the placement is free of faults, and the table has them on their new cells.
+    /// Takes a next placement to which only these robots have moved. The table has the robots on their last cells. If
+    /// the result is true, the placement is free of faults, and the table has them on their new cells.
     pub(crate) fn take_some(
         &mut self,
         seats: &mut [u32],

@@ -9,12 +9,10 @@ ghost use Rattle.fleet_plans.specs.Told.{Tells};
 use super::fault::{RunnersFault, RunnersKey};
 use super::starts::values_of;
 use crate::cells::first_part;
+use crate::limit::MOST_PLAN_BYTES;
 use fleet_history::Row;
 use serde_json::Value;
 use std::alloc::{AllocError, Global};
-
-/// The greatest length of a path; no text that is read has a longer one.
-const MOST_BYTES: usize = 16_777_216;
 
 /// The letter that plans of moves have for this step.
 fn letter_of(part: &[u8]) -> Option<u8>
@@ -54,12 +52,12 @@ fn track_of(alloc: Global, text: &[u8]) -> Result<Option<Row<u8>>, AllocError>
 /// The letters of a robot's path; `None` if the value is not a path.
 fn path_of(alloc: Global, value: &Value) -> Result<Option<Row<u8>>, AllocError>
     ensures read { IfOk result (λ track. track ≡ path_in (view value.now)) }
-    ensures few { IfOk result (λ track. IfSome track (λ letters. length letters ≤ 16777216)) }
+    ensures few { IfOk result (λ track. IfSome track (λ letters. length letters ≤ MOST_PLAN_BYTES)) }
 {
     let Some(text) = value.as_str() else {
         return Ok(None);
     };
-    if text.len() > MOST_BYTES {
+    if text.len() > MOST_PLAN_BYTES {
         return Ok(None);
     }
     track_of(alloc, text.as_bytes())
@@ -73,9 +71,9 @@ fn all_paths(
     robots: usize,
     values: &[Value],
 ) -> Result<Vec<Row<u8>>, RunnersFault>
-    requires { robots ≤ 16777216 }
+    requires { robots ≤ MOST_PLAN_BYTES }
     ensures read { Tells (λ tracks. tracks.items) result (paths_of key robots [] (items_view values.now)) }
-    ensures short { IfOk result (λ tracks. (r : ℕ) → length (slice_index_or tracks.items r []) ≤ 16777216) }
+    ensures short { IfOk result (λ tracks. (r : ℕ) → length (slice_index_or tracks.items r []) ≤ MOST_PLAN_BYTES) }
 {
     let mut tracks = Vec::new(alloc);
     let mut rest = values;
@@ -104,9 +102,9 @@ pub(super) fn read_paths(
     robots: usize,
     plan: &Value,
 ) -> Result<Vec<Row<u8>>, RunnersFault>
-    requires { robots ≤ 16777216 }
+    requires { robots ≤ MOST_PLAN_BYTES }
     ensures read { Tells (λ tracks. tracks.items) result (paths_in key robots (view plan.now)) }
-    ensures short { IfOk result (λ tracks. (r : ℕ) → length (slice_index_or tracks.items r []) ≤ 16777216) }
+    ensures short { IfOk result (λ tracks. (r : ℕ) → length (slice_index_or tracks.items r []) ≤ MOST_PLAN_BYTES) }
 {
     match plan.get(key.word()).and_then(values_of) {
         Some(values) => all_paths(alloc, key, robots, values),

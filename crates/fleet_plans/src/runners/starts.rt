@@ -7,13 +7,11 @@ ghost use Rattle.fleet_plans.specs.Runners.{coordinate_at, start_in, with_start,
 ghost use Rattle.fleet_plans.specs.Told.{Tells};
 
 use super::fault::{RunnersFault, RunnersKey};
+use crate::limit::MOST_PLAN_BYTES;
 use crate::sides::Sides;
 use fleet_history::Row;
 use serde_json::Value;
 use std::alloc::Global;
-
-/// The greatest number of robots; no text that is read has more.
-const MOST_ROBOTS: usize = 16_777_216;
 
 /// The items of an array.
 pub(super) fn values_of(value: &Value) -> Option<&[Value]>
@@ -47,13 +45,13 @@ fn start_of(sides: Sides, value: &Value) -> Option<u32>
 #[tactic(auto, unfolding(crate::specs::Runners::starts_of))]
 fn all_starts(alloc: Global, sides: Sides, values: &[Value]) -> Result<Row<u32>, RunnersFault>
     ensures read { Tells (λ cells. cells) result (starts_of sides.width sides.height [] (items_view values.now)) }
-    ensures few { IfOk result (λ cells. length cells ≤ 16777216) }
+    ensures few { IfOk result (λ cells. length cells ≤ MOST_PLAN_BYTES) }
 {
     let mut cells = Vec::new(alloc);
     let mut rest = values;
     while let Some((value, after)) = rest.split_first() {
         let fault = RunnersFault::Item(RunnersKey::Start, cells.len() as u32);
-        if cells.len() >= MOST_ROBOTS {
+        if cells.len() >= MOST_PLAN_BYTES {
             return Err(fault);
         }
         let Some(cell) = start_of(sides, value) else {
@@ -72,7 +70,7 @@ pub(super) fn read_starts(
     plan: &Value,
 ) -> Result<Row<u32>, RunnersFault>
     ensures read { Tells (λ cells. cells) result (starts_in sides.width sides.height (view plan.now)) }
-    ensures few { IfOk result (λ cells. length cells ≤ 16777216) }
+    ensures few { IfOk result (λ cells. length cells ≤ MOST_PLAN_BYTES) }
 {
     match plan.get("start").and_then(values_of) {
         Some(values) => all_starts(alloc, sides, values),

@@ -9,16 +9,11 @@ ghost use Rattle.fleet_plans.specs.Told.{Tells};
 use super::fault::{RunnersFault, RunnersKey};
 use super::starts::values_of;
 use crate::cells::first_part;
+use crate::limit::MOST_PLAN_BYTES;
 use fleet_grid::Dir;
 use fleet_history::Row;
 use serde_json::Value;
 use std::alloc::{AllocError, Global};
-
-/// The greatest length of a path; no text that is read has a longer one.
-const MOST_BYTES: usize = 16_777_216;
-
-/// The greatest number of robots; no text that is read has more.
-const MOST_ROBOTS: usize = 16_777_216;
 
 /// The letter that plans of moves have for a step in this direction.
 fn letter_of(dir: Dir) -> u8
@@ -101,12 +96,12 @@ fn turned(alloc: Global, dir: Dir, text: &[u8]) -> Result<Option<Row<u8>>, Alloc
 /// The letters of a robot's path; `None` if the value is not a path.
 fn turned_in(alloc: Global, dir: Dir, value: &Value) -> Result<Option<Row<u8>>, AllocError>
     ensures read { IfOk result (λ track. track ≡ turned_in dir (view value.now)) }
-    ensures few { IfOk result (λ track. IfSome track (λ letters. length letters ≤ 16777216)) }
+    ensures few { IfOk result (λ track. IfSome track (λ letters. length letters ≤ MOST_PLAN_BYTES)) }
 {
     let Some(text) = value.as_str() else {
         return Ok(None);
     };
-    if text.len() > MOST_BYTES {
+    if text.len() > MOST_PLAN_BYTES {
         return Ok(None);
     }
     turned(alloc, dir, text.as_bytes())
@@ -140,13 +135,13 @@ fn dir_in(value: &Value) -> Option<Dir>
 #[tactic(auto, unfolding(crate::specs::Turning::dirs_of))]
 fn all_dirs(alloc: Global, values: &[Value]) -> Result<Row<Dir>, RunnersFault>
     ensures read { Tells (λ dirs. dirs) result (dirs_of [] (items_view values.now)) }
-    ensures few { IfOk result (λ dirs. length dirs ≤ 16777216) }
+    ensures few { IfOk result (λ dirs. length dirs ≤ MOST_PLAN_BYTES) }
 {
     let mut dirs = Vec::new(alloc);
     let mut rest = values;
     while let Some((value, after)) = rest.split_first() {
         let fault = RunnersFault::Item(RunnersKey::Start, dirs.len() as u32);
-        if dirs.len() >= MOST_ROBOTS {
+        if dirs.len() >= MOST_PLAN_BYTES {
             return Err(fault);
         }
         let Some(dir) = dir_in(value) else {
@@ -161,7 +156,7 @@ fn all_dirs(alloc: Global, values: &[Value]) -> Result<Row<Dir>, RunnersFault>
 /// The robots' directions.
 pub(super) fn read_dirs(alloc: Global, plan: &Value) -> Result<Row<Dir>, RunnersFault>
     ensures read { Tells (λ dirs. dirs) result (dirs_in (view plan.now)) }
-    ensures few { IfOk result (λ dirs. length dirs ≤ 16777216) }
+    ensures few { IfOk result (λ dirs. length dirs ≤ MOST_PLAN_BYTES) }
 {
     match plan.get("start").and_then(values_of) {
         Some(values) => all_dirs(alloc, values),
@@ -179,7 +174,7 @@ fn told_track(
 ) -> Result<Row<u8>, RunnersFault>
     requires { robot < 2 ^ 32 }
     ensures read { Tells (λ track. track) result (told_track key robot (view value.now) (slice_get dirs.now robot)) }
-    ensures few { IfOk result (λ letters. length letters ≤ 16777216) }
+    ensures few { IfOk result (λ letters. length letters ≤ MOST_PLAN_BYTES) }
     ensures inside { IfOk result (λ letters. robot < length dirs.now) }
 {
     let Some(dir) = dirs.get(robot) else {
@@ -199,9 +194,9 @@ fn all_turned(
     dirs: &[Dir],
     values: &[Value],
 ) -> Result<Vec<Row<u8>>, RunnersFault>
-    requires { length dirs.now ≤ 16777216 }
+    requires { length dirs.now ≤ MOST_PLAN_BYTES }
     ensures read { Tells (λ tracks. tracks.items) result (turned_of key dirs.now [] (items_view values.now)) }
-    ensures short { IfOk result (λ tracks. (r : ℕ) → length (slice_index_or tracks.items r []) ≤ 16777216) }
+    ensures short { IfOk result (λ tracks. (r : ℕ) → length (slice_index_or tracks.items r []) ≤ MOST_PLAN_BYTES) }
 {
     let mut tracks = Vec::new(alloc);
     let mut rest = values;
@@ -224,9 +219,9 @@ pub(super) fn read_turned(
     dirs: &[Dir],
     plan: &Value,
 ) -> Result<Vec<Row<u8>>, RunnersFault>
-    requires { length dirs.now ≤ 16777216 }
+    requires { length dirs.now ≤ MOST_PLAN_BYTES }
     ensures read { Tells (λ tracks. tracks.items) result (turned_paths key dirs.now (view plan.now)) }
-    ensures short { IfOk result (λ tracks. (r : ℕ) → length (slice_index_or tracks.items r []) ≤ 16777216) }
+    ensures short { IfOk result (λ tracks. (r : ℕ) → length (slice_index_or tracks.items r []) ≤ MOST_PLAN_BYTES) }
 {
     match plan.get(key.word()).and_then(values_of) {
         Some(values) => all_turned(alloc, key, dirs, values),

@@ -2,7 +2,7 @@
 use Rattle.fleet_grid.specs.Floor.{Floor}
 use Rattle.fleet_history.specs.History.{History, start}
 use Rattle.fleet_state.specs.State.{State, IsStateOf, HasFullRooms}
-use Rattle.fleet_stats.specs.Chapters.{IsSound}
+use Rattle.fleet_trace.specs.Chapters.{IsSound}
 
 -- this is the state at its end
 pub record IsEnd {A : Type 0} (h : History A) (s : State A) : Type 0 where

@@ -36,7 +36,8 @@ fn calm_state<A: Allocator + Copy>(
     }
 }
 
-/// The verdict that a client's order gets after the first entries of a chapter, which are legal. The only error is out of memory.
+/// The verdict that a client's order gets after the first entries of a chapter, which are legal. The only error is out
+/// of memory.
 pub fn verdict_after<A: Allocator + Copy>(
     alloc: A,
     grid: &Grid<A>,
@@ -54,8 +55,8 @@ pub fn verdict_after<A: Allocator + Copy>(
     Ok(state.judge(grid, client, order))
 }
 
-/// The arrivals and the farewells that are due where a tick brings the robots to these cells after the first entries of a chapter, which
-/// are legal; with stamps of 0. The only error is out of memory.
+/// The arrivals and the farewells that are due where a tick brings the robots to these cells after the first entries of
+/// a chapter, which are legal; with stamps of 0. The only error is out of memory.
 pub fn landings_after<A: Allocator + Copy>(
     alloc: A,
     grid: &Grid<A>,

@@ -49,8 +49,8 @@ fn widen<A: Allocator + Copy>(rooms: &mut Vec<u32, A>, robot: u32, queue: u32)
     }
 }
 
-/// For how many errands each robot's queue has memory in a chapter: for those at the opening and one more for each that an entry
-/// adds, up to the limit of a queue.
+/// For how many errands each robot's queue has memory in a chapter: for those at the opening and one more for each that
+/// an entry adds, up to the limit of a queue.
 pub(crate) fn rooms_of<A: Allocator + Copy>(
     alloc: A,
     opening: &Opening<A>,

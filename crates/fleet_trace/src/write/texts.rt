@@ -41,8 +41,8 @@ fn push_item<T: WriteValue>(
     push_value(alloc, text, &value)
 }
 
-/// Adds the texts of the items, with a comma between two, and the bracket that ends their list. One item at a time stands in
-/// memory as a value.
+/// Adds the texts of the items, with a comma between two, and the bracket that ends their list. One item at a time
+/// stands in memory as a value.
 pub(crate) fn push_items<T: WriteValue>(
     alloc: Global,
     text: &mut String,

@@ -22,7 +22,8 @@ pub(crate) struct Good<'a> {
 pub(crate) enum Trial {
     /// Reads of one byte: the same comes out.
     ByteByByte,
-    /// Each read of a byte fails in turn, the one that finds the end of the file too: a file failed, and nothing is written.
+    /// Each read of a byte fails in turn, the one that finds the end of the file too: a file failed, and nothing is
+    /// written.
     EachRead,
     /// Each write fails in turn: a prefix of the output is written, and a file failed.
     EachWrite,
@@ -30,8 +31,8 @@ pub(crate) enum Trial {
     EachEmptyWrite,
     /// Each write of the complaint fails in turn: the status stays, and so does a prefix of the complaint.
     EachComplaint,
-    /// A script that goes on with line feeds: to the greatest length of a file the same comes out, with one byte more a file
-    /// failed, and so it does where it never ends. For the lines alone, since it takes long.
+    /// A script that goes on with line feeds: to the greatest length of a file the same comes out, with one byte more a
+    /// file failed, and so it does where it never ends. For the lines alone, since it takes long.
     LongFiles,
 }
 

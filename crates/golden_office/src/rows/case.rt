@@ -51,8 +51,8 @@ pub(crate) enum HallStep {
     Collect,
 }
 
-/// A case: a floor whose letters fill it, where its robots start, how many clients there are, and what is done: some calls over
-/// and over, then others once.
+/// A case: a floor whose letters fill it, where its robots start, how many clients there are, and what is done: some
+/// calls over and over, then others once.
 #[derive(Clone, Copy)]
 pub(crate) struct Case<'a> {
     pub(crate) name: &'a str,

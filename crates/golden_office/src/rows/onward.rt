@@ -1,4 +1,5 @@
-//! The cases of an office that lives on: verdicts without a tick, a tick that its turn shows, chapters, and fields searched ahead.
+//! The cases of an office that lives on: verdicts without a tick, a tick that its turn shows, chapters, and fields
+//! searched ahead.
 
 use crate::rows::case::{Case, Step};
 use crate::rows::table::{TO_0, TO_1, TO_2, TWO_CELLS};
@@ -19,7 +20,8 @@ pub(crate) const SETTLE: Case<'static> = Case {
     ..TWO_CELLS
 };
 
-/// An order without room in its chapter ends the takes. One that asks for a fuller chapter than there is turns no found.
+/// An order without room in its chapter ends the takes. One that asks for a fuller chapter than there is turns no
+/// found.
 pub(crate) const SETTLE_FULL_CHAPTER: Case<'static> = Case {
     name: "office_settle_full_chapter",
     limits: Limits {
@@ -117,7 +119,8 @@ pub(crate) const SEARCHED_AHEAD: Case<'static> = Case {
     ..THREE_CELLS
 };
 
-/// Two robots change sides on a square of four cells, which has no bridge: no wait reaches two robots times three edges.
+/// Two robots change sides on a square of four cells, which has no bridge: no wait reaches two robots times three
+/// edges.
 pub(crate) const LONGEST_WAIT: Case<'static> = Case {
     name: "office_longest_wait",
     sides: (2, 2),

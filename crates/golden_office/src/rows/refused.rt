@@ -49,8 +49,8 @@ fn is_as<R: Alloc<A = Global> + Threads + Sync + Wait>(
     Ok(told.as_str() == row)
 }
 
-/// Plays a case with each allocation of a call refused in turn, and made again. The result is how many these are, where each
-/// play ended as the case.
+/// Plays a case with each allocation of a call refused in turn, and made again. The result is how many these are, where
+/// each play ended as the case.
 fn growths<R: Alloc<A = Global> + Threads + Sync + Wait>(
     rt: &R,
     meter: &Meter<Global>,

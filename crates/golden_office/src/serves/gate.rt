@@ -12,7 +12,8 @@ pub(crate) enum Hold {
     Nobody,
     /// Each of two clients at its first line, until the other's is reached.
     FirstLines,
-    /// The client at its first line until the first tick has called a tie closure, and that closure until the third line.
+    /// The client at its first line until the first tick has called a tie closure, and that closure until the third
+    /// line.
     LineAndTick,
 }
 

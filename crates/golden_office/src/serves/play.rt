@@ -65,7 +65,8 @@ fn serve_with<R: Alloc<A = Global> + Threads + Sync + Wait>(
     }
 }
 
-/// Serves a script on a yard, with closures for its robots that stand where the flags say so, or has no memory for them.
+/// Serves a script on a yard, with closures for its robots that stand where the flags say so, or has no memory for
+/// them.
 fn serve_hooked<R: Alloc<A = Global> + Threads + Sync + Wait>(
     rt: &R,
     yard: &Yard,

@@ -54,8 +54,8 @@ fn arrivals_of(answer: Result<TickReport, TickFault>) -> u64 {
     }
 }
 
-/// Runs `ticks` ticks of nine robots that get a new errand whenever they have none. The result is the greatest wait that was seen,
-/// and how many arrivals there were.
+/// Runs `ticks` ticks of nine robots that get a new errand whenever they have none. The result is the greatest wait
+/// that was seen, and how many arrivals there were.
 pub(crate) fn greatest_wait<A: Allocator + Copy, R: Alloc<A = A>>(
     rt: &R,
     world: &mut World<A>,

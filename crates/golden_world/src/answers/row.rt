@@ -14,7 +14,8 @@ pub(crate) enum Call {
     Shut(u32),
     /// Shows where the robots stand, what they wait for, and how soon the fleet is idle.
     Show,
-    /// This many ticks of robots that get a further errand whenever they have none, and their greatest wait next to a bound.
+    /// This many ticks of robots that get a further errand whenever they have none, and their greatest wait next to a
+    /// bound.
     Busy(u32, u64),
 }
 
@@ -58,8 +59,8 @@ const CALLS_IN_TURN: Row = Row {
     ],
 };
 
-/// Two robots on a ring, of which one has a further goal: a wait counts from the arrival before, and the longer one makes the
-/// eldest.
+/// Two robots on a ring, of which one has a further goal: a wait counts from the arrival before, and the longer one
+/// makes the eldest.
 const RING_OF_EIGHT: Row = Row {
     name: "ring_of_eight",
     sides: (3, 3),
@@ -92,7 +93,8 @@ const CORRIDOR_STANDOFF: Row = Row {
     calls: &[Call::Go(0, 2), Call::Go(1, 0), Call::Show],
 };
 
-/// Nine robots fill an open map of nine cells, where no two cells are more than four apart: the bound is nine times four.
+/// Nine robots fill an open map of nine cells, where no two cells are more than four apart: the bound is nine times
+/// four.
 const FULL_MAP: Row = Row {
     name: "full_map_stays_below_the_bound",
     sides: (3, 3),

@@ -1,4 +1,5 @@
-//! What a world answers to a call, as a line, where it does not want for memory. Each call here gives whether it did not.
+//! What a world answers to a call, as a line, where it does not want for memory. Each call here gives whether it did
+//! not.
 
 ghost use Rattle.std.specs.Prelude.{◌<◌, ◌^◌};
 
@@ -129,7 +130,7 @@ fn next_chapter<A: Allocator + Copy>(
     }
 }
 
-/// Keeps fields that no robot aims at any more, up to this many bytes.
+/// Keeps fields that no robot aims at any more, up to this many bytes, and prints how many bytes are kept.
 fn keep<A: Allocator + Copy>(
     world: &mut World<A>,
     bytes: u64,
@@ -139,10 +140,10 @@ fn keep<A: Allocator + Copy>(
     requires { bytes < 2 ^ 64 }
 {
     world.keep(bytes as usize);
-    writeln!(told, "keep {bytes}")
+    writeln!(told, "keep {bytes}, kept {}", world.core.kept_bytes())
 }
 
-/// Searches the fields of the robots' next errands.
+/// Searches the fields of the robots' next errands, and prints how many bytes are kept.
 fn search_ahead<A: Allocator + Copy + Send + Sync, R: Threads + Sync>(
     rt: &R,
     world: &mut World<A>,
@@ -150,7 +151,7 @@ fn search_ahead<A: Allocator + Copy + Send + Sync, R: Threads + Sync>(
 ) -> Result<bool, AllocError> {
     match world.search_ahead(rt) {
         Err(AllocError) => return Ok(false),
-        Ok(()) => told.push_str("search ahead\n")?,
+        Ok(()) => writeln!(told, "search ahead, kept {}", world.core.kept_bytes())?,
     }
     Ok(true)
 }

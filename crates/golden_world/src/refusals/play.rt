@@ -26,8 +26,8 @@ pub(crate) struct Played {
     pub(crate) chapter: String,
 }
 
-/// What a row is played with: memory for what is told of it, the runtime whose memory is refused, and how many stamps the row's
-/// closures made.
+/// What a row is played with: memory for what is told of it, the runtime whose memory is refused, and how many stamps
+/// the row's closures made.
 #[derive(Drop)]
 pub(crate) struct Setting<'a, R> {
     pub(crate) alloc: Global,
@@ -35,8 +35,8 @@ pub(crate) struct Setting<'a, R> {
     pub(crate) stamped: &'a AtomicU64,
 }
 
-/// Makes a call, and prints what it answered. None where it was not refused memory; else whether it left all that is shown as it
-/// was, and called no closure that makes a stamp.
+/// Makes a call, and prints what it answered. None where it was not refused memory; else whether it left all that is
+/// shown as it was, and called no closure that makes a stamp.
 fn make_watched<A: Allocator + Copy + Send + Sync, R: Alloc<A = A> + Threads + Sync>(
     setting: &Setting<'_, R>,
     world: &mut World<A>,
@@ -53,8 +53,8 @@ fn make_watched<A: Allocator + Copy + Send + Sync, R: Alloc<A = A> + Threads + S
     Ok(Some(same && setting.stamped.load(Ordering::SeqCst) == stamps))
 }
 
-/// Makes the first `last` calls, and tells what each answered in the end. A call that is refused memory is made again, unless it
-/// is the last. The result is that call, and whether it had no effect.
+/// Makes the first `last` calls, and tells what each answered in the end. A call that is refused memory is made again,
+/// unless it is the last. The result is that call, and whether it had no effect.
 fn make_calls<A: Allocator + Copy + Send + Sync, R: Alloc<A = A> + Threads + Sync>(
     setting: &Setting<'_, R>,
     world: &mut World<A>,

@@ -11,7 +11,8 @@ use std::alloc::{Alloc, AllocError, Global};
 use std::fmt::Write;
 use test_kit::Ending;
 
-/// Whether a run over the first events, with the same allocation refused, ends without being refused memory at one of them.
+/// Whether a run over the first events, with the same allocation refused, ends without being refused memory at one of
+/// them.
 fn passes<R: Alloc<A = Global>>(
     rt: &R,
     row: Row<'_, Event>,
@@ -23,7 +24,8 @@ fn passes<R: Alloc<A = Global>>(
     }
 }
 
-/// Whether the allocation is the event's own: a run over the events before it passes, and one over these and the event names it.
+/// Whether the allocation is the event's own: a run over the events before it passes, and one over these and the event
+/// names it.
 fn is_named<R: Alloc<A = Global>>(
     rt: &R,
     row: Row<'_, Event>,
@@ -50,8 +52,8 @@ fn is_named<R: Alloc<A = Global>>(
     }
 }
 
-/// Refuses each allocation in turn. The result is whether it ended after the last allocation, always with the same replies and
-/// trace, also where fields that were kept made up for an allocation.
+/// Refuses each allocation in turn. The result is whether it ended after the last allocation, always with the same
+/// replies and trace, also where fields that were kept made up for an allocation.
 fn refuse_each<R: Alloc<A = Global>>(
     rt: &R,
     row: Row<'_, Event>,
@@ -62,10 +64,10 @@ fn refuse_each<R: Alloc<A = Global>>(
     let mut alike = true;
     for growth in 0..100_000 {
         match run_row(rt, row, growth)? {
-            Err(stage) => sheet.count_stage(stage),
-            Ok(Run::Opening) => sheet.count_stage(Stage::Open),
-            Ok(Run::Event(event)) => sheet.count(event, is_named(rt, row, growth, event)?),
-            Ok(Run::Judge { again }) => judged.count(again),
+            Err(stage) => sheet.note_stage(stage),
+            Ok(Run::Opening) => sheet.note_stage(Stage::Open),
+            Ok(Run::Event(event)) => sheet.note(event, is_named(rt, row, growth, event)?),
+            Ok(Run::Judge { again }) => judged.note(again),
             Ok(Run::Faulty) => return Ok(false),
             Ok(Run::Ended { ending, spent }) => {
                 alike &= ending.is_like(base);
@@ -91,7 +93,7 @@ fn tell_ending(
     writeln!(told, "{}", base.trace)
 }
 
-/// Prints a run that ended so, and how often it was refused memory.
+/// Prints a run that ended so, and how it was refused memory.
 fn tell_reruns<R: Alloc<A = Global>>(
     rt: &R,
     row: Row<'_, Event>,
@@ -117,7 +119,7 @@ fn tell_run<R: Alloc<A = Global>>(
     }
 }
 
-/// Prints what a run of a row replied to each event, its trace, and how often each was refused memory.
+/// Prints what a run of a row replied to each event, its trace, and how each was refused memory.
 pub(crate) fn tell_runs<R: Alloc<A = Global>>(
     rt: &R,
     case: Case<'_>,

@@ -53,9 +53,9 @@ fn holds_the_same<R: Alloc<A = Global> + Threads + Sync>(
     }
 }
 
-/// Refuses each allocation in turn. The result is whether it ended after the last allocation, with none lost on the way: an allocation
-/// that no call answers for was made up for, by fields that were kept or a list that asked for less, and all came to the
-/// same.
+/// Refuses each allocation in turn. The result is whether it ended after the last allocation, with none lost on the
+/// way: an allocation that no call answers for was made up for, by fields that were kept or a list that asked for less,
+/// and all came to the same.
 fn refuse_each<R: Alloc<A = Global> + Threads + Sync>(
     rt: &R,
     row: Row<'_, Call>,
@@ -65,13 +65,13 @@ fn refuse_each<R: Alloc<A = Global> + Threads + Sync>(
     let mut alike = true;
     for growth in 0..100_000 {
         match play(rt, row, growth, usize::MAX)? {
-            Err(stage) => sheet.count_stage(stage),
+            Err(stage) => sheet.note_stage(stage),
             Ok(played) => {
                 let is_alike = agree(&played, base);
                 match played.refused {
                     Some(call) => {
                         let same = is_alike && holds_the_same(rt, row, growth, call)?;
-                        sheet.count(call, same);
+                        sheet.note(call, same);
                     }
                     None if played.spent => return Ok(alike && is_alike),
                     None => alike &= is_alike,
@@ -82,7 +82,7 @@ fn refuse_each<R: Alloc<A = Global> + Threads + Sync>(
     Ok(false)
 }
 
-/// Prints a test case that played so, and how often each call was refused memory.
+/// Prints a test case that played so, and how each call was refused memory.
 fn tell_rounds<R: Alloc<A = Global> + Threads + Sync>(
     rt: &R,
     row: Row<'_, Call>,
@@ -122,7 +122,7 @@ fn robots_and_calls(
     }
 }
 
-/// Prints what each call of a row answered, and how often it was refused memory.
+/// Prints what each call of a row answered, and how it was refused memory.
 pub(crate) fn tell_calls<R: Alloc<A = Global> + Threads + Sync>(
     rt: &R,
     case: Case<'_>,

@@ -1,44 +1,64 @@
-//! How often what a row does was refused memory.
+//! Whether what a row does was refused memory, and had no effect then.
 
 use crate::refusals::stage::Stage;
 use std::alloc::{AllocError, Global};
 use std::fmt::Write;
 
-/// How often something was refused memory, and whether it had no effect.
+/// Whether something was refused memory, and always had no effect then.
 #[derive(Clone, Copy)]
 pub(crate) struct Tally {
-    refused: u32,
+    refused: bool,
     same: bool,
 }
 
 impl Tally {
     /// Not refused yet.
     pub(crate) const NONE: Tally = Tally {
-        refused: 0,
+        refused: false,
         same: true,
     };
 
-    /// Counts a refusal.
-    pub(crate) fn count(&mut self, same: bool) {
-        self.refused = self.refused.saturating_add(1);
+    /// Notes a refusal.
+    pub(crate) fn note(&mut self, same: bool) {
+        self.refused = true;
         self.same &= same;
     }
 
     /// A line of what was answered in the end, with this tally.
     pub(crate) fn tell(&self, told: &mut String, answer: &str) -> Result<(), AllocError> {
-        match (self.refused, self.same) {
-            (0, true) => writeln!(told, "{answer}; none refused"),
-            (refused, true) => writeln!(told, "{answer}; {refused} refused, same"),
-            (refused, false) => writeln!(told, "{answer}; {refused} refused, DIFFERS"),
-        }
+        let end = match (self.refused, self.same) {
+            (_, false) => "DIFFERS",
+            (false, true) if takes_memory(answer) => "NEVER REFUSED",
+            (_, true) => "same",
+        };
+        writeln!(told, "{answer}; {end}")
     }
 }
+
+/// Whether what answered this takes memory in any case: what stands before the calls is made of lists, a tick's entry
+/// has a list of cells, the next chapter has a list of robots, and the judge keeps where they are.
+fn takes_memory(answer: &str) -> bool {
+    MAKERS.iter().any(|maker| answer.starts_with(maker))
+}
+
+/// How the lines begin of what takes memory in any case.
+const MAKERS: [&str; 9] = [
+    "read the map",
+    "make the grid",
+    "read the script",
+    "list the closures",
+    "open",
+    "tick: TickReport",
+    "Ticked(",
+    "next chapter: {",
+    "judge",
+];
 
 /// The tallies of a row: of what stands before its calls, and of each call.
 #[derive(Drop)]
 pub(crate) struct Sheet {
-    /// By stage, how often it was refused memory.
-    stages: [u32; 5],
+    /// By stage.
+    stages: [Tally; 5],
     /// By call.
     calls: Vec<Tally>,
 }
@@ -47,31 +67,31 @@ impl Sheet {
     /// A sheet of this many calls.
     pub(crate) fn new(alloc: Global, calls: usize) -> Result<Sheet, AllocError> {
         Ok(Sheet {
-            stages: [0; 5],
+            stages: [Tally::NONE; 5],
             calls: vec![in alloc; Tally::NONE; calls]?,
         })
     }
 
-    /// Counts a refusal before the first call.
-    pub(crate) fn count_stage(&mut self, stage: Stage) {
-        for (count, other) in self.stages.iter_mut().zip(Stage::ALL.iter()) {
+    /// Notes a refusal before the first call.
+    pub(crate) fn note_stage(&mut self, stage: Stage) {
+        for (tally, other) in self.stages.iter_mut().zip(Stage::ALL.iter()) {
             if *other == stage {
-                *count = count.saturating_add(1);
+                tally.note(true);
             }
         }
     }
 
-    /// Counts a refusal of the call of this number, from 0.
-    pub(crate) fn count(&mut self, call: usize, same: bool) {
+    /// Notes a refusal of the call of this number, from 0.
+    pub(crate) fn note(&mut self, call: usize, same: bool) {
         if let Some(tally) = self.calls.get_mut(call) {
-            tally.count(same);
+            tally.note(same);
         }
     }
 
     /// A line for each stage and each call with its answer.
     pub(crate) fn tell(&self, told: &mut String, answers: &str) -> Result<(), AllocError> {
-        for (count, stage) in self.stages.iter().zip(Stage::ALL.iter()) {
-            writeln!(told, "{}; {count} refused", stage.name())?;
+        for (tally, stage) in self.stages.iter().zip(Stage::ALL.iter()) {
+            tally.tell(told, stage.name())?;
         }
         for (tally, answer) in self.calls.iter().zip(answers.lines()) {
             tally.tell(told, answer)?;

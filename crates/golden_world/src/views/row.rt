@@ -5,8 +5,8 @@ use fleet_grid::Dir;
 use fleet_hooks::{ArrivalView, FarewellView, TieView};
 use fleet_world::{Event, Limits, Order};
 
-/// A row of two clients: a map of at most 1,024 a side whose letters fill it, where robots start, the events of a run, and
-/// what the robots' closures are to be shown, in order.
+/// A row of two clients: a map of at most 1,024 a side whose letters fill it, where robots start, the events of a run,
+/// and what the robots' closures are to be shown, in order.
 #[derive(Clone, Copy)]
 pub(crate) struct Row {
     pub(crate) name: &'static str,

@@ -18,8 +18,8 @@ const JUMP: &str =
 const LAWS: &str =
     "{\"chapter\":2,\"entries\":[],\"opening\":{\"clients\":[[1,1,1,false]],\"life\":100,\"queue\":4,\"robots\":[[0,false,0,[[0,1,5]],[7,8],[9,9]]],\"tick\":10},\"version\":2}";
 
-/// It has waited for four ticks and is three edges from its goal. No two cells are further apart than three, so one robot
-/// waits less than three.
+/// It has waited for four ticks and is three edges from its goal. No two cells are further apart than three, so one
+/// robot waits less than three.
 const WAITED: &str =
     "{\"chapter\":2,\"entries\":[],\"opening\":{\"clients\":[[1,1,1,false]],\"life\":100,\"queue\":4,\"robots\":[[0,false,4,[[0,1,5]],[7,7],[9,9]]],\"tick\":10},\"version\":2}";
 

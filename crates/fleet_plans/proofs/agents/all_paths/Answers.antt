@@ -2,6 +2,7 @@
 use Rattle.std.proofs.Common.{◌≡◌, ℕ, ◌+◌, ◌≤◌, List, [], ◌∷◌, ◌++◌, length, drop, slice_index_or, Option, Some, None, IfSome, ap, subst, sym, ◌∙◌, arith}
 use Rattle.std.proofs.lemmas.List.{length-append}
 use Rattle.fleet_map.specs.Text.{lines_of}
+use Rattle.fleet_plans.specs.declared.limit.TheConstants.{MOST_PLAN_BYTES}
 use Rattle.fleet_plans.specs.Agents.{agent_in, AreAgents}
 use Rattle.fleet_plans.proofs.Pieces.{drop_first, drop_none, agents_more, short_more}
 use Rattle.fleet_plans.proofs.agents.all_paths.Goals as goal
@@ -30,13 +31,13 @@ loop-line-preserved c =
     let count : length c.push.new.self.items ≡ length paths + 1 = ap (λ (ps : List (List ℕ)). length ps) more ∙ length-append paths (path ∷ []) in
     let here = in_place w h lines paths line after c.len-robot.result c.in_ok-path.field-0 left (c.len-robot.ensures ∙ c.loop-line.paths.ok.0) c.in_ok-path.ensures.read (Some path) c.in-Some-2.is in
     let few : length path ≤ length line = subst (λ (o : Option (List ℕ)). IfSome o (λ list. length list ≤ length line)) c.in-Some-2.is c.in_ok-path.ensures.few in
-    let short : length path ≤ 16777216 = omega (arith, few, c.in-Some.ensures.within, was.room, c.requires) in
+    let short : length path ≤ MOST_PLAN_BYTES = omega (arith, few, c.in-Some.ensures.within, was.room, c.requires) in
     record {
       read = subst (λ (ps : List (List ℕ)). AreAgents w h lines (length ps) ps) (sym more) (agents_more w h lines paths path was.read here);
       left = subst (λ (n : ℕ). drop n lines ≡ after) (sym count) first.2;
       inside = omega (arith, count, first.0);
       room = omega (arith, count, was.room, c.in-Some.ensures.shorter);
-      short = subst (λ (ps : List (List ℕ)). (r : ℕ) → length (slice_index_or ps r []) ≤ 16777216) (sym more) (short_more 16777216 paths path was.short short);
+      short = subst (λ (ps : List (List ℕ)). (r : ℕ) → length (slice_index_or ps r []) ≤ MOST_PLAN_BYTES) (sym more) (short_more MOST_PLAN_BYTES paths path was.short short);
     }
 
 pub returns-in_default-2-clause-fault : goal.returns-in_default-2-clause-fault

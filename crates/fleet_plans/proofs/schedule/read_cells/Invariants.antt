@@ -1,5 +1,6 @@
 use Rattle.std.proofs.Common.{◌≡◌, ◌+◌, ◌≤◌, [], length}
 use Rattle.fleet_map.specs.Text.{lines_of}
+use Rattle.fleet_plans.specs.declared.limit.TheConstants.{MOST_PLAN_BYTES}
 use Rattle.fleet_plans.specs.Schedule.{group, no_group, cells_of}
 use Rattle.fleet_plans.specs.Table.{trails, no_trails, AreShort}
 use Rattle.fleet_plans.proofs.schedule.read_cells.Given as goal
@@ -9,7 +10,7 @@ invariant-loop-line l = record {
   read :
       cells_of l.sides.width l.sides.height (trails l.paths) (group l.found) l.number (lines_of l.rest)
       ≡ cells_of l.sides.width l.sides.height no_trails (no_group []) l.fn.number (lines_of l.text);
-  room : l.number + length l.rest ≤ 2 + 16777216;
+  room : l.number + length l.rest ≤ 2 + MOST_PLAN_BYTES;
   short : AreShort (trails l.paths);
 }
 

@@ -23,7 +23,7 @@ enter-requires-clause-may g c =
     let e = c.index-entries-at.result in
     let s = c.loop-at.state in
     let judged = subst (λ (o : Option _). JudgedBy m h.opening.robots s e o) c.in_default.is (subst (λ (xs : List (RobotState _)). JudgedBy m xs s e c.in_ok-rule.field-0) c.as_slice-robots.ensures c.in_ok-rule.ensures) in
-    may_follow m h c.loop-at.at e s c.loop-at.invariant.0 c.loop-at-test.true (sym c.index-entries-at.is) judged c.requires.early c.requires.few
+    may_follow m h c.loop-at.at e s c.loop-at.invariant.0 c.loop-at-test.true (sym c.index-entries-at.is) judged c.requires.early
 
 pub loop-at-preserved : goal.loop-at-preserved
 loop-at-preserved g c =

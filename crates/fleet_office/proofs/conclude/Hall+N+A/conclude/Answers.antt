@@ -52,16 +52,16 @@ returns-in-Err-wind_down-clause-back g c =
     let h = c.come_home-in-Err-wind_down.ensures in
     (ap cores (h.0 ∙ now) ∙ same, h.1 ∙ c.see_home.ensures.tickers)
 
-pub finish-grid-requires-clause-on : goal.finish-grid-requires-clause-on
-finish-grid-requires-clause-on g c =
+pub finish-requires-clause-on : goal.finish-requires-clause-on
+finish-requires-clause-on g c =
     let items = c.args.clients.items in
     let e = c.as_mut_slice.ensures.value in
     let same : cores c.wind_down.new.clients ≡ cores items = c.wind_down.ensures.clients ∙ ap cores e in
     let now = lent_back c.wind_down.new.clients items c.args.clients.len (omega (arith, c.args.clients.ok.0)) same in
     subst (AreOn g.N.OfficeName.rings) (sym (ap cores now ∙ same)) c.requires.on
 
-pub finish-grid-requires-clause-distinct : goal.finish-grid-requires-clause-distinct
-finish-grid-requires-clause-distinct g c =
+pub finish-requires-clause-distinct : goal.finish-requires-clause-distinct
+finish-requires-clause-distinct g c =
     let items = c.args.clients.items in
     let e = c.as_mut_slice.ensures.value in
     let a = c.as_slice.ensures.value in
@@ -69,16 +69,16 @@ finish-grid-requires-clause-distinct g c =
     let now = lent_back c.wind_down.new.clients items c.args.clients.len (omega (arith, c.args.clients.ok.0)) same in
     subst AreDistinct (ap cores a ∙ sym (ap cores now ∙ same)) c.in_default.ensures.ok.distinct
 
-pub finish-grid-requires-clause-settled : goal.finish-grid-requires-clause-settled
-finish-grid-requires-clause-settled g c =
+pub finish-requires-clause-settled : goal.finish-requires-clause-settled
+finish-requires-clause-settled g c =
     let items = c.args.clients.items in
     let e = c.as_mut_slice.ensures.value in
     let same : cores c.wind_down.new.clients ≡ cores items = c.wind_down.ensures.clients ∙ ap cores e in
     let now = lent_back c.wind_down.new.clients items c.args.clients.len (omega (arith, c.args.clients.ok.0)) same in
     subst (AreSettled c.wind_down.new.self.ends) (sym now) c.in-Ok.ensures.settled
 
-pub finish-grid-requires-clause-rooms : goal.finish-grid-requires-clause-rooms
-finish-grid-requires-clause-rooms g c =
+pub finish-requires-clause-rooms : goal.finish-requires-clause-rooms
+finish-requires-clause-rooms g c =
     let items = c.args.clients.items in
     let e = c.as_mut_slice.ensures.value in
     let same : cores c.wind_down.new.clients ≡ cores items = c.wind_down.ensures.clients ∙ ap cores e in
@@ -89,7 +89,7 @@ pub returns-clause-drains : goal.returns-clause-drains
 returns-clause-drains g c =
     let count = length g.N.OfficeName.rings in
     let last = c.wind_down.new.self.world in
-    let f = c.finish-grid.ensures in
+    let f = c.finish.ensures in
     let hall = c.args.self.state in
     let items = c.args.clients.items in
     let drains = begun_with count c.see_home.new.self hall (cores c.as_mut_slice.result.now) (cores items) last c.see_home.ensures.same (ap cores c.as_mut_slice.ensures.value) c.in-Ok.ensures.drains in
@@ -100,21 +100,21 @@ pub returns-clause-planned : goal.returns-clause-planned
 returns-clause-planned g c =
     let count = length g.N.OfficeName.rings in
     let last = c.wind_down.new.self.world in
-    let f = c.finish-grid in
+    let f = c.finish in
     let hall = c.args.self.state in
     let items = c.args.clients.items in
     let drains = begun_with count c.see_home.new.self hall (cores c.as_mut_slice.result.now) (cores items) last c.see_home.ensures.same (ap cores c.as_mut_slice.ensures.value) c.in-Ok.ensures.drains in
-    subst (λ t. EachTick (IsPlanned f.result.0 t) (history_of f.result.1)) (first_frame count hall.ends (cores items) hall.world last drains).1 f.ensures.planned
+    subst (λ t. EachTick (IsPlanned f.result.grid t) (history_of f.result.chapter)) (first_frame count hall.ends (cores items) hall.world last drains).1 f.ensures.planned
 
 pub returns-clause-told : goal.returns-clause-told
 returns-clause-told g c =
     let items = c.args.clients.items in
-    let f = c.finish-grid in
+    let f = c.finish in
     let e = c.as_mut_slice.ensures.value in
     let same : cores c.wind_down.new.clients ≡ cores items = c.wind_down.ensures.clients ∙ ap cores e in
     let now = lent_back c.wind_down.new.clients items c.args.clients.len (omega (arith, c.args.clients.ok.0)) same in
-    told-same g.N.OfficeName.start f.result.1.number (history_of f.result.1) items c.wind_down.new.clients f.result.2.items same
-    (subst (λ xs. AreTold g.N.OfficeName.start f.result.1.number (history_of f.result.1) xs f.result.2.items) now f.ensures.told)
+    told-same g.N.OfficeName.start f.result.chapter.number (history_of f.result.chapter) items c.wind_down.new.clients f.result.rest.items same
+    (subst (λ xs. AreTold g.N.OfficeName.start f.result.chapter.number (history_of f.result.chapter) xs f.result.rest.items) now f.ensures.told)
 
 pub returns-clause-all : goal.returns-clause-all
 returns-clause-all g c =
@@ -144,17 +144,17 @@ returns-in-Err g c =
     }
 
 pub returns-clause-legal : goal.returns-clause-legal
-returns-clause-legal g c = c.finish-grid.ensures.legal
+returns-clause-legal g c = c.finish.ensures.legal
 
 pub returns-clause-advancing : goal.returns-clause-advancing
-returns-clause-advancing g c = c.finish-grid.ensures.advancing
+returns-clause-advancing g c = c.finish.ensures.advancing
 
 pub returns-clause-tick : goal.returns-clause-tick
 returns-clause-tick g c =
     let was = c.in_default.ensures.ok.counted in
     let total = c.wind_down.ensures.total ∙ ap (λ v. v.total) c.see_home.ensures.same in
-    let made = c.clock-tick.ensures in
-    (made ∙ ap clock (sym c.finish-grid.ensures.history), made ∙ sym c.recall_laws-2.ensures.lawful.clock ∙ total ∙ c.recall_laws.ensures.lawful.clock ∙ sym was)
+    let f = c.finish.ensures in
+    (f.tick ∙ ap clock (sym f.history), f.tick ∙ sym c.recall_laws-2.ensures.lawful.clock ∙ total ∙ c.recall_laws.ensures.lawful.clock ∙ sym was)
 
 pub returns-clause-home : goal.returns-clause-home
 returns-clause-home g c =
@@ -170,7 +170,7 @@ pub returns-clause-on : goal.returns-clause-on
 returns-clause-on g c = tt
 
 pub returns-clause-bounded : goal.returns-clause-bounded
-returns-clause-bounded g c = c.finish-grid.ensures.bounded
+returns-clause-bounded g c = c.finish.ensures.bounded
 
 pub returns-in-Err-wind_down-clause-bounded : goal.returns-in-Err-wind_down-clause-bounded
 returns-in-Err-wind_down-clause-bounded g c = tt

@@ -1,7 +1,7 @@
 use Rattle.std.proofs.Common.{◌≡◌, Some, sym, ap, ◌∙◌, subst, arith}
 use Rattle.std.specs.Prelude.{slice_get}
 use Rattle.std.proofs.lemmas.Option.{slice_get_within}
-use Rattle.fleet_history.specs.History.{history_of}
+use Rattle.fleet_history.specs.History.{history_of, clock}
 use Rattle.fleet_office.specs.Views.{AreDistinct, AreSettled, core, cores}
 use Rattle.fleet_office.specs.inside.Leftovers.{AreRooms, LeftoversAre}
 use Rattle.fleet_office.proofs.Places.{map_at}
@@ -64,3 +64,6 @@ returns-clause-history g c = rw (← c.self.view_is) (c.finish-grid.ensures.hist
 
 pub returns-clause-number : goal.returns-clause-number
 returns-clause-number g c = rw (← c.self.view_is) (c.finish-grid.ensures.number ∙ c.fill.ensures.core.number)
+
+pub returns-clause-tick : goal.returns-clause-tick
+returns-clause-tick g c = rw (← c.self.view_is) (c.clock-tick.ensures ∙ ap clock c.fill.ensures.core.history)

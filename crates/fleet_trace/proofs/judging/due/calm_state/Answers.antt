@@ -1,6 +1,5 @@
 -- The state that begins with the calm opening.
-use Rattle.std.proofs.Common.{◌≡◌, refl, sym, subst, take}
-use Rattle.fleet_history.specs.declared.history.Opening.{Opening}
+use Rattle.std.proofs.Common.{take}
 use Rattle.fleet_history.specs.History.{history_of}
 use Rattle.fleet_history.proofs.Legal.{legal-opening}
 use Rattle.fleet_trace.specs.Judged.{before}
@@ -11,6 +10,3 @@ pub state_after-requires-clause-order : goal.state_after-requires-clause-order
 state_after-requires-clause-order g c =
     calm-order c.args.grid.now c.args.chapter.now.opening c.in_ok-calm.calm (take c.args.entries c.args.chapter.now.entries.items) c.in_ok-calm.ensures
     (legal-opening c.args.grid.now (before (history_of c.args.chapter.now) c.args.entries) c.requires.legal)
-
-pub state_after-requires-clause-early : goal.state_after-requires-clause-early
-state_after-requires-clause-early g c = subst (λ (o : Opening _). o.tick ≡ 0) (sym c.in_ok-calm.ensures) refl
