@@ -2,7 +2,8 @@
 
 const MOST_MARKS = 400;
 
-// The marks of a replay: a kind and a part of its time, from 0 to 1. Marks of one kind that would lie on one another are one.
+// The marks of a replay: a kind and a part of its time, from 0 to 1. Marks of one kind that would lie on one another
+// are one.
 function marksOf(replay) {
   const { last } = replay;
   const kept = new Map();

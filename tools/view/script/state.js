@@ -106,8 +106,8 @@ class Page {
     this.setShown('heat', true);
   }
 
-  // The texts of a frame. While the replay plays, the table and the entries are written a few times a second, and the list
-  // of all events when it stands.
+  // The texts of a frame. While the replay plays, the table and the entries are written a few times a second, and the
+  // list of all events when it stands.
   drawTexts() {
     const { replay } = this;
     const { frame } = replay.state;
