@@ -135,8 +135,8 @@ impl<A: Allocator + Copy> Core<A> {
         self.tick_as(rt, ties, arrivals, farewells, false)
     }
 
-    /// Moves all robots by one step, as a world does, with tie hooks next to the core. Each arrival and farewell gets the
-    /// least stamp that its robot's law allows, so none needs a hook.
+    /// Moves all robots by one step, as a world does, with tie hooks next to the core. Each arrival and farewell gets
+    /// the least stamp that its robot's law allows, so none needs a hook.
     pub fn tick_by_ties<R: Alloc<A = A>>(
         &mut self,
         rt: &R,
@@ -152,8 +152,8 @@ impl<A: Allocator + Copy> Core<A> {
         self.tick_as(rt, ties, &[], &mut none, true)
     }
 
-    /// A tick. With `least` the stamps are the least that the robots' laws allow, and no closure but those for ties is
-    /// called; else the closures give them, when nothing can fail any more.
+    /// A tick. With `least`, stamps are the least that the robots' laws allow, and only tie closures are called; else
+    /// the closures for arrivals and farewells are called too, when nothing can fail any more.
     fn tick_as<R: Alloc<A = A>>(
         &mut self,
         rt: &R,

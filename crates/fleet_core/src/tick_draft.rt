@@ -28,7 +28,7 @@ pub(crate) struct TickDraft<A: Allocator + Copy> {
 }
 
 impl<A: Allocator + Copy> TickDraft<A> {
-    /// Writes stamps: with `least` the least that the robots' laws allow, else what the closures return, as `stamp` does.
+    /// Writes stamps: with `least` the least that the robots' laws allow, else what the closures return (`stamp`).
     pub(crate) fn stamp_as(
         &mut self,
         robots: &[RobotState<A>],
