@@ -59,7 +59,8 @@ fn chapters_on(alloc: Global, ground: &Ground, texts: &[Vec<u8>]) -> Result<Vec<
 
 /// The page of these chapters, with the judge's verdicts.
 fn judged_page(alloc: Global, ground: &Ground, chapters: &[Chapter]) -> Result<Vec<u8>, AllocError>
-    requires { ground.now.grid ≡ floor_of_map (view ground.now.floor) }
+    requires sides { HasSides (view ground.now.floor) }
+    requires grid { ground.now.grid ≡ floor_of_map (view ground.now.floor) }
     ensures { IfOk result (λ page. IsJudgedPage (view ground.now.floor) (map trace_of chapters.now) page.items) }
 {
     let verdicts = judge_each(alloc, &ground.grid, chapters)?;
@@ -68,7 +69,8 @@ fn judged_page(alloc: Global, ground: &Ground, chapters: &[Chapter]) -> Result<V
 
 /// The page of a map that was read.
 fn page_on(alloc: Global, ground: &Ground, texts: &[Vec<u8>]) -> Result<Vec<u8>, ViewFault>
-    requires { ground.now.grid ≡ floor_of_map (view ground.now.floor) }
+    requires sides { HasSides (view ground.now.floor) }
+    requires grid { ground.now.grid ≡ floor_of_map (view ground.now.floor) }
     ensures page { IfOk result (λ page. (bytes : List ℕ) → map_of bytes ≡ Ok (view ground.now.floor) → IsPage bytes (map (λ text. text.items) texts.now) page.items) }
     ensures fault { IfErr result (λ fault. AreNotOn (view ground.now.floor) (map (λ text. text.items) texts.now) fault) }
 {
