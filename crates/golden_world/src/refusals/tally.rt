@@ -82,8 +82,8 @@ impl Sheet {
         self.noted = self.noted.saturating_add(1);
     }
 
-    /// Whether a refusal was noted for each of the allocations that a play without one asks for, of which the last comes
-    /// after its calls.
+    /// Whether a refusal was noted for each of the allocations that a play without one asks for, of which the last
+    /// comes after its calls.
     pub(crate) fn has_all(&self, asked: u64) -> bool {
         self.noted.saturating_add(1) == asked
     }
